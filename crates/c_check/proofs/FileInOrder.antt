@@ -6,9 +6,9 @@ use Rattle.c_checked.proofs.Items.{next_of}
 use Rattle.c_expressions.proofs.Kept.{kept_more}
 use Rattle.c_expressions.specs.Kept.{least_of, kept}
 use Rattle.c_expressions.specs.Views.{block_of}
-use Rattle.c_globals.proofs.Placed.{at_file}
-use Rattle.c_globals.specs.declared.globals.File.{File as File'}
-use Rattle.c_globals.specs.Files.{IsFile}
+use Rattle.c_locals.proofs.GlobalPlaces.{at_file}
+use Rattle.c_locals.specs.declared.globals.File.{File as File'}
+use Rattle.c_locals.specs.Files.{IsFile}
 use Rattle.c_resolved.specs.declared.fault.Fault.TheVariants.{Duplicate}
 use Rattle.c_resolved.specs.Expressions.{UserFunction}
 use Rattle.c_resolved.specs.Program.{File, parameter_types, named, with_external_declaration, file_of}

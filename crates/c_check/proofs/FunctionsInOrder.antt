@@ -16,7 +16,7 @@ use Rattle.c_expressions.specs.Kept.{least_of, kept}
 use Rattle.c_resolved.specs.Expressions.{FaultAt}
 use Rattle.c_resolved.specs.Program as definitions
 use Rattle.c_locals.specs.declared.environment.Walk.{Walk}
-use Rattle.c_locals.specs.Resolved.{Resolves}
+use Rattle.c_locals.specs.WalkResults.{Resolves}
 use Rattle.c_locals.specs.Views.{numbering}
 use Rattle.c_resolved.specs.Program.{with_parameters, parameter_faults, result_size, around, function_of, functions_of}
 use Rattle.c_resolved.specs.Scopes.{Scope, spelled}

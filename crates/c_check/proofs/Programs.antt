@@ -13,8 +13,8 @@ use Rattle.c_expressions.specs.declared.least.Broken.{Broken}
 use Rattle.c_expressions.specs.declared.least.Least.{Least}
 use Rattle.c_expressions.specs.Kept.{broken, least_of, kept}
 use Rattle.c_expressions.specs.Views.{block_of}
-use Rattle.c_globals.specs.declared.globals.File.{File as File'}
-use Rattle.c_globals.specs.Files.{IsFile}
+use Rattle.c_locals.specs.declared.globals.File.{File as File'}
+use Rattle.c_locals.specs.Files.{IsFile}
 use Rattle.c_resolved.specs.Accepted.{Accepted, reported}
 use Rattle.c_resolved.specs.Expressions.{FaultAt}
 use Rattle.c_resolved.specs.Program.{functions_of, file_of, empty_file, resolve}

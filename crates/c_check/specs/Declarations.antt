@@ -1,7 +1,7 @@
 -- External declarations, one by one.
 use Rattle.std.specs.Prelude.{ℕ, List}
-use Rattle.c_globals.specs.declared.globals.File.{File as File'}
-use Rattle.c_globals.specs.Files.{IsFile}
+use Rattle.c_locals.specs.declared.globals.File.{File as File'}
+use Rattle.c_locals.specs.Files.{IsFile}
 use Rattle.c_resolved.specs.Program.{File, with_external_declaration}
 use Rattle.c_syntax.specs.Program.{ExternalDeclaration}
 

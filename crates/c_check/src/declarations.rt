@@ -2,13 +2,13 @@
 
 ghost use Rattle.std.specs.Prelude.{◌≡◌, ◌+◌, IfOk, OnOk, map};
 ghost use Rattle.c_check.specs.Declarations.{Declares};
-ghost use Rattle.c_globals.specs.Files.{IsFile};
+ghost use Rattle.c_locals.specs.Files.{IsFile};
 ghost use Rattle.c_resolved.specs.Program as definitions;
 ghost use Rattle.c_syntax.specs.Program as syntax;
 
 use c_expressions::least::Least;
 use c_expressions::scopes::Entity;
-use c_globals::globals::{File, globals, name};
+use c_locals::globals::{File, globals, name};
 use c_syntax::declaration::ExternalDeclaration;
 use indexmap::IndexMap;
 use std::alloc::{AllocError, Global};

@@ -1,3 +1,4 @@
 pub mod ExpressionTrees
 pub mod StatementTrees
 pub mod Items
+pub mod ScopeTests

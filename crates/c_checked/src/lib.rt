@@ -5,6 +5,7 @@
 //! What counts a step in the text is one node here. Parentheses, conversions and the decay of
 //! arrays to pointers count none, and are no nodes. Begin with `expression` and `statement`;
 //! `specs/Sound.antt` says what holds of every accepted program: it is the invariant of `Checked`.
+//! `specs/LocalScopes.antt` has the programs that name each local where it is declared.
 #![tactic(auto)]
 
 pub mod checked;

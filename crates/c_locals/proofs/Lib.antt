@@ -1,5 +1,7 @@
-pub mod Begun
-pub mod Declaring
-pub mod Filtering
-pub mod Ruled
-pub mod Walking
+pub mod ForInitialisers
+pub mod DeclarationLocals
+pub mod FilterKinds
+pub mod ValueRules
+pub mod WalkResults
+pub mod Bytes
+pub mod GlobalPlaces

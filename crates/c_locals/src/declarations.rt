@@ -10,7 +10,7 @@ ghost use Rattle.c_resolved.specs.Statements.{is_taken, unless_holds};
 ghost use Rattle.c_resolved.specs.Types.{is_scalar};
 ghost use Rattle.c_expressions.specs.Kept.{AddsFaults};
 ghost use Rattle.c_expressions.specs.Views.{block_of};
-ghost use Rattle.c_locals.specs.Resolved.{Resolves, IsBeginning, declares};
+ghost use Rattle.c_locals.specs.WalkResults.{Resolves, IsBeginning, declares};
 ghost use Rattle.c_locals.specs.Views.{environment, numbering};
 ghost use Rattle.c_syntax.specs.Statement as trees;
 

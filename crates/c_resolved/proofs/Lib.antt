@@ -9,5 +9,11 @@ pub mod Numbers
 pub mod SoundDeclarations
 pub mod SoundStatements
 pub mod Globals
-pub mod Sound
-pub mod Least
+pub mod SoundPrograms
+pub mod LeastFault
+pub mod OperatorScopes
+pub mod NameScopes
+pub mod ExpressionScopes
+pub mod DeclarationScopes
+pub mod StatementScopes
+pub mod ProgramScopes

@@ -6,4 +6,5 @@ pub mod Statements
 pub mod Program
 pub mod Accepted
 pub mod Rows
-pub mod Laws
+pub mod ResolutionLaws
+pub mod ScopeLaws

@@ -12,7 +12,7 @@ use Rattle.c_expressions.specs.Kept.{least_of, kept}
 use Rattle.c_expressions.specs.Views.{block_of}
 use Rattle.c_locals.specs.declared.declarations.Beginning.{Beginning}
 use Rattle.c_locals.specs.declared.environment.Walk.{Walk}
-use Rattle.c_locals.specs.Resolved.{IsBeginning}
+use Rattle.c_locals.specs.WalkResults.{IsBeginning}
 use Rattle.c_locals.specs.Values.{MayEvaluate, ResolvesFilter, filter_with, number_after}
 use Rattle.c_locals.specs.Views.{numbering, resolved_at, in_loop, in_body, in_handler, in_last}
 use Rattle.c_resolved.specs.Expressions.{FaultAt}

@@ -10,7 +10,7 @@ use Rattle.c_expressions.specs.declared.scopes.Entity.{Entity}
 use Rattle.c_expressions.specs.Kept.{least_of, kept}
 use Rattle.c_expressions.specs.Views.{block_of}
 use Rattle.c_locals.specs.declared.environment.Walk.{Walk}
-use Rattle.c_locals.specs.Resolved.{Resolves}
+use Rattle.c_locals.specs.WalkResults.{Resolves}
 use Rattle.c_locals.specs.Views.{numbering, resolved_at}
 use Rattle.c_resolved.specs.Scopes.{Scope}
 use Rattle.c_resolved.specs.Statements.{Environment, Numbering, ResolvedStatements, Value, inside, condition, only, resolve_statement, resolve_statements}

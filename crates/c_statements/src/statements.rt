@@ -3,7 +3,7 @@
 ghost use Rattle.std.specs.Prelude.{◌≡◌, [], IfOk, map, option_map, true};
 ghost use Rattle.c_checked.specs.Statement as checked;
 ghost use Rattle.c_expressions.specs.Views.{block_of};
-ghost use Rattle.c_locals.specs.Resolved.{Resolves};
+ghost use Rattle.c_locals.specs.WalkResults.{Resolves};
 ghost use Rattle.c_locals.specs.Views.{environment, numbering, resolved_at};
 ghost use Rattle.c_resolved.specs.Program.{around};
 ghost use Rattle.c_resolved.specs.Statements as definitions;

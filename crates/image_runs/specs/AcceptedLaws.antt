@@ -4,14 +4,14 @@ use Rattle.c_syntax.specs.Limits.{Within}
 use Rattle.c_syntax.specs.Program.{ExternalDeclaration}
 use Rattle.c_syntax.specs.Nodes.{nodes_of}
 use Rattle.c_resolved.specs.Accepted.{Accepted}
-use Rattle.c_model.specs.Meaning.{meaning, Calm}
+use Rattle.source_meaning.specs.Meaning.{meaning, Calm}
 use Rattle.host_model.specs.Machine.{machine}
 use Rattle.seh_ir.specs.Lowered.{lowered}
-use Rattle.pace_bounds.specs.Laws.{pace_in, program_of}
-use Rattle.unset_locals.specs.Reads.{ReadsNoUnset}
-use Rattle.whole_runs.specs.Laws.{ShowsNoMore}
-use Rattle.program_link.specs.Fits.{FitsProgram}
-use Rattle.image_runs.specs.Realises.{Realises, IsImageOf}
+use Rattle.text_bounds.specs.StepsPerTurnLaws.{steps_per_turn_in, program_of}
+use Rattle.lowering_locals.specs.Reads.{ReadsNoUnset}
+use Rattle.match_runs.specs.Laws.{ShowsNoMore}
+use Rattle.image_link.specs.Fits.{FitsProgram}
+use Rattle.image_runs.specs.ImageMeaning.{Realises, IsImageOf}
 
 -- linear code of an accepted text reads no local that isn't set
 abbrev pub AcceptedReadsNoUnset : Type 0
@@ -33,6 +33,6 @@ AcceptedShowNothingMore =
     (text : List ℕ) (xs : List ExternalDeclaration) (bytes : List ℕ) → Within text xs
     → Accepted text xs → FitsProgram (lowered (program_of text xs))
     → IsImageOf bytes (program_of text xs) → (most : ℕ) → nodes_of xs ≤ most
-    → (arg m n : ℕ) → arg < 2 ^ 63 → (m + 1) * pace_in most ≤ n
+    → (arg m n : ℕ) → arg < 2 ^ 63 → (m + 1) * steps_per_turn_in most ≤ n
     → Calm (program_of text xs) (pos arg) n ≡ true
     → ShowsNoMore (meaning (program_of text xs) (pos arg) n) (machine bytes (pos arg) m)

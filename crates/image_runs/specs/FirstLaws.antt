@@ -4,13 +4,13 @@ use Rattle.host_model.specs.Loading.{start}
 use Rattle.pe_write.specs.Program.{image_of}
 use Rattle.linear_code.specs.Program.{LinearProgram, LinearFunction}
 use Rattle.linear_machine.specs.Run as linear
-use Rattle.program_link.specs.Linked.{linked}
-use Rattle.ir_typed.specs.Ready.{CanContinue}
-use Rattle.body_steps.specs.Known.{IsWellMade}
+use Rattle.image_link.specs.Linked.{linked}
+use Rattle.lowering_invariants.specs.Ready.{CanContinue}
+use Rattle.match_bodies.specs.ConfigurationFacts.{IsWellMade}
 use Rattle.image_states.specs.Plans.{functions_of, funclets_of, plan_of, sites_of}
 use Rattle.image_states.specs.Compiled.{HasWholeImage}
 use Rattle.image_states.specs.StartLaws.{HasBytes}
-use Rattle.image_runs.specs.Starts.{IsFirst, MainBegins}
+use Rattle.image_runs.specs.MainStart.{IsFirst, MainBegins}
 
 -- `main` is called there
 abbrev pub FirstStatesStart : Type 0

@@ -3,7 +3,7 @@ use Rattle.c_checked.specs.Program.{Program}
 use Rattle.seh_ir.specs.Lowered.{lowered}
 use Rattle.image_states.specs.Plans.{functions_of, funclets_of, plan_of, sites_of}
 use Rattle.image_states.specs.Compiled.{HasWholeImage}
-use Rattle.image_runs.specs.Sound.{IsLinkable, IsSoundImage}
+use Rattle.image_runs.specs.SoundImages.{IsLinkable, IsSoundImage}
 
 -- regions are ranges and name each funclet once; the function of a funclet has a frame with the
 -- locals that the funclet works on

@@ -5,12 +5,12 @@ use Rattle.virtual_unwind.specs.CallerOf.{Functions}
 use Rattle.host_model.specs.declared.funclet.Funclet.{Funclet}
 use Rattle.linear_code.specs.Program.{LinearProgram, LinearFunction}
 use Rattle.linear_machine.specs.Run.{start}
-use Rattle.linked_stack.specs.ImagePlan.{ImagePlan}
-use Rattle.ir_typed.specs.Ready.{CanContinue}
-use Rattle.body_states.specs.Sites.{Sites}
-use Rattle.body_states.specs.Programs.{IsProgramImage}
-use Rattle.body_steps.specs.Known.{IsWellMade}
-use Rattle.image_runs.specs.Starts.{IsFirst, MainBegins}
+use Rattle.match_stack.specs.ImagePlan.{ImagePlan}
+use Rattle.lowering_invariants.specs.Ready.{CanContinue}
+use Rattle.match_bodies.specs.CodeSites.{Sites}
+use Rattle.match_bodies.specs.ProgramImages.{IsProgramImage}
+use Rattle.match_bodies.specs.ConfigurationFacts.{IsWellMade}
+use Rattle.image_runs.specs.MainStart.{IsFirst, MainBegins}
 
 -- where linear code begins at an instruction, the machine comes there
 abbrev pub MainIsBegun : Type 0

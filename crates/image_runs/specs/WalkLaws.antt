@@ -7,18 +7,18 @@ use Rattle.linear_code.specs.declared.instruction.Instruction.{Instruction}
 use Rattle.linear_code.specs.Program.{LinearProgram}
 use Rattle.linear_machine.specs.Frames.{Configuration}
 use Rattle.linear_machine.specs.Run.{instruction_at}
-use Rattle.x64_templates.specs.Quiet.{IsReturn}
-use Rattle.linked_stack.specs.ImagePlan.{ImagePlan}
-use Rattle.body_states.specs.Sites.{Sites}
-use Rattle.body_states.specs.Programs.{IsProgramImage}
-use Rattle.body_states.specs.Bodies.{Begins}
-use Rattle.body_steps.specs.Known.{IsKnown}
-use Rattle.turn_steps.specs.Outcomes.{Represents}
+use Rattle.x64_templates.specs.Epilogues.{IsReturn}
+use Rattle.match_stack.specs.ImagePlan.{ImagePlan}
+use Rattle.match_bodies.specs.CodeSites.{Sites}
+use Rattle.match_bodies.specs.ProgramImages.{IsProgramImage}
+use Rattle.match_bodies.specs.Bodies.{RepresentsAt}
+use Rattle.match_bodies.specs.ConfigurationFacts.{IsKnown}
+use Rattle.match_turns.specs.DispatchOutcome.{Represents}
 use Rattle.image_states.specs.Plans.{functions_of, funclets_of, plan_of, sites_of}
 use Rattle.image_states.specs.Compiled.{HasWholeImage}
-use Rattle.image_runs.specs.Returns.{ReturnsWait}
-use Rattle.image_runs.specs.Live.{WalkGives}
-use Rattle.image_runs.specs.Within.{IsWithinInstruction, IsQuietHere}
+use Rattle.image_runs.specs.ReturnFrames.{ReturnsWait}
+use Rattle.image_runs.specs.LiveFrames.{WalkGives}
+use Rattle.image_runs.specs.InstructionStates.{IsWithinInstruction, ScratchOnlyHere}
 
 -- in every state that represents a configuration the walk gives the frames that are live there
 abbrev pub WalksGiveTheFrames : Type 0
@@ -28,7 +28,7 @@ WalksGiveTheFrames =
     → (s : State) (c : Configuration) → Represents t fs program p q s c → IsKnown program c
     → WalkGives t fs program p s c
 
--- and in the midst of its instruction, as long as the stack from RSP up is as it was
+-- and within its instruction, as long as the stack from RSP up is as it was
 abbrev pub WalksGiveTheFramesWithin : Type 0
 WalksGiveTheFramesWithin =
     (t : Functions) (fs : List Funclet) (program : LinearProgram) (p : ImagePlan) (q : Sites)
@@ -42,18 +42,18 @@ abbrev pub BeginningsAreWithin : Type 0
 BeginningsAreWithin =
     (t : Functions) (fs : List Funclet) (program : LinearProgram) (p : ImagePlan) (q : Sites)
     → IsProgramImage t fs program p q
-    → (s : State) (c : Configuration) (i : Instruction) → Begins t fs program p q s c
+    → (s : State) (c : Configuration) (i : Instruction) → RepresentsAt t fs program p q s c
     → instruction_at program c ≡ Some i → (IsReturn i → ⊥)
     → IsWithinInstruction t fs program p q s s c
 
 -- it is so after each machine instruction that writes no memory, up to the last one of the
 -- instruction
-abbrev pub QuietStepsStayWithin : Type 0
-QuietStepsStayWithin =
+abbrev pub ScratchStepsStayWithin : Type 0
+ScratchStepsStayWithin =
     (t : Functions) (fs : List Funclet) (program : LinearProgram) (p : ImagePlan) (q : Sites)
     → IsProgramImage t fs program p q
     → (s u v : State) (c : Configuration) (w : IsWithinInstruction t fs program p q s u c)
-    → IsQuietHere t fs program p q s u c w → step u ≡ Ok v
+    → ScratchOnlyHere t fs program p q s u c w → step u ≡ Ok v
     → IsWithinInstruction t fs program p q s v c
 
 -- of an image that is linked, a body that is about to return is as at any other instruction

@@ -1,6 +1,6 @@
 //! The frames of checked programs' images.
 
-ghost use Rattle.image_runs.specs.Frames.{LoweredFindsCallers};
+ghost use Rattle.image_runs.specs.FrameCallers.{LoweredFindsCallers};
 
 /// At every instruction of a checked program's image the walk finds the caller: in functions and
 /// funclets, prologues and epilogues included, in leaf functions, thunks and `__chkstk`.

@@ -1,15 +1,15 @@
 //! Laws of the runs of images of sound programs.
 
-ghost use Rattle.image_runs.specs.Images.{LinkedImagesShowAll, LinkedImagesShowNoMore};
-ghost use Rattle.image_runs.specs.Realises.{CompiledRealise, CompiledShowNothingMore};
-ghost use Rattle.image_runs.specs.RunLaws.{TwinsAreKnown, TwinsSimulate, ImagesShowAll, ImagesShowNoMore};
+ghost use Rattle.image_runs.specs.ImageRuns.{LinkedImagesShowAll, LinkedImagesShowNoMore};
+ghost use Rattle.image_runs.specs.ImageMeaning.{CompiledRealise, CompiledShowNothingMore};
+ghost use Rattle.image_runs.specs.RunLaws.{AgreeingAreKnown, AgreementSimulates, ImagesShowAll, ImagesShowNoMore};
 
-/// What the step laws ask of a configuration holds of the twin that the machine shows, and of the
-/// twin after a step; so steps that are matched from twins keep the relation, and whole runs of the
+/// What the step laws ask of a configuration holds of the actual one that the machine shows, and
+/// after a step too; so steps that are matched from it keep the relation, and whole runs of the
 /// image show what the program means, and nothing more.
 pub fn laws()
-    ensures known { TwinsAreKnown }
-    ensures simulate { TwinsSimulate }
+    ensures known { AgreeingAreKnown }
+    ensures simulate { AgreementSimulates }
     ensures all { ImagesShowAll }
     ensures no_more { ImagesShowNoMore }
 {}

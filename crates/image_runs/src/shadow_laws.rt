@@ -1,6 +1,6 @@
 //! Walks at every turn of a run.
 
-ghost use Rattle.image_runs.specs.Shadows.{ImagesWalkTheShadow, CompiledWalkTheShadow, AcceptedWalkTheShadow};
+ghost use Rattle.image_runs.specs.ShadowWalks.{ImagesWalkTheShadow, CompiledWalkTheShadow, AcceptedWalkTheShadow};
 
 /// At every turn of the run of a compiled image, up to its end, the walk over the stack gives
 /// exactly the shadow: of each routine that has not returned, innermost first, the return address,

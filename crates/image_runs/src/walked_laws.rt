@@ -1,7 +1,7 @@
 //! Walks over the stacks of whole runs, and their ends.
 
 ghost use Rattle.image_runs.specs.WalkedLaws.{RunsPassTheFrames, RunsEndAsPrograms};
-ghost use Rattle.image_runs.specs.Texts.{AcceptedPassTheFrames, AcceptedEndAsPrograms};
+ghost use Rattle.image_runs.specs.TextRuns.{AcceptedPassTheFrames, AcceptedEndAsPrograms};
 
 /// The run of a compiled image passes, for each step of linear code that continues, a state in
 /// which the walk gives the frames that are live there. It never stops, and never reaches the

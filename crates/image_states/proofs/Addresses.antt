@@ -3,7 +3,7 @@ use Rattle.std.proofs.Common.{◌≡◌, ◌≢◌, ℕ, zero, suc, ◌+◌, ◌
 use Rattle.std.specs.Prelude.{◌&&◌}
 use Rattle.std.proofs.lemmas.Bool.{or_right, and_from, and_right, not_from_false, cases_lt, le-leb, lt-ltb, le-ltb}
 use Rattle.host_layout.specs.declared.range.TheConstants.{IMAGE_BASE, IMAGE_RANGE_END}
-use Rattle.c_model.specs.Source.{is_between, is_data, data_end, is_reserved}
+use Rattle.source_meaning.specs.Source.{is_between, is_data, data_end, is_reserved}
 use Rattle.linear_code.specs.Program.{LinearBody, LinearFunclet, LinearProgram}
 use Rattle.linear_machine.specs.Frames.{BodyName, body_of}
 use Rattle.linear_code.specs.declared.instruction.Instruction.{Instruction}
@@ -13,25 +13,25 @@ use Rattle.template_code.specs.Bytes.{size, sizes}
 use Rattle.template_code.specs.Probing.{check_stack}
 use Rattle.template_code.specs.Template.{body_size, offset_of}
 use Rattle.template_code.proofs.Sizes.{offset_next}
-use Rattle.x64_code.proofs.Nearby.{some_instruction}
-use Rattle.program_link.specs.Fits.{FitsProgram}
-use Rattle.program_link.specs.Routines.{RoutineView, funclet_frame, funclet, routines}
-use Rattle.program_link.specs.Near.{IsFrameNear}
-use Rattle.program_link.specs.Text.{routine_size, entry_size, routine_bytes, check_stack_at, bounds}
-use Rattle.program_link.specs.Linked.{text_begin, first, total, linked}
-use Rattle.program_link.proofs.Images.{no_routine}
-use Rattle.program_link.proofs.Bounds.{bounds_least, bounds_below}
-use Rattle.program_tables.specs.Placed.{Placed, end_of, site_of}
-use Rattle.program_tables.proofs.Labels.{template_some}
-use Rattle.program_tables.proofs.Infos.{taking_few}
-use Rattle.program_tables.proofs.Prologues.{entry_least}
-use Rattle.program_tables.proofs.Table.{text_is, end_inside}
-use Rattle.program_frames.specs.InMemory.{image_base, template_at}
-use Rattle.program_frames.proofs.CodeInMemory.{IsThere, there, routine_length}
-use Rattle.program_shape.specs.Rows.{funclet_begin}
-use Rattle.program_shape.proofs.Placing.{bounds_rise}
-use Rattle.program_shape.proofs.Shape.{no_funclet, as_long, begin_is, funclet_is, funclet_size}
-use Rattle.body_states.specs.Programs.{IsInImage}
+use Rattle.x64_emit.proofs.Nearby.{some_instruction}
+use Rattle.image_link.specs.Fits.{FitsProgram}
+use Rattle.image_link.specs.Routines.{RoutineView, funclet_frame, funclet, routines}
+use Rattle.image_link.specs.Near.{IsFrameNear}
+use Rattle.image_link.specs.Text.{routine_size, entry_size, routine_bytes, check_stack_at, bounds}
+use Rattle.image_link.specs.Linked.{text_begin, first, total, linked}
+use Rattle.image_link.proofs.Images.{no_routine}
+use Rattle.image_link.proofs.Bounds.{bounds_least, bounds_below}
+use Rattle.image_tables.specs.RoutinePlaces.{Placed, end_of, site_of}
+use Rattle.image_tables.proofs.Labels.{template_some}
+use Rattle.image_tables.proofs.Infos.{taking_few}
+use Rattle.image_tables.proofs.Prologues.{entry_least}
+use Rattle.image_tables.proofs.Table.{text_is, end_inside}
+use Rattle.image_tables.specs.CodeInMemory.{image_base, template_at}
+use Rattle.image_tables.proofs.CodeInMemory.{IsThere, there, routine_length}
+use Rattle.image_tables.specs.RegionRows.{funclet_begin}
+use Rattle.image_tables.proofs.RoutineRows.{bounds_rise}
+use Rattle.image_tables.proofs.Shape.{no_funclet, as_long, begin_is, funclet_is, funclet_size}
+use Rattle.match_bodies.specs.ProgramImages.{IsInImage}
 use Rattle.image_states.specs.Plans.{functions_of, funclets_of, routine_of, address_of, plan_of, sites_of}
 use Rattle.image_states.specs.Compiled.{HasWholeImage}
 use Rattle.image_states.proofs.Places.{IsBody, is_body}

@@ -30,24 +30,24 @@ use Rattle.template_code.specs.Slots.{fetch}
 use Rattle.template_code.specs.Calls.{epilogue, return_code}
 use Rattle.template_code.specs.Template.{code_from}
 use Rattle.template_code.proofs.Sizes.{sizes_append, template_sizes}
-use Rattle.x64_code.specs.Near.{IsInstructionNear}
-use Rattle.program_link.specs.Near.{IsFrameNear}
-use Rattle.program_link.specs.Text.{argument_code, entry_size, check_stack_at, routine_code}
-use Rattle.program_link.specs.Text as texts
-use Rattle.program_link.proofs.Entries.{entry_sizes, routine_small}
-use Rattle.program_tables.specs.Placed.{Placed, body_begin, end_of, site_of, placed}
-use Rattle.program_tables.specs.Entries as tables
-use Rattle.program_tables.proofs.Lookups.{some_same, none_some}
-use Rattle.program_tables.proofs.Prologues.{prologue_sizes, entry_least}
-use Rattle.program_frames.specs.InMemory.{image_base, template_at, links}
-use Rattle.program_frames.proofs.Arguments.{arguments_inner}
-use Rattle.program_frames.proofs.CodeInMemory.{executable_split, code_split, IsTemplate, template_there}
-use Rattle.program_frames.proofs.Inner.{Inner, AllInner, inner_at, fetch_inner}
-use Rattle.program_frames.proofs.Layouts.{size_of, sized}
-use Rattle.program_frames.proofs.Waiting.{no_epilogue, away, found_in, none_in}
-use Rattle.body_states.specs.Sites.{begin_of, making_size, give_back, code_of}
-use Rattle.body_states.specs.Programs.{HasProgram}
-use Rattle.body_states.specs.Callers.{FindsReturn}
+use Rattle.x64_emit.specs.Near.{IsInstructionNear}
+use Rattle.image_link.specs.Near.{IsFrameNear}
+use Rattle.image_link.specs.Text.{argument_code, entry_size, check_stack_at, routine_code}
+use Rattle.image_link.specs.Text as texts
+use Rattle.image_link.proofs.Entries.{entry_sizes, routine_small}
+use Rattle.image_tables.specs.RoutinePlaces.{Placed, body_begin, end_of, site_of, placed}
+use Rattle.image_tables.specs.Entries as tables
+use Rattle.image_tables.proofs.Lookups.{some_same, none_some}
+use Rattle.image_tables.proofs.Prologues.{prologue_sizes, entry_least}
+use Rattle.image_tables.specs.CodeInMemory.{image_base, template_at, links}
+use Rattle.image_tables.proofs.Arguments.{arguments_inner}
+use Rattle.image_tables.proofs.CodeInMemory.{executable_split, code_split, IsTemplate, template_there}
+use Rattle.image_tables.proofs.BodyInstructions.{Inner, AllInner, inner_at, fetch_inner}
+use Rattle.image_tables.proofs.Layouts.{size_of, sized}
+use Rattle.image_tables.proofs.BodyFrames.{no_epilogue, away, found_in, none_in}
+use Rattle.match_bodies.specs.CodeSites.{begin_of, making_size, give_back, code_of}
+use Rattle.match_bodies.specs.ProgramImages.{HasProgram}
+use Rattle.match_bodies.specs.Callers.{FindsReturn}
 use Rattle.image_states.specs.Plans.{functions_of, funclets_of, routine_of, plan_of, sites_of}
 use Rattle.image_states.specs.Compiled.{HasWholeImage}
 use Rattle.image_states.proofs.Addresses.{place, here}

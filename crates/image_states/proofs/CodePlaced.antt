@@ -29,18 +29,18 @@ use Rattle.template_code.specs.Probing.{check_stack}
 use Rattle.template_code.proofs.Sizes.{sizes_spelled}
 use Rattle.x64_templates.specs.Placed.{IsCodeAt}
 use Rattle.x64_templates.specs.Runs.{HasCode}
-use Rattle.program_link.specs.Text.{SiteView, routine_size, thunk_at, service_thunk, front_code, routine_code, routine_bytes, routines_bytes}
-use Rattle.program_link.specs.Linked.{text_begin, first, linked}
-use Rattle.program_link.specs.Routines.{routines}
-use Rattle.program_link.proofs.Entries.{routine_small}
-use Rattle.program_tables.specs.Placed.{site_of}
-use Rattle.program_tables.proofs.Handlers.{thunk_bytes}
-use Rattle.program_tables.proofs.Table.{is, text_is, rdata_is, end_inside}
-use Rattle.program_frames.specs.InMemory.{image_base}
-use Rattle.program_frames.proofs.CodeInMemory.{code_length}
-use Rattle.program_frames.proofs.Loaded.{images_have_text, texts_are_fixed}
-use Rattle.body_states.specs.Sites.{begin_of, code_of}
-use Rattle.body_states.specs.Programs.{service_of, HasService, HasProgram}
+use Rattle.image_link.specs.Text.{SiteView, routine_size, thunk_at, service_thunk, front_code, routine_code, routine_bytes, routines_bytes}
+use Rattle.image_link.specs.Linked.{text_begin, first, linked}
+use Rattle.image_link.specs.Routines.{routines}
+use Rattle.image_link.proofs.Entries.{routine_small}
+use Rattle.image_tables.specs.RoutinePlaces.{site_of}
+use Rattle.image_tables.proofs.Handlers.{thunk_bytes}
+use Rattle.image_tables.proofs.Table.{is, text_is, rdata_is, end_inside}
+use Rattle.image_tables.specs.CodeInMemory.{image_base}
+use Rattle.image_tables.proofs.CodeInMemory.{code_length}
+use Rattle.image_tables.proofs.ImageText.{images_have_text, texts_are_fixed}
+use Rattle.match_bodies.specs.CodeSites.{begin_of, code_of}
+use Rattle.match_bodies.specs.ProgramImages.{service_of, HasService, HasProgram}
 use Rattle.image_states.specs.Plans.{functions_of, funclets_of, routine_of, plan_of, sites_of}
 use Rattle.image_states.specs.Compiled.{HasWholeImage}
 use Rattle.image_states.proofs.Addresses.{reserved, place, here}

@@ -20,13 +20,13 @@ use Rattle.pe_write.proofs.Programs.{listed}
 use Rattle.host_model.specs.Loading.{section_of, mode_in, byte_in, stored_byte, stack_mode, with_slots, mapped}
 use Rattle.host_model.specs.Slots.{IsBeside}
 use Rattle.host_model.proofs.Slots.{slots-beside}
-use Rattle.c_model.specs.Source.{is_between, data_end, is_data, is_reserved, plain_mode, first_memory}
+use Rattle.source_meaning.specs.Source.{is_between, data_end, is_data, is_reserved, plain_mode, first_memory}
 use Rattle.linear_code.specs.Program.{LinearProgram}
-use Rattle.linked_stack.specs.Records.{IsData}
+use Rattle.match_stack.specs.StackRecords.{IsData}
 use Rattle.x64_templates.specs.Frames.{Agrees}
-use Rattle.program_link.specs.Linked.{data_size, linked}
-use Rattle.program_tables.proofs.Table.{is, text_is}
-use Rattle.program_frames.specs.InMemory.{image_base}
+use Rattle.image_link.specs.Linked.{data_size, linked}
+use Rattle.image_tables.proofs.Table.{is, text_is}
+use Rattle.image_tables.specs.CodeInMemory.{image_base}
 use Rattle.image_states.specs.Compiled.{HasWholeImage}
 use Rattle.image_states.specs.StartLaws.{HasBytes}
 use Rattle.image_states.proofs.Sections.{covered, below, above, here, past, of_section, AllBytes, bytes_front, bytes_back, stored_small, slots_small, slots_past, get_zeros, IsApart}

@@ -21,24 +21,24 @@ use Rattle.template_code.specs.declared.layout.Layout.{Layout}
 use Rattle.template_code.specs.Jumps.{distance}
 use Rattle.template_code.specs.Calls.{parameters_code}
 use Rattle.template_code.specs.Template.{template_size, body_size, offset_of, code_from}
-use Rattle.x64_code.specs.Bodies.{label_list}
-use Rattle.x64_code.specs.Linking.{address_or}
-use Rattle.x64_code.specs.Entries as link_entries
-use Rattle.x64_code.proofs.Nearby.{all_at}
-use Rattle.program_link.specs.Fits.{FitsFunclet}
-use Rattle.program_link.specs.Near.{IsFrameNear}
-use Rattle.program_link.specs.Routines.{RoutineView, leaf_if, funclet_frame, nothing, kept_by, HasParent, entry_of, funclet}
-use Rattle.program_link.specs.Routines as link
-use Rattle.program_link.specs.Text.{argument_code, check_stack_at, own_addresses, routine_code}
-use Rattle.program_link.specs.Text as texts
-use Rattle.program_link.specs.Linked.{text_begin, linked}
-use Rattle.program_link.proofs.Entries.{entry_small}
-use Rattle.program_tables.specs.Placed.{Placed, body_begin, site_of}
-use Rattle.program_tables.proofs.Lookups.{none_some}
-use Rattle.program_frames.specs.InMemory.{image_base, links}
-use Rattle.program_frames.proofs.CodeInMemory.{IsThere}
-use Rattle.program_frames.proofs.Layouts.{size_of, sized}
-use Rattle.body_states.specs.Sites.{links_of, begin_of, making, frame_code, parent_base, keep_base, keep_argument, function_arguments, funclet_arguments, arguments_code, entry_code, code_of}
+use Rattle.x64_emit.specs.Bodies.{label_list}
+use Rattle.x64_emit.specs.Linking.{address_or}
+use Rattle.x64_emit.specs.Entries as link_entries
+use Rattle.x64_emit.proofs.Nearby.{all_at}
+use Rattle.image_link.specs.Fits.{FitsFunclet}
+use Rattle.image_link.specs.Near.{IsFrameNear}
+use Rattle.image_link.specs.Routines.{RoutineView, leaf_if, funclet_frame, nothing, kept_by, HasParent, entry_of, funclet}
+use Rattle.image_link.specs.Routines as link
+use Rattle.image_link.specs.Text.{argument_code, check_stack_at, own_addresses, routine_code}
+use Rattle.image_link.specs.Text as texts
+use Rattle.image_link.specs.Linked.{text_begin, linked}
+use Rattle.image_link.proofs.Entries.{entry_small}
+use Rattle.image_tables.specs.RoutinePlaces.{Placed, body_begin, site_of}
+use Rattle.image_tables.proofs.Lookups.{none_some}
+use Rattle.image_tables.specs.CodeInMemory.{image_base, links}
+use Rattle.image_tables.proofs.CodeInMemory.{IsThere}
+use Rattle.image_tables.proofs.Layouts.{size_of, sized}
+use Rattle.match_bodies.specs.CodeSites.{links_of, begin_of, making, frame_code, parent_base, keep_base, keep_argument, function_arguments, funclet_arguments, arguments_code, entry_code, code_of}
 use Rattle.image_states.specs.Plans.{is_leaf, routine_of, address_of, plan_of, sites_of}
 use Rattle.image_states.specs.Compiled.{HasWholeImage}
 use Rattle.image_states.proofs.Places.{is_function, is_funclet}

@@ -22,22 +22,22 @@ use Rattle.frame_layout.proofs.Sizes.{takes_thirteen}
 use Rattle.template_code.specs.Bytes.{size, sizes}
 use Rattle.template_code.specs.Slots.{fetch}
 use Rattle.template_code.specs.Probing.{check_stack}
-use Rattle.program_link.specs.Routines.{RoutineView, routines}
-use Rattle.program_link.specs.Text.{SiteView, routine_size, argument_code, thunks_at, check_stack_at}
-use Rattle.program_link.specs.Tables.{info_bytes}
-use Rattle.program_link.specs.Linked.{first, total}
-use Rattle.x64_code.specs.Linking.{thunk_of}
-use Rattle.program_tables.specs.Placed.{Placed, end_of, placed_from, site_of, infos_begin}
-use Rattle.program_tables.specs.Entries as tables
-use Rattle.program_tables.proofs.Lookups.{thunks_are_held_by_none}
-use Rattle.program_tables.proofs.Infos.{taking_few}
-use Rattle.program_tables.proofs.Table.{tables_are_read, end_inside}
-use Rattle.program_frames.specs.InMemory.{image_base, template_at}
-use Rattle.program_frames.proofs.Layouts.{size_of, sized}
-use Rattle.program_frames.proofs.Waiting.{away}
-use Rattle.body_states.specs.Sites.{begin_of, making_size, give_back}
-use Rattle.body_states.specs.Programs.{FindsCallers, FindsCallersOutside}
-use Rattle.body_states.specs.Callers.{FindsReturn}
+use Rattle.image_link.specs.Routines.{RoutineView, routines}
+use Rattle.image_link.specs.Text.{SiteView, routine_size, argument_code, thunks_at, check_stack_at}
+use Rattle.image_link.specs.Tables.{info_bytes}
+use Rattle.image_link.specs.Linked.{first, total}
+use Rattle.x64_emit.specs.Linking.{thunk_of}
+use Rattle.image_tables.specs.RoutinePlaces.{Placed, end_of, placed_from, site_of, infos_begin}
+use Rattle.image_tables.specs.Entries as tables
+use Rattle.image_tables.proofs.Lookups.{thunks_are_held_by_none}
+use Rattle.image_tables.proofs.Infos.{taking_few}
+use Rattle.image_tables.proofs.Table.{tables_are_read, end_inside}
+use Rattle.image_tables.specs.CodeInMemory.{image_base, template_at}
+use Rattle.image_tables.proofs.Layouts.{size_of, sized}
+use Rattle.image_tables.proofs.BodyFrames.{away}
+use Rattle.match_bodies.specs.CodeSites.{begin_of, making_size, give_back}
+use Rattle.match_bodies.specs.ProgramImages.{FindsCallers, FindsCallersOutside}
+use Rattle.match_bodies.specs.Callers.{FindsReturn}
 use Rattle.image_states.specs.Plans.{functions_of, funclets_of, is_leaf, routine_of, address_of, plan_of, sites_of}
 use Rattle.image_states.specs.Compiled.{HasWholeImage}
 use Rattle.image_states.proofs.Addresses.{place, label_rises, label_inside}
@@ -45,7 +45,7 @@ use Rattle.image_states.proofs.Entering.{arguments_same}
 use Rattle.image_states.proofs.Framed.{framed_of}
 use Rattle.image_states.proofs.Popping.{by_popping}
 use Rattle.image_states.proofs.Callers.{leaf_at, making_at, near, argument_at, argument_found, making_is, return_found, end_found}
-use Rattle.x64_code.specs.Near.{IsNear}
+use Rattle.x64_emit.specs.Near.{IsNear}
 
 -- ---- where no entry is
 

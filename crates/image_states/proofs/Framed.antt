@@ -2,7 +2,7 @@
 use Rattle.std.proofs.Common.{◌≡◌, ℕ, zero, suc, ◌+◌, ◌^◌, ◌<◌, true, false, List, [], ◌∷◌, Option, Some, None, Ok, refl, sym, ap, subst, ◌∙◌, arith}
 use Rattle.std.specs.Prelude.{slice_get}
 use Rattle.std.specs.List.{AllByRecursion}
-use Rattle.program_tables.proofs.Lookups.{some_same, none_some}
+use Rattle.image_tables.proofs.Lookups.{some_same, none_some}
 use Rattle.std.proofs.lemmas.Bool.{false≢true}
 use Rattle.flat_memory.specs.Memory.{Memory}
 use Rattle.x64_instr.specs.declared.instruction.Instr.{Instr}
@@ -10,7 +10,7 @@ use Rattle.eh_tables.specs.declared.code.UnwindOperation.TheVariants.{Allocate}
 use Rattle.eh_tables.specs.declared.code.UnwindCode.{UnwindCode}
 use Rattle.virtual_unwind.specs.Contexts.{rsp}
 use Rattle.virtual_unwind.specs.Undone.{word}
-use Rattle.linked_stack.specs.Stack.{FrameIsAt}
+use Rattle.match_stack.specs.Stack.{FrameIsAt}
 use Rattle.frame_rules.specs.Bytes.{IsExecutableAt}
 use Rattle.linear_code.specs.declared.instruction.Instruction.{Instruction}
 use Rattle.linear_code.specs.declared.instruction.Instruction.TheVariants as instructions
@@ -20,18 +20,18 @@ use Rattle.frame_layout.specs.declared.frame.FrameLayout.{FrameLayout}
 use Rattle.frame_layout.specs.Layout.{taking_size}
 use Rattle.template_code.specs.Bytes.{spelled, sizes}
 use Rattle.x64_templates.specs.Placed.{IsCodeAt}
-use Rattle.x64_templates.specs.Quiet as quiet
-use Rattle.program_link.specs.Text.{routine_code}
-use Rattle.program_link.proofs.Entries.{routine_small}
-use Rattle.x64_code.specs.Near.{IsInstructionNear}
-use Rattle.program_tables.specs.Placed.{site_of}
-use Rattle.program_tables.specs.Entries as tables
-use Rattle.program_frames.specs.InMemory.{image_base, template_at, links, IsReturn, IsInBody}
-use Rattle.program_frames.specs.Laws.{stack_frame}
-use Rattle.program_frames.proofs.Layouts.{size_of, sized}
-use Rattle.program_frames.proofs.Waiting.{frame_is_at, leaves_are_at}
-use Rattle.body_states.specs.Programs.{frame_with, HasProgram, IsResumed, FramesAreWaiting, HasAllocation, LeavesAreWaiting}
-use Rattle.body_states.specs.Sites.{links_of, begin_of, code_of}
+use Rattle.x64_templates.specs.Epilogues as epilogues
+use Rattle.image_link.specs.Text.{routine_code}
+use Rattle.image_link.proofs.Entries.{routine_small}
+use Rattle.x64_emit.specs.Near.{IsInstructionNear}
+use Rattle.image_tables.specs.RoutinePlaces.{site_of}
+use Rattle.image_tables.specs.Entries as tables
+use Rattle.image_tables.specs.CodeInMemory.{image_base, template_at, links, IsReturn, IsInBody}
+use Rattle.image_tables.specs.FrameLaws.{stack_frame}
+use Rattle.image_tables.proofs.Layouts.{size_of, sized}
+use Rattle.image_tables.proofs.BodyFrames.{frame_is_at, leaves_are_at}
+use Rattle.match_bodies.specs.ProgramImages.{frame_with, HasProgram, IsResumed, FramesAreWaiting, HasAllocation, LeavesAreWaiting}
+use Rattle.match_bodies.specs.CodeSites.{links_of, begin_of, code_of}
 use Rattle.image_states.specs.Plans.{functions_of, funclets_of, is_leaf, or_none, routine_of, address_of, plan_of, sites_of}
 use Rattle.image_states.specs.Compiled.{HasWholeImage}
 use Rattle.image_states.proofs.Addresses.{place, here, label_inside}
@@ -45,7 +45,7 @@ pub executable_of : (m : Memory) (at : ℕ) (bytes : List ℕ) → IsCodeAt m at
 executable_of m at [] h = tt
 executable_of m at (b ∷ bytes) h = (h.0.byte, h.0.executes, executable_of m (at + 1) bytes h.1)
 
-returns : (i : Instruction) → IsReturn i → quiet.IsReturn i
+returns : (i : Instruction) → IsReturn i → epilogues.IsReturn i
 returns (instructions.Return from) h = tt
 returns i h = absurd h
 

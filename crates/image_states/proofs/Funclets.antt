@@ -17,16 +17,16 @@ use Rattle.linear_code.specs.declared.program.FuncletKind.{FuncletKind}
 use Rattle.linear_code.specs.declared.program.FuncletKind.TheVariants.{Filter, Finally}
 use Rattle.linear_code.specs.Program.{LinearFunction, LinearFunclet, LinearProgram}
 use Rattle.linear_machine.specs.Frames.{BodyName, FunctionBody, FuncletBody, function_body, funclet_body}
-use Rattle.ir_typed.specs.Bodies.{IsFilterKind, IsFinallyKind, IsKindOf, IsRegionOf}
-use Rattle.program_link.specs.Fits.{function_bodies, funclet_bodies}
-use Rattle.program_tables.specs.Entries.{entries}
-use Rattle.program_tables.proofs.Table.{end_inside, image_small}
-use Rattle.program_frames.specs.InMemory.{image_base}
-use Rattle.program_frames.proofs.Waiting.{away}
-use Rattle.program_shape.specs.Rows.{rows_of, regions_in, regions, funclet_in, named, funclet_begin, IsRow, AreRows}
-use Rattle.program_shape.proofs.Shape.{rises, tables_have_shape}
-use Rattle.body_states.specs.Programs.{FuncletsBegin}
-use Rattle.body_states.specs.Programs as states
+use Rattle.lowering_invariants.specs.Bodies.{IsFilterKind, IsFinallyKind, IsKindOf, IsRegionOf}
+use Rattle.image_link.specs.Fits.{function_bodies, funclet_bodies}
+use Rattle.image_tables.specs.Entries.{entries}
+use Rattle.image_tables.proofs.Table.{end_inside, image_small}
+use Rattle.image_tables.specs.CodeInMemory.{image_base}
+use Rattle.image_tables.proofs.BodyFrames.{away}
+use Rattle.image_tables.specs.RegionRows.{rows_of, regions_in, regions, funclet_in, named, funclet_begin, IsRow, AreRows}
+use Rattle.image_tables.proofs.Shape.{rises, tables_have_shape}
+use Rattle.match_bodies.specs.ProgramImages.{FuncletsBegin}
+use Rattle.match_bodies.specs.ProgramImages as states
 use Rattle.image_states.specs.Plans.{functions_of, funclets_of, plan_of, sites_of}
 use Rattle.image_states.specs.Compiled.{IsMember, HasWholeImage}
 use Rattle.image_states.proofs.Inserting.{Mask, with_one, sub, same_sub, insert, all, arrives, arrives_at_none}

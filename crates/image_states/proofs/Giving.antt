@@ -23,25 +23,25 @@ use Rattle.linear_machine.specs.Frames.{BodyName, body_of}
 use Rattle.linear_machine.specs.Regions.{leads_to}
 use Rattle.linear_machine.specs.Regions as linear
 use Rattle.linear_machine.specs.Run.{instruction_in}
-use Rattle.ir_typed.specs.Bodies.{parent_of, IsFuncletOf, IsLanding, IsKindOf, IsRegionOf}
+use Rattle.lowering_invariants.specs.Bodies.{parent_of, IsFuncletOf, IsLanding, IsKindOf, IsRegionOf}
 use Rattle.template_code.specs.declared.layout.Layout.{Layout}
-use Rattle.x64_code.specs.Linking.{address_or}
-use Rattle.program_link.specs.Routines.{routines}
-use Rattle.program_link.specs.Tables.{has_except, has_finally, handler_address, jump_target, scope_record}
-use Rattle.program_link.specs.Tables as tables
-use Rattle.program_link.specs.Text.{own_addresses}
-use Rattle.program_link.specs.Linked.{text_begin, first, linked}
-use Rattle.program_link.proofs.Entries.{routine_small}
-use Rattle.program_tables.specs.Placed.{Placed, body_begin, site_of, infos_begin}
-use Rattle.program_tables.proofs.Lookups.{placed_has}
-use Rattle.program_tables.proofs.Table.{end_inside, image_small}
-use Rattle.program_frames.specs.InMemory.{image_base, template_at}
-use Rattle.program_frames.proofs.CodeInMemory.{IsThere}
-use Rattle.program_frames.proofs.Waiting.{away}
-use Rattle.program_shape.specs.Rows.{funclet_begin}
-use Rattle.program_shape.proofs.Placing.{IsBare, routines_bare}
-use Rattle.program_shape.proofs.Shape.{entries_are_flagged}
-use Rattle.linked_stack.specs.ImagePlan.{InCode, by_parent, parent_body, IsFunclet, JumpsTo, IsOfKind, IsRegion, AreRegions, AllFinally, AllExcept, IsFlagged, IsEntryOf, IsGiven, Gives}
+use Rattle.x64_emit.specs.Linking.{address_or}
+use Rattle.image_link.specs.Routines.{routines}
+use Rattle.image_link.specs.Tables.{has_except, has_finally, handler_address, jump_target, scope_record}
+use Rattle.image_link.specs.Tables as tables
+use Rattle.image_link.specs.Text.{own_addresses}
+use Rattle.image_link.specs.Linked.{text_begin, first, linked}
+use Rattle.image_link.proofs.Entries.{routine_small}
+use Rattle.image_tables.specs.RoutinePlaces.{Placed, body_begin, site_of, infos_begin}
+use Rattle.image_tables.proofs.Lookups.{placed_has}
+use Rattle.image_tables.proofs.Table.{end_inside, image_small}
+use Rattle.image_tables.specs.CodeInMemory.{image_base, template_at}
+use Rattle.image_tables.proofs.CodeInMemory.{IsThere}
+use Rattle.image_tables.proofs.BodyFrames.{away}
+use Rattle.image_tables.specs.RegionRows.{funclet_begin}
+use Rattle.image_tables.proofs.RoutineRows.{IsBare, routines_bare}
+use Rattle.image_tables.proofs.Shape.{entries_are_flagged}
+use Rattle.match_stack.specs.ImagePlan.{InCode, by_parent, parent_body, IsFunclet, JumpsTo, IsOfKind, IsRegion, AreRegions, AllFinally, AllExcept, IsFlagged, IsEntryOf, IsGiven, Gives}
 use Rattle.image_states.specs.Plans.{functions_of, funclets_of, or_none, routine_of, address_of, plan_of}
 use Rattle.image_states.specs.Compiled.{HasWholeImage}
 use Rattle.image_states.proofs.Addresses.{offset_mono, past, place, here, label_rises, label_inside, not_first, funclet_end, begin_least}

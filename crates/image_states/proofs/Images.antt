@@ -5,12 +5,12 @@ use Rattle.linear_code.specs.Program.{LinearBody, LinearProgram}
 use Rattle.linear_machine.specs.Frames.{BodyName, body_of}
 use Rattle.template_code.specs.Bytes.{sizes}
 use Rattle.template_code.specs.Template.{body_size, offset_of}
-use Rattle.program_link.specs.Text.{check_stack_at}
-use Rattle.program_link.proofs.Entries.{entry_sizes}
-use Rattle.program_tables.specs.Placed.{Placed, end_of, site_of}
-use Rattle.program_frames.specs.InMemory.{image_base}
-use Rattle.body_states.specs.Sites.{begin_of, entry_code}
-use Rattle.body_states.specs.Programs.{HasAddresses}
+use Rattle.image_link.specs.Text.{check_stack_at}
+use Rattle.image_link.proofs.Entries.{entry_sizes}
+use Rattle.image_tables.specs.RoutinePlaces.{Placed, end_of, site_of}
+use Rattle.image_tables.specs.CodeInMemory.{image_base}
+use Rattle.match_bodies.specs.CodeSites.{begin_of, entry_code}
+use Rattle.match_bodies.specs.ProgramImages.{HasAddresses}
 use Rattle.image_states.specs.Plans.{functions_of, funclets_of, routine_of, address_of, plan_of, sites_of}
 use Rattle.image_states.specs.Compiled.{HasWholeImage}
 use Rattle.image_states.specs.StateLaws.{ImagesArePrograms}

@@ -7,19 +7,19 @@ use Rattle.linear_code.specs.declared.instruction.Instruction.{Instruction}
 use Rattle.linear_code.specs.declared.instruction.Instruction.TheVariants as instructions
 use Rattle.linear_code.specs.Program.{LinearBody, LinearFunction, LinearFunclet, LinearProgram}
 use Rattle.linear_machine.specs.Frames.{BodyName, FunctionBody, FuncletBody, function_body, funclet_body, body_of}
-use Rattle.ir_typed.specs.Apart.{is_call}
-use Rattle.program_link.specs.Routines.{RoutineView, leaf_if, routines, has_call}
-use Rattle.program_link.specs.Routines as link
-use Rattle.program_link.specs.Text.{bounds, routine_size}
-use Rattle.program_link.specs.Linked.{first}
-use Rattle.program_link.proofs.Images.{no_routine}
-use Rattle.program_tables.specs.Placed.{site_of}
-use Rattle.program_tables.proofs.Lookups.{some_same, none_some}
-use Rattle.program_frames.specs.InMemory.{image_base}
-use Rattle.x64_code.specs.Linking.{address_or}
-use Rattle.program_shape.specs.Rows.{funclet_begin}
-use Rattle.program_shape.proofs.Placing.{bounds_rise}
-use Rattle.program_shape.proofs.Shape.{as_long, begin_is}
+use Rattle.lowering_invariants.specs.ReturnRegions.{is_call}
+use Rattle.image_link.specs.Routines.{RoutineView, leaf_if, routines, has_call}
+use Rattle.image_link.specs.Routines as link
+use Rattle.image_link.specs.Text.{bounds, routine_size}
+use Rattle.image_link.specs.Linked.{first}
+use Rattle.image_link.proofs.Images.{no_routine}
+use Rattle.image_tables.specs.RoutinePlaces.{site_of}
+use Rattle.image_tables.proofs.Lookups.{some_same, none_some}
+use Rattle.image_tables.specs.CodeInMemory.{image_base}
+use Rattle.x64_emit.specs.Linking.{address_or}
+use Rattle.image_tables.specs.RegionRows.{funclet_begin}
+use Rattle.image_tables.proofs.RoutineRows.{bounds_rise}
+use Rattle.image_tables.proofs.Shape.{as_long, begin_is}
 use Rattle.image_states.specs.Plans.{is_leaf, routine_of, plan_of}
 use Rattle.image_states.specs.Compiled.{HasWholeImage}
 use Rattle.image_states.specs.StateLaws.{LeavesCallNothing, FunctionsApart}

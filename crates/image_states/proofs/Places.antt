@@ -5,20 +5,20 @@ use Rattle.std.proofs.lemmas.List.{get_or-take, get_or_append_left}
 use Rattle.std.proofs.lemmas.Option.{slice_get_within, get_or_from_slice_get}
 use Rattle.linear_code.specs.Program.{LinearBody, LinearFunction, LinearFunclet, LinearProgram}
 use Rattle.linear_machine.specs.Frames.{BodyName, FunctionBody, FuncletBody, function_body, funclet_body, body_of}
-use Rattle.program_link.specs.Fits.{FitsProgram}
-use Rattle.program_link.specs.Routines.{RoutineView, leaf_if, functions_from, funclet, routines}
-use Rattle.program_link.specs.Routines as link
-use Rattle.program_link.specs.Text.{bounds}
-use Rattle.program_link.specs.Linked.{first}
-use Rattle.program_link.proofs.Images.{no_routine}
-use Rattle.program_tables.specs.Placed.{Placed, site_of, infos_begin, placed}
-use Rattle.program_tables.proofs.Lookups.{some_same, none_some}
-use Rattle.program_frames.specs.InMemory.{image_base}
-use Rattle.x64_code.specs.Linking.{address_or}
-use Rattle.program_shape.specs.Rows.{funclet_begin}
-use Rattle.program_shape.proofs.Placing.{is_placed}
-use Rattle.program_shape.proofs.Shape.{functions_count, no_funclet, as_long, funclet_is, begin_is}
-use Rattle.body_states.specs.Sites.{begin_of}
+use Rattle.image_link.specs.Fits.{FitsProgram}
+use Rattle.image_link.specs.Routines.{RoutineView, leaf_if, functions_from, funclet, routines}
+use Rattle.image_link.specs.Routines as link
+use Rattle.image_link.specs.Text.{bounds}
+use Rattle.image_link.specs.Linked.{first}
+use Rattle.image_link.proofs.Images.{no_routine}
+use Rattle.image_tables.specs.RoutinePlaces.{Placed, site_of, infos_begin, placed}
+use Rattle.image_tables.proofs.Lookups.{some_same, none_some}
+use Rattle.image_tables.specs.CodeInMemory.{image_base}
+use Rattle.x64_emit.specs.Linking.{address_or}
+use Rattle.image_tables.specs.RegionRows.{funclet_begin}
+use Rattle.image_tables.proofs.RoutineRows.{is_placed}
+use Rattle.image_tables.proofs.Shape.{functions_count, no_funclet, as_long, funclet_is, begin_is}
+use Rattle.match_bodies.specs.CodeSites.{begin_of}
 use Rattle.image_states.specs.Plans.{or_nowhere, routine_of, plan_of, sites_of}
 
 -- ---- lists

@@ -15,18 +15,18 @@ use Rattle.virtual_unwind.specs.CallerOf.{Functions, CallerFrame, distance, entr
 use Rattle.virtual_unwind.specs.Tail.{tail, tail_at, prepend_instr, left}
 use Rattle.virtual_unwind.specs.Undone.{Answer, word, popped}
 use Rattle.seh_walk.specs.Walk.{visited, if_over, if_filter, if_finally, framed, filter_return, finally_return}
-use Rattle.linked_stack.specs.Stack.{FrameIsAt}
-use Rattle.linked_stack.specs.PlainWalks.{state}
-use Rattle.linked_stack.proofs.Visiting.{set_head, frame_is_visited}
+use Rattle.match_stack.specs.Stack.{FrameIsAt}
+use Rattle.match_stack.specs.PlainWalks.{state}
+use Rattle.match_stack.proofs.ItemVisits.{set_head, frame_is_visited}
 use Rattle.frame_rules.specs.Bytes.{spell, IsExecutableAt}
 use Rattle.frame_rules.proofs.Bytes.{items_are_at}
 use Rattle.frame_rules.proofs.Tails.{tail-more}
 use Rattle.template_code.specs.Bytes.{size}
-use Rattle.program_link.specs.Linked.{first}
-use Rattle.program_frames.proofs.Inner.{signed}
-use Rattle.body_states.specs.Sites.{give_back}
-use Rattle.body_states.specs.Callers.{caller_above, HasCaller, FindsReturn}
-use Rattle.x64_code.specs.Near.{IsNear}
+use Rattle.image_link.specs.Linked.{first}
+use Rattle.image_tables.proofs.BodyInstructions.{signed}
+use Rattle.match_bodies.specs.CodeSites.{give_back}
+use Rattle.match_bodies.specs.Callers.{caller_above, HasCaller, FindsReturn}
+use Rattle.x64_emit.specs.Near.{IsNear}
 
 -- ---- a return address is popped
 

@@ -22,7 +22,7 @@ use Rattle.template_code.specs.Slots.{operands_code}
 use Rattle.template_code.specs.Calls.{return_at}
 use Rattle.x64_templates.specs.Straight.{MachineView}
 use Rattle.x64_templates.specs.Implements.{high_of, IsReady}
-use Rattle.body_states.specs.Programs.{view_of, ReturnsThere, WorksAgain, SaysResumptions}
+use Rattle.match_bodies.specs.ProgramImages.{view_of, ReturnsThere, WorksAgain, SaysResumptions}
 use Rattle.image_states.specs.Plans.{is_some, is_ready, returns_there, works_again, routine_of, address_of, functions_of, funclets_of, plan_of, sites_of}
 
 -- ---- tests

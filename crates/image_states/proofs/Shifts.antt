@@ -21,9 +21,9 @@ use Rattle.template_code.specs.Slots.{fetch, keep}
 use Rattle.template_code.specs.Jumps.{distance, jump, jump_equal, call, compare_zero, test_code}
 use Rattle.template_code.specs.Calls.{arguments_code, call_code, clear_result, passing_code, finally_arguments, address_to}
 use Rattle.template_code.specs.Template.{Links, template, template_size, code_from}
-use Rattle.x64_code.specs.Near.{IsInstructionNear}
-use Rattle.x64_code.specs.Rooms.{code_room}
-use Rattle.x64_code.proofs.Nearby.{test_small, arguments_small, passing_small, instruction_in_room}
+use Rattle.x64_emit.specs.Near.{IsInstructionNear}
+use Rattle.x64_emit.specs.Rooms.{code_room}
+use Rattle.x64_emit.proofs.Nearby.{test_small, arguments_small, passing_small, instruction_in_room}
 
 -- ---- distances
 

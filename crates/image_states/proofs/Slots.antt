@@ -6,13 +6,13 @@ use Rattle.std.proofs.lemmas.Option.{slice_get_within, get_or_from_slice_get}
 use Rattle.linear_code.specs.Program.{LinearBody, LinearFunction, LinearFunclet, LinearProgram}
 use Rattle.linear_machine.specs.Frames.{FunctionBody, FuncletBody, function_body, funclet_body}
 use Rattle.template_code.specs.declared.layout.Layout.{Layout}
-use Rattle.linked_stack.specs.ImagePlan.{ImagePlan}
-use Rattle.program_link.specs.Fits.{FitsBody, FitsFunction}
-use Rattle.program_link.specs.Routines.{RoutineView, has_call, leaf_if, function_frame, funclet_frame, funclet, nothing}
-use Rattle.program_link.specs.Routines as link
-use Rattle.x64_code.proofs.Nearby.{all_at}
-use Rattle.program_tables.proofs.Lookups.{some_same, none_some}
-use Rattle.body_states.specs.Layouts.{IsFuncletLayout, IsLayoutIf, IsLaidOut, AreLaidOut}
+use Rattle.match_stack.specs.ImagePlan.{ImagePlan}
+use Rattle.image_link.specs.Fits.{FitsBody, FitsFunction}
+use Rattle.image_link.specs.Routines.{RoutineView, has_call, leaf_if, function_frame, funclet_frame, funclet, nothing}
+use Rattle.image_link.specs.Routines as link
+use Rattle.x64_emit.proofs.Nearby.{all_at}
+use Rattle.image_tables.proofs.Lookups.{some_same, none_some}
+use Rattle.match_bodies.specs.Layouts.{IsFuncletLayout, IsLayoutIf, IsLaidOut, AreLaidOut}
 use Rattle.image_states.specs.Plans.{is_leaf, routine_of, plan_of}
 use Rattle.image_states.specs.Compiled.{IsFuncletSized, HasWholeImage}
 use Rattle.image_states.proofs.Places.{is_function, is_funclet}
@@ -72,11 +72,11 @@ funclet_by program fl fn y e same few =
 -- ---- all bodies
 
 module _ (program : LinearProgram) (c : HasWholeImage program) where
-  function_laid : (f : ℕ) (o : Option LinearFunction) (b : LinearBody)
+  function_planned : (f : ℕ) (o : Option LinearFunction) (b : LinearBody)
       → slice_get program.functions f ≡ o → function_body o ≡ Some b
       → IsLaidOut program (plan_of program) (FunctionBody f) b
-  function_laid f None b e h = absurd (none_some h)
-  function_laid f (Some fn) b e h =
+  function_planned f None b e h = absurd (none_some h)
+  function_planned f (Some fn) b e h =
       let g = is_function program c.fits f fn e in
       let leaf = not (f == program.main) && link.is_leaf fn.body in
       let lt = slice_get_within program.functions f fn e in
@@ -105,11 +105,11 @@ module _ (program : LinearProgram) (c : HasWholeImage program) where
   owner_there fl None sized e = absurd (none_some (sym (ap function_body e) ∙ sized.there))
   owner_there fl (Some fn) sized e = (fn, e)
 
-  funclet_laid : (k : ℕ) (o : Option LinearFunclet) (b : LinearBody)
+  funclet_planned : (k : ℕ) (o : Option LinearFunclet) (b : LinearBody)
       → slice_get program.funclets k ≡ o → funclet_body o ≡ Some b
       → IsLaidOut program (plan_of program) (FuncletBody k) b
-  funclet_laid k None b e h = absurd (none_some h)
-  funclet_laid k (Some fl) b e h =
+  funclet_planned k None b e h = absurd (none_some h)
+  funclet_planned k (Some fl) b e h =
       let g = is_funclet program c.fits k fl e in
       let sized = c.funclets k fl e in
       let owner = owner_there fl (slice_get program.functions fl.function) sized refl in
@@ -135,5 +135,5 @@ module _ (program : LinearProgram) (c : HasWholeImage program) where
       }
 
   pub laid_out : AreLaidOut program (plan_of program)
-  laid_out (FunctionBody f) b h = function_laid f (slice_get program.functions f) b refl h
-  laid_out (FuncletBody k) b h = funclet_laid k (slice_get program.funclets k) b refl h
+  laid_out (FunctionBody f) b h = function_planned f (slice_get program.functions f) b refl h
+  laid_out (FuncletBody k) b h = funclet_planned k (slice_get program.funclets k) b refl h

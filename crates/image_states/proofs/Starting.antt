@@ -12,8 +12,8 @@ use Rattle.host_model.specs.declared.refusal.LoadErr.{LoadErr}
 use Rattle.host_model.specs.declared.refusal.LoadErr.TheVariants as refusals
 use Rattle.host_model.specs.Loading.{reason_unless, first_of, of_tables, table_refusal, has_place, place_refusal, first_unknown, import_refusal, is_code, has_entry, entry_refusal, load_refusal}
 use Rattle.linear_code.specs.Program.{LinearProgram}
-use Rattle.program_link.specs.Linked.{linked}
-use Rattle.program_tables.proofs.Table.{is, tables_are_read}
+use Rattle.image_link.specs.Linked.{linked}
+use Rattle.image_tables.proofs.Table.{is, tables_are_read}
 use Rattle.image_states.specs.Compiled.{HasWholeImage}
 use Rattle.image_states.specs.StartLaws.{ImagesStart, ImagesLoad}
 use Rattle.image_states.proofs.Sections.{covered, above, here, past}

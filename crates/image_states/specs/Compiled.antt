@@ -3,12 +3,12 @@ use Rattle.std.specs.Prelude.{◌≡◌, ℕ, ◌+◌, ◌<◌, ◌≤◌, ◌�
 use Rattle.pe_write.specs.Program.{sizes_of, end_at}
 use Rattle.linear_code.specs.Program.{LinearBody, LinearFunclet, LinearProgram}
 use Rattle.linear_machine.specs.Frames.{FunctionBody, body_of}
-use Rattle.ir_typed.specs.Bodies.{IsWhole}
-use Rattle.program_link.specs.Fits.{FitsProgram}
-use Rattle.program_link.specs.Routines.{is_leaf}
-use Rattle.program_link.specs.Linked.{linked}
-use Rattle.program_tables.specs.Ranges.{HasRegions}
-use Rattle.program_shape.specs.Rows.{named, regions, NamesFunclets}
+use Rattle.lowering_invariants.specs.Bodies.{IsWhole}
+use Rattle.image_link.specs.Fits.{FitsProgram}
+use Rattle.image_link.specs.Routines.{is_leaf}
+use Rattle.image_link.specs.Linked.{linked}
+use Rattle.image_tables.specs.RegionRanges.{HasRegions}
+use Rattle.image_tables.specs.RegionRows.{named, regions, NamesFunclets}
 use Rattle.host_layout.specs.declared.limit.TheConstants.{MOST_IMAGE}
 
 abbrev pub IsMember : ℕ → List ℕ → Type 0

@@ -27,18 +27,18 @@ use Rattle.template_code.specs.Slots.{operands_code}
 use Rattle.template_code.specs.Calls.{return_at}
 use Rattle.x64_templates.specs.Straight.{MachineView}
 use Rattle.x64_templates.specs.Implements.{high_of}
-use Rattle.x64_code.specs.Linking.{address_or, thunk_of}
-use Rattle.program_link.specs.declared.routine.Entry.TheVariants as entries
-use Rattle.program_link.specs.Routines.{nothing}
-use Rattle.program_link.specs.Text.{thunks_at, check_stack_at}
-use Rattle.program_link.specs.Linked.{linked}
-use Rattle.program_tables.specs.Placed.{Placed, site_of, placed}
-use Rattle.program_tables.specs.Entries as tables
-use Rattle.program_frames.specs.InMemory.{image_base, template_at}
-use Rattle.program_shape.specs.Rows.{funclet_begin}
-use Rattle.linked_stack.specs.ImagePlan.{ImagePlan}
-use Rattle.body_states.specs.Sites.{Sites}
-use Rattle.body_states.specs.Programs.{view_of}
+use Rattle.x64_emit.specs.Linking.{address_or, thunk_of}
+use Rattle.image_link.specs.declared.routine.Entry.TheVariants as entries
+use Rattle.image_link.specs.Routines.{nothing}
+use Rattle.image_link.specs.Text.{thunks_at, check_stack_at}
+use Rattle.image_link.specs.Linked.{linked}
+use Rattle.image_tables.specs.RoutinePlaces.{Placed, site_of, placed}
+use Rattle.image_tables.specs.Entries as tables
+use Rattle.image_tables.specs.CodeInMemory.{image_base, template_at}
+use Rattle.image_tables.specs.RegionRows.{funclet_begin}
+use Rattle.match_stack.specs.ImagePlan.{ImagePlan}
+use Rattle.match_bodies.specs.CodeSites.{Sites}
+use Rattle.match_bodies.specs.ProgramImages.{view_of}
 
 -- ---- the function table, and the funclets that it names
 

@@ -4,10 +4,10 @@ use Rattle.std.specs.List.{AllByRecursion}
 use Rattle.host_model.specs.Loading.{mapped, load_refusal}
 use Rattle.pe_write.specs.Program.{parts_of, image_of}
 use Rattle.pe_write.specs.Written.{written}
-use Rattle.c_model.specs.Source.{first_memory}
+use Rattle.source_meaning.specs.Source.{first_memory}
 use Rattle.linear_code.specs.Program.{LinearProgram}
-use Rattle.body_states.specs.Programs.{IsMachineMemory}
-use Rattle.program_link.specs.Linked.{linked}
+use Rattle.match_bodies.specs.ProgramImages.{IsMachineMemory}
+use Rattle.image_link.specs.Linked.{linked}
 use Rattle.image_states.specs.Plans.{functions_of, funclets_of, plan_of, sites_of}
 use Rattle.image_states.specs.Compiled.{HasWholeImage}
 

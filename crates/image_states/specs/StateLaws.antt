@@ -3,8 +3,8 @@ use Rattle.std.specs.Prelude.{◌≡◌, ◌≢◌, ℕ, ◌<◌, true, false, l
 use Rattle.linear_code.specs.declared.instruction.Instruction.{Instruction}
 use Rattle.linear_code.specs.Program.{LinearBody, LinearProgram}
 use Rattle.linear_machine.specs.Frames.{BodyName, FunctionBody, body_of}
-use Rattle.ir_typed.specs.Apart.{is_call}
-use Rattle.body_states.specs.Programs.{IsProgramImage}
+use Rattle.lowering_invariants.specs.ReturnRegions.{is_call}
+use Rattle.match_bodies.specs.ProgramImages.{IsProgramImage}
 use Rattle.image_states.specs.Plans.{functions_of, funclets_of, plan_of, sites_of}
 use Rattle.image_states.specs.Compiled.{HasWholeImage}
 

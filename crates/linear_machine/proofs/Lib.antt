@@ -1,0 +1,7 @@
+pub mod RunLengths
+pub mod Stretch
+pub mod StretchJoins
+pub mod SingleTurns
+pub mod Walks
+pub mod Ranges
+pub mod MoreTurns

@@ -6,10 +6,10 @@ use Rattle.linear_code.specs.declared.slot.Slot.{Slot}
 use Rattle.linear_code.specs.declared.slot.Slot.TheVariants.{Local, Temporary}
 use Rattle.linear_code.specs.declared.program.Region.{Region}
 use Rattle.linear_code.specs.Program.{LinearProgram, LinearBody, LinearFunction, LinearFunclet}
-use Rattle.c_model.specs.declared.ended.Ended.{Ended}
-use Rattle.c_model.specs.declared.ended.Ended.TheVariants.{Deep}
-use Rattle.c_model.specs.State.{Exception}
-use Rattle.c_model.specs.declared.depth.TheConstants.{DEEPEST, TOO_DEEP}
+use Rattle.source_meaning.specs.declared.ended.Ended.{Ended}
+use Rattle.source_meaning.specs.declared.ended.Ended.TheVariants.{Deep}
+use Rattle.source_meaning.specs.State.{Exception}
+use Rattle.source_meaning.specs.declared.depth.TheConstants.{DEEPEST, TOO_DEEP}
 
 -- ---- bodies
 

@@ -19,9 +19,9 @@ use Rattle.linear_code.specs.declared.instruction.Instruction.TheVariants as ins
 use Rattle.linear_code.specs.declared.program.FuncletKind.{FuncletKind}
 use Rattle.linear_code.specs.declared.program.FuncletKind.TheVariants.{Filter, Finally}
 use Rattle.linear_code.specs.Program.{LinearProgram, LinearFunction}
-use Rattle.c_model.specs.declared.ended.Ended.TheVariants as ends
-use Rattle.c_model.specs.Source.{is_reserved}
-use Rattle.c_model.specs.Expressions.{of_test, field_of, raised, no_exception}
+use Rattle.source_meaning.specs.declared.ended.Ended.TheVariants as ends
+use Rattle.source_meaning.specs.Source.{is_reserved}
+use Rattle.source_meaning.specs.Expressions.{of_test, field_of, raised, no_exception}
 use Rattle.linear_machine.specs.Frames.{BodyName, FunctionBody, FuncletBody, AfterCall, SameOperation, Item, Waits, Unwinds, Store, Configuration, Seen, Finished, Stuck, Next, pick, with_some, deeper, read, write, last_temporaries, at_label, forth, with_last}
 use Rattle.linear_machine.specs.Unwinding.{left_store, run_finally, unwind}
 use Rattle.linear_machine.specs.Searching.{raise, answer}

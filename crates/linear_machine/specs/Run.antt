@@ -5,8 +5,8 @@ use Rattle.seh_num.specs.Widths.{wrapped}
 use Rattle.seh_num.specs.Shown.{Shown}
 use Rattle.linear_code.specs.declared.instruction.Instruction.{Instruction}
 use Rattle.linear_code.specs.Program.{LinearProgram, LinearBody, LinearFunction}
-use Rattle.c_model.specs.Source.{first_memory}
-use Rattle.c_model.specs.declared.ended.Ended.{Ended}
+use Rattle.source_meaning.specs.Source.{first_memory}
+use Rattle.source_meaning.specs.declared.ended.Ended.{Ended}
 use Rattle.linear_machine.specs.Frames.{body_of, Configuration, Seen, Running, Finished, Stuck, Next, pick, with_some}
 use Rattle.linear_machine.specs.Instructions.{begin_function, act}
 

@@ -5,9 +5,9 @@ use Rattle.seh_num.specs.declared.event.Event.{Event}
 use Rattle.seh_num.specs.declared.event.Event.TheVariants as events
 use Rattle.seh_num.specs.Widths.{low, signed}
 use Rattle.linear_code.specs.Program.{LinearProgram}
-use Rattle.c_model.specs.declared.ended.Ended.TheVariants.{Unhandled}
-use Rattle.c_model.specs.State.{Exception}
-use Rattle.c_model.specs.Raises.{noncontinuable, raise_event}
+use Rattle.source_meaning.specs.declared.ended.Ended.TheVariants.{Unhandled}
+use Rattle.source_meaning.specs.State.{Exception}
+use Rattle.source_meaning.specs.Raises.{noncontinuable, raise_event}
 use Rattle.linear_machine.specs.Frames.{FuncletBody, Handler, Target, Resumption, AfterCall, SameOperation, Item, Waits, Searches, Store, Configuration, Seen, Finished, Stuck, Next, pick, deeper, forth, with_last}
 use Rattle.linear_machine.specs.Regions.{handlers}
 use Rattle.linear_machine.specs.Unwinding.{unwind}

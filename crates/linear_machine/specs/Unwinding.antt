@@ -8,7 +8,7 @@ use Rattle.linear_code.specs.declared.program.RegionKind.TheVariants as kinds
 use Rattle.linear_code.specs.declared.program.FuncletKind.{FuncletKind}
 use Rattle.linear_code.specs.declared.program.FuncletKind.TheVariants.{Filter, Finally}
 use Rattle.linear_code.specs.Program.{LinearProgram, LinearFunclet}
-use Rattle.c_model.specs.Expressions.{of_test, no_exception}
+use Rattle.source_meaning.specs.Expressions.{of_test, no_exception}
 use Rattle.linear_machine.specs.Frames.{BodyName, FunctionBody, FuncletBody, Target, Item, Waits, Searches, Unwinds, Store, Configuration, Seen, Stuck, Next, pick, with_some, deeper, set_local}
 use Rattle.linear_machine.specs.Regions.{regions_at, regions_left, stops}
 

@@ -28,7 +28,7 @@ pub record ImageParts : Type 0 where
   pub exceptions : DataDirectory
   pub import_addresses : DataDirectory
 
--- ---- where it is laid
+-- ---- where each part is placed
 
 -- n rounded up to whole blocks of a file
 abbrev pub blocks : ℕ → ℕ

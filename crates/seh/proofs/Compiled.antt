@@ -1,28 +1,28 @@
 -- The image of a text, by the program that the text is.
 use Rattle.std.proofs.Common.{◌≡◌, ◌≤◌, ◌<◌, ◌∙◌, ℕ, List, length, sym, ap, subst, arith}
 use Rattle.std.specs.List.{AllByRecursion}
-use Rattle.image_runs.proofs.Accepted.{realise, nothing_more}
-use Rattle.image_runs.proofs.FoundCallers.{lowered_finds_callers}
-use Rattle.image_runs.proofs.Shadows.{accepted_walk_the_shadow}
+use Rattle.image_runs.proofs.TextImages.{realise, nothing_more}
+use Rattle.image_runs.proofs.FrameCallers.{lowered_finds_callers}
+use Rattle.image_runs.proofs.ShadowWalks.{accepted_walk_the_shadow}
 use Rattle.c_checked.specs.Program.{Program}
 use Rattle.c_syntax.specs.Nodes.{nodes_of}
 use Rattle.c_lex.proofs.Covering.{few_tokens}
 use Rattle.c_syntax.proofs.NodesOfPrograms as nodes
 use Rattle.c_resolved.specs.Program.{resolve}
-use Rattle.c_resolved.proofs.Sound.{accepted_is_sound}
+use Rattle.c_resolved.proofs.SoundPrograms.{accepted_is_sound}
 use Rattle.c_syntax.specs.Program.{ExternalDeclaration}
 use Rattle.c_text.specs.Texts.{IsAccepted, IsCheckedAs}
-use Rattle.code_bounds.proofs.Fitting.{texts_fit}
-use Rattle.image_runs.specs.Realises.{IsImageOf}
+use Rattle.text_bounds.proofs.CodeFits.{texts_fit}
+use Rattle.image_runs.specs.ImageMeaning.{IsImageOf}
 use Rattle.linear_code.specs.Program.{LinearProgram}
-use Rattle.lowered_shape.proofs.Ranges.{lowered_has_regions}
-use Rattle.lowered_shape.proofs.Shaped.{lowered_is_shaped}
+use Rattle.image_tables.proofs.RegionRanges.{lowered_has_regions}
+use Rattle.image_tables.proofs.TryRows.{lowered_is_shaped}
 use Rattle.pe_image.specs.Reading.{IsImage}
 use Rattle.pe_write.specs.Program.{parts_of, image_of}
 use Rattle.pe_write.specs.Written.{written}
-use Rattle.program_link.specs.Fits.{FitsProgram}
-use Rattle.program_link.specs.Linked.{linked}
-use Rattle.program_tables.proofs.Table.{tables_are_read}
+use Rattle.image_link.specs.Fits.{FitsProgram}
+use Rattle.image_link.specs.Linked.{linked}
+use Rattle.image_tables.proofs.Table.{tables_are_read}
 use Rattle.seh.specs.Images.{IsCompiled}
 use Rattle.seh_ir.specs.Lowered.{lowered}
 

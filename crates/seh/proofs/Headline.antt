@@ -8,12 +8,12 @@ use Rattle.host_model.specs.Laws.{Covers}
 use Rattle.host_model.specs.Machine.{machine}
 use Rattle.host_model.proofs.Longer.{covers_then, images_cover}
 use Rattle.seh_host.specs.Turns.{end_within}
-use Rattle.c_model.specs.declared.ended.Ended.{Ended}
-use Rattle.c_model.specs.declared.ended.Ended.TheVariants as meant
-use Rattle.c_model.specs.Meaning.{meaning}
+use Rattle.source_meaning.specs.declared.ended.Ended.{Ended}
+use Rattle.source_meaning.specs.declared.ended.Ended.TheVariants as meant
+use Rattle.source_meaning.specs.Meaning.{meaning}
 use Rattle.c_resolved.specs.Program.{resolve}
-use Rattle.whole_runs.specs.Ends.{run_end, run_end_of}
-use Rattle.whole_runs.specs.Laws.{ShowsNoMore}
+use Rattle.match_runs.specs.Ends.{run_end, run_end_of}
+use Rattle.match_runs.specs.Laws.{ShowsNoMore}
 use Rattle.seh.specs.Answers.{shown_by, end_by}
 use Rattle.seh.specs.Statuses.{status_of, meaning_status}
 use Rattle.seh.specs.Headline.{Headline, NothingMore, Walks}
@@ -56,12 +56,12 @@ headline source image compiled options arg n low enough =
     }
 
 pub nothing_more : NothingMore
-nothing_more source image compiled options arg n low same paces calm =
+nothing_more source image compiled options arg n low same enough_steps calm =
     let program = (resolve source compiled.whole).program in
     subst (λ (a : ℤ). ShowsNoMore (meaning program (pos arg) n) (machine image a options.turns))
     (sym same)
-    (compiled.no_more arg options.turns n low paces calm)
+    (compiled.no_more arg options.turns n low enough_steps calm)
 
 pub walks : Walks
-walks source image compiled arg turns n low paces calm none = compiled.walks arg turns n low paces
+walks source image compiled arg turns n low enough_steps calm none = compiled.walks arg turns n low enough_steps
     calm none

@@ -5,11 +5,11 @@ use Rattle.seh_num.specs.Shown.{Shown}
 use Rattle.seh_io.specs.Streams.{Rose, Grew}
 use Rattle.seh_io.specs.Writer.{TookPart}
 use Rattle.c_checked.specs.Program.{Program}
-use Rattle.c_model.specs.Meaning.{meaning}
-use Rattle.c_model.specs.declared.ended.Ended.{Ended}
-use Rattle.c_interpret.specs.declared.interpret.MeanErr.{MeanErr}
-use Rattle.c_interpret.specs.declared.interpret.MeanErr.TheVariants.{Write, Memory}
-use Rattle.c_interpret.specs.Texts as texts
+use Rattle.source_meaning.specs.Meaning.{meaning}
+use Rattle.source_meaning.specs.declared.ended.Ended.{Ended}
+use Rattle.c_meaning.specs.declared.interpret.MeanErr.{MeanErr}
+use Rattle.c_meaning.specs.declared.interpret.MeanErr.TheVariants.{Write, Memory}
+use Rattle.c_meaning.specs.Texts as texts
 use Rattle.command_line.specs.declared.command.RunOptions.{RunOptions}
 use Rattle.seh.specs.Meanings.{IsProgramOf, TookMeaningFront, shown_of, text_of}
 use Rattle.seh.specs.Streams.{Stream}

@@ -4,12 +4,12 @@ use Rattle.seh_num.specs.declared.end.RunEnd.{RunEnd}
 use Rattle.seh_num.specs.declared.end.RunEnd.TheVariants as ends
 use Rattle.host_model.specs.Machine.{machine}
 use Rattle.seh_host.specs.Turns.{end_within}
-use Rattle.c_model.specs.declared.ended.Ended.{Ended}
-use Rattle.c_model.specs.declared.ended.Ended.TheVariants as meant
-use Rattle.c_model.specs.Meaning.{meaning}
+use Rattle.source_meaning.specs.declared.ended.Ended.{Ended}
+use Rattle.source_meaning.specs.declared.ended.Ended.TheVariants as meant
+use Rattle.source_meaning.specs.Meaning.{meaning}
 use Rattle.c_resolved.specs.Program.{resolve}
-use Rattle.whole_runs.specs.Ends.{run_end_of}
-use Rattle.seh.specs.Images.{pace}
+use Rattle.match_runs.specs.Ends.{run_end_of}
+use Rattle.seh.specs.Images.{steps_per_turn}
 use Rattle.seh.specs.TamePrograms.{IsNoFailure, TameProgramsWalk, TameProgramsEnd}
 
 itself : (n : ℕ) → n ≤ n
@@ -38,12 +38,12 @@ within turns o (Some e) as_program = of_program o e (as_program e refl)
 
 pub tame_programs_walk : TameProgramsWalk
 tame_programs_walk source image compiled arg turns low tame none =
-    let n = (turns + 1) * pace source in
+    let n = (turns + 1) * steps_per_turn source in
     compiled.walks arg turns n low (itself n) (tame n) none
 
 pub tame_programs_end : TameProgramsEnd
 tame_programs_end source image compiled arg turns low tame =
-    let n = (turns + 1) * pace source in
+    let n = (turns + 1) * steps_per_turn source in
     let no_more = compiled.no_more arg turns n low (itself n) (tame n) in
     let meant_end = (meaning (resolve source compiled.whole).program (pos arg) n).end in
     within turns meant_end (machine image (pos arg) turns).end (λ e is. (no_more.ends e is).0)

@@ -63,8 +63,8 @@ pub record IsRefusedLoad (bytes : List ℕ) (e : LoadErr) : Type 0 where
   pub refused : IsLoadRefusal image e
 
 -- nothing was written
-abbrev pub Quiet : Stream → Stream → Type 0
-Quiet out out' = out' ≡ out
+abbrev pub Unwritten : Stream → Stream → Type 0
+Unwritten out out' = out' ≡ out
 
 -- the sink had a fault, and has taken a part of a text from the front
 abbrev pub IsCutOff : List ℕ → Stream → Stream → Type 0
@@ -81,8 +81,8 @@ abbrev pub IsRunAnswer : RunOptions → Judged
 IsRunAnswer options bytes out out' (Ok (Ran end)) =
     Loads bytes × (end ≡ end_by options bytes) × Grew out.bytes (text_by options bytes) out'.bytes
 IsRunAnswer options bytes out out' (Err (refusals.Image e)) = ImageIsRefused bytes e
-    × Quiet out out'
-IsRunAnswer options bytes out out' (Err (refusals.Load e)) = IsRefusedLoad bytes e × Quiet out out'
+    × Unwritten out out'
+IsRunAnswer options bytes out out' (Err (refusals.Load e)) = IsRefusedLoad bytes e × Unwritten out out'
 IsRunAnswer options bytes out out' (Err refusals.WriteFault) =
     Loads bytes × IsCutOff (text_by options bytes) out out'
 IsRunAnswer options bytes out out' answer = ⊥
@@ -94,7 +94,7 @@ IsRunAnswer options bytes out out' answer = ⊥
 abbrev pub IsShowAnswer : Judged
 IsShowAnswer bytes out out' (Ok Viewed) =
     (image : Image) × IsImage bytes image × Grew out.bytes (view image) out'.bytes
-IsShowAnswer bytes out out' (Err (refusals.Image e)) = ImageIsRefused bytes e × Quiet out out'
+IsShowAnswer bytes out out' (Err (refusals.Image e)) = ImageIsRefused bytes e × Unwritten out out'
 IsShowAnswer bytes out out' (Err refusals.WriteFault) =
     (image : Image) × IsImage bytes image × IsCutOff (view image) out out'
 IsShowAnswer bytes out out' answer = ⊥
@@ -106,10 +106,10 @@ IsShowAnswer bytes out out' answer = ⊥
 abbrev pub IsCompileAnswer : Judged
 IsCompileAnswer text out out' (Ok Compiled) =
     (image : List ℕ) × IsCompiled text image × Grew out.bytes image out'.bytes
-IsCompileAnswer text out out' (Err (refusals.Text e)) = IsRefusedText text e × Quiet out out'
+IsCompileAnswer text out out' (Err (refusals.Text e)) = IsRefusedText text e × Unwritten out out'
 IsCompileAnswer text out out' (Err refusals.WriteFault) =
     (image : List ℕ) × IsCompiled text image × IsCutOff image out out'
-IsCompileAnswer text out out' (Err refusals.NoMemory) = Quiet out out'
+IsCompileAnswer text out out' (Err refusals.NoMemory) = Unwritten out out'
 IsCompileAnswer text out out' answer = ⊥
 
 -- ---- compiling and running at once
@@ -118,8 +118,8 @@ IsCompileAnswer text out out' answer = ⊥
 -- of the text
 abbrev pub IsTextRunAnswer : RunOptions → Judged
 IsTextRunAnswer options text out out' (Err (refusals.Text e)) =
-    IsRefusedText text e × Quiet out out'
-IsTextRunAnswer options text out out' (Err refusals.NoMemory) = Quiet out out'
+    IsRefusedText text e × Unwritten out out'
+IsTextRunAnswer options text out out' (Err refusals.NoMemory) = Unwritten out out'
 IsTextRunAnswer options text out out' answer =
     (image : List ℕ) × IsCompiled text image × IsRunAnswer options image out out' answer
 
@@ -157,10 +157,10 @@ abbrev pub IsInputAnswer : ℕ → Judged → Stream → Stream → Stream → S
     → Type 0
 IsInputAnswer limit judged source source' out out' (Err refusals.Usage) = ⊥
 IsInputAnswer limit judged source source' out out' (Err refusals.ReadFault) =
-    IsInputRefusal limit source source' refusals.ReadFault × Quiet out out'
+    IsInputRefusal limit source source' refusals.ReadFault × Unwritten out out'
 IsInputAnswer limit judged source source' out out' (Err (refusals.TooLong most)) =
-    IsInputRefusal limit source source' (refusals.TooLong most) × Quiet out out'
+    IsInputRefusal limit source source' (refusals.TooLong most) × Unwritten out out'
 IsInputAnswer limit judged source source' out out' (Err refusals.NoMemory) =
-    IsInputRefusal limit source source' refusals.NoMemory × Quiet out out'
+    IsInputRefusal limit source source' refusals.NoMemory × Unwritten out out'
 IsInputAnswer limit judged source source' out out' answer =
     FromInput limit judged source source' out out' answer

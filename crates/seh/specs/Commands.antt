@@ -7,7 +7,7 @@ use Rattle.seh.specs.declared.outcome.CommandOutcome.{CommandOutcome}
 use Rattle.seh.specs.declared.status.Status.{Status}
 use Rattle.seh.specs.declared.refusal.Refusal.{Refusal}
 use Rattle.seh.specs.declared.refusal.Refusal.TheVariants as refusals
-use Rattle.seh.specs.Answers.{text_limit, image_limit, Quiet, IsInputAnswer, IsRunAnswer, IsShowAnswer, IsCompileAnswer, IsTextRunAnswer}
+use Rattle.seh.specs.Answers.{text_limit, image_limit, Unwritten, IsInputAnswer, IsRunAnswer, IsShowAnswer, IsCompileAnswer, IsTextRunAnswer}
 use Rattle.seh.specs.Meanings.{IsMeaningInputAnswer}
 use Rattle.seh.specs.Refusals.{Reported}
 use Rattle.seh.specs.Streams.{Stream}
@@ -28,7 +28,7 @@ IsCommandAnswer (Meaning options) source source' out out' answer =
 
 -- nothing was read, and nothing was written
 abbrev pub Untouched : Stream → Stream → Stream → Stream → Type 0
-Untouched source source' out out' = (source' ≡ source) × Quiet out out'
+Untouched source source' out out' = (source' ≡ source) × Unwritten out out'
 
 -- the words are no line of the command set, or mean a command that has this answer; or there was no
 -- memory to read them

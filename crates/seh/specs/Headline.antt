@@ -3,17 +3,17 @@ use Rattle.std.specs.Prelude.{◌≡◌, ℕ, ◌+◌, ◌*◌, ◌^◌, ◌<◌
 use Rattle.seh_num.specs.declared.end.RunEnd.{RunEnd}
 use Rattle.seh_num.specs.Shown.{Shown}
 use Rattle.seh_io.specs.Text.{text}
-use Rattle.c_model.specs.declared.ended.Ended.{Ended}
+use Rattle.source_meaning.specs.declared.ended.Ended.{Ended}
 use Rattle.host_model.specs.Laws.{Covers}
 use Rattle.host_model.specs.Machine.{machine}
-use Rattle.c_model.specs.Meaning.{meaning, Calm}
+use Rattle.source_meaning.specs.Meaning.{meaning, Calm}
 use Rattle.c_resolved.specs.Program.{resolve}
-use Rattle.whole_runs.specs.Ends.{run_end, run_end_of}
-use Rattle.whole_runs.specs.Laws.{ShowsNoMore}
-use Rattle.image_runs.specs.Shadows.{WalksTheShadow}
+use Rattle.match_runs.specs.Ends.{run_end, run_end_of}
+use Rattle.match_runs.specs.Laws.{ShowsNoMore}
+use Rattle.image_runs.specs.ShadowWalks.{WalksTheShadow}
 use Rattle.command_line.specs.declared.command.RunOptions.{RunOptions}
 use Rattle.seh.specs.Answers.{shown_by, end_by, text_by}
-use Rattle.seh.specs.Images.{pace, IsCompiled}
+use Rattle.seh.specs.Images.{steps_per_turn, IsCompiled}
 use Rattle.seh.specs.Statuses.{status_of, meaning_status}
 
 -- options with this argument, and with 256 turns for each of n steps and as many again
@@ -48,7 +48,7 @@ NothingMore =
     (source image : List ℕ) (compiled : IsCompiled source image)
     → let program = (resolve source compiled.whole).program in
     (options : RunOptions) (arg n : ℕ)
-    → arg < 2 ^ 63 → options.argument ≡ pos arg → (options.turns + 1) * pace source ≤ n
+    → arg < 2 ^ 63 → options.argument ≡ pos arg → (options.turns + 1) * steps_per_turn source ≤ n
     → Calm program (pos arg) n ≡ true
     → ShowsNoMore (meaning program (pos arg) n) (shown_by options image)
 
@@ -59,5 +59,5 @@ Walks =
     (source image : List ℕ) (compiled : IsCompiled source image)
     → let program = (resolve source compiled.whole).program in
     (arg turns n : ℕ)
-    → arg < 2 ^ 63 → (turns + 1) * pace source ≤ n → Calm program (pos arg) n ≡ true
+    → arg < 2 ^ 63 → (turns + 1) * steps_per_turn source ≤ n → Calm program (pos arg) n ≡ true
     → (machine image (pos arg) turns).end ≡ None → WalksTheShadow image (pos arg) turns

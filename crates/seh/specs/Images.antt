@@ -1,41 +1,41 @@
 -- The image of a text.
 use Rattle.std.specs.Prelude.{◌≡◌, ℕ, ◌+◌, ◌*◌, ◌^◌, ◌<◌, ◌≤◌, true, List, length, pos, None, Ok}
 use Rattle.c_checked.specs.Program.{Program}
-use Rattle.c_model.specs.Meaning.{meaning, Calm}
+use Rattle.source_meaning.specs.Meaning.{meaning, Calm}
 use Rattle.c_resolved.specs.Program.{resolve}
 use Rattle.c_syntax.specs.Program.{ExternalDeclaration}
 use Rattle.c_text.specs.Texts.{IsAccepted, TextIsRefused}
 use Rattle.eh_tables.specs.Tables.{tables}
 use Rattle.host_model.specs.Machine.{machine}
-use Rattle.lowered_shape.specs.Laws.{IsShaped}
+use Rattle.image_tables.specs.RegionLaws.{IsShaped}
 use Rattle.pe_write.specs.Program.{image_of}
-use Rattle.program_link.specs.Linked.{linked}
-use Rattle.program_tables.specs.Entries.{entries}
+use Rattle.image_link.specs.Linked.{linked}
+use Rattle.image_tables.specs.Entries.{entries}
 use Rattle.seh_ir.specs.Lowered.{lowered}
-use Rattle.pace_bounds.specs.Laws.{pace_in}
-use Rattle.image_runs.specs.Realises.{Realises, IsImageOf}
-use Rattle.image_runs.specs.Frames.{FindsCallers}
-use Rattle.image_runs.specs.Shadows.{WalksTheShadow}
+use Rattle.text_bounds.specs.StepsPerTurnLaws.{steps_per_turn_in}
+use Rattle.image_runs.specs.ImageMeaning.{Realises, IsImageOf}
+use Rattle.image_runs.specs.FrameCallers.{FindsCallers}
+use Rattle.image_runs.specs.ShadowWalks.{WalksTheShadow}
 use Rattle.seh.specs.declared.refusal.Refusal.{Refusal}
 use Rattle.seh.specs.declared.refusal.Refusal.TheVariants as refusals
-use Rattle.whole_runs.specs.Laws.{ShowsNoMore}
+use Rattle.match_runs.specs.Laws.{ShowsNoMore}
 
 -- how many steps of a text's program one turn of its image may take, by the text's length
-abbrev pub pace : List ℕ → ℕ
-pace text = pace_in (length text)
+abbrev pub steps_per_turn : List ℕ → ℕ
+steps_per_turn text = steps_per_turn_in (length text)
 
--- in m turns a run of the image shows no more than the program shows within (m + 1) * pace steps,
+-- in m turns a run shows no more than the program shows within (m + 1) * steps_per_turn steps,
 -- where these are calm, and ends only as they end
 abbrev pub ShowsNoMoreByLength : (text image : List ℕ) → Program → Type 0
 ShowsNoMoreByLength text image program =
-    (arg m n : ℕ) → arg < 2 ^ 63 → (m + 1) * pace text ≤ n → Calm program (pos arg) n ≡ true
+    (arg m n : ℕ) → arg < 2 ^ 63 → (m + 1) * steps_per_turn text ≤ n → Calm program (pos arg) n ≡ true
     → ShowsNoMore (meaning program (pos arg) n) (machine image (pos arg) m)
 
 -- after m turns of a run, where it has not ended by then, the walk over the stack gives the shadow,
--- as long as (m + 1) * pace steps of the program are calm
+-- as long as (m + 1) * steps_per_turn steps of the program are calm
 abbrev pub GivesTheShadow : (text image : List ℕ) → Program → Type 0
 GivesTheShadow text image program =
-    (arg m n : ℕ) → arg < 2 ^ 63 → (m + 1) * pace text ≤ n → Calm program (pos arg) n ≡ true
+    (arg m n : ℕ) → arg < 2 ^ 63 → (m + 1) * steps_per_turn text ≤ n → Calm program (pos arg) n ≡ true
     → (machine image (pos arg) m).end ≡ None → WalksTheShadow image (pos arg) m
 
 -- the function table of a program's image is read again as its entries, with one scope record for

@@ -4,17 +4,17 @@ use Rattle.seh_num.specs.Shown.{Shown}
 use Rattle.seh_io.specs.Streams.{Grew}
 use Rattle.c_syntax.specs.Program.{ExternalDeclaration}
 use Rattle.c_checked.specs.Program.{Program}
-use Rattle.c_model.specs.Meaning as model
-use Rattle.c_model.specs.declared.ended.Ended.{Ended}
+use Rattle.source_meaning.specs.Meaning as model
+use Rattle.source_meaning.specs.declared.ended.Ended.{Ended}
 use Rattle.c_text.specs.Texts.{IsCheckedAs, TextIsRefused}
-use Rattle.c_interpret.specs.Texts as texts
-use Rattle.c_interpret.specs.declared.interpret.MeanErr.TheVariants.{Memory}
+use Rattle.c_meaning.specs.Texts as texts
+use Rattle.c_meaning.specs.declared.interpret.MeanErr.TheVariants.{Memory}
 use Rattle.command_line.specs.declared.command.RunOptions.{RunOptions}
 use Rattle.seh.specs.declared.outcome.CommandOutcome.{CommandOutcome}
 use Rattle.seh.specs.declared.outcome.CommandOutcome.TheVariants.{Meant}
 use Rattle.seh.specs.declared.refusal.Refusal.{Refusal}
 use Rattle.seh.specs.declared.refusal.Refusal.TheVariants as refusals
-use Rattle.seh.specs.Answers.{text_limit, Quiet, IsCutOff, Judged, IsInput, IsInputAnswer}
+use Rattle.seh.specs.Answers.{text_limit, Unwritten, IsCutOff, Judged, IsInput, IsInputAnswer}
 use Rattle.seh.specs.Streams.{Stream}
 
 -- what a text means within the steps of the options, from their argument
@@ -44,7 +44,7 @@ IsMeaningAnswer options text out out' (Ok (Meant ended)) =
     × (ended ≡ texts.ended_within options.turns (shown_of options p).end)
     × Grew out.bytes (text_of options p) out'.bytes
 IsMeaningAnswer options text out out' (Err (refusals.Text e)) = TextIsRefused text e
-    × Quiet out out'
+    × Unwritten out out'
 IsMeaningAnswer options text out out' (Err refusals.WriteFault) =
     (p : Program) × IsProgramOf text p × IsCutOff (text_of options p) out out'
 IsMeaningAnswer options text out out' (Err refusals.NoMemory) = TookMeaningFront options text out

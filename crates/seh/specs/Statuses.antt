@@ -2,8 +2,8 @@
 use Rattle.std.specs.Prelude.{ℕ}
 use Rattle.seh_num.specs.declared.end.RunEnd.{RunEnd}
 use Rattle.seh_num.specs.declared.end.RunEnd.TheVariants as ends
-use Rattle.c_model.specs.declared.ended.Ended.{Ended}
-use Rattle.c_model.specs.declared.ended.Ended.TheVariants as meant
+use Rattle.source_meaning.specs.declared.ended.Ended.{Ended}
+use Rattle.source_meaning.specs.declared.ended.Ended.TheVariants as meant
 use Rattle.seh.specs.declared.outcome.CommandOutcome.{CommandOutcome}
 use Rattle.seh.specs.declared.outcome.CommandOutcome.TheVariants.{Compiled, Ran, Meant, Viewed}
 use Rattle.seh.specs.declared.status.Status.{Status}

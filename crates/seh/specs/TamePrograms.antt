@@ -7,8 +7,8 @@ use Rattle.seh_num.specs.declared.end.RunEnd.TheVariants.{StackLimit, Stopped}
 use Rattle.host_model.specs.Machine.{machine}
 use Rattle.seh_host.specs.Turns.{end_within}
 use Rattle.c_resolved.specs.Program.{resolve}
-use Rattle.calm_runs.specs.Tame.{Tame}
-use Rattle.image_runs.specs.Shadows.{WalksTheShadow}
+use Rattle.source_machine.specs.Tame.{Tame}
+use Rattle.image_runs.specs.ShadowWalks.{WalksTheShadow}
 use Rattle.seh.specs.Images.{IsCompiled}
 
 -- at every turn of the image's run that isn't an end, the walk over the stack gives exactly the

@@ -3,8 +3,8 @@
 ghost use Rattle.std.specs.Prelude.{◌≡◌, ◌≤◌, ◌<◌, ℕ, length, IfOk, IfErr};
 ghost use Rattle.std.specs.List.{AllByRecursion};
 ghost use Rattle.c_checked.specs.Whole.{program};
-ghost use Rattle.program_link.specs.Fits.{FitsProgram};
-ghost use Rattle.image_runs.specs.Realises.{IsImageOf};
+ghost use Rattle.image_link.specs.Fits.{FitsProgram};
+ghost use Rattle.image_runs.specs.ImageMeaning.{IsImageOf};
 ghost use Rattle.seh.specs.Images.{IsCompiled, IsTextRefusal};
 ghost use Rattle.seh_ir.specs.Lowered.{lowered};
 
@@ -12,7 +12,7 @@ use crate::refusal::Refusal;
 use c_checked::checked::Checked;
 use c_text::accepting::accept;
 use host_layout::limit::MOST_TEXT;
-use program_link::link::compile_program;
+use image_link::link::compile_program;
 use seh_ir::lower::lower;
 use std::alloc::{AllocError, Global};
 

@@ -8,7 +8,7 @@ ghost use Rattle.seh.specs.Streams.{stream};
 use crate::input::read_input;
 use crate::outcome::CommandOutcome;
 use crate::refusal::Refusal;
-use c_interpret::interpret::{MeanErr, interpret};
+use c_meaning::interpret::{MeanErr, interpret};
 use c_text::accepting::accept;
 use command_line::command::RunOptions;
 use host_layout::limit::MOST_TEXT;

@@ -4,8 +4,8 @@ ghost use Rattle.std.specs.Prelude.{◌≡◌};
 ghost use Rattle.seh.specs.Statuses.{outcome_status};
 
 use crate::status::Status;
-use c_model::ended::Ended;
 use seh_num::end::RunEnd;
+use source_meaning::ended::Ended;
 
 /// What a command that was carried out came to.
 #[derive(Clone, Copy, Debug, PartialEq, Eq)]

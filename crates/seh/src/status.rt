@@ -1,8 +1,8 @@
 ghost use Rattle.std.specs.Prelude.{◌≡◌};
 ghost use Rattle.seh.specs.Statuses.{code_of, status_of, meaning_status};
 
-use c_model::ended::Ended;
 use seh_num::end::RunEnd;
+use source_meaning::ended::Ended;
 
 /// What the program ended with.
 #[derive(Clone, Copy, Debug, PartialEq, Eq)]

@@ -1,6 +1,9 @@
-pub mod Placing
-pub mod Rows
-pub mod Leading
-pub mod Returning
-pub mod Faults
-pub mod Turning
+pub mod RecordPlacement
+pub mod FilterRows
+pub mod TurnEvents
+pub mod ServiceReturn
+pub mod FaultTurns
+pub mod TurnOutcomes
+pub mod TableEntries
+pub mod FuncletOrder
+pub mod FuncletInsertion

@@ -11,7 +11,7 @@ use Rattle.x64_machine.specs.declared.cpu.Cpu.{Cpu}
 use Rattle.x64_machine.specs.Effect.{register, with_register, state}
 use Rattle.seh_walk.specs.declared.stop_cause.StopCause.{StopCause}
 use Rattle.host_model.specs.Turns.{Turn, Continues, Ends}
-use Rattle.image_funclets.specs.Listed.{listed}
+use Rattle.seh_dispatch.specs.FuncletLists.{listed}
 use Rattle.seh_dispatch.specs.declared.outcome.TurnOutcome as code
 use Rattle.seh_dispatch.specs.declared.outcome.TurnOutcome.TheVariants as outcomes
 use Rattle.seh_dispatch.specs.declared.outcome.Led.{Led}
@@ -32,11 +32,11 @@ led_turn c m made = led (listed made.first) (turn_of c m made.outcome)
 abbrev pub made_turn : Cpu → Memory → Made → Turn
 made_turn c m made = led (listed made.first) (led_turn c m made.rest)
 
-abbrev pub quiet : code.TurnOutcome → Led
-quiet o = record { first = None; outcome = o }
+abbrev pub silent : code.TurnOutcome → Led
+silent o = record { first = None; outcome = o }
 
-abbrev pub all_quiet : code.TurnOutcome → Made
-all_quiet o = record { first = None; rest = quiet o }
+abbrev pub all_silent : code.TurnOutcome → Made
+all_silent o = record { first = None; rest = silent o }
 
 abbrev pub stopped_outcome : StopCause → code.TurnOutcome
 stopped_outcome y = outcomes.Ends (ends.Stopped y.reason y.address)

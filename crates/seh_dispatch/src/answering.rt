@@ -10,7 +10,7 @@ ghost use Rattle.host_model.specs.Dispatch as spec;
 ghost use Rattle.seh_dispatch.specs.Outcomes.{turn_of, led_turn, made_turn, bad_record};
 
 use crate::dispatching::{accept, begun, search_on, stopped, unwind_on};
-use crate::outcome::{Led, Made, TurnOutcome, all_quiet, quiet};
+use crate::outcome::{Led, Made, TurnOutcome, all_silent, silent};
 use eh_tables::{ScopeRecord, Tables};
 use seh_num::code::NONCONTINUABLE_EXCEPTION;
 use seh_num::end::{Reason, RunEnd};
@@ -53,7 +53,7 @@ fn again(dispatch: &DispatchRecord) -> DispatchRecord
 
 /// The exception that takes the place of one that can't be continued: its record is rewritten in
 /// place, and the search begins anew.
-#[tactic(auto, using(crate::proofs::Placing::placing))]
+#[tactic(auto, using(crate::proofs::RecordPlacement::placing))]
 fn search_again<S: AddressSpace>(
     tables: &Tables,
     cpu: &mut Cpu,
@@ -121,7 +121,7 @@ fn jump<S: AddressSpace>(
 }
 
 /// An answer below 0: the saved state is restored, or the exception can't be continued.
-#[tactic(auto, using(crate::proofs::Leading::leading))]
+#[tactic(auto, using(crate::proofs::TurnEvents::leading))]
 fn continue_execution<S: AddressSpace>(
     tables: &Tables,
     cpu: &mut Cpu,
@@ -135,7 +135,7 @@ fn continue_execution<S: AddressSpace>(
 {
     if dispatch.flags % 2 == 0 {
         *cpu = dispatch.saved;
-        return quiet(TurnOutcome::Continues(None));
+        return silent(TurnOutcome::Continues(None));
     }
     let outcome = search_again(tables, cpu, space, at, dispatch);
     Led {
@@ -149,7 +149,7 @@ fn continue_execution<S: AddressSpace>(
 }
 
 /// What a filter's answer does.
-#[tactic(auto, using(crate::proofs::Leading::leading))]
+#[tactic(auto, using(crate::proofs::TurnEvents::leading))]
 fn answer<S: AddressSpace>(
     tables: &Tables,
     cpu: &mut Cpu,
@@ -163,16 +163,16 @@ fn answer<S: AddressSpace>(
         (state cpu.old (S.memory space.old)) at dispatch.now value }
 {
     if value == 0 {
-        return quiet(search_on(tables, cpu, space, at, dispatch));
+        return silent(search_on(tables, cpu, space, at, dispatch));
     }
     if value >= FIRST_NEGATIVE {
         return continue_execution(tables, cpu, space, at, dispatch);
     }
-    quiet(jump(tables, cpu, space, at, dispatch))
+    silent(jump(tables, cpu, space, at, dispatch))
 }
 
 /// A filter's return, with its answer in EAX.
-#[tactic(auto, using(crate::proofs::Leading::leading))]
+#[tactic(auto, using(crate::proofs::TurnEvents::leading))]
 pub fn filter_return<S: AddressSpace>(tables: &Tables, cpu: &mut Cpu, space: &mut S) -> Made
     requires { TablesAreWhole tables.now }
     ensures { made_turn cpu.new (S.memory space.new) result
@@ -181,7 +181,7 @@ pub fn filter_return<S: AddressSpace>(tables: &Tables, cpu: &mut Cpu, space: &mu
 {
     let at = cpu.register(Reg::Rsp);
     match fetch(space, at) {
-        Err(_) => all_quiet(bad(at)),
+        Err(_) => all_silent(bad(at)),
         Ok(dispatch) => match dispatch.kind {
             Kind::Search => {
                 let rax = cpu.register(Reg::Rax);
@@ -193,7 +193,7 @@ pub fn filter_return<S: AddressSpace>(tables: &Tables, cpu: &mut Cpu, space: &mu
                     rest,
                 }
             }
-            _ => all_quiet(bad(at)),
+            _ => all_silent(bad(at)),
         },
     }
 }

@@ -127,7 +127,7 @@ fn land<S: AddressSpace>(
 }
 
 /// An unwinding continues from a record that is at its place.
-#[tactic(auto, using(crate::proofs::Placing::placing))]
+#[tactic(auto, using(crate::proofs::RecordPlacement::placing))]
 pub fn unwind_on<S: AddressSpace>(
     tables: &Tables,
     cpu: &mut Cpu,
@@ -160,7 +160,7 @@ pub fn unwind_on<S: AddressSpace>(
 }
 
 /// A frame accepts: the record is rewritten in place, and the unwinding begins.
-#[tactic(auto, using(crate::proofs::Placing::placing))]
+#[tactic(auto, using(crate::proofs::RecordPlacement::placing))]
 pub fn accept<S: AddressSpace>(
     tables: &Tables,
     cpu: &mut Cpu,
@@ -184,7 +184,7 @@ pub fn accept<S: AddressSpace>(
 }
 
 /// A search continues from a record that is at its place.
-#[tactic(auto, using(crate::proofs::Placing::placing))]
+#[tactic(auto, using(crate::proofs::RecordPlacement::placing))]
 pub fn search_on<S: AddressSpace>(
     tables: &Tables,
     cpu: &mut Cpu,
@@ -265,7 +265,7 @@ fn new_record(
 }
 
 /// A new exception, of which the state is saved.
-#[tactic(auto, using(crate::proofs::Placing::placing))]
+#[tactic(auto, using(crate::proofs::RecordPlacement::placing))]
 pub fn raise<S: AddressSpace>(
     tables: &Tables,
     cpu: &mut Cpu,
@@ -298,7 +298,7 @@ fn to_target(saved: &Cpu, frame: u64, target: u64) -> DispatchRecord
 }
 
 /// A local unwind to a target of a frame, of which the state is saved.
-#[tactic(auto, using(crate::proofs::Placing::placing))]
+#[tactic(auto, using(crate::proofs::RecordPlacement::placing))]
 pub fn unwind_locally<S: AddressSpace>(
     tables: &Tables,
     cpu: &mut Cpu,

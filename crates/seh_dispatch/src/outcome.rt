@@ -32,8 +32,8 @@ pub struct Made {
 }
 
 /// Nothing is shown first.
-pub fn quiet(outcome: TurnOutcome) -> Led
-    ensures { result ≡ spec.quiet outcome }
+pub fn silent(outcome: TurnOutcome) -> Led
+    ensures { result ≡ spec.silent outcome }
 {
     Led {
         first: None,
@@ -42,11 +42,11 @@ pub fn quiet(outcome: TurnOutcome) -> Led
 }
 
 /// Nothing is shown first.
-pub fn all_quiet(outcome: TurnOutcome) -> Made
-    ensures { result ≡ spec.all_quiet outcome }
+pub fn all_silent(outcome: TurnOutcome) -> Made
+    ensures { result ≡ spec.all_silent outcome }
 {
     Made {
         first: None,
-        rest: quiet(outcome),
+        rest: silent(outcome),
     }
 }

@@ -15,7 +15,7 @@ ghost use Rattle.seh_dispatch.specs.Outcomes.{turn_of, led_turn, made_turn, back
 
 use crate::answering::{filter_return, finally_return};
 use crate::dispatching::{raise, stopped, unwind_locally};
-use crate::outcome::{Led, Made, TurnOutcome, all_quiet, quiet};
+use crate::outcome::{Led, Made, TurnOutcome, all_silent, silent};
 use eh_tables::Tables;
 use host_layout::service::Service;
 use seh_num::end::{Reason, RunEnd};
@@ -57,7 +57,7 @@ fn unreadable(cpu: &Cpu) -> TurnOutcome
 }
 
 /// Shows the number in RCX.
-#[tactic(auto, using(crate::proofs::Returning::returning_steps))]
+#[tactic(auto, using(crate::proofs::ServiceReturn::returning_steps))]
 fn put<S: AddressSpace>(cpu: &mut Cpu, space: &S) -> TurnOutcome
     ensures { turn_of cpu.new (S.memory space.now) result
         ≡ spec.put (state cpu.old (S.memory space.now)) }
@@ -73,7 +73,7 @@ fn put<S: AddressSpace>(cpu: &mut Cpu, space: &S) -> TurnOutcome
 }
 
 /// Sets the rights of a page of the arena.
-#[tactic(auto, using(crate::proofs::Returning::returning_steps))]
+#[tactic(auto, using(crate::proofs::ServiceReturn::returning_steps))]
 fn protect<S: AddressSpace>(cpu: &mut Cpu, space: &mut S) -> TurnOutcome
     ensures { turn_of cpu.new (S.memory space.new) result
         ≡ spec.returning (state cpu.old (S.memory space.old))
@@ -93,7 +93,7 @@ fn protect<S: AddressSpace>(cpu: &mut Cpu, space: &mut S) -> TurnOutcome
 }
 
 /// An exception: its event, and its search.
-#[tactic(auto, using(crate::proofs::Leading::leading))]
+#[tactic(auto, using(crate::proofs::TurnEvents::leading))]
 fn raised<S: AddressSpace>(
     tables: &Tables,
     cpu: &mut Cpu,
@@ -119,14 +119,14 @@ fn raised<S: AddressSpace>(
 }
 
 /// Raises the exception of the code in ECX; bit 0 of EDX makes it noncontinuable.
-#[tactic(auto, using(crate::proofs::Returning::returning_steps, crate::proofs::Leading::leading))]
+#[tactic(auto, using(crate::proofs::ServiceReturn::returning_steps, crate::proofs::TurnEvents::leading))]
 fn raise_exception<S: AddressSpace>(tables: &Tables, cpu: &mut Cpu, space: &mut S) -> Led
     requires { TablesAreWhole tables.now }
     ensures { led_turn cpu.new (S.memory space.new) result ≡ spec.served (functions_of tables.now)
         (state cpu.old (S.memory space.old)) (Some services.RaiseException) }
 {
     match back(cpu, space) {
-        None => quiet(unreadable(cpu)),
+        None => silent(unreadable(cpu)),
         Some(after) => {
             let code = Code((cpu.register(Reg::Rcx) % (1 << 32)) as u32);
             let flags = (cpu.register(Reg::Rdx) % 2) as u32;
@@ -136,7 +136,7 @@ fn raise_exception<S: AddressSpace>(tables: &Tables, cpu: &mut Cpu, space: &mut 
 }
 
 /// Unwinds to the target in RDX of the frame in RCX.
-#[tactic(auto, using(crate::proofs::Returning::returning_steps))]
+#[tactic(auto, using(crate::proofs::ServiceReturn::returning_steps))]
 fn local_unwind<S: AddressSpace>(tables: &Tables, cpu: &mut Cpu, space: &mut S) -> TurnOutcome
     requires { TablesAreWhole tables.now }
     ensures { turn_of cpu.new (S.memory space.new) result ≡ spec.served (functions_of tables.now)
@@ -153,7 +153,7 @@ fn local_unwind<S: AddressSpace>(tables: &Tables, cpu: &mut Cpu, space: &mut S) 
 }
 
 /// What a service does.
-#[tactic(auto, using(crate::proofs::Leading::leading))]
+#[tactic(auto, using(crate::proofs::TurnEvents::leading))]
 fn serve<S: AddressSpace>(
     tables: &Tables,
     cpu: &mut Cpu,
@@ -165,16 +165,16 @@ fn serve<S: AddressSpace>(
         ≡ spec.served (functions_of tables.now) (state cpu.old (S.memory space.old)) service }
 {
     match service {
-        Some(Service::Put) => all_quiet(put(cpu, space)),
-        Some(Service::Protect) => all_quiet(protect(cpu, space)),
+        Some(Service::Put) => all_silent(put(cpu, space)),
+        Some(Service::Protect) => all_silent(protect(cpu, space)),
         Some(Service::RaiseException) => {
             let rest = raise_exception(tables, cpu, space);
             Made { first: None, rest }
         }
-        Some(Service::LocalUnwind) => all_quiet(local_unwind(tables, cpu, space)),
+        Some(Service::LocalUnwind) => all_silent(local_unwind(tables, cpu, space)),
         Some(Service::FilterReturn) => filter_return(tables, cpu, space),
-        Some(Service::FinallyReturn) => all_quiet(finally_return(tables, cpu, space)),
-        Some(Service::CSpecificHandler) | None => all_quiet(stopped(StopCause {
+        Some(Service::FinallyReturn) => all_silent(finally_return(tables, cpu, space)),
+        Some(Service::CSpecificHandler) | None => all_silent(stopped(StopCause {
             reason: Reason::Illegal,
             address: cpu.rip,
         })),
@@ -182,7 +182,7 @@ fn serve<S: AddressSpace>(
 }
 
 /// A turn, but for the event of the funclet at which it arrives.
-#[tactic(auto, using(crate::proofs::Leading::leading))]
+#[tactic(auto, using(crate::proofs::TurnEvents::leading))]
 pub fn make<S: AddressSpace>(tables: &Tables, cpu: &mut Cpu, space: &mut S) -> Made
     requires { TablesAreWhole tables.now }
     ensures { made_turn cpu.new (S.memory space.new) result ≡ spec.turned (functions_of tables.now)
@@ -190,19 +190,19 @@ pub fn make<S: AddressSpace>(tables: &Tables, cpu: &mut Cpu, space: &mut S) -> M
 {
     let rip = cpu.rip;
     match step(cpu, space) {
-        StepOutcome::Next => all_quiet(TurnOutcome::Continues(None)),
+        StepOutcome::Next => all_silent(TurnOutcome::Continues(None)),
         StepOutcome::Fault { code, access } => {
             let saved = *cpu;
             let rest = raised(tables, cpu, space, code, 0, access, &saved);
             Made { first: None, rest }
         }
         StepOutcome::Host { address } => serve(tables, cpu, space, Service::at(address)),
-        StepOutcome::Illegal => all_quiet(stopped(StopCause {
+        StepOutcome::Illegal => all_silent(stopped(StopCause {
             reason: Reason::Illegal,
             address: rip,
         })),
         StepOutcome::Guard { address } => {
-            all_quiet(TurnOutcome::Ends(RunEnd::StackLimit { address }))
+            all_silent(TurnOutcome::Ends(RunEnd::StackLimit { address }))
         }
     }
 }

@@ -11,7 +11,7 @@ use Rattle.host_model.specs.Machine.{run}
 use Rattle.seh_host.specs.declared.host.Turn.TheVariants as turns
 use Rattle.flat_memory.specs.Memory.{Memory}
 use Rattle.x64_machine.specs.declared.cpu.Cpu.{Cpu}
-use Rattle.seh_dispatch.specs.Ends.{left}
+use Rattle.seh_dispatch.specs.TurnEnds.{left}
 use Rattle.seh_host.specs.Turns.{answer_of, end_within}
 
 pub run-zero : (t : Functions) (fs : List Funclet) (n : ℕ) (h : Host) (out : List Event) → n ≡ 0

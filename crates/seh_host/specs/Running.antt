@@ -2,7 +2,7 @@
 use Rattle.std.specs.Prelude.{ℕ, List, [], ℤ}
 use Rattle.virtual_unwind.specs.CallerOf.{Functions, functions_of}
 use Rattle.x64_memory.specs.PageMaps.{memory_of}
-use Rattle.seh_dispatch.specs.Ends.{left}
+use Rattle.seh_dispatch.specs.TurnEnds.{left}
 use Rattle.seh_host.specs.declared.host.Host as code
 use Rattle.host_model.specs.declared.funclet.Funclet.{Funclet}
 use Rattle.host_model.specs.HostStep.{Host, host, next, shown_next}

@@ -19,7 +19,7 @@ use seh_io::sink::Sink;
 /// One turn of the host: an instruction, a service, or the dispatch between two funclets. The
 /// receiver takes what the turn shows, in order. A host whose run has ended stays as it is, and
 /// nothing is shown. The host keeps its image.
-#[tactic(auto, using(image_funclets::proofs::Ascending::listed_ascend))]
+#[tactic(auto, using(seh_dispatch::proofs::FuncletOrder::listed_ascend))]
 pub fn turn<V: Events>(host: &mut Host<'_, '_>, to: &mut V) -> Turn
     ensures answer { result ≡ answer_of (running_of host.old).host }
     ensures host { running_of host.new ≡ after_turn (running_of host.old) }

@@ -47,7 +47,7 @@ held_more a b xs most p h all known =
     let first = p all known in
     omega (arith, ap length first.1, length-append xs first.0)
 
--- n bytes from a place on, laid over the front of a buffer
+-- n bytes from a place on, moved over the front of a buffer
 pub laid : (bytes got buf : List ℕ) (at n : ℕ) → at + n ≤ length bytes
     → got ≡ take n (drop at bytes) → Lost (Some (drop at bytes)) (take n (got ++ drop n buf))
     (Some (drop (at + n) bytes))

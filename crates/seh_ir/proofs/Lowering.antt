@@ -8,9 +8,9 @@ use Rattle.c_checked.specs.Program.{function, program_of}
 use Rattle.linear_code.specs.declared.program.Region.{Region}
 use Rattle.linear_code.specs.declared.program.IrFunction.{IrFunction}
 use Rattle.linear_code.specs.Program.{LinearFunction, LinearFunclet, LinearProgram, linear_function}
-use Rattle.ir_expressions.specs.declared.scope.Names.{Names}
+use Rattle.lowering_expressions.specs.declared.scope.Names.{Names}
 use Rattle.seh_ir.specs.declared.funclets.Owner.{Owner}
-use Rattle.ir_sizes.specs.Sizes.{statement_size, statements_size}
+use Rattle.lowering_sizes.specs.Sizes.{statement_size, statements_size}
 use Rattle.seh_ir.specs.Regions.{statement_regions, statements_regions}
 use Rattle.seh_ir.specs.Funclets.{statement_funclets, statements_funclets}
 use Rattle.seh_ir.specs.Lowered.{lowered_function, lowered_funclets, all_funclets, lowered}

@@ -9,16 +9,16 @@ use Rattle.c_checked.specs.Statement.{Declared, Filter, Statement, Declare, Bloc
 use Rattle.linear_code.specs.declared.slot.Slot.TheVariants.{Local, Temporary}
 use Rattle.linear_code.specs.declared.instruction.Instruction.{Instruction}
 use Rattle.linear_code.specs.declared.instruction.Instruction.TheVariants.{Jump, JumpIfZero, CallFinally, Separator}
-use Rattle.ir_expressions.specs.declared.scope.Names.{Names}
-use Rattle.ir_expressions.specs.declared.scope.Way.{Way}
-use Rattle.ir_expressions.specs.declared.scope.Way.TheVariants.{Nowhere, Jumps, Unwinds}
-use Rattle.ir_expressions.specs.declared.scope.LoweringContext.{LoweringContext}
-use Rattle.ir_expressions.specs.Scope.{in_loop, in_try, in_except, in_guarded}
-use Rattle.ir_sizes.specs.Sizes.{expression_size, discarded_size, condition_size, returned_size, declared_size, all_declared_size, statement_size, statements_size}
-use Rattle.ir_expressions.specs.Expressions.{copy, expression_code}
+use Rattle.lowering_expressions.specs.declared.scope.Names.{Names}
+use Rattle.lowering_expressions.specs.declared.scope.Way.{Way}
+use Rattle.lowering_expressions.specs.declared.scope.Way.TheVariants.{Nowhere, Jumps, Unwinds}
+use Rattle.lowering_expressions.specs.declared.scope.LoweringContext.{LoweringContext}
+use Rattle.lowering_expressions.specs.Scope.{in_loop, in_try, in_except, in_guarded}
+use Rattle.lowering_sizes.specs.Sizes.{expression_size, discarded_size, condition_size, returned_size, declared_size, all_declared_size, statement_size, statements_size}
+use Rattle.lowering_expressions.specs.Expressions.{copy, expression_code}
 use Rattle.seh_ir.specs.Statements.{jump_code, return_code, discarded_code, returned_code, condition_code, initialiser_code, declared_code, all_declared_code, landed, repeated, statement_code, statements_code, when_code}
-use Rattle.ir_expressions.proofs.Codes.{joined, longer, more, two, expression_length}
-use Rattle.ir_expressions.proofs.Arms.{after, after_one, after_expression}
+use Rattle.lowering_expressions.proofs.Codes.{joined, longer, more, two, expression_length}
+use Rattle.lowering_expressions.proofs.Arms.{after, after_one, after_expression}
 
 -- ---- lengths
 

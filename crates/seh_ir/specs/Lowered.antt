@@ -4,11 +4,11 @@ use Rattle.c_checked.specs.Program.{Program, Function}
 use Rattle.linear_code.specs.declared.slot.Slot.TheVariants.{Temporary}
 use Rattle.linear_code.specs.declared.instruction.Instruction.TheVariants.{Return}
 use Rattle.linear_code.specs.Program.{LinearFunction, LinearFunclet, LinearProgram}
-use Rattle.ir_expressions.specs.declared.scope.LoweringContext.{LoweringContext}
-use Rattle.ir_expressions.specs.Scope.{function_scope}
-use Rattle.ir_sizes.specs.Sizes.{statements_size, statements_notes}
+use Rattle.lowering_expressions.specs.declared.scope.LoweringContext.{LoweringContext}
+use Rattle.lowering_expressions.specs.Scope.{function_scope}
+use Rattle.lowering_sizes.specs.Sizes.{statements_size, statements_notes}
 use Rattle.seh_ir.specs.Slots.{body_with}
-use Rattle.ir_expressions.specs.Expressions.{constant}
+use Rattle.lowering_expressions.specs.Expressions.{constant}
 use Rattle.seh_ir.specs.Statements.{statements_code}
 use Rattle.seh_ir.specs.Regions.{statements_regions}
 use Rattle.seh_ir.specs.Funclets.{statements_funclets}

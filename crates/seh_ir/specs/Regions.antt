@@ -4,7 +4,7 @@ use Rattle.c_checked.specs.Statement.{Filter, Always, Funclet, Statement, Declar
 use Rattle.linear_code.specs.declared.program.Region.{Region}
 use Rattle.linear_code.specs.declared.program.RegionKind.{RegionKind}
 use Rattle.linear_code.specs.declared.program.RegionKind.TheVariants as kinds
-use Rattle.ir_sizes.specs.Sizes.{expression_size, discarded_size, condition_size, all_declared_size, statement_size, statements_size}
+use Rattle.lowering_sizes.specs.Sizes.{expression_size, discarded_size, condition_size, all_declared_size, statement_size, statements_size}
 
 -- of a `__try` with an `__except` block at this target
 abbrev pub except_kind : Filter → ℕ → RegionKind

@@ -8,13 +8,13 @@ use Rattle.c_checked.specs.Statement as statements
 use Rattle.linear_code.specs.declared.slot.Slot.TheVariants.{Local, Temporary}
 use Rattle.linear_code.specs.declared.instruction.Instruction.{Instruction}
 use Rattle.linear_code.specs.declared.instruction.Instruction.TheVariants.{Compute, Jump, JumpIfZero, CallFinally, LocalUnwind, Landing, Separator, Return}
-use Rattle.ir_expressions.specs.declared.scope.Names.{Names}
-use Rattle.ir_expressions.specs.declared.scope.Way.{Way}
-use Rattle.ir_expressions.specs.declared.scope.LoweringContext.{LoweringContext}
-use Rattle.ir_expressions.specs.declared.scope.Way.TheVariants.{Nowhere, Jumps, Unwinds}
-use Rattle.ir_expressions.specs.Scope.{in_loop, in_try, in_except, in_guarded}
-use Rattle.ir_sizes.specs.Sizes.{expression_size, discarded_size, condition_size, declared_size, all_declared_size, statement_size, statements_size}
-use Rattle.ir_expressions.specs.Expressions.{constant, copy, expression_code}
+use Rattle.lowering_expressions.specs.declared.scope.Names.{Names}
+use Rattle.lowering_expressions.specs.declared.scope.Way.{Way}
+use Rattle.lowering_expressions.specs.declared.scope.LoweringContext.{LoweringContext}
+use Rattle.lowering_expressions.specs.declared.scope.Way.TheVariants.{Nowhere, Jumps, Unwinds}
+use Rattle.lowering_expressions.specs.Scope.{in_loop, in_try, in_except, in_guarded}
+use Rattle.lowering_sizes.specs.Sizes.{expression_size, discarded_size, condition_size, declared_size, all_declared_size, statement_size, statements_size}
+use Rattle.lowering_expressions.specs.Expressions.{constant, copy, expression_code}
 
 -- ---- ways out; each takes two instructions, so that no size depends on where it leads
 

@@ -4,10 +4,10 @@ ghost use Rattle.std.specs.Prelude.{◌≡◌, ◌-◌, IfOk};
 ghost use Rattle.linear_code.specs.Program.{linear_body};
 ghost use Rattle.seh_ir.specs.Slots as spec;
 
-use ir_sizes::sums::{larger, sum};
 use linear_code::instruction::Instruction;
 use linear_code::program::{IrBody, Region};
 use linear_code::slot::Slot;
+use lowering_sizes::sums::{larger, sum};
 use std::alloc::AllocError;
 
 fn slot_temporaries(slot: Slot) -> Result<u64, AllocError>

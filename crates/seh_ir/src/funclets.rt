@@ -4,8 +4,8 @@ ghost use Rattle.std.specs.Prelude.{◌≡◌, ◌-◌, map, true, OnOk, IfOk};
 ghost use Rattle.linear_code.specs.Program.{linear_funclet};
 ghost use Rattle.c_checked.specs.Expression as tree;
 ghost use Rattle.c_checked.specs.Statement as statements;
-ghost use Rattle.ir_sizes.specs.Kinds.{is_try};
-ghost use Rattle.ir_expressions.specs.Appended.{AppendsFunclets};
+ghost use Rattle.lowering_sizes.specs.Kinds.{is_try};
+ghost use Rattle.lowering_expressions.specs.Appended.{AppendsFunclets};
 ghost use Rattle.seh_ir.specs.Funclets as spec;
 
 use crate::bodies::body_with;
@@ -13,11 +13,11 @@ use crate::regions::statements_regions;
 use crate::statements::statements;
 use c_checked::expression::Expr;
 use c_checked::statement::{Filter, Stmt};
-use ir_expressions::expressions::expression;
-use ir_expressions::scope::{Names, except_names, filter_names, finally_scope};
 use linear_code::instruction::Instruction;
 use linear_code::program::{FuncletKind, IrFunclet};
 use linear_code::slot::Slot;
+use lowering_expressions::expressions::expression;
+use lowering_expressions::scope::{Names, except_names, filter_names, finally_scope};
 use std::alloc::{AllocError, Global};
 
 /// The function that funclets belong to, with the locals of its activations, and the funclet whose

@@ -1,7 +1,7 @@
 //! From checked programs to linear code.
 //!
 //! `lower::lower` makes the linear code that `specs/Lowered` defines by recursion on the program.
-//! Expressions are lowered by the crate ir_expressions.
+//! Expressions are lowered by the crate lowering_expressions.
 //!
 //! Proved: exactly that linear code. Begin with `specs/Lowered.antt`.
 #![tactic(auto)]

@@ -4,7 +4,7 @@ ghost use Rattle.std.specs.Prelude.{◌≡◌, OnOk, IfOk};
 ghost use Rattle.linear_code.specs.Program.{linear_function, linear_program};
 ghost use Rattle.c_checked.specs.Program as programs;
 ghost use Rattle.c_checked.specs.Whole.{program};
-ghost use Rattle.ir_expressions.specs.Appended.{AppendsFunclets};
+ghost use Rattle.lowering_expressions.specs.Appended.{AppendsFunclets};
 ghost use Rattle.seh_ir.specs.Lowered as spec;
 
 use crate::bodies::body_with;
@@ -13,13 +13,13 @@ use crate::regions::statements_regions;
 use crate::statements::statements;
 use c_checked::checked::Checked;
 use c_checked::function::Function;
-use ir_expressions::instructions::{constant, put_all};
-use ir_expressions::scope::{ExceptionSource, LoweringContext, Names, Way};
-use ir_sizes::statement_sizes::{statements_notes, statements_size};
-use ir_sizes::sums::sum;
 use linear_code::instruction::Instruction;
 use linear_code::program::{IrFunclet, IrFunction, IrProgram};
 use linear_code::slot::Slot;
+use lowering_expressions::instructions::{constant, put_all};
+use lowering_expressions::scope::{ExceptionSource, LoweringContext, Names, Way};
+use lowering_sizes::statement_sizes::{statements_notes, statements_size};
+use lowering_sizes::sums::sum;
 use std::alloc::{AllocError, Global};
 
 fn own_locals(f: &Function) -> Result<u64, AllocError>

@@ -4,19 +4,19 @@ ghost use Rattle.std.specs.Prelude.{◌≡◌, ◌+◌, ◌-◌, map, true, OnOk
 ghost use Rattle.linear_code.specs.declared.program.RegionKind.TheVariants as kinds;
 ghost use Rattle.c_checked.specs.Expression as tree;
 ghost use Rattle.c_checked.specs.Statement as statements;
-ghost use Rattle.ir_sizes.specs.Sizes.{expression_size, statements_size};
-ghost use Rattle.ir_sizes.specs.Kinds.{is_try, is_loop_or_try};
-ghost use Rattle.ir_expressions.specs.Appended.{AppendsRegions};
+ghost use Rattle.lowering_sizes.specs.Sizes.{expression_size, statements_size};
+ghost use Rattle.lowering_sizes.specs.Kinds.{is_try, is_loop_or_try};
+ghost use Rattle.lowering_expressions.specs.Appended.{AppendsRegions};
 ghost use Rattle.seh_ir.specs.Regions as spec;
 
 use c_checked::expression::Expr;
 use c_checked::statement::{Filter, Stmt};
-use ir_sizes::sizes::expression_size;
-use ir_sizes::statement_sizes::{
+use linear_code::program::{Region, RegionKind};
+use lowering_sizes::sizes::expression_size;
+use lowering_sizes::statement_sizes::{
     all_declared_size, condition_size, discarded_size, statement_size, statements_size,
 };
-use ir_sizes::sums::sum;
-use linear_code::program::{Region, RegionKind};
+use lowering_sizes::sums::sum;
 use std::alloc::AllocError;
 
 fn except_kind(filter: &Filter, target: u64) -> RegionKind

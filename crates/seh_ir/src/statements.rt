@@ -4,22 +4,26 @@ ghost use Rattle.std.specs.Prelude.{◌≡◌, ◌-◌, [], ◌∷◌, map, leng
 ghost use Rattle.linear_code.specs.declared.instruction.Instruction.TheVariants.{Separator};
 ghost use Rattle.c_checked.specs.Expression as tree;
 ghost use Rattle.c_checked.specs.Statement as statements;
-ghost use Rattle.ir_sizes.specs.Kinds.{is_loop_or_try};
-ghost use Rattle.ir_expressions.specs.Appended.{Appends, Places};
+ghost use Rattle.lowering_sizes.specs.Kinds.{is_loop_or_try};
+ghost use Rattle.lowering_expressions.specs.Appended.{Appends, Places};
 ghost use Rattle.seh_ir.specs.Statements as spec;
 
 use c_checked::expression::Expr;
 use c_checked::statement::{Declared, Stmt};
 use c_operations::operation::{Operation, Pure};
-use ir_expressions::expressions::expression;
-use ir_expressions::instructions::{ahead, constant, copy, put, put_all};
-use ir_expressions::pieces::{skip, test};
-use ir_expressions::scope::{LoweringContext, Names, Way, in_except, in_guarded, in_loop, in_try};
-use ir_sizes::sizes::expression_size;
-use ir_sizes::statement_sizes::{condition_size, discarded_size, statement_size, statements_size};
-use ir_sizes::sums::sum;
 use linear_code::instruction::Instruction;
 use linear_code::slot::Slot;
+use lowering_expressions::expressions::expression;
+use lowering_expressions::instructions::{ahead, constant, copy, put, put_all};
+use lowering_expressions::pieces::{skip, test};
+use lowering_expressions::scope::{
+    LoweringContext, Names, Way, in_except, in_guarded, in_loop, in_try,
+};
+use lowering_sizes::sizes::expression_size;
+use lowering_sizes::statement_sizes::{
+    condition_size, discarded_size, statement_size, statements_size,
+};
+use lowering_sizes::sums::sum;
 use std::alloc::AllocError;
 
 fn here(code: &Vec<Instruction>) -> u64

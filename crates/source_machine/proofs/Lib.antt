@@ -1,7 +1,11 @@
-pub mod Below
-pub mod Keeping
-pub mod KeepingTasks
-pub mod KeepingSteps
-pub mod Decreasing
-pub mod Extending
+pub mod HandlersBelow
+pub mod FrameKeeping
+pub mod TaskKeeping
+pub mod StepKeeping
+pub mod StepDistance
+pub mod StepEvents
 pub mod WholeRuns
+pub mod StepsLeft
+pub mod RunPrefixes
+pub mod Tameness
+pub mod CalmRows

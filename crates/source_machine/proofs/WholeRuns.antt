@@ -6,17 +6,17 @@ use Rattle.std.proofs.lemmas.Bool.{cases_Bool}
 use Rattle.std.proofs.lemmas.List.{append_assoc, append-nil}
 use Rattle.seh_num.specs.declared.event.Event.{Event}
 use Rattle.c_checked.specs.Program.{Program}
-use Rattle.c_model.specs.State.{state_of}
-use Rattle.c_model.specs.Meaning.{does}
-use Rattle.c_model.specs.Laws.{IsPrefixOf}
+use Rattle.source_meaning.specs.State.{state_of}
+use Rattle.source_meaning.specs.Meaning.{does}
+use Rattle.source_meaning.specs.Laws.{IsPrefixOf}
 use Rattle.source_machine.specs.Frames.{Next, Over}
 use Rattle.source_machine.specs.Machine.{Machine, step}
 use Rattle.source_machine.specs.Runs.{after}
-use Rattle.source_machine.specs.Waiting.{reaches, comes_to}
-use Rattle.source_machine.specs.Laws.{is_over, distance, ShowsBefore}
-use Rattle.source_machine.proofs.KeepingSteps.{keeps_meaning}
-use Rattle.source_machine.proofs.Decreasing.{decreases}
-use Rattle.source_machine.proofs.Extending.{extends}
+use Rattle.source_machine.specs.FrameMeanings.{reaches, comes_to}
+use Rattle.source_machine.specs.StepLaws.{is_over, distance, ShowsBefore}
+use Rattle.source_machine.proofs.StepKeeping.{keeps_meaning}
+use Rattle.source_machine.proofs.StepDistance.{decreases}
+use Rattle.source_machine.proofs.StepEvents.{extends}
 
 front_trans : (es fs gs : List Event) → IsPrefixOf es fs → IsPrefixOf fs gs → IsPrefixOf es gs
 front_trans es fs gs p q =

@@ -8,8 +8,8 @@ use Rattle.c_checked.specs.declared.expression.Conversion.{Conversion}
 use Rattle.c_checked.specs.declared.expression.Fixity.{Fixity}
 use Rattle.c_checked.specs.Expression.{Expression, Node, Lvalue, Arguments}
 use Rattle.c_checked.specs.Statement.{Declared, Filter, Statement, Statements}
-use Rattle.c_model.specs.State.{Exception, Result}
-use Rattle.c_model.specs.Tasks.{Handler, Context, Task}
+use Rattle.source_meaning.specs.State.{Exception, Result}
+use Rattle.source_meaning.specs.Tasks.{Handler, Context, Task}
 
 -- a context without its handlers, which the machine has
 pub record Place : Type 0 where

@@ -2,5 +2,9 @@ pub mod Frames
 pub mod Plans
 pub mod Machine
 pub mod Runs
-pub mod Waiting
-pub mod Laws
+pub mod FrameMeanings
+pub mod StepLaws
+pub mod Tame
+pub mod Plain
+pub mod CalmLaws
+pub mod CalmRows

@@ -14,16 +14,16 @@ use Rattle.c_operations.specs.Performed.{performed}
 use Rattle.c_checked.specs.Expression.{Lvalue, Local, Global, Indirection, Element}
 use Rattle.c_checked.specs.Statement.{Filter, Always, Funclet, Statements, Declared}
 use Rattle.c_checked.specs.Program.{Program, Function}
-use Rattle.c_model.specs.declared.ended.Ended.TheVariants.{Unhandled, Undefined, Deep}
-use Rattle.c_model.specs.Source.{is_reserved}
-use Rattle.c_model.specs.State.{Exception, State, Result, Value, Normal, Returned, Broke, Continued}
-use Rattle.c_model.specs.State.{LeftTry, Target, End, local_of, set_local, set_memory, emit, hold}
-use Rattle.c_model.specs.State.{let_go, depth}
-use Rattle.c_model.specs.Tasks as tasks
-use Rattle.c_model.specs.Tasks.{Handler, Task}
-use Rattle.c_model.specs.Expressions.{of_test, no_exception, raised}
-use Rattle.c_model.specs.Raises.{raise_event}
-use Rattle.c_model.specs.declared.depth.TheConstants.{DEEPEST, TOO_DEEP}
+use Rattle.source_meaning.specs.declared.ended.Ended.TheVariants.{Unhandled, Undefined, Deep}
+use Rattle.source_meaning.specs.Source.{is_reserved}
+use Rattle.source_meaning.specs.State.{Exception, State, Result, Value, Normal, Returned, Broke, Continued}
+use Rattle.source_meaning.specs.State.{LeftTry, Target, End, local_of, set_local, set_memory, emit, hold}
+use Rattle.source_meaning.specs.State.{let_go, depth}
+use Rattle.source_meaning.specs.Tasks as tasks
+use Rattle.source_meaning.specs.Tasks.{Handler, Task}
+use Rattle.source_meaning.specs.Expressions.{of_test, no_exception, raised}
+use Rattle.source_meaning.specs.Raises.{raise_event}
+use Rattle.source_meaning.specs.declared.depth.TheConstants.{DEEPEST, TOO_DEEP}
 use Rattle.source_machine.specs.Frames as frames
 use Rattle.source_machine.specs.Frames.{Place, Callee, ForLoop, ContinuationFrame, Operand, Assignment}
 use Rattle.source_machine.specs.Frames.{InStatement, Sequel, Body, EndsCall, Lands, Finishes, Next}

@@ -13,13 +13,13 @@ use Rattle.c_checked.specs.Expression.{Expression, On, Node, Lvalue, Local, Glob
 use Rattle.c_checked.specs.Expression.{Element, Arguments, Done, Next as Another}
 use Rattle.c_checked.specs.Statement as statements
 use Rattle.c_checked.specs.Statement.{Statement, Statements, Empty, Then as Followed, Declared}
-use Rattle.c_model.specs.State.{Exception, Value, Normal, Returned, Broke, Continued, LeftTry}
-use Rattle.c_model.specs.State.{Target}
-use Rattle.c_model.specs.Tasks as tasks
-use Rattle.c_model.specs.Tasks.{Task}
-use Rattle.c_model.specs.Expressions.{of_test, converted, value_of, apart, incremented_value}
-use Rattle.c_model.specs.Expressions.{field_of}
-use Rattle.c_model.specs.Raises.{noncontinuable}
+use Rattle.source_meaning.specs.State.{Exception, Value, Normal, Returned, Broke, Continued, LeftTry}
+use Rattle.source_meaning.specs.State.{Target}
+use Rattle.source_meaning.specs.Tasks as tasks
+use Rattle.source_meaning.specs.Tasks.{Task}
+use Rattle.source_meaning.specs.Expressions.{of_test, converted, value_of, apart, incremented_value}
+use Rattle.source_meaning.specs.Expressions.{field_of}
+use Rattle.source_meaning.specs.Raises.{noncontinuable}
 use Rattle.source_machine.specs.Frames as frames
 use Rattle.source_machine.specs.Frames.{Place, Callee, ForLoop, OperandFrame, AssignmentFrame}
 use Rattle.source_machine.specs.Frames.{StatementFrame, SequelFrame, BodyFrame, Operand, Assignment}

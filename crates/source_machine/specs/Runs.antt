@@ -1,8 +1,8 @@
 -- A program's run, as the machine's.
 use Rattle.std.specs.Prelude.{ℕ, zero, suc, false, [], slice_get, ℤ}
 use Rattle.c_checked.specs.Program.{Program}
-use Rattle.c_model.specs.Expressions.{no_exception}
-use Rattle.c_model.specs.Meaning.{start, main_arguments}
+use Rattle.source_meaning.specs.Expressions.{no_exception}
+use Rattle.source_meaning.specs.Meaning.{start, main_arguments}
 use Rattle.source_machine.specs.Frames.{Defined, Next, Call}
 use Rattle.source_machine.specs.Machine.{Machine, step}
 

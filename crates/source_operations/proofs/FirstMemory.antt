@@ -10,7 +10,7 @@ use Rattle.host_layout.specs.declared.range.TheConstants.{FIRST_DATA}
 use Rattle.flat_memory.specs.declared.protection.Rights.TheVariants.{Nothing, ReadWrite}
 use Rattle.x64_memory.specs.declared.region.TheConstants.{ARENA}
 use Rattle.x64_memory.specs.Regions.{mapped, filled, covers}
-use Rattle.c_model.specs.Source.{data_end, is_data, plain_mode, first_memory}
+use Rattle.source_meaning.specs.Source.{data_end, is_data, plain_mode, first_memory}
 use Rattle.source_operations.specs.Regions.{regions}
 
 same_mode : (b c : Bool) → cond b (plain_mode ReadWrite)

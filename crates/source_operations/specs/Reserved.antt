@@ -2,7 +2,7 @@
 use Rattle.std.specs.Prelude.{ℕ, Bool, not, ◌&&◌, ◌||◌}
 use Rattle.host_layout.specs.declared.range.TheConstants.{GUARD_START, STACK_END, IMAGE_BASE}
 use Rattle.host_layout.specs.declared.range.TheConstants.{IMAGE_RANGE_END, FIRST_DATA}
-use Rattle.c_model.specs.Source.{is_between}
+use Rattle.source_meaning.specs.Source.{is_between}
 
 abbrev pub reserved_below : ℕ → ℕ → Bool
 reserved_below data_end a =

@@ -1,7 +1,7 @@
 //! The memory that a program begins with.
 
 ghost use Rattle.std.specs.Prelude.{◌≡◌, ◌≤◌, length, IfOk};
-ghost use Rattle.c_model.specs.Source as model;
+ghost use Rattle.source_meaning.specs.Source as model;
 ghost use Rattle.x64_memory.specs.PageMaps.{memory_of};
 ghost use Rattle.source_operations.specs.Regions as specs;
 

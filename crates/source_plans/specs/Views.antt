@@ -6,9 +6,9 @@ use Rattle.c_checked.specs.declared.statement.Stmt.{Stmt}
 use Rattle.c_checked.specs.Expression.{Arguments, node, expression, lvalue, arguments}
 use Rattle.c_checked.specs.Statement as statements
 use Rattle.c_checked.specs.Statement.{statement, filter}
-use Rattle.c_model.specs.State.{Exception, Result, Value, Normal, Returned, Broke, Continued}
-use Rattle.c_model.specs.State.{LeftTry, Target, End}
-use Rattle.c_model.specs.Tasks as tasks
+use Rattle.source_meaning.specs.State.{Exception, Result, Value, Normal, Returned, Broke, Continued}
+use Rattle.source_meaning.specs.State.{LeftTry, Target, End}
+use Rattle.source_meaning.specs.Tasks as tasks
 use Rattle.source_machine.specs.Frames as frames
 use Rattle.source_plans.specs.declared.place.Exception.{Exception as Exception'}
 use Rattle.source_plans.specs.declared.place.Place.{Place}

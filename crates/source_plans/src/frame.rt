@@ -4,9 +4,9 @@ use crate::place::{Exception, Place};
 use crate::task::{ForLoop, Task};
 use c_checked::expression::{Access, Conversion, Expr, Fixity, Lvalue, Node};
 use c_checked::statement::{Declared, Filter, Stmt};
-use c_model::ended::Ended;
 use c_operations::built_in::BuiltIn;
 use c_operations::operation::{Operation, Pure};
+use source_meaning::ended::Ended;
 
 /// What is called.
 #[derive(Clone, Copy, Drop)]

@@ -1,7 +1,7 @@
 //! What is done next for a statement.
 
 ghost use Rattle.std.specs.Prelude.{◌≡◌, map, option_map};
-ghost use Rattle.c_model.specs.Tasks as tasks;
+ghost use Rattle.source_meaning.specs.Tasks as tasks;
 ghost use Rattle.c_checked.specs.Expression as tree;
 ghost use Rattle.c_checked.specs.Statement as trees;
 ghost use Rattle.source_machine.specs.Frames as frames;

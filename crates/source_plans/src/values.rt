@@ -3,7 +3,7 @@
 ghost use Rattle.std.specs.Prelude.{◌≡◌, ◌*◌};
 ghost use Rattle.seh_num.specs.declared.width.Width.TheVariants.{W64};
 ghost use Rattle.seh_num.specs.Widths.{low};
-ghost use Rattle.c_model.specs.Expressions as model;
+ghost use Rattle.source_meaning.specs.Expressions as model;
 ghost use Rattle.source_plans.specs.Views.{exception_of};
 
 use crate::place::Exception;

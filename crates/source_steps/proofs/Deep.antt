@@ -1,7 +1,7 @@
 -- Where the depth would rise above the greatest, and where not.
 use Rattle.std.proofs.Common.{◌≡◌, ap, sym, ◌∙◌, true, false, Bool, Some}
-use Rattle.c_model.specs.declared.ended.Ended.TheVariants.{Deep}
-use Rattle.c_model.specs.State.{End}
+use Rattle.source_meaning.specs.declared.ended.Ended.TheVariants.{Deep}
+use Rattle.source_meaning.specs.State.{End}
 use Rattle.source_machine.specs.Machine.{Machine, over, unless_deep}
 
 pub too_deep_is : (b : Bool) (m other next : Machine) → b ≡ true

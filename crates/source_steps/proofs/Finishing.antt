@@ -1,7 +1,7 @@
 -- What follows a result that isn't the end of a body.
 use Rattle.std.proofs.Common.{◌≡◌, ℕ, refl, true}
 use Rattle.c_checked.specs.Statement.{Statements}
-use Rattle.c_model.specs.Tasks as tasks
+use Rattle.source_meaning.specs.Tasks as tasks
 use Rattle.source_machine.specs.Frames as frames
 use Rattle.source_machine.specs.Frames.{Place, Sequel, Start, Push}
 use Rattle.source_machine.specs.Machine.{Machine, follow, finished}

@@ -2,7 +2,7 @@
 use Rattle.std.proofs.Common.{◌≡◌, ℕ, refl, sym, ap, false}
 use Rattle.flat_memory.specs.Memory.{Memory}
 use Rattle.c_operations.specs.declared.operation.Operation.{Operation}
-use Rattle.c_model.specs.State.{set_memory}
+use Rattle.source_meaning.specs.State.{set_memory}
 use Rattle.source_operations.specs.declared.performing.Performed.{Performed}
 use Rattle.source_operations.specs.declared.performing.Performed.TheVariants as performed
 use Rattle.source_operations.specs.Outcomes.{outcome_of, is_given}

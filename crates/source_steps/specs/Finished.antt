@@ -4,9 +4,9 @@ use Rattle.std.specs.Prelude.{ℕ, false, Some}
 use Rattle.c_operations.specs.declared.operation.Operation.{Operation}
 use Rattle.source_operations.specs.declared.performing.Performed.{Performed}
 use Rattle.source_operations.specs.declared.performing.Performed.TheVariants as performed
-use Rattle.c_model.specs.declared.ended.Ended.TheVariants.{Undefined}
-use Rattle.c_model.specs.State.{Result, Value, End}
-use Rattle.c_model.specs.Tasks as tasks
+use Rattle.source_meaning.specs.declared.ended.Ended.TheVariants.{Undefined}
+use Rattle.source_meaning.specs.State.{Result, Value, End}
+use Rattle.source_meaning.specs.Tasks as tasks
 use Rattle.source_machine.specs.Frames as frames
 use Rattle.source_machine.specs.Frames.{Place, ContinuationFrame, Sequel, Give, Start, Push}
 use Rattle.source_machine.specs.Machine.{Machine, with_next, follow, over, outside, resumed}

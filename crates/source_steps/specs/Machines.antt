@@ -3,7 +3,7 @@ use Rattle.std.specs.Prelude.{◌≡◌, List, [], ◌∷◌, ◌++◌, map, rev
 use Rattle.std.specs.Prelude.{IfOk}
 use Rattle.seh_num.specs.declared.event.Event.{Event}
 use Rattle.x64_memory.specs.PageMaps.{memory_of}
-use Rattle.c_model.specs.State.{State}
+use Rattle.source_meaning.specs.State.{State}
 use Rattle.source_machine.specs.Frames as frames
 use Rattle.source_machine.specs.Machine.{Machine}
 use Rattle.source_steps.specs.declared.machine.Machine.{Machine as Machine'}

@@ -3,7 +3,7 @@
 ghost use Rattle.std.specs.Prelude.{◌≡◌, ◌++◌, [], ◌∷◌, List, IfOk, slice_get, option_map, get_or};
 ghost use Rattle.seh_num.specs.declared.width.Width.TheVariants.{W32};
 ghost use Rattle.seh_num.specs.Widths.{signed};
-ghost use Rattle.c_model.specs.Expressions.{raised};
+ghost use Rattle.source_meaning.specs.Expressions.{raised};
 ghost use Rattle.seh_num.specs.declared.event.Event.{Event as Event'};
 ghost use Rattle.c_checked.specs.Program as programs;
 ghost use Rattle.c_checked.specs.Whole as whole;
@@ -14,7 +14,7 @@ ghost use Rattle.source_plans.specs.Views.{place_of};
 ghost use Rattle.source_steps.specs.Machines.{machine_of, shown_after, Moved, Showed};
 
 use crate::activations::with_zeros;
-use crate::machine::{Machine, MachineStep, quiet, showing, too_deep};
+use crate::machine::{Machine, MachineStep, showing, silent, too_deep};
 use c_checked::checked::Checked;
 use c_checked::function::Function;
 use c_operations::built_in::BuiltIn;
@@ -99,12 +99,12 @@ impl<'p> Machine<'p> {
             }
             BuiltIn::Protect => {
                 let is_set = self.memory.protect(first, low_signed(second));
-                Ok(quiet(Next::Does(Action::Give(Completion::Value(of_test(is_set))))))
+                Ok(silent(Next::Does(Action::Give(Completion::Value(of_test(is_set))))))
             }
             BuiltIn::RaiseException => {
                 self.push(ContinuationFrame::Waits(Waiting::Sequel(SequelFrame::GivesZero)))?;
                 let task = Task::Raise(raised(first, second));
-                Ok(quiet(start(task, place)))
+                Ok(silent(start(task, place)))
             }
         }
     }
@@ -124,8 +124,8 @@ impl<'p> Machine<'p> {
         match callee {
             Callee::BuiltIn(function) => self.call_built_in(function, &values, place),
             Callee::Defined(index) => match program.functions.get(index as usize) {
-                None => Ok(quiet(Next::Does(Action::Give(Completion::Value(0))))),
-                Some(function) => Ok(quiet(self.enter(function, values)?)),
+                None => Ok(silent(Next::Does(Action::Give(Completion::Value(0))))),
+                Some(function) => Ok(silent(self.enter(function, values)?)),
             },
         }
     }

@@ -1,8 +1,8 @@
 //! Results go to what waits for them.
 
 ghost use Rattle.std.specs.Prelude.{◌≡◌, ◌+◌, ◌++◌, [], ◌∷◌, List, IfOk, OnOk, map, nat_eq};
-ghost use Rattle.c_model.specs.State as states;
-ghost use Rattle.c_model.specs.Tasks as tasks;
+ghost use Rattle.source_meaning.specs.State as states;
+ghost use Rattle.source_meaning.specs.Tasks as tasks;
 ghost use Rattle.seh_num.specs.declared.event.Event.{Event as Event'};
 ghost use Rattle.c_checked.specs.Statement as trees;
 ghost use Rattle.source_machine.specs.Frames as frames;
@@ -12,7 +12,7 @@ ghost use Rattle.source_plans.specs.Views.{place_of, plan_of};
 ghost use Rattle.source_steps.specs.Machines.{machine_of, shown_after, Moved, Showed};
 ghost use Rattle.source_steps.specs.Finished.{resumed_from};
 
-use crate::machine::{Machine, MachineStep, quiet, quietly, showing};
+use crate::machine::{Machine, MachineStep, showing, silent, silently};
 use c_checked::expression::Expr;
 use c_checked::statement::Stmt;
 use seh_num::event::{Code, Event};
@@ -89,7 +89,7 @@ impl<'p> Machine<'p> {
             (views.exception_of exception))) result }
     {
         if level != self.handlers.len() {
-            return quiet(Next::Does(Action::Give(Completion::Target(level, exception))));
+            return silent(Next::Does(Action::Give(Completion::Target(level, exception))));
         }
         self.held = held;
         let inside = Place {
@@ -236,9 +236,9 @@ impl<'p> Machine<'p> {
             (views.result_of how)) result }
     {
         match how {
-            Completion::LeftTry => quiet(Next::Does(Action::Give(Completion::Normal))),
+            Completion::LeftTry => silent(Next::Does(Action::Give(Completion::Normal))),
             Completion::Target(level, exception) => self.land(held, block, place, level, exception),
-            other => quiet(Next::Does(Action::Give(other))),
+            other => silent(Next::Does(Action::Give(other))),
         }
     }
 
@@ -252,18 +252,18 @@ impl<'p> Machine<'p> {
             (views.waiting_of frame.entry) (views.result_of how))) }
     {
         match frame {
-            Waiting::Operand(frame) => quietly(self.resume_operand(frame, how)),
-            Waiting::Assignment(frame) => quietly(self.resume_assignment(frame, how)),
-            Waiting::Statement(frame) => quietly(self.resume_statement(frame, how)),
-            Waiting::Sequel(frame) => quietly(self.resume_sequel(frame, how)),
-            Waiting::Body(frame) => quietly(self.resume_body(frame, how)),
-            Waiting::EndsCall(count) => quietly(self.leave_call(count, how)),
+            Waiting::Operand(frame) => silently(self.resume_operand(frame, how)),
+            Waiting::Assignment(frame) => silently(self.resume_assignment(frame, how)),
+            Waiting::Statement(frame) => silently(self.resume_statement(frame, how)),
+            Waiting::Sequel(frame) => silently(self.resume_sequel(frame, how)),
+            Waiting::Body(frame) => silently(self.resume_body(frame, how)),
+            Waiting::EndsCall(count) => silently(self.leave_call(count, how)),
             Waiting::Lands(held, block, place) => {
                 let _ = self.handlers.pop();
                 Ok(self.resume_landing(held, block, place, how))
             }
             Waiting::Finishes(number, last, place) => {
-                quietly(self.finish_try(number, last, place, how))
+                silently(self.finish_try(number, last, place, how))
             }
         }
     }
@@ -280,7 +280,7 @@ impl<'p> Machine<'p> {
         match frame {
             ContinuationFrame::Waits(frame) => self.resume_waiting(frame, how),
             ContinuationFrame::PassesArgument(callee, values, arguments, next, place) => {
-                quietly(self.resume_passing(callee, values, arguments, next, place, how))
+                silently(self.resume_passing(callee, values, arguments, next, place, how))
             }
         }
     }
@@ -291,7 +291,7 @@ impl<'p> Machine<'p> {
             (views.result_of how) m.stack)) }
     {
         match self.stack.pop() {
-            None => Ok(quiet(Next::Does(Action::Over(Finish::Gave(how))))),
+            None => Ok(silent(Next::Does(Action::Over(Finish::Gave(how))))),
             Some(frame) => self.resume(frame, how),
         }
     }

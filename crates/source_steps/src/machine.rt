@@ -1,8 +1,8 @@
 //! The machine, and what changes it.
 
 ghost use Rattle.std.specs.Prelude.{◌≡◌, ◌≤◌, ◌++◌, [], ◌∷◌, List, IfOk, OnOk};
-ghost use Rattle.c_model.specs.State as states;
-ghost use Rattle.c_model.specs.declared.ended.Ended.TheVariants as ends;
+ghost use Rattle.source_meaning.specs.State as states;
+ghost use Rattle.source_meaning.specs.declared.ended.Ended.TheVariants as ends;
 ghost use Rattle.seh_num.specs.declared.event.Event.{Event as Event'};
 ghost use Rattle.source_machine.specs.Frames as frames;
 ghost use Rattle.source_machine.specs.Machine as model;
@@ -12,9 +12,9 @@ ghost use Rattle.source_steps.specs.Machines.{machine_of, state_of, shown_after,
 ghost use Rattle.source_steps.specs.Machines.{ShowsNothing};
 
 use crate::activations::Activations;
-use c_model::depth::{DEEPEST, TOO_DEEP};
-use c_model::ended::Ended;
 use seh_num::event::Event;
+use source_meaning::depth::{DEEPEST, TOO_DEEP};
+use source_meaning::ended::Ended;
 use source_plans::frame::{Action, ContinuationFrame, Finish, Next, Phase, Plan};
 use source_plans::place::{Handler, Place};
 use source_plans::task::Task;
@@ -50,7 +50,7 @@ pub struct MachineStep<'p> {
 }
 
 /// A step that shows nothing.
-pub fn quiet<'p>(next: Next<'p>) -> MachineStep<'p>
+pub fn silent<'p>(next: Next<'p>) -> MachineStep<'p>
     ensures next { views.next_of result.next ≡ views.next_of next.entry }
     ensures shown { (es : List Event') → shown_after es result.shown ≡ es }
 {
@@ -58,12 +58,12 @@ pub fn quiet<'p>(next: Next<'p>) -> MachineStep<'p>
 }
 
 /// A step that shows nothing, where what is done next is there.
-pub fn quietly<'p>(next: Result<Next<'p>, AllocError>) -> Result<MachineStep<'p>, AllocError>
+pub fn silently<'p>(next: Result<Next<'p>, AllocError>) -> Result<MachineStep<'p>, AllocError>
     ensures { ShowsNothing next.entry result }
 {
     match next {
         Err(error) => Err(error),
-        Ok(next) => Ok(quiet(next)),
+        Ok(next) => Ok(silent(next)),
     }
 }
 

@@ -15,8 +15,8 @@ ghost use Rattle.source_steps.specs.Finished.{operation_finished};
 
 use crate::machine::Machine;
 use c_checked::expression::{Access, Lvalue};
-use c_model::ended::Ended;
 use c_operations::operation::Operation;
+use source_meaning::ended::Ended;
 use source_operations::performing::{Performed, perform};
 use source_plans::expressions::{push, start, then};
 use source_plans::frame::{

@@ -5,7 +5,7 @@ ghost use Rattle.c_checked.specs.Program.{Program};
 ghost use Rattle.seh_num.specs.declared.event.Event.{Event as Event'};
 ghost use Rattle.c_checked.specs.Expression as tree;
 ghost use Rattle.c_checked.specs.Statement as trees;
-ghost use Rattle.c_model.specs.Tasks as tasks;
+ghost use Rattle.source_meaning.specs.Tasks as tasks;
 ghost use Rattle.source_machine.specs.Frames as frames;
 ghost use Rattle.source_machine.specs.Machine as model;
 ghost use Rattle.source_plans.specs.Views as views;
@@ -13,11 +13,11 @@ ghost use Rattle.source_plans.specs.Views.{place_of};
 ghost use Rattle.source_steps.specs.Machines.{machine_of, shown_after, Moved, Showed};
 
 use crate::calls::low_signed;
-use crate::machine::{Machine, MachineStep, quiet, showing, too_deep};
+use crate::machine::{Machine, MachineStep, showing, silent, too_deep};
 use c_checked::expression::Expr;
 use c_checked::statement::{Filter, Stmt};
-use c_model::ended::Ended;
 use seh_num::event::{Code, Event};
+use source_meaning::ended::Ended;
 use source_plans::expressions::{evaluates, start};
 use source_plans::frame::{
     Action, Completion, ContinuationFrame, Finish, Next, SequelFrame, StatementFrame, Waiting,
@@ -65,7 +65,7 @@ impl<'p> Machine<'p> {
     {
         let _ = place;
         if self.is_deep(2) {
-            return Ok(quiet(too_deep()));
+            return Ok(silent(too_deep()));
         }
         self.held = self.held.saturating_add(2);
         self.push(ContinuationFrame::Waits(Waiting::Statement(StatementFrame::EndsFilter)))?;
@@ -90,7 +90,7 @@ impl<'p> Machine<'p> {
             (place_of place))) }
     {
         if self.is_deep(2) {
-            return Ok(quiet(too_deep()));
+            return Ok(silent(too_deep()));
         }
         self.held = self.held.saturating_add(2);
         self.push(ContinuationFrame::Waits(Waiting::Sequel(SequelFrame::EndsFinally)))?;

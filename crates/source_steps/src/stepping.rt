@@ -8,12 +8,12 @@ ghost use Rattle.c_checked.specs.Expression as tree;
 ghost use Rattle.c_checked.specs.Statement as trees;
 ghost use Rattle.source_machine.specs.Frames as frames;
 ghost use Rattle.source_machine.specs.Machine as model;
-ghost use Rattle.c_model.specs.Source.{data_end as model_data_end};
+ghost use Rattle.source_meaning.specs.Source.{data_end as model_data_end};
 ghost use Rattle.source_plans.specs.Views as views;
 ghost use Rattle.source_plans.specs.Views.{place_of};
 ghost use Rattle.source_steps.specs.Machines.{machine_of, shown_after, Moved, Showed};
 
-use crate::machine::{Machine, MachineStep, quiet, quietly};
+use crate::machine::{Machine, MachineStep, silent, silently};
 use c_checked::checked::Checked;
 use c_checked::statement::Declared;
 use source_plans::expressions::{expression_plan, find_plan, node_plan, pass_plan};
@@ -33,15 +33,15 @@ impl<'p> Machine<'p> {
     {
         match task {
             Task::Eval(expr) => self.planned(expression_plan(expr, place)),
-            Task::Locate(target) => Ok(quiet(Next::Does(Action::Find(target, place)))),
+            Task::Locate(target) => Ok(silent(Next::Does(Action::Find(target, place)))),
             Task::RunListed(stmts, index) => self.planned(listed_plan(stmts, index, place)),
             Task::RunBoxed(stmt) => self.planned(statement_plan(stmt, place)),
-            Task::Declare(declared) => Ok(quiet(Next::Does(Action::DeclareName(declared, place)))),
+            Task::Declare(declared) => Ok(silent(Next::Does(Action::DeclareName(declared, place)))),
             Task::ForIteration(of) => self.planned(for_plan(of, place)),
             Task::DoIteration { body, condition } => {
                 self.planned(do_plan(body, condition, place))
             }
-            Task::TryBody(stmts) => Ok(quiet(Next::Does(Action::Proceed(stmts, 0, place)))),
+            Task::TryBody(stmts) => Ok(silent(Next::Does(Action::Proceed(stmts, 0, place)))),
             Task::Raise(exception) => Ok(self.raise(exception, place)),
             Task::RunFilter {
                 number,
@@ -58,7 +58,7 @@ impl<'p> Machine<'p> {
                 operation,
                 first,
                 second,
-            } => Ok(quiet(Next::Does(Action::Operate(operation, first, second, place)))),
+            } => Ok(silent(Next::Does(Action::Operate(operation, first, second, place)))),
         }
     }
 
@@ -67,7 +67,7 @@ impl<'p> Machine<'p> {
         ensures { IfOk result (Showed self.old self.new (λ m. model.follow m
             (views.plan_of plan.entry))) }
     {
-        quietly(self.follow(plan))
+        silently(self.follow(plan))
     }
 
     /// A declared name is 0 first, in its own initialiser too.
@@ -94,7 +94,7 @@ impl<'p> Machine<'p> {
             (views.phased phase (views.task_of task.entry) (place_of place)))) }
     {
         match phase {
-            Phase::Before => Ok(quiet(self.start(task, place))),
+            Phase::Before => Ok(silent(self.start(task, place))),
             Phase::After => self.begin(task, place),
         }
     }
@@ -112,17 +112,17 @@ impl<'p> Machine<'p> {
             (whole.program _program.now) m (views.action_of action.entry))) }
     {
         match action {
-            Action::Over(how) => Ok(quiet(Next::Does(Action::Over(how)))),
+            Action::Over(how) => Ok(silent(Next::Does(Action::Over(how)))),
             Action::Give(how) => self.give(how),
             Action::Do(phase, task, place) => self.take_up(phase, task, place),
             Action::Evaluate(node, place) => self.planned(node_plan(alloc, node, place)),
             Action::Find(target, place) => self.planned(find_plan(target, place)),
-            Action::Fetch(target, address, place) => quietly(self.fetch(target, address, place)),
+            Action::Fetch(target, address, place) => silently(self.fetch(target, address, place)),
             Action::Put(target, address, value, place) => {
-                Ok(quiet(self.put(target, address, value, place)))
+                Ok(silent(self.put(target, address, value, place)))
             }
             Action::Operate(operation, first, second, place) => {
-                quietly(self.operate(data_end, operation, first, second, place))
+                silently(self.operate(data_end, operation, first, second, place))
             }
             Action::Proceed(stmts, next, place) => self.planned(proceed_plan(stmts, next, place)),
             Action::DeclareEach(declared, next, place) => {
@@ -131,18 +131,18 @@ impl<'p> Machine<'p> {
             Action::DeclareName(declared, place) => self.declare(declared, place),
             Action::SetLocal(local, value, place) => {
                 self.set_local(local, value, place);
-                Ok(quiet(Next::Does(Action::Give(Completion::Normal))))
+                Ok(silent(Next::Does(Action::Give(Completion::Normal))))
             }
             Action::Guard(body, filter, block, place) => {
-                quietly(self.guard(body, filter, block, place))
+                silently(self.guard(body, filter, block, place))
             }
             Action::Answer(value) => Ok(self.answer(value)),
             Action::LetGo => {
                 self.held = self.held.saturating_sub(2);
-                Ok(quiet(Next::Does(Action::Give(Completion::Normal))))
+                Ok(silent(Next::Does(Action::Give(Completion::Normal))))
             }
             Action::Search(level, exception, place) => {
-                quietly(self.search(level, exception, place))
+                silently(self.search(level, exception, place))
             }
         }
     }

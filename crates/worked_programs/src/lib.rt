@@ -1,12 +1,7 @@
-//! Texts with their trees: what each is resolved to, and what that means.
+//! Worked programs: what each text is resolved to and means, and what its linear code shows.
 //!
-//! Proved by computation. Begin with `specs/Texts.antt`.
+//! Proved by computation. Begin with `specs/Texts.antt` and `specs/LinearRows.antt`.
 #![tactic(auto)]
 
-ghost use Rattle.worked_programs.specs.AllRows.{AllRows};
-
-/// Each text is resolved to a sound program, which prints what it should, or it is refused where it
-/// should be.
-pub fn rows()
-    ensures { AllRows }
-{}
+pub mod linear_rows;
+pub mod source_rows;

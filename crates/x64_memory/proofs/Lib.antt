@@ -2,4 +2,4 @@ pub mod Steps
 pub mod RestsOfPages
 pub mod Paging
 pub mod Mapping
-pub mod Laid
+pub mod Ordered

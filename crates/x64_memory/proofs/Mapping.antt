@@ -9,8 +9,8 @@ use Rattle.flat_memory.specs.Memory.{Memory}
 use Rattle.x64_memory.specs.declared.page.Page.{Page}
 use Rattle.x64_memory.specs.declared.region.Region.{Region}
 use Rattle.x64_memory.specs.declared.stretch.Stretch.{Stretch}
-use Rattle.x64_memory.specs.Stretches.{has_number, index_of, page_at, page_numbered, AreLaid, count_from, end_from}
-use Rattle.x64_memory.proofs.Laid.{within, before, past, page_added, laid_more, count_more, end_more}
+use Rattle.x64_memory.specs.Stretches.{has_number, index_of, page_at, page_numbered, AreOrdered, count_from, end_from}
+use Rattle.x64_memory.proofs.Ordered.{within, before, past, page_added, ordered_more, count_more, end_more}
 use Rattle.x64_memory.specs.Pages.{page_mode, page_byte, paged, has_page, HasArena, zero_page}
 use Rattle.x64_memory.specs.Regions.{IsWholeRegion, region_mode, covers, with_region, unmapped, in_regions, HoldsArena, filled}
 use Rattle.x64_memory.proofs.Paging.{page_changed}
@@ -255,7 +255,7 @@ piece_after xs ys from k i ge le e =
 -- ---- a region put after others
 
 module _ (r : Region) (s : Stretch) (ss ss' : List Stretch) (ps ps' : List Page)
-    (protection : Protection) (whole : IsWholeRegion r) (laid : AreLaid 0 0 ss)
+    (protection : Protection) (whole : IsWholeRegion r) (ordered : AreOrdered 0 0 ss)
     (count : length ps ≡ count_from 0 ss) (above : 4096 * end_from 0 ss ≤ r.start)
     (first_is : s.first ≡ r.start / 4096) (end_is : s.end ≡ r.end / 4096)
     (kept : s.index ≡ length ps) (mode : protection ≡ region_mode r) (pushed : ss' ≡ ss ++ s ∷ [])
@@ -270,7 +270,7 @@ module _ (r : Region) (s : Stretch) (ss ss' : List Stretch) (ps ps' : List Page)
       ≡ cond (has_number s k) (Some (zero_page protection)) (page_numbered ss ps k)
   page_after k = ap (λ xs. page_numbered xs ps' k) pushed
       ∙ ap (λ ys. page_numbered (ss ++ s ∷ []) ys k) added
-      ∙ page_added s ss ps (zero_page protection) kept grows laid (sym count) ends k
+      ∙ page_added s ss ps (zero_page protection) kept grows ordered (sym count) ends k
 
   memory_after : paged (page_numbered ss' ps') ≡ with_region (paged (page_numbered ss ps)) r
   memory_after = region_over r s whole.start whole.end first_is end_is (page_numbered ss ps)
@@ -281,8 +281,8 @@ module _ (r : Region) (s : Stretch) (ss ss' : List Stretch) (ps ps' : List Page)
   holds_after = holds_over r s whole.start whole.end first_is end_is (page_numbered ss ps)
       (page_numbered ss' ps') protection mode page_after
 
-  laid_after : AreLaid 0 0 ss'
-  laid_after = subst (AreLaid 0 0) (sym pushed) (laid_more s 0 0 ss laid ends grows (kept ∙ count))
+  ordered_after : AreOrdered 0 0 ss'
+  ordered_after = subst (AreOrdered 0 0) (sym pushed) (ordered_more s 0 0 ss ordered ends grows (kept ∙ count))
 
   count_after : length ps' ≡ count_from 0 ss'
   count_after =
@@ -304,7 +304,7 @@ module _ (r : Region) (s : Stretch) (ss ss' : List Stretch) (ps ps' : List Page)
     pub memory : paged (page_numbered ss' ps') ≡ with_region (paged (page_numbered ss ps)) r
     pub holds : (a : ℕ) → has_page (page_numbered ss' ps') a
         ≡ (covers r a || has_page (page_numbered ss ps) a)
-    pub ascending : AreLaid 0 0 ss'
+    pub ascending : AreOrdered 0 0 ss'
     pub counted : length ps' ≡ count_from 0 ss'
     pub end : 4096 * end_from 0 ss' ≡ r.end
 
@@ -313,7 +313,7 @@ module _ (r : Region) (s : Stretch) (ss ss' : List Stretch) (ps ps' : List Page)
   is_mapped = record {
     memory = memory_after;
     holds = holds_after;
-    ascending = laid_after;
+    ascending = ordered_after;
     counted = count_after;
     end = end_after;
   }

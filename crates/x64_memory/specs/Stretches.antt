@@ -28,15 +28,15 @@ pub record IsNextStretch (low from : ℕ) (s : Stretch) : Type 0 where
   pub kept : s.index ≡ from
 
 -- stretches ascend from a page on, and are kept one after another from an index on
-abbrev pub AreLaid : ℕ → ℕ → List Stretch → Type 0
-AreLaid low from [] = Unit {0}
-AreLaid low from (s ∷ ss) = IsNextStretch low from s × AreLaid s.end (from + (s.end - s.first)) ss
+abbrev pub AreOrdered : ℕ → ℕ → List Stretch → Type 0
+AreOrdered low from [] = Unit {0}
+AreOrdered low from (s ∷ ss) = IsNextStretch low from s × AreOrdered s.end (from + (s.end - s.first)) ss
 
-pub AreLaid-prop : (low from : ℕ) (ss : List Stretch) → IsProp (AreLaid low from ss)
-AreLaid-prop low from [] = Unit-prop
-AreLaid-prop low from (s ∷ ss) =
+pub AreOrdered-prop : (low from : ℕ) (ss : List Stretch) → IsProp (AreOrdered low from ss)
+AreOrdered-prop low from [] = Unit-prop
+AreOrdered-prop low from (s ∷ ss) =
     let next : IsProp (IsNextStretch low from s) = hlevel (le_prop, Coded-set coded_ℕ) in
-    ×_prop next (AreLaid-prop s.end (from + (s.end - s.first)) ss)
+    ×_prop next (AreOrdered-prop s.end (from + (s.end - s.first)) ss)
 
 -- the index after the last page of stretches that are kept from an index on
 abbrev pub count_from : ℕ → List Stretch → ℕ

@@ -3,7 +3,7 @@ ghost use Rattle.seh_num.specs.Widths.{bytes_of};
 ghost use Rattle.flat_memory.specs.Memory.{Memory, with_bytes, rights_asked};
 ghost use Rattle.x64_memory.specs.Pages.{HasArena, has_page, paged, page_with_number, zero_page};
 ghost use Rattle.x64_memory.specs.Regions.{AreAscending, IsWholeRegion, HoldsArena, covers, filled, in_regions, mapped, with_region};
-ghost use Rattle.x64_memory.specs.Stretches.{AreLaid, AreLaid-prop, count_from, end_from, index_of, page_numbered};
+ghost use Rattle.x64_memory.specs.Stretches.{AreOrdered, AreOrdered-prop, count_from, end_from, index_of, page_numbered};
 
 use crate::page::Page;
 use crate::paged::{self, Paged};
@@ -23,7 +23,7 @@ use std::alloc::{AllocError, Global};
 pub struct PageMap {
     stretches: Vec<Stretch>,
     pages: Vec<Page>,
-    ghost laid: { AreLaid 0 0 stretches.items } by { AreLaid-prop 0 0 stretches.items },
+    ghost ordered: { AreOrdered 0 0 stretches.items } by { AreOrdered-prop 0 0 stretches.items },
     ghost count: { length pages.items ≡ count_from 0 stretches.items },
     ghost arena: { HasArena (page_numbered stretches.items pages.items) },
 }
@@ -73,7 +73,7 @@ fn map_region(
     region: &Region,
 ) -> Result<(), AllocError>
     requires whole { IsWholeRegion region.now }
-    requires laid { AreLaid 0 0 stretches.old.items }
+    requires ordered { AreOrdered 0 0 stretches.old.items }
     requires count { length pages.old.items ≡ count_from 0 stretches.old.items }
     requires above { PAGE * end_from 0 stretches.old.items ≤ region.now.start }
     ensures memory { OnOk result (paged (page_numbered stretches.new.items pages.new.items)
@@ -81,7 +81,7 @@ fn map_region(
     ensures holds { OnOk result
         ((a : ℕ) → has_page (page_numbered stretches.new.items pages.new.items) a
         ≡ (covers region.now a || has_page (page_numbered stretches.old.items pages.old.items) a)) }
-    ensures laid { OnOk result (AreLaid 0 0 stretches.new.items) }
+    ensures ordered { OnOk result (AreOrdered 0 0 stretches.new.items) }
     ensures count { OnOk result (length pages.new.items ≡ count_from 0 stretches.new.items) }
     ensures end { OnOk result (PAGE * end_from 0 stretches.new.items ≡ region.now.end) }
 {

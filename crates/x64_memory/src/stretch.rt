@@ -2,7 +2,7 @@
 
 ghost use Rattle.std.specs.Prelude.{◌≡◌, ◌≤◌, ◌<◌, ◌^◌, ℕ, length, slice_index_or, IfSome};
 ghost use Rattle.x64_memory.specs.Stretches as spec;
-ghost use Rattle.x64_memory.specs.Stretches.{AreLaid, count_from};
+ghost use Rattle.x64_memory.specs.Stretches.{AreOrdered, count_from};
 ghost use Rattle.x64_memory.specs.declared.stretch.Stretch.{Stretch};
 
 /// Pages whose numbers follow one another, kept one after another. A page's number is its address
@@ -19,7 +19,7 @@ pub struct Stretch {
 
 /// How many stretches end at a page or below it.
 fn count_ended(stretches: &[Stretch], number: u64) -> usize
-    requires { AreLaid 0 0 stretches.now }
+    requires { AreOrdered 0 0 stretches.now }
     ensures within { result ≤ length stretches.now }
     ensures below { (k : ℕ) (d : Stretch) → k < result
         → (slice_index_or stretches.now k d).end ≤ number }
@@ -32,7 +32,7 @@ fn count_ended(stretches: &[Stretch], number: u64) -> usize
 /// Where the page of a number is kept; none where no stretch has it. The stretches are searched by
 /// halves.
 pub fn index_of(stretches: &[Stretch], number: u64) -> Option<usize>
-    requires laid { AreLaid 0 0 stretches.now }
+    requires ordered { AreOrdered 0 0 stretches.now }
     requires room { count_from 0 stretches.now < 2 ^ 64 }
     ensures value { result ≡ spec.index_of stretches.now number }
     ensures within { IfSome result (λ i. i < count_from 0 stretches.now) }

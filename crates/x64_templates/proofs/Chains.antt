@@ -11,7 +11,7 @@ use Rattle.x64_machine.specs.Effect.{State, Answer, with_rip, effect, step}
 use Rattle.template_code.specs.Bytes.{size, sizes, spelled}
 use Rattle.x64_templates.specs.Runs.{Runs, Reaches, HasCode}
 use Rattle.x64_templates.specs.Keeping.{keeps_registers, stores_nothing, StoresNothing, Flows, StoresOnce}
-use Rattle.x64_templates.specs.Chains.{AllTurns, IsMidst, IsTurnOf}
+use Rattle.x64_templates.specs.Chains.{AllTurns, IsInside, IsTurnOf}
 use Rattle.x64_templates.proofs.PlacedCode.{Encodable, outside_page, bytes_split, bytes_kept, spells, reads}
 use Rattle.x64_templates.proofs.Keeping.{keeps, calls_nothing}
 use Rattle.template_code.proofs.Sizes.{sizes_append}
@@ -115,9 +115,9 @@ module _ (Turn : State → State → Type 0) (code : List Instr) (s w : State)
     memory : Memories left u
     is_there : HasCode u.memory u.cpu.rip left
 
-  midst : (done : List Instr) (i : Instr) (left : List Instr) (u : State) → At done (i ∷ left) u
-      → IsMidst code s w u
-  midst done i left u at = record {
+  inside : (done : List Instr) (i : Instr) (left : List Instr) (u : State) → At done (i ∷ left) u
+      → IsInside code s w u
+  inside done i left u at = record {
     done = done;
     item = i;
     left = left;
@@ -162,7 +162,7 @@ module _ (Turn : State → State → Type 0) (code : List Instr) (s w : State)
         instruction = i;
         read = d.read;
         no_call = flow;
-        from = midst done i [] u at;
+        from = inside done i [] u at;
         to = inr r.2;
       })) tt
   go done (i ∷ j ∷ is) u flow at r =
@@ -174,8 +174,8 @@ module _ (Turn : State → State → Type 0) (code : List Instr) (s w : State)
         instruction = i;
         read = d.read;
         no_call = calls_nothing i flow.0;
-        from = midst done i (j ∷ is) u at;
-        to = inl (midst (done ++ (i ∷ [])) j is r.0 next);
+        from = inside done i (j ∷ is) u at;
+        to = inl (inside (done ++ (i ∷ [])) j is r.0 next);
       }))
       (go (done ++ (i ∷ [])) (j ∷ is) r.0 flow.1 next r.2)
 

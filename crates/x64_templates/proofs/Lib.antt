@@ -27,7 +27,7 @@ pub mod Flows
 pub mod Entering
 pub mod Stretches
 pub mod Retries
-pub mod Quiet
+pub mod Epilogues
 pub mod Probing
 pub mod LargeEntries
 pub mod LargeFunctions

@@ -14,10 +14,10 @@ abbrev pub AllTurns : (State → State → Type 0) → ℕ → State → Type 0
 AllTurns Turn zero s = Unit {0}
 AllTurns Turn (suc n) s = (u : State) → step s ≡ Ok u → Turn s u × AllTurns Turn n u
 
--- a state in the midst of code that began in one state and ends in another: RIP is at one of its
+-- a state inside code that began in one state and ends in another: RIP is at one of its
 -- instructions, RSP and the nonvolatile registers are those of the begin, and memory is that of the
 -- begin or of the end
-pub record IsMidst (code : List Instr) (s w u : State) : Type 0 where
+pub record IsInside (code : List Instr) (s w u : State) : Type 0 where
   pub done : List Instr
   pub item : Instr
   pub left : List Instr
@@ -33,5 +33,5 @@ pub record IsTurnOf (code : List Instr) (s w u v : State) : Type 0 where
   pub read : leading (executable u.memory LONGEST_INSTRUCTION u.cpu.rip)
       ≡ Some (instruction, size instruction)
   pub no_call : is_call instruction ≡ false
-  pub from : IsMidst code s w u
-  pub to : IsMidst code s w v ⊎ (v ≡ w)
+  pub from : IsInside code s w u
+  pub to : IsInside code s w v ⊎ (v ≡ w)

@@ -25,7 +25,7 @@ use Rattle.x64_templates.specs.InstructionRuns.{RunsAllTo, IsLinked}
 use Rattle.x64_templates.specs.EntryStates.{with_arguments, InRegisters, OnStack, IsFunctionFrame, body_in_memory, FreshFrame}
 use Rattle.x64_templates.specs.Returned.{CallBegun, Returned}
 use Rattle.x64_templates.specs.Retries.{FaultsAfter, Retried}
-use Rattle.x64_templates.specs.Quiet.{AllQuiet, IsReturn}
+use Rattle.x64_templates.specs.Epilogues.{NoEpilogue, IsReturn}
 
 -- ---- operations and bodies
 
@@ -126,8 +126,8 @@ BodiesReturn =
 -- ---- bytes
 
 -- no template but that of a return has an instruction with which an epilogue could begin
-abbrev pub TemplatesAreQuiet : Type 0
-TemplatesAreQuiet =
+abbrev pub TemplatesHaveNoEpilogue : Type 0
+TemplatesHaveNoEpilogue =
     (k : Links) (y : Layout) (n : Counts) (sp base : ℕ) (at : ℕ) (instruction : Instruction)
     → SlotsHaveRoom y n sp base → HasSlots n instruction → (IsReturn instruction → ⊥)
-    → AllQuiet (template k y at instruction)
+    → NoEpilogue (template k y at instruction)

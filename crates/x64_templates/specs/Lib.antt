@@ -11,6 +11,6 @@ pub mod EntryStates
 pub mod Exceptions
 pub mod Returned
 pub mod Retries
-pub mod Quiet
+pub mod Epilogues
 pub mod Thunks
 pub mod Laws

@@ -1,6 +1,6 @@
 //! What holds of templates wherever they are placed.
 
-ghost use Rattle.x64_templates.specs.Laws.{OperationsRun, BodiesRun, BodiesFault, FaultsAreRetried, CallsBegin, FunctionsEnter, BodiesReturn, TemplatesAreQuiet};
+ghost use Rattle.x64_templates.specs.Laws.{OperationsRun, BodiesRun, BodiesFault, FaultsAreRetried, CallsBegin, FunctionsEnter, BodiesReturn, TemplatesHaveNoEpilogue};
 
 /// The code of a body does what its linear code means. Where an instruction faults, the machine's
 /// faults with its operands in registers, and the operation can be made again from there.
@@ -20,6 +20,6 @@ pub fn calls_pass_arguments()
 {}
 
 /// No epilogue begins inside a template.
-pub fn templates_are_quiet()
-    ensures { TemplatesAreQuiet }
+pub fn templates_have_no_epilogue()
+    ensures { TemplatesHaveNoEpilogue }
 {}

@@ -2,8 +2,8 @@ use Rattle.std.proofs.Common.{sym, ap, ◌∙◌, subst}
 use Rattle.c_check.proofs.FileInOrder.{function_named}
 use Rattle.c_check.proofs.declarations.declare.Goals as goal
 use Rattle.c_expressions.specs.Views.{block_of}
-use Rattle.c_globals.specs.declared.globals.File.{File}
-use Rattle.c_globals.specs.Files.{IsFile}
+use Rattle.c_locals.specs.declared.globals.File.{File}
+use Rattle.c_locals.specs.Files.{IsFile}
 use Rattle.c_resolved.specs.Expressions.{UserFunction}
 use Rattle.c_resolved.specs.Program.{parameter_types, with_external_declaration}
 use Rattle.c_resolved.specs.Scopes.{spelled}

@@ -1,6 +1,6 @@
 use Rattle.std.proofs.Common.{◌∙◌, ◌++◌, ◌∷◌, [], refl, ap}
 use Rattle.c_expressions.specs.Views.{block_of}
-use Rattle.c_locals.proofs.Declaring.{declared_local}
+use Rattle.c_locals.proofs.DeclarationLocals.{declared_local}
 use Rattle.c_locals.proofs.declarations.declare.Goals as goal
 use Rattle.c_locals.specs.Views.{environment}
 use Rattle.c_resolved.specs.Expressions.{LocalVariable}

@@ -1,5 +1,5 @@
 use Rattle.std.proofs.Common.{drop}
-use Rattle.c_locals.proofs.Declaring.{StillToDeclare, rest_of}
+use Rattle.c_locals.proofs.DeclarationLocals.{StillToDeclare, rest_of}
 use Rattle.c_locals.proofs.declarations.declare_each.Given as goal
 use Rattle.c_locals.specs.Views.{environment}
 

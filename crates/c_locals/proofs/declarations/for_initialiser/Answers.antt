@@ -1,8 +1,8 @@
 use Rattle.std.proofs.Common.{None, refl, sym, subst}
-use Rattle.c_locals.proofs.Begun.{declaring}
+use Rattle.c_locals.proofs.ForInitialisers.{declaring}
 use Rattle.c_locals.proofs.declarations.for_initialiser.Goals as goal
 use Rattle.c_locals.specs.declared.declarations.Beginning.{Beginning}
-use Rattle.c_locals.specs.Resolved.{IsBeginning}
+use Rattle.c_locals.specs.WalkResults.{IsBeginning}
 use Rattle.c_locals.specs.Views.{environment, numbering}
 use Rattle.c_resolved.specs.Statements.{resolve_for_initialiser}
 use Rattle.c_syntax.specs.Statement.{first}

@@ -1,6 +1,6 @@
 use Rattle.c_expressions.specs.Views.{block_of}
 use Rattle.c_locals.proofs.evaluated.any.Goals as goal
-use Rattle.c_locals.proofs.Ruled.{ruled}
+use Rattle.c_locals.proofs.ValueRules.{ruled}
 use Rattle.c_locals.specs.Views.{environment, resolved_at}
 use Rattle.c_resolved.specs.Statements as definitions
 use Rattle.c_syntax.specs.Expression.{expression}

@@ -1,6 +1,6 @@
 use Rattle.c_expressions.specs.Views.{block_of}
 use Rattle.c_locals.proofs.filters.answer.Goals as goal
-use Rattle.c_locals.proofs.Ruled.{ruled_at}
+use Rattle.c_locals.proofs.ValueRules.{ruled_at}
 use Rattle.c_locals.specs.Views.{environment, filter_resolved_at}
 use Rattle.c_resolved.specs.Statements as definitions
 use Rattle.c_syntax.specs.Expression.{expression, start}

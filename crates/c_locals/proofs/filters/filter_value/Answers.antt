@@ -1,6 +1,6 @@
 use Rattle.std.proofs.Common.{◌∙◌, sym}
 use Rattle.c_expressions.specs.Views.{block_of}
-use Rattle.c_locals.proofs.Filtering.{always_same, answered}
+use Rattle.c_locals.proofs.FilterKinds.{always_same, answered}
 use Rattle.c_locals.proofs.filters.filter_value.Goals as goal
 use Rattle.c_locals.specs.Views.{environment}
 use Rattle.c_syntax.specs.Expression.{expression}

@@ -1,4 +1,4 @@
-use Rattle.image_runs.proofs.Accepted as lemma
+use Rattle.image_runs.proofs.TextImages as lemma
 use Rattle.image_runs.proofs.accepted_laws.laws.Goals as goal
 
 pub returns : goal.returns

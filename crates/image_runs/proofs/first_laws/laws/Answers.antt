@@ -1,4 +1,4 @@
-use Rattle.image_runs.proofs.FirstStarting as lemma
+use Rattle.image_runs.proofs.FirstState as lemma
 use Rattle.image_runs.proofs.first_laws.laws.Goals as goal
 
 pub returns : goal.returns

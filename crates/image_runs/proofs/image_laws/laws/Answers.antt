@@ -1,5 +1,5 @@
-use Rattle.image_runs.proofs.Compiled.{lowered_is_compiled}
-use Rattle.image_runs.proofs.ImageImages.{lowered_has_image}
+use Rattle.image_runs.proofs.ImageCode.{lowered_is_compiled}
+use Rattle.image_runs.proofs.SoundImages.{lowered_has_image}
 use Rattle.image_runs.proofs.image_laws.laws.Goals as goal
 
 pub returns : goal.returns

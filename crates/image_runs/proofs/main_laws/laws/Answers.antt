@@ -1,4 +1,4 @@
-use Rattle.image_runs.proofs.MainStarting as lemma
+use Rattle.image_runs.proofs.MainStart as lemma
 use Rattle.image_runs.proofs.main_laws.laws.Goals as goal
 
 pub returns : goal.returns

@@ -1,4 +1,4 @@
-use Rattle.image_runs.proofs.Realised.{compiled_realise, compiled_show_nothing_more}
+use Rattle.image_runs.proofs.ImageMeaning.{compiled_realise, compiled_show_nothing_more}
 use Rattle.image_runs.proofs.run_laws.compiled.Goals as goal
 
 pub returns : goal.returns

@@ -1,4 +1,4 @@
-use Rattle.image_runs.proofs.Shadows.{images_walk_the_shadow, compiled_walk_the_shadow, accepted_walk_the_shadow}
+use Rattle.image_runs.proofs.ShadowWalks.{images_walk_the_shadow, compiled_walk_the_shadow, accepted_walk_the_shadow}
 use Rattle.image_runs.proofs.shadow_laws.laws.Goals as goal
 
 pub returns : goal.returns

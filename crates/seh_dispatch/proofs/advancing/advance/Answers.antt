@@ -4,9 +4,9 @@ use Rattle.x64_machine.specs.Effect.{state}
 use Rattle.host_model.specs.Turns.{shown_in}
 use Rattle.host_model.specs.Funclets.{arrivals}
 use Rattle.host_model.specs.HostStep.{after}
-use Rattle.image_funclets.specs.Listed.{listed}
-use Rattle.seh_dispatch.specs.Ends.{left}
-use Rattle.seh_dispatch.proofs.Turning.{goes_turn, ends_turn, left_over}
+use Rattle.seh_dispatch.specs.FuncletLists.{listed}
+use Rattle.seh_dispatch.specs.TurnEnds.{left}
+use Rattle.seh_dispatch.proofs.TurnOutcomes.{goes_turn, ends_turn, left_over}
 use Rattle.seh_dispatch.proofs.advancing.advance.Goals as goal
 
 pub returns-in-Ends-clause-host : goal.returns-in-Ends-clause-host

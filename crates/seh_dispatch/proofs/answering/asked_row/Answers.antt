@@ -3,7 +3,7 @@ use Rattle.eh_tables.specs.Infos.{Info}
 use Rattle.eh_tables.specs.Tables.{Entry, entries_of, holding}
 use Rattle.virtual_unwind.specs.CallerOf.{functions_of, entry_of, distance}
 use Rattle.host_model.specs.Dispatch.{rows_of, row_before}
-use Rattle.seh_dispatch.proofs.Rows.{row_zero, row_some, row_none}
+use Rattle.seh_dispatch.proofs.FilterRows.{row_zero, row_some, row_none}
 use Rattle.seh_dispatch.proofs.answering.asked_row.Goals as goal
 
 pub returns-then-dispatch-eq0 : goal.returns-then-dispatch-eq0

@@ -3,7 +3,7 @@ use Rattle.virtual_unwind.specs.CallerOf.{functions_of}
 use Rattle.x64_machine.specs.Effect.{state}
 use Rattle.seh_records.specs.declared.dispatch.DispatchRecord.{DispatchRecord}
 use Rattle.host_model.specs.Dispatch.{after_placing, searches_on}
-use Rattle.seh_dispatch.proofs.Placing.{rewritten}
+use Rattle.seh_dispatch.proofs.RecordPlacement.{rewritten}
 use Rattle.seh_dispatch.proofs.answering.search_again.Goals as goal
 
 pub returns-in-Ok : goal.returns-in-Ok

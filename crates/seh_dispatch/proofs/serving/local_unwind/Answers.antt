@@ -3,7 +3,7 @@ use Rattle.virtual_unwind.specs.CallerOf.{functions_of}
 use Rattle.x64_instr.specs.declared.register.Reg.TheVariants.{Rcx, Rdx}
 use Rattle.x64_machine.specs.Effect.{register, state}
 use Rattle.host_model.specs.Dispatch.{unwound_locally}
-use Rattle.seh_dispatch.proofs.Returning.{returning_to}
+use Rattle.seh_dispatch.proofs.ServiceReturn.{returning_to}
 use Rattle.seh_dispatch.proofs.serving.local_unwind.Goals as goal
 
 pub returns-in-Some : goal.returns-in-Some

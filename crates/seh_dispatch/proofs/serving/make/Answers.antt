@@ -1,8 +1,8 @@
 use Rattle.std.proofs.Common.{◌∙◌}
 use Rattle.virtual_unwind.specs.CallerOf.{functions_of}
 use Rattle.x64_machine.specs.Effect.{state, step}
-use Rattle.seh_dispatch.proofs.Faults.{fault_turned}
-use Rattle.seh_dispatch.proofs.Leading.{made_later}
+use Rattle.seh_dispatch.proofs.FaultTurns.{fault_turned}
+use Rattle.seh_dispatch.proofs.TurnEvents.{made_later}
 use Rattle.seh_dispatch.proofs.serving.make.Goals as goal
 
 pub returns-in-Fault : goal.returns-in-Fault

@@ -1,6 +1,6 @@
 use Rattle.std.proofs.Common.{◌≡◌, ◌+◌, ◌++◌, map, take}
 use Rattle.c_checked.specs.Statement as tree
-use Rattle.ir_sizes.specs.Sizes as sizes
+use Rattle.lowering_sizes.specs.Sizes as sizes
 use Rattle.seh_ir.specs.Regions as spec
 use Rattle.seh_ir.proofs.regions.+regions.Given as goal
 

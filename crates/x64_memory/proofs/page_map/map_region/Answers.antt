@@ -12,12 +12,12 @@ returns c =
     } in
     let kept : c.len.result ≡ length c.args.pages.now.items = search rules in
     let m = is_mapped c.args.region.now s _ _ _ _ c.protection.result c.requires.whole
-    c.requires.laid c.requires.count c.requires.above refl refl kept c.protection.ensures
+    c.requires.ordered c.requires.count c.requires.above refl refl kept c.protection.ensures
     c.in_ok-push.ensures.items c.in_ok-add_pages.ensures in
     record {
       memory = m.memory;
       holds = m.holds;
-      laid = m.ascending;
+      ordered = m.ascending;
       count = m.counted;
       end = m.end;
     }

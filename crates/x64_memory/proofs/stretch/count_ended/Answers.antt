@@ -1,6 +1,6 @@
 use Rattle.std.proofs.Common.{rules, leb, leb-true, leb-false, arith}
 use Rattle.std.proofs.lemmas.List.Sorted.{IsPartitionPoint-from_clause, IsPartitionedBy-leb}
-use Rattle.x64_memory.proofs.Laid.{ends_rise}
+use Rattle.x64_memory.proofs.Ordered.{ends_rise}
 use Rattle.x64_memory.proofs.stretch.count_ended.Goals as goal
 
 pub returns : goal.returns

@@ -1,5 +1,5 @@
 use Rattle.std.proofs.Common.{sym, arith}
-use Rattle.x64_memory.proofs.Laid.{all_ended, found, found_none, index_in}
+use Rattle.x64_memory.proofs.Ordered.{all_ended, found, found_none, index_in}
 use Rattle.x64_memory.proofs.stretch.index_of.Goals as goal
 
 pub returns-then-ended-stretches-clause-value : goal.returns-then-ended-stretches-clause-value
@@ -13,7 +13,7 @@ returns-then-number-stretch-clause-value c =
     let later = c.count_ended-ended.ensures.later j (record { first = 0; end = 0; index = 0 })
     (omega arith) c.if-ended-stretches.false in
     sym (found_none 0 0 c.args.stretches.now c.args.number j
-    (record { first = 0; end = 0; index = 0 }) c.requires.laid c.count_ended-ended.ensures.below
+    (record { first = 0; end = 0; index = 0 }) c.requires.ordered c.count_ended-ended.ensures.below
     c.if-ended-stretches.false later c.if-number-stretch.true)
 
 pub overflow_add-result : goal.overflow_add-result
@@ -22,9 +22,9 @@ overflow_add-result c =
     let later = c.count_ended-ended.ensures.later j (record { first = 0; end = 0; index = 0 })
     (omega arith) c.if-ended-stretches.false in
     let at = found 0 0 c.args.stretches.now c.args.number j
-    (record { first = 0; end = 0; index = 0 }) c.requires.laid c.count_ended-ended.ensures.below
+    (record { first = 0; end = 0; index = 0 }) c.requires.ordered c.count_ended-ended.ensures.below
     c.if-ended-stretches.false later c.if-number-stretch.false in
-    let in' = (index_in 0 0 c.args.stretches.now c.args.number _ c.requires.laid at).1 in
+    let in' = (index_in 0 0 c.args.stretches.now c.args.number _ c.requires.ordered at).1 in
     omega (arith, in')
 
 pub returns-clause-value : goal.returns-clause-value
@@ -33,7 +33,7 @@ returns-clause-value c =
     let later = c.count_ended-ended.ensures.later j (record { first = 0; end = 0; index = 0 })
     (omega arith) c.if-ended-stretches.false in
     sym (found 0 0 c.args.stretches.now c.args.number j (record { first = 0; end = 0; index = 0 })
-    c.requires.laid c.count_ended-ended.ensures.below c.if-ended-stretches.false later
+    c.requires.ordered c.count_ended-ended.ensures.below c.if-ended-stretches.false later
     c.if-number-stretch.false)
 
 pub returns-clause-within : goal.returns-clause-within
@@ -42,6 +42,6 @@ returns-clause-within c =
     let later = c.count_ended-ended.ensures.later j (record { first = 0; end = 0; index = 0 })
     (omega arith) c.if-ended-stretches.false in
     let at = found 0 0 c.args.stretches.now c.args.number j
-    (record { first = 0; end = 0; index = 0 }) c.requires.laid c.count_ended-ended.ensures.below
+    (record { first = 0; end = 0; index = 0 }) c.requires.ordered c.count_ended-ended.ensures.below
     c.if-ended-stretches.false later c.if-number-stretch.false in
-    (index_in 0 0 c.args.stretches.now c.args.number _ c.requires.laid at).1
+    (index_in 0 0 c.args.stretches.now c.args.number _ c.requires.ordered at).1

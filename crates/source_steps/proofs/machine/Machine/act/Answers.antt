@@ -2,7 +2,7 @@ use Rattle.std.proofs.Common.{ap, subst, sym, ◌∙◌, IfOk}
 use Rattle.c_operations.specs.Performed.{performed}
 use Rattle.source_operations.specs.Reserved.{reserved_below}
 use Rattle.c_checked.specs.Whole as whole
-use Rattle.c_model.specs.State.{Normal}
+use Rattle.source_meaning.specs.State.{Normal}
 use Rattle.source_machine.specs.Frames as frames
 use Rattle.source_machine.specs.Machine as model
 use Rattle.source_plans.specs.Views as views
@@ -20,7 +20,7 @@ pub returns-in-Fetch : goal.returns-in-Fetch
 returns-in-Fetch c =
     unshown (λ n m. model.done (whole.program c.args._program.now) m (views.action_of n))
     c.args.self.now c.fetch.new.self _ _ c.fetch.result
-    c.quietly.result c.in-Fetch.is c.quietly.ensures
+    c.silently.result c.in-Fetch.is c.silently.ensures
     c.fetch.ensures
 
 pub returns-in-Operate : goal.returns-in-Operate
@@ -31,7 +31,7 @@ returns-in-Operate c =
     let p = views.place_of c.in-Operate.place in
     unshown (λ n m. model.done (whole.program c.args._program.now) m (views.action_of n))
     c.args.self.now c.operate.new.self _ _ c.operate.result
-    c.quietly-in-Operate.result c.in-Operate.is c.quietly-in-Operate.ensures
+    c.silently-in-Operate.result c.in-Operate.is c.silently-in-Operate.ensures
     (subst (λ e. IfOk c.operate.result (Moved c.args.self.now c.operate.new.self
     (λ m. model.operated m o a b p (performed (reserved_below e) o a b m.state.memory))))
     c.requires c.operate.ensures)
@@ -41,14 +41,14 @@ returns-in-SetLocal c = λ x es.
     ap (λ n. model.done (whole.program c.args._program.now) (machine_of c.args.self.now x es)
     (views.action_of n)) c.in-SetLocal.is
     ∙ ap (λ m. model.with_next m (frames.Give Normal)) (c.set_local.ensures x es)
-    ∙ (λ i. machine_of c.set_local.new.self (sym c.quiet-in-SetLocal.ensures.next i)
-    (sym (c.quiet-in-SetLocal.ensures.shown es) i))
+    ∙ (λ i. machine_of c.set_local.new.self (sym c.silent-in-SetLocal.ensures.next i)
+    (sym (c.silent-in-SetLocal.ensures.shown es) i))
 
 pub returns-in-Guard : goal.returns-in-Guard
 returns-in-Guard c =
     unshown (λ n m. model.done (whole.program c.args._program.now) m (views.action_of n))
     c.args.self.now c.guard.new.self _ _ c.guard.result
-    c.quietly-in-Guard.result c.in-Guard.is c.quietly-in-Guard.ensures
+    c.silently-in-Guard.result c.in-Guard.is c.silently-in-Guard.ensures
     c.guard.ensures
 
 pub returns-in-Answer : goal.returns-in-Answer
@@ -60,5 +60,5 @@ pub returns-in-Search : goal.returns-in-Search
 returns-in-Search c =
     unshown (λ n m. model.done (whole.program c.args._program.now) m (views.action_of n))
     c.args.self.now c.search.new.self _ _ c.search.result
-    c.quietly-in-Search.result c.in-Search.is c.quietly-in-Search.ensures
+    c.silently-in-Search.result c.in-Search.is c.silently-in-Search.ensures
     c.search.ensures

@@ -1,6 +1,6 @@
 use Rattle.std.proofs.Common.{ap, sym, ◌∙◌}
-use Rattle.c_model.specs.Tasks as tasks
-use Rattle.c_model.specs.Expressions.{raised}
+use Rattle.source_meaning.specs.Tasks as tasks
+use Rattle.source_meaning.specs.Expressions.{raised}
 use Rattle.source_machine.specs.Frames as frames
 use Rattle.source_machine.specs.Machine as model
 use Rattle.source_plans.specs.Views as views
@@ -12,10 +12,10 @@ returns-in_ok-push-in-RaiseException c = λ x es.
     let p = views.place_of c.args.place in
     let exc_is = c.raised.ensures ∙ (λ i. raised (c.value_at-first.ensures i)
     (c.value_at-second.ensures i)) in
-    let next_is = c.quiet-in-RaiseException.ensures.next ∙ c.start.ensures
+    let next_is = c.silent-in-RaiseException.ensures.next ∙ c.start.ensures
     ∙ ap (λ e. frames.Start (tasks.Raise e) p) exc_is in
     ap (λ k. model.built_in (machine_of c.args.self.now x es) k c.args.values.now p)
     c.in-RaiseException.is
     ∙ c.in_ok-push-in-RaiseException.ensures _ x es
     ∙ (λ i. machine_of c.push.new.self (sym next_is i)
-    (sym (c.quiet-in-RaiseException.ensures.shown es) i))
+    (sym (c.silent-in-RaiseException.ensures.shown es) i))

@@ -1,6 +1,6 @@
 use Rattle.std.proofs.Common.{◌++◌, [], ◌∷◌, ap, sym, ◌∙◌, false}
 use Rattle.std.specs.Prelude.{replicate}
-use Rattle.c_model.specs.Expressions.{no_exception}
+use Rattle.source_meaning.specs.Expressions.{no_exception}
 use Rattle.source_machine.specs.Frames as frames
 use Rattle.source_machine.specs.Machine as model
 use Rattle.source_steps.specs.Activations.{frames_of}

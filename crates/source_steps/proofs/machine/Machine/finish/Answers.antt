@@ -1,5 +1,5 @@
 use Rattle.std.proofs.Common.{ap, sym, ◌∙◌, false}
-use Rattle.c_model.specs.Tasks as tasks
+use Rattle.source_meaning.specs.Tasks as tasks
 use Rattle.source_machine.specs.Frames as frames
 use Rattle.source_plans.specs.Views as views
 use Rattle.source_steps.specs.Machines.{machine_of}

@@ -4,5 +4,5 @@ use Rattle.source_steps.proofs.machine.Machine.planned.Goals as goal
 
 pub returns : goal.returns
 returns c =
-    c.quietly.ensures c.args.self.now c.follow.new.self
+    c.silently.ensures c.args.self.now c.follow.new.self
     (λ m. model.follow m (views.plan_of c.args.plan)) c.follow.ensures

@@ -1,7 +1,7 @@
 use Rattle.std.proofs.Common.{ap, ◌∙◌}
 use Rattle.c_checked.specs.Expression.{lvalue}
 use Rattle.c_checked.proofs.ExpressionTrees as made
-use Rattle.c_model.specs.State.{Value}
+use Rattle.source_meaning.specs.State.{Value}
 use Rattle.source_machine.specs.Frames.{Give}
 use Rattle.source_machine.specs.Machine as model
 use Rattle.source_plans.specs.Views as views

@@ -7,4 +7,4 @@ pub returns-in-PassesArgument : goal.returns-in-PassesArgument
 returns-in-PassesArgument c =
     unshown (λ f m. resumed_from m (views.frame_of f) (views.result_of c.args.how))
     c.args.self.now c.resume_passing.new.self _ _ c.resume_passing.result
-    c.quietly.result c.in-PassesArgument.is c.quietly.ensures c.resume_passing.ensures
+    c.silently.result c.in-PassesArgument.is c.silently.ensures c.resume_passing.ensures

@@ -13,8 +13,8 @@ pub returns-then-is_deep : goal.returns-then-is_deep
 returns-then-is_deep c = λ x es.
     too_deep_is _ (machine_of c.args.self.now x es) _ _
     (sym (c.is_deep.ensures es) ∙ c.if-is_deep.true)
-    (λ i. machine_of c.args.self.now ((c.quiet.ensures.next ∙ c.too_deep.ensures) i)
-    (c.quiet.ensures.shown es i))
+    (λ i. machine_of c.args.self.now ((c.silent.ensures.next ∙ c.too_deep.ensures) i)
+    (c.silent.ensures.shown es i))
 
 pub returns : goal.returns
 returns c = λ x es.

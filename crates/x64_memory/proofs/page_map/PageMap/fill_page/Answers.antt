@@ -1,7 +1,7 @@
 use Rattle.std.proofs.Common.{◌≡◌, ◌/◌, ◌%◌, ◌+◌, ◌-◌, ℕ, List, length, get_or, rules, refl, sym, ap, ◌∙◌, arith}
 use Rattle.x64_memory.specs.declared.page.Page.{Page}
 use Rattle.x64_memory.specs.Stretches.{page_numbered}
-use Rattle.x64_memory.proofs.Laid.{page_set, page_kept}
+use Rattle.x64_memory.proofs.Ordered.{page_set, page_kept}
 use Rattle.x64_memory.proofs.Mapping.{bytes_put, piece_inside, piece_before, piece_after}
 use Rattle.x64_memory.proofs.Paging.{has_kept}
 use borrow.Rule.Slice.PartMut.{put_mid}
@@ -29,7 +29,7 @@ returns-in-Some-clause-memory c =
     ∙ ap (λ (zs : List ℕ). get_or zs j 0) same)
     (λ j lt. piece_before p.bytes ys from k j lt (omega arith))
     (λ j ge. piece_after p.bytes ys from k j (omega arith) (omega arith) (omega arith))
-    _ (page_set s.stretches.items s.pages.items (c.args.at / 4096) i q s.laid s.count at)
+    _ (page_set s.stretches.items s.pages.items (c.args.at / 4096) i q s.ordered s.count at)
 
 pub returns-in-Some-clause-holds : goal.returns-in-Some-clause-holds
 returns-in-Some-clause-holds c a =
@@ -46,4 +46,4 @@ returns-in-Some-clause-holds c a =
     let had = page_kept s.stretches.items s.pages.items (c.args.at / 4096) i p at
     c.in-Some.ensures.within c.index_mut-page.ensures.value in
     has_kept (page_numbered s.stretches.items s.pages.items) _ (c.args.at / 4096) q
-    (page_set s.stretches.items s.pages.items (c.args.at / 4096) i q s.laid s.count at) p had a
+    (page_set s.stretches.items s.pages.items (c.args.at / 4096) i q s.ordered s.count at) p had a

@@ -6,7 +6,7 @@ use Rattle.x64_memory.specs.declared.region.Region.{Region}
 use Rattle.x64_memory.specs.declared.stretch.Stretch.{Stretch}
 use Rattle.x64_memory.specs.Pages.{has_page}
 use Rattle.x64_memory.specs.Regions.{mapped_over, in_regions, AreAscending}
-use Rattle.x64_memory.specs.Stretches.{AreLaid, count_from, end_from, page_numbered}
+use Rattle.x64_memory.specs.Stretches.{AreOrdered, count_from, end_from, page_numbered}
 use Rattle.x64_memory.proofs.Mapping.{empty_memory, empty_holds, arena_mapped}
 use Rattle.x64_memory.proofs.page_map.PageMap.new.Goals as goal
 
@@ -25,7 +25,7 @@ loop-region-init c =
       memory = ap (λ m. mapped_over m rs) (empty_memory ss ps none);
       holds = λ a. or_false (in_regions rs a) (has_page (page_numbered ss ps) a)
           (empty_holds ss ps a none);
-      laid = subst (AreLaid 0 0) (sym none) tt;
+      ordered = subst (AreOrdered 0 0) (sym none) tt;
       count = ap length empty ∙ sym (ap (count_from 0) none);
       ascending = subst (λ (xs : List Stretch). AreAscending (4096 * end_from 0 xs) rs) (sym none)
           c.requires.ascending;
@@ -37,7 +37,7 @@ invariant_of-result c =
     let pages = page_numbered c.loop-region.stretches.items c.loop-region.pages.items in
     let end : drop c.loop-region.region-index rs ≡ [] = drop_of_length-le rs (omega arith) in
     record {
-      laid = c.loop-region.invariant.laid;
+      ordered = c.loop-region.invariant.ordered;
       count = c.loop-region.invariant.count;
       arena = arena_mapped pages rs (λ a. ap (λ (t : List Region). in_regions t a
           || has_page pages a) (sym end) ∙ c.loop-region.invariant.holds a) c.requires.arena;

@@ -4,7 +4,7 @@ use Rattle.flat_memory.specs.Memory.{with_rights, protected}
 use Rattle.x64_memory.specs.declared.page.Page.{Page}
 use Rattle.x64_memory.specs.Pages.{paged}
 use Rattle.x64_memory.specs.Stretches.{page_numbered}
-use Rattle.x64_memory.proofs.Laid.{page_set, page_kept}
+use Rattle.x64_memory.proofs.Ordered.{page_set, page_kept}
 use Rattle.x64_memory.proofs.Paging.{rights_set}
 use Rattle.x64_memory.proofs.page_map.PageMapAddressSpace.protect.Goals as goal
 
@@ -19,7 +19,7 @@ returns-in-Some-index-clause-after c =
     let had = page_kept s.stretches.items s.pages.items (c.args.at / 4096) i p at
     c.in-Some-index.ensures.within c.index_mut.ensures.value in
     rights_set pages p c.args.at c.in-Some.asked had _
-    (page_set s.stretches.items s.pages.items (c.args.at / 4096) i q s.laid s.count at)
+    (page_set s.stretches.items s.pages.items (c.args.at / 4096) i q s.ordered s.count at)
     ∙ ap (with_rights (paged pages) c.args.at) c.in-Some.ensures
     ∙ ap (λ (z : ℤ). protected (paged pages) c.args.at z)
     (to_z-of_z w32 c.args.protection c.ranges.protection)

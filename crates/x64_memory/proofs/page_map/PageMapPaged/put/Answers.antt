@@ -3,7 +3,7 @@ use Rattle.seh_num.specs.Widths.{bytes_of}
 use Rattle.x64_memory.specs.declared.page.Page.{Page}
 use Rattle.x64_memory.specs.Pages.{page_with_number}
 use Rattle.x64_memory.specs.Stretches.{page_at, page_numbered}
-use Rattle.x64_memory.proofs.Laid.{page_set, page_kept}
+use Rattle.x64_memory.proofs.Ordered.{page_set, page_kept}
 use Rattle.x64_memory.proofs.Paging.{number_put, unmapped}
 use Rattle.x64_memory.proofs.page_map.PageMapPaged.put.Goals as goal
 
@@ -21,7 +21,7 @@ returns-in-Some c =
     number_put (page_numbered s.stretches.items s.pages.items) p q n c.args.at c.args.value had
     (omega arith) (omega arith) (λ j. c.put_number.ensures j
     ∙ ap (λ m. page_with_number p.bytes (c.args.at % 4096) m c.args.value j) count) refl _
-    (page_set s.stretches.items s.pages.items (c.args.at / 4096) i q s.laid s.count at)
+    (page_set s.stretches.items s.pages.items (c.args.at / 4096) i q s.ordered s.count at)
 
 pub returns-in_default : goal.returns-in_default
 returns-in_default c =

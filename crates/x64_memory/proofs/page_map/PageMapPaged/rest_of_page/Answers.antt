@@ -2,7 +2,7 @@ use Rattle.std.proofs.Common.{◌≡◌, ◌<◌, ◌/◌, ◌%◌, ◌-◌, ℕ
 use Rattle.std.proofs.lemmas.List.{take_all}
 use Rattle.x64_memory.specs.Pages.{paged, IsRestOfPage}
 use Rattle.x64_memory.specs.Stretches.{page_at, page_numbered}
-use Rattle.x64_memory.proofs.Laid.{page_kept}
+use Rattle.x64_memory.proofs.Ordered.{page_kept}
 use Rattle.x64_memory.proofs.Paging.{stretch_none, stretch_some}
 use Rattle.x64_memory.proofs.page_map.PageMapPaged.rest_of_page.Goals as goal
 

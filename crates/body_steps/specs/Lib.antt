@@ -1,4 +1,0 @@
-pub mod Views
-pub mod Stores
-pub mod Known
-pub mod Laws

@@ -1,0 +1,35 @@
+-- Parts of the text of a meaning.
+use Rattle.std.proofs.Common.{◌≡◌, ℕ, List, ◌++◌, refl, sym, ap, ◌∙◌, append_assoc, Option, Some}
+use Rattle.std.proofs.Common.{None}
+use Rattle.std.specs.Prelude.{Bool, unwrap_or}
+use Rattle.seh_num.specs.declared.event.Event.{Event}
+use Rattle.seh_num.specs.Shown.{Shown}
+use Rattle.seh_io.specs.Text.{lines}
+use Rattle.seh_io.specs.Successive.{lines_append}
+use Rattle.source_meaning.specs.declared.ended.Ended.{Ended}
+use Rattle.source_meaning.specs.declared.ended.Ended.TheVariants.{OutOfSteps}
+use Rattle.c_meaning.specs.Texts.{ended_within, ended_line, text}
+
+within : (n : ℕ) (o : Option Ended) → unwrap_or o (OutOfSteps n) ≡ ended_within n o
+within n None = refl
+within n (Some e) = refl
+
+-- the lines of what a program shows and the line of its end are its text
+pub whole_text : (trace traced : Bool) (n : ℕ) (shown : Shown Ended) (end : Option Ended)
+    (ended : Ended) (last : List ℕ) → traced ≡ trace → shown.end ≡ end
+    → ended ≡ unwrap_or end (OutOfSteps n) → last ≡ ended_line ended
+    → lines traced shown.events ++ last ≡ text trace n shown
+whole_text trace traced n shown end ended last same at is written =
+    let bytes = written ∙ ap ended_line (is ∙ within n end ∙ ap (ended_within n) (sym at)) in
+    λ i. lines (same i) shown.events ++ bytes i
+
+-- what was written of the front of the events is the front of the text
+pub front_of_text : (trace : Bool) (shown rest events : List Event) (end part others : List ℕ)
+    → lines trace shown ≡ part ++ others → shown ++ rest ≡ events
+    → lines trace events ++ end ≡ part ++ (others ++ (lines trace rest ++ end))
+front_of_text trace shown rest events end part others b f =
+    ap (λ es. lines trace es ++ end) (sym f)
+    ∙ ap (λ t. t ++ end) (lines_append trace shown rest)
+    ∙ append_assoc (lines trace shown) (lines trace rest) end
+    ∙ ap (λ t. t ++ (lines trace rest ++ end)) b
+    ∙ append_assoc part others (lines trace rest ++ end)

@@ -1,0 +1,68 @@
+use Rattle.std.proofs.Common.{◌++◌, refl, sym, ap, ◌∙◌, rules, w64, to_z, of_z}
+use Rattle.std.proofs.lemmas.Int.{to_z-of_z}
+use Rattle.seh_io.specs.Text.{lines}
+use Rattle.seh_io.proofs.Writers.{ran_whole, ran_part, same_grew, same_part}
+use Rattle.c_checked.specs.Whole as whole
+use Rattle.source_meaning.specs.Meaning as meaning
+use Rattle.c_meaning.specs.Texts as texts
+use Rattle.c_meaning.proofs.TextLemmas.{whole_text, front_of_text}
+use Rattle.c_meaning.proofs.interpret.interpret.Goals as goal
+
+pub returns-in_default-clause-part : goal.returns-in_default-clause-part
+returns-in_default-clause-part g c =
+    let again = to_z w64 (of_z w64 c.args.arg) in
+    let shown = meaning.meaning (whole.program c.args.program.now) again c.args.budget in
+    let text_is = ap (λ a. texts.text c.args.trace c.args.budget
+    (meaning.meaning (whole.program c.args.program.now) a c.args.budget))
+    (to_z-of_z w64 c.args.arg c.ranges.arg) in
+    let q = c.in_default.ensures.part in
+    let w = q.took_shown.wrote in
+    let end = texts.ended_line (texts.ended_within c.args.budget shown.end) in (
+      w.part,
+      (
+        w.begins.0 ++ (lines c.args.trace q.front.0 ++ end),
+        sym text_is ∙ front_of_text c.args.trace q.shown q.front.0 shown.events end w.part
+            w.begins.0 (ap (λ b. lines b q.shown) (sym c.new-lines.ensures.trace) ∙ w.begins.1)
+            q.front.1,
+      ),
+      same_grew (g.O.Sink.taken c.new-lines.result.sink.now) (g.O.Sink.taken c.args.sink.now)
+          (g.O.Sink.taken c.run_program.new.to.sink.now) _ w.part w.part
+          (ap g.O.Sink.taken c.new-lines.ensures.sink) refl (search rules) w.grew,
+    )
+
+pub returns-in-Ok-outcome-clause-text : goal.returns-in-Ok-outcome-clause-text
+returns-in-Ok-outcome-clause-text g c =
+    let again = to_z w64 (of_z w64 c.args.arg) in
+    let shown = meaning.meaning (whole.program c.args.program.now) again c.args.budget in
+    let text_is = ap (λ a. texts.text c.args.trace c.args.budget
+    (meaning.meaning (whole.program c.args.program.now) a c.args.budget))
+    (to_z-of_z w64 c.args.arg c.ranges.arg) in
+    let means = c.in-Ok.ensures.means in
+    let whole_is = whole_text c.args.trace c.new-lines.result.trace c.args.budget shown c.in-Ok.end
+    _ c.as_bytes.result.now c.new-lines.ensures.trace means.ended
+    c.unwrap_or-ended.ensures (c.as_bytes.ensures.value ∙ c.ended_line.ensures) in
+    same_grew (g.O.Sink.taken c.new-lines.result.sink.now) (g.O.Sink.taken c.args.sink.now)
+    (g.O.Sink.taken c.put.new.self.sink.now) _ _ _
+    (ap g.O.Sink.taken c.new-lines.ensures.sink)
+    (whole_is ∙ text_is)
+    (search rules)
+    (ran_whole _ _ _ _ _ means.took_events.wrote c.put.ensures.wrote c.in-Ok-outcome.ensures)
+
+pub returns-clause-part : goal.returns-clause-part
+returns-clause-part g c =
+    let again = to_z w64 (of_z w64 c.args.arg) in
+    let shown = meaning.meaning (whole.program c.args.program.now) again c.args.budget in
+    let text_is = ap (λ a. texts.text c.args.trace c.args.budget
+    (meaning.meaning (whole.program c.args.program.now) a c.args.budget))
+    (to_z-of_z w64 c.args.arg c.ranges.arg) in
+    let means = c.in-Ok.ensures.means in
+    let whole_is = whole_text c.args.trace c.new-lines.result.trace c.args.budget shown c.in-Ok.end
+    _ c.as_bytes.result.now c.new-lines.ensures.trace means.ended
+    c.unwrap_or-ended.ensures (c.as_bytes.ensures.value ∙ c.ended_line.ensures) in
+    same_part (g.O.Sink.taken c.new-lines.result.sink.now) (g.O.Sink.taken c.args.sink.now)
+    (g.O.Sink.taken c.put.new.self.sink.now) _ _ _ c.in-Err.fault.taken
+    (ap g.O.Sink.taken c.new-lines.ensures.sink)
+    (whole_is ∙ text_is)
+    (search rules)
+    (ran_part _ _ _ _ _ means.took_events.wrote c.put.ensures.wrote c.in-Err.fault.taken
+    c.new-lines.ensures.taken (c.in-Err.ensures).1)

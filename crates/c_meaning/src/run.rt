@@ -1,0 +1,159 @@
+//! Whole runs.
+
+ghost use Rattle.std.specs.Prelude.{◌≡◌, ◌≤◌, ◌++◌, [], List, false, IfOk, OnErr, MatchOption, length, Some, option_map, slice_get};
+ghost use Rattle.seh_num.specs.declared.event.Event.{Event as Event'};
+ghost use Rattle.c_checked.specs.Whole as whole;
+ghost use Rattle.source_meaning.specs.Source.{data_end as model_data_end};
+ghost use Rattle.source_meaning.specs.Meaning as meaning;
+ghost use Rattle.source_machine.specs.Frames as frames;
+ghost use Rattle.source_machine.specs.StepLaws.{is_over};
+ghost use Rattle.source_plans.specs.Views as views;
+ghost use Rattle.source_steps.specs.Machines.{machine_of, state_of};
+ghost use Rattle.source_machine.specs.Runs as model_runs;
+ghost use Rattle.c_meaning.specs.Runs as runs;
+ghost use Rattle.c_meaning.specs.Runs.{Turned, Ran, ShownPart, Means, MeansPart};
+
+use c_checked::checked::Checked;
+use seh_io::receiver::Events;
+use seh_num::extension::wrap;
+use seh_num::width::Width;
+use source_meaning::ended::Ended;
+use source_operations::memory::{data_end, first_memory};
+use source_plans::frame::{Action, Callee, Completion, Finish, Next};
+use source_plans::place::{NO_EXCEPTION, Place};
+use source_steps::activations::Activations;
+use source_steps::calls::low_signed;
+use source_steps::machine::{Machine, MachineStep};
+use std::alloc::{AllocError, Global};
+
+/// How the run ended, if it is over.
+fn finish_of(next: &Next<'_>) -> Option<Finish>
+    ensures { MatchOption result (is_over (views.next_of next.now) ≡ false)
+        (λ how. views.next_of next.now ≡ frames.Over (views.finish_of how)) }
+{
+    match next {
+        Next::Does(Action::Over(how)) => Some(*how),
+        _ => None,
+    }
+}
+
+/// One step, whose event the receiver takes.
+fn turn<'p, V: Events>(
+    alloc: Global,
+    program: &'p Checked,
+    data_end: u64,
+    machine: &mut Machine<'p>,
+    next: Next<'p>,
+    to: &mut V,
+) -> Result<Next<'p>, AllocError>
+    requires { data_end ≡ model_data_end program.now.globals.items }
+    ensures turned { IfOk result (λ after. Turned V.took (whole.program program.now) machine.old
+        (views.next_of next.entry) to.old machine.new (views.next_of after) to.new) }
+    ensures nothing { OnErr result (V.took to.old [] to.new) }
+{
+    let MachineStep { next, shown } = machine.step(alloc, program, data_end, next)?;
+    match shown {
+        None => Ok(next),
+        Some(event) => {
+            to.take(&event);
+            Ok(next)
+        }
+    }
+}
+
+/// Runs the machine until its run is over; the receiver takes what is shown.
+fn run<'p, V: Events>(
+    alloc: Global,
+    program: &'p Checked,
+    data_end: u64,
+    machine: &mut Machine<'p>,
+    first: Next<'p>,
+    to: &mut V,
+) -> Result<Finish, AllocError>
+    requires { data_end ≡ model_data_end program.now.globals.items }
+    ensures ran { IfOk result (λ how. Ran V.took (whole.program program.now)
+        (machine_of machine.old (views.next_of first.entry) [])
+        (views.finish_of how) to.old to.new) }
+    ensures part { OnErr result (ShownPart V.took (whole.program program.now)
+        (machine_of machine.old (views.next_of first.entry) []) to.old to.new) }
+{
+    let mut next = first;
+    loop {
+        if let Some(how) = finish_of(&next) {
+            return Ok(how);
+        }
+        next = turn(alloc, program, data_end, machine, next, to)?;
+    }
+}
+
+/// The machine with which a program begins.
+fn first_machine<'p>(
+    alloc: Global,
+    program: &'p Checked,
+    budget: u64,
+) -> Result<Machine<'p>, AllocError>
+    ensures { IfOk result (λ m. (next : frames.Next) → machine_of m next [] ≡ model_runs.beginning
+        (whole.program program.now) budget next) }
+{
+    Ok(Machine {
+        steps_left: budget,
+        memory: first_memory(alloc, &program.globals)?,
+        activations: Activations::new(alloc),
+        held: 0,
+        handlers: Vec::new(alloc),
+        stack: Vec::new(alloc),
+    })
+}
+
+/// The arguments of `main`: the argument of the run, where `main` has a parameter.
+fn main_arguments(alloc: Global, program: &Checked, arg: i64) -> Result<Vec<u64>, AllocError>
+    ensures { IfOk result (λ vs. let p = whole.program program.now in vs.items
+        ≡ meaning.main_arguments (slice_get p.functions p.main) arg) }
+{
+    let mut arguments = Vec::new(alloc);
+    if let Some(main) = program.functions.get(program.main as usize) {
+        if !main.parameters.is_empty() {
+            arguments.push(wrap(Width::W64, i128::from(arg)))?;
+        }
+    }
+    Ok(arguments)
+}
+
+/// How a program ended, by what its `main` came to.
+fn end_of(finish: Finish) -> Option<Ended>
+    ensures { result ≡ runs.end_of (views.finish_of finish) }
+{
+    match finish {
+        Finish::Gave(Completion::Value(value)) => Some(Ended::Exit(low_signed(value))),
+        Finish::Gave(_) => None,
+        Finish::Ended(ended) => Some(ended),
+        Finish::OutOfSteps => None,
+    }
+}
+
+/// Runs a program within some steps; the receiver takes what it shows. No end is the end within
+/// them.
+pub fn run_program<V: Events>(
+    alloc: Global,
+    program: &Checked,
+    arg: i64,
+    budget: u64,
+    to: &mut V,
+) -> Result<Option<Ended>, AllocError>
+    ensures means { IfOk result (λ end. Means V.took (meaning.meaning
+        (whole.program program.now) arg budget) end to.old to.new) }
+    ensures part { OnErr result (MeansPart V.took (meaning.meaning
+        (whole.program program.now) arg budget) to.old to.new) }
+{
+    let place = Place {
+        activation: 0,
+        exception: NO_EXCEPTION,
+        abnormal: false,
+    };
+    let arguments = main_arguments(alloc, program, arg)?;
+    let mut machine = first_machine(alloc, program, budget)?;
+    let first = Next::Call(Callee::Defined(program.main), arguments, place);
+    let end = data_end(&program.globals);
+    let finish = run(alloc, program, end, &mut machine, first, to)?;
+    Ok(end_of(finish))
+}

@@ -1,4 +1,0 @@
-pub mod StepsLeft
-pub mod Runs
-pub mod Tameness
-pub mod Computed

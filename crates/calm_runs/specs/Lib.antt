@@ -1,4 +1,0 @@
-pub mod Tame
-pub mod Plain
-pub mod Laws
-pub mod Rows

@@ -1,5 +1,0 @@
-pub mod ExpressionRooms
-pub mod StatementRooms
-pub mod Programs
-pub mod CodeIsBounded
-pub mod Fitting

@@ -1,3 +1,0 @@
-pub mod ShallowOperators
-pub mod ShallowExpressions
-pub mod Frames

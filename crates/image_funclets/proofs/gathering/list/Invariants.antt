@@ -1,7 +1,0 @@
-use Rattle.std.proofs.Common.{◌≡◌, ◌++◌}
-use Rattle.image_funclets.specs.Listed.{funclets_of}
-use Rattle.image_funclets.proofs.gathering.list.Given as goal
-
-abbrev pub invariant-loop-address : goal.invariant-loop-address
-invariant-loop-address l = l.funclets.items ++ funclets_of l.address-iterator
-    ≡ funclets_of l.gathered.entries

@@ -1,0 +1,308 @@
+-- The image of routines that have room can be written.
+use Rattle.std.proofs.Common.{◌≡◌, ℕ, zero, suc, ◌+◌, ◌-◌, ◌*◌, ◌^◌, ◌<◌, ◌≤◌, ◌==◌, Bool, true, false, not, List, [], ◌∷◌, ◌++◌, length, get_or, take, drop, map, None, Result, Ok, Err, refl, sym, ap, subst, ◌∙◌, arith, length-append}
+use Rattle.std.specs.Prelude.{◌&&◌, IfOk}
+use Rattle.std.specs.List.{AllByRecursion}
+use Rattle.std.proofs.lemmas.Bool.{eq-eqb}
+use Rattle.linear_code.specs.Program.{LinearBody, LinearFunction, LinearFunclet, LinearProgram}
+use Rattle.x64_emit.proofs.Nearby.{code_in_room}
+use Rattle.pe_write.specs.Program.{CanBeImage, rdata_at, xdata_at}
+use Rattle.pe_write.specs.declared.sizes.Sizes.{Sizes}
+use Rattle.image_link.specs.declared.routine.Entry.TheVariants as entries
+use Rattle.image_link.specs.Routines.{RoutineView, is_leaf, framed, leaf_if, functions_from, funclet, routines}
+use Rattle.image_link.specs.Near.{IsRoutineNear, IsSiteNear, HasPlaces}
+use Rattle.eh_tables.specs.Written.{table_bytes}
+use Rattle.image_link.specs.Text.{SiteView, room, routine_size, bounds, text_bytes}
+use Rattle.image_link.specs.Tables.{infos_room, infos, ranges}
+use Rattle.image_link.specs.Linked.{data_size, first, total, front_sizes, site, image_of}
+use Rattle.image_link.specs.Fits.{FitsProgram, tables_room, function_bodies, funclet_bodies, program_tables_room}
+use Rattle.image_link.specs.Laws.{ImagesAreSmall}
+use Rattle.image_link.proofs.Entries.{entry_small, framed_some}
+use Rattle.image_link.proofs.Nearness.{routines_near, routines_room}
+use Rattle.image_link.proofs.Bounds.{bounds_length, bounds_end, bounds_least, bounds_below, total_small, bounds_near, take_near, drop_near, text_length, infos_length, tables_small, count_small}
+use Rattle.seh_num.specs.declared.limit.TheConstants.{MOST_GLOBALS}
+
+pub if_ok : {A E : Type 0} (P Q : A → Type 0) (r : Result A E) → ((x : A) → P x → Q x) → IfOk r P
+    → IfOk r Q
+if_ok P Q (Ok x) f p = f x p
+if_ok P Q (Err e) f p = tt
+
+-- ---- bounds
+
+pub there : (b : List ℕ) (at : ℕ) (rs : List RoutineView) (i : ℕ) → b ≡ bounds at rs → i ≤ length rs
+    → i < length b
+there b at rs i e le = let l = ap length e in omega (arith, bounds_length at rs)
+
+pub past : (b : List ℕ) (at : ℕ) (rs : List RoutineView) (i text : ℕ) → b ≡ bounds at rs
+    → i ≤ length rs → text ≤ at → text ≤ get_or b i 0
+past b at rs i text e le lt = let l = bounds_least at rs i 0 le in
+    let s = ap (λ (xs : List ℕ). get_or xs i 0) e in omega arith
+
+pub text_size : (b : List ℕ) (at text : ℕ) (rs : List RoutineView) → b ≡ bounds at rs
+    → at ≡ text + 51 → get_or b (length rs) 0 - text ≡ 51 + total rs
+text_size b at text rs e is = let l = bounds_end at rs 0 in
+    let s = ap (λ (xs : List ℕ). get_or xs (length rs) 0) e in omega arith
+
+pub site_near : (g : List ℕ) (rs : List RoutineView) (functions main : ℕ) → length g ≤ MOST_GLOBALS
+    → AllByRecursion IsRoutineNear rs → HasPlaces rs functions main
+    → IsSiteNear (site g rs functions)
+site_near g rs functions main few near places =
+    let t = total_small rs near in
+    let r = places.room in
+    let b = bounds_near (first g) rs near (omega arith) in
+    record {
+      text = omega arith;
+      rdata = omega arith;
+      functions = take_near functions (bounds (first g) rs) b;
+      funclets = drop_near functions (bounds (first g) rs) b;
+    }
+
+pub tables_fit : (g : List ℕ) (rs : List RoutineView) (functions main : ℕ) → length g ≤ MOST_GLOBALS
+    → AllByRecursion IsRoutineNear rs → HasPlaces rs functions main
+    → xdata_at (front_sizes g rs) + infos_room rs < 2 ^ 31
+tables_fit g rs functions main few near places = let t = total_small rs near in
+    let r = places.room in omega arith
+
+pub rdata_fits : (g : List ℕ) (rs : List RoutineView) (functions main : ℕ) → length g ≤ MOST_GLOBALS
+    → AllByRecursion IsRoutineNear rs → HasPlaces rs functions main
+    → xdata_at (front_sizes g rs) < 2 ^ 31
+rdata_fits g rs functions main few near places = let t = total_small rs near in
+    let r = places.room in omega arith
+
+pub is_program : (g : List ℕ) (rs : List RoutineView) (functions main : ℕ) → length g ≤ MOST_GLOBALS
+    → AllByRecursion IsRoutineNear rs → HasPlaces rs functions main → (d : RoutineView)
+    → CanBeImage (image_of g rs functions main)
+is_program g rs functions main few near places d =
+    let s = site g rs functions in
+    let t = total_small rs near in
+    let r = places.room in
+    let n = count_small rs in
+    let text = text_length s rs near in
+    let xdata = infos_length s (first g) rs in
+    let pdata = tables_small s (xdata_at (front_sizes g rs)) (first g) rs in
+    let some = places.some d in
+    let below = bounds_below (first g) rs main 0 d places.there in
+    record {
+      whole = omega arith;
+      some = omega arith;
+      stored = omega arith;
+      entry = omega arith;
+      end = omega arith;
+    }
+
+-- ---- what the code has computed
+
+abbrev pub got_sizes : ℕ → ℕ → Sizes
+got_sizes size_of_data t = record {
+  data_size = size_of_data;
+  text_size = t;
+  xdata_size = 0;
+  pdata_size = 0;
+}
+
+-- what is known where routines between bounds are linked: the bytes of `.data`, and those of the text
+pub record IsMeasured (g b : List ℕ) (rs : List RoutineView)
+    (functions main size_of_data t : ℕ) : Type 0 where
+  pub few : length g ≤ MOST_GLOBALS
+  pub near : AllByRecursion IsRoutineNear rs
+  pub places : HasPlaces rs functions main
+  pub sized : size_of_data ≡ data_size g
+  pub between : b ≡ bounds (first g) rs
+  pub text : t ≡ get_or b (length rs) 0 - (4096 + size_of_data)
+
+module _ (g b : List ℕ) (rs : List RoutineView) (functions main size_of_data t : ℕ)
+    (h : IsMeasured g b rs functions main size_of_data t) where
+  sizes_are : got_sizes size_of_data t ≡ front_sizes g rs
+  sizes_are =
+      let d = h.sized in
+      let begin : first g ≡ (4096 + size_of_data) + 51 = omega arith in
+      let same : t ≡ 51 + total rs = h.text ∙ text_size b (first g) (4096 + size_of_data) rs
+      h.between begin in
+      λ i. record { data_size = d i; text_size = same i; xdata_size = 0; pdata_size = 0 }
+
+  pub rdata_small : (rdata : ℕ) → rdata ≡ rdata_at (got_sizes size_of_data t) → rdata < 2 ^ 31
+  rdata_small rdata r = let s = ap rdata_at sizes_are in
+      let f = rdata_fits g rs functions main h.few h.near h.places in omega arith
+
+  pub xdata_small : (xdata : ℕ) → xdata ≡ xdata_at (got_sizes size_of_data t)
+      → xdata + infos_room rs < 2 ^ 31
+  xdata_small xdata r = let s = ap xdata_at sizes_are in
+      let f = tables_fit g rs functions main h.few h.near h.places in omega arith
+
+  module _ (s : SiteView) (rdata : ℕ) (is : s
+      ≡ record {
+        text = 4096 + size_of_data;
+        rdata = rdata;
+        functions = take functions b;
+        funclets = drop functions b;
+      })
+      (r : rdata ≡ rdata_at (got_sizes size_of_data t)) where
+    site_is : s ≡ site g rs functions
+    site_is =
+        let d = h.sized in
+        let e = h.between in
+        let same : rdata ≡ rdata_at (front_sizes g rs) = r ∙ ap rdata_at sizes_are in
+        is ∙ λ i. record {
+          text = 4096 + d i;
+          rdata = same i;
+          functions = take functions (e i);
+          funclets = drop functions (e i);
+        }
+
+    pub is_site_near : IsSiteNear s
+    is_site_near = subst IsSiteNear (sym site_is)
+        (site_near g rs functions main h.few h.near h.places)
+
+    pub image_is : (at entry : ℕ) (text xdata pdata : List ℕ)
+        → at ≡ xdata_at (got_sizes size_of_data t) → entry ≡ get_or b main 0 - (4096 + size_of_data)
+        → text ≡ text_bytes s rs → xdata ≡ infos s (4096 + size_of_data + 51) rs
+        → pdata ≡ table_bytes (ranges s at (4096 + size_of_data + 51) rs)
+        → record {
+          data_size = size_of_data;
+          data_bytes = g;
+          text = text;
+          entry = entry;
+          xdata = xdata;
+          pdata = pdata;
+        } ≡ image_of g rs functions main
+    image_is at entry text xdata pdata x n k i p =
+        let d = h.sized in
+        let of = site g rs functions in
+        let begin : 4096 + size_of_data + 51 ≡ first g = omega arith in
+        let table = x ∙ ap xdata_at sizes_are in
+        let text' = k ∙ ap (λ (s : SiteView). text_bytes s rs) site_is in
+        let entry' = n ∙ ap (λ (xs : List ℕ). get_or xs main 0 - (4096 + size_of_data)) h.between
+        ∙ ap (λ (n : ℕ). get_or (bounds (first g) rs) main 0 - (4096 + n)) d in
+        let xdata' = i ∙ ap (λ (s : SiteView). infos s (4096 + size_of_data + 51) rs) site_is
+        ∙ ap (λ (n : ℕ). infos of n rs) begin in
+        let pdata' = p ∙ ap (λ (s : SiteView). table_bytes
+        (ranges s at (4096 + size_of_data + 51) rs)) site_is
+        ∙ ap (λ (n : ℕ). table_bytes (ranges of n (4096 + size_of_data + 51) rs)) table
+        ∙ ap (λ (n : ℕ). table_bytes (ranges of (xdata_at (front_sizes g rs)) n rs)) begin in
+        λ i. record {
+          data_size = d i;
+          data_bytes = g;
+          text = text' i;
+          entry = entry' i;
+          xdata = xdata' i;
+          pdata = pdata' i;
+        }
+
+abbrev pub no_routine : RoutineView
+no_routine = record {
+  entry = entries.Function 0;
+  frame = None;
+  layout = record { base = None; pointers = 0; locals = 0; temporaries = 0; frame = 0 };
+  body = record { locals = 0; temporaries = 0; passed = 0; code = []; regions = [] };
+}
+
+-- ---- programs
+
+functions_count : (main index : ℕ) (fs : List LinearFunction)
+    → length (functions_from main index fs) ≡ length fs
+functions_count main index [] = refl
+functions_count main index (f ∷ fs) = let c = functions_count main (suc index) fs in omega arith
+
+functions_main : (main index i : ℕ) (fs : List LinearFunction) (d : RoutineView)
+    (e : LinearFunction) → i < length fs → index + i ≡ main
+    → get_or (functions_from main index fs) i d ≡ framed (get_or fs i e)
+functions_main main index i [] d e lt is = absurd (omega arith)
+functions_main main index zero (f ∷ fs) d e lt is = ap
+    (λ (b : Bool). leaf_if (not b && is_leaf f.body) f)
+    (eq-eqb index main (let z : index ≡ main = omega arith in z))
+functions_main main index (suc i) (f ∷ fs) d e lt is = functions_main main (suc index) i fs d e
+    (omega arith) (let z : suc index + i ≡ main = omega arith in z)
+
+get_first : (a b : List RoutineView) (i : ℕ) (d : RoutineView) → i < length a
+    → get_or (a ++ b) i d ≡ get_or a i d
+get_first [] b i d lt = absurd (omega arith)
+get_first (r ∷ a) b zero d lt = refl
+get_first (r ∷ a) b (suc i) d lt = get_first a b i d (omega arith)
+
+abbrev no_function : LinearFunction
+no_function = record {
+  parameters = 0;
+  body =
+      record { locals = 0; temporaries = 0; passed = 0; code = []; regions = [] };
+}
+
+main_is : (p : LinearProgram) → FitsProgram p → (d : RoutineView)
+    → get_or (routines p) p.main d ≡ framed (get_or p.functions p.main no_function)
+main_is p fits d =
+    let lt = fits.main in
+    let c = functions_count p.main 0 p.functions in
+    get_first (functions_from p.main 0 p.functions) (map (funclet p) p.funclets) p.main d
+    (omega arith) ∙ functions_main p.main 0 p.main p.functions d no_function lt
+    (let z : 0 + p.main ≡ p.main = omega arith in z)
+
+same_body : (b : Bool) (f : LinearFunction) → (leaf_if b f).body ≡ f.body
+same_body true f = refl
+same_body false f = refl
+
+functions_tables : (main index : ℕ) (fs : List LinearFunction)
+    → infos_room (functions_from main index fs) ≡ tables_room (function_bodies fs)
+functions_tables main index [] = refl
+functions_tables main index (f ∷ fs) =
+    let r = functions_tables main (suc index) fs in
+    let s = ap (λ (b : LinearBody). length b.regions)
+    (same_body (not (index == main) && is_leaf f.body) f) in
+    omega arith
+
+funclets_tables : (p : LinearProgram) (fs : List LinearFunclet)
+    → infos_room (map (funclet p) fs) ≡ tables_room (funclet_bodies fs)
+funclets_tables p [] = refl
+funclets_tables p (f ∷ fs) = let r = funclets_tables p fs in omega arith
+
+both_tables : (a b : List RoutineView) → infos_room (a ++ b) ≡ infos_room a + infos_room b
+both_tables [] b = omega arith
+both_tables (r ∷ a) b = let s = both_tables a b in omega arith
+
+tables_are : (p : LinearProgram) → infos_room (routines p) ≡ program_tables_room p
+tables_are p =
+    let u = functions_tables p.main 0 p.functions in
+    let v = funclets_tables p p.funclets in
+    omega (arith, both_tables (functions_from p.main 0 p.functions) (map (funclet p) p.funclets))
+
+pub has_places : (p : LinearProgram) → FitsProgram p
+    → HasPlaces (routines p) (length p.functions) p.main
+has_places p fits =
+    let c = functions_count p.main 0 p.functions in
+    let a = functions_from p.main 0 p.functions in
+    let b = map (funclet p) p.funclets in
+    let lt = fits.main in
+    let t = fits.small in
+    let u = tables_are p in
+    let v = routines_room p in
+    record {
+      room = omega arith;
+      fewer = omega (arith, length-append a b);
+      there = omega (arith, length-append a b);
+      some = λ d. subst (λ (r : RoutineView). 0 < routine_size r) (sym (main_is p fits d))
+          (framed_some (get_or p.functions p.main no_function));
+    }
+
+-- its entries take no more than what no entry of a routine needs of its room
+entries_small : (rs : List RoutineView) → AllByRecursion IsRoutineNear rs
+    → total rs + 12 * length rs ≤ room rs
+entries_small [] near = omega arith
+entries_small (r ∷ rs) near =
+    let e = entry_small r near.0 in
+    let b = code_in_room r.layout r.body.code near.0.code in
+    let t = entries_small rs near.1 in
+    omega arith
+
+-- the image of a program that fits takes at most 256 MiB
+pub images_are_small : ImagesAreSmall
+images_are_small p fits =
+    let g = p.globals in
+    let rs = routines p in
+    let near = routines_near p fits in
+    let s = site g rs (length p.functions) in
+    let t = entries_small rs near in
+    let v = routines_room p in
+    let u = tables_are p in
+    let few = fits.globals in
+    let small = fits.small in
+    let text = text_length s rs near in
+    let xdata = infos_length s (first g) rs in
+    let pdata = tables_small s (xdata_at (front_sizes g rs)) (first g) rs in
+    omega arith

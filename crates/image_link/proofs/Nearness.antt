@@ -1,0 +1,234 @@
+-- Each routine of a program that fits is near, and all of them have room.
+use Rattle.std.proofs.Common.{◌≡◌, ℕ, suc, ◌+◌, ◌<◌, ◌≤◌, ◌==◌, Bool, true, false, not, List, [], ◌∷◌, ◌++◌, length, map, Option, Some, None, refl, ap, arith}
+use Rattle.std.specs.Prelude.{◌&&◌}
+use Rattle.std.specs.List.{AllByRecursion}
+use Rattle.linear_code.specs.declared.slot.Slot.{Slot}
+use Rattle.linear_code.specs.declared.slot.Slot.TheVariants.{Local, Temporary}
+use Rattle.linear_code.specs.declared.instruction.Instruction.{Instruction}
+use Rattle.linear_code.specs.declared.instruction.Instruction.TheVariants as instructions
+use Rattle.linear_code.specs.declared.program.FuncletKind.{FuncletKind}
+use Rattle.linear_code.specs.declared.program.FuncletKind.TheVariants.{Filter, Finally}
+use Rattle.linear_code.specs.Program.{LinearBody, LinearFunction, LinearFunclet, LinearProgram}
+use Rattle.template_code.specs.declared.layout.Layout.{Layout}
+use Rattle.x64_emit.specs.Near.{IsBaseNear, IsSlotNear, IsInstructionNear}
+use Rattle.x64_emit.specs.Entries.{IsParentNear}
+use Rattle.x64_emit.specs.Rooms.{code_room}
+use Rattle.x64_emit.proofs.Nearby.{all_at}
+use Rattle.image_link.specs.Routines.{RoutineView, is_leaf, function_frame, leaf_layout, function_layout, leaf, framed, leaf_if, functions_from, funclet_frame, nothing, body_of_function, body_of_funclet, kept_by, HasParent, entry_of, funclet_layout, funclet, routines}
+use Rattle.image_link.specs.Near.{IsEntryNear, IsRoutineNear}
+use Rattle.image_link.specs.Text as texts
+use Rattle.image_link.specs.Fits.{FitsSlot, FitsInstruction, FitsBody, FitsFunction, FitsKind, FitsFunclet, room, function_bodies, funclet_bodies, text_room, FitsProgram}
+
+-- a layout all of whose parts are within 16,384 bytes
+record IsLow (y : Layout) : Type 0 where
+  base : IsBaseNear y.base
+  pointers : y.pointers ≤ 16384
+  locals : y.locals ≤ 16384
+  temporaries : y.temporaries ≤ 16384
+  frame : y.frame ≤ 16384
+
+-- ---- instructions
+
+slot_near : (y : Layout) (b : LinearBody) (x : Slot) → IsLow y → FitsBody b → FitsSlot b x
+    → IsSlotNear y x
+slot_near y b (Temporary i) low fits lt = let t = low.temporaries in let w = fits.words in
+    omega arith
+slot_near y b (Local i) low fits lt = (
+  let l = low.locals in let w = fits.words in
+      omega arith,
+  low.base,
+)
+
+instruction_near : (y : Layout) (b : LinearBody) (i : Instruction) → IsLow y → FitsBody b
+    → FitsInstruction b i → IsInstructionNear y i
+instruction_near y b (instructions.Compute to o first second) low fits h = (
+  slot_near y b to low fits h.0,
+  slot_near y b first low fits h.1,
+  slot_near y b second low fits h.2,
+)
+instruction_near y b (instructions.Information to field) low fits h =
+    (slot_near y b to low fits h.0, (let p = low.pointers in omega arith), h.1)
+instruction_near y b (instructions.Landing to) low fits h = slot_near y b to low fits h
+instruction_near y b (instructions.Jump label) low fits h = tt
+instruction_near y b (instructions.JumpIfZero slot label) low fits h = slot_near y b slot low fits h
+instruction_near y b (instructions.Call function first count) low fits h =
+    let t = low.temporaries in let w = fits.words in let a = h.0 in
+    record { few = h.1; temporaries = omega arith }
+instruction_near y b (instructions.CallBuiltIn function first) low fits h =
+    let t = low.temporaries in let w = fits.words in
+    record { few = omega arith; temporaries = omega arith }
+instruction_near y b (instructions.CallFinally f) low fits h = tt
+instruction_near y b (instructions.LocalUnwind label) low fits h = tt
+instruction_near y b instructions.Separator low fits h = tt
+instruction_near y b (instructions.Return from) low fits
+    h = (slot_near y b from low fits h, (let f = low.frame in omega arith))
+
+code_near : (y : Layout) (b : LinearBody) (is : List Instruction) → IsLow y → FitsBody b
+    → AllByRecursion (FitsInstruction b) is → AllByRecursion (IsInstructionNear y) is
+code_near y b [] low fits all = tt
+code_near y b (i ∷ is) low fits all = (
+  instruction_near y b i low fits all.0,
+  code_near y b is low fits all.1,
+)
+
+-- ---- functions
+
+leaf_near : (f : LinearFunction) → FitsFunction f → IsRoutineNear (leaf f)
+leaf_near f fits =
+    let w = fits.body.words in
+    let few = fits.parameters in
+    let low : IsLow (leaf_layout f.body) = record {
+      base = tt;
+      pointers = omega arith;
+      locals = omega arith;
+      temporaries = omega arith;
+      frame = omega arith;
+    } in
+    record {
+      frame = tt;
+      entry = (few, record { locals = omega arith; stack = omega arith });
+      code = code_near (leaf_layout f.body) f.body f.body.code low fits.body fits.body.code;
+      regions = fits.body.regions;
+    }
+
+framed_near : (f : LinearFunction) → FitsFunction f → IsRoutineNear (framed f)
+framed_near f fits =
+    let w = fits.body.words in
+    let few = fits.parameters in
+    let y = function_layout (function_frame f.body) in
+    let low : IsLow y = record {
+      base = tt;
+      pointers = omega arith;
+      locals = omega arith;
+      temporaries = omega arith;
+      frame = omega arith;
+    } in
+    record {
+      frame = (omega arith, omega arith);
+      entry = (few, record { locals = omega arith; stack = omega arith });
+      code = code_near y f.body f.body.code low fits.body fits.body.code;
+      regions = fits.body.regions;
+    }
+
+function_near : (b : Bool) (f : LinearFunction) → FitsFunction f → IsRoutineNear (leaf_if b f)
+function_near true f fits = leaf_near f fits
+function_near false f fits = framed_near f fits
+
+functions_near : (main index : ℕ) (fs : List LinearFunction) → AllByRecursion FitsFunction fs
+    → AllByRecursion IsRoutineNear (functions_from main index fs)
+functions_near main index [] all = tt
+functions_near main index (f ∷ fs) all = (
+  function_near (not (index == main) && is_leaf f.body) f
+      all.0,
+  functions_near main (suc index) fs all.1,
+)
+
+-- ---- funclets
+
+funclet_at : (p : LinearProgram) (index : ℕ) → FitsProgram p → index < length p.funclets
+    → FitsBody (body_of_funclet p index)
+funclet_at p index fits lt = (all_at (FitsFunclet p) p.funclets index
+    (record { kind = Filter; function = 0; parent = None; body = nothing }) fits.funclets lt).body
+
+function_at : (p : LinearProgram) (index : ℕ) → FitsProgram p → index < length p.functions
+    → FitsBody (body_of_function p index)
+function_at p index fits lt = (all_at FitsFunction p.functions index
+    (record { parameters = 0; body = nothing }) fits.functions lt).body
+
+parent_near : (p : LinearProgram) (o : Option ℕ) → FitsProgram p → HasParent p o
+    → IsParentNear (kept_by p o)
+parent_near p None fits h = tt
+parent_near p (Some index) fits h = let b = funclet_at p index fits h in let w = b.words in
+    omega arith
+
+funclet_low : (p : LinearProgram) (f : LinearFunclet) → FitsProgram p → FitsFunclet p f
+    → IsLow (funclet_layout (function_frame (body_of_function p f.function)) (funclet_frame f.body))
+funclet_low p f fits h =
+    let b = function_at p f.function fits h.function in
+    let v = b.words in
+    let w = h.body.words in
+    record {
+      base = omega arith;
+      pointers = omega arith;
+      locals = omega arith;
+      temporaries = omega arith;
+      frame = omega arith;
+    }
+
+entry_near : (p : LinearProgram) (f : LinearFunclet) (k : FuncletKind) → FitsProgram p
+    → FitsFunclet p f → FitsKind f.body k → IsEntryNear
+    (funclet_layout (function_frame (body_of_function p f.function)) (funclet_frame f.body))
+    (entry_of k (kept_by p f.parent))
+entry_near p f Filter fits h kind =
+    let w = h.body.words in (
+      record { parent_near = parent_near p f.parent fits h.parent; base_near = omega arith },
+      omega arith,
+    )
+entry_near p f (Finally flag) fits h kind =
+    let w = h.body.words in
+    let y = funclet_layout (function_frame (body_of_function p f.function))
+    (funclet_frame f.body) in (
+      record { parent_near = parent_near p f.parent fits h.parent; base_near = omega arith },
+      slot_near y f.body (Local flag) (funclet_low p f fits h) h.body kind,
+    )
+
+funclet_near : (p : LinearProgram) (f : LinearFunclet) → FitsProgram p → FitsFunclet p f
+    → IsRoutineNear (funclet p f)
+funclet_near p f fits h =
+    let w = h.body.words in
+    let y = funclet_layout (function_frame (body_of_function p f.function))
+    (funclet_frame f.body) in
+    record {
+      frame = (omega arith, omega arith);
+      entry = entry_near p f f.kind fits h h.kind;
+      code = code_near y f.body f.body.code (funclet_low p f fits h) h.body h.body.code;
+      regions = h.body.regions;
+    }
+
+funclets_near : (p : LinearProgram) (fs : List LinearFunclet) → FitsProgram p
+    → AllByRecursion (FitsFunclet p) fs → AllByRecursion IsRoutineNear (map (funclet p) fs)
+funclets_near p [] fits all = tt
+funclets_near p (f ∷ fs) fits all = (funclet_near p f fits all.0, funclets_near p fs fits all.1)
+
+-- ---- programs
+
+both_near : (a b : List RoutineView) → AllByRecursion IsRoutineNear a
+    → AllByRecursion IsRoutineNear b → AllByRecursion IsRoutineNear (a ++ b)
+both_near [] b p q = q
+both_near (r ∷ a) b p q = (p.0, both_near a b p.1 q)
+
+pub routines_near : (p : LinearProgram) → FitsProgram p → AllByRecursion IsRoutineNear (routines p)
+routines_near p fits = both_near (functions_from p.main 0 p.functions) (map (funclet p) p.funclets)
+    (functions_near p.main 0 p.functions fits.functions)
+    (funclets_near p p.funclets fits fits.funclets)
+
+-- ---- room
+
+same_body : (b : Bool) (f : LinearFunction) → (leaf_if b f).body ≡ f.body
+same_body true f = refl
+same_body false f = refl
+
+functions_room : (main index : ℕ) (fs : List LinearFunction)
+    → texts.room (functions_from main index fs) ≡ room (function_bodies fs)
+functions_room main index [] = refl
+functions_room main index (f ∷ fs) =
+    let r = functions_room main (suc index) fs in
+    let s = ap (λ (b : LinearBody). code_room b.code)
+    (same_body (not (index == main) && is_leaf f.body) f) in
+    omega arith
+
+funclets_room : (p : LinearProgram) (fs : List LinearFunclet)
+    → texts.room (map (funclet p) fs) ≡ room (funclet_bodies fs)
+funclets_room p [] = refl
+funclets_room p (f ∷ fs) = let r = funclets_room p fs in omega arith
+
+both_room : (a b : List RoutineView) → texts.room (a ++ b) ≡ texts.room a + texts.room b
+both_room [] b = omega arith
+both_room (r ∷ a) b = let s = both_room a b in omega arith
+
+-- all its routines have the room of its bodies
+pub routines_room : (p : LinearProgram) → texts.room (routines p) ≡ text_room p
+routines_room p =
+    let a = functions_room p.main 0 p.functions in
+    let b = funclets_room p p.funclets in
+    omega (arith, both_room (functions_from p.main 0 p.functions) (map (funclet p) p.funclets))

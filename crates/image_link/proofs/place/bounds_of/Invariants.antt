@@ -1,0 +1,11 @@
+use Rattle.std.proofs.Common.{◌≡◌, ◌++◌, ◌+◌, drop}
+use Rattle.image_link.specs.Text as spec
+use Rattle.image_link.proofs.place.bounds_of.Given as goal
+use Rattle.x64_emit.specs.Near.{IsNear}
+
+abbrev pub invariant-loop-routine : goal.invariant-loop-routine
+invariant-loop-routine l = record {
+  done : l.bounds.items ++ spec.bounds l.at (drop l.routine-index l.routines)
+      ≡ spec.bounds l.fn.start l.routines;
+  room : IsNear (l.at + spec.room (drop l.routine-index l.routines));
+}

@@ -1,0 +1,12 @@
+use Rattle.std.proofs.Common.{ap, arith}
+use Rattle.x64_emit.specs.Rooms.{code_room}
+use Rattle.image_link.specs.Routines.{RoutineView}
+use Rattle.image_link.proofs.place.labels_at.Goals as goal
+
+pub labels_of-requires-clause-room : goal.labels_of-requires-clause-room
+labels_of-requires-clause-room c =
+    let a = c.in_ok-start.ensures.small in
+    let b = ap code_room c.code.ensures in
+    let v = ap (λ (r : RoutineView). code_room r.body.code) c.routine.view_is in
+    let r = c.requires.room in
+    omega arith

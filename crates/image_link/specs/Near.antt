@@ -1,0 +1,48 @@
+-- Routines whose slots and frames 32-bit displacements reach.
+use Rattle.std.specs.Prelude.{ℕ, ◌+◌, ◌*◌, ◌<◌, ◌≤◌, List, length, get_or, Option, Some, None}
+use Rattle.std.specs.List.{AllByRecursion}
+use Rattle.seh_num.specs.declared.limit.TheConstants.{MOST_PARAMETERS}
+use Rattle.linear_code.specs.declared.slot.Slot.TheVariants.{Local}
+use Rattle.frame_layout.specs.declared.frame.FrameLayout.{FrameLayout}
+use Rattle.template_code.specs.declared.layout.Layout.{Layout}
+use Rattle.x64_emit.specs.Near.{AreNear, IsSlotNear, AreParametersNear, ArePointersNear, IsInstructionNear}
+use Rattle.x64_emit.specs.Entries.{IsKeptNear}
+use Rattle.image_link.specs.declared.routine.Entry.{Entry}
+use Rattle.image_link.specs.declared.routine.Entry.TheVariants as entries
+use Rattle.image_link.specs.Routines.{RoutineView}
+use Rattle.image_link.specs.Text.{SiteView, base_of, room, routine_size}
+use Rattle.image_link.specs.Tables.{infos_room}
+use Rattle.template_code.specs.declared.layout.TheConstants.{LARGEST_FRAME}
+use Rattle.host_layout.specs.declared.limit.TheConstants.{MOST_IMAGE}
+use Rattle.image_link.specs.Fits.{other_room}
+
+abbrev pub IsFrameNear : Option FrameLayout → Type 0
+IsFrameNear None = Unit {0}
+IsFrameNear (Some f) = (0 < f.size) × (f.size + 8 ≤ LARGEST_FRAME)
+
+abbrev pub IsEntryNear : Layout → Entry → Type 0
+IsEntryNear y (entries.Function count) = (count ≤ MOST_PARAMETERS) × AreParametersNear y count
+IsEntryNear y (entries.Filter parent) = IsKeptNear parent (base_of y y.base) × ArePointersNear y
+IsEntryNear y (entries.Finally parent flag) =
+    IsKeptNear parent (base_of y y.base) × IsSlotNear y (Local flag)
+
+pub record IsRoutineNear (r : RoutineView) : Type 0 where
+  pub frame : IsFrameNear r.frame
+  pub entry : IsEntryNear r.layout r.entry
+  pub code : AllByRecursion (IsInstructionNear r.layout) r.body.code
+  pub regions : 16 * length r.body.regions ≤ MOST_IMAGE
+
+-- the addresses that routines refer to
+pub record IsSiteNear (s : SiteView) : Type 0 where
+  pub text : s.text ≤ MOST_IMAGE
+  pub rdata : s.rdata ≤ MOST_IMAGE
+  pub functions : AreNear s.functions
+  pub funclets : AreNear s.funclets
+
+-- all routines and their tables have room in an image, whose first routine is a function and which
+-- begins at one that isn't empty
+pub record HasPlaces (rs : List RoutineView) (functions main : ℕ) : Type 0 where
+  pub room : room rs + infos_room rs + other_room ≤ MOST_IMAGE
+  pub fewer : functions ≤ length rs
+  pub there : main < length rs
+  pub some : (d : RoutineView) → 0 < routine_size (get_or rs main d)

@@ -1,0 +1,157 @@
+-- The text of a program: the thunks of its services, `__chkstk`, and its routines.
+use Rattle.std.specs.Prelude.{ℕ, ◌+◌, ◌*◌, List, [], ◌∷◌, ◌++◌, Option, Some, None}
+use Rattle.seh_num.specs.declared.width.Width.TheVariants.{W32}
+use Rattle.x64_instr.specs.declared.register.Reg.TheVariants.{Rax, Rcx}
+use Rattle.x64_instr.specs.declared.instruction.Instr.{Instr}
+use Rattle.linear_code.specs.declared.slot.Slot.TheVariants.{Local}
+use Rattle.frame_layout.specs.declared.frame.FrameLayout.{FrameLayout}
+use Rattle.frame_layout.specs.Layout.{plan_of}
+use Rattle.frame_rules.specs.Bytes.{prologue_code}
+use Rattle.host_layout.specs.declared.imported.ImportedService.{ImportedService}
+use Rattle.host_layout.specs.declared.imported.ImportedService.TheVariants.{RaiseException, CSpecificHandler, LocalUnwind, Protect, Put}
+use Rattle.host_layout.specs.declared.imported.TheConstants.{IMPORTED_COUNT}
+use Rattle.host_layout.specs.Imported.{number_of}
+use Rattle.pe_write.specs.ImportTables.{slot_of}
+use Rattle.template_code.specs.declared.layout.Layout.{Layout}
+use Rattle.template_code.specs.Bytes.{sizes}
+use Rattle.template_code.specs.Operations.{move}
+use Rattle.template_code.specs.Slots.{keep}
+use Rattle.template_code.specs.Jumps.{distance}
+use Rattle.template_code.specs.Calls.{keep_register, parameters_code}
+use Rattle.template_code.specs.Bytes.{spelled, thunk}
+use Rattle.template_code.specs.Probing.{check_stack}
+use Rattle.template_code.specs.Template.{Links, body_size, code_from}
+use Rattle.x64_emit.specs.declared.entry.TheConstants.{THUNK_SIZE}
+use Rattle.x64_emit.specs.declared.links.Thunks.{Thunks}
+use Rattle.x64_emit.specs.Rooms.{code_room}
+use Rattle.x64_emit.specs.Bodies.{label_list}
+use Rattle.x64_emit.specs.Entries.{keep_base}
+use Rattle.x64_emit.specs.Linking.{Addresses, links_of}
+use Rattle.image_link.specs.declared.place.TheConstants.{FRONT_SIZE}
+use Rattle.image_link.specs.declared.routine.Entry.{Entry}
+use Rattle.image_link.specs.declared.routine.Entry.TheVariants as entries
+use Rattle.image_link.specs.Routines.{RoutineView}
+
+-- ---- what comes before a body, for a routine that begins at an address
+
+abbrev pub frame_code : ℕ → ℕ → Option FrameLayout → List Instr
+frame_code at check None = []
+frame_code at check (Some f) = prologue_code (plan_of f (distance (at + 10) check))
+
+abbrev pub base_of : Layout → Option ℕ → ℕ
+base_of y None = 0
+base_of y (Some b) = b
+
+abbrev pub argument_code : Layout → Entry → List Instr
+argument_code y (entries.Function count) = parameters_code y 0 count
+argument_code y (entries.Filter parent) =
+    keep_base parent (base_of y y.base) ++ (keep_register Rcx y.pointers ∷ [])
+argument_code y (entries.Finally parent flag) =
+    keep_base parent (base_of y y.base) ++ (move W32 Rax Rcx ∷ keep y (Local flag))
+
+abbrev pub entry_code : ℕ → ℕ → RoutineView → List Instr
+entry_code at check r = frame_code at check r.frame ++ argument_code r.layout r.entry
+
+-- ---- sizes, which depend on no address
+
+unfoldable pub entry_size : RoutineView → ℕ
+entry_size r = sizes (entry_code 0 0 r)
+
+abbrev pub routine_size : RoutineView → ℕ
+routine_size r = entry_size r + body_size r.layout r.body.code
+
+-- how many bytes they take at most
+abbrev pub routine_room : RoutineView → ℕ
+routine_room r = 512 + code_room r.body.code
+
+abbrev pub room : List RoutineView → ℕ
+room [] = 0
+room (r ∷ rs) = routine_room r + room rs
+
+-- where routines begin, and where the last one ends
+abbrev pub bounds : ℕ → List RoutineView → List ℕ
+bounds at [] = at ∷ []
+bounds at (r ∷ rs) = at ∷ bounds (at + routine_size r) rs
+
+-- ---- thunks
+
+abbrev pub thunk_at : ℕ → ImportedService → ℕ
+thunk_at text s = text + THUNK_SIZE * number_of s
+
+abbrev pub thunks_at : ℕ → Thunks
+thunks_at text =
+    record {
+      put = thunk_at text Put;
+      protect = thunk_at text Protect;
+      raise_exception = thunk_at text RaiseException;
+      local_unwind = thunk_at text LocalUnwind;
+    }
+
+abbrev pub service_thunk : ℕ → ℕ → ImportedService → Instr
+service_thunk text rdata s =
+    thunk (distance (thunk_at text s + THUNK_SIZE) (rdata + slot_of s))
+
+abbrev pub check_stack_at : ℕ → ℕ
+check_stack_at text = text + THUNK_SIZE * IMPORTED_COUNT
+
+abbrev pub front_code : ℕ → ℕ → List Instr
+front_code text rdata =
+    service_thunk text rdata RaiseException
+    ∷ service_thunk text rdata CSpecificHandler
+    ∷ service_thunk text rdata LocalUnwind
+    ∷ service_thunk text rdata Protect
+    ∷ service_thunk text rdata Put
+    ∷ check_stack
+
+abbrev pub first_routine_at : ℕ → ℕ
+first_routine_at text = text + FRONT_SIZE
+
+-- ---- the text
+
+-- where the instructions of a routine begin, and where it ends
+pub record OwnAddresses : Type 0 where
+  pub labels : List ℕ
+  pub end : ℕ
+
+abbrev pub own_addresses : ℕ → RoutineView → OwnAddresses
+own_addresses at r =
+    record {
+      labels = label_list r.layout (at + entry_size r) r.body.code;
+      end = at + routine_size r;
+    }
+
+-- what every routine refers to: the text's begin, and the addresses of functions and funclets
+pub record SiteView : Type 0 where
+  pub text : ℕ
+  pub rdata : ℕ
+  pub functions : List ℕ
+  pub funclets : List ℕ
+
+abbrev pub addresses : SiteView → ℕ → RoutineView → Addresses
+addresses s at r =
+    record {
+      labels = (own_addresses at r).labels;
+      end = (own_addresses at r).end;
+      functions = s.functions;
+      funclets = s.funclets;
+      thunks = thunks_at s.text;
+    }
+
+-- a routine at an address, with `__chkstk` and all else where the links say
+abbrev pub code_at : ℕ → Links → ℕ → RoutineView → List Instr
+code_at check links at r =
+    entry_code at check r ++ code_from links r.layout (at + entry_size r) r.body.code
+
+abbrev pub routine_code : SiteView → ℕ → RoutineView → List Instr
+routine_code s at r = code_at (check_stack_at s.text) (links_of (addresses s at r)) at r
+
+unfoldable pub routine_bytes : SiteView → ℕ → RoutineView → List ℕ
+routine_bytes s at r = spelled (routine_code s at r)
+
+abbrev pub routines_bytes : SiteView → ℕ → List RoutineView → List ℕ
+routines_bytes s at [] = []
+routines_bytes s at (r ∷ rs) = routine_bytes s at r ++ routines_bytes s (at + routine_size r) rs
+
+abbrev pub text_bytes : SiteView → List RoutineView → List ℕ
+text_bytes s rs =
+    spelled (front_code s.text s.rdata) ++ routines_bytes s (first_routine_at s.text) rs

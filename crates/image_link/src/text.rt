@@ -1,0 +1,197 @@
+//! The text of a program.
+
+ghost use Rattle.std.specs.Prelude.{◌≡◌, ◌+◌, ◌≤◌, [], ◌∷◌, ◌++◌, OnOk, IfOk};
+ghost use Rattle.std.specs.List.{AllByRecursion};
+ghost use Rattle.x64_emit.specs.Appending.{Appended};
+ghost use Rattle.x64_emit.specs.Bodies.{EndsNear};
+ghost use Rattle.x64_emit.specs.Linking as linking;
+ghost use Rattle.x64_emit.specs.Near.{IsNear, AreNear};
+ghost use Rattle.image_link.specs.Near.{IsRoutineNear, IsSiteNear};
+ghost use Rattle.image_link.specs.Text as spec;
+
+use crate::entry::put_entry;
+use crate::place::{FRONT_SIZE, body_at, labels_at};
+use crate::routine::Routine;
+use host_layout::imported::{IMPORTED_COUNT, ImportedService};
+use host_layout::limit::MOST_IMAGE;
+use pe_write::slot_of;
+use std::alloc::{AllocError, Global};
+use std::marker::Model;
+use x64_emit::body::put_body;
+use x64_emit::entry::{THUNK_SIZE, put_check_stack, put_thunk};
+use x64_emit::links::{Links, Thunks};
+
+/// How far after the text's begin `__chkstk` is.
+const CHECK_STACK_OFFSET: u32 = THUNK_SIZE * IMPORTED_COUNT;
+
+/// What every routine of a program refers to.
+#[derive(Drop)]
+pub struct Site<'a> {
+    /// Where the text begins.
+    pub text: u32,
+    /// Where `.rdata` begins, with the slots of the services.
+    pub rdata: u32,
+    /// Where the functions begin.
+    pub functions: &'a [u32],
+    /// Where the funclets begin.
+    pub funclets: &'a [u32],
+}
+
+impl<'a> Model for Site<'a> {
+    ghost use Rattle.image_link.specs.Text.{SiteView};
+
+    ghost Value = { SiteView };
+
+    ghost view = { λ s. record {
+      text = s.text;
+      rdata = s.rdata;
+      functions = s.functions.now;
+      funclets = s.funclets.now;
+    } };
+}
+
+/// The thunk of a service in a text that begins at `text`.
+pub fn thunk_at(text: u32, service: ImportedService) -> u32
+    requires { text ≤ MOST_IMAGE }
+    ensures value { result ≡ spec.thunk_at text service }
+    ensures near { IsNear result }
+{
+    text + THUNK_SIZE * service.number()
+}
+
+fn thunks_at(text: u32) -> Thunks
+    requires { text ≤ MOST_IMAGE }
+    ensures { result ≡ spec.thunks_at text }
+{
+    Thunks {
+        put: thunk_at(text, ImportedService::Put),
+        protect: thunk_at(text, ImportedService::Protect),
+        raise_exception: thunk_at(text, ImportedService::RaiseException),
+        local_unwind: thunk_at(text, ImportedService::LocalUnwind),
+    }
+}
+
+/// Adds the thunk of a service.
+fn put_service(
+    code: &mut Vec<u8>,
+    text: u32,
+    rdata: u32,
+    service: ImportedService,
+) -> Result<(), AllocError>
+    requires text { text ≤ MOST_IMAGE }
+    requires rdata { rdata ≤ MOST_IMAGE }
+    ensures { OnOk result
+        (Appended code.old (spec.service_thunk text rdata service ∷ []) code.new) }
+{
+    let at = u64::from(thunk_at(text, service));
+    put_thunk(code, at, u64::from(rdata + slot_of(service)))
+}
+
+/// Adds what comes before the routines: the thunks and `__chkstk`.
+fn put_front(code: &mut Vec<u8>, text: u32, rdata: u32) -> Result<(), AllocError>
+    requires text { text ≤ MOST_IMAGE }
+    requires rdata { rdata ≤ MOST_IMAGE }
+    ensures { OnOk result (Appended code.old (spec.front_code text rdata) code.new) }
+{
+    put_service(code, text, rdata, ImportedService::RaiseException)?;
+    put_service(code, text, rdata, ImportedService::CSpecificHandler)?;
+    put_service(code, text, rdata, ImportedService::LocalUnwind)?;
+    put_service(code, text, rdata, ImportedService::Protect)?;
+    put_service(code, text, rdata, ImportedService::Put)?;
+    put_check_stack(code)
+}
+
+/// What the body of a routine refers to.
+fn links_of<'a>(
+    text: u32,
+    functions: &'a [u32],
+    funclets: &'a [u32],
+    labels: &'a [u32],
+    end: u32,
+) -> Links<'a>
+    requires text { text ≤ MOST_IMAGE }
+    requires functions { AreNear functions.now }
+    requires funclets { AreNear funclets.now }
+    requires labels { AreNear labels.now }
+    requires end { IsNear end }
+    ensures { result ≡ record {
+      labels = labels.now;
+      end = end;
+      functions = functions.now;
+      funclets = funclets.now;
+      thunks = spec.thunks_at text;
+    } }
+{
+    Links::new(labels, end, functions, funclets, thunks_at(text))
+}
+
+/// Adds a routine that begins at an address, with its body at `start`.
+fn put_code(
+    code: &mut Vec<u8>,
+    links: &Links<'_>,
+    routine: &Routine<'_>,
+    begin: u32,
+    start: u32,
+    check_stack: u32,
+) -> Result<(), AllocError>
+    requires near { IsRoutineNear routine.now }
+    requires begin { IsNear begin }
+    requires start { start ≡ begin + spec.entry_size routine.now }
+    requires room { EndsNear start routine.now.body.code }
+    requires check_stack { IsNear check_stack }
+    ensures { OnOk result
+        (Appended code.old
+        (spec.code_at check_stack (linking.links_of links.now) begin routine.now) code.new) }
+{
+    put_entry(code, routine, u64::from(begin), u64::from(check_stack))?;
+    put_body(code, links, &routine.layout, start, routine.code())
+}
+
+/// Adds a routine that begins at an address, and answers where it ends.
+fn put_routine(
+    alloc: Global,
+    code: &mut Vec<u8>,
+    site: &Site<'_>,
+    routine: &Routine<'_>,
+    begin: u32,
+) -> Result<u32, AllocError>
+    requires site { IsSiteNear site.now }
+    requires near { IsRoutineNear routine.now }
+    requires room { IsNear (begin + spec.routine_room routine.now) }
+    ensures code { OnOk result
+        (code.new.items ≡ code.old.items ++ spec.routine_bytes site.now begin routine.now) }
+    ensures end { IfOk result (λ end. end ≡ begin + spec.routine_size routine.now) }
+{
+    let start = body_at(alloc, routine, begin)?;
+    let labels = labels_at(alloc, routine, begin)?;
+    let links = links_of(
+        site.text,
+        site.functions,
+        site.funclets,
+        &labels.starts,
+        labels.end,
+    );
+    let check_stack = site.text + CHECK_STACK_OFFSET;
+    put_code(code, &links, routine, begin, start, check_stack)?;
+    Ok(labels.end)
+}
+
+/// The text of a program: the thunks, `__chkstk`, and the routines.
+pub fn text_of(
+    alloc: Global,
+    site: &Site<'_>,
+    routines: &[Routine<'_>],
+) -> Result<Vec<u8>, AllocError>
+    requires site { IsSiteNear site.now }
+    requires near { AllByRecursion IsRoutineNear routines.now }
+    requires room { IsNear (spec.first_routine_at site.now.text + spec.room routines.now) }
+    ensures { IfOk result (λ v. v.items ≡ spec.text_bytes site.now routines.now) }
+{
+    let mut code = Vec::new(alloc);
+    put_front(&mut code, site.text, site.rdata)?;
+    let mut at = site.text + FRONT_SIZE;
+    for routine in routines {
+        at = put_routine(alloc, &mut code, site, routine, at)?;
+    }
+    Ok(code)
+}

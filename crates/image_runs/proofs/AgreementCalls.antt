@@ -1,0 +1,146 @@
+-- A call: the callee's actual configuration has the stack's numbers in locals after arguments.
+use Rattle.std.proofs.Common.{◌≡◌, ℕ, ◌+◌, ◌-◌, Bool, true, false, List, [], ◌∷◌, ◌++◌, length, take, drop, Some, None, inl, inr, refl, sym, ap, ◌∙◌, arith, length-append}
+use Rattle.std.specs.Prelude.{◌⊎◌, nat_lt, replicate, if◌then◌else◌}
+use Rattle.std.proofs.lemmas.Bool.{eq-eqb}
+use Rattle.std.proofs.lemmas.List.{append-nil}
+use Rattle.x64_machine.specs.Effect.{State}
+use Rattle.virtual_unwind.specs.CallerOf.{Functions}
+use Rattle.host_model.specs.declared.funclet.Funclet.{Funclet}
+use Rattle.source_meaning.specs.declared.ended.Ended.TheVariants.{Deep}
+use Rattle.linear_code.specs.declared.instruction.Instruction.{Instruction}
+use Rattle.linear_code.specs.declared.instruction.Instruction.TheVariants as instructions
+use Rattle.linear_code.specs.Program.{LinearProgram, LinearFunction}
+use Rattle.linear_machine.specs.Frames.{Waits, Configuration, Seen, Running, Finished, Next, pick, last_temporaries}
+use Rattle.linear_machine.specs.Instructions.{begin_function, waiting, act}
+use Rattle.linear_machine.specs.Run.{instruction_at}
+use Rattle.match_stack.specs.ImagePlan.{ImagePlan}
+use Rattle.match_runs.specs.Matched.{Moves, Fails, IsMatched}
+use Rattle.lowering_invariants.proofs.Same.{alike_is_same}
+use Rattle.lowering_locals.specs.UnsetLaws.{called_with}
+use Rattle.lowering_locals.specs.Agreement.{AgreeOnSet, StepsAgree}
+use Rattle.lowering_locals.proofs.AgreementSteps.{agreement_at_call}
+use Rattle.match_bodies.specs.CodeSites.{Sites}
+use Rattle.match_bodies.specs.Bodies.{turns_left}
+use Rattle.match_bodies.specs.StepLaws.{turns_per_step}
+use Rattle.match_turns.specs.CallOutcome.{CallBegins}
+use Rattle.match_turns.proofs.CallEntry.{call_acts}
+use Rattle.image_runs.specs.AgreementStates.{RepresentsWhereSet}
+use Rattle.image_runs.proofs.AgreementSteps.{same_left, fails}
+
+-- ---- lists with the same end
+
+front_is : (xs ys : List ℕ) → take (length xs) (xs ++ ys) ≡ xs
+front_is [] ys = refl
+front_is (x ∷ xs) ys = ap (λ zs. x ∷ zs) (front_is xs ys)
+
+same_front : (xs ys zs : List ℕ) → xs ++ zs ≡ ys ++ zs → xs ≡ ys
+same_front xs ys zs e =
+    let n : length xs ≡ length ys = omega (
+      arith,
+      length-append xs zs,
+      length-append ys zs,
+      ap (λ (ws : List ℕ). length ws) e,
+    ) in
+    sym (front_is xs zs) ∙ ap (take (length xs)) e ∙ ap (λ n. take n (ys ++ zs)) n ∙ front_is ys zs
+
+abbrev the_last : List (List ℕ) → List ℕ
+the_last [] = []
+the_last (x ∷ []) = x
+the_last (x ∷ y ∷ xs) = the_last (y ∷ xs)
+
+last_is : (xss : List (List ℕ)) (xs : List ℕ) → the_last (xss ++ xs ∷ []) ≡ xs
+last_is [] xs = refl
+last_is (y ∷ []) xs = refl
+last_is (y ∷ z ∷ xss) xs = last_is (z ∷ xss) xs
+
+held_arguments : (ts : List ℕ) (first count : ℕ) → length ts ≡ first + count
+    → last_temporaries ts first count ≡ Some (drop first ts)
+held_arguments ts first count e = ap (λ (b : Bool). if b then Some (drop first ts) else None)
+    (eq-eqb (length ts) (first + count) e)
+
+module _ (t : Functions) (fs : List Funclet) (program : LinearProgram) (p : ImagePlan) (q : Sites)
+    (c d : Configuration) (agreement : AgreeOnSet program c d) (s : State) (f first count : ℕ)
+    (at : instruction_at program d ≡ Some (instructions.Call f first count))
+    (held : length d.frame.temporaries ≡ first + count) where
+  abbrev i : Instruction
+  i = instructions.Call f first count
+
+  abbrev own : LinearFunction → List ℕ → Configuration
+  own function arguments = begin_function f function arguments d.frame.held
+      (Waits (waiting d first).frame ∷ d.below) d.store d.events
+
+  module _ (v : CallBegins t fs program p q s d f first count) where
+    abbrev deep : Bool
+    deep = nat_lt 1000 (length d.store.activations + d.frame.held + 1)
+
+    abbrev ended : Seen
+    ended = Finished (Deep 1001) d.events
+
+    goes : (next : Next) → act program i next d
+        ≡ pick deep ended (next (own v.function (drop first d.frame.temporaries)))
+    goes next = call_acts program d f first count v.function v.there held next
+
+    -- it isn't too deep, since it continues
+    shallow : deep ≡ true → ⊥
+    unfolding pick
+    shallow e =
+        let next : Next = λ x. Running [] in
+        differ (sym (v.acts next) ∙ goes next
+        ∙ ap (λ (b : Bool). pick b ended (next (own v.function (drop first d.frame.temporaries))))
+        e)
+      where
+        differ : Running [] ≡ Finished (Deep 1001) d.events → ⊥
+        differ q = cc
+
+    -- the arguments are the last temporaries
+    arguments_are : deep ≡ false → v.arguments ≡ drop first d.frame.temporaries
+    unfolding pick
+    arguments_are e =
+        let zeros = replicate (v.function.body.locals - v.function.parameters) 0 in
+        let last = drop first d.frame.temporaries in
+        let same : own v.function v.arguments
+        ≡ own v.function last = alike_is_same (own v.function v.arguments) (own v.function last)
+        (λ next. sym (v.acts next) ∙ goes next
+        ∙ ap (λ (b : Bool). pick b ended (next (own v.function last))) e) in
+        same_front v.arguments last zeros
+        (sym (last_is d.store.activations (v.arguments ++ zeros))
+        ∙ ap (λ (x : Configuration). the_last x.store.activations) same
+        ∙ last_is d.store.activations (last ++ zeros))
+
+    moves : deep ≡ false → Moves t fs program turns_per_step turns_left (RepresentsWhereSet t fs program p q) s c i
+    moves e =
+        let taken : last_temporaries d.frame.temporaries first count
+        ≡ Some v.arguments = held_arguments d.frame.temporaries first count held
+        ∙ ap (λ (xs : List ℕ). Some xs) (sym (arguments_are e)) in
+        let g = agreement_at_call program c d f first count v.function v.arguments v.others agreement at taken
+        v.there e v.as_many v.small in
+        let on = called_with c d f first v.function v.arguments v.others in
+        let few = v.few in
+        let left = same_left g.agreement.marks g.on on g.agreement.alike in
+        let same = same_left agreement.marks c d agreement.alike in
+        record {
+          turns = v.turns;
+          some = v.some;
+          configuration = g.on;
+          few = omega arith;
+          state = v.state;
+          events = [];
+          comes = v.comes;
+          acts = g.goes;
+          shown = sym g.agreement.alike.events ∙ agreement.alike.events ∙ sym (append-nil c.events);
+          is_there = record { actual = on; agreement = g.agreement; is_there = inl v.begins };
+        }
+
+    begins : IsMatched t fs program turns_per_step turns_left (RepresentsWhereSet t fs program p q) s c i
+    begins = by deep refl
+      where
+        by : (b : Bool) → deep ≡ b → IsMatched t fs program turns_per_step turns_left
+            (RepresentsWhereSet t fs program p q) s c i
+        by true e = absurd (shallow e)
+        by false e = inl (moves e)
+
+  pub called : StepsAgree program i c d → CallBegins t fs program p q s d f first count
+      ⊎ Fails t fs program turns_per_step turns_left s d i
+      → IsMatched t fs program turns_per_step turns_left (RepresentsWhereSet t fs program p q) s c i
+  called go (inl v) = begins v
+  called go (inr v) = inr (inr (inr (fails t fs program p q c d agreement s i go v)))

@@ -1,0 +1,98 @@
+-- What is known of the actual configuration.
+use Rattle.std.proofs.Common.{◌≡◌, ℕ, List, Some, subst}
+use Rattle.c_checked.specs.Program.{Program}
+use Rattle.c_checked.specs.Sound.{IsSound}
+use Rattle.linear_code.specs.declared.instruction.Instruction.{Instruction}
+use Rattle.linear_code.specs.declared.instruction.Instruction.TheVariants as instructions
+use Rattle.linear_code.specs.Program.{LinearProgram}
+use Rattle.linear_machine.specs.Frames.{Configuration}
+use Rattle.linear_machine.specs.Run.{instruction_at}
+use Rattle.seh_ir.specs.Lowered.{lowered}
+use Rattle.lowering_invariants.specs.Turns.{IsReached}
+use Rattle.lowering_invariants.specs.Ready.{IsReady, CanContinue}
+use Rattle.lowering_invariants.specs.Waiting.{IsStacked}
+use Rattle.lowering_invariants.specs.Depths.{HasDepths}
+use Rattle.lowering_invariants.proofs.Ready.{continues}
+use Rattle.lowering_invariants.proofs.Reached.{is_stacked, has_depths}
+use Rattle.lowering_invariants.proofs.Reached as reached
+use Rattle.lowering_locals.specs.Marks.{Marks}
+use Rattle.lowering_locals.specs.Alike.{AreAlike}
+use Rattle.lowering_locals.specs.Reads.{ReadsNoUnset}
+use Rattle.lowering_locals.specs.Agreement.{AgreeOnSet}
+use Rattle.lowering_locals.proofs.Alike.{is_over, marked_is_reached}
+use Rattle.lowering_locals.proofs.TurnPairs.{over}
+use Rattle.lowering_locals.proofs.AlikeFacts.{has_activations}
+use Rattle.lowering_locals.proofs.AgreementSteps.{agreeing_are_small, agreement_continues}
+use Rattle.match_bodies.specs.ConfigurationFacts.{IsKnown, KnownNext}
+use Rattle.image_runs.specs.RunLaws.{AgreeingAreKnown}
+
+module _ (program : LinearProgram) where
+  -- what speaks of frames, and of what waits, alone
+  ready_alike : (c : Configuration) (ys : List (List ℕ)) (i : Instruction) → IsReady program c i
+      → IsReady program (over c ys) i
+  ready_alike c ys (instructions.Compute to o first second) h = h
+  ready_alike c ys (instructions.Information to field) h = h
+  ready_alike c ys (instructions.Jump label) h = h
+  ready_alike c ys (instructions.JumpIfZero slot label) h = h
+  ready_alike c ys (instructions.Call f first count) h = h
+  ready_alike c ys (instructions.CallBuiltIn f first) h = h
+  ready_alike c ys (instructions.CallFinally k) h = h
+  ready_alike c ys (instructions.LocalUnwind label) h = h
+  ready_alike c ys (instructions.Landing to) h = h
+  ready_alike c ys instructions.Separator h = h
+  ready_alike c ys (instructions.Return from) h = h
+
+  continues_alike : (marks : Marks) (c d : Configuration) → AreAlike marks c d
+      → CanContinue program c → CanContinue program d
+  continues_alike marks c d a h = subst (CanContinue program) (is_over marks c d a)
+      (record {
+        instruction = h.instruction;
+        at = h.at;
+        ready = ready_alike c d.store.activations h.instruction h.ready;
+      })
+
+  stacked_alike : (marks : Marks) (c d : Configuration) → AreAlike marks c d → IsStacked program c
+      → IsStacked program d
+  stacked_alike marks c d a h = subst (IsStacked program) (is_over marks c d a)
+      (record { above = h.above; below = h.below; landed = h.landed })
+
+  depths_alike : (marks : Marks) (c d : Configuration) → AreAlike marks c d → HasDepths program c
+      → HasDepths program d
+  depths_alike marks c d a h = subst (HasDepths program) (is_over marks c d a)
+      (record { held = h.held; below = h.below })
+
+module _ (program : Program) (sound : IsSound program) (reads : ReadsNoUnset (lowered program))
+  where
+    is_reached : (c d : Configuration) → AgreeOnSet (lowered program) c d
+        → IsReached (lowered program) c
+    is_reached c d t = marked_is_reached (lowered program) c t.marks t.marked
+
+    can_continue : (c d : Configuration) → AgreeOnSet (lowered program) c d
+        → CanContinue (lowered program) d
+    can_continue c d t = continues_alike (lowered program) t.marks c d t.alike
+        (continues program sound c (is_reached c d t))
+
+    pub known : (c d : Configuration) → AgreeOnSet (lowered program) c d → IsKnown (lowered program) d
+    known c d t = record {
+      continues = can_continue c d t;
+      stacked = stacked_alike (lowered program) t.marks c d t.alike
+          (is_stacked program sound c (is_reached c d t));
+      activations = has_activations (lowered program) t.marks c d t.alike
+          (reached.has_activations program sound c (is_reached c d t));
+      small = agreeing_are_small (lowered program) c d t;
+      depths = depths_alike (lowered program) t.marks c d t.alike
+          (has_depths program sound c (is_reached c d t));
+      next = λ i e at acts. (let g = (agreement_continues (lowered program) reads c d t i at).back e
+          acts in can_continue g.on e g.agreement);
+    }
+
+    pub known_next : (c d : Configuration) → AgreeOnSet (lowered program) c d → (i : Instruction)
+        → instruction_at (lowered program) d ≡ Some i → KnownNext (lowered program) d i
+    known_next c d t i at = λ e acts. (let g = (agreement_continues (lowered program) reads c d t i
+        at).back e acts in known g.on e g.agreement)
+
+pub agreeing_are_known : AgreeingAreKnown
+agreeing_are_known program sound reads c d t = record {
+  known = known program sound reads c d t;
+  next = known_next program sound reads c d t;
+}

@@ -1,0 +1,276 @@
+-- The first function of a run begins: nothing waits below it, and it returns to 0.
+use Rattle.std.proofs.Common.{◌≡◌, ℕ, ◌+◌, ◌-◌, ◌*◌, ◌^◌, ◌<◌, ◌≤◌, Bool, true, false, Some, Ok, List, [], ◌++◌, length, refl, sym, ap, subst, ◌∙◌, arith, inl, inr}
+use Rattle.std.specs.Prelude.{slice_get}
+use Rattle.std.proofs.lemmas.List.{append-nil}
+use Rattle.std.proofs.lemmas.Option.{slice_get_within}
+use Rattle.host_layout.specs.declared.range.TheConstants.{STACK_START, STACK_END}
+use Rattle.flat_memory.specs.Memory.{Memory, number_at}
+use Rattle.flat_memory.specs.declared.protection.Protection.{Protection}
+use Rattle.x64_instr.specs.declared.register.Reg.TheVariants.{Rsp}
+use Rattle.x64_machine.specs.Effect.{State, register}
+use Rattle.virtual_unwind.specs.Undone.{word}
+use Rattle.virtual_unwind.specs.CallerOf.{Functions, distance}
+use Rattle.host_model.specs.declared.funclet.Funclet.{Funclet}
+use Rattle.host_model.specs.Funclets.{arrivals}
+use Rattle.linear_code.specs.Program.{LinearProgram, LinearBody, LinearFunction}
+use Rattle.linear_machine.specs.Frames.{FunctionBody, body_of}
+use Rattle.template_code.specs.declared.layout.Layout.{Layout}
+use Rattle.x64_instr.specs.declared.instruction.Instr.{Instr}
+use Rattle.template_code.specs.Calls.{parameters_code}
+use Rattle.x64_templates.specs.Straight.{machine}
+use Rattle.x64_templates.proofs.PlacedCode.{same_number}
+use Rattle.match_stack.specs.WalkLaws.{context_below}
+use Rattle.match_stack.specs.ImagePlan.{ImagePlan}
+use Rattle.match_stack.specs.ItemMatches.{home_end, HoldsWords}
+use Rattle.match_stack.specs.StackRecords.{On}
+use Rattle.match_stack.specs.DispatchStates.{IsWellFormed}
+use Rattle.match_runs.specs.Shadow.{AllKeep}
+use Rattle.match_runs.specs.Comes.{Comes}
+use Rattle.lowering_invariants.specs.SmallNumbers.{AreSmall}
+use Rattle.match_bodies.specs.CodeSites.{Sites, function_arguments, arguments_code}
+use Rattle.match_bodies.specs.Layouts.{IsLayoutIf}
+use Rattle.match_bodies.specs.ProgramImages.{IsMachineMemory, IsProgramImage}
+use Rattle.match_bodies.specs.Bodies.{slots_end, RepresentsAt}
+use Rattle.match_bodies.proofs.SilentTurns.{enters_silently}
+use Rattle.match_bodies.proofs.InstructionEffects.{others_of}
+use Rattle.match_bodies.proofs.RoutineWalks.{enters_steps, Beneath, AllPlain}
+use Rattle.match_bodies.proofs.EntryKeeping.{parameters_plain, entry_ran}
+use Rattle.match_bodies.proofs.ProgramKeeping.{KeepsImage}
+use Rattle.match_bodies.proofs.MemoryKeeping.{memory_stays}
+use Rattle.match_bodies.proofs.ChainKeeping.{Keeps, enters_keeps, stays_well_formed}
+use Rattle.match_bodies.proofs.SlotPlaces.{stack_is_reserved}
+use Rattle.match_bodies.proofs.BodyViews.{is_machine}
+use Rattle.match_bodies.proofs.StackWords.{word_is, may_read_written, word_of}
+use Rattle.match_turns.specs.CallOutcome.{begun}
+use Rattle.match_turns.proofs.FunctionFrame.{function_begins}
+use Rattle.match_turns.proofs.FunctionLocals.{words_at, words_count, words_small, arguments_then_words}
+use Rattle.image_runs.proofs.FunctionEntry.{IsCalled}
+use Rattle.image_runs.proofs.FunctionEntry as entering
+use Rattle.image_runs.proofs.FrameEntries as entries
+use Rattle.template_code.specs.declared.layout.TheConstants.{LARGEST_FRAME}
+
+module _ (t : Functions) (fs : List Funclet) (program : LinearProgram) (p : ImagePlan) (q : Sites)
+    (image : IsProgramImage t fs program p q) (s : State) (source : Memory) (f : ℕ)
+    (fn : LinearFunction) (top : ℕ) (given : ℕ → ℕ)
+    (h : IsCalled t fs program p q s source f fn top given)
+    (some : 0 < length fn.body.code) (well_formed : IsWellFormed s) (last : top + 40 ≡ STACK_END)
+    (returns_to : word s.memory top ≡ Ok 0) (arguments : List ℕ)
+    (counted : length arguments ≡ fn.parameters)
+    (same : (i v : ℕ) → slice_get arguments i ≡ Some v → given i ≡ v) where
+  abbrev layout : Layout
+  layout = p.layout (FunctionBody f)
+
+  abbrev o : LinearBody
+  o = fn.body
+
+  abbrev there : body_of program (FunctionBody f) ≡ Some o
+  there = entering.there t fs program p q image s source f fn top given h
+
+  abbrev first : State
+  first = entering.first t fs program p q image s source f fn top given h
+
+  abbrev inside : entering.InFunction t fs program p q image s source f fn top given h
+  inside = entries.entered t fs program p q image s source f fn top given h
+
+  abbrev pub after : State
+  after = inside.state
+
+  first_is : s ≡ first
+  first_is = is_machine s h.count ∙ ap (λ r. machine
+      (entering.view t fs program p q image s source f fn top given h) r s.cpu.flags) h.rip
+
+  keeps : Keeps first after
+  keeps = enters_keeps inside.turns first after inside.comes
+
+  rip_small : after.cpu.rip < 2 ^ 64
+  rip_small = let a = image.addresses (FunctionBody f) o there in let u = a.inside.high in
+      let r = inside.rip in omega arith
+
+  silent_after : arrivals after.cpu (distance t.base after.cpu.rip) 1 fs ≡ []
+  silent_after = image.funclets.none after.cpu.rip rip_small
+      (λ k lt e. (image.addresses (FunctionBody f) o there).not_first 0 k some lt
+      (sym inside.rip ∙ e)) after.cpu
+
+  -- each turn keeps the shadow
+  beneath_main : Beneath t first top (top + 40) 0 (others_of first.cpu.registers) []
+  beneath_main =
+      let high = h.high in
+      let well_formed' = subst IsWellFormed first_is well_formed in
+      record {
+        others_are = refl;
+        count = well_formed'.count;
+        returns = returns_to;
+        list = refl;
+        owned = λ a w. absurd w;
+        past = omega arith;
+        high = omega arith;
+        limit = omega arith;
+        no_code = h.memory.data_alone.no_code;
+      }
+
+  arguments_are : arguments_code program p (FunctionBody f) ≡ parameters_code layout 0 fn.parameters
+  arguments_are = ap (λ x. function_arguments layout x) h.function
+
+  arguments_stored : (leaf : Bool) → IsLayoutIf program p layout o leaf
+      → AllPlain layout.frame 40 (parameters_code layout 0 fn.parameters)
+      × (layout.frame + 8 ≤ LARGEST_FRAME)
+  arguments_stored true l =
+      let e = l.frame in
+      let a = l.locals in
+      let n = l.few in
+      let fits = h.fits in
+      let few = h.few in (
+        parameters_plain layout.frame 40 layout 0 fn.parameters (omega arith) (omega arith)
+            (λ j lt. inr (omega arith, omega arith)),
+        omega arith,
+      )
+  arguments_stored false l =
+      let a = l.locals in
+      let z = l.small in
+      let fits = h.fits in
+      let few = h.few in (
+        parameters_plain layout.frame 40 layout 0 fn.parameters (omega arith) (omega arith)
+            (λ j lt. inl (omega arith)),
+        l.small,
+      )
+
+  keeps_shadow : AllKeep t fs inside.turns first
+  keeps_shadow =
+      let stored = arguments_stored (p.leaf (FunctionBody f))
+      (image.laid_out (FunctionBody f) o there) in
+      let lo = h.low in
+      let at : register first.cpu Rsp ≡ top = subst (λ (x : State). register x.cpu Rsp ≡ top)
+      first_is h.stack in
+      (entry_ran t fs program p q image (FunctionBody f) o there some top (top + 40) 0
+      (others_of first.cpu.registers) [] inside.turns first after
+      (arguments_code program p (FunctionBody f)) [] 40
+      (sym (append-nil (arguments_code program p (FunctionBody f)))) inside.exact
+      (enters_steps inside.turns first after inside.comes) refl at beneath_main h.memory.code
+      stored.1 (omega arith) refl
+      (subst (λ (xs : List Instr). AllPlain layout.frame 40 xs) (sym arguments_are) stored.0)).keeps
+
+  pub comes : Comes t fs inside.turns s [] after
+  comes = subst (λ (x : State). Comes t fs inside.turns x [] after) (sym first_is)
+      (enters_silently t fs program p q image inside.turns first after inside.comes keeps_shadow
+      h.memory.code silent_after)
+
+  pub soon : inside.turns ≤ 16
+  soon = inside.soon
+
+  -- what the stack held is in the other locals
+  abbrev pub others : List ℕ
+  others = words_at after.memory (inside.sp + layout.locals + 8 * length arguments)
+      (o.locals - fn.parameters)
+
+  pub counted_others : length others ≡ o.locals - fn.parameters
+  counted_others = words_count after.memory (inside.sp + layout.locals + 8 * length arguments)
+      (o.locals - fn.parameters)
+
+  pub small_others : AreSmall others
+  small_others = words_small after.memory (inside.sp + layout.locals + 8 * length arguments)
+      (o.locals - fn.parameters) inside.bytes
+
+  -- ---- memory
+
+  protection_same : (a : ℕ) → after.memory.protection a ≡ s.memory.protection a
+  protection_same a = ap (λ (g : ℕ → Protection). g a) keeps.protection
+
+  image_kept : KeepsImage program.globals s.memory after.memory
+  image_kept = record {
+    byte = λ a l u own. inside.same a own (inr (inl (omega arith)));
+    protection = λ a l u own. protection_same a;
+  }
+
+  memory : IsMachineMemory t fs program p q after.memory source
+  memory = memory_stays t fs program p q image s.memory after.memory source source image_kept
+      inside.bytes protection_same inside.agrees h.memory
+
+  -- ---- the frame
+
+  abbrev HasPlan : Bool → Type 0
+  HasPlan leaf = IsLayoutIf program p layout o leaf
+
+  planned : HasPlan (p.leaf (FunctionBody f))
+  planned = image.laid_out (FunctionBody f) o there
+
+  frame_small : (leaf : Bool) → HasPlan leaf → layout.frame + 8 ≤ LARGEST_FRAME
+  frame_small true l = let e = l.frame in omega arith
+  frame_small false l = l.small
+
+  slots_fit : (leaf : Bool) → HasPlan leaf → (layout.locals + 8 * o.locals ≤ slots_end layout leaf)
+      × (inside.sp + slots_end layout leaf ≤ STACK_END)
+  slots_fit true l = let e = l.frame in let a = l.locals in let k = l.temporaries in
+      let n = l.few in let z = inside.place in (omega arith, omega arith)
+  slots_fit false l = let a = l.locals in let z = inside.place in (omega arith, omega arith)
+
+  at_home : (leaf : Bool) → HasPlan leaf → leaf ≡ true → inside.sp + home_end ≤ STACK_END
+  at_home true l e = let k = l.frame in let z = inside.place in omega arith
+  at_home false l e = absurd (let no : false ≡ true = e in cc)
+
+  sp_low : STACK_START ≤ inside.sp
+  sp_low = let z = h.low in let e = inside.place in
+      let n = frame_small (p.leaf (FunctionBody f)) planned in omega arith
+
+  argument_there : (i v : ℕ) → slice_get arguments i ≡ Some v
+      → number_at after.memory.byte 8 (inside.sp + layout.locals + 8 * i) ≡ v
+  argument_there i v e =
+      let lt = slice_get_within arguments i v e in
+      let n = counted in
+      let z : inside.sp + layout.locals + 8 * i
+      ≡ inside.sp + (layout.locals + 8 * i) = omega arith in
+      ap (number_at after.memory.byte 8) z ∙ inside.locals i (omega arith) ∙ same i v e
+
+  numbers : HoldsWords after.memory (inside.sp + layout.locals)
+      (inside.sp + slots_end layout (p.leaf (FunctionBody f))) (arguments ++ others)
+  numbers =
+      let r = slots_fit (p.leaf (FunctionBody f)) planned in
+      let r0 = r.0 in
+      let r1 = r.1 in
+      let n = counted in
+      let lo = sp_low in
+      let fits = h.fits in
+      arguments_then_words after.memory (inside.sp + layout.locals)
+      (inside.sp + slots_end layout (p.leaf (FunctionBody f))) arguments
+      (o.locals - fn.parameters) (omega arith) argument_there
+      (λ a v l u e. word_of after.memory a v (omega arith)
+      (λ x g z. may_read_written after.memory x (memory.stack x (omega arith) (omega arith))) e)
+
+  -- ---- the return address
+
+  returns : word after.memory (inside.sp + layout.frame) ≡ Ok 0
+  returns =
+      let l = h.low in
+      let e = inside.place in
+      word_of after.memory (inside.sp + layout.frame) 0 (omega arith)
+      (λ x g z. may_read_written after.memory x (memory.stack x (omega arith) (omega arith)))
+      (ap (number_at after.memory.byte 8) e
+      ∙ same_number after.memory.byte s.memory.byte 8 top (omega arith)
+      (λ a g z. inside.same a (stack_is_reserved program.globals a (omega arith) (omega arith))
+      (inr (inr (omega arith, omega arith))))
+      ∙ word_is s.memory top 0 returns_to)
+
+  -- ---- all of it
+
+  pub begins : RepresentsAt t fs program p q after (begun f (arguments ++ others) 0 [] source [] [])
+  begins =
+      let small = frame_small (p.leaf (FunctionBody f)) planned in
+      let e = inside.place in
+      let stack = inside.stack in
+      let up : register after.cpu Rsp + layout.frame + 8 ≡ top + 8 = omega arith in
+      function_begins t fs program p q image after source f o there [] [] 0 [] (arguments ++ others)
+      (stays_well_formed first after keeps rip_small (subst IsWellFormed first_is well_formed)) memory inside.rip some
+      (record { space = omega arith; shallow = omega arith }) tt
+      (λ leaf. subst (λ x. x + home_end ≤ STACK_END) (sym stack)
+      (at_home (p.leaf (FunctionBody f)) planned leaf))
+      0 refl (subst (λ x. word after.memory (x + layout.frame) ≡ Ok 0) (sym stack) returns)
+      (subst (λ x. HoldsWords after.memory (x + layout.locals)
+      (x + slots_end layout (p.leaf (FunctionBody f))) (arguments ++ others)) (sym stack) numbers)
+      [] (λ more n. subst (λ x. On t fs program p after.memory (context_below 0 x more) [] [] [])
+      (sym up)
+      (record {
+        is_there = record {
+          stack = refl;
+          linked = (refl, (let z = h.high in omega arith));
+        };
+        data_alone = memory.data_alone;
+      }))

@@ -1,0 +1,21 @@
+-- The frames of every program that can be linked, for checked programs.
+use Rattle.seh_ir.specs.Lowered.{lowered}
+use Rattle.image_tables.proofs.RegionRanges.{lowered_has_regions}
+use Rattle.image_tables.specs.FrameLaws.{IsFramed}
+use Rattle.image_tables.proofs.Callers.{frames_are_found, leaves_are_found', thunks_are_found, probes_are_found}
+use Rattle.image_runs.specs.FrameCallers.{LoweredFindsCallers}
+
+pub lowered_finds_callers : LoweredFindsCallers
+lowered_finds_callers program fits =
+    let p = lowered program in
+    let regions = lowered_has_regions program in
+    record {
+      functions = λ index x f e s distance there framed entry text here is_there.
+          let is_framed : IsFramed p index x f =
+          record { fits = fits; there = there; framed = framed } in
+          frames_are_found p index x f e s distance is_framed regions entry text here is_there;
+      leaves = λ index x e s there frameless inside.
+          leaves_are_found' p index x e s fits regions there frameless inside;
+      thunks = λ service e s inside. thunks_are_found p service e s fits regions inside;
+      probes = λ e s inside. probes_are_found p e s fits regions inside;
+    }

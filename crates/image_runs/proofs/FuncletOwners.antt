@@ -1,0 +1,183 @@
+-- The function of each funclet has a region, and the locals that the funclet works on.
+use Rattle.std.proofs.Common.{◌≡◌, ℕ, zero, suc, ◌+◌, ◌-◌, ◌<◌, List, [], ◌∷◌, ◌++◌, length, map, None, Some, refl, ap, ◌∙◌, arith, length-append}
+use Rattle.std.specs.List.{AllByRecursion}
+use Rattle.std.specs.Prelude.{slice_get}
+use Rattle.c_checked.specs.Program.{Function, Program}
+use Rattle.c_checked.specs.Statement.{Filter, Always, Funclet, Statement, Declare, Block, Evaluate, If, IfElse, For, DoWhile, Return, Break, Continue, Leave, TryExcept, TryFinally, Statements, Empty, Then}
+use Rattle.linear_code.specs.declared.program.RegionKind.TheVariants as kinds
+use Rattle.linear_code.specs.Program.{LinearFunction, LinearFunclet}
+use Rattle.lowering_sizes.specs.Sizes.{expression_size, discarded_size, condition_size, all_declared_size, statement_size, statements_size}
+use Rattle.seh_ir.specs.declared.funclets.Owner.{Owner}
+use Rattle.lowering_expressions.specs.declared.scope.Names.{Names}
+use Rattle.lowering_expressions.specs.Scope.{except_names, filter_names, finally_names}
+use Rattle.seh_ir.specs.Regions.{except_kind, region, statement_regions, statements_regions}
+use Rattle.seh_ir.specs.Funclets.{filter_funclets, in_funclet, statement_funclets, statements_funclets}
+use Rattle.seh_ir.specs.Lowered.{all_locals, scope_of, lowered_function, lowered_funclets, all_funclets, lowered}
+use Rattle.lowering_follows.proofs.Segments.{IsSegmentAt, whole_is_at}
+use Rattle.lowering_invariants.proofs.PlainExpressions.{all_append}
+use Rattle.lowering_invariants.proofs.TurnStack.{all_at}
+
+-- ---- the function and the locals of a funclet
+
+record IsOf (k n : ℕ) (f : LinearFunclet) : Type 0 where
+  function : f.function ≡ k
+  locals : f.body.locals ≡ n
+
+record Owns (k n : ℕ) (owner : Owner) : Type 0 where
+  function : owner.function ≡ k
+  locals : owner.locals ≡ n
+
+module _ (number count : ℕ) where
+  abbrev All : List LinearFunclet → Type 0
+  All fs = AllByRecursion (IsOf number count) fs
+
+  both : (a b : List LinearFunclet) → All a → All b → All (a ++ b)
+  both a b h k = all_append (IsOf number count) a b h k
+
+  of_filter : (owner : Owner) (names : Names) → Owns number count owner → (f : Filter)
+      → All (filter_funclets owner names f)
+  of_filter owner names o Always = tt
+  of_filter owner names o (Funclet k e) = (record { function = o.function; locals = o.locals }, tt)
+
+  mutual
+    of_statement : (s : Statement) (owner : Owner) (names : Names) → Owns number count owner
+        → All (statement_funclets owner names s)
+    of_statement (Declare d) owner names o = tt
+    of_statement (Block ss) owner names o = of_statements ss owner names o
+    of_statement (Evaluate e) owner names o = tt
+    of_statement (If c s) owner names o = of_statement s owner names o
+    of_statement (IfElse c s t) owner names o = both (statement_funclets owner names s)
+        (statement_funclets owner names t) (of_statement s owner names o)
+        (of_statement t owner names o)
+    of_statement (For ds first c next s) owner names o = of_statement s owner names o
+    of_statement (DoWhile s c) owner names o = of_statement s owner names o
+    of_statement (Return e) owner names o = tt
+    of_statement Break owner names o = tt
+    of_statement Continue owner names o = tt
+    of_statement Leave owner names o = tt
+    of_statement (TryExcept body filter block) owner names o =
+        both (statements_funclets owner names body) _ (of_statements body owner names o)
+        (both (filter_funclets owner (filter_names names) filter) _
+        (of_filter owner (filter_names names) o filter)
+        (of_statements block owner (except_names names) o))
+    of_statement (TryFinally body k last) owner names o =
+        both (statements_funclets owner names body) _ (of_statements body owner names o) (
+          record { function = o.function; locals = o.locals },
+          of_statements last (in_funclet (k - 1) owner) (finally_names names)
+              (record { function = o.function; locals = o.locals }),
+        )
+
+    of_statements : (ss : Statements) (owner : Owner) (names : Names) → Owns number count owner
+        → All (statements_funclets owner names ss)
+    of_statements Empty owner names o = tt
+    of_statements (Then s ss) owner names o = both (statement_funclets owner names s)
+        (statements_funclets owner names ss) (of_statement s owner names o)
+        (of_statements ss owner names o)
+
+-- ---- without a region there is no funclet
+
+mutual
+  none_in : (s : Statement) (owner : Owner) (names : Names) (at : ℕ)
+      → length (statement_regions s at) ≡ 0 → length (statement_funclets owner names s) ≡ 0
+  none_in (Declare d) owner names at e = refl
+  none_in (Block ss) owner names at e = none_of ss owner names at e
+  none_in (Evaluate x) owner names at e = refl
+  none_in (If c s) owner names at e = none_in s owner names (at + expression_size c + 1) e
+  none_in (IfElse c s t) owner names at e =
+      let begin = at + expression_size c + 1 in
+      let otherwise = at + expression_size c + 1 + statement_size s + 1 in
+      let l = length-append (statement_regions s begin) (statement_regions t otherwise) in
+      let x = none_in s owner names begin (omega arith) in
+      let y = none_in t owner names otherwise (omega arith) in
+      omega (
+        arith,
+        length-append (statement_funclets owner names s)
+            (statement_funclets owner names t),
+      )
+  none_in (For ds first c next s) owner names at e = none_in s owner names
+      (at + all_declared_size ds + discarded_size first + condition_size c) e
+  none_in (DoWhile s c) owner names at e = none_in s owner names at e
+  none_in (Return x) owner names at e = refl
+  none_in Break owner names at e = refl
+  none_in Continue owner names at e = refl
+  none_in Leave owner names at e = refl
+  none_in (TryExcept body filter block) owner names at e =
+      let target = at + statements_size body + 1 in
+      let l = length-append (statements_regions body at)
+      (region at target (except_kind filter target) ∷ statements_regions block (target + 1)) in
+      absurd (omega arith)
+  none_in (TryFinally body k last) owner names at e =
+      let l = length-append (statements_regions body at)
+      (region at (at + statements_size body + 1) (kinds.Finally (k - 1)) ∷ []) in
+      absurd (omega arith)
+
+  none_of : (ss : Statements) (owner : Owner) (names : Names) (at : ℕ)
+      → length (statements_regions ss at) ≡ 0 → length (statements_funclets owner names ss) ≡ 0
+  none_of Empty owner names at e = refl
+  none_of (Then s ss) owner names at e =
+      let l = length-append (statement_regions s at)
+      (statements_regions ss (at + statement_size s)) in
+      let x = none_in s owner names at (omega arith) in
+      let y = none_of ss owner names (at + statement_size s) (omega arith) in
+      omega (
+        arith,
+        length-append (statement_funclets owner names s)
+            (statements_funclets owner names ss),
+      )
+
+-- ---- programs
+
+-- a funclet's function is among these, and has a region
+pub record IsOwned (functions : List LinearFunction) (f : LinearFunclet) : Type 0 where
+  pub function : LinearFunction
+  pub there : slice_get functions f.function ≡ Some function
+  pub locals : f.body.locals ≡ function.body.locals
+  pub some : 0 < length function.body.regions
+
+module _ (all : List LinearFunction) where
+  each_owned : (number : ℕ) (function : LinearFunction) → slice_get all number ≡ Some function
+      → 0 < length function.body.regions
+      → (xs : List LinearFunclet) → AllByRecursion (IsOf number function.body.locals) xs
+      → AllByRecursion (IsOwned all) xs
+  each_owned number function there some [] h = tt
+  each_owned number function there some (x ∷ xs) h = (
+    record {
+      function = function;
+      there = ap (λ k. slice_get all k) h.0.function ∙ there;
+      locals = h.0.locals;
+      some = some;
+    },
+    each_owned number function there some xs h.1,
+  )
+
+  nothing_owned : (xs : List LinearFunclet) → length xs ≡ 0 → AllByRecursion (IsOwned all) xs
+  nothing_owned [] e = tt
+  nothing_owned (x ∷ xs) e = absurd (omega arith)
+
+  own : (fn : Function) (number : ℕ) → slice_get all number ≡ Some (lowered_function fn)
+      → AllByRecursion (IsOwned all) (lowered_funclets number fn)
+  own fn number there = by (length (statements_regions fn.body 0)) refl
+    where
+      by : (n : ℕ) → length (statements_regions fn.body 0) ≡ n
+          → AllByRecursion (IsOwned all) (lowered_funclets number fn)
+      by zero e = nothing_owned (lowered_funclets number fn)
+          (none_of fn.body (record { function = number; locals = all_locals fn; parent = None })
+          (scope_of fn).names 0 e)
+      by (suc n) e =
+          each_owned number (lowered_function fn) there (omega arith) (lowered_funclets number fn)
+          (of_statements number (all_locals fn) fn.body
+          (record { function = number; locals = all_locals fn; parent = None })
+          (scope_of fn).names (record { function = refl; locals = refl }))
+
+  owned : (fs : List Function) (number : ℕ) → IsSegmentAt all number (map lowered_function fs)
+      → AllByRecursion (IsOwned all) (all_funclets number fs)
+  owned [] number h = tt
+  owned (f ∷ fs) number h = all_append (IsOwned all) (lowered_funclets number f)
+      (all_funclets (number + 1) fs) (own f number h.0) (owned fs (number + 1) h.1)
+
+pub is_owned : (program : Program) (k : ℕ) (f : LinearFunclet)
+    → slice_get (lowered program).funclets k ≡ Some f → IsOwned (lowered program).functions f
+is_owned program k f e =
+    all_at (IsOwned (lowered program).functions) (lowered program).funclets k f
+    (owned (lowered program).functions program.functions 0
+    (whole_is_at (lowered program).functions)) e

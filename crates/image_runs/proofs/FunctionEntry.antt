@@ -1,0 +1,225 @@
+-- A function with at most four parameters is entered from its first byte: once its frame is made,
+-- the parameters go to their locals.
+use Rattle.std.proofs.Common.{◌≡◌, ℕ, ◌+◌, ◌*◌, ◌^◌, ◌<◌, ◌≤◌, true, Some, List, length, sym, ap, subst, ◌∙◌, arith, inl, inr}
+use Rattle.std.specs.Prelude.{◌⊎◌, slice_get, slice_index}
+use Rattle.host_layout.specs.declared.range.TheConstants.{STACK_START, STACK_END}
+use Rattle.flat_memory.specs.Memory.{Memory, may_write, number_at}
+use Rattle.flat_memory.specs.declared.protection.Protection.{Protection}
+use Rattle.flat_memory.specs.Protections.{is_writable}
+use Rattle.x64_instr.specs.declared.register.Reg.TheVariants.{Rsp}
+use Rattle.x64_machine.specs.Effect.{State, register}
+use Rattle.virtual_unwind.specs.CallerOf.{Functions}
+use Rattle.host_model.specs.declared.funclet.Funclet.{Funclet}
+use Rattle.source_meaning.specs.Source.{is_reserved}
+use Rattle.linear_code.specs.declared.slot.Slot.TheVariants.{Local}
+use Rattle.linear_code.specs.Program.{LinearProgram, LinearBody, LinearFunction}
+use Rattle.linear_machine.specs.Frames.{FunctionBody, body_of, function_body}
+use Rattle.template_code.specs.declared.layout.Layout.{Layout}
+use Rattle.template_code.specs.Bytes.{sizes, spelled}
+use Rattle.template_code.specs.Calls.{stack_parameter, parameters_code}
+use Rattle.x64_templates.specs.Straight.{MachineView, machine}
+use Rattle.x64_templates.specs.CallStates.{sp_of, HasBelow}
+use Rattle.x64_templates.specs.EntryStates.{with_arguments, InRegisters, OnStack, IsFunctionFrame, body_in_memory}
+use Rattle.x64_templates.specs.Frames.{InTemporaries, InLocals, IsBytes, Agrees}
+use Rattle.x64_templates.specs.Runs.{HasCode, Enters, ReachesBody}
+use Rattle.x64_templates.proofs.PlacedCode.{bytes_kept, enters_then}
+use Rattle.x64_templates.proofs.Entries.{pushed_agrees, pushed_bytes}
+use Rattle.x64_templates.proofs.Entering.{fresh_holds, parameters_run}
+use Rattle.match_stack.specs.ImagePlan.{ImagePlan}
+use Rattle.match_bodies.specs.CodeSites.{Sites, arguments_code}
+use Rattle.match_bodies.proofs.FrameMaking.{making_steps}
+use Rattle.match_bodies.specs.ProgramImages.{IsMachineMemory, IsProgramImage}
+use Rattle.match_bodies.specs.BodyViews.{seen_by_templates, counts_of}
+use Rattle.match_bodies.proofs.SlotPlaces.{stack_is_reserved}
+use Rattle.match_bodies.proofs.TemplateRuns.{index_of, sp_seen}
+use Rattle.match_bodies.proofs.ChainKeeping.{Keeps, enters_keeps}
+use Rattle.match_turns.proofs.FunctionParameters.{own_frame, IsOwn, roomy_own, fresh_own, parameters_soon}
+use Rattle.match_turns.proofs.FunctionLocals.{argument_is}
+use Rattle.match_turns.proofs.FunctionPrologue.{Made}
+use Rattle.template_code.specs.declared.layout.TheConstants.{LARGEST_FRAME}
+
+-- a state at a function's first byte: its arguments are in registers, the return address is at RSP,
+-- and above that is room for a home space
+pub record IsCalled (t : Functions) (fs : List Funclet) (program : LinearProgram) (p : ImagePlan)
+    (q : Sites) (s : State) (source : Memory) (f : ℕ) (fn : LinearFunction) (top : ℕ)
+    (arguments : ℕ → ℕ) : Type 0 where
+  pub function : slice_get program.functions f ≡ Some fn
+  pub rip : s.cpu.rip ≡ q.function f
+  pub stack : register s.cpu Rsp ≡ top
+  pub low : STACK_START + 16384 ≤ top
+  pub high : top + 40 ≤ STACK_END
+  pub count : length s.cpu.registers ≡ 16
+  pub few : fn.parameters ≤ 4
+  pub fits : fn.parameters ≤ fn.body.locals
+  pub registers : InRegisters (seen_by_templates s) arguments
+  pub small : (i : ℕ) → arguments i < 2 ^ 64
+  pub memory : IsMachineMemory t fs program p q s.memory source
+
+module _ (t : Functions) (fs : List Funclet) (program : LinearProgram) (p : ImagePlan) (q : Sites)
+    (image : IsProgramImage t fs program p q) (s : State) (source : Memory) (f : ℕ)
+    (fn : LinearFunction) (top : ℕ) (arguments : ℕ → ℕ)
+    (h : IsCalled t fs program p q s source f fn top arguments) where
+  abbrev pub layout : Layout
+  layout = p.layout (FunctionBody f)
+
+  abbrev pub target : ℕ
+  target = q.function f
+
+  abbrev pub o : LinearBody
+  o = fn.body
+
+  abbrev pub count : ℕ
+  count = fn.parameters
+
+  abbrev pub view : MachineView
+  view = seen_by_templates s
+
+  pub there : body_of program (FunctionBody f) ≡ Some o
+  there = ap function_body h.function
+
+  abbrev pub first : State
+  first = machine view target s.cpu.flags
+
+  pub view_stack : sp_of view ≡ top
+  view_stack = sp_seen s ∙ h.stack
+
+  -- what is outside of the function's slots: all but the stack, and the return address
+  abbrev pub Outside : ℕ → Type 0
+  Outside a = (a < STACK_START) ⊎ ((STACK_END ≤ a) ⊎ ((top ≤ a) × (a < top + 8)))
+
+  pub record InFunction : Type 0 where
+    pub sp : ℕ
+    pub place : sp + layout.frame ≡ top
+    pub state : State
+    pub turns : ℕ
+    pub exact : turns ≡ making_steps (p.leaf (FunctionBody f)) layout.frame
+        + length (arguments_code program p (FunctionBody f))
+    pub soon : turns ≤ 16
+    pub comes : Enters turns first state
+    pub rip : state.cpu.rip ≡ p.address (FunctionBody f) 0
+    pub stack : register state.cpu Rsp ≡ sp
+    pub locals : (i : ℕ) → i < count → number_at state.memory.byte 8 (sp + (layout.locals + 8 * i))
+        ≡ arguments i
+    pub bytes : IsBytes state.memory
+    pub agrees : Agrees (is_reserved program.globals) state.memory source
+    pub same : (a : ℕ) → is_reserved program.globals a ≡ true → Outside a
+        → state.memory.byte a ≡ s.memory.byte a
+
+  pub below_top : HasBelow s.memory top 8
+  below_top = let l = h.low in let u = h.high in
+      record {
+        enough = omega arith;
+        high = omega arith;
+        writable = λ a x z. h.memory.stack a (omega arith) (omega arith);
+      }
+
+  -- ---- once the frame is made, the parameters
+
+  module _ (sp to n : ℕ) (made : Made view target to s.cpu.flags top sp arguments n) (y : Layout)
+      (own : IsOwn program.globals y o sp) (whole : IsFunctionFrame
+      (own_frame program.globals y o sp)) (same_locals : y.locals ≡ layout.locals)
+      (short : y.frame + 8 ≤ LARGEST_FRAME)
+      (place : sp + layout.frame ≡ top) (code : HasCode s.memory to (parameters_code y 0 count))
+      (ends : to + sizes (parameters_code y 0 count) ≡ p.address (FunctionBody f) 0)
+      (outside : (a : ℕ) → Outside a → InTemporaries y (counts_of o) sp a
+      ⊎ InLocals y (counts_of o) sp a → ⊥)
+      (counted_turns : n + length (parameters_code y 0 count)
+      ≡ making_steps (p.leaf (FunctionBody f)) layout.frame
+      + length (arguments_code program p (FunctionBody f))) where
+    abbrev k : State
+    k = machine made.after to made.flags
+
+    made_keeps : Keeps first k
+    made_keeps = enters_keeps made.turns first k made.comes
+
+    made_bytes : IsBytes made.after.memory
+    made_bytes = elim made.made [
+      | inl e ↦ subst IsBytes (sym e) h.memory.data_alone.bytes
+      | inr e ↦ subst IsBytes (sym e) (pushed_bytes view top (target + 10)
+          h.memory.data_alone.bytes)
+    ]
+
+    made_agrees : Agrees (is_reserved program.globals) made.after.memory source
+    made_agrees =
+        let l = h.low in
+        let u = h.high in
+        elim made.made [
+          | inl e ↦ subst (λ (m : Memory). Agrees (is_reserved program.globals) m source) (sym e)
+              h.memory.agrees
+          | inr e ↦ subst (λ (m : Memory). Agrees (is_reserved program.globals) m source) (sym e)
+              (pushed_agrees (is_reserved program.globals) view source top (target + 10) below_top
+              (λ a x z. stack_is_reserved program.globals a (omega arith) (omega arith))
+              h.memory.agrees)
+        ]
+
+    made_may : (a : ℕ) → STACK_START ≤ a → a < STACK_END → may_write made.after.memory a ≡ true
+    made_may a l u = ap (λ (g : ℕ → Protection). is_writable (g a).rights) made.protection
+        ∙ h.memory.stack a l u
+
+    -- no parameter is on the stack
+    stack_arguments : OnStack (own_frame program.globals y o sp) made.after.memory count arguments
+    stack_arguments = let few = h.few in record {
+      number = λ i ge lt. absurd (omega arith);
+      readable = λ i a ge lt l u. absurd (omega arith);
+      own = λ i a ge lt l u. absurd (omega arith);
+      near = λ i lt. (let w : stack_parameter y i < 2 ^ 31 = omega arith in w);
+      small = λ i lt. h.small i;
+    }
+
+    run : ReachesBody (own_frame program.globals y o sp) (length (parameters_code y 0 count)) k
+        (to + sizes (parameters_code y 0 count)) made.after.rest
+        (record {
+          slots = with_arguments (body_in_memory y sp sp made.after.memory source).slots
+              arguments 0 count;
+          memory = source;
+        })
+    run =
+        parameters_run (own_frame program.globals y o sp) count arguments made.after to made.flags
+        (body_in_memory y sp sp made.after.memory source) (roomy_own program.globals y o sp own)
+        whole h.fits made.stack
+        (fresh_holds (own_frame program.globals y o sp) made.after.memory source
+        (fresh_own program.globals y o sp made.after.memory source own made_bytes made_may
+        made_agrees)) made.registers stack_arguments
+        (record {
+          is_there = bytes_kept s.memory made.after.memory to
+              (spelled (parameters_code y 0 count)) made_keeps.fixed made_keeps.protection
+              code.is_there;
+          placed = code.placed;
+        })
+
+    pub entered : InFunction
+    entered =
+        let long = parameters_soon y 0 count (omega arith) in
+        let early = made.few in
+        let few = h.few in
+        record {
+          sp = sp;
+          place = place;
+          state = machine run.after (to + sizes (parameters_code y 0 count)) run.flags;
+          turns = made.turns + length (parameters_code y 0 count);
+          exact = ap (λ k. k + length (parameters_code y 0 count)) made.exact ∙ counted_turns;
+          soon = omega arith;
+          comes = enters_then made.turns (length (parameters_code y 0 count)) first k
+              (machine run.after (to + sizes (parameters_code y 0 count)) run.flags) made.comes
+              run.comes;
+          rip = ends;
+          stack = ap (λ (xs : List ℕ). slice_index xs 1) run.rest ∙ sym (index_of made.after.rest 1)
+              ∙ made.stack;
+          locals = λ i lt. (let fits = h.fits in
+              let w : sp + (layout.locals + 8 * i) ≡ sp + (y.locals + 8 * i) = omega arith in
+              ap (number_at run.after.memory.byte 8) w
+              ∙ run.holds.slot (Local i) (let z : i < o.locals = omega arith in z)
+              ∙ argument_is (body_in_memory y sp sp made.after.memory source).slots arguments 0
+              count i (omega arith) (omega arith));
+          bytes = run.changes.bytes made_bytes;
+          agrees = run.holds.source;
+          same = λ a own_byte out. run.changes.byte a own_byte (outside a out) ∙ made.same a
+              (let l = h.low in
+              let u = h.high in
+              elim out [
+                | inl x ↦ inl (omega arith)
+                | inr (inl x) ↦ inr (omega arith)
+                | inr
+                    (inr x) ↦ (let g = x.0 in inr (omega arith))
+              ]);
+        }

@@ -1,0 +1,60 @@
+-- The linear code of a sound program is as its image needs it.
+use Rattle.std.proofs.Common.{◌≡◌, ℕ, ◌+◌, ◌<◌, ◌==◌, Bool, true, false, not, length, Some, refl, ap, ◌∙◌, arith}
+use Rattle.std.specs.Prelude.{◌&&◌, nat_le, slice_get}
+use Rattle.std.proofs.lemmas.Bool.{ne_eqb}
+use Rattle.c_checked.specs.Program.{Program}
+use Rattle.linear_code.specs.Program.{LinearBody, LinearFunclet}
+use Rattle.linear_machine.specs.Frames.{function_body}
+use Rattle.seh_ir.specs.Lowered.{lowered}
+use Rattle.lowering_invariants.specs.Slots.{IsSmallFunclet}
+use Rattle.lowering_invariants.proofs.Small.{lowered_is_small}
+use Rattle.lowering_invariants.proofs.Lowered.{lowered_is_whole}
+use Rattle.lowering_invariants.proofs.TurnStack.{all_at}
+use Rattle.image_link.specs.Routines.{has_call, is_leaf}
+use Rattle.image_link.proofs.Images.{images_are_small}
+use Rattle.image_tables.proofs.RegionRanges.{lowered_has_regions}
+use Rattle.image_tables.proofs.FuncletNumbers.{lowered_names_funclets}
+use Rattle.image_states.specs.Compiled.{IsFuncletSized}
+use Rattle.image_runs.specs.SoundImages.{IsLinkable}
+use Rattle.image_runs.specs.ImageLaws.{LoweredIsCompiled}
+use Rattle.image_runs.proofs.FuncletOwners.{is_owned}
+use Rattle.image_runs.proofs.FuncletRegions.{all_named}
+
+and_false : (a : Bool) → (a && false) ≡ false
+and_false true = refl
+and_false false = refl
+
+-- what has a region is no leaf
+framed : (b : LinearBody) → 0 < length b.regions → is_leaf b ≡ false
+framed b some =
+    let none : (length b.regions == 0) ≡ false = ne_eqb (length b.regions) 0
+    (λ e. (let q : length b.regions ≡ 0 = e in omega arith)) in
+    ap (λ (x : Bool). nat_le (b.locals + b.temporaries) 4 && (x && not (has_call b.code))) none
+    ∙ and_false (nat_le (b.locals + b.temporaries) 4)
+
+sized : (program : Program) → IsLinkable program → (k : ℕ) (f : LinearFunclet)
+    → slice_get (lowered program).funclets k ≡ Some f → IsFuncletSized (lowered program) f
+sized program l k f e =
+    let owned = is_owned program k f e in
+    let small = all_at (IsSmallFunclet (lowered program)) (lowered program).funclets k f
+    (lowered_is_small program l.sound l.shallow).funclets e in
+    let passed = small.body.passed in
+    let temporaries = small.body.temporaries in
+    record {
+      function = owned.function.body;
+      there = ap function_body owned.there;
+      framed = framed owned.function.body owned.some;
+      locals = owned.locals;
+      words = omega arith;
+    }
+
+pub lowered_is_compiled : LoweredIsCompiled
+lowered_is_compiled program l = record {
+  fits = l.fits;
+  small = images_are_small (lowered program) l.fits;
+  ranges = lowered_has_regions program;
+  names = lowered_names_funclets program l.sound;
+  all_named = all_named program l.sound;
+  whole = lowered_is_whole program l.sound;
+  funclets = sized program l;
+}

@@ -1,0 +1,173 @@
+-- Within an instruction the walk gives the frames that it gave where the instruction
+-- began.
+use Rattle.std.proofs.Common.{◌≡◌, ℕ, ◌+◌, ◌-◌, ◌^◌, ◌<◌, ◌≤◌, false, Some, None, Ok, List, [], ◌∷◌, length, refl, sym, ap, subst, ◌∙◌, arith}
+use Rattle.std.specs.Prelude.{nat_lt, Option}
+use Rattle.std.specs.List.{AllByRecursion}
+use Rattle.host_layout.specs.declared.range.TheConstants.{STACK_START}
+use Rattle.flat_memory.specs.Memory.{Memory}
+use Rattle.x64_instr.specs.declared.instruction.Instr.{Instr}
+use Rattle.x64_machine.specs.declared.context.Context.{Context}
+use Rattle.x64_machine.specs.Contexts.{context_of}
+use Rattle.x64_machine.specs.Effect.{State}
+use Rattle.eh_tables.specs.Tables.{Entry}
+use Rattle.virtual_unwind.specs.Contexts.{rsp}
+use Rattle.virtual_unwind.specs.CallerOf.{Functions, distance}
+use Rattle.virtual_unwind.specs.Tail.{tail_at}
+use Rattle.virtual_unwind.specs.Undone.{word}
+use Rattle.host_model.specs.declared.funclet.Funclet.{Funclet}
+use Rattle.linear_code.specs.declared.program.Region.{Region}
+use Rattle.linear_code.specs.Program.{LinearProgram, LinearBody}
+use Rattle.linear_machine.specs.Frames.{Frame, body_of, Item, Waits, Configuration}
+use Rattle.linear_machine.specs.Regions.{holds, regions_of}
+use Rattle.match_stack.specs.Stack.{StackFrame, StackItem, Framed, Leaf, FrameIsAt, IsStack}
+use Rattle.match_stack.specs.ImagePlan.{ImagePlan, InCode}
+use Rattle.match_stack.specs.ItemMatches.{Activation, HasSpace, below_end, BodyWaits, Linked}
+use Rattle.match_stack.specs.ListLaws as linked
+use Rattle.match_stack.proofs.ListKeeping.{kept_by_other_memories}
+use Rattle.match_bodies.specs.CodeSites.{Sites}
+use Rattle.match_bodies.specs.ProgramImages.{HasProgram, IsResumed, IsProgramImage}
+use Rattle.match_bodies.proofs.BodyResumption.{frame_size}
+use Rattle.image_runs.specs.InstructionStates.{IsWithinInstruction}
+use Rattle.image_runs.specs.LiveFrames.{WalkGives}
+use Rattle.image_runs.specs.WalkLaws.{WalksGiveTheFramesWithin}
+use Rattle.image_runs.proofs.LiveFrames.{as_many, are_frames}
+use Rattle.image_runs.proofs.WalkFrames.{frames, gives}
+use Rattle.image_runs.proofs.StateWalks.{IsTop, tops}
+
+same_regions : (rs : List Region) (label : ℕ)
+    → AllByRecursion (λ (r : Region). holds label r ≡ holds label r) rs
+same_regions [] label = tt
+same_regions (r ∷ rs) label = (refl, same_regions rs label)
+
+module _ (t : Functions) (fs : List Funclet) (program : LinearProgram) (p : ImagePlan) (q : Sites)
+    (image : IsProgramImage t fs program p q) where
+  -- a frame's depth is bounded, so it is in the stack
+  in_range : (sp depth : ℕ) → HasSpace sp below_end depth → STACK_START ≤ sp
+  in_range sp depth h = let a = h.space in let b = h.shallow in omega arith
+
+  from_start : (m : Memory) (c : Context) (is : List StackItem) (b : Frame) (below : List Item)
+      (acts : List Activation) → Linked t fs program p m c is (Waits b ∷ below) acts
+      → STACK_START ≤ rsp c
+  from_start m c (Framed f ∷ is) b below acts l = in_range (rsp c) (length acts + b.held)
+      l.0.waits.space
+  from_start m c (Leaf back ∷ is) b below acts l = in_range (rsp c) (length acts + b.held)
+      l.0.waits.space
+  from_start m c is b below acts l = absurd l
+
+  module _ (m : Memory) (c : Context) (rip : ℕ) (b : Frame) (below : List Item)
+      (acts : List Activation) (code : LinearBody)
+      (there : body_of program b.body ≡ Some code)
+      (resumed : IsResumed t fs program p q b.body code b.next rip)
+      (inside : InCode p b.body b.next rip) (small : rip < 2 ^ 64)
+      (has : HasProgram t fs program p q m) where
+    abbrev to : Context
+    to = record { rip = rip; kept = c.kept }
+
+    waits_there : (size end : ℕ) → BodyWaits t fs program p m c size end b acts
+        → BodyWaits t fs program p m to size end b acts
+    waits_there size end w = record {
+      code = w.code;
+      body = w.body;
+      label = b.next;
+      instruction = inside;
+      same = same_regions (regions_of (body_of program b.body)) b.next;
+      small = small;
+      activation = w.activation;
+      temporaries = w.temporaries;
+      space = w.space;
+    }
+
+    frame_there : (f : StackFrame) → p.leaf b.body ≡ false → f.entry ≡ p.entry b.body
+        → FrameIsAt t m c f → FrameIsAt t m to f
+    frame_there f framed entry s =
+        let y = p.layout b.body in
+        let size = frame_size t fs program p q image m c f b.body code there framed entry s in
+        let room = s.room in
+        let x = (image.frames m b.body code b.next to f.return_address there framed has resumed
+        s.kept (subst (λ n. rsp c + n + 8 < 2 ^ 64) size room)
+        (subst (λ n. word m (rsp c + n) ≡ Ok f.return_address) size s.returns)).is_there in
+        record {
+          live = x.live;
+          not_filter = x.not_filter;
+          not_finally = x.not_finally;
+          found = x.found ∙ ap (λ (e : Entry). Some e) (sym entry);
+          past_prologue = subst (λ (e : Entry). nat_lt (distance t.base rip - e.range.begin)
+              e.info.prologue_size ≡ false) (sym entry) x.past_prologue;
+          not_epilogue = subst (λ (e : Entry). ◌≡◌ {A = Option (List Instr)}
+              (tail_at e.info.frame_register m rip) None) (sym entry) x.not_epilogue;
+          codes = s.codes;
+          no_register = s.no_register;
+          no_parents = s.no_parents;
+          kept = s.kept;
+          room = room;
+          returns = s.returns;
+        }
+
+    -- the same list from another address of the instruction
+    there_too : (is : List StackItem) → IsStack t m c is
+        → Linked t fs program p m c is (Waits b ∷ below) acts
+        → linked.IsLinkedStack t fs program p m to is (Waits b ∷ below) acts
+    there_too (Framed f ∷ is) s l = record {
+      stack = (frame_there f l.0.framed l.0.entry s.0, s.1);
+      linked = (
+        record {
+          framed = l.0.framed;
+          entry = l.0.entry;
+          waits = waits_there f.size _ l.0.waits;
+          pointers = l.0.pointers;
+          returns = l.0.returns;
+        },
+        l.1,
+        l.2,
+      );
+    }
+    there_too (Leaf back ∷ is) s l = record {
+      stack = (
+        image.leaves m b.body code b.next to back there l.0.leaf resumed s.0.kept s.0.room
+            s.0.returns,
+        s.1,
+      );
+      linked = (
+        record {
+          leaf = l.0.leaf;
+          home = l.0.home;
+          none = l.0.none;
+          waits = waits_there _ _ l.0.waits;
+          returns = l.0.returns;
+        },
+        l.1,
+        l.2,
+      );
+    }
+    there_too is s l = absurd l
+
+  within : (s u : State) (c : Configuration) → IsTop t fs program p q image s c
+      → IsWithinInstruction t fs program p q s u c → WalkGives t fs program p u c
+  within s u c h w =
+      let from = context_of s.cpu in
+      let items = Waits c.frame ∷ c.below in
+      let top = h.top in
+      let was = top.on.is_there in
+      let low = from_start s.memory from top.is c.frame c.below h.acts was.linked in
+      let now = kept_by_other_memories t fs program p s.memory u.memory from top.is items h.acts
+      w.stack low was in
+      let moved = there_too u.memory from u.cpu.rip c.frame c.below h.acts w.code w.body w.resumed
+      w.inside w.small w.program_there top.is now.stack now.linked in
+      let same : context_of u.cpu ≡ record { rip = u.cpu.rip; kept = from.kept } = ap
+      (λ (ks : List ℕ). let x : Context = record { rip = u.cpu.rip; kept = ks } in x) w.kept in
+      let here : linked.IsLinkedStack t fs program p u.memory (context_of u.cpu) top.is items
+      h.acts = subst (λ (x : Context). linked.IsLinkedStack t fs program p u.memory x top.is items
+      h.acts) (sym same) moved in
+      let n = as_many t fs program p u.memory (context_of u.cpu) top.is items h.acts here.linked in
+      record {
+        acts = h.acts;
+        store = h.store;
+        frames = frames (context_of u.cpu) top.is;
+        live = are_frames t fs program p q image u.memory (context_of u.cpu) top.is items h.acts
+            here.stack here.linked;
+        walks = λ k le. gives t u.memory (context_of u.cpu) 0 top.is k here.stack (omega arith);
+      }
+
+pub walks_give_the_frames_within : WalksGiveTheFramesWithin
+walks_give_the_frames_within t fs program p q image still s u c is_there known w = within t fs
+    program p q image s u c (tops t fs program p q image still s c is_there known) w

@@ -1,0 +1,109 @@
+-- The frames of a stack that linear code's list describes are the live ones.
+use Rattle.std.proofs.Common.{◌≡◌, ℕ, ◌+◌, Bool, Some, List, [], ◌∷◌, length, drop, refl, sym, ap, subst, ◌∙◌, arith}
+use Rattle.std.specs.Prelude.{slice_set}
+use Rattle.flat_memory.specs.Memory.{Memory}
+use Rattle.x64_machine.specs.declared.context.Context.{Context}
+use Rattle.x64_machine.specs.Contexts.{context_of}
+use Rattle.virtual_unwind.specs.Contexts.{rsp}
+use Rattle.virtual_unwind.specs.CallerOf.{Functions}
+use Rattle.host_model.specs.declared.funclet.Funclet.{Funclet}
+use Rattle.linear_code.specs.Program.{LinearProgram}
+use Rattle.linear_machine.specs.Frames.{Item, Waits, Searches, Unwinds}
+use Rattle.match_stack.specs.Stack.{StackItem, Framed, Leaf, Searching, Unwinding, IsStack, after_frame, after_leaf}
+use Rattle.match_stack.proofs.ItemVisits.{set_head}
+use Rattle.match_stack.specs.ImagePlan.{ImagePlan}
+use Rattle.match_stack.specs.ItemMatches.{Activation, activations_below, temporaries_end, BodyWaits, ReturnsTo, Linked}
+use Rattle.match_bodies.specs.CodeSites.{Sites}
+use Rattle.match_bodies.specs.ProgramImages.{IsProgramImage}
+use Rattle.match_bodies.specs.Bodies.{slots_end, last_temporary}
+use Rattle.match_bodies.proofs.StackTop.{leaf_layout}
+use Rattle.match_bodies.proofs.BodyResumption.{frame_size}
+use Rattle.image_runs.specs.LiveFrames.{back_to, AreFrames}
+use Rattle.image_runs.proofs.WalkFrames.{frames}
+
+set_rest : (kept : List ℕ) (v : ℕ) → drop 1 (slice_set kept 0 v) ≡ drop 1 kept
+set_rest [] v = refl
+set_rest (k ∷ ks) v = refl
+
+module _ (t : Functions) (fs : List Funclet) (program : LinearProgram) (p : ImagePlan) where
+  -- as many items on both sides
+  pub as_many : (m : Memory) (c : Context) (is : List StackItem) (items : List Item)
+      (acts : List Activation) → Linked t fs program p m c is items acts → length is ≡ length items
+  as_many m c [] [] acts l = refl
+  as_many m c (Framed f ∷ is) (Waits b ∷ below) acts l = let n = as_many m (after_frame c f) is
+      below (activations_below b.body acts) l.2 in omega arith
+  as_many m c (Leaf back ∷ is) (Waits b ∷ below) acts l = let n = as_many m (after_leaf c back) is
+      below (activations_below b.body acts) l.2 in omega arith
+  as_many m c (Searching r ∷ is) (Searches exception resumption asked rest ∷ below) acts l =
+      let n = as_many m (context_of r.saved) is below acts l.1 in omega arith
+  as_many m c (Unwinding r ∷ is) (Unwinds rest target ∷ below) acts l = let n = as_many m r.walk is
+      below acts l.1 in omega arith
+  as_many m c is items acts l = absurd l
+
+  -- a body returns to where the walk continues
+  back : (m : Memory) (c : Context) (is : List StackItem) (items : List Item)
+      (acts : List Activation) → IsStack t m c is → Linked t fs program p m c is items acts
+      → ReturnsTo t fs program p items c.rip → back_to t fs program p items ≡ Some c.rip
+  back m c [] [] acts s l r = ap (λ (a : ℕ). Some a) (sym r)
+  back m c (Framed f ∷ is) (Waits b ∷ below) acts s l r = r
+  back m c (Leaf up ∷ is) (Waits b ∷ below) acts s l r = r
+  back m c (Searching d ∷ is) (Searches exception resumption asked rest ∷ below) acts s l r = ap
+      (λ (a : ℕ). Some a) (sym s.0.at_host)
+  back m c (Unwinding d ∷ is) (Unwinds rest target ∷ below) acts s l r = ap (λ (a : ℕ). Some a)
+      (sym s.0.at_host)
+  back m c is items acts s l r = absurd l
+
+  module _ (q : Sites) (image : IsProgramImage t fs program p q) where
+    pub are_frames : (m : Memory) (c : Context) (is : List StackItem) (items : List Item)
+        (acts : List Activation) → IsStack t m c is → Linked t fs program p m c is items acts
+        → AreFrames t fs program p m c items acts (frames c is)
+    are_frames m c [] [] acts s l = (s, l.0)
+    are_frames m c (Framed f ∷ is) (Waits b ∷ below) acts s l =
+        let y = p.layout b.body in
+        let w = l.0.waits in
+        let size = frame_size t fs program p q image m c f b.body w.code w.body l.0.framed l.0.entry
+        s.0 in
+        let up = rsp c + f.size + 8 in (
+          record {
+            waits = subst (λ (leaf : Bool). BodyWaits t fs program p m c (slots_end y leaf)
+                (last_temporary y b.body leaf) b acts) (sym l.0.framed)
+                (subst (λ n. BodyWaits t fs program p m c n (temporaries_end y b.body n) b acts)
+                size w);
+            at = refl;
+            back = back m (after_frame c f) is below (activations_below b.body acts) s.1 l.2
+                l.0.returns;
+            after = set_head c.kept up (let k = s.0.kept in omega arith)
+                ∙ ap (λ n. rsp c + n + 8) size;
+            kept = set_rest c.kept up;
+          },
+          are_frames m (after_frame c f) is below (activations_below b.body acts) s.1 l.2,
+        )
+    are_frames m c (Leaf up ∷ is) (Waits b ∷ below) acts s l =
+        let y = p.layout b.body in
+        let w = l.0.waits in
+        let none = leaf_layout t fs program p q b.body w.code l.0.leaf
+        (image.laid_out b.body w.code w.body) in
+        let next = rsp c + 8 in (
+          record {
+            waits = subst (λ (leaf : Bool). BodyWaits t fs program p m c (slots_end y leaf)
+                (last_temporary y b.body leaf) b acts) (sym l.0.leaf) w;
+            at = refl;
+            back = back m (after_leaf c up) is below (activations_below b.body acts) s.1 l.2
+                l.0.returns;
+            after = set_head c.kept next (let k = s.0.kept in omega arith)
+                ∙ (let z = none.frame in let e : next ≡ rsp c + y.frame + 8 = omega arith in e);
+            kept = set_rest c.kept next;
+          },
+          are_frames m (after_leaf c up) is below (activations_below b.body acts) s.1 l.2,
+        )
+    are_frames m c (Searching r ∷ is) (Searches exception resumption asked rest ∷ below) acts s l = (
+      r,
+      record { here = s.0.at_host; is = s.0.fetches },
+      are_frames m (context_of r.saved) is below acts s.1 l.1,
+    )
+    are_frames m c (Unwinding r ∷ is) (Unwinds rest target ∷ below) acts s l = (
+      r,
+      record { here = s.0.at_host; is = s.0.fetches },
+      are_frames m r.walk is below acts s.1 l.1,
+    )
+    are_frames m c is items acts s l = absurd l

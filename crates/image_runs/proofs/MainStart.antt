@@ -1,0 +1,160 @@
+-- `main` begins.
+use Rattle.std.proofs.Common.{◌≡◌, ℕ, zero, suc, ◌^◌, ◌<◌, ◌≤◌, Bool, true, false, Some, ℤ, pos, negsuc, List, [], ◌∷◌, length, get_or, refl, sym, ap, subst, arith}
+use Rattle.std.specs.Prelude.{slice_get, nat_eq, replicate, if◌then◌else◌}
+use Rattle.std.proofs.lemmas.Option.{slice_get_within}
+use Rattle.seh_num.specs.declared.width.Width.TheVariants.{W64}
+use Rattle.seh_num.specs.Widths.{wrapped}
+use Rattle.flat_memory.specs.Memory.{Memory}
+use Rattle.x64_machine.specs.declared.cpu.Cpu.{Cpu}
+use Rattle.x64_machine.specs.Effect.{State}
+use Rattle.virtual_unwind.specs.CallerOf.{Functions}
+use Rattle.seh_records.specs.Laws.{AllSmall}
+use Rattle.host_model.specs.declared.funclet.Funclet.{Funclet}
+use Rattle.host_model.specs.Loading.{first_cpu}
+use Rattle.source_meaning.specs.Source.{first_memory}
+use Rattle.linear_code.specs.Program.{LinearProgram, LinearFunction}
+use Rattle.linear_machine.specs.Frames.{FunctionBody, body_of, function_body}
+use Rattle.linear_machine.specs.Run.{main_arguments, start}
+use Rattle.x64_templates.specs.EntryStates.{InRegisters}
+use Rattle.match_stack.specs.ImagePlan.{ImagePlan}
+use Rattle.lowering_invariants.specs.Ready.{CanContinue}
+use Rattle.match_stack.specs.DispatchStates.{IsWellFormed}
+use Rattle.match_bodies.specs.CodeSites.{Sites}
+use Rattle.match_bodies.specs.ProgramImages.{IsProgramImage}
+use Rattle.match_bodies.specs.BodyViews.{seen_by_templates}
+use Rattle.match_bodies.specs.ConfigurationFacts.{IsWellMade}
+use Rattle.match_bodies.proofs.StepNeeds.{label_in}
+use Rattle.image_runs.specs.MainStart.{first_stack, IsFirst, MainBegins}
+use Rattle.image_runs.specs.MainLaws.{MainIsBegun}
+use Rattle.image_runs.proofs.FunctionEntry.{IsCalled}
+use Rattle.image_runs.proofs.FirstFunction as begun
+
+-- what the argument registers hold: the argument of the run, and zeros
+abbrev given : ℤ → ℕ → ℕ
+given arg zero = wrapped W64 arg
+given arg (suc i) = 0
+
+wrapped_small : (arg : ℤ) → wrapped W64 arg < 2 ^ 64
+wrapped_small (pos n) = omega arith
+wrapped_small (negsuc n) = omega arith
+
+given_small : (arg : ℤ) (i : ℕ) → given arg i < 2 ^ 64
+given_small arg zero = wrapped_small arg
+given_small arg (suc i) = omega arith
+
+-- `main` takes the argument, or nothing
+given_are : (parameters : ℕ) (arg : ℤ) (i v : ℕ)
+    → slice_get (main_arguments parameters arg) i ≡ Some v → given arg i ≡ v
+given_are parameters arg i v e = by (nat_eq parameters 0) i e
+  where
+    by : (b : Bool) (i : ℕ) → slice_get (if b then [] else wrapped W64 arg ∷ []) i ≡ Some v
+        → given arg i ≡ v
+    by true zero e = cc
+    by true (suc i) e = cc
+    by false zero e = cc
+    by false (suc i) e = cc
+
+arguments_count : (parameters : ℕ) (arg : ℤ) → parameters ≤ 1
+    → length (main_arguments parameters arg) ≡ parameters
+arguments_count zero arg le = refl
+arguments_count (suc zero) arg le = refl
+arguments_count (suc (suc n)) arg le = absurd (omega arith)
+
+-- the first registers
+small_more : (x : ℕ) (xs : List ℕ) → x < 2 ^ 64 → AllSmall xs → AllSmall (x ∷ xs)
+small_more x xs h rest zero lt = h
+small_more x xs h rest (suc j) lt = rest j (omega arith)
+
+small_zeros : (n : ℕ) → AllSmall (replicate n 0)
+small_zeros zero j lt = absurd (omega arith)
+small_zeros (suc n) j lt = small_more 0 (replicate n 0) (omega arith) (small_zeros n) j lt
+
+first_small : (entry : ℕ) (arg : ℤ) → AllSmall (first_cpu entry arg).registers
+first_small entry arg =
+    let zeros : List ℕ = replicate 11 0 in
+    small_more 0 (wrapped W64 arg ∷ 0 ∷ 0 ∷ first_stack ∷ zeros) (omega arith)
+    (small_more (wrapped W64 arg) (0 ∷ 0 ∷ first_stack ∷ zeros) (wrapped_small arg)
+    (small_more 0 (0 ∷ first_stack ∷ zeros) (omega arith)
+    (small_more 0 (first_stack ∷ zeros) (omega arith)
+    (small_more first_stack zeros (omega arith) (small_zeros 11)))))
+
+module _ (t : Functions) (fs : List Funclet) (program : LinearProgram) (p : ImagePlan) (q : Sites)
+    (image : IsProgramImage t fs program p q) (made : IsWellMade program p) (arg : ℤ)
+    (main : LinearFunction) (s : State) (is_main : slice_get program.functions program.main
+    ≡ Some main)
+    (goes : CanContinue program (start program arg main)) (h : IsFirst t fs program p q arg s) where
+  abbrev source : Memory
+  source = first_memory program.globals
+
+  abbrev cpu : Cpu
+  cpu = first_cpu (q.function program.main) arg
+
+  there : body_of program (FunctionBody program.main) ≡ Some main.body
+  there = ap function_body is_main
+
+  some : 0 < length main.body.code
+  some = slice_get_within main.body.code 0 goes.instruction
+      (label_in (body_of program (FunctionBody program.main)) main.body 0 goes.instruction there
+      goes.at)
+
+  few : main.parameters ≤ 1
+  few = made.whole.few main is_main
+
+  function_small : q.function program.main < 2 ^ 64
+  function_small =
+      let a = image.addresses (FunctionBody program.main) main.body there in
+      let u = a.inside.high in
+      let r = a.first in
+      omega arith
+
+  well_formed : IsWellFormed s
+  well_formed = record {
+    rip_small = subst (λ (c : Cpu). c.rip < 2 ^ 64) (sym h.cpu) function_small;
+    count = ap (λ (c : Cpu). length c.registers) h.cpu;
+    small = subst (λ (c : Cpu). AllSmall c.registers) (sym h.cpu)
+        (first_small (q.function program.main) arg);
+  }
+
+  called : IsCalled t fs program p q s source program.main main first_stack (given arg)
+  called = record {
+    function = is_main;
+    rip = ap (λ (c : Cpu). c.rip) h.cpu;
+    stack = ap (λ (c : Cpu). get_or c.registers 4 0) h.cpu;
+    low = omega arith;
+    high = omega arith;
+    count = well_formed.count;
+    few = omega (arith, few);
+    fits = made.whole.parameters program.main main is_main;
+    registers = subst (λ (c : Cpu). InRegisters
+        (seen_by_templates (record { cpu = c; memory = s.memory })) (given arg)) (sym h.cpu)
+        (record { first = refl; second = refl; third = refl; fourth = refl });
+    small = given_small arg;
+    memory = h.memory;
+  }
+
+  pub main_begins : MainBegins t fs program p q arg main s
+  main_begins =
+      let arguments = main_arguments main.parameters arg in
+      let counted = arguments_count main.parameters arg few in
+      let same = given_are main.parameters arg in
+      record {
+        values = begun.others t fs program p q image s source program.main main first_stack
+            (given arg) called some well_formed refl h.returns arguments counted same;
+        as_many = begun.counted_others t fs program p q image s source program.main main first_stack
+            (given arg) called some well_formed refl h.returns arguments counted same;
+        small = begun.small_others t fs program p q image s source program.main main first_stack
+            (given arg) called some well_formed refl h.returns arguments counted same;
+        turns = _;
+        few = (let r = begun.soon t fs program p q image s source program.main main first_stack
+            (given arg) called some well_formed refl h.returns arguments counted same in omega arith);
+        state = begun.after t fs program p q image s source program.main main first_stack
+            (given arg) called some well_formed refl h.returns arguments counted same;
+        comes = begun.comes t fs program p q image s source program.main main first_stack
+            (given arg) called some well_formed refl h.returns arguments counted same;
+        begins = begun.begins t fs program p q image s source program.main main first_stack
+            (given arg) called some well_formed refl h.returns arguments counted same;
+      }
+
+pub main_is_begun : MainIsBegun
+main_is_begun t fs program p q image made arg main s is_main goes h = main_begins t fs program p q
+    image made arg main s is_main goes h

@@ -1,0 +1,191 @@
+-- In an image that is linked a body that is about to return is as at any other instruction.
+use Rattle.std.proofs.Common.{◌≡◌, ℕ, ◌+◌, ◌^◌, ◌<◌, false, List, [], ◌∷◌, ◌++◌, length, Option, Some, None, Ok, refl, sym, ap, subst, ◌∙◌, arith}
+use Rattle.std.specs.Prelude.{slice_get}
+use Rattle.std.proofs.lemmas.Bool.{false≢true}
+use Rattle.flat_memory.specs.Memory.{Memory}
+use Rattle.x64_instr.specs.declared.register.Reg.TheVariants.{Rax}
+use Rattle.x64_instr.specs.declared.instruction.Instr.{Instr}
+use Rattle.x64_encode.specs.Chosen.{chosen}
+use Rattle.x64_machine.specs.declared.context.Context.{Context}
+use Rattle.virtual_unwind.specs.Contexts.{rsp}
+use Rattle.virtual_unwind.specs.Undone.{word}
+use Rattle.match_stack.specs.Stack.{FrameIsAt, LeafIsAt}
+use Rattle.frame_rules.specs.Bytes.{IsExecutableAt}
+use Rattle.linear_code.specs.declared.slot.Slot.{Slot}
+use Rattle.linear_code.specs.declared.slot.Slot.TheVariants.{Local, Temporary}
+use Rattle.linear_code.specs.declared.instruction.Instruction.TheVariants as instructions
+use Rattle.linear_code.specs.Program.{LinearBody, LinearProgram}
+use Rattle.linear_machine.specs.Frames.{BodyName, body_of}
+use Rattle.frame_layout.specs.declared.frame.FrameLayout.{FrameLayout}
+use Rattle.frame_layout.specs.Layout.{taking_size}
+use Rattle.template_code.specs.declared.layout.Layout.{Layout}
+use Rattle.template_code.specs.Bytes.{spelled, sizes}
+use Rattle.template_code.specs.Slots.{fetch_local, local_at, fetch}
+use Rattle.template_code.specs.Calls.{epilogue}
+use Rattle.template_code.specs.Template.{code_from}
+use Rattle.x64_emit.specs.Near.{IsInstructionNear}
+use Rattle.image_link.specs.Text.{entry_code, entry_size, check_stack_at, routine_code}
+use Rattle.image_link.specs.Linked.{text_begin, linked}
+use Rattle.image_link.proofs.Entries.{entry_sizes}
+use Rattle.image_tables.specs.RoutinePlaces.{Placed, end_of, site_of}
+use Rattle.image_tables.specs.Entries as tables
+use Rattle.image_tables.specs.CodeInMemory.{image_base, template_at, links}
+use Rattle.image_tables.specs.FrameLaws.{stack_frame}
+use Rattle.image_tables.proofs.CodeInMemory.{executable_split, code_split, IsThere, template_there}
+use Rattle.image_tables.proofs.BodyInstructions.{AllInner, inner_at, fetch_inner}
+use Rattle.image_tables.proofs.Layouts.{size_of, sized}
+use Rattle.image_tables.proofs.BodyFrames.{near_at, HasItem, frame_at, leaf_at}
+use Rattle.match_bodies.specs.CodeSites.{begin_of, code_of}
+use Rattle.match_bodies.specs.ProgramImages.{HasProgram, IsFramed, frame_with}
+use Rattle.match_bodies.proofs.TemplateSizes.{template_some}
+use Rattle.match_turns.proofs.OperationCode.{IsSome}
+use Rattle.image_states.specs.Plans.{functions_of, funclets_of, is_leaf, or_none, routine_of, plan_of, sites_of}
+use Rattle.image_states.specs.Compiled.{HasWholeImage}
+use Rattle.image_states.proofs.Addresses.{place, here}
+use Rattle.image_states.proofs.Entering.{code_same}
+use Rattle.image_states.proofs.Framed.{executable_of, leaf_of}
+use Rattle.image_runs.specs.ReturnFrames.{IsReturning}
+use Rattle.image_runs.specs.WalkLaws.{LinkedReturnsWait}
+
+-- ---- the first machine instruction of a return fetches the result
+
+local_some : (o : Option ℕ) (d : ℕ) → IsSome (fetch_local o Rax d)
+local_some None d = record { item = _; left = []; parts = refl }
+local_some (Some b) d = record { item = _; left = _; parts = refl }
+
+fetch_some : (y : Layout) (from : Slot) → IsSome (fetch y Rax from)
+fetch_some y (Temporary i) = record { item = _; left = []; parts = refl }
+fetch_some y (Local i) = local_some y.base (local_at y i)
+
+module _ (p : LinearProgram) (m : Memory) (x : Placed) (number : ℕ) (from : Slot)
+    (code : IsExecutableAt m (image_base + x.begin)
+    (spelled (routine_code (site_of p) x.begin x.routine)))
+    (h : IsThere (site_of p) (linked p).text (text_begin p.globals) x)
+    (at : slice_get x.routine.body.code number ≡ Some (instructions.Return from)) where
+  returning : HasItem m x (template_at x number)
+  returning =
+      let r = x.routine in
+      let y = r.layout in
+      let s = site_of p in
+      let k = links p x in
+      let begin = x.begin + entry_size r in
+      let i = instructions.Return from in
+      let entry = entry_code x.begin (check_stack_at s.text) r in
+      let t = template_there k y begin r.body.code number i at in
+      let near = near_at (IsInstructionNear y) r.body.code number i h.near.code at in
+      let f = fetch_some y from in
+      let some = template_some y i in
+      let in' = t.inside in
+      let at' = t.here in
+      let size = entry_sizes x.begin (check_stack_at s.text) r h.near in
+      let base = image_base + x.begin in
+      let body = (code_split m base entry (code_from k y begin r.body.code) code).1 in
+      let rest = (code_split m (base + sizes entry) t.before
+      ((fetch y Rax from ++ epilogue y.frame) ++ t.after)
+      (subst (λ (q : List Instr). IsExecutableAt m (base + sizes entry) (spelled q)) t.parts
+      body)).1 in
+      let split : (fetch y Rax from ++ epilogue y.frame) ++ t.after
+      ≡ f.item ∷ ((f.left ++ epilogue y.frame) ++ t.after) = ap
+      (λ (q : List Instr). (q ++ epilogue y.frame) ++ t.after) f.parts in
+      let last = subst (λ (q : List Instr). IsExecutableAt m (base + sizes entry + sizes t.before)
+      (spelled q)) split rest in
+      let here' : base + sizes entry + sizes t.before
+      ≡ image_base + template_at x number = omega arith in
+      record {
+        item = f.item;
+        inner = inner_at [] f.left f.item (subst AllInner f.parts (fetch_inner y from near.0));
+        past = omega arith;
+        inside = omega arith;
+        is_there = subst (λ (n : ℕ). IsExecutableAt m n (chosen f.item)) here'
+            (executable_split m (base + sizes entry + sizes t.before) (chosen f.item)
+            (spelled ((f.left ++ epilogue y.frame) ++ t.after)) last).0;
+      }
+
+-- ---- frames
+
+framed_of : (o : Option FrameLayout) → is_leaf o ≡ false → (f : FrameLayout) × (o ≡ Some f)
+framed_of (Some f) e = (f, refl)
+framed_of None e = absurd (false≢true (sym e))
+
+module _ (p : LinearProgram) (c : HasWholeImage p) (m : Memory) (name : BodyName) (b : LinearBody)
+    (is : body_of p name ≡ Some b) (k : Context) (label back : ℕ)
+    (kept : length k.kept ≡ 9) where
+  abbrev x : Placed
+  x = routine_of p name
+
+  abbrev rva : ℕ
+  rva = template_at x label
+
+  code_there : HasProgram (functions_of p) (funclets_of p) p (plan_of p) (sites_of p) m
+      → IsExecutableAt m (image_base + x.begin)
+      (spelled (routine_code (site_of p) x.begin x.routine))
+  code_there has =
+      let begin = begin_of (plan_of p) (sites_of p) name in
+      let code = executable_of m begin (spelled (code_of p (plan_of p) (sites_of p) name b))
+      (has.code name b is).is_there in
+      subst (λ (n : ℕ). IsExecutableAt m n (spelled (routine_code (site_of p) x.begin x.routine)))
+      (place p c name b is).begin (subst (λ (q : List Instr). IsExecutableAt m begin (spelled q))
+      (code_same p c name b is) code)
+
+  at_return : (from : Slot) → slice_get b.code label ≡ Some (instructions.Return from)
+      → slice_get x.routine.body.code label ≡ Some (instructions.Return from)
+  at_return from there = ap (λ (d : LinearBody). slice_get d.code label) (place p c name b is).body
+      ∙ there
+
+  frame_there : (f : FrameLayout) → x.routine.frame ≡ Some f → (first : HasItem m x rva)
+      → k.rip ≡ image_base + rva → rsp k + f.size + 8 < 2 ^ 64 → word m (rsp k + f.size) ≡ Ok back
+      → FrameIsAt (functions_of p) m k (stack_frame p x f back)
+  frame_there f framed first at room' returns = frame_at p m (place p c name b is).index x f k rva
+      back c.fits c.ranges (place p c name b is).at framed first at kept room' returns
+
+  leaf_there : x.routine.frame ≡ None → k.rip ≡ image_base + rva → rsp k + 8 < 2 ^ 64
+      → word m (rsp k) ≡ Ok back → rva < end_of x → LeafIsAt (functions_of p) m k back
+  leaf_there none at room' returns inside = leaf_at p m (place p c name b is).index x k rva back
+      c.fits c.ranges (place p c name b is).at none (omega arith) inside at kept room' returns
+
+  framed_still : (plan_of p).leaf name ≡ false
+      → HasProgram (functions_of p) (funclets_of p) p (plan_of p) (sites_of p) m
+      → IsReturning (functions_of p) (funclets_of p) p (plan_of p) (sites_of p) b name label k.rip
+      → rsp k + x.routine.layout.frame + 8 < 2 ^ 64
+      → word m (rsp k + x.routine.layout.frame) ≡ Ok back
+      → IsFramed (functions_of p) (funclets_of p) p (plan_of p) (sites_of p) m name k back
+  framed_still framed has r room returns =
+      let f = framed_of x.routine.frame framed in
+      let at = (place p c name b is).at in
+      let size : x.routine.layout.frame ≡ f.0.size = sized p (place p c name b is).index x at
+      ∙ ap size_of f.1 in
+      let first = returning p m x label r.from (code_there has) (here p c name b is)
+      (at_return r.from r.there) in
+      let s = frame_there f.0 f.1 first r.here (subst (λ (n : ℕ). rsp k + n + 8 < 2 ^ 64) size room)
+      (subst (λ (n : ℕ). word m (rsp k + n) ≡ Ok back) size returns) in
+      let same : stack_frame p x f.0 back ≡ frame_with
+      (tables.entry_of (site_of p) x (or_none x.routine.frame)) x.routine.layout.frame
+      (taking_size f.0.size) back =
+      λ i. frame_with (tables.entry_of (site_of p) x (or_none (sym f.1 i))) (sym size i)
+      (taking_size f.0.size) back in
+      record {
+        offset = taking_size f.0.size;
+        is_there = subst (FrameIsAt (functions_of p) m k) same s;
+      }
+
+pub linked_returns_wait : LinkedReturnsWait
+linked_returns_wait p c = record {
+  frames = λ m name b label k back is framed has r kept room returns. framed_still p c m name b is k
+      label back kept framed has r room returns;
+  leaves = λ m name b label k back is leaf r kept room returns.
+      leaf_there p c m name b is k label back kept (leaf_of (routine_of p name).routine.frame leaf)
+      r.here room returns (within p c name b is label r.from r.there);
+}
+  where
+    within : (p : LinearProgram) (c : HasWholeImage p) (name : BodyName) (b : LinearBody)
+        → body_of p name ≡ Some b → (label : ℕ) (from : Slot)
+        → slice_get b.code label ≡ Some (instructions.Return from)
+        → template_at (routine_of p name) label < end_of (routine_of p name)
+    within p c name b is label from there =
+        let x = routine_of p name in
+        let t = template_there (links p x) x.routine.layout (x.begin + entry_size x.routine)
+        x.routine.body.code label (instructions.Return from)
+        (ap (λ (d : LinearBody). slice_get d.code label) (place p c name b is).body ∙ there) in
+        let some = template_some x.routine.layout (instructions.Return from) in
+        let in' = t.inside in
+        omega arith

@@ -1,0 +1,71 @@
+-- A run that is matched step by step passes a state for each step.
+use Rattle.std.proofs.Common.{◌≡◌, inl, inr, ℕ, zero, suc, List, refl, subst, ◌∙◌}
+use Rattle.std.specs.Prelude.{Option, Some, None}
+use Rattle.x64_machine.specs.Effect.{State}
+use Rattle.virtual_unwind.specs.CallerOf.{Functions}
+use Rattle.host_model.specs.declared.funclet.Funclet.{Funclet}
+use Rattle.linear_code.specs.declared.instruction.Instruction.{Instruction}
+use Rattle.linear_code.specs.Program.{LinearProgram}
+use Rattle.linear_machine.specs.Frames.{Configuration, Seen, Running, Finished, Stuck}
+use Rattle.linear_machine.specs.Instructions.{act}
+use Rattle.linear_machine.specs.Run.{instruction_at, exec}
+use Rattle.match_runs.specs.Ends.{HasRule}
+use Rattle.match_runs.specs.Matched.{IsMatched, Simulates}
+use Rattle.match_runs.proofs.Steps.{at_instruction, at_none, first_has_rule}
+use Rattle.image_runs.specs.RunStates.{IsRunning, HasNextStep, Passes}
+
+running_has_rule : (x : Seen) → IsRunning x → HasRule x
+running_has_rule (Running es) h = tt
+running_has_rule (Finished e es) h = absurd h
+running_has_rule (Stuck es) h = absurd h
+
+module _ (t : Functions) (fs : List Funclet) (program : LinearProgram) (turns_per_step : ℕ)
+    (credit : Configuration → ℕ) (R : ℕ → State → Configuration → Type 0)
+    (Holds : State → Configuration → Type 0)
+    (simulates : Simulates t fs program turns_per_step credit R)
+    (holds : (n : ℕ) (s : State) (c : Configuration) → R n s c → Holds s c) where
+  step : (n : ℕ) (s : State) (c : Configuration) (i : Instruction)
+      → instruction_at program c ≡ Some i
+      → ((u : State) (d : Configuration) → R n u d → IsRunning (exec program n d)
+      → Passes t fs program turns_per_step credit Holds n u d)
+      → IsRunning (act program i (exec program n) c)
+      → IsMatched t fs program turns_per_step credit (R n) s c i
+      → HasNextStep t fs program turns_per_step credit (Passes t fs program turns_per_step credit Holds n) s c
+  step n s c i at rest running (inl v) = record {
+    turns = v.turns;
+    some = v.some;
+    configuration = v.configuration;
+    few = v.few;
+    state = v.state;
+    events = v.events;
+    comes = v.comes;
+    shown = v.shown;
+    continues = λ k. at_instruction program k c i at ∙ v.acts (exec program k);
+    rest = rest v.state v.configuration v.is_there
+        (subst IsRunning (v.acts (exec program n)) running);
+  }
+  step n s c i at rest running (inr (inl v)) = absurd
+      (subst IsRunning (v.acts (exec program n)) running)
+  step n s c i at rest running (inr (inr (inl v))) = absurd
+      (subst IsRunning (v.acts (exec program n)) running)
+  step n s c i at rest running (inr (inr (inr v))) = absurd
+      (subst IsRunning (v.acts (exec program n)) running)
+
+  -- where the relation gives that something holds, it holds in a state for each step
+  pub passes : (n : ℕ) (s : State) (c : Configuration) → R n s c → IsRunning (exec program n c)
+      → Passes t fs program turns_per_step credit Holds n s c
+  passes zero s c r running = holds zero s c r
+  passes (suc n) s c r running = (
+    holds (suc n) s c r,
+    by (instruction_at program c) refl (λ u d. passes n u d),
+  )
+    where
+      by : (o : Option Instruction) → instruction_at program c ≡ o
+          → ((u : State) (d : Configuration) → R n u d → IsRunning (exec program n d)
+          → Passes t fs program turns_per_step credit Holds n u d)
+          → HasNextStep t fs program turns_per_step credit (Passes t fs program turns_per_step credit Holds n) s c
+      by None at rest = absurd (subst IsRunning (at_none program n c at) running)
+      by (Some i) at rest =
+          step n s c i at rest (subst IsRunning (at_instruction program n c i at) running)
+          (simulates.steps n s c r i at (first_has_rule program n c i at
+          (running_has_rule (exec program (suc n) c) running)))

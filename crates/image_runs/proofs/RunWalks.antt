@@ -1,0 +1,107 @@
+-- The run of a compiled image passes the states that represent linear code's configurations.
+use Rattle.std.proofs.Common.{◌≡◌, inl, zero, refl, subst, ap, []}
+use Rattle.std.specs.Prelude.{ℕ, ℤ, slice_get, get_or, Option, Some}
+use Rattle.std.proofs.lemmas.Option.{slice_get-get_or}
+use Rattle.pe_write.specs.Program.{image_of}
+use Rattle.x64_machine.specs.Effect.{State}
+use Rattle.host_model.specs.Loading as images
+use Rattle.c_checked.specs.Program.{Program}
+use Rattle.linear_code.specs.Program.{LinearFunction, LinearProgram}
+use Rattle.linear_machine.specs.Frames.{Configuration, with_some}
+use Rattle.linear_machine.specs.Run.{start, seen, exec}
+use Rattle.lowering_invariants.proofs.Ready.{continues}
+use Rattle.seh_ir.specs.Lowered.{lowered}
+use Rattle.lowering_locals.specs.Reads.{ReadsNoUnset}
+use Rattle.lowering_locals.specs.UnsetLaws.{started_with}
+use Rattle.lowering_locals.proofs.AgreementSteps.{agreement_at_start}
+use Rattle.match_bodies.specs.Bodies.{turns_left}
+use Rattle.match_bodies.specs.StepLaws.{turns_per_step}
+use Rattle.image_link.specs.Routines.{nothing}
+use Rattle.image_link.specs.Linked.{linked}
+use Rattle.image_states.specs.Plans.{functions_of, funclets_of, plan_of, sites_of}
+use Rattle.image_states.specs.StartLaws.{HasBytes}
+use Rattle.image_runs.specs.MainStart.{MainBegins}
+use Rattle.image_runs.proofs.FirstState.{mains_begin}
+use Rattle.image_runs.specs.SoundImages.{IsLinkable, IsSoundImage}
+use Rattle.image_runs.proofs.ImageCode.{lowered_is_compiled}
+use Rattle.image_runs.proofs.SoundImages.{lowered_has_image}
+use Rattle.image_runs.specs.AgreementStates.{RepresentsWhereSet}
+use Rattle.image_runs.proofs.AgreementFacts.{known}
+use Rattle.image_runs.proofs.AgreementSimulation.{agreement_simulates}
+use Rattle.image_runs.specs.RunStates.{IsRunning}
+use Rattle.image_runs.proofs.RunStates.{passes}
+use Rattle.image_runs.proofs.ReturnFrames.{linked_returns_wait}
+use Rattle.image_runs.proofs.StateWalks.{walks_give_the_frames}
+use Rattle.image_runs.specs.RunWalks.{ShowsFramesOf, PassesTheFrames}
+use Rattle.image_runs.specs.WalkedLaws.{RunsPassTheFrames}
+
+module _ (program : Program) (l : IsLinkable program) (reads : ReadsNoUnset (lowered program)) where
+  abbrev linear : LinearProgram
+  linear = lowered program
+
+  image : IsSoundImage (functions_of linear) (funclets_of linear) linear (plan_of linear)
+      (sites_of linear)
+  image = lowered_has_image program l
+
+  -- where the machine represents the actual configuration
+  shows : (s : State) (c : Configuration) → RepresentsWhereSet (functions_of linear) (funclets_of linear)
+      linear (plan_of linear) (sites_of linear) s c → ShowsFramesOf program s c
+  shows s c r = record {
+    actual = r.actual;
+    agreement = r.agreement;
+    walk = walks_give_the_frames (functions_of linear) (funclets_of linear) linear (plan_of linear)
+        (sites_of linear) image.image
+        (linked_returns_wait linear (lowered_is_compiled program l)) s r.actual r.is_there
+        (known program l.sound reads c r.actual r.agreement);
+  }
+
+  module _ (octets : HasBytes linear) (arg : ℤ) (n : ℕ) (running : IsRunning (seen linear arg n))
+    where
+      abbrev no_function : LinearFunction
+      no_function = record { parameters = 0; body = nothing }
+
+      abbrev main : LinearFunction
+      main = get_or linear.functions linear.main no_function
+
+      is_main : slice_get linear.functions linear.main ≡ Some main
+      is_main = slice_get-get_or linear.functions linear.main no_function l.fits.main
+
+      begins : MainBegins (functions_of linear) (funclets_of linear) linear (plan_of linear)
+          (sites_of linear) arg main (images.start (image_of (linked linear)) arg)
+      begins =
+          mains_begin linear (lowered_is_compiled program l) octets image.made arg main is_main
+          (continues program l.sound (start linear arg main)
+          (record { argument = arg; main = main; is_main = is_main; turns = zero; comes = refl }))
+
+      goes : IsRunning (exec linear n (start linear arg main))
+      unfolding with_some
+      goes = subst IsRunning (ap (λ (o : Option LinearFunction). with_some [] o
+          (λ main. exec linear n (start linear arg main))) is_main) running
+
+      pub passes_the_frames : PassesTheFrames program arg n
+      passes_the_frames =
+          let b = begins in
+          record {
+            main = main;
+            is_main = is_main;
+            turns = b.turns;
+            few = b.few;
+            state = b.state;
+            comes = b.comes;
+            passes = passes (functions_of linear) (funclets_of linear) linear turns_per_step turns_left
+                (λ k. RepresentsWhereSet (functions_of linear) (funclets_of linear) linear (plan_of linear)
+                (sites_of linear)) (ShowsFramesOf program)
+                (agreement_simulates (functions_of linear) (funclets_of linear) program (plan_of linear)
+                (sites_of linear) l.sound reads image)
+                (λ k s c r. shows s c r) n b.state (start linear arg main)
+                (record {
+                  actual = started_with linear arg main b.values;
+                  agreement = agreement_at_start linear arg main b.values is_main b.as_many b.small;
+                  is_there = inl b.begins;
+                })
+                goes;
+          }
+
+pub runs_pass_the_frames : RunsPassTheFrames
+runs_pass_the_frames program l reads octets arg n running = passes_the_frames program l reads octets
+    arg n running

@@ -1,0 +1,124 @@
+-- All that steps of the machine ask of the image of a sound program.
+use Rattle.std.proofs.Common.{◌≡◌, ℕ, ◌<◌, [], ◌∷◌, length, get_or, Some, refl, sym, ap, ◌∙◌, arith, length-append}
+use Rattle.std.proofs.lemmas.Option.{slice_get-get_or}
+use Rattle.c_checked.specs.Program.{Program}
+use Rattle.linear_code.specs.declared.instruction.Instruction.TheVariants as instructions
+use Rattle.linear_code.specs.declared.program.FuncletKind.{FuncletKind}
+use Rattle.linear_code.specs.declared.program.FuncletKind.TheVariants.{Filter, Finally}
+use Rattle.linear_code.specs.declared.slot.Slot.TheVariants.{Local, Temporary}
+use Rattle.linear_code.specs.Program.{LinearBody, LinearFunction, LinearProgram}
+use Rattle.linear_machine.specs.Frames.{FunctionBody, function_body, body_of}
+use Rattle.linear_machine.specs.Unwinding.{flag_in, flag_of}
+use Rattle.lowering_expressions.specs.Scope.{finally_scope}
+use Rattle.lowering_expressions.specs.Expressions.{constant, expression_code}
+use Rattle.seh_ir.specs.Statements.{statements_code}
+use Rattle.seh_ir.specs.Lowered.{scope_of, lowered}
+use Rattle.image_link.specs.Routines.{nothing}
+use Rattle.match_turns.specs.CallOutcome.{FunctionsApart}
+use Rattle.lowering_invariants.proofs.CallRegions.{has_same_regions}
+use Rattle.lowering_invariants.proofs.Flags.{has_flags}
+use Rattle.lowering_invariants.proofs.BlockSeparators.{lowered_is_followed}
+use Rattle.lowering_invariants.proofs.UnwindLabels.{lowered_stays_inside}
+use Rattle.lowering_invariants.proofs.Blind.{lowered_informs_filters}
+use Rattle.lowering_invariants.proofs.ReturnRegions.{lowered_is_apart}
+use Rattle.lowering_invariants.proofs.EveryBody.{every_body}
+use Rattle.lowering_invariants.proofs.Lowered.{lowered_is_whole}
+use Rattle.lowering_invariants.proofs.Room.{body_small, has_room}
+use Rattle.lowering_invariants.proofs.TurnStack.{all_at}
+use Rattle.lowering_invariants.specs.Slots.{IsField, IsPlain}
+use Rattle.x64_templates.specs.Exceptions as exceptions
+use Rattle.c_operations.specs.declared.field.Field.{Field}
+use Rattle.c_operations.specs.declared.field.Field.TheVariants as fields
+use Rattle.match_turns.specs.FilterInformation.{FiltersReadInformation}
+use Rattle.match_turns.specs.FuncletEntry.{FlagsFit}
+use Rattle.image_states.specs.Plans.{functions_of, funclets_of, plan_of, sites_of}
+use Rattle.image_states.proofs.Images.{images_are_programs}
+use Rattle.image_states.proofs.Leaves.{leaves_call_nothing, functions_apart}
+use Rattle.image_runs.specs.SoundImages.{IsLinkable, IsSoundImage}
+use Rattle.image_runs.specs.ImageLaws.{LoweredHasImage}
+use Rattle.image_runs.proofs.ImageCode.{lowered_is_compiled}
+
+flag_kind : (kind : FuncletKind) (flag : ℕ) → flag_in kind ≡ Some flag → kind ≡ Finally flag
+flag_kind Filter flag e = absurd (cc)
+flag_kind (Finally own) flag e = ap Finally (same_flag own flag e)
+  where
+    same_flag : (x y : ℕ) → Some x ≡ Some y → x ≡ y
+    same_flag x y e = cc
+
+-- a field that may be read in linear code may be read by a template
+same_field : (field : Field) → IsField field → exceptions.IsField field
+same_field fields.ExceptionCode h = tt
+same_field fields.ExceptionFlags h = tt
+same_field fields.NumberParameters h = tt
+same_field (fields.ExceptionInformation k) h = h
+
+module _ (program : Program) (l : IsLinkable program) where
+  abbrev linear : LinearProgram
+  linear = lowered program
+
+  -- code that ends with two instructions isn't empty
+  some_code : (k : ℕ) (b : LinearBody) → body_of linear (FunctionBody k) ≡ Some b
+      → 0 < length b.code
+  some_code k b e = every_body (λ (b : LinearBody). 0 < length b.code)
+      (λ owner names e. (let n = length-append (expression_code names e 0 0)
+      (instructions.Return (Temporary 0) ∷ []) in omega arith))
+      (λ owner names last. (let n = length-append (statements_code (finally_scope names) last 0)
+      (instructions.Return (Local names.free) ∷ []) in omega arith))
+      (λ f. (let n = length-append (statements_code (scope_of f) f.body 0)
+      (constant 0 0 ∷ instructions.Return (Temporary 0) ∷ []) in omega arith))
+      program (FunctionBody k) b e
+
+  no_function : LinearFunction
+  no_function = record { parameters = 0; body = nothing }
+
+  apart : FunctionsApart linear (plan_of linear) (sites_of linear)
+  apart f k lt within =
+      let function = get_or linear.functions f no_function in
+      let there : body_of linear (FunctionBody f)
+      ≡ Some function.body = ap function_body
+      (slice_get-get_or linear.functions f no_function lt) in
+      functions_apart linear (lowered_is_compiled program l) f k function.body there
+      (some_code f function.body there) within
+
+  flags : FlagsFit linear
+  flags k flag f at e = has_flags program k flag f at
+      (flag_kind f.kind flag (sym (ap flag_of at) ∙ e))
+
+  informs : FiltersReadInformation linear
+  informs name b label to field is at =
+      let filter = lowered_informs_filters program l.sound name b label to field is at in
+      let plain = all_at (IsPlain b.locals) b.code label (instructions.Information to field)
+      (body_small program l.sound l.shallow name b is).code at in (
+        record {
+          number = filter.number;
+          is = filter.is;
+          funclet = filter.funclet;
+          there = filter.there;
+          kind = filter.kind;
+        },
+        same_field field plain.1,
+      )
+
+  pub image : IsSoundImage (functions_of linear) (funclets_of linear) linear (plan_of linear)
+      (sites_of linear)
+  image = record {
+    image = images_are_programs linear (lowered_is_compiled program l);
+    made = record {
+      whole = lowered_is_whole program l.sound;
+      room = has_room program l.sound l.shallow;
+      apart = lowered_is_apart program;
+      leaves = λ name b label i is leaf there. leaves_call_nothing linear
+          (lowered_is_compiled program l) name b label i is leaf there;
+    };
+    apart = apart;
+    flags = flags;
+    separators = λ name b label k is there. lowered_is_followed program name b is label
+        (instructions.CallFinally k) there refl;
+    followed = lowered_is_followed program;
+    inside = lowered_stays_inside program;
+    informs = informs;
+    regions = has_same_regions program;
+  }
+
+pub lowered_has_image : LoweredHasImage
+lowered_has_image program l = image program l

@@ -1,0 +1,201 @@
+-- In every state that represents a configuration the walk gives the live frames.
+use Rattle.std.proofs.Common.{◌≡◌, ◌⊎◌, inl, inr, ℕ, ◌+◌, ◌^◌, ◌<◌, ◌≤◌, Bool, true, false, Some, List, [], ◌∷◌, ◌++◌, refl, sym, ap, ◌∙◌, arith}
+use Rattle.std.specs.Prelude.{slice_get}
+use Rattle.x64_instr.specs.declared.register.Reg.TheVariants.{Rsp}
+use Rattle.x64_instr.specs.declared.instruction.Instr.{Instr}
+use Rattle.x64_machine.specs.Contexts.{context_of}
+use Rattle.x64_machine.specs.Effect.{State, register}
+use Rattle.virtual_unwind.specs.CallerOf.{Functions}
+use Rattle.virtual_unwind.specs.Undone.{word}
+use Rattle.host_model.specs.declared.funclet.Funclet.{Funclet}
+use Rattle.linear_code.specs.declared.slot.Slot.{Slot}
+use Rattle.linear_code.specs.declared.slot.Slot.TheVariants.{Temporary}
+use Rattle.linear_code.specs.declared.instruction.Instruction.{Instruction}
+use Rattle.linear_code.specs.declared.instruction.Instruction.TheVariants as instructions
+use Rattle.linear_code.specs.Program.{LinearProgram}
+use Rattle.linear_machine.specs.Frames.{Waits, Configuration}
+use Rattle.linear_machine.specs.Run.{instruction_in, instruction_at}
+use Rattle.template_code.specs.Bytes.{sizes}
+use Rattle.template_code.specs.Slots.{operands_code, finish_code}
+use Rattle.template_code.specs.Template.{template}
+use Rattle.template_code.proofs.Sizes.{template_sizes}
+use Rattle.x64_templates.specs.Epilogues.{IsReturn}
+use Rattle.match_stack.specs.WalkLaws.{context_below}
+use Rattle.match_stack.specs.ImagePlan.{ImagePlan}
+use Rattle.match_stack.specs.ItemMatches.{Activation, activations_below, locals_of}
+use Rattle.match_stack.proofs.ListEnds.{in_stack}
+use Rattle.match_bodies.specs.CodeSites.{Sites, links_of}
+use Rattle.match_bodies.specs.ProgramImages.{HasProgram, IsResumed, IsProgramImage}
+use Rattle.match_bodies.specs.Bodies.{InBody, RepresentsAt}
+use Rattle.match_bodies.proofs.TemplateSizes.{template_some}
+use Rattle.match_bodies.proofs.StackTop.{leaf_layout, OnTop, others_of, framed_top, leaf_top, body_on_top}
+use Rattle.match_bodies.specs.ConfigurationFacts.{IsKnown}
+use Rattle.match_turns.specs.DispatchOutcome.{WorksOn, Represents}
+use Rattle.match_turns.proofs.OperationCode.{some_finish, is_some}
+use Rattle.image_runs.specs.ReturnFrames.{IsReturning, ReturnsWait}
+use Rattle.image_runs.specs.LiveFrames.{WalkGives}
+use Rattle.image_runs.specs.WalkLaws.{WalksGiveTheFrames}
+use Rattle.image_runs.proofs.WalkFrames.{frames, gives}
+use Rattle.image_runs.proofs.LiveFrames.{as_many, are_frames}
+
+return_or : (i : Instruction) → (IsReturn i → ⊥) ⊎ ((from : Slot) × (i ≡ instructions.Return from))
+return_or (instructions.Compute to o first second) = inl (λ h. h)
+return_or (instructions.Information to field) = inl (λ h. h)
+return_or (instructions.Landing to) = inl (λ h. h)
+return_or (instructions.Jump label) = inl (λ h. h)
+return_or (instructions.JumpIfZero slot label) = inl (λ h. h)
+return_or (instructions.Call f first count) = inl (λ h. h)
+return_or (instructions.CallBuiltIn f first) = inl (λ h. h)
+return_or (instructions.CallFinally k) = inl (λ h. h)
+return_or (instructions.LocalUnwind label) = inl (λ h. h)
+return_or instructions.Separator = inl (λ h. h)
+return_or (instructions.Return from) = inr (from, refl)
+
+module _ (t : Functions) (fs : List Funclet) (program : LinearProgram) (p : ImagePlan) (q : Sites)
+    (image : IsProgramImage t fs program p q) where
+  pub record IsTop (s : State) (c : Configuration) : Type 0 where
+    pub acts : List Activation
+    pub store : c.store.activations ≡ locals_of acts
+    pub top : OnTop t fs program p q s c acts
+
+  pub from_top : (s : State) (c : Configuration) → IsTop s c → WalkGives t fs program p s c
+  from_top s c h =
+      let m = s.memory in
+      let from = context_of s.cpu in
+      let top = h.top in
+      let is_there = top.on.is_there in
+      let n = as_many t fs program p m from top.is (Waits c.frame ∷ c.below) h.acts
+      is_there.linked in
+      record {
+        acts = h.acts;
+        store = h.store;
+        frames = frames from top.is;
+        live = are_frames t fs program p q image m from top.is (Waits c.frame ∷ c.below) h.acts
+            is_there.stack is_there.linked;
+        walks = λ k le. gives t m from 0 top.is k is_there.stack (omega arith);
+      }
+
+  -- an instruction that a configuration is at is in its body's code
+  in_code : (s : State) (c : Configuration) (i : Instruction) (at : InBody t fs program p q s c)
+      → instruction_at program c ≡ Some i → slice_get at.slots.code.code c.frame.next ≡ Some i
+  in_code s c i at e = sym (ap (λ o. instruction_in o c.frame.next) at.slots.body) ∙ e
+
+  module _ (s : State) (c : Configuration) (at : InBody t fs program p q s c) where
+    is_top : OnTop t fs program p q s c at.acts → IsTop s c
+    is_top top = record { acts = at.acts; store = at.store; top = top }
+
+    -- where a return begins
+    module _ (still : ReturnsWait t fs program p q) (has : HasProgram t fs program p q s.memory)
+        (r : IsReturning t fs program p q at.slots.code c.frame.body c.frame.next s.cpu.rip) where
+      abbrev sp : ℕ
+      sp = register s.cpu Rsp
+
+      abbrev size : ℕ
+      size = (p.layout c.frame.body).frame
+
+      below_end : sp + size + 8 < 2 ^ 64
+      below_end =
+          let rest = at.below (others_of t fs program p q s) refl in
+          let top = in_stack t fs program p s.memory
+          (context_below at.back (sp + size + 8) (others_of t fs program p q s)) at.is c.below
+          (activations_below c.frame.body at.acts) rest.is_there.stack rest.is_there.linked in
+          omega arith
+
+      returning_top : (leaf : Bool) → p.leaf c.frame.body ≡ leaf
+          → OnTop t fs program p q s c at.acts
+      returning_top false e = framed_top t fs program p q s c at e
+          (still.frames s.memory c.frame.body at.slots.code c.frame.next (context_of s.cpu) at.back
+          at.slots.body e has r refl below_end at.returns)
+      returning_top true e =
+          let z = (leaf_layout t fs program p q c.frame.body at.slots.code e
+          (image.laid_out c.frame.body at.slots.code at.slots.body)).frame in
+          let lt = below_end in
+          let here : sp + size ≡ sp = omega arith in
+          leaf_top t fs program p q image s c at e
+          (still.leaves s.memory c.frame.body at.slots.code c.frame.next (context_of s.cpu) at.back
+          at.slots.body e r refl (omega arith) (ap (word s.memory) (sym here) ∙ at.returns))
+
+  -- where an instruction begins
+  begun : ReturnsWait t fs program p q → (s : State) (c : Configuration) (i : Instruction)
+      → (b : RepresentsAt t fs program p q s c) → instruction_at program c ≡ Some i → IsTop s c
+  begun still s c i b e = by (return_or i)
+    where
+      code : List Instr
+      code = template (links_of p q c.frame.body) (p.layout c.frame.body)
+          (p.address c.frame.body c.frame.next) i
+
+      some : 1 ≤ sizes code
+      some =
+          let n = template_sizes (links_of p q c.frame.body) (p.layout c.frame.body)
+          (p.address c.frame.body c.frame.next) i in
+          let k = template_some (p.layout c.frame.body) i in
+          omega arith
+
+      by : (IsReturn i → ⊥) ⊎ ((from : Slot) × (i ≡ instructions.Return from)) → IsTop s c
+      by (inl goes) =
+          let x = is_some code some in
+          let here = b.rip in
+          let resumed : IsResumed t fs program p q c.frame.body b.body.slots.code c.frame.next
+          s.cpu.rip =
+          record {
+            instruction = i;
+            there = in_code s c i b.body e;
+            continues = goes;
+            done = [];
+            item = x.item;
+            left = x.left;
+            parts = x.parts;
+            here = omega arith;
+          } in
+          is_top s c b.body (body_on_top t fs program p q image s c c.frame.next b.body resumed
+          b.memory.code)
+      by (inr r) =
+          is_top s c b.body
+          (returning_top s c b.body still b.memory.code
+          (record {
+            from = r.0;
+            there = in_code s c i b.body e
+                ∙ ap (λ (j : Instruction). Some j) r.1;
+            here = b.rip;
+          }) (p.leaf c.frame.body) refl)
+
+  -- within an operation that is made again
+  working : (s : State) (c : Configuration) → WorksOn t fs program p q s c → IsTop s c
+  working s c w = is_top s c w.body (body_on_top t fs program p q image s c c.frame.next w.body
+      resumed w.memory.code)
+    where
+      ops : List Instr
+      ops = operands_code (p.layout c.frame.body) w.again.operation (Temporary w.again.first)
+          (Temporary w.again.second)
+
+      finish : List Instr
+      finish = finish_code (p.layout c.frame.body) w.again.operation w.again.to
+
+      i : Instruction
+      i = instructions.Compute w.again.to w.again.operation (Temporary w.again.first)
+          (Temporary w.again.second)
+
+      resumed : IsResumed t fs program p q c.frame.body w.body.slots.code c.frame.next s.cpu.rip
+      resumed =
+          let x = is_some finish (some_finish (p.layout c.frame.body) w.again.operation
+          w.again.to) in
+          record {
+            instruction = i;
+            there = in_code s c i w.body w.again.works;
+            continues = λ h. h;
+            done = ops;
+            item = x.item;
+            left = x.left;
+            parts = ap (λ rest. ops ++ rest) x.parts;
+            here = w.again.here;
+          }
+
+  -- on top of what waits below it, in every state that represents a configuration
+  pub tops : ReturnsWait t fs program p q → (s : State) (c : Configuration)
+      → Represents t fs program p q s c → IsKnown program c → IsTop s c
+  tops still s c (inl b) known = begun still s c known.continues.instruction b known.continues.at
+  tops still s c (inr w) known = working s c w
+
+pub walks_give_the_frames : WalksGiveTheFrames
+walks_give_the_frames t fs program p q image still s c is_there known = from_top t fs program p q
+    image s c (tops t fs program p q image still s c is_there known)

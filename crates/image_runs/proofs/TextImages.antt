@@ -1,0 +1,42 @@
+-- The program of an accepted text is sound, and names each local where it is declared.
+use Rattle.std.proofs.Common.{ℕ, ◌+◌, List, arith}
+use Rattle.std.proofs.lemmas.Nat.{mul-le}
+use Rattle.c_syntax.specs.Limits.{Within}
+use Rattle.c_syntax.specs.Program.{ExternalDeclaration}
+use Rattle.c_resolved.specs.Accepted.{Accepted}
+use Rattle.c_resolved.proofs.SoundPrograms.{accepted_is_sound}
+use Rattle.c_resolved.proofs.ProgramScopes.{resolved_is_scoped}
+use Rattle.seh_ir.specs.Lowered.{lowered}
+use Rattle.lowering_follows.specs.StepsPerTurn.{steps_per_turn_of}
+use Rattle.text_bounds.proofs.StatementNesting.{resolved_is_shallow}
+use Rattle.text_bounds.specs.StepsPerTurnLaws.{steps_per_turn_in, program_of}
+use Rattle.text_bounds.proofs.StepsPerTurn.{steps_per_turn_are_bounded}
+use Rattle.lowering_locals.proofs.ProgramSets.{scoped_reads_no_unset}
+use Rattle.image_link.specs.Fits.{FitsProgram}
+use Rattle.image_runs.specs.SoundImages.{IsLinkable}
+use Rattle.image_runs.proofs.ImageMeaning.{compiled_realise, compiled_show_nothing_more}
+use Rattle.image_runs.specs.AcceptedLaws.{AcceptedReadsNoUnset, AcceptedRealise, AcceptedShowNothingMore}
+
+pub linkable : (text : List ℕ) (xs : List ExternalDeclaration) → Within text xs → Accepted text xs
+    → FitsProgram (lowered (program_of text xs)) → IsLinkable (program_of text xs)
+linkable text xs within accepted fits = record {
+  sound = accepted_is_sound text xs within accepted;
+  shallow = resolved_is_shallow text xs within;
+  fits = fits;
+}
+
+pub reads_no_unset : AcceptedReadsNoUnset
+reads_no_unset text xs within accepted = scoped_reads_no_unset (program_of text xs)
+    (accepted_is_sound text xs within accepted) (resolved_is_scoped text xs)
+
+pub realise : AcceptedRealise
+realise text xs bytes within accepted fits w = compiled_realise (program_of text xs)
+    (linkable text xs within accepted fits) (reads_no_unset text xs within accepted) bytes w
+
+pub nothing_more : AcceptedShowNothingMore
+nothing_more text xs bytes within accepted fits w most few arg m n lt enough_steps calm =
+    let slow = steps_per_turn_are_bounded text xs most few in
+    let slower = mul-le (m + 1) (steps_per_turn_of (program_of text xs)) (m + 1) (steps_per_turn_in most) (omega arith)
+    slow in
+    compiled_show_nothing_more (program_of text xs) (linkable text xs within accepted fits)
+    (reads_no_unset text xs within accepted) bytes w arg m n lt (omega arith) calm

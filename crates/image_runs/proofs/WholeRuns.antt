@@ -1,0 +1,59 @@
+-- Whole runs of images.
+use Rattle.std.proofs.Common.{◌≡◌, ℕ, ◌+◌, ◌*◌, inl, refl}
+use Rattle.std.specs.Prelude.{List, slice_get, ℤ, Some}
+use Rattle.x64_machine.specs.Effect.{State}
+use Rattle.virtual_unwind.specs.CallerOf.{Functions}
+use Rattle.host_model.specs.declared.funclet.Funclet.{Funclet}
+use Rattle.c_checked.specs.Program.{Program}
+use Rattle.c_checked.specs.Sound.{IsSound}
+use Rattle.linear_code.specs.Program.{LinearFunction}
+use Rattle.linear_machine.specs.Run.{start}
+use Rattle.match_stack.specs.ImagePlan.{ImagePlan}
+use Rattle.seh_ir.specs.Lowered.{lowered}
+use Rattle.match_runs.specs.Laws.{RunBegins}
+use Rattle.match_runs.proofs.Steps.{follows}
+use Rattle.lowering_locals.specs.Reads.{ReadsNoUnset}
+use Rattle.lowering_locals.specs.UnsetLaws.{started_with}
+use Rattle.lowering_locals.proofs.AgreementSteps.{agreement_at_start}
+use Rattle.image_runs.proofs.RunMatches as runs
+use Rattle.match_bodies.specs.CodeSites.{Sites}
+use Rattle.match_bodies.specs.Bodies.{turns_left}
+use Rattle.match_bodies.specs.StepLaws.{turns_per_step}
+use Rattle.image_runs.specs.SoundImages.{IsSoundImage}
+use Rattle.image_runs.specs.MainStart.{MainBegins}
+use Rattle.image_runs.specs.AgreementStates.{RepresentsWhereSet}
+use Rattle.image_runs.specs.RunLaws.{ImagesShowAll, ImagesShowNoMore}
+use Rattle.image_runs.proofs.AgreementSimulation.{agreement_simulates}
+
+module _ (t : Functions) (fs : List Funclet) (program : Program) (p : ImagePlan) (q : Sites)
+    (sound : IsSound program) (reads : ReadsNoUnset (lowered program))
+    (image : IsSoundImage t fs (lowered program) p q) (arg : ℤ) (main : LinearFunction) (s : State)
+    (is_main : slice_get (lowered program).functions (lowered program).main ≡ Some main)
+    (b : MainBegins t fs (lowered program) p q arg main s) where
+  pub begins : (n : ℕ) → RunBegins t fs (lowered program) turns_per_step turns_left arg b.turns s n
+  begins n = record {
+    main = main;
+    is_main = is_main;
+    state = b.state;
+    comes = b.comes;
+    no_credit = refl;
+    follows = follows t fs (lowered program) turns_per_step turns_left
+        (λ n. RepresentsWhereSet t fs (lowered program) p q)
+        (agreement_simulates t fs program p q sound reads image) n b.state
+        (start (lowered program) arg main)
+        (record {
+          actual = started_with (lowered program) arg main b.values;
+          agreement = agreement_at_start (lowered program) arg main b.values is_main b.as_many b.small;
+          is_there = inl b.begins;
+        });
+  }
+
+pub images_show_all : ImagesShowAll
+images_show_all t fs program p q sound reads image arg main s is_main b n =
+    runs.all t fs program sound turns_left arg b.turns n s
+    (begins t fs program p q sound reads image arg main s is_main b (16 * n + 2)) b.few
+
+pub images_show_no_more : ImagesShowNoMore
+images_show_no_more t fs program p q sound reads image arg main s is_main b m n enough_steps calm =
+    runs.no_more t fs program sound turns_left arg b.turns m n s
+    (begins t fs program p q sound reads image arg main s is_main b m) enough_steps calm

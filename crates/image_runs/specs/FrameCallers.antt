@@ -1,0 +1,45 @@
+-- The frames of a checked program's image, at every instruction of its code.
+use Rattle.std.specs.Prelude.{◌≡◌, ℕ, ◌+◌, slice_get, Some, None}
+use Rattle.x64_machine.specs.Effect.{State}
+use Rattle.frame_rules.specs.Rules.{IsInFunction}
+use Rattle.frame_rules.specs.States.{IsEntry}
+use Rattle.host_layout.specs.declared.imported.ImportedService.{ImportedService}
+use Rattle.c_checked.specs.Program.{Program}
+use Rattle.linear_code.specs.Program.{LinearProgram}
+use Rattle.seh_ir.specs.Lowered.{lowered}
+use Rattle.frame_layout.specs.declared.frame.FrameLayout.{FrameLayout}
+use Rattle.image_link.specs.Fits.{FitsProgram}
+use Rattle.image_link.specs.Text.{thunk_at, check_stack_at}
+use Rattle.image_tables.specs.RoutinePlaces.{Placed, end_of, site_of, placed}
+use Rattle.image_tables.specs.CodeInMemory.{image_base, HasText}
+use Rattle.image_tables.specs.Functions.{function_of, leaf, thunk_of, probe}
+use Rattle.image_tables.specs.FrameLaws.{FindsCaller, IsInRange}
+
+-- from each state of a routine the walk finds its caller, as it was at the routine's first byte (in
+-- state e): in a function or funclet with a frame, prologue and epilogues included; in a leaf
+-- function; in the thunk of a service; in `__chkstk`
+pub record FindsCallers (p : LinearProgram) : Type 0 where
+  pub functions :
+      (index : ℕ) (x : Placed) (f : FrameLayout) (e s : State) (distance : ℕ)
+      → slice_get (placed p) index ≡ Some x → x.routine.frame ≡ Some f
+      → IsEntry f.size e → HasText s.memory p
+      → s.cpu.rip ≡ image_base + x.begin + distance → IsInFunction (function_of p x f) e s distance
+      → FindsCaller p e s
+  pub leaves :
+      (index : ℕ) (x : Placed) (e s : State)
+      → slice_get (placed p) index ≡ Some x → x.routine.frame ≡ None
+      → IsInRange e s (leaf p x) x.begin (end_of x) → FindsCaller p e s
+  pub thunks :
+      (service : ImportedService) (e s : State)
+      → IsInRange e s (thunk_of p service)
+      (thunk_at (site_of p).text service) (thunk_at (site_of p).text service + 6)
+      → FindsCaller p e s
+  pub probes :
+      (e s : State)
+      → IsInRange e s probe (check_stack_at (site_of p).text) (check_stack_at (site_of p).text + 21)
+      → FindsCaller p e s
+
+-- so it is of every checked program whose linear code is within the limits of linking
+abbrev pub LoweredFindsCallers : Type 0
+LoweredFindsCallers =
+    (program : Program) → FitsProgram (lowered program) → FindsCallers (lowered program)

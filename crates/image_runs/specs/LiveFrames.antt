@@ -1,0 +1,72 @@
+-- The frames that are live in a configuration of linear code: those of the body that runs and of
+-- each that waits, innermost first.
+use Rattle.std.specs.Prelude.{◌≡◌, ℕ, ◌+◌, ◌≤◌, List, [], ◌∷◌, length, drop, Option, Some}
+use Rattle.flat_memory.specs.Memory.{Memory}
+use Rattle.x64_machine.specs.declared.context.Context.{Context}
+use Rattle.x64_machine.specs.Contexts.{context_of}
+use Rattle.x64_machine.specs.Effect.{State}
+use Rattle.virtual_unwind.specs.Contexts.{rsp}
+use Rattle.virtual_unwind.specs.CallerOf.{Functions}
+use Rattle.seh_records.specs.declared.dispatch.DispatchRecord.{DispatchRecord}
+use Rattle.seh_records.specs.Record.{fetched}
+use Rattle.seh_walk.specs.Walk.{filter_return, finally_return}
+use Rattle.host_model.specs.declared.funclet.Funclet.{Funclet}
+use Rattle.linear_code.specs.Program.{LinearProgram}
+use Rattle.linear_machine.specs.Frames as linear
+use Rattle.linear_machine.specs.Frames.{body_of, Item, Waits, Searches, Unwinds, Configuration}
+use Rattle.linear_machine.specs.Run.{instruction_in}
+use Rattle.match_stack.specs.PlainWalks.{state}
+use Rattle.match_stack.specs.ImagePlan.{ImagePlan}
+use Rattle.match_stack.specs.ItemMatches.{Activation, locals_of, activations_below, return_of, BodyWaits}
+use Rattle.match_bodies.specs.Bodies.{slots_end, last_temporary}
+use Rattle.match_runs.specs.Walked.{LiveFrame, walked}
+
+module _ (t : Functions) (fs : List Funclet) (program : LinearProgram) (p : ImagePlan) where
+  -- where a body returns to, by what is below it: the first one to 0, a called one past its call, a
+  -- filter or a block that the dispatcher called to the host's return address for it
+  abbrev pub back_to : List Item → Option ℕ
+  back_to [] = Some 0
+  back_to (Waits w ∷ below) =
+      return_of (p.layout w.body) (p.address w.body w.next)
+      (instruction_in (body_of program w.body) w.next)
+  back_to (Searches exception resumption asked rest ∷ below) = Some filter_return
+  back_to (Unwinds rest target ∷ below) = Some finally_return
+
+  -- the frame of a body: RIP is in its code, its slots hold what linear code has in them, above
+  -- them is its return address, and no nonvolatile register was changed
+  pub record IsFrameOf (m : Memory) (c : Context) (b : linear.Frame) (below : List Item)
+      (acts : List Activation) (f : LiveFrame) : Type 0 where
+    pub waits : BodyWaits t fs program p m c (slots_end (p.layout b.body) (p.leaf b.body))
+        (last_temporary (p.layout b.body) b.body (p.leaf b.body)) b acts
+    pub at : f.at ≡ rsp c
+    pub back : back_to below ≡ Some f.caller.rip
+    pub after : rsp f.caller ≡ rsp c + (p.layout b.body).frame + 8
+    pub kept : drop 1 f.caller.kept ≡ drop 1 c.kept
+
+  -- a suspended search or unwinding: its record is at RSP, at the host's return address for it
+  pub record IsRecordAt (m : Memory) (c : Context) (address : ℕ) (r : DispatchRecord) : Type 0 where
+    pub here : c.rip ≡ address
+    pub is : fetched m (rsp c) ≡ Some r
+
+  -- from a context on: past a frame at its caller, past a search where its exception was raised,
+  -- past an unwinding where that has come to
+  abbrev pub AreFrames : Memory → Context → List Item → List Activation → List LiveFrame → Type 0
+  AreFrames m c [] acts [] = (c.rip ≡ 0) × (acts ≡ [])
+  AreFrames m c (Waits b ∷ below) acts (f ∷ frames) =
+      IsFrameOf m c b below acts f × AreFrames m f.caller below
+      (activations_below b.body acts) frames
+  AreFrames m c (Searches exception resumption asked rest ∷ below) acts frames =
+      (r : DispatchRecord) × IsRecordAt m c filter_return r
+      × AreFrames m (context_of r.saved) below acts frames
+  AreFrames m c (Unwinds rest target ∷ below) acts frames =
+      (r : DispatchRecord) × IsRecordAt m c finally_return r × AreFrames m r.walk below acts frames
+  AreFrames m c items acts frames = ⊥
+
+  -- the walk from a state gives the frames that are live in a configuration, and then RIP 0
+  pub record WalkGives (s : State) (c : Configuration) : Type 0 where
+    pub acts : List Activation
+    pub store : c.store.activations ≡ locals_of acts
+    pub frames : List LiveFrame
+    pub live : AreFrames s.memory (context_of s.cpu) (Waits c.frame ∷ c.below) acts frames
+    pub walks : (n : ℕ) → length c.below + 3 ≤ n
+        → walked n t s.memory (state (context_of s.cpu) 0) ≡ Some frames

@@ -1,0 +1,37 @@
+-- A run of the machine that passes, for each step of linear code, a state in which something holds.
+use Rattle.std.specs.Prelude.{◌≡◌, ℕ, zero, suc, ◌+◌, ◌≤◌, List, ◌++◌}
+use Rattle.seh_num.specs.declared.event.Event.{Event}
+use Rattle.x64_machine.specs.Effect.{State}
+use Rattle.virtual_unwind.specs.CallerOf.{Functions}
+use Rattle.host_model.specs.declared.funclet.Funclet.{Funclet}
+use Rattle.linear_code.specs.Program.{LinearProgram}
+use Rattle.linear_machine.specs.Frames.{Configuration, Seen, Running, Finished, Stuck}
+use Rattle.linear_machine.specs.Run.{exec}
+use Rattle.match_runs.specs.Comes.{Comes}
+
+-- linear code has not ended
+abbrev pub IsRunning : Seen → Type 0
+IsRunning (Running es) = Unit {0}
+IsRunning (Finished e es) = ⊥
+IsRunning (Stuck es) = ⊥
+
+module _ (t : Functions) (fs : List Funclet) (program : LinearProgram) (turns_per_step : ℕ)
+    (credit : Configuration → ℕ) where
+  -- linear code continues by a step, and the machine by some turns, which show the same events
+  pub record HasNextStep (Rest : State → Configuration → Type 0) (s : State)
+      (c : Configuration) : Type 0 where
+    pub turns : ℕ
+    pub some : 1 ≤ turns
+    pub configuration : Configuration
+    pub few : turns + credit configuration ≤ turns_per_step + credit c
+    pub state : State
+    pub events : List Event
+    pub comes : Comes t fs turns s events state
+    pub shown : configuration.events ≡ c.events ++ events
+    pub continues : (n : ℕ) → exec program (suc n) c ≡ exec program n configuration
+    pub rest : Rest state configuration
+
+  -- in this state, and after each of so many steps
+  abbrev pub Passes : (State → Configuration → Type 0) → ℕ → State → Configuration → Type 0
+  Passes Holds zero s c = Holds s c
+  Passes Holds (suc n) s c = Holds s c × HasNextStep (Passes Holds n) s c

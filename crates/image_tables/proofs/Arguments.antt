@@ -1,0 +1,55 @@
+-- What a routine does with what it is called with is code of a body.
+use Rattle.std.proofs.Common.{ℕ, zero, suc, ◌+◌, Bool, true, false, cond, ltb, [], ◌∷◌, Option, Some, None, refl, arith}
+use Rattle.seh_num.specs.declared.width.Width.TheVariants.{W32}
+use Rattle.x64_instr.specs.declared.register.Reg.TheVariants.{Rax, Rcx, Rsp}
+use Rattle.linear_code.specs.declared.slot.Slot.TheVariants.{Local}
+use Rattle.template_code.specs.declared.layout.Layout.{Layout}
+use Rattle.template_code.specs.Operations.{move}
+use Rattle.template_code.specs.Slots.{fetched, keep, local_at}
+use Rattle.template_code.specs.Calls.{keep_register, parameter_register, stack_parameter, parameter_code, parameters_code}
+use Rattle.x64_emit.specs.Near.{IsNear}
+use Rattle.x64_emit.specs.Entries.{keep_base, IsParentNear}
+use Rattle.image_link.specs.declared.routine.Entry.{Entry}
+use Rattle.image_link.specs.declared.routine.Entry.TheVariants as entries
+use Rattle.image_link.specs.Near.{IsEntryNear}
+use Rattle.image_link.specs.Text.{base_of, argument_code}
+use Rattle.image_tables.proofs.BodyInstructions.{AllInner, inner_both, signed, keep_inner}
+
+parameter_inner : (y : Layout) (i : ℕ) (few : Bool) → IsNear (local_at y i)
+    → IsNear (stack_parameter y i) → AllInner
+    (cond few (keep_register (parameter_register i) (local_at y i) ∷ [])
+    (fetched Rax Rsp (stack_parameter y i) ∷ keep_register Rax (local_at y i) ∷ []))
+parameter_inner y i true lt lt' = ((signed (local_at y i) lt, (λ b. refl), (λ o. refl)), tt)
+parameter_inner y i false lt lt' = (
+  (signed (stack_parameter y i) lt', (λ b. refl), (λ o. refl)),
+  ((signed (local_at y i) lt, (λ b. refl), (λ o. refl)), tt),
+)
+
+parameters_inner : (y : Layout) (i n : ℕ) → IsNear (local_at y (i + n))
+    → IsNear (stack_parameter y (i + n)) → AllInner (parameters_code y i n)
+parameters_inner y i zero lt lt' = tt
+parameters_inner y i (suc n) lt lt' = inner_both (parameter_code y i) (parameters_code y (i + 1) n)
+    (parameter_inner y i (ltb i 4) (omega arith) (omega arith))
+    (parameters_inner y (i + 1) n (omega arith) (omega arith))
+
+base_inner : (parent : Option ℕ) (b : ℕ) → IsParentNear parent → IsNear b
+    → AllInner (keep_base parent b)
+base_inner None b near lt = ((signed b lt, (λ b. refl), (λ o. refl)), tt)
+base_inner (Some parent) b near lt = (
+  (signed parent near, (λ b. refl), (λ o. refl)),
+  ((signed b lt, (λ b. refl), (λ o. refl)), tt),
+)
+
+pub arguments_inner : (y : Layout) (e : Entry) → IsEntryNear y e → AllInner (argument_code y e)
+arguments_inner y (entries.Function count) near =
+    let locals = near.1.locals in
+    let stack = near.1.stack in
+    parameters_inner y 0 count (omega arith) (omega arith)
+arguments_inner y (entries.Filter parent) near =
+    inner_both (keep_base parent (base_of y y.base)) (keep_register Rcx y.pointers ∷ [])
+    (base_inner parent (base_of y y.base) near.0.parent_near near.0.base_near)
+    ((signed y.pointers near.1, (λ b. refl), (λ o. refl)), tt)
+arguments_inner y (entries.Finally parent flag) near =
+    inner_both (keep_base parent (base_of y y.base)) (move W32 Rax Rcx ∷ keep y (Local flag))
+    (base_inner parent (base_of y y.base) near.0.parent_near near.0.base_near)
+    ((refl, (λ b. refl), (λ o. refl)), keep_inner y (Local flag) near.1)

@@ -1,0 +1,146 @@
+-- A loaded image has its text in memory.
+use Rattle.std.proofs.Common.{◌≡◌, ℕ, suc, inl, ◌+◌, ◌-◌, ◌*◌, ◌/◌, ◌^◌, ◌<◌, true, false, ltb, leb, List, [], ◌∷◌, length, get_or, Some, refl, sym, ap, ◌∙◌, arith}
+use Rattle.std.specs.List.{AllByRecursion}
+use Rattle.std.proofs.lemmas.Bool.{lt-ltb, le-ltb, le-leb}
+use Rattle.flat_memory.specs.declared.protection.Protection.{Protection}
+use Rattle.flat_memory.specs.Protections.{is_writable}
+use Rattle.flat_memory.specs.Memory.{Memory, may_write}
+use Rattle.pe_image.specs.Image.{Section, Image}
+use Rattle.pe_image.specs.Imports.{Import}
+use Rattle.pe_write.specs.ImportTables.{services, imported}
+use Rattle.pe_write.specs.Program.{ImageContents, image_of, sections_of, imports_of, rdata_at, text_at, sizes_of}
+use Rattle.pe_write.proofs.Programs.{listed}
+use Rattle.host_model.specs.Loading.{section_of, mode_in, byte_in, stored_byte, with_slots, mapped}
+use Rattle.host_model.specs.Slots.{IsBeside}
+use Rattle.host_model.proofs.Slots.{slots-beside}
+use Rattle.frame_rules.specs.Bytes.{IsExecutableAt}
+use Rattle.linear_code.specs.Program.{LinearProgram}
+use Rattle.image_link.specs.Fits.{FitsProgram}
+use Rattle.image_link.specs.Linked.{text_begin, data_size, linked}
+use Rattle.image_link.specs.Routines.{routines}
+use Rattle.image_link.proofs.Images.{rdata_fits, has_places}
+use Rattle.image_link.proofs.Nearness.{routines_near}
+use Rattle.image_tables.proofs.Table.{is, rdata_is}
+use Rattle.image_tables.specs.CodeInMemory.{image_base}
+use Rattle.image_tables.specs.FrameLaws.{ImagesHaveText, TextsAreFixed}
+
+module _ (p : LinearProgram) (fits : FitsProgram p) where
+  abbrev program : ImageContents
+  program = linked p
+
+  abbrev image : Image
+  image = image_of program
+
+  abbrev code : List ℕ
+  code = program.text
+
+  abbrev r : ℕ
+  r = rdata_at (sizes_of program)
+
+  abbrev at : ℕ
+  at = image_base + text_begin p.globals
+
+  abbrev text : Section
+  text = record {
+    address = text_at (sizes_of program);
+    size = length code;
+    raw = code;
+    flags = 0x60000020;
+  }
+
+  low : r + 0x3000 < 2 ^ 32
+  low =
+      let fit = rdata_fits p.globals (routines p) (length p.functions) p.main fits.globals
+      (routines_near p fits) (has_places p fits) in
+      let e = rdata_is p fits in
+      omega arith
+
+  here : (k : ℕ) → at + k ≡ image_base + text_at (sizes_of program) + k
+  here k = omega arith
+
+  -- ---- the slots are after it
+
+  beside_all : (a : ℕ) → a < image_base + r → AllByRecursion
+      (λ (i : Import). IsBeside a (image_base + i.slot)) (imported (r + 88) services)
+  beside_all a lt =
+      let l = low in (
+        record { apart = inl (omega arith); fits = omega arith },
+        (
+          record { apart = inl (omega arith); fits = omega arith },
+          (
+            record { apart = inl (omega arith); fits = omega arith },
+            (
+              record { apart = inl (omega arith); fits = omega arith },
+              (
+                record { apart = inl (omega arith); fits = omega arith },
+                tt,
+              ),
+            ),
+          ),
+        ),
+      )
+
+  below_slots : (a : ℕ) → a < image_base + r → (mapped image).byte a ≡ stored_byte image a
+  unfolding mapped
+  below_slots a lt =
+      let l = low in
+      ap (λ is. with_slots image_base (stored_byte image) is a) (listed program (is p fits))
+      ∙ slots-beside image_base (stored_byte image) a (imports_of program) (omega arith)
+      (beside_all a lt)
+
+  -- ---- byte by byte
+
+  text_there : (k : ℕ) → k < length code → section_of image_base (at + k) (sections_of program)
+      ≡ Some text
+  text_there k lt =
+      let begin = image_base + text_at (sizes_of program) in
+      let h = here k in
+      let past : ltb (at + k) (image_base + 0x1000 + (program.data_size + 4095) / 4096 * 4096)
+      ≡ false = le-ltb _ _ (omega arith) in
+      let after : leb (image_base + 0x1000) (at + k) ≡ true = le-leb _ _ (omega arith) in
+      let begun : leb begin (at + k) ≡ true = le-leb _ _ (omega arith) in
+      let before : ltb (at + k) (begin + (length code + 4095) / 4096 * 4096)
+      ≡ true = lt-ltb _ _ (omega arith) in
+      rw (past, after, begun, before) refl
+
+  byte_is : (k : ℕ) → k < length code → (mapped image).byte (at + k) ≡ get_or code k 0
+  byte_is k lt =
+      let h = here k in
+      let gone : at + k - (image_base + text_at (sizes_of program)) ≡ k = omega arith in
+      below_slots (at + k) (omega arith)
+      ∙ ap (λ s. byte_in image_base s (at + k)) (text_there k lt) ∙ ap (λ j. get_or code j 0) gone
+
+  mode_is : (k : ℕ) → k < length code → (mapped image).protection (at + k)
+      ≡ mode_in (Some text) (at + k)
+  unfolding mapped
+  mode_is k lt = ap (λ s. mode_in s (at + k)) (text_there k lt)
+
+  executes : (k : ℕ) → k < length code → ((mapped image).protection (at + k)).execute ≡ true
+  executes k lt = ap (λ (m : Protection). m.execute) (mode_is k lt)
+
+  pub is_fixed : (k : ℕ) → k < length code → may_write (mapped image) (at + k) ≡ false
+  is_fixed k lt = ap (λ (m : Protection). is_writable m.rights) (mode_is k lt)
+
+-- bytes that are one by one are together
+executable_of : (m : Memory) (at : ℕ) (bytes : List ℕ)
+    → ((k : ℕ) → k < length bytes → m.byte (at + k) ≡ get_or bytes k 0)
+    → ((k : ℕ) → k < length bytes → (m.protection (at + k)).execute ≡ true)
+    → IsExecutableAt m at bytes
+executable_of m at [] b x = tt
+executable_of m at (c ∷ bytes) b x =
+    let z : at + 0 ≡ at = omega arith in (
+      ap m.byte (sym z) ∙ b 0 (omega arith),
+      ap (λ a. (m.protection a).execute) (sym z) ∙ x 0 (omega arith),
+      executable_of m (at + 1) bytes
+          (λ k lt. (let e : at + 1 + k ≡ at + suc k = omega arith in ap m.byte e
+          ∙ b (suc k) (omega arith)))
+          (λ k lt. (let e : at + 1 + k ≡ at + suc k = omega arith in
+          ap (λ a. (m.protection a).execute) e ∙ x (suc k) (omega arith))),
+    )
+
+pub images_have_text : ImagesHaveText
+images_have_text p fits = executable_of (mapped (image_of (linked p)))
+    (image_base + text_begin p.globals) (linked p).text (byte_is p fits) (executes p fits)
+
+pub texts_are_fixed : TextsAreFixed
+texts_are_fixed p k fits lt = is_fixed p fits k lt

@@ -1,0 +1,47 @@
+-- What the code of a routine refers to is in the image.
+use Rattle.std.proofs.Common.{ℕ, ◌+◌, ◌≤◌, length, arith}
+use Rattle.c_operations.specs.declared.built_in.BuiltIn.{BuiltIn}
+use Rattle.c_operations.specs.declared.built_in.BuiltIn.TheVariants.{Put, Protect, RaiseException}
+use Rattle.linear_code.specs.Program.{LinearProgram}
+use Rattle.x64_emit.specs.Linking.{thunk_of}
+use Rattle.image_link.specs.Fits.{FitsProgram}
+use Rattle.image_link.specs.Routines.{routines}
+use Rattle.image_link.specs.Text.{entry_size, own_addresses, thunks_at}
+use Rattle.image_link.specs.Linked.{text_begin, linked}
+use Rattle.image_link.proofs.Entries.{entry_small, routine_small, labels_near}
+use Rattle.image_link.proofs.Images.{site_near, has_places}
+use Rattle.image_link.proofs.Nearness.{routines_near}
+use Rattle.image_tables.specs.RoutinePlaces.{Placed, site_of}
+use Rattle.image_tables.proofs.RowBounds.{below_at}
+use Rattle.image_tables.specs.CodeInMemory.{links}
+use Rattle.image_tables.proofs.CodeInMemory.{IsThere}
+use Rattle.image_tables.proofs.Templates.{AreLinksNear}
+use Rattle.x64_emit.specs.Near.{IsNear, near_end}
+use Rattle.host_layout.specs.declared.limit.TheConstants.{MOST_IMAGE}
+
+thunk_near : (text : ℕ) (f : BuiltIn) → text ≤ MOST_IMAGE → IsNear (thunk_of (thunks_at text) f)
+thunk_near text Put lt = omega arith
+thunk_near text Protect lt = omega arith
+thunk_near text RaiseException lt = omega arith
+
+pub links_near : (p : LinearProgram) (x : Placed) → FitsProgram p
+    → IsThere (site_of p) (linked p).text (text_begin p.globals) x → AreLinksNear (links p x)
+links_near p x fits h =
+    let s = site_of p in
+    let r = x.routine in
+    let n = site_near p.globals (routines p) (length p.functions) p.main fits.globals
+    (routines_near p fits) (has_places p fits) in
+    let text = n.text in
+    let room = h.room in
+    let small = routine_small r h.near in
+    let entry = entry_small r h.near in
+    let own = own_addresses x.begin r in
+    let labels = labels_near r.layout (x.begin + entry_size r) r.body.code h.near.code
+    (omega arith) in
+    record {
+      label = λ l. below_at near_end own.labels l own.end labels (omega arith);
+      function = λ f. below_at near_end s.functions f 0 n.functions (omega arith);
+      known = λ f. thunk_near s.text f text;
+      funclet = λ f. below_at near_end s.funclets f 0 n.funclets (omega arith);
+      local_unwind = omega arith;
+    }

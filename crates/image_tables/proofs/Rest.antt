@@ -1,0 +1,165 @@
+-- The instructions after a prologue lead from the body to the body.
+use Rattle.std.proofs.Common.{◌≡◌, ℕ, zero, suc, ◌+◌, ◌^◌, ◌<◌, Bool, true, ◌&&◌, List, [], ◌∷◌, ◌++◌, Some, refl, sym, ap, ◌∙◌, arith}
+use Rattle.std.specs.List.{AllByRecursion}
+use Rattle.std.proofs.lemmas.Bool.{and_parts, and_from, ne_eqb}
+use Rattle.x64_instr.specs.declared.register.Reg.TheVariants.{Rax}
+use Rattle.x64_instr.specs.declared.instruction.Instr.{Instr}
+use Rattle.x64_instr.specs.declared.instruction.Instr.TheVariants as instrs
+use Rattle.x64_encode.specs.Chosen.{is_encodable}
+use Rattle.virtual_unwind.specs.Tail.{FetchedInstr, role_of}
+use Rattle.frame_rules.specs.Body.{Body, following, written, may_write_all}
+use Rattle.frame_rules.specs.States.{is_other}
+use Rattle.frame_rules.specs.Plan.{FramePlan, IsPlan, spelled_by, all_encodable, operations_of, is_inner, are_inner}
+use Rattle.frame_rules.specs.Plan as rules
+use Rattle.frame_rules.specs.Bytes.{spell}
+use Rattle.frame_rules.proofs.Bodies.{following-append}
+use Rattle.frame_rules.proofs.Bytes.{spells_all, plans_are_encodable}
+use Rattle.frame_rules.proofs.Emitting.{inner_following, epilogue_following}
+use Rattle.linear_code.specs.declared.slot.Slot.{Slot}
+use Rattle.linear_code.specs.declared.instruction.Instruction.{Instruction}
+use Rattle.linear_code.specs.declared.instruction.Instruction.TheVariants as instructions
+use Rattle.frame_layout.specs.Layout.{plan_of}
+use Rattle.template_code.specs.declared.layout.Layout.{Layout}
+use Rattle.template_code.specs.Slots.{fetch}
+use Rattle.template_code.specs.Calls.{epilogue, return_code}
+use Rattle.template_code.specs.Template.{Links, template, template_size, code_from}
+use Rattle.x64_emit.specs.Near.{IsInstructionNear}
+use Rattle.x64_emit.specs.Rooms.{code_room}
+use Rattle.x64_emit.proofs.Nearby.{instruction_in_room}
+use Rattle.image_tables.proofs.BodyInstructions.{Inner, AllInner, fetch_inner}
+use Rattle.image_tables.proofs.Templates.{AreLinksNear, template_inner}
+
+-- ---- a plan with an allocation, or without
+
+abbrev pub with_size : ℕ → ℕ → FramePlan
+with_size n probe = plan_of (record { kept = 0; temporaries = 0; locals = 0; size = n }) probe
+
+abbrev by_size : ℕ → ℕ → Bool → List Instr
+by_size n probe none = rules.loads_then [] (rules.opening_then (with_size n probe) none
+    (rules.pops_then [] (instrs.Return ∷ [])))
+
+pub same_epilogue : (n probe : ℕ) → epilogue n ≡ rules.epilogue (with_size n probe)
+same_epilogue zero probe = refl
+same_epilogue (suc n) probe = sym (ap (by_size (suc n) probe)
+    (ne_eqb (suc n) 0 (λ z. (let q : suc n ≡ 0 = z in absurd (omega arith)))))
+
+-- ---- inner instructions
+
+inner_of : (p : FramePlan) (i : Instr) → p.frame ≡ 0 → Inner i → is_inner p (spell i) ≡ true
+inner_of p i e h =
+    ap (λ (f : ℕ). is_other (role_of f (spell i).plain i)
+    && may_write_all f (operations_of p) (written i)) e
+    ∙ and_from _ _ (ap is_other (h.1 (spell i).plain)) (h.2 (operations_of p))
+
+pub all_inner : (p : FramePlan) (is : List Instr) → p.frame ≡ 0 → AllInner is
+    → are_inner p (spelled_by spell is) ≡ true
+all_inner p [] e h = refl
+all_inner p (i ∷ is) e h = and_from (is_inner p (spell i)) (are_inner p (spelled_by spell is))
+    (inner_of p i e h.0) (all_inner p is e h.1)
+
+pub inner_encodable : (is : List Instr) → AllInner is → all_encodable is ≡ true
+inner_encodable [] h = refl
+inner_encodable (i ∷ is) h = and_from (is_encodable i) (all_encodable is) h.0.0
+    (inner_encodable is h.1)
+
+pub encodable_both : (a b : List Instr) → all_encodable a ≡ true → all_encodable b ≡ true
+    → all_encodable (a ++ b) ≡ true
+encodable_both [] b p q = q
+encodable_both (i ∷ a) b p q = let r = and_parts (is_encodable i) (all_encodable a) p in
+    and_from (is_encodable i) (all_encodable (a ++ b)) r.0 (encodable_both a b r.1 q)
+
+pub spelled_both : (a b : List Instr) → spelled_by spell (a ++ b)
+    ≡ spelled_by spell a ++ spelled_by spell b
+spelled_both [] b = refl
+spelled_both (i ∷ a) b = ap (λ (xs : List FetchedInstr). spell i ∷ xs) (spelled_both a b)
+
+-- ---- bodies
+
+module _ (n probe : ℕ) (is_plan : IsPlan (with_size n probe)) where
+  abbrev p : FramePlan
+  p = with_size n probe
+
+  -- from the body to the body
+  abbrev pub Leads : List Instr → Type 0
+  Leads is = (rs : List ℕ) → (to : List ℕ) × (following 0 0 (operations_of p) (spelled_by spell is)
+      (Body rs) ≡ Some (Body to))
+
+  pub leads_both : (a b : List Instr) → Leads a → Leads b → Leads (a ++ b)
+  leads_both a b h k rs =
+      let x = h rs in
+      let y = k x.0 in (
+        y.0,
+        ap (λ (xs : List FetchedInstr). following 0 0 (operations_of p) xs (Body rs))
+            (spelled_both a b) ∙ following-append 0 0 (operations_of p) (spelled_by spell a)
+            (spelled_by spell b) (Body rs) (Body x.0) x.1 ∙ y.1,
+      )
+
+  pub inner_leads : (is : List Instr) → AllInner is → Leads is
+  inner_leads is h rs = inner_following spell spells_all p (spelled_by spell is) rs
+      (all_inner p is refl h)
+
+  epilogue_leads : (k : ℕ) → k ≡ n → Leads (epilogue k)
+  epilogue_leads k e rs = (
+    [],
+    ap (λ (is : List Instr). following 0 0 (operations_of p)
+        (spelled_by spell is) (Body rs)) (ap epilogue e ∙ same_epilogue n probe)
+        ∙ epilogue_following spell spells_all p is_plan rs,
+  )
+
+  epilogue_encodable : (k : ℕ) → k ≡ n → all_encodable (epilogue k) ≡ true
+  epilogue_encodable k e = ap all_encodable (ap epilogue e ∙ same_epilogue n probe)
+      ∙ (plans_are_encodable p is_plan).1
+
+  -- a template, a body
+  pub record IsFine (is : List Instr) : Type 0 where
+    pub leads : Leads is
+    pub encodable : all_encodable is ≡ true
+
+  pub fine_inner : (is : List Instr) → AllInner is → IsFine is
+  fine_inner is h = record { leads = inner_leads is h; encodable = inner_encodable is h }
+
+  pub fine_both : (a b : List Instr) → IsFine a → IsFine b → IsFine (a ++ b)
+  fine_both a b h k = record {
+    leads = leads_both a b h.leads k.leads;
+    encodable = encodable_both a b h.encodable k.encodable;
+  }
+
+  return_fine : (y : Layout) (from : Slot) → y.frame ≡ n
+      → IsInstructionNear y (instructions.Return from) → IsFine (return_code y from)
+  return_fine y from e near = fine_both (fetch y Rax from) (epilogue y.frame)
+      (fine_inner (fetch y Rax from) (fetch_inner y from near.0))
+      (record { leads = epilogue_leads y.frame e; encodable = epilogue_encodable y.frame e })
+
+  template_fine : (k : Links) (y : Layout) (at : ℕ) (i : Instruction) → y.frame ≡ n → AreLinksNear k
+      → IsInstructionNear y i → at + 256 < 2 ^ 31 → IsFine (template k y at i)
+  template_fine k y at (instructions.Return from) e links near lt = return_fine y from e near
+  template_fine k y at (instructions.Compute to o first second) e links near lt = fine_inner _
+      (template_inner k y at (instructions.Compute to o first second) links near lt (λ h. h))
+  template_fine k y at (instructions.Information to field) e links near lt = fine_inner _
+      (template_inner k y at (instructions.Information to field) links near lt (λ h. h))
+  template_fine k y at (instructions.Landing to) e links near lt = fine_inner _
+      (template_inner k y at (instructions.Landing to) links near lt (λ h. h))
+  template_fine k y at (instructions.Jump label) e links near lt = fine_inner _
+      (template_inner k y at (instructions.Jump label) links near lt (λ h. h))
+  template_fine k y at (instructions.JumpIfZero slot label) e links near lt = fine_inner _
+      (template_inner k y at (instructions.JumpIfZero slot label) links near lt (λ h. h))
+  template_fine k y at (instructions.Call function first count) e links near lt = fine_inner _
+      (template_inner k y at (instructions.Call function first count) links near lt (λ h. h))
+  template_fine k y at (instructions.CallBuiltIn function first) e links near lt = fine_inner _
+      (template_inner k y at (instructions.CallBuiltIn function first) links near lt (λ h. h))
+  template_fine k y at (instructions.CallFinally funclet) e links near lt = fine_inner _
+      (template_inner k y at (instructions.CallFinally funclet) links near lt (λ h. h))
+  template_fine k y at (instructions.LocalUnwind label) e links near lt = fine_inner _
+      (template_inner k y at (instructions.LocalUnwind label) links near lt (λ h. h))
+  template_fine k y at instructions.Separator e links near lt = fine_inner _
+      (template_inner k y at instructions.Separator links near lt (λ h. h))
+
+  pub body_fine : (k : Links) (y : Layout) (at : ℕ) (is : List Instruction) → y.frame ≡ n
+      → AreLinksNear k → AllByRecursion (IsInstructionNear y) is → at + code_room is + 256 < 2 ^ 31
+      → IsFine (code_from k y at is)
+  body_fine k y at [] e links near lt = record { leads = λ rs. (rs, refl); encodable = refl }
+  body_fine k y at (i ∷ is) e links near lt =
+      let small = instruction_in_room y i near.0 in
+      fine_both (template k y at i) (code_from k y (at + template_size y i) is)
+      (template_fine k y at i e links near.0 (omega arith))
+      (body_fine k y (at + template_size y i) is e links near.1 (omega arith))

@@ -1,0 +1,206 @@
+-- The shape of the function table of every program.
+use Rattle.std.proofs.Common.{◌≡◌, ◌≢◌, ℕ, zero, suc, ◌+◌, ◌%◌, ◌<◌, ◌==◌, true, false, List, [], ◌∷◌, ◌++◌, length, get_or, drop, map, Some, None, refl, sym, ap, subst, ◌∙◌, arith, inl, inr, length-append, get_or-drop}
+use Rattle.std.specs.Prelude.{◌&&◌, nat_lt}
+use Rattle.std.specs.List.{AllByRecursion}
+use Rattle.std.proofs.lemmas.Bool.{ne_eqb, eq-eqb, false≢true, cases_lt}
+use Rattle.std.proofs.lemmas.List.{length-map, get_or-map}
+use Rattle.linear_code.specs.declared.program.Region.{Region}
+use Rattle.linear_code.specs.declared.program.FuncletKind.TheVariants.{Filter}
+use Rattle.linear_code.specs.Program.{LinearFunction, LinearFunclet, LinearProgram}
+use Rattle.image_link.specs.Fits.{FitsProgram}
+use Rattle.image_link.specs.Routines.{RoutineView, functions_from, nothing, funclet_frame, funclet, routines}
+use Rattle.image_link.specs.Near.{IsFrameNear, IsRoutineNear}
+use Rattle.image_link.specs.Text.{routine_size, bounds, thunk_at}
+use Rattle.host_layout.specs.declared.imported.ImportedService.TheVariants.{CSpecificHandler}
+use Rattle.eh_tables.specs.Written.{trailer_flags}
+use Rattle.image_link.specs.Tables.{has_except, has_finally, trailer}
+use Rattle.image_link.specs.Linked.{first}
+use Rattle.image_link.proofs.Images.{no_routine}
+use Rattle.image_link.proofs.Nearness.{routines_near}
+use Rattle.x64_emit.proofs.Nearby.{all_at}
+use Rattle.image_tables.specs.RoutinePlaces.{site_of, infos_begin, placed}
+use Rattle.image_tables.specs.Entries.{entry_of, entries}
+use Rattle.image_tables.proofs.Lookups.{placed_has, entries_are_held}
+use Rattle.image_tables.proofs.Table.{framed_room}
+use Rattle.image_tables.specs.RegionRows.{AreDifferent, rows_of, handlers, regions, named, funclet_begin, AreRows}
+use Rattle.image_tables.specs.ShapeLaws.{BeginsEntry, HasShape, TablesHaveShape, HandlersDiffer, EntriesAreFlagged, FramesAreSmall}
+use Rattle.image_tables.proofs.RegionRows.{as_many, finally_count, always_count, handlers_are, searched_by, unwound_by}
+use Rattle.image_tables.proofs.RoutineRows.{AreFar, routines_bare, routines_regions, all_rows, in_order, bounds_rise, is_placed}
+
+-- ---- funclets
+
+bounds_far : (at : ℕ) (rs : List RoutineView) → 1 < at → AreFar (bounds at rs)
+bounds_far at [] lt = (lt, tt)
+bounds_far at (r ∷ rs) lt = (lt, bounds_far (at + routine_size r) rs (omega arith))
+
+drop_far : (n : ℕ) (xs : List ℕ) → AreFar xs → AreFar (drop n xs)
+drop_far zero xs far = far
+drop_far (suc n) [] far = tt
+drop_far (suc n) (x ∷ xs) far = drop_far n xs far.1
+
+pub functions_count : (main index : ℕ) (fs : List LinearFunction)
+    → length (functions_from main index fs) ≡ length fs
+functions_count main index [] = refl
+functions_count main index (f ∷ fs) = let c = functions_count main (suc index) fs in omega arith
+
+pub get_second : (a b : List RoutineView) (i j : ℕ) (d : RoutineView) → j ≡ length a + i
+    → get_or (a ++ b) j d ≡ get_or b i d
+get_second [] b i j d e = ap (λ (n : ℕ). get_or b n d) (let q : j ≡ i = omega arith in q)
+get_second (r ∷ a) b i zero d e = absurd (omega arith)
+get_second (r ∷ a) b i (suc j) d e = get_second a b i j d (omega arith)
+
+abbrev pub no_funclet : LinearFunclet
+no_funclet = record { kind = Filter; function = 0; parent = None; body = nothing }
+
+module _ (p : LinearProgram) (fits : FitsProgram p) where
+  abbrev rs : List RoutineView
+  rs = routines p
+
+  abbrev n : ℕ
+  n = length p.functions
+
+  near : AllByRecursion IsRoutineNear rs
+  near = routines_near p fits
+
+  far : AreFar (site_of p).funclets
+  far = drop_far n (bounds (first p.globals) rs) (bounds_far (first p.globals) rs (omega arith))
+
+  rows : AreRows p (rows_of (entries p)) (regions p)
+  rows = subst (AreRows p (rows_of (entries p))) (routines_regions p)
+      (all_rows p far (infos_begin p) (first p.globals) rs (omega arith) (routines_bare p))
+
+  pub as_long : length rs ≡ n + length p.funclets
+  as_long =
+      let c = functions_count p.main 0 p.functions in
+      omega (
+        arith,
+        length-append (functions_from p.main 0 p.functions)
+            (map (funclet p) p.funclets),
+        length-map p.funclets (funclet p),
+      )
+
+  -- a funclet is the routine of its number after the functions
+  pub funclet_is : (k : ℕ) → k < length p.funclets
+      → get_or rs (n + k) no_routine ≡ funclet p (get_or p.funclets k no_funclet)
+  funclet_is k lt =
+      let c = functions_count p.main 0 p.functions in
+      get_second (functions_from p.main 0 p.functions) (map (funclet p) p.funclets) k (n + k)
+      no_routine (omega arith)
+      ∙ get_or-map (funclet p) p.funclets k no_funclet no_routine lt
+
+  pub begin_is : (k : ℕ) → funclet_begin p k ≡ get_or (bounds (first p.globals) rs) (n + k) 0
+  begin_is k = get_or-drop n (bounds (first p.globals) rs) k 0
+
+  pub funclet_size : (k : ℕ) → k < length p.funclets
+      → 0 < routine_size (get_or rs (n + k) no_routine)
+  funclet_size k lt =
+      let l = as_long in
+      framed_room (get_or rs (n + k) no_routine)
+      (funclet_frame (get_or p.funclets k no_funclet).body)
+      (all_at IsRoutineNear rs (n + k) no_routine near (omega arith))
+      (ap (λ (r : RoutineView). r.frame) (funclet_is k lt))
+
+  begins : (k : ℕ) → k < length p.funclets → BeginsEntry p (funclet_begin p k)
+  begins k lt =
+      let l = as_long in
+      let h = is_placed (site_of p) (infos_begin p) (first p.globals) rs (n + k) no_routine
+      (omega arith) in
+      let x = h.placed in
+      let at : x.begin ≡ funclet_begin p k = h.begins ∙ sym (begin_is k) in
+      let f = funclet_frame (get_or p.funclets k no_funclet).body in
+      let framed : x.routine.frame ≡ Some f = ap (λ (r : RoutineView). r.frame)
+      (h.routine ∙ funclet_is k lt) in
+      let some : 0 < routine_size x.routine = subst (λ (r : RoutineView). 0 < routine_size r)
+      (sym h.routine) (funclet_size k lt) in
+      record {
+        entry = entry_of (site_of p) x f;
+        held = entries_are_held p (n + k) x f (funclet_begin p k) fits h.there framed (omega arith)
+            (omega arith);
+        begins = at;
+      }
+
+  pub shape : HasShape p
+  shape = record {
+    order = in_order p far (infos_begin p) (first p.globals) 0 rs near (omega arith);
+    rows = rows;
+    count = as_many p (rows_of (entries p)) (regions p) rows;
+    finally = finally_count p (rows_of (entries p)) (regions p) rows;
+    always = always_count p (rows_of (entries p)) (regions p) rows;
+    handlers = handlers_are p (rows_of (entries p)) (regions p) rows;
+    funclets = begins;
+  }
+
+  -- ---- handlers that differ
+
+  pub rises : (j k : ℕ) → j < k → k < length p.funclets → funclet_begin p j < funclet_begin p k
+  rises j k lt in' =
+      let l = as_long in
+      let b = bounds_rise (first p.globals) rs (n + j) (n + k) 0 no_routine (omega arith)
+      (omega arith) in
+      let some = funclet_size j (omega arith) in
+      let x = begin_is j in
+      let y = begin_is k in
+      omega arith
+
+  pub apart : (j k : ℕ) → j < length p.funclets → k < length p.funclets → j ≢ k
+      → funclet_begin p j ≢ funclet_begin p k
+  apart j k a b ne e = elim (cases_lt j k) [
+    | inl lt ↦ let r = rises j k lt b in let q : funclet_begin p j ≡ funclet_begin p k = e in
+        omega arith
+    | inr le ↦ elim (cases_lt k j) [
+      | inl lt ↦ let r = rises k j lt a in let q : funclet_begin p j ≡ funclet_begin p k = e in
+          omega arith
+      | inr le' ↦ ne (omega arith)
+    ]
+  ]
+
+  none_same : (j : ℕ) (ks : List ℕ) → j < length p.funclets
+      → AllByRecursion (λ k. k < length p.funclets) ks → AllByRecursion (λ k. (j == k) ≡ false) ks
+      → AllByRecursion (λ a. (funclet_begin p j == a) ≡ false) (map (funclet_begin p) ks)
+  none_same j [] lt all differ = tt
+  none_same j (k ∷ ks) lt all differ = (
+    ne_eqb (funclet_begin p j) (funclet_begin p k)
+        (apart j k lt all.0 (λ e. false≢true (sym differ.0 ∙ eq-eqb j k e))),
+    none_same j ks lt all.1 differ.1,
+  )
+
+  pub distinct : (ks : List ℕ) → AllByRecursion (λ k. k < length p.funclets) ks → AreDifferent ks
+      → AreDifferent (map (funclet_begin p) ks)
+  distinct [] all once = tt
+  distinct (k ∷ ks) all once = (none_same k ks all.0 all.1 once.0, distinct ks all.1 once.1)
+
+pub tables_have_shape : TablesHaveShape
+tables_have_shape p fits = shape p fits
+
+pub handlers_differ : HandlersDiffer
+handlers_differ p fits names = subst (AreDifferent) (sym (shape p fits).handlers)
+    (distinct p fits (named (regions p)) names.there names.once)
+
+-- ---- flags
+
+searched_of : (h : ℕ) (rs : List Region) → (trailer_flags (trailer h rs) % 2 == 1) ≡ has_except rs
+searched_of h [] = refl
+searched_of h (r ∷ rs) = searched_by (has_except (r ∷ rs)) (has_finally (r ∷ rs))
+
+unwound_of : (h : ℕ) (rs : List Region) → (nat_lt 1 (trailer_flags (trailer h rs))
+    && nat_lt (trailer_flags (trailer h rs)) 4) ≡ has_finally rs
+unwound_of h [] = refl
+unwound_of h (r ∷ rs) = unwound_by (has_except (r ∷ rs)) (has_finally (r ∷ rs))
+
+pub entries_are_flagged : EntriesAreFlagged
+entries_are_flagged s x f =
+    let h = thunk_at s.text CSpecificHandler in
+    record {
+      searched = searched_of h x.routine.body.regions;
+      unwound = unwound_of h x.routine.body.regions;
+    }
+
+-- ---- frames
+
+pub frames_are_small : FramesAreSmall
+frames_are_small p index x f fits e framed =
+    let near = placed_has IsRoutineNear (site_of p) (infos_begin p) (first p.globals) (routines p)
+    index x (routines_near p fits) e in
+    let size = subst IsFrameNear framed near.frame in
+    let most = size.1 in
+    omega arith

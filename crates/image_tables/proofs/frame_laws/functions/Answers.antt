@@ -1,0 +1,5 @@
+use Rattle.image_tables.proofs.FrameRules.{functions_are_at, functions_keep_the_rules}
+use Rattle.image_tables.proofs.frame_laws.functions.Goals as goal
+
+pub returns : goal.returns
+returns c = record { stand = functions_are_at; right = functions_keep_the_rules }

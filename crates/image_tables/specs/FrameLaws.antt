@@ -1,0 +1,162 @@
+-- What holds of the frames of every program that can be linked.
+use Rattle.std.specs.Prelude.{◌≡◌, ℕ, false, ◌+◌, ◌^◌, ◌<◌, ◌≤◌, List, [], ◌++◌, length, slice_get, Some, None, Ok}
+use Rattle.flat_memory.specs.Memory.{Memory, may_write}
+use Rattle.x64_machine.specs.declared.context.Context.{Context}
+use Rattle.x64_machine.specs.Contexts.{context_of}
+use Rattle.x64_machine.specs.Effect.{State}
+use Rattle.virtual_unwind.specs.CallerOf.{caller_in}
+use Rattle.virtual_unwind.specs.Contexts.{rsp}
+use Rattle.virtual_unwind.specs.Tail.{FetchedInstr}
+use Rattle.virtual_unwind.specs.Undone.{word}
+use Rattle.host_model.specs.Loading.{mapped}
+use Rattle.host_model.specs.Machine.{functions_in}
+use Rattle.frame_rules.specs.Frame.{left_to}
+use Rattle.frame_rules.specs.Prologue.{items}
+use Rattle.frame_rules.specs.Rules.{IsRight, IsInFunction, IsFound}
+use Rattle.frame_rules.specs.States.{registers, return_address, IsEntry, InBody, HasItems}
+use Rattle.match_stack.specs.Stack.{StackFrame, FrameIsAt, LeafIsAt}
+use Rattle.host_layout.specs.declared.imported.ImportedService.{ImportedService}
+use Rattle.pe_write.specs.Program.{image_of}
+use Rattle.linear_code.specs.Program.{LinearProgram}
+use Rattle.frame_layout.specs.declared.frame.FrameLayout.{FrameLayout}
+use Rattle.frame_layout.specs.Layout.{taking_size}
+use Rattle.image_link.specs.Fits.{FitsProgram}
+use Rattle.image_link.specs.Text.{thunk_at, check_stack_at}
+use Rattle.image_link.specs.Linked.{text_begin, linked}
+use Rattle.image_tables.specs.RoutinePlaces.{Placed, end_of, site_of, placed}
+use Rattle.image_tables.specs.RegionRanges.{HasRegions}
+use Rattle.image_tables.specs.Entries.{entry_of}
+use Rattle.image_tables.specs.CodeInMemory.{image_base, HasText, IsInBody}
+use Rattle.image_tables.specs.Functions.{function_of, leaf, thunk_of, probe}
+
+-- ---- the text
+
+-- it is there when the image is loaded, and may not be written
+abbrev pub ImagesHaveText : Type 0
+ImagesHaveText = (p : LinearProgram) → FitsProgram p → HasText (mapped (image_of (linked p))) p
+
+-- no byte of the text may be written
+abbrev pub TextsAreFixed : Type 0
+TextsAreFixed =
+    (p : LinearProgram) (k : ℕ) → FitsProgram p → k < length (linked p).text
+    → may_write (mapped (image_of (linked p))) (image_base + text_begin p.globals + k) ≡ false
+
+-- ---- bodies that wait
+
+-- the frame of a routine's body, with its return address
+abbrev pub stack_frame : LinearProgram → Placed → FrameLayout → ℕ → StackFrame
+stack_frame p x f back =
+    record {
+      entry = entry_of (site_of p) x f;
+      size = f.size;
+      offset = taking_size f.size;
+      return_address = back;
+    }
+
+-- what a state must have: the address in the body, room up to the return address, and that address
+pub record IsWaiting (p : LinearProgram) (m : Memory) (x : Placed) (f : FrameLayout) (c : Context)
+    (rva back : ℕ) : Type 0 where
+  pub text : HasText m p
+  pub body : IsInBody p x rva
+  pub here : c.rip ≡ image_base + rva
+  pub kept : length c.kept ≡ 9
+  pub room : rsp c + f.size + 8 < 2 ^ 64
+  pub returns : word m (rsp c + f.size) ≡ Ok back
+
+-- at an instruction of its body a routine's frame is there: it has its entry, and is past its
+-- prologue and not in an epilogue
+abbrev pub BodiesHaveFrames : Type 0
+BodiesHaveFrames =
+    (p : LinearProgram) (m : Memory) (index : ℕ) (x : Placed) (f : FrameLayout) (c : Context)
+    (rva back : ℕ)
+    → FitsProgram p → HasRegions p → slice_get (placed p) index ≡ Some x → x.routine.frame ≡ Some f
+    → IsWaiting p m x f c rva back
+    → FrameIsAt (functions_in (image_of (linked p))) m c (stack_frame p x f back)
+
+-- the same of a leaf function, which has neither
+pub record IsLeafWaiting (p : LinearProgram) (m : Memory) (x : Placed) (c : Context)
+    (rva back : ℕ) : Type 0 where
+  pub body : IsInBody p x rva
+  pub here : c.rip ≡ image_base + rva
+  pub kept : length c.kept ≡ 9
+  pub room : rsp c + 8 < 2 ^ 64
+  pub returns : word m (rsp c) ≡ Ok back
+
+abbrev pub LeavesHaveReturns : Type 0
+LeavesHaveReturns =
+    (p : LinearProgram) (m : Memory) (index : ℕ) (x : Placed) (c : Context) (rva back : ℕ)
+    → FitsProgram p → HasRegions p → slice_get (placed p) index ≡ Some x → x.routine.frame ≡ None
+    → IsLeafWaiting p m x c rva back
+    → LeafIsAt (functions_in (image_of (linked p))) m c back
+
+-- ---- every frame
+
+-- a routine of a number with a frame
+pub record IsFramed (p : LinearProgram) (index : ℕ) (x : Placed) (f : FrameLayout) : Type 0 where
+  pub fits : FitsProgram p
+  pub there : slice_get (placed p) index ≡ Some x
+  pub framed : x.routine.frame ≡ Some f
+
+-- its instructions are in memory, from its first byte to its end
+abbrev pub FunctionsAreInMemory : Type 0
+FunctionsAreInMemory =
+    (p : LinearProgram) (index : ℕ) (x : Placed) (f : FrameLayout) (m : Memory)
+    → IsFramed p index x f
+    → HasText m p
+    → HasItems m (image_base + x.begin)
+    (items (function_of p x f).steps ++ (function_of p x f).rest) (image_base + end_of x)
+
+-- it keeps the rules, with the unwind info that its entry has
+abbrev pub FunctionsKeepTheRules : Type 0
+FunctionsKeepTheRules =
+    (p : LinearProgram) (index : ℕ) (x : Placed) (f : FrameLayout) → IsFramed p index x f
+    → IsRight (function_of p x f)
+
+-- the walk from a state finds the caller of another, as it was
+abbrev pub FindsCaller : LinearProgram → State → State → Type 0
+FindsCaller p e s =
+    IsFound (caller_in (functions_in (image_of (linked p))) s.memory (context_of s.cpu))
+    (left_to (registers e) (return_address e))
+
+-- in each state of a function with a frame, also in its prologue and in its epilogues: e is the
+-- state at its first byte
+abbrev pub FramesAreFound : Type 0
+FramesAreFound =
+    (p : LinearProgram) (index : ℕ) (x : Placed) (f : FrameLayout) (e s : State) (distance : ℕ)
+    → IsFramed p index x f → HasRegions p
+    → IsEntry f.size e → HasText s.memory p → s.cpu.rip ≡ image_base + x.begin + distance
+    → IsInFunction (function_of p x f) e s distance
+    → FindsCaller p e s
+
+-- of what has no entry: RSP, the return address and the nonvolatile registers are those at its
+-- first byte
+pub record IsInRange (e s : State) (rest : List FetchedInstr) (begin end : ℕ) : Type 0 where
+  pub entry : IsEntry 0 e
+  pub body : InBody 0 [] rest e e s
+  pub rva : ℕ
+  pub here : s.cpu.rip ≡ image_base + rva
+  pub low : begin ≤ rva
+  pub high : rva < end
+
+-- in each state of a leaf function, of the thunk of a service, and of `__chkstk`
+abbrev pub LeavesAreFound : Type 0
+LeavesAreFound =
+    (p : LinearProgram) (index : ℕ) (x : Placed) (e s : State) → FitsProgram p → HasRegions p
+    → slice_get (placed p) index ≡ Some x → x.routine.frame ≡ None
+    → IsInRange e s (leaf p x) x.begin (end_of x)
+    → FindsCaller p e s
+
+-- the caller of a thunk is found
+abbrev pub ThunksAreFound : Type 0
+ThunksAreFound =
+    (p : LinearProgram) (service : ImportedService) (e s : State) → FitsProgram p → HasRegions p
+    → IsInRange e s (thunk_of p service) (thunk_at (site_of p).text service)
+    (thunk_at (site_of p).text service + 6)
+    → FindsCaller p e s
+
+-- the caller of `__chkstk` is found
+abbrev pub ProbesAreFound : Type 0
+ProbesAreFound =
+    (p : LinearProgram) (e s : State) → FitsProgram p → HasRegions p
+    → IsInRange e s probe (check_stack_at (site_of p).text) (check_stack_at (site_of p).text + 21)
+    → FindsCaller p e s

@@ -1,0 +1,53 @@
+-- The routines of a program as functions of the rules: the unwind info, the steps of the prologue,
+-- and the instructions after it.
+use Rattle.std.specs.Prelude.{◌+◌, List, [], ◌∷◌, ◌++◌}
+use Rattle.x64_instr.specs.declared.instruction.Instr.{Instr}
+use Rattle.virtual_unwind.specs.Tail.{FetchedInstr}
+use Rattle.frame_rules.specs.Rules.{FramedFunction}
+use Rattle.frame_rules.specs.Plan.{FramePlan, spelled_by, prologue}
+use Rattle.frame_rules.specs.Bytes.{spell}
+use Rattle.host_layout.specs.declared.imported.ImportedService.{ImportedService}
+use Rattle.linear_code.specs.Program.{LinearProgram}
+use Rattle.frame_layout.specs.declared.frame.FrameLayout.{FrameLayout}
+use Rattle.frame_layout.specs.Layout.{plan_of}
+use Rattle.template_code.specs.Jumps.{distance}
+use Rattle.template_code.specs.Probing.{check_stack}
+use Rattle.template_code.specs.Template.{code_from}
+use Rattle.image_link.specs.Text.{argument_code, check_stack_at, service_thunk}
+use Rattle.image_tables.specs.RoutinePlaces.{Placed, body_begin, site_of}
+use Rattle.image_tables.specs.Entries.{entry_of}
+use Rattle.image_tables.specs.CodeInMemory.{links}
+
+-- ---- with a frame
+
+-- a large frame is taken by a call of `__chkstk`, which ends ten bytes from the begin
+abbrev pub plan : LinearProgram → Placed → FrameLayout → FramePlan
+plan p x f = plan_of f (distance (x.begin + 10) (check_stack_at (site_of p).text))
+
+-- what it does with what it is called with, and its body
+abbrev pub rest_of : LinearProgram → Placed → List Instr
+rest_of p x =
+    argument_code x.routine.layout x.routine.entry
+    ++ code_from (links p x) x.routine.layout (body_begin x) x.routine.body.code
+
+-- a routine with a frame: its unwind info, prologue and the rest
+abbrev pub function_of : LinearProgram → Placed → FrameLayout → FramedFunction
+function_of p x f = record {
+  info = (entry_of (site_of p) x f).info;
+  steps = prologue spell (plan p x f);
+  rest = spelled_by spell (rest_of p x);
+}
+
+-- ---- without: leaf functions, the thunks of services, and `__chkstk`
+
+-- the instructions of a leaf function
+abbrev pub leaf : LinearProgram → Placed → List FetchedInstr
+leaf p x = spelled_by spell (rest_of p x)
+
+-- the instruction of a service's thunk
+abbrev pub thunk_of : LinearProgram → ImportedService → List FetchedInstr
+thunk_of p s = spelled_by spell (service_thunk (site_of p).text (site_of p).rdata s ∷ [])
+
+-- the instructions of `__chkstk`
+abbrev pub probe : List FetchedInstr
+probe = spelled_by spell check_stack

@@ -1,0 +1,11 @@
+pub mod RoutinePlaces
+pub mod RegionRanges
+pub mod Entries
+pub mod TableLaws
+pub mod Tries
+pub mod RegionLaws
+pub mod CodeInMemory
+pub mod Functions
+pub mod FrameLaws
+pub mod RegionRows
+pub mod ShapeLaws

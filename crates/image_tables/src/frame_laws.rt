@@ -1,0 +1,33 @@
+//! What holds of the frames of every program that can be linked.
+
+ghost use Rattle.image_tables.specs.FrameLaws.{ImagesHaveText, TextsAreFixed, BodiesHaveFrames, LeavesHaveReturns, FunctionsAreInMemory, FunctionsKeepTheRules, FramesAreFound, LeavesAreFound, ThunksAreFound, ProbesAreFound};
+
+/// The text of a program is in memory when its image is loaded, and may not be written.
+pub fn text()
+    ensures there { ImagesHaveText }
+    ensures fixed { TextsAreFixed }
+{}
+
+/// At each instruction of its body a routine's frame is there: the function table has its entry
+/// there, and undoing that entry's one code finds its return address. A leaf function has no entry,
+/// and its return address at RSP.
+pub fn bodies()
+    ensures framed { BodiesHaveFrames }
+    ensures leaves { LeavesHaveReturns }
+{}
+
+/// The routines of a program that have a frame keep the rules by which every frame can be unwound,
+/// with the unwind infos that are written for them.
+pub fn functions()
+    ensures stand { FunctionsAreInMemory }
+    ensures right { FunctionsKeepTheRules }
+{}
+
+/// At every instruction of a program, prologues and epilogues included, the caller's stack pointer,
+/// return address and nonvolatile registers are found.
+pub fn frames()
+    ensures functions { FramesAreFound }
+    ensures leaves { LeavesAreFound }
+    ensures thunks { ThunksAreFound }
+    ensures probes { ProbesAreFound }
+{}

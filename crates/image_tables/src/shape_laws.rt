@@ -1,0 +1,21 @@
+//! What the function table of every program is like.
+
+ghost use Rattle.image_tables.specs.ShapeLaws.{TablesHaveShape, HandlersDiffer, EntriesAreFlagged, FramesAreSmall};
+
+/// The entries are in the order of their addresses. Together they have exactly one scope record
+/// for each region, and each funclet begins an entry.
+pub fn shape()
+    ensures shape { TablesHaveShape }
+    ensures handlers { HandlersDiffer }
+{}
+
+/// The language handler of an entry is asked in a search where there is an `__except`, and while
+/// unwinding where there is a `__finally`.
+pub fn flags()
+    ensures { EntriesAreFlagged }
+{}
+
+/// No frame takes more than `LARGEST_FRAME`.
+pub fn sizes()
+    ensures { FramesAreSmall }
+{}

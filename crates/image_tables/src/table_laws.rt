@@ -1,0 +1,21 @@
+//! What is read of the function table of a program's image.
+
+ghost use Rattle.image_tables.specs.TableLaws.{TablesAreRead, EntriesAreHeld, LeavesAreHeldByNone, ThunksAreHeldByNone, JumpsAreSpelled};
+
+/// The function table of a program's image is that of its routines: each that has a frame has an
+/// entry, with its unwind info and its scope records.
+pub fn tables()
+    ensures { TablesAreRead }
+{}
+
+/// The entry that covers an address of a routine is that routine's.
+pub fn lookups()
+    ensures entries { EntriesAreHeld }
+    ensures leaves { LeavesAreHeldByNone }
+    ensures thunks { ThunksAreHeldByNone }
+{}
+
+/// The jump to a handler is read as it is spelled.
+pub fn jumps()
+    ensures { JumpsAreSpelled }
+{}

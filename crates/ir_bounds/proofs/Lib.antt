@@ -1,3 +1,0 @@
-pub mod PlainExpressions
-pub mod PlainStatements
-pub mod Small

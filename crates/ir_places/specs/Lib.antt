@@ -1,5 +1,0 @@
-pub mod Followed
-pub mod Alike
-pub mod Inside
-pub mod Blind
-pub mod Laws

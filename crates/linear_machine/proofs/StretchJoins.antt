@@ -1,0 +1,458 @@
+-- Two stretches one after another, and what a dearer price allows.
+use Rattle.std.proofs.Common.{◌≡◌, ℕ, zero, suc, ◌+◌, ◌*◌, ◌≤◌, List, ◌++◌, refl, ap, ◌∙◌, subst, arith, sym, append_assoc}
+use native.Mathlib.Nat.{mul-add}
+use Rattle.std.specs.Prelude.{Some, None}
+use Rattle.seh_num.specs.declared.event.Event.{Event}
+use Rattle.source_meaning.specs.State.{Exception, State, Result, Value, Normal, Returned, Broke, Continued, LeftTry, Target, End, Outcome, Gives, with_value, and_then}
+use Rattle.source_meaning.specs.Tasks.{Context}
+use Rattle.linear_code.specs.Program.{LinearProgram}
+use Rattle.linear_machine.specs.Frames.{Store, Seen, Finished}
+use Rattle.linear_machine.specs.Searching.{target_of}
+use Rattle.linear_machine.specs.Run.{exec}
+use Rattle.linear_machine.proofs.RunLengths.{events_of}
+use Rattle.linear_machine.proofs.Stretch.{Part, Site, Way, Never, To, Out, Ways, Kept, value_ways, normal_ways, first_ways, Prefix, Before, Price, price, Join, Dearer, Reaches, Finishes, Stops, unwound, Arrival, Arrives, Targets, Attains, Claim}
+
+module _ (linear : LinearProgram) (rate : ℕ) where
+  prefix_more : (a b c : List Event) → Prefix a b → Prefix b c → Prefix a c
+  prefix_more a b c p q = (p.0 ++ q.0, q.1 ∙ ap (λ x. x ++ q.0) p.1 ∙ append_assoc a p.0 q.0)
+
+  before_more : (seen : Seen) (es es' : List Event) → Before seen es → Prefix es es'
+      → Before seen es'
+  before_more seen es es' b p = (b.0, b.1, prefix_more b.0 es es' b.2 p)
+
+  -- the turn before the last, of two stretches
+  prior_after : (s t : Part) (mid end : List Event) (c d : ℕ)
+      → ((i : ℕ) → suc i ≡ c → Before (s (exec linear i)) mid)
+      → ((k : ℕ) → (j : ℕ) × (j ≡ c + k) × (s (exec linear j) ≡ t (exec linear k)))
+      → Prefix mid end → ((i : ℕ) → suc i ≡ d → Before (t (exec linear i)) end) → (i : ℕ)
+      → suc i ≡ c + d → Before (s (exec linear i)) end
+  prior_after s t mid end c zero p by g q i e = before_more (s (exec linear i)) mid end
+      (p i (omega arith)) g
+  prior_after s t mid end c (suc d) p by g q i e =
+      let y = by d in
+      let same : y.0 ≡ i = omega (arith, y.1) in
+      let b = q d refl in
+      (b.0, ap (λ k. s (exec linear k)) (sym same) ∙ y.2 ∙ b.1, b.2)
+
+  pub reaches_after : (s t u : Part) (st mid end : State) (r1 e1 d1 r2 e2 d2 r e d : ℕ)
+      → r1 + r2 ≤ r → e + d1 + d2 ≤ e1 + e2 + d → Reaches linear rate s t st mid r1 e1 d1
+      → Reaches linear rate t u mid end r2 e2 d2 → Reaches linear rate s u st end r e d
+  reaches_after s t u st mid end r1 e1 d1 r2 e2 d2 r e d lr le p q = record {
+    cost = p.cost + q.cost;
+    credit = p.credit + q.credit;
+    paid = ap (λ n. n + q.credit) p.paid ∙ ap (λ n. rate * p.cost + n) q.paid
+        ∙ sym (mul-add rate p.cost q.cost);
+    most = let x = p.most in let y = q.most in omega arith;
+    least = let x = p.least in let y = q.least in omega arith;
+    low = let x = p.low in let y = q.low in omega arith;
+    grows = prefix_more st.events mid.events end.events p.grows q.grows;
+    prior = prior_after s t mid.events end.events p.cost q.cost p.prior p.by q.grows q.prior;
+    by = λ k. let y = q.by k in let x = p.by y.0 in (x.0, omega (arith, x.1, y.1), x.2 ∙ y.2);
+  }
+
+  arrival_after : (s t : Part) (st mid end : State) (r1 e1 d1 r2 e2 d2 r e d : ℕ) (kept : Kept)
+      (held : ℕ) (u : Store → Part) → r1 + r2 ≤ r → e + d1 + d2 ≤ e1 + e2 + d
+      → Reaches linear rate s t st mid r1 e1 d1
+      → Arrival linear rate t mid r2 e2 d2 kept held end u
+      → Arrival linear rate s st r e d kept held end u
+  arrival_after s t st mid end r1 e1 d1 r2 e2 d2 r e d kept held u lr le a b = record {
+    store = b.store;
+    fits = b.fits;
+    same = b.same;
+    reaches = reaches_after s t (u b.store) st mid end r1 e1 d1 r2 e2 d2 r e d lr le a b.reaches;
+  }
+
+  pub arrives_after : (s t : Part) (st mid end : State) (r1 e1 d1 : ℕ) (q r : Price) (kept : Kept)
+      (held : ℕ) (way : Way) → r1 + q.turns ≤ r.turns
+      → r.extra + d1 + q.slack ≤ e1 + q.extra + r.slack
+      → Reaches linear rate s t st mid r1 e1 d1 → Arrives linear rate t mid q kept held end way
+      → Arrives linear rate s st r kept held end way
+  arrives_after s t st mid end r1 e1 d1 q r kept held Never lr le a b = b
+  arrives_after s t st mid end r1 e1 d1 q r kept held (To u) lr le a b = arrival_after s t st mid
+      end r1 e1 d1 q.turns q.extra q.slack r.turns r.extra r.slack kept held (u end) lr le a b
+  arrives_after s t st mid end r1 e1 d1 q r kept held (Out u) lr le a b = (
+    b.0,
+    arrival_after s t st mid end r1 e1 d1 q.turns q.extra q.slack r.turns r.extra r.slack
+        kept held (λ store. u end store b.0) lr le a b.1,
+  )
+
+  abbrev pub Joined : ℕ → ℕ → ℕ → Price → Price → Type 0
+  Joined r1 e1 d1 q r = (r1 + q.turns ≤ r.turns) × (r.extra + d1 + q.slack ≤ e1 + q.extra + r.slack)
+      × (r.extra + d1 + q.out ≤ e1 + q.extra + r.out)
+
+  pub finds_after : (s t : Part) (st mid end : State) (r1 e1 d1 : ℕ) (q r : Price) (w : Ways)
+      (x : Result) → Joined r1 e1 d1 q r
+      → Reaches linear rate s t st mid r1 e1 d1 → Attains linear rate t mid q w end x
+      → Attains linear rate s st r w end x
+  finds_after s t st mid end r1 e1 d1 q r w (Value x) j a b = arrives_after s t st mid end r1 e1 d1
+      q r w.kept w.held (w.value x) j.0 j.1 a b
+  finds_after s t st mid end r1 e1 d1 q r w Normal j a b = arrives_after s t st mid end r1 e1 d1 q r
+      w.kept w.held w.normal j.0 j.1 a b
+  finds_after s t st mid end r1 e1 d1 q r w (Returned v) j a b = arrives_after s t st mid end r1 e1
+      d1 q r w.kept w.held (w.returned v) j.0 j.1 a b
+  finds_after s t st mid end r1 e1 d1 q r w Broke j a b = arrives_after s t st mid end r1 e1 d1 q r
+      w.kept w.held w.broke j.0 j.1 a b
+  finds_after s t st mid end r1 e1 d1 q r w Continued j a b = arrives_after s t st mid end r1 e1 d1
+      q r w.kept w.held w.again j.0 j.1 a b
+  finds_after s t st mid end r1 e1 d1 q r w LeftTry j a b = arrives_after s t st mid end r1 e1 d1 q
+      r w.kept w.held w.left j.0 j.1 a b
+  finds_after s t st mid end r1 e1 d1 q r w (Target level exc) j a b = record {
+    handler = b.handler;
+    picked = b.picked;
+    temps = b.temps;
+    pc = b.pc;
+    store = b.store;
+    fits = b.fits;
+    reaches = reaches_after s t _ st mid end r1 e1 d1 q.turns q.extra q.out r.turns r.extra r.out
+        j.0 j.2 a b.reaches;
+  }
+  finds_after s t st mid end r1 e1 d1 q r w (End (Some code)) j a b =
+      let y = b.by in let x = a.by y.0 in let m = a.most in let lr = j.0 in
+      record { by = (x.0, omega (arith, x.1, y.1), x.2 ∙ y.2) }
+  finds_after s t st mid end r1 e1 d1 q r w (End None) j a b =
+      let x = a.by b.cost in
+      let lr = j.0 in let le = j.2 in
+      let e : x.0 ≡ a.cost + b.cost = x.1 in
+      record {
+        cost = a.cost + b.cost;
+        credit = a.credit + b.credit;
+        paid = ap (λ n. n + b.credit) a.paid ∙ ap (λ n. rate * a.cost + n) b.paid
+            ∙ sym (mul-add rate a.cost b.cost);
+        most = let m = a.most in let n = b.most in omega arith;
+        least = let m = a.least in let n = b.least in omega arith;
+        grows = prefix_more st.events mid.events end.events a.grows b.grows;
+        prior = prior_after s t mid.events end.events a.cost b.cost a.prior a.by b.grows b.prior;
+        shown = (
+          b.shown.0,
+          ap (λ k. events_of (s (exec linear k))) (sym e) ∙ ap events_of x.2
+              ∙ b.shown.1,
+        );
+      }
+
+  pub after : (s t : Part) (st mid : State) (r1 e1 d1 : ℕ) (q r : Price) (w : Ways) (o : Outcome)
+      → Joined r1 e1 d1 q r → Reaches linear rate s t st mid r1 e1 d1
+      → Claim linear rate t mid q w o → Claim linear rate s st r w o
+  after s t st mid r1 e1 d1 q r w (Gives x end) j a b = finds_after s t st mid end r1 e1 d1 q r w x
+      j a b
+
+  -- ---- another price, or more steps left at the beginning
+
+  -- what is allowed at a state allows as much at one with as many steps left or more, and as much
+  -- shown
+  record Allows (st : State) (p : Price) (st' : State) (r : Price) : Type 0 where
+    same : st'.events ≡ st.events
+    left : st.steps_left ≤ st'.steps_left
+    turns : 16 * st.steps_left + p.turns ≤ 16 * st'.steps_left + r.turns
+    slack : st'.steps_left + r.extra + p.slack ≤ st.steps_left + p.extra + r.slack
+    out : st'.steps_left + r.extra + p.out ≤ st.steps_left + p.extra + r.out
+
+  reaches_from : (s t : Part) (st st' end : State) (r e d r' e' d' : ℕ) → st'.events ≡ st.events
+      → st.steps_left ≤ st'.steps_left → 16 * st.steps_left + r ≤ 16 * st'.steps_left + r'
+      → st'.steps_left + e' + d ≤ st.steps_left + e + d' → Reaches linear rate s t st end r e d
+      → Reaches linear rate s t st' end r' e' d'
+  reaches_from s t st st' end r e d r' e' d' same left turns slack p = record {
+    cost = p.cost;
+    credit = p.credit;
+    paid = p.paid;
+    most = let x = p.most in omega arith;
+    least = let x = p.least in omega arith;
+    low = let x = p.low in omega arith;
+    grows = subst (λ es. Prefix es end.events) (sym same) p.grows;
+    prior = p.prior;
+    by = p.by;
+  }
+
+  arrival_from : (s : Part) (st st' end : State) (r e d r' e' d' : ℕ) (kept : Kept) (held : ℕ)
+      (t : Store → Part) → st'.events ≡ st.events → st.steps_left ≤ st'.steps_left
+      → 16 * st.steps_left + r ≤ 16 * st'.steps_left + r'
+      → st'.steps_left + e' + d ≤ st.steps_left + e + d'
+      → Arrival linear rate s st r e d kept held end t
+      → Arrival linear rate s st' r' e' d' kept held end t
+  arrival_from s st st' end r e d r' e' d' kept held t same left turns slack a = record {
+    store = a.store;
+    fits = a.fits;
+    same = a.same;
+    reaches = reaches_from s (t a.store) st st' end r e d r' e' d' same left turns slack a.reaches;
+  }
+
+  arrives_from : (s : Part) (st st' end : State) (p r : Price) (kept : Kept) (held : ℕ) (way : Way)
+      → st'.events ≡ st.events → st.steps_left ≤ st'.steps_left
+      → 16 * st.steps_left + p.turns ≤ 16 * st'.steps_left + r.turns
+      → st'.steps_left + r.extra + p.slack ≤ st.steps_left + p.extra + r.slack
+      → Arrives linear rate s st p kept held end way → Arrives linear rate s st' r kept held end way
+  arrives_from s st st' end p r kept held Never same left turns slack a = a
+  arrives_from s st st' end p r kept held (To u) same left turns slack a = arrival_from s st st' end
+      p.turns p.extra p.slack r.turns r.extra r.slack kept held (u end) same left turns slack a
+  arrives_from s st st' end p r kept held (Out u) same left turns slack a = (
+    a.0,
+    arrival_from s st st' end p.turns p.extra p.slack r.turns r.extra r.slack kept held
+        (λ store. u end store a.0) same left turns slack a.1,
+  )
+
+  targets_from : (s : Part) (st st' end : State) (p r : Price) (kept : Kept) (context : Context)
+      (site : Site) (level : ℕ) (exc : Exception) → st'.events ≡ st.events
+      → st.steps_left ≤ st'.steps_left
+      → 16 * st.steps_left + p.turns ≤ 16 * st'.steps_left + r.turns
+      → st'.steps_left + r.extra + p.out ≤ st.steps_left + p.extra + r.out
+      → Targets linear rate s st p kept context site level exc end
+      → Targets linear rate s st' r kept context site level exc end
+  targets_from s st st' end p r kept context site level exc same left turns out a = record {
+    handler = a.handler;
+    picked = a.picked;
+    temps = a.temps;
+    pc = a.pc;
+    store = a.store;
+    fits = a.fits;
+    reaches = reaches_from s (unwound linear rate context site
+        (target_of a.handler exc.code end.held) a.temps end a.store a.pc) st st' end p.turns p.extra
+        p.out r.turns r.extra r.out same left turns out a.reaches;
+  }
+
+  finishes_from : (s : Part) (st st' end : State) (r r' : ℕ) (seen : Seen)
+      → 16 * st.steps_left + r ≤ 16 * st'.steps_left + r' → Finishes linear rate s st end r seen
+      → Finishes linear rate s st' end r' seen
+  finishes_from s st st' end r r' seen turns a = let y = a.by in
+      record { by = (y.0, omega (arith, y.1), y.2) }
+
+  stops_from : (s : Part) (st st' end : State) (r e o r' e' o' : ℕ) → st'.events ≡ st.events
+      → 16 * st.steps_left + r ≤ 16 * st'.steps_left + r'
+      → st'.steps_left + e' + o ≤ st.steps_left + e + o'
+      → Stops linear rate s st end r e o → Stops linear rate s st' end r' e' o'
+  stops_from s st st' end r e o r' e' o' same turns out a = record {
+    cost = a.cost;
+    credit = a.credit;
+    paid = a.paid;
+    most = let x = a.most in omega arith;
+    least = let x = a.least in omega arith;
+    grows = subst (λ es. Prefix es end.events) (sym same) a.grows;
+    prior = a.prior;
+    shown = a.shown;
+  }
+
+  claim_from : (s : Part) (st st' : State) (p r : Price) (w : Ways) (o : Outcome)
+      → Allows st p st' r → Claim linear rate s st p w o → Claim linear rate s st' r w o
+  claim_from s st st' p r w (Gives (Value x) end) j a = arrives_from s st st' end p r w.kept w.held
+      (w.value x) j.same j.left j.turns j.slack a
+  claim_from s st st' p r w (Gives Normal end) j a = arrives_from s st st' end p r w.kept w.held
+      w.normal j.same j.left j.turns j.slack a
+  claim_from s st st' p r w (Gives (Returned v) end) j a = arrives_from s st st' end p r w.kept
+      w.held (w.returned v) j.same j.left j.turns j.slack a
+  claim_from s st st' p r w (Gives Broke end) j a = arrives_from s st st' end p r w.kept w.held
+      w.broke j.same j.left j.turns j.slack a
+  claim_from s st st' p r w (Gives Continued end) j a = arrives_from s st st' end p r w.kept w.held
+      w.again j.same j.left j.turns j.slack a
+  claim_from s st st' p r w (Gives LeftTry end) j a = arrives_from s st st' end p r w.kept w.held
+      w.left j.same j.left j.turns j.slack a
+  claim_from s st st' p r w (Gives (Target level exc) end) j a = targets_from s st st' end p r
+      w.kept w.context w.site level exc j.same j.left j.turns j.out a
+  claim_from s st st' p r w (Gives (End (Some e)) end) j a = finishes_from s st st' end p.turns
+      r.turns (Finished e end.events) j.turns a
+  claim_from s st st' p r w (Gives (End None) end) j a = stops_from s st st' end p.turns p.extra
+      p.out r.turns r.extra r.out j.same j.turns j.out a
+
+  -- a step less is left
+  pub claim_stepped : (s : Part) (st : State) (n x slack out : ℕ) (w : Ways) → suc n ≡ st.steps_left
+      → (o : Outcome) → Claim linear rate s (record st { steps_left = n })
+      (price 16 (1 + x) slack out) w o
+      → Claim linear rate s st (price 0 x slack out) w o
+  claim_stepped s st n x slack out w e o a =
+      claim_from s (record st { steps_left = n }) st (price 16 (1 + x) slack out)
+      (price 0 x slack out) w o
+      (record {
+        same = refl;
+        left = omega arith;
+        turns = omega arith;
+        slack = omega arith;
+        out = omega arith;
+      }) a
+
+  -- ---- the same state
+
+  pub reaches_more : (s t : Part) (st end : State) (r e d r' e' d' : ℕ) → r ≤ r' → e' + d ≤ e + d'
+      → Reaches linear rate s t st end r e d → Reaches linear rate s t st end r' e' d'
+  reaches_more s t st end r e d r' e' d' lr le p = reaches_from s t st st end r e d r' e' d' refl
+      (omega arith) (omega arith) (omega arith) p
+
+  pub arrives_more : (s : Part) (st end : State) (p r : Price) (kept : Kept) (held : ℕ) (way : Way)
+      → p.turns ≤ r.turns → r.extra + p.slack ≤ p.extra + r.slack
+      → Arrives linear rate s st p kept held end way → Arrives linear rate s st r kept held end way
+  arrives_more s st end p r kept held way lr le a = arrives_from s st st end p r kept held way refl
+      (omega arith) (omega arith) (omega arith) a
+
+  pub targets_more : (s : Part) (st end : State) (p r : Price) (kept : Kept) (context : Context)
+      (site : Site) (level : ℕ) (exc : Exception) → p.turns ≤ r.turns
+      → r.extra + p.out ≤ p.extra + r.out
+      → Targets linear rate s st p kept context site level exc end
+      → Targets linear rate s st r kept context site level exc end
+  targets_more s st end p r kept context site level exc lr le a = targets_from s st st end p r kept
+      context site level exc refl (omega arith) (omega arith) (omega arith) a
+
+  pub finishes_more : (s : Part) (st end : State) (r r' : ℕ) (seen : Seen) → r ≤ r'
+      → Finishes linear rate s st end r seen → Finishes linear rate s st end r' seen
+  finishes_more s st end r r' seen lr a = finishes_from s st st end r r' seen (omega arith) a
+
+  pub stops_more : (s : Part) (st end : State) (r e o r' e' o' : ℕ) → r ≤ r' → e' + o ≤ e + o'
+      → Stops linear rate s st end r e o → Stops linear rate s st end r' e' o'
+  stops_more s st end r e o r' e' o' lr le a = stops_from s st st end r e o r' e' o' refl
+      (omega arith) (omega arith) a
+
+  -- a dearer price is enough too
+  pub more : (s : Part) (st : State) (p r : Price) (w : Ways) (o : Outcome) → Dearer p r
+      → Claim linear rate s st p w o → Claim linear rate s st r w o
+  more s st p r w o j a =
+      let turns = j.0 in let slack = j.1 in let out = j.2 in
+      claim_from s st st p r w o (record {
+        same = refl;
+        left = omega arith;
+        turns = omega arith;
+        slack = omega arith;
+        out = omega arith;
+      }) a
+
+  -- ---- stores that may be there
+
+  arrives_kept : (s : Part) (st end : State) (p : Price) (kept kept' : Kept) (held : ℕ) (way : Way)
+      → ((st : State) (store : Store) → kept st store → kept' st store)
+      → Arrives linear rate s st p kept held end way → Arrives linear rate s st p kept' held end way
+  arrives_kept s st end p kept kept' held Never h a = a
+  arrives_kept s st end p kept kept' held (To u) h
+      a = record {
+        store = a.store;
+        fits = h end a.store a.fits;
+        same = a.same;
+        reaches = a.reaches;
+      }
+  arrives_kept s st end p kept kept' held (Out u) h
+      a = (
+        a.0,
+        record {
+          store = a.1.store;
+          fits = h end a.1.store a.1.fits;
+          same = a.1.same;
+          reaches = a.1.reaches;
+        },
+      )
+
+  -- more stores may be there
+  pub claim_kept : (s : Part) (st : State) (p : Price) (w : Ways) (kept : Kept) (o : Outcome)
+      → ((st : State) (store : Store) → w.kept st store → kept st store)
+      → Claim linear rate s st p w o → Claim linear rate s st p (record w { kept = kept }) o
+  claim_kept s st p w kept (Gives (Value x) end) h a = arrives_kept s st end p w.kept kept w.held
+      (w.value x) h a
+  claim_kept s st p w kept (Gives Normal end) h a = arrives_kept s st end p w.kept kept w.held
+      w.normal h a
+  claim_kept s st p w kept (Gives (Returned v) end) h a = arrives_kept s st end p w.kept kept w.held
+      (w.returned v) h a
+  claim_kept s st p w kept (Gives Broke end) h a = arrives_kept s st end p w.kept kept w.held
+      w.broke h a
+  claim_kept s st p w kept (Gives Continued end) h a = arrives_kept s st end p w.kept kept w.held
+      w.again h a
+  claim_kept s st p w kept (Gives LeftTry end) h a = arrives_kept s st end p w.kept kept w.held
+      w.left h a
+  claim_kept s st p w kept (Gives (Target level exc) end) h a =
+      record {
+        handler = a.handler;
+        picked = a.picked;
+        temps = a.temps;
+        pc = a.pc;
+        store = a.store;
+        fits = h end a.store a.fits;
+        reaches = a.reaches;
+      }
+  claim_kept s st p w kept (Gives (End (Some e)) end) h a = a
+  claim_kept s st p w kept (Gives (End None) end) h a = a
+
+  joined : (p q r : Price) → Join p q r → Joined p.turns p.extra p.slack q r
+  joined p q r j = (j.turns, j.slack, j.second_out)
+
+  -- ---- one thing after another
+
+  abbrev pub ThenValue : (v : ℕ → State → Store → Part) → Ways → State → Price
+      → (ℕ → State → Outcome) → Type 0
+  ThenValue v w st q k = (x : ℕ) (mid : State) (store : Store) → mid.steps_left ≤ st.steps_left
+      → w.kept mid store → mid.held ≡ w.site.held
+      → Claim linear rate (v x mid store) mid q w (k x mid)
+
+  abbrev pub ThenNormal : (t : State → Store → Part) → Ways → State → Price → (State → Outcome)
+      → Type 0
+  ThenNormal t w st q k = (mid : State) (store : Store) → mid.steps_left ≤ st.steps_left
+      → w.kept mid store → mid.held ≡ w.held → Claim linear rate (t mid store) mid q w (k mid)
+
+  pub then_value : (s : Part) (v : ℕ → State → Store → Part) (w : Ways) (st : State) (p q r : Price)
+      (o : Outcome) (k : ℕ → State → Outcome) → Join p q r
+      → Claim linear rate s st p (value_ways v w.kept w.context w.site) o → ThenValue v w st q k
+      → Claim linear rate s st r w (with_value o k)
+  unfolding with_value
+  then_value s v w st p q r (Gives (Value x) mid) k j a b = after s (v x mid a.store) st mid p.turns
+      p.extra p.slack q r w (k x mid) (joined p q r j) a.reaches
+      (b x mid a.store a.reaches.low a.fits a.same)
+  then_value s v w st p q r (Gives Normal mid) k j a b = absurd a
+  then_value s v w st p q r (Gives (Returned x) mid) k j a b = absurd a
+  then_value s v w st p q r (Gives Broke mid) k j a b = absurd a
+  then_value s v w st p q r (Gives Continued mid) k j a b = absurd a
+  then_value s v w st p q r (Gives LeftTry mid) k j a b = absurd a
+  then_value s v w st p q r (Gives (Target level exc) mid) k j a b = let lr = j.turns in
+      targets_more s st mid p r w.kept w.context w.site level exc (omega arith) j.first_out a
+  then_value s v w st p q r (Gives (End (Some e)) mid) k j a b = let lr = j.turns in
+      finishes_more s st mid p.turns r.turns (Finished e mid.events) (omega arith) a
+  then_value s v w st p q r (Gives (End None) mid) k j a b = let lr = j.turns in
+      stops_more s st mid p.turns p.extra p.out r.turns r.extra r.out (omega arith) j.first_out a
+
+  -- what is left where the first part of a block ends otherwise
+  abbrev pub Passes : Price → Price → Type 0
+  Passes p r = r.extra + p.slack ≤ p.extra + r.slack
+
+  pub then_normal : (s : Part) (t : State → Store → Part) (w : Ways) (st : State) (p q r : Price)
+      (o : Outcome) (k : State → Outcome) → Join p q r → Passes p r
+      → Claim linear rate s st p (first_ways t w) o → ThenNormal t w st q k
+      → Claim linear rate s st r w (and_then o k)
+  unfolding and_then
+  then_normal s t w st p q r (Gives (Value x) mid) k j l a b = absurd a
+  then_normal s t w st p q r (Gives Normal mid) k j l a b = after s (t mid a.store) st mid p.turns
+      p.extra p.slack q r w (k mid) (joined p q r j) a.reaches
+      (b mid a.store a.reaches.low a.fits a.same)
+  then_normal s t w st p q r (Gives (Returned x) mid) k j l a b = let lr = j.turns in
+      arrives_more s st mid p r w.kept w.held (w.returned x) (omega arith) l a
+  then_normal s t w st p q r (Gives Broke mid) k j l a b = let lr = j.turns in
+      arrives_more s st mid p r w.kept w.held w.broke (omega arith) l a
+  then_normal s t w st p q r (Gives Continued mid) k j l a b = let lr = j.turns in
+      arrives_more s st mid p r w.kept w.held w.again (omega arith) l a
+  then_normal s t w st p q r (Gives LeftTry mid) k j l a b = let lr = j.turns in
+      arrives_more s st mid p r w.kept w.held w.left (omega arith) l a
+  then_normal s t w st p q r (Gives (Target level exc) mid) k j l a b = let lr = j.turns in
+      targets_more s st mid p r w.kept w.context w.site level exc (omega arith) j.first_out a
+  then_normal s t w st p q r (Gives (End (Some e)) mid) k j l a b = let lr = j.turns in
+      finishes_more s st mid p.turns r.turns (Finished e mid.events) (omega arith) a
+  then_normal s t w st p q r (Gives (End None) mid) k j l a b = let lr = j.turns in
+      stops_more s st mid p.turns p.extra p.out r.turns r.extra r.out (omega arith) j.first_out a
+
+  -- the same where only a normal end, with so much held, a target or an end may come
+  pub then_held : (s : Part) (t : State → Store → Part) (held : ℕ) (w : Ways) (st : State)
+      (p q r : Price) (o : Outcome) (k : State → Outcome) → Join p q r
+      → Claim linear rate s st p (record (normal_ways t w.kept w.context w.site) { held = held }) o
+      → ((mid : State) (store : Store) → mid.steps_left ≤ st.steps_left → w.kept mid store
+      → mid.held ≡ held → Claim linear rate (t mid store) mid q w (k mid))
+      → Claim linear rate s st r w (and_then o k)
+  unfolding and_then
+  then_held s t held w st p q r (Gives (Value x) mid) k j a b = absurd a
+  then_held s t held w st p q r (Gives Normal mid) k j a b = after s (t mid a.store) st mid p.turns
+      p.extra p.slack q r w (k mid) (joined p q r j) a.reaches
+      (b mid a.store a.reaches.low a.fits a.same)
+  then_held s t held w st p q r (Gives (Returned x) mid) k j a b = absurd a
+  then_held s t held w st p q r (Gives Broke mid) k j a b = absurd a
+  then_held s t held w st p q r (Gives Continued mid) k j a b = absurd a
+  then_held s t held w st p q r (Gives LeftTry mid) k j a b = absurd a
+  then_held s t held w st p q r (Gives (Target level exc) mid) k j a b = let lr = j.turns in
+      targets_more s st mid p r w.kept w.context w.site level exc (omega arith) j.first_out a
+  then_held s t held w st p q r (Gives (End (Some e)) mid) k j a b = let lr = j.turns in
+      finishes_more s st mid p.turns r.turns (Finished e mid.events) (omega arith) a
+  then_held s t held w st p q r (Gives (End None) mid) k j a b = let lr = j.turns in
+      stops_more s st mid p.turns p.extra p.out r.turns r.extra r.out (omega arith) j.first_out a
+
+  pub then_plain : (s : Part) (t : State → Store → Part) (w : Ways) (st : State) (p q r : Price)
+      (o : Outcome) (k : State → Outcome) → Join p q r
+      → Claim linear rate s st p (normal_ways t w.kept w.context w.site) o
+      → ((mid : State) (store : Store) → mid.steps_left ≤ st.steps_left → w.kept mid store
+      → mid.held ≡ w.site.held → Claim linear rate (t mid store) mid q w (k mid))
+      → Claim linear rate s st r w (and_then o k)
+  then_plain s t w st p q r o k j a b = then_held s t w.site.held w st p q r o k j a b

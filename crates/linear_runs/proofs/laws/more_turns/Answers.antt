@@ -1,5 +1,0 @@
-use Rattle.linear_runs.proofs.MoreTurns as lemma
-use Rattle.linear_runs.proofs.laws.more_turns.Goals as goal
-
-pub returns : goal.returns
-returns c = record { shows_more = lemma.shows_more; end_stays = lemma.end_stays }

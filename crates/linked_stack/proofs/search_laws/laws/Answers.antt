@@ -1,5 +1,0 @@
-use Rattle.linked_stack.proofs.SearchSearched.{search_is_the_lists, search_continues}
-use Rattle.linked_stack.proofs.search_laws.laws.Goals as goal
-
-pub returns : goal.returns
-returns c = record { searched = search_is_the_lists; onward = search_continues }

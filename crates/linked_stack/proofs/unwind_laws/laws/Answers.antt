@@ -1,5 +1,0 @@
-use Rattle.linked_stack.proofs.UnwindUnwound.{unwinding_is_the_lists}
-use Rattle.linked_stack.proofs.unwind_laws.laws.Goals as goal
-
-pub returns : goal.returns
-returns c = record { unwound = unwinding_is_the_lists }

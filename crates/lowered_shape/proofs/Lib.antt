@@ -1,4 +1,0 @@
-pub mod Ranges
-pub mod Weights
-pub mod Numbers
-pub mod Shaped

@@ -1,0 +1,139 @@
+-- All that is claimed, of any number of tasks inside one another.
+use Rattle.std.proofs.Common.{◌≡◌, ◌≤◌, ℕ, zero, suc, ◌+◌, [], subst, arith}
+use Rattle.std.specs.Prelude.{◌-◌, slice_get, Some}
+use Rattle.seh_num.specs.declared.event.Event.TheVariants as events
+use Rattle.c_checked.specs.Program.{Program, Function}
+use Rattle.linear_code.specs.Program.{LinearProgram, LinearFunction}
+use Rattle.linear_machine.specs.Frames.{deeper}
+use Rattle.linear_machine.specs.Unwinding.{begin_finally}
+use Rattle.linear_machine.specs.Searching.{begin_filter}
+use Rattle.linear_machine.specs.Run.{exec}
+use Rattle.linear_machine.proofs.Stretch.{at, conf}
+use Rattle.linear_machine.proofs.SingleTurns.{stopped, shown_deep}
+use Rattle.linear_machine.specs.Searching.{raise}
+use Rattle.lowering_follows.specs.Weights.{expression_weight, lvalue_weight, optional_weight, statement_weight, statements_weight}
+use Rattle.lowering_follows.proofs.TaskClaims.{Runs, shown_more, shown_none, shown_raise}
+use Rattle.lowering_follows.proofs.TaskSteps.{eval_next, locate_next, raised_next, retry_next, filter_next}
+use Rattle.lowering_follows.proofs.BodyClaims.{BodyRuns}
+use Rattle.lowering_follows.proofs.BodyNext.{body_next}
+use Rattle.lowering_follows.specs.StatementPlaces.{FunctionPlaced}
+use Rattle.lowering_follows.proofs.Functions.{call_runs}
+
+module _ (program : Program) (linear : LinearProgram) (rate body : ℕ)
+    (same_globals : linear.globals ≡ program.globals) (roomy : 4 ≤ rate)
+    (placed : (k : ℕ) (fn : Function) → slice_get program.functions k ≡ Some fn
+    → (lf : LinearFunction) × (slice_get linear.functions k ≡ Some lf)
+    × FunctionPlaced program linear rate body k fn lf) where
+  functions_at : (k : ℕ) (fn : Function) → slice_get program.functions k ≡ Some fn
+      → (lf : LinearFunction) × (slice_get linear.functions k ≡ Some lf)
+  functions_at k fn h = let p = placed k fn h in (p.0, p.1)
+
+  placed_at : (k : ℕ) (fn : Function) (lf : LinearFunction)
+      → slice_get program.functions k ≡ Some fn → slice_get linear.functions k ≡ Some lf
+      → FunctionPlaced program linear rate body k fn lf
+  placed_at k fn lf h there = let p = placed k fn h in let other = p.1 in
+      let same : p.0 ≡ lf = cc in subst (λ lf. FunctionPlaced program linear rate body k fn lf) same
+      p.2
+
+  pub record Both (n : ℕ) : Type 0 where
+    pub tasks : Runs program linear rate body n
+    pub bodies : BodyRuns program linear rate body n
+
+  bodies_zero : BodyRuns program linear rate body zero
+  bodies_zero = record {
+    run = λ s scope z shapes context site base pc st store steps light has inner standing kept
+        held. stopped linear rate (at (conf context site pc [] st store)) st 0 0 (statement_weight s)
+        (omega arith) (shown_none program linear rate body (conf context site pc [] st store));
+    for_run = λ c next s scope z shapes context site base pc st store steps light has inner standing
+        kept held.
+        stopped linear rate (at (conf context site pc [] st store)) st 0 0
+        (1 + optional_weight c + statement_weight s + optional_weight next) (omega arith)
+        (shown_none program linear rate body (conf context site pc [] st store));
+    do_run = λ s c scope z shapes context site base pc st store steps light has inner standing kept
+        held.
+        stopped linear rate (at (conf context site pc [] st store)) st 0 0
+        (1 + statement_weight s + expression_weight c) (omega arith)
+        (shown_none program linear rate body (conf context site pc [] st store));
+    try_run = λ ss scope z shapes context site base pc st store steps light has inner standing kept
+        held. stopped linear rate (at (conf context site pc [] st store)) st 0 0
+        (1 + statements_weight ss) (omega arith)
+        (shown_none program linear rate body (conf context site pc [] st store));
+    finally_run = λ k last flag held below names z shapes context site base pc temps st store steps
+        light has isf standing kept same_held.
+        let begins = begin_finally (k - 1) names.free flag held below
+        (conf context site pc temps st store) in
+        stopped linear rate (λ next. deeper 2 held store st.events (next begins)) st 0 0
+        (1 + statements_weight last) (omega arith)
+        (shown_deep linear rate 2 held store st.events (exec linear zero begins)
+        (shown_more program linear rate body st.events _ (events.Finally (k - 1 + 1) flag)
+        (shown_none program linear rate body begins)));
+  }
+
+  tasks_zero : Runs program linear rate body zero
+  tasks_zero = record {
+    eval = λ e names info z shapes context site base pc temps st store steps light fits has around
+        kept held. stopped linear rate (at (conf context site pc temps st store)) st 0 0
+        (expression_weight e) (omega arith) (shown_none program linear rate body
+        (conf context site pc temps st store));
+    locate = λ p names info z shapes context site base pc temps st store steps light fits has around
+        kept held. stopped linear rate (at (conf context site pc temps st store)) st 0 0
+        (1 + lvalue_weight p) (omega arith) (shown_none program linear rate body
+        (conf context site pc temps st store));
+    raised = λ exc resumption names info z shapes context site base pc temps st store steps t around
+        kept held.
+        stopped linear rate (λ next. raise linear next exc resumption
+        (conf context site pc temps st store)) st 0 0 rate (omega arith)
+        (shown_raise program linear rate body exc resumption
+        (conf context site pc temps st store));
+    retry = λ o x y to first second a b after names info z shapes context site base pc temps st
+        store c steps has r alike around kept held. stopped linear rate
+        (at (conf context site pc temps st store)) st 0 0 1 (omega arith)
+        (shown_none program linear rate body (conf context site pc temps st store));
+    filter = λ k j e h f rest exc resumption names info z shapes context site base pc temps st store
+        steps t a fit around kept held.
+        let begins = begin_filter j f rest exc resumption (conf context site pc temps st store) in
+        stopped linear rate (λ next. deeper 2 site.held store st.events (next begins)) st 0 1
+        (2 + expression_weight e) (omega arith)
+        (shown_deep linear rate 2 site.held store st.events (exec linear zero begins)
+        (shown_more program linear rate body st.events _ (events.Filter (j + 1))
+        (shown_none program linear rate body begins)));
+    call = λ k fn lf vs names info z shapes context site base pc temps st store steps h there len t
+        around kept held. call_runs program linear rate body zero bodies_zero k fn lf vs names info z
+        shapes context site base pc temps st store (placed_at k fn lf h there) steps len t around kept
+        held;
+  }
+
+  tasks_next : (n : ℕ) → Both n → BodyRuns program linear rate body (suc n)
+      → Runs program linear rate body (suc n)
+  tasks_next n b bodies = record {
+    eval = λ e names info z shapes context site base pc temps st store steps light fits has around
+        kept held. eval_next program linear rate body same_globals roomy functions_at n b.tasks names
+        info z shapes context site base around e pc temps st store steps light fits has kept held;
+    locate = λ p names info z shapes context site base pc temps st store steps light fits has around
+        kept held. locate_next program linear rate body same_globals roomy functions_at n b.tasks
+        names info z shapes context site base around p pc temps st store steps light fits has kept
+        held;
+    raised = λ exc resumption names info z shapes context site base pc temps st store steps t around
+        kept held. raised_next program linear rate body same_globals roomy functions_at n b.tasks
+        names info z shapes context site base around exc resumption pc temps st store steps t kept
+        held;
+    retry = λ o x y to first second a c after names info z shapes context site base pc temps st
+        store plain steps has r alike around kept held.
+        retry_next program linear rate body same_globals roomy functions_at n b.tasks names info z
+        shapes context site base around o x y to first second a c after pc temps st store plain
+        steps has r alike kept held;
+    filter = λ k j e h f rest exc resumption names info z shapes context site base pc temps st store
+        steps t a fit around kept held.
+        filter_next program linear rate body same_globals roomy functions_at n b.tasks names info z
+        shapes context site base around k j e h f rest exc resumption pc temps st store steps
+        fit.light t a fit kept held;
+    call = λ k fn lf vs names info z shapes context site base pc temps st store steps h there len t
+        around kept held. call_runs program linear rate body (suc n) bodies k fn lf vs names info z
+        shapes context site base pc temps st store (placed_at k fn lf h there) steps len t around kept
+        held;
+  }
+
+  pub both : (n : ℕ) → Both n
+  both zero = record { tasks = tasks_zero; bodies = bodies_zero }
+  both (suc n) = let b = both n in let bodies = body_next program linear rate body roomy n b.tasks
+      b.bodies in record { tasks = tasks_next n b bodies; bodies = bodies }

@@ -1,0 +1,255 @@
+-- What is claimed of statements holds one step deeper.
+use Rattle.std.proofs.Common.{◌≡◌, ◌≤◌, ℕ, zero, suc, ◌+◌, List, [], ◌∷◌, ◌++◌, length, refl, ap, sym, subst, ◌∙◌, arith}
+use Rattle.std.specs.Prelude.{◌-◌, Bool, Some, None}
+use Rattle.seh_num.specs.declared.event.Event.TheVariants as events
+use Rattle.c_checked.specs.Statement.{Statements}
+use Rattle.c_checked.specs.Program.{Program}
+use Rattle.source_meaning.specs.State.{State, Value, Normal, Returned, Broke, Continued, LeftTry, Target, End, Outcome, Gives, emit, hold, let_go, and_then}
+use Rattle.source_meaning.specs.Tasks.{Context, Run, ForIteration, DoIteration, TryBody, RunFinally}
+use Rattle.source_meaning.specs.Expressions.{of_test, no_exception, all}
+use Rattle.source_meaning.specs.Meaning.{perform, within}
+use Rattle.linear_code.specs.declared.slot.Slot.TheVariants.{Local}
+use Rattle.linear_code.specs.declared.instruction.Instruction.TheVariants as instructions
+use Rattle.linear_code.specs.declared.program.FuncletKind.TheVariants as kinds
+use Rattle.linear_code.specs.Program.{LinearProgram}
+use Rattle.linear_machine.specs.Frames.{FuncletBody, Item, Store, Configuration, Finished, with_some, set_local, local_of, deeper}
+use Rattle.linear_machine.specs.Unwinding.{begin_finally}
+use Rattle.linear_machine.specs.Instructions.{end_funclet, end_finally}
+use Rattle.linear_machine.specs.Run.{exec}
+use Rattle.linear_machine.proofs.Stretch.{Part, at, Site, conf, Ways, Kept, price, Targets, Claim, normal_ways}
+use Rattle.linear_machine.proofs.StretchJoins.{more, reaches_after, targets_more, finishes_more, stops_more}
+use Rattle.linear_machine.proofs.SingleTurns.{stepped, fetch, prefix_self, sooner, counted_claim, deep_claim, shown_deep}
+use Rattle.lowering_expressions.specs.declared.scope.Names.{Names}
+use Rattle.lowering_expressions.specs.Scope.{finally_names, finally_scope}
+use Rattle.lowering_sizes.specs.Sizes.{statement_size, statements_size, statements_notes}
+use Rattle.lowering_follows.specs.Weights.{expression_weight, optional_weight, statement_weight, statements_weight}
+use Rattle.lowering_follows.proofs.Stores.{Shape}
+use Rattle.lowering_follows.specs.Places.{HasAt}
+use Rattle.lowering_follows.proofs.Places.{has_at}
+use Rattle.lowering_follows.proofs.TaskClaims.{Runs, shown_more, shown_none}
+use Rattle.lowering_follows.proofs.Raises.{targets_out, IsFunclet}
+use Rattle.lowering_follows.specs.StatementPlaces.{HasFunclet, FinallyPlaced, for_end, do_end}
+use Rattle.lowering_follows.proofs.BodyClaims.{finally_site, statement_ways, Stays, Surroundings, BodyRuns}
+use Rattle.lowering_follows.proofs.BodySequences.{all_runs}
+use Rattle.lowering_follows.proofs.BodySteps.{for_runs, do_runs}
+use Rattle.lowering_follows.proofs.BodyStatements.{statement_runs}
+use Rattle.lowering_follows.proofs.Tries.{surroundings_finally, noted_kept, noted_stays, stays_out}
+
+module _ (program : Program) (linear : LinearProgram) (rate body : ℕ) where
+  -- ---- the end of a `__finally` block
+
+  block_ends : (j : ℕ) (names : Names) (below : List Item) (held : ℕ) (context : Context) (done : ℕ)
+      (mid : State) (store : Store) (i : ℕ) → HasFunclet linear j
+      (λ funclet. funclet.kind ≡ kinds.Finally names.free)
+      → HasAt linear (FuncletBody j) [] done (instructions.Return (Local names.free) ∷ [])
+      → exec linear (suc i) (conf context (finally_site j below held) done [] mid store)
+      ≡ end_finally linear (exec linear i) below mid.events store
+  unfolding with_some
+  block_ends j names below held context done mid store i f has =
+      let c = conf context (finally_site j below held) done [] mid store in
+      let v = local_of store context.activation names.free in
+      fetch linear rate c (instructions.Return (Local names.free)) i has.0
+      ∙ ap (λ o. with_some mid.events o (λ x. end_funclet linear (exec linear i) x.kind v c)) f.1
+      ∙ ap (λ kd. end_funclet linear (exec linear i) kd v c) f.2
+
+  module _ (j : ℕ) (names : Names) (below : List Item) (held : ℕ) (flag : Bool) (context : Context)
+      (site : Site) (pc : ℕ) (temps : List ℕ) (kept' kept : Kept) (done : ℕ)
+      (out : (st : State) (store : Store) → kept' st store → kept st store)
+      (out' : (st : State) (store : Store) → kept' st store → kept (let_go st) store)
+      (f : HasFunclet linear j (λ funclet. funclet.kind ≡ kinds.Finally names.free))
+      (has : HasAt linear (FuncletBody j) [] done (instructions.Return (Local names.free) ∷ []))
+      (isf : IsFunclet program linear rate body j (finally_site j below held) context site pc
+      temps) where
+    final_end : (s : Part) (st : State) (x : ℕ) (o : Outcome)
+        → Claim linear rate s st (price 0 0 x x)
+        (statement_ways program linear rate body (finally_scope names)
+        (record context { abnormal = flag }) (finally_site j below held) kept' done) o
+        → Claim linear rate s st (price 1 0 x x)
+        (record (normal_ways (λ st store next. end_finally linear next below st.events store) kept
+        context site) { held = held }) (and_then o (λ st. Gives Normal (let_go st)))
+    unfolding and_then
+    final_end s st x (Gives (Value v) mid) a = absurd a
+    final_end s st x (Gives Normal mid) a = record {
+      store = a.store;
+      fits = out' mid a.store a.fits;
+      same = omega (arith, a.same);
+      reaches = reaches_after linear rate s (at
+          (conf (record context { abnormal = flag }) (finally_site j below held) done [] mid a.store))
+          (λ next. end_finally linear next below mid.events a.store) st mid (let_go mid) 0 0 x 1 0 0 1
+          0 x (omega arith) (omega arith) a.reaches
+          (stepped linear rate (conf (record context { abnormal = flag })
+          (finally_site j below held) done [] mid a.store)
+          (λ next. end_finally linear next below mid.events a.store) mid (let_go mid) 1 0 0 refl
+          (omega arith) (omega arith) refl (prefix_self linear rate mid.events)
+          (λ i. block_ends j names below held (record context { abnormal = flag }) done mid a.store
+          i f has));
+    }
+    final_end s st x (Gives (Returned v) mid) a = absurd a
+    final_end s st x (Gives Broke mid) a = absurd a
+    final_end s st x (Gives Continued mid) a = absurd a
+    final_end s st x (Gives LeftTry mid) a = absurd a
+    final_end s st x (Gives (Target level exc) mid) a =
+        let moved : Targets linear rate s st (price 0 0 x x) kept
+        (record context { abnormal = flag }) (finally_site j below held) level exc mid =
+        record {
+          handler = a.handler;
+          picked = a.picked;
+          temps = a.temps;
+          pc = a.pc;
+          store = a.store;
+          fits = out mid a.store a.fits;
+          reaches = a.reaches;
+        } in
+        targets_more linear rate s st mid (price 0 0 x x) (price 1 0 x x) kept context site level
+        exc (omega arith) (omega arith)
+        (targets_out program linear rate body s st (price 0 0 x x) kept j
+        (record context { abnormal = flag }) context (finally_site j below held) site pc temps
+        level exc mid isf.named isf.bare isf.same_found isf.onward moved)
+    final_end s st x (Gives (End (Some e)) mid) a = finishes_more linear rate s st mid 0 1
+        (Finished e mid.events) (omega arith) a
+    final_end s st x (Gives (End None) mid) a = stops_more linear rate s st mid 0 0 x 1 0 x
+        (omega arith) (omega arith) a
+
+  module _ (roomy : 4 ≤ rate) (n : ℕ) (ih : Runs program linear rate body n)
+      (bih : BodyRuns program linear rate body n) where
+    finally_next : (k : ℕ) (last : Statements) (flag : Bool) (held : ℕ) (below : List Item)
+        (names : Names) (z : Shape) (shapes : List Shape) (context : Context) (site : Site)
+        (base : Store) (pc : ℕ) (temps : List ℕ) (st : State) (store : Store)
+        → st.steps_left ≤ suc n → 1 + statements_weight last + body + 4 ≤ rate
+        → FinallyPlaced program linear rate body z.own names k last
+        → IsFunclet program linear rate body (k - 1) (finally_site (k - 1) below held) context site
+        pc temps
+        → Surroundings program linear rate body names z shapes context site base
+        (1 + statements_notes last) → Stays program linear rate body names shapes context base st
+        store → st.held ≡ held
+        → Claim linear rate (λ next. deeper 2 held store st.events
+        (next (begin_finally (k - 1) names.free flag held below
+        (conf context site pc temps st store)))) st
+        (price 0 0 (1 + statements_weight last) (1 + statements_weight last))
+        (record (normal_ways (λ st store next. end_finally linear next below st.events store)
+        (Stays program linear rate body names shapes context base) context site) { held = held })
+        (within program (suc n) (RunFinally k last flag) context st)
+    finally_next k last flag held below names z shapes context site base pc temps st store steps
+        light placed isf standing kept same_held =
+        let j = k - 1 in
+        let x = statements_weight last in
+        let y = 1 + statements_weight last in
+        let w : Ways = record (normal_ways (λ st store next. end_finally linear next below st.events
+        store) (Stays program linear rate body names shapes context base) context site)
+        { held = held } in
+        let inner : Context = record context { abnormal = flag } in
+        let fsite = finally_site j below held in
+        let base' = set_local store context.activation names.free (of_test flag) in
+        let names' = finally_names names in
+        let begins : Configuration = begin_finally j names.free flag held below
+        (conf context site pc temps st store) in
+        let place : ℕ → Configuration = λ m. record {
+          frame = record {
+            body = FuncletBody j;
+            next = 0;
+            activation = context.activation;
+            exception = no_exception;
+            held = held + 2;
+            temporaries = [];
+            landed = None;
+          };
+          below = below;
+          store = base';
+          events = st.events ++ events.Finally m flag ∷ [];
+        } in
+        let same : place k ≡ place (j + 1) = ap place placed.numbered in
+        let stays = noted_stays program linear rate body names z shapes context site base
+        (1 + statements_notes last) (of_test flag) store standing kept.1 in
+        let out = stays_out program linear rate body names names' shapes context base base' refl
+        stays in
+        let deep : length store.activations ≡ length st.frames = kept.0.activations
+        ∙ sym kept.0.count in
+        counted_claim linear rate (λ next. deeper 2 held store st.events (next begins)) w st 0 y y
+        (λ st. perform program (within program n) (RunFinally k last flag) context st)
+        (omega arith)
+        (shown_deep linear rate 2 held store st.events (exec linear zero begins)
+        (shown_more program linear rate body st.events _ (events.Finally (j + 1) flag)
+        (shown_none program linear rate body begins)))
+        (λ m less.
+        let low : State = record st { steps_left = m } in
+        let asked : State = emit (events.Finally k flag) (hold low) in
+        let o = and_then (all (within program n) last inner asked)
+        (λ st. Gives Normal (let_go st)) in
+        deep_claim linear rate 2 held store (at (place (j + 1))) low (price 16 1 y y) w
+        (λ st. and_then (all (within program n) last inner
+        (emit (events.Finally k flag) (hold st))) (λ st. Gives Normal (let_go st))) deep same_held
+        (sooner linear rate (at (place (j + 1))) low asked (price 16 1 y y) w o refl
+        (events.Finally k flag ∷ [], refl)
+        (subst (λ c. Claim linear rate (at c) asked (price 16 1 y y) w o) same
+        (more linear rate (at (place k)) asked (price 1 0 x x) (price 16 1 y y) w o
+        (omega arith, omega arith, omega arith)
+        (final_end j names below held flag context site pc temps
+        (Stays program linear rate body names' shapes inner base')
+        (Stays program linear rate body names shapes context base) (0 + statements_size last) out
+        (λ st store p. out st store p) placed.funclet
+        (has_at linear (FuncletBody j) [] (statements_size last) (0 + statements_size last)
+        (instructions.Return (Local names.free) ∷ []) (omega arith) placed.returns) isf
+        (at (place k)) asked x (all (within program n) last inner asked)
+        (all_runs program linear rate body n bih (finally_scope names) z shapes inner fsite base'
+        last 0 asked base' (omega arith) (omega arith) placed.code
+        (record { around = tt; exit = tt; loop_end = tt; loop_next = tt })
+        (surroundings_finally program linear rate body names z shapes context site fsite base
+        (statements_notes last) flag st store standing kept isf.same_found)
+        (noted_kept program linear rate body names names' z shapes context base (of_test flag) st
+        store refl standing.env.shape standing.past kept) (ap (λ h. h + 2) same_held)))))))
+
+    pub body_next : BodyRuns program linear rate body (suc n)
+    body_next = record {
+      run = λ s scope z shapes context site base pc st store steps light has inner standing kept
+          held.
+          counted_claim linear rate (at (conf context site pc [] st store))
+          (statement_ways program linear rate body scope context site
+          (Stays program linear rate body scope.names shapes context base)
+          (pc + statement_size s)) st 0 (statement_weight s) (statement_weight s)
+          (λ st. perform program (within program n) (Run s) context st) (omega arith)
+          (shown_none program linear rate body (conf context site pc [] st store))
+          (λ m less. statement_runs program linear rate body roomy n ih bih scope z shapes context
+          site base s pc (record st { steps_left = m }) store (omega arith) light has inner
+          standing kept held);
+      for_run = λ c next s scope z shapes context site base pc st store steps light has inner
+          standing kept held.
+          let wi = 1 + optional_weight c + statement_weight s + optional_weight next in
+          counted_claim linear rate (at (conf context site pc [] st store))
+          (statement_ways program linear rate body scope context site
+          (Stays program linear rate body scope.names shapes context base) (for_end c next s pc))
+          st 0 wi wi
+          (λ st. perform program (within program n) (ForIteration c next s) context st)
+          (omega arith) (shown_none program linear rate body (conf context site pc [] st store))
+          (λ m less. for_runs program linear rate body roomy n ih bih scope z shapes context site
+          base c next s pc (record st { steps_left = m }) store (omega arith) light has inner
+          standing kept held);
+      do_run = λ s c scope z shapes context site base pc st store steps light has inner standing
+          kept held.
+          let wi = 1 + statement_weight s + expression_weight c in
+          counted_claim linear rate (at (conf context site pc [] st store))
+          (statement_ways program linear rate body scope context site
+          (Stays program linear rate body scope.names shapes context base) (do_end s c pc)) st 0
+          wi wi
+          (λ st. perform program (within program n) (DoIteration s c) context st) (omega arith)
+          (shown_none program linear rate body (conf context site pc [] st store))
+          (λ m less. do_runs program linear rate body roomy n ih bih scope z shapes context site
+          base s c pc (record st { steps_left = m }) store (omega arith) light has inner standing
+          kept held);
+      try_run = λ ss scope z shapes context site base pc st store steps light has inner standing
+          kept held.
+          let x = statements_weight ss in
+          let w = statement_ways program linear rate body scope context site
+          (Stays program linear rate body scope.names shapes context base)
+          (pc + statements_size ss) in
+          counted_claim linear rate (at (conf context site pc [] st store)) w st 0 (1 + x) (1 + x)
+          (λ st. perform program (within program n) (TryBody ss) context st) (omega arith)
+          (shown_none program linear rate body (conf context site pc [] st store))
+          (λ m less.
+          let low : State = record st { steps_left = m } in
+          more linear rate (at (conf context site pc [] low store)) low (price 0 0 x x)
+          (price 16 1 (1 + x) (1 + x)) w (all (within program n) ss context low)
+          (omega arith, omega arith, omega arith)
+          (all_runs program linear rate body n bih scope z shapes context site base ss pc low store
+          (omega arith) (omega arith) has inner standing kept held));
+      finally_run = finally_next;
+    }

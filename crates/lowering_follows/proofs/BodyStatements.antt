@@ -1,0 +1,434 @@
+-- Statements, after their step.
+use Rattle.std.proofs.Common.{◌≡◌, ◌≤◌, ℕ, ◌+◌, List, [], ◌∷◌, length, refl, sym, subst, arith}
+use Rattle.std.specs.Prelude.{◌-◌, max, nat_eq, Option, Some, None}
+use Rattle.c_checked.specs.Expression.{Expression}
+use Rattle.c_checked.specs.Statement.{Declared, Filter, Statement, Declare, Block, Evaluate, If, IfElse, For, DoWhile, Return, Break, Continue, Leave, TryExcept, TryFinally, Statements}
+use Rattle.c_checked.specs.Program.{Program}
+use Rattle.source_meaning.specs.State.{Exception, State, Normal, Returned, Outcome, Gives, choose, and_then}
+use Rattle.source_meaning.specs.Tasks.{Context, Handler, Run, ForIteration, DoIteration, TryBody, RunFinally}
+use Rattle.source_meaning.specs.Expressions.{all}
+use Rattle.source_meaning.specs.Statements.{optional, declare_each, landing, finally_after, statement}
+use Rattle.source_meaning.specs.Meaning.{within}
+use Rattle.linear_code.specs.declared.slot.Slot.TheVariants.{Temporary}
+use Rattle.linear_code.specs.declared.instruction.Instruction.TheVariants.{JumpIfZero}
+use Rattle.linear_code.specs.declared.program.Region.{Region}
+use Rattle.linear_code.specs.declared.program.RegionKind.TheVariants as regions
+use Rattle.linear_code.specs.Program.{LinearProgram}
+use Rattle.linear_machine.specs.Frames.{BodyName, Store, set_local}
+use Rattle.linear_machine.proofs.Stretch.{at, Site, conf, Ways, Price, price, found, joins}
+use Rattle.linear_machine.proofs.StretchJoins.{more, then_normal}
+use Rattle.linear_machine.proofs.SingleTurns.{chosen}
+use Rattle.lowering_expressions.specs.declared.scope.LoweringContext.{LoweringContext}
+use Rattle.lowering_expressions.specs.Scope.{except_names, in_try, in_except, in_guarded}
+use Rattle.lowering_sizes.specs.Sizes.{expression_size, discarded_size, declared_size, all_declared_size, returned_size, statement_size, statements_size, statement_notes, statements_notes}
+use Rattle.seh_ir.specs.Regions.{except_kind, region}
+use Rattle.lowering_expressions.specs.Expressions.{expression_code}
+use Rattle.lowering_follows.specs.Weights.{expression_weight, optional_weight, declared_weight, all_declared_weight, statement_weight, statements_weight}
+use Rattle.lowering_follows.proofs.Stores.{Shape, Alike, below_slot}
+use Rattle.lowering_follows.proofs.Places.{has_front, has_after}
+use Rattle.lowering_follows.proofs.Lengths.{expression_length}
+use Rattle.lowering_follows.proofs.Turns.{constant_turn, jump_turn, test_turn}
+use Rattle.lowering_follows.proofs.TaskClaims.{Runs}
+use Rattle.lowering_follows.proofs.Environments.{same_length}
+use Rattle.lowering_follows.specs.StatementPlaces.{AllDeclaredPlaced, Placed, for_end, do_end}
+use Rattle.lowering_follows.proofs.BodyClaims.{Inner, inner_part, Stays, Surroundings, surroundings_less, BodyRuns, statement_eval}
+use Rattle.lowering_follows.proofs.BodySequences.{max_left, max_right, all_runs}
+use Rattle.lowering_follows.proofs.BodyParts.{Ks, S, G, ends_at, continue_from, here, normal_then, discard_then, leaves_by, breaks_by, ends_try, declared_runs}
+use Rattle.lowering_follows.proofs.Tries.{inside_except, inside_finally, within_region, noted_stays, surroundings_except, noted_kept, stays_out, surroundings_try, surroundings_guarded, block_claim}
+use Rattle.lowering_follows.proofs.TryEnds.{except_ends}
+use Rattle.lowering_follows.proofs.FinallyEnds.{finally_ends}
+
+inner_except : (linear : LinearProgram) (b : BodyName) (scope : LoweringContext) (rs : List Region)
+    (lo hi : ℕ) → Inner linear b scope rs lo hi → Inner linear b (in_except scope) rs lo hi
+inner_except linear b scope rs lo hi f = record {
+  around = f.around;
+  exit = f.exit;
+  loop_end = f.loop_end;
+  loop_next = f.loop_next;
+}
+
+module _ (program : Program) (linear : LinearProgram) (rate body : ℕ) (roomy : 4 ≤ rate) (n : ℕ)
+    (ih : Runs program linear rate body n) (bih : BodyRuns program linear rate body n) where
+  module _ (scope : LoweringContext) (z : Shape) (shapes : List Shape) (context : Context)
+      (site : Site) (base : Store) where
+    abbrev W : ℕ → Ways
+    W = S program linear rate body roomy n ih bih scope z shapes context site base
+
+    abbrev K : State → Store → Type 0
+    K = Ks program linear rate body roomy n ih bih scope z shapes context site base
+
+    abbrev C : (pc : ℕ) (temps : List ℕ) (st : State) (store : Store) → Price → (done : ℕ) → Outcome
+        → Type 0
+    C = G program linear rate body roomy n ih bih scope z shapes context site base
+
+    abbrev Sd : ℕ → Type 0
+    Sd notes = Surroundings program linear rate body scope.names z shapes context site base notes
+
+    abbrev In : ℕ → ℕ → Type 0
+    In lo hi = Inner linear site.body scope site.regions lo hi
+
+    part_in : (lo hi lo' hi' : ℕ) → lo ≤ lo' → hi' ≤ hi → In lo hi → In lo' hi'
+    part_in lo hi lo' hi' l h f = inner_part linear site.body scope site.regions lo hi lo' hi' l h f
+
+    fewer : (notes notes' : ℕ) → notes' ≤ notes → Sd notes → Sd notes'
+    fewer notes notes' le s = surroundings_less program linear rate body scope.names z shapes
+        context site base notes notes' le s
+
+    declares_runs : (ds : List Declared) (pc : ℕ) (st : State) (store : Store) → st.steps_left ≤ n
+        → all_declared_weight ds + body + 4 ≤ rate
+        → AllDeclaredPlaced program linear rate body z.own site.body scope.names ds site.regions pc
+        → In pc (pc + all_declared_size ds) → Sd 0 → K st store → st.held ≡ site.held
+        → C pc [] st store (price 0 0 (all_declared_weight ds) (all_declared_weight ds))
+        (pc + all_declared_size ds) (declare_each (within program n) ds context st)
+    declares_runs [] pc st store steps light has inner standing kept held = here program linear rate
+        body roomy n ih bih scope z shapes context site base pc (pc + 0) st store (price 0 0 0 0)
+        (omega arith) (omega arith) kept held
+    declares_runs (d ∷ ds) pc st store steps light has inner standing kept held =
+        let a = declared_weight d in
+        let b = all_declared_weight ds in
+        let pc1 = pc + declared_size d in
+        let done = pc1 + all_declared_size ds in
+        let hi = pc + (declared_size d + all_declared_size ds) in
+        let end : done ≡ hi = omega arith in
+        ends_at program linear rate body roomy n ih bih scope z shapes context site base pc [] st
+        store (price 0 0 (a + b) (a + b)) done hi
+        (and_then (within program n (Run (Declare d)) context st)
+        (λ st. declare_each (within program n) ds context st)) end
+        (then_normal linear rate (at (conf context site pc [] st store))
+        (λ st store. at (conf context site pc1 [] st store)) (W done) st (price 0 0 a a)
+        (price 0 0 b b) (price 0 0 (a + b) (a + b))
+        (within program n (Run (Declare d)) context st)
+        (λ st. declare_each (within program n) ds context st)
+        (joins (omega arith) (omega arith) (omega arith) (omega arith)) (omega arith)
+        (bih.run (Declare d) scope z shapes context site base pc st store steps (omega arith) has.0
+        (part_in pc hi pc pc1 (omega arith) (omega arith) inner) standing kept held)
+        (λ mid after low kept held. declares_runs ds pc1 mid after (omega arith) (omega arith) has.1
+        (part_in pc hi pc1 done (omega arith) (omega arith) inner) standing kept held))
+
+    -- a statement at an earlier place, whose end is another's
+    sub_run : (s : Statement) (pc done : ℕ) (st : State) (store : Store) (r : Price)
+        (notes lo hi : ℕ) → st.steps_left ≤ n → statement_weight s + body + 4 ≤ rate
+        → statement_weight s ≤ r.slack → statement_weight s ≤ r.out → r.extra ≡ 0
+        → Placed program linear rate body z.own site.body scope s site.regions pc
+        → lo ≤ pc → pc + statement_size s ≤ hi → In lo hi → statement_notes s ≤ notes → Sd notes
+        → K st store → st.held ≡ site.held → pc + statement_size s ≡ done
+        → C pc [] st store r done (within program n (Run s) context st)
+    sub_run s pc done st store r notes lo hi steps light slack out none has l h inner less standing
+        kept held e =
+        let w = statement_weight s in
+        ends_at program linear rate body roomy n ih bih scope z shapes context site base pc [] st
+        store r (pc + statement_size s) done (within program n (Run s) context st) e
+        (more linear rate (at (conf context site pc [] st store)) st (price 0 0 w w) r
+        (W (pc + statement_size s)) (within program n (Run s) context st)
+        (omega arith, omega arith, omega arith)
+        (bih.run s scope z shapes context site base pc st store steps light has
+        (part_in lo hi pc (pc + statement_size s) l h inner)
+        (fewer notes (statement_notes s) less standing) kept held))
+
+    return_runs : (e : Option Expression) (notes pc : ℕ) (st : State) (store : Store)
+        → st.steps_left ≤ n → 1 + optional_weight e + body + 4 ≤ rate
+        → Placed program linear rate body z.own site.body scope (Return e) site.regions pc → Sd notes
+        → K st store → st.held ≡ site.held
+        → C pc [] st store (price 16 1 (1 + optional_weight e) (1 + optional_weight e))
+        (pc + (returned_size e + 2)) (optional (within program n) 0 e context st
+        (λ v st. Gives (Returned v) st))
+    return_runs None notes pc st store steps light has standing kept held =
+        continue_from program linear rate body roomy n ih bih scope z shapes context site base pc
+        (pc + 1) [] (0 ∷ []) st store store (price 1 0 0 0) (price 16 1 1 1) (pc + (1 + 2))
+        (Gives (Returned 0) st) (omega arith, omega arith, omega arith)
+        (λ k. constant_turn linear rate context site 0 0 (0 ∷ []) pc [] st store k (omega arith)
+        has.computes refl)
+        (leaves_by program linear rate body roomy n ih bih scope z shapes context site base
+        scope.exit (pc + 1) 0 st store (price 1 0 0 0) (omega arith) (omega arith) has.leads
+        has.returns kept held)
+    return_runs (Some e) notes pc st store steps light has standing kept held =
+        let w = expression_weight e in
+        let done = pc + (expression_size e + 2) in
+        statement_eval program linear rate body n ih e scope.names z shapes context site base notes
+        pc st store (price 1 0 0 0) (price 16 1 (1 + w) (1 + w)) (W done)
+        (λ v st. Gives (Returned v) st) steps (omega arith)
+        (joins (omega arith) (omega arith) (omega arith) (omega arith)) has.value has.computes
+        standing kept held
+        (λ v mid after steps kept held. leaves_by program linear rate body roomy n ih bih scope z
+        shapes context site base scope.exit (pc + expression_size e) v mid after (price 1 0 0 0)
+        (omega arith) (omega arith) has.leads has.returns kept held)
+
+    except_runs : (ss : Statements) (filter : Filter) (block : Statements) (pc : ℕ) (st : State)
+        (store : Store) → st.steps_left ≤ n → statement_weight (TryExcept ss filter block) + body + 4
+        ≤ rate → Placed program linear rate body z.own site.body scope (TryExcept ss filter block)
+        site.regions pc
+        → In pc (pc + statement_size (TryExcept ss filter block))
+        → Sd (statement_notes (TryExcept ss filter block)) → K st store → st.held ≡ site.held
+        → C pc [] st store (price 16 1 (statement_weight (TryExcept ss filter block))
+        (statement_weight (TryExcept ss filter block)))
+        (pc + statement_size (TryExcept ss filter block))
+        (statement (within program n) (TryExcept ss filter block) context st)
+    except_runs ss filter block pc st store steps light has inner standing kept held =
+        let x = 1 + statements_weight ss in
+        let y = statements_weight block in
+        let w = statement_weight (TryExcept ss filter block) in
+        let pcj = pc + statements_size ss in
+        let target = pcj + 1 in
+        let done = target + 1 + statements_size block in
+        let hi = pc + statement_size (TryExcept ss filter block) in
+        let end : done ≡ hi = omega arith in
+        let notes = statement_notes (TryExcept ss filter block) in
+        let own : Handler = record {
+          filter = filter;
+          activation = context.activation;
+          abnormal = context.abnormal;
+        } in
+        let within_it : Context = record context { handlers = own ∷ context.handlers } in
+        let inside = within_region (region pc target (except_kind filter target)) site in
+        let body_out = within program n (TryBody ss) within_it st in
+        let go : Exception → State → Outcome = λ exc st. all (within program n) block
+        (record context { exception = exc }) st in
+        let here_surrounded = fewer notes (1 + statements_notes block)
+        (max_right (statements_notes ss) (1 + statements_notes block)) standing in
+        let o : ℕ → Outcome = λ h. landing (length context.handlers) h body_out go in
+        subst (λ h. C pc [] st store (price 16 1 w w) hi (o h)) (sym held)
+        (ends_at program linear rate body roomy n ih bih scope z shapes context site base pc [] st
+        store (price 16 1 w w) done hi (o site.held) end
+        (more linear rate (at (conf context site pc [] st store)) st (price 2 0 (x + y) (x + y))
+        (price 16 1 w w) (W done) (o site.held) (omega arith, omega arith, omega arith)
+        (except_ends program linear rate body filter pc target hi (omega arith) (omega arith)
+        context site K done x y pc scope.names.free scope.names scope z shapes base notes
+        (at (conf context site pc [] st store)) st pcj body_out go inner
+        (same_length program linear rate body (below_slot context.activation scope.names.free)
+        shapes base context.handlers (found linear rate context site) standing.env.handlers)
+        has.end has.landing
+        (λ exc mid after low kept held.
+        let base' = set_local after context.activation scope.names.free exc.code in
+        let names' = except_names scope.names in
+        let context' : Context = record context { exception = exc } in
+        let stays = noted_stays program linear rate body scope.names z shapes context site base
+        (1 + statements_notes block) exc.code after here_surrounded kept.1 in
+        block_claim program linear rate body (at (conf context site (target + 1) [] mid base')) mid
+        (price 0 0 y y) scope context context.handlers exc site
+        (Stays program linear rate body names' shapes context' base') K done (go exc mid)
+        (stays_out program linear rate body scope.names names' shapes context base base' refl stays)
+        (all_runs program linear rate body n bih (in_except scope) z shapes context' site base'
+        block (target + 1) mid base' (omega arith) (omega arith) has.block
+        (inner_except linear site.body scope site.regions (target + 1) done
+        (part_in pc hi (target + 1) done (omega arith) (omega arith) inner))
+        (surroundings_except program linear rate body scope.names z shapes context site base
+        (statements_notes block) exc mid after here_surrounded kept)
+        (noted_kept program linear rate body scope.names names' z shapes context base exc.code mid
+        after refl standing.env.shape standing.past kept) held))
+        (λ e store k f m fr. (
+          subst (λ fs. Alike shapes f.memory fs store) (sym fr)
+              (subst (λ mm. Alike shapes mm e.frames store) (sym m) k.0),
+          k.1,
+        ))
+        (bih.try_run ss (in_try done scope) z shapes within_it inside base pc st store steps
+        (omega arith) has.body
+        (inside_except linear site.body scope filter target done site.regions pc hi pcj
+        (omega arith) (omega arith) inner)
+        (surroundings_try program linear rate body filter scope.names z shapes context site base pc
+        target (statements_notes ss) has.filter
+        (fewer notes (statements_notes ss) (max_left (statements_notes ss)
+        (1 + statements_notes block)) standing)) kept held))))
+
+    guarded_runs : (ss : Statements) (k : ℕ) (last : Statements) (pc : ℕ) (st : State)
+        (store : Store) → st.steps_left ≤ n → statement_weight (TryFinally ss k last) + body + 4
+        ≤ rate → Placed program linear rate body z.own site.body scope (TryFinally ss k last)
+        site.regions pc
+        → In pc (pc + statement_size (TryFinally ss k last))
+        → Sd (statement_notes (TryFinally ss k last)) → K st store → st.held ≡ site.held
+        → C pc [] st store (price 16 1 (statement_weight (TryFinally ss k last))
+        (statement_weight (TryFinally ss k last))) (pc + statement_size (TryFinally ss k last))
+        (statement (within program n) (TryFinally ss k last) context st)
+    guarded_runs ss k last pc st store steps light has inner standing kept held =
+        let x = 1 + statements_weight ss in
+        let y = 1 + statements_weight last in
+        let w = statement_weight (TryFinally ss k last) in
+        let e0 = pc + statements_size ss in
+        let done = e0 + 1 + 1 + 1 in
+        let hi = pc + statement_size (TryFinally ss k last) in
+        let end : done ≡ hi = omega arith in
+        let notes = statement_notes (TryFinally ss k last) in
+        let inside = within_region (region pc (e0 + 1) (regions.Finally (k - 1))) site in
+        let body_out = within program n (TryBody ss) context st in
+        let o = finally_after body_out (λ flag st. within program n (RunFinally k last flag) context
+        st) in
+        ends_at program linear rate body roomy n ih bih scope z shapes context site base pc [] st
+        store (price 16 1 w w) done hi o end
+        (more linear rate (at (conf context site pc [] st store)) st (price 3 0 (x + y) (x + y))
+        (price 16 1 w w) (W done) o (omega arith, omega arith, omega arith)
+        (finally_ends program linear rate body n bih k last pc e0 hi (omega arith) (omega arith)
+        scope z shapes context site base has.block
+        (fewer notes (1 + statements_notes last)
+        (max_right (statements_notes ss) (1 + statements_notes last)) standing) (omega arith)
+        pc x (at (conf context site pc [] st store)) st body_out steps inner has.end has.calls
+        (bih.try_run ss (in_guarded e0 scope) z shapes context inside base pc st store steps
+        (omega arith) has.body
+        (inside_finally linear site.body scope (k - 1) (e0 + 1) e0 site.regions pc hi e0
+        (omega arith) (omega arith) inner)
+        (surroundings_guarded program linear rate body scope.names z shapes context site base pc
+        (e0 + 1) (k - 1) (statements_notes ss)
+        (fewer notes (statements_notes ss) (max_left (statements_notes ss)
+        (1 + statements_notes last)) standing)) kept held)))
+
+    pub statement_runs : (s : Statement) (pc : ℕ) (st : State) (store : Store) → st.steps_left ≤ n
+        → statement_weight s + body + 4 ≤ rate → Placed program linear rate body z.own site.body scope
+        s site.regions pc → In pc (pc + statement_size s) → Sd (statement_notes s) → K st store
+        → st.held ≡ site.held
+        → C pc [] st store (price 16 1 (statement_weight s) (statement_weight s))
+        (pc + statement_size s) (statement (within program n) s context st)
+    statement_runs (Declare d) pc st store steps light has inner standing kept held = declared_runs
+        program linear rate body roomy n ih bih scope z shapes context site base d.local d.value 0 pc
+        st store steps light has standing kept held
+    statement_runs (Block ss) pc st store steps light has inner standing kept held =
+        let w = statements_weight ss in
+        more linear rate (at (conf context site pc [] st store)) st (price 0 0 w w)
+        (price 16 1 (1 + w) (1 + w)) (W (pc + statements_size ss))
+        (all (within program n) ss context st) (omega arith, omega arith, omega arith)
+        (all_runs program linear rate body n bih scope z shapes context site base ss pc st store
+        steps (omega arith) has inner standing kept held)
+    statement_runs (Evaluate e) pc st store steps light has inner standing kept held =
+        let w = optional_weight e in
+        let done = pc + discarded_size e in
+        discard_then program linear rate body roomy n ih bih scope z shapes context site base e 0 0
+        pc st store (price 0 0 0 0) (price 16 1 (1 + w) (1 + w)) done (λ v st. Gives Normal st)
+        steps (omega arith) (joins (omega arith) (omega arith) (omega arith) (omega arith)) has.0
+        has.1 standing kept held
+        (λ v mid after steps kept held. here program linear rate body roomy n ih bih scope z shapes
+        context site base done done mid after (price 0 0 0 0) refl (omega arith) kept held)
+    statement_runs (If c s) pc st store steps light has inner standing kept held =
+        let wc = expression_weight c in
+        let ws = statement_weight s in
+        let w = 1 + wc + ws in
+        let pc1 = pc + expression_size c in
+        let label = pc1 + 1 + statement_size s in
+        let done = pc + (expression_size c + (1 + statement_size s)) in
+        let end : label ≡ done = omega arith in
+        let code = expression_code scope.names c 0 pc in
+        let go : State → Outcome = λ st. within program n (Run s) context st in
+        statement_eval program linear rate body n ih c scope.names z shapes context site base
+        (statement_notes s) pc st store (price 2 0 ws ws) (price 16 1 w w) (W done)
+        (λ v st. choose (nat_eq v 0) (λ st. Gives Normal st) go st) steps (omega arith)
+        (joins (omega arith) (omega arith) (omega arith) (omega arith)) has.0
+        (has_front linear site.body site.regions pc code (JumpIfZero (Temporary 0) label ∷ [])
+        has.1) standing kept held
+        (λ v mid after steps kept held.
+        chosen linear rate (nat_eq v 0) (conf context site pc1 (v ∷ []) mid after)
+        (at (conf context site label [] mid after))
+        (at (conf context site (pc1 + 1) [] mid after)) (price 1 0 ws ws) (price 2 0 ws ws)
+        (W done) (λ st. Gives Normal st) go mid (omega arith, omega arith, omega arith) refl
+        (λ k. test_turn linear rate context site label v pc1 [] mid after k
+        (has_after linear site.body site.regions pc (expression_size c) code
+        (JumpIfZero (Temporary 0) label ∷ []) (expression_length scope.names c 0 pc) has.1))
+        (here program linear rate body roomy n ih bih scope z shapes context site base label done
+        mid after (price 1 0 ws ws) end (omega arith) kept held)
+        (sub_run s (pc1 + 1) done mid after (price 1 0 ws ws) (statement_notes s) pc done steps
+        (omega arith) (omega arith) (omega arith) refl has.2 (omega arith) (omega arith) inner
+        (omega arith) standing kept held end))
+    statement_runs (IfElse c s t) pc st store steps light has inner standing kept held =
+        let wc = expression_weight c in
+        let ws = statement_weight s in
+        let wt = statement_weight t in
+        let w = 1 + wc + ws + wt in
+        let notes = max (statement_notes s) (statement_notes t) in
+        let pc1 = pc + expression_size c in
+        let then = pc1 + 1 in
+        let jump = then + statement_size s in
+        let otherwise = jump + 1 in
+        let label = otherwise + statement_size t in
+        let done = pc + (expression_size c + (1 + (statement_size s + (1 + statement_size t)))) in
+        let end : label ≡ done = omega arith in
+        let code = expression_code scope.names c 0 pc in
+        let yes : State → Outcome = λ st. within program n (Run s) context st in
+        let no : State → Outcome = λ st. within program n (Run t) context st in
+        let q = ws + wt in
+        statement_eval program linear rate body n ih c scope.names z shapes context site base notes
+        pc st store (price 3 0 q q) (price 16 1 w w) (W done)
+        (λ v st. choose (nat_eq v 0) no yes st) steps (omega arith)
+        (joins (omega arith) (omega arith) (omega arith) (omega arith)) has.condition
+        (has_front linear site.body site.regions pc code (JumpIfZero (Temporary 0) otherwise ∷ [])
+        has.test) standing kept held
+        (λ v mid after steps kept held.
+        chosen linear rate (nat_eq v 0) (conf context site pc1 (v ∷ []) mid after)
+        (at (conf context site otherwise [] mid after)) (at (conf context site then [] mid after))
+        (price 2 0 q q) (price 3 0 q q) (W done) no yes mid
+        (omega arith, omega arith, omega arith) refl
+        (λ k. test_turn linear rate context site otherwise v pc1 [] mid after k
+        (has_after linear site.body site.regions pc (expression_size c) code
+        (JumpIfZero (Temporary 0) otherwise ∷ []) (expression_length scope.names c 0 pc)
+        has.test))
+        (sub_run t otherwise done mid after (price 2 0 q q) notes pc done steps (omega arith)
+        (omega arith) (omega arith) refl has.no (omega arith) (omega arith) inner
+        (max_right (statement_notes s) (statement_notes t)) standing kept held end)
+        (normal_then program linear rate body (at (conf context site then [] mid after))
+        (λ st store. at (conf context site jump [] st store)) (W done) mid (price 0 0 ws ws)
+        (price 1 0 0 0) (price 2 0 q q) (yes mid)
+        (joins (omega arith) (omega arith) (omega arith) (omega arith)) (omega arith)
+        (sub_run s then jump mid after (price 0 0 ws ws) notes pc done steps (omega arith)
+        (omega arith) (omega arith) refl has.yes (omega arith) (omega arith) inner
+        (max_left (statement_notes s) (statement_notes t)) standing kept held refl)
+        (λ st store low kept held.
+        continue_from program linear rate body roomy n ih bih scope z shapes context site base jump
+        label [] [] st store store (price 0 0 0 0) (price 1 0 0 0) done (Gives Normal st)
+        (omega arith, omega arith, omega arith)
+        (λ k. jump_turn linear rate context site label jump [] st store k has.skip)
+        (here program linear rate body roomy n ih bih scope z shapes context site base label done st
+        store (price 0 0 0 0) end (omega arith) kept held))))
+    statement_runs (For ds first c next s) pc st store steps light has inner standing kept held =
+        let wd = all_declared_weight ds in
+        let wf = optional_weight first in
+        let wi = 1 + optional_weight c + statement_weight s + optional_weight next in
+        let w = 2 + wd + wf + optional_weight c + statement_weight s + optional_weight next in
+        let begin = pc + all_declared_size ds in
+        let iteration = begin + discarded_size first in
+        let last = for_end c next s iteration in
+        let hi = pc + statement_size (For ds first c next s) in
+        let end : last ≡ hi = omega arith in
+        let f : ℕ → State → Outcome = λ v st. within program n (ForIteration c next s) context st in
+        let g : State → Outcome = λ st. optional (within program n) 0 first context st f in
+        ends_at program linear rate body roomy n ih bih scope z shapes context site base pc [] st
+        store (price 16 1 w w) last hi (and_then (declare_each (within program n) ds context st)
+        g) end
+        (then_normal linear rate (at (conf context site pc [] st store))
+        (λ st store. at (conf context site begin [] st store)) (W last) st (price 0 0 wd wd)
+        (price 1 0 (wf + wi) (wf + wi)) (price 16 1 w w)
+        (declare_each (within program n) ds context st) g
+        (joins (omega arith) (omega arith) (omega arith) (omega arith)) (omega arith)
+        (declares_runs ds pc st store steps (omega arith) has.declared
+        (part_in pc hi pc begin (omega arith) (omega arith) inner)
+        (fewer (statement_notes s) 0 (omega arith) standing) kept held)
+        (λ mid after low kept held.
+        discard_then program linear rate body roomy n ih bih scope z shapes context site base first
+        0 (statement_notes s) begin mid after (price 0 0 wi wi) (price 1 0 (wf + wi) (wf + wi))
+        last f (omega arith) (omega arith) (joins (omega arith) (omega arith) (omega arith)
+        (omega arith)) has.first has.begins standing kept held
+        (λ v mid after steps kept held. bih.for_run c next s scope z shapes context site base
+        iteration mid after steps (omega arith) has.iterations
+        (part_in pc hi iteration last (omega arith) (omega arith) inner) standing kept held)))
+    statement_runs (DoWhile s c) pc st store steps light has inner standing kept held =
+        let wi = 1 + statement_weight s + expression_weight c in
+        let w = 2 + statement_weight s + expression_weight c in
+        let last = do_end s c pc in
+        let hi = pc + statement_size (DoWhile s c) in
+        let end : last ≡ hi = omega arith in
+        ends_at program linear rate body roomy n ih bih scope z shapes context site base pc [] st
+        store (price 16 1 w w) last hi (within program n (DoIteration s c) context st) end
+        (more linear rate (at (conf context site pc [] st store)) st (price 0 0 wi wi)
+        (price 16 1 w w) (W last) (within program n (DoIteration s c) context st)
+        (omega arith, omega arith, omega arith)
+        (bih.do_run s c scope z shapes context site base pc st store steps (omega arith) has
+        (part_in pc hi pc last (omega arith) (omega arith) inner) standing kept held))
+    statement_runs (Return e) pc st store steps light has inner standing kept held = return_runs e 0
+        pc st store steps light has standing kept held
+    statement_runs Break pc st store steps light has inner standing kept held = breaks_by program
+        linear rate body roomy n ih bih scope z shapes context site base scope.loop_end pc st store
+        (price 16 1 1 1) (omega arith) (omega arith) has.0 has.1 kept held
+    statement_runs Continue pc st store steps light has inner standing kept held = breaks_by program
+        linear rate body roomy n ih bih scope z shapes context site base scope.loop_next pc st store
+        (price 16 1 1 1) (omega arith) (omega arith) has.0 has.1 kept held
+    statement_runs Leave pc st store steps light has inner standing kept held = ends_try program
+        linear rate body roomy n ih bih scope z shapes context site base scope.leave pc st store
+        (price 16 1 1 1) (omega arith) (omega arith) has.0 has.1 kept held
+    statement_runs (TryExcept ss filter block) pc st store steps light has inner standing kept
+        held =
+        except_runs ss filter block pc st store steps light has inner standing kept held
+    statement_runs (TryFinally ss k last) pc st store steps light has inner standing kept held =
+        guarded_runs ss k last pc st store steps light has inner standing kept held

@@ -1,0 +1,424 @@
+-- Calls: a function begins with its arguments, runs its body, and ends with its activation.
+use Rattle.std.proofs.Common.{◌≡◌, ◌<◌, ◌≤◌, ℕ, zero, suc, ◌+◌, List, [], ◌∷◌, ◌++◌, length, refl, ap, sym, subst, ◌∙◌, arith, length-append}
+use Rattle.std.proofs.lemmas.List.{length-replicate}
+use Rattle.std.proofs.lemmas.Option.{slice_get_within}
+use Rattle.std.specs.Prelude.{◌-◌, Bool, false, take, replicate, get_or, slice_get, Option, Some, None}
+use Rattle.c_checked.specs.Statement.{Filter, Always, Funclet}
+use Rattle.c_checked.specs.Program.{Program, Function}
+use Rattle.source_meaning.specs.State.{State, Value, Normal, Returned, Broke, Continued, LeftTry, Target, End, Outcome, Gives}
+use Rattle.source_meaning.specs.Tasks.{Context, Handler}
+use Rattle.source_meaning.specs.Expressions.{no_exception, all, ended_call, enter}
+use Rattle.source_meaning.specs.Meaning.{within}
+use Rattle.linear_code.specs.declared.slot.Slot.TheVariants.{Temporary}
+use Rattle.linear_code.specs.declared.instruction.Instruction.TheVariants as instructions
+use Rattle.linear_code.specs.Program.{LinearProgram, LinearFunction}
+use Rattle.linear_machine.specs.Frames.{FunctionBody, Item, Waits, Store, Finished, with_some, deeper}
+use Rattle.linear_machine.specs.Frames as machine
+use Rattle.linear_machine.specs.Regions.{regions_at, handlers_in, handlers}
+use Rattle.linear_machine.specs.Unwinding.{target_past, unwind}
+use Rattle.linear_machine.specs.Searching.{target_of}
+use Rattle.linear_machine.specs.Instructions.{begin_function}
+use Rattle.linear_machine.specs.Run.{exec}
+use Rattle.linear_machine.proofs.Stretch.{Part, at, Site, frame_of, conf, Picked, Ways, Kept, price, found, Reaches, Claim, value_ways}
+use Rattle.linear_machine.proofs.StretchJoins.{more, reaches_after, reaches_more, finishes_more, stops_more}
+use Rattle.linear_machine.proofs.SingleTurns.{stepped, fetch, prefix_self, sooner, deep_claim}
+use Rattle.linear_machine.proofs.Walks.{handlers_below, leaves}
+use Rattle.lowering_expressions.specs.declared.scope.Names.{Names}
+use Rattle.lowering_expressions.specs.declared.scope.LoweringContext.{LoweringContext}
+use Rattle.lowering_expressions.specs.declared.scope.Way.TheVariants.{Nowhere, Jumps}
+use Rattle.lowering_sizes.specs.Sizes.{statements_size, statements_notes}
+use Rattle.lowering_expressions.specs.Expressions.{constant}
+use Rattle.seh_ir.specs.Lowered.{own_locals, scope_of}
+use Rattle.lowering_follows.specs.Weights.{statements_weight}
+use Rattle.lowering_follows.proofs.Stores.{at_push_old, Shape, FrameAlike, Places, NotesKept, everywhere, below_slot, kept_itself, kept_through, get_push_new, get_pushed, push_alike, take_alike, call_kept}
+use Rattle.lowering_follows.specs.Places.{HasAt}
+use Rattle.lowering_follows.proofs.Places.{has_at}
+use Rattle.lowering_follows.proofs.Turns.{constant_turn}
+use Rattle.lowering_follows.proofs.Environments.{FlagBound, HowFits, Match, match_kept}
+use Rattle.lowering_follows.proofs.TaskClaims.{pushed, Within, Around}
+use Rattle.lowering_follows.proofs.Raises.{unwound_is}
+use Rattle.lowering_follows.specs.StatementPlaces.{FunctionPlaced}
+use Rattle.lowering_follows.proofs.BodyClaims.{statement_ways, Stays, Surroundings, BodyRuns}
+use Rattle.lowering_follows.proofs.BodySequences.{all_runs}
+
+-- ---- the locals of an activation that begins
+
+abbrev zeros : ℕ → List ℕ
+zeros n = replicate n 0
+
+get_zeros : (n x : ℕ) → get_or (zeros n) x 0 ≡ 0
+get_zeros zero x = refl
+get_zeros (suc n) zero = refl
+get_zeros (suc n) (suc x) = get_zeros n x
+
+get_before_zeros : (vs : List ℕ) (n x : ℕ) → get_or (vs ++ zeros n) x 0 ≡ get_or vs x 0
+get_before_zeros [] n x = get_zeros n x
+get_before_zeros (v ∷ vs) n zero = refl
+get_before_zeros (v ∷ vs) n (suc x) = get_before_zeros vs n x
+
+pub begins_alike : (parameters locals slots : ℕ) (vs : List ℕ) → length vs ≡ parameters
+    → parameters + locals ≤ slots → FrameAlike (record { own = parameters + locals; all = slots })
+    (vs ++ zeros locals) (vs ++ zeros (slots - parameters))
+begins_alike parameters locals slots vs e le = record {
+  own = length-append vs (zeros locals) ∙ omega (arith, e, length-replicate {A = ℕ} locals 0);
+  all = length-append vs (zeros (slots - parameters))
+      ∙ omega (arith, e, length-replicate {A = ℕ} (slots - parameters) 0);
+  room = le;
+  reads = λ x l. get_before_zeros vs (slots - parameters) x ∙ sym (get_before_zeros vs locals x);
+}
+
+module _ (program : Program) (linear : LinearProgram) (rate body : ℕ) where
+  -- ---- the handlers of callers
+
+  module _ (shapes : List Shape) (new : Shape) (store : Store) (locals : List ℕ)
+      (same : length store.activations ≡ length shapes) where
+    abbrev entered : Store
+    entered = record store { activations = store.activations ++ locals ∷ [] }
+
+    abbrev mine : Places
+    mine = below_slot (length shapes) new.own
+
+    flag_pushed : (z : Shape) (source : Option ℕ) (activation : ℕ) (flag : Bool)
+        → slice_get shapes activation ≡ Some z → FlagBound everywhere z source activation flag store
+        → FlagBound mine z source activation flag entered
+    flag_pushed z None activation flag h f = f
+    flag_pushed z (Some x) activation flag h f =
+        let low = slice_get_within shapes activation z h in
+        let inside : activation < length store.activations = omega (arith, same) in (
+          f.0,
+          λ e. absurd (omega arith),
+          ap (λ b. get_or b x 0)
+              (at_push_old store.activations locals activation inside) ∙ f.2,
+        )
+
+    how_pushed : (activation : ℕ) (abnormal : Bool) (filter : Filter) (how : Option ℕ)
+        → HowFits program linear rate body everywhere shapes store activation abnormal filter how
+        → HowFits program linear rate body mine (shapes ++ new ∷ []) entered activation abnormal
+        filter how
+    how_pushed activation abnormal Always None h = h
+    how_pushed activation abnormal Always (Some j) h = absurd h
+    how_pushed activation abnormal (Funclet n e) None h = absurd h
+    how_pushed activation abnormal (Funclet n e) (Some j) h = record {
+      number = h.number;
+      funclet = h.funclet;
+      there = h.there;
+      kind = h.kind;
+      names = h.names;
+      source = h.source;
+      shape = h.shape;
+      has_shape = get_pushed shapes new h.shape activation h.has_shape;
+      flag = flag_pushed h.shape h.names.abnormal activation abnormal h.has_shape h.flag;
+      code = h.code;
+      fits = h.fits;
+      light = h.light;
+    }
+
+    match_pushed : (hs : List Handler) (fs : List machine.Handler)
+        → Match program linear rate body everywhere shapes store hs fs
+        → Match program linear rate body mine (shapes ++ new ∷ []) entered hs fs
+    match_pushed [] [] m = m
+    match_pushed (h ∷ hs) (f ∷ fs) m = (
+      (
+        m.0.0,
+        how_pushed h.activation h.abnormal h.filter f.filter m.0.1,
+      ),
+      match_pushed hs fs m.1,
+    )
+    match_pushed [] (f ∷ fs) m = absurd m
+    match_pushed (h ∷ hs) [] m = absurd m
+
+  -- ---- the end of a call
+
+  module _ (k : ℕ) (lf : LinearFunction) (scope : LoweringContext) (new : Shape)
+      (shapes : List Shape) (context : Context) (site : Site) (base : Store) (pc : ℕ)
+      (temps : List ℕ) (m : ℕ) (store : Store) (locals : List ℕ)
+      (same_m : m ≡ length shapes) (same : length store.activations ≡ length shapes)
+      (walked : regions_at linear site.body pc ≡ site.regions)
+      (kept : NotesKept everywhere shapes base store) where
+    abbrev callee : Context
+    callee = record {
+      handlers = context.handlers;
+      activation = m;
+      exception = no_exception;
+      abnormal = false;
+    }
+
+    abbrev csite : Site
+    csite = record {
+      body = FunctionBody k;
+      regions = [];
+      below = Waits (frame_of context site pc temps) ∷ site.below;
+      exception = no_exception;
+      held = site.held;
+    }
+
+    abbrev base' : Store
+    base' = record store { activations = store.activations ++ locals ∷ [] }
+
+    abbrev left : Store → Store
+    left s = record s { activations = take m s.activations }
+
+    abbrev ended : State → State
+    ended st = record st { frames = take m st.frames }
+
+    abbrev Kc : Kept
+    Kc = Stays program linear rate body scope.names (shapes ++ new ∷ []) callee base'
+
+    -- the same where a target has left it
+    abbrev left_by_target : State → State
+    left_by_target st = record st { frames = take m st.frames; held = st.held + 1 }
+
+    call_fits : scope.names.free ≡ new.own → (mid : State) (after : Store) → Kc mid after
+        → Within program linear rate body shapes base (ended mid) (left after)
+    call_fits e mid after p =
+        let whole : NotesKept everywhere shapes base' after = λ j z h x l o.
+        let low = slice_get_within shapes j z h in
+        p.1 j z (get_pushed shapes new z j h) x l (λ q. absurd (omega (arith, q, same_m))) in (
+          take_alike shapes new mid.memory mid.frames after m same_m p.0,
+          kept_through everywhere shapes base store (left after) kept
+              (call_kept everywhere shapes new store after locals m same_m same whole),
+        )
+
+    ended_reaches : (s t : Part) (st mid : State) (r e d : ℕ) → Reaches linear rate s t st mid r e d
+        → Reaches linear rate s t st (ended mid) r e d
+    ended_reaches s t st mid r e d p = record {
+      cost = p.cost;
+      credit = p.credit;
+      paid = p.paid;
+      most = p.most;
+      least = p.least;
+      low = p.low;
+      grows = p.grows;
+      prior = p.prior;
+      by = p.by;
+    }
+
+    last_turn : (v done : ℕ) (mid : State) (after : Store) (j : ℕ)
+        → HasAt linear (FunctionBody k) [] done (instructions.Return (Temporary 0) ∷ [])
+        → exec linear (suc j) (conf callee csite done (v ∷ []) mid after)
+        ≡ pushed context site (pc + 1) temps v (ended mid) (left after) (exec linear j)
+    unfolding with_some
+    last_turn v done mid after j has = fetch linear rate (conf callee csite done (v ∷ []) mid after)
+        (instructions.Return (Temporary 0)) j has.0
+
+    function_ends : (s : Part) (st : State) (x done : ℕ) (o : Outcome) → scope.names.free ≡ new.own
+        → HasAt linear (FunctionBody k) [] done
+        (constant 0 0 ∷ instructions.Return (Temporary 0) ∷ [])
+        → scope.loop_end ≡ Nowhere → scope.loop_next ≡ Nowhere → scope.leave ≡ None → (label : ℕ)
+        → scope.exit ≡ Jumps label
+        → Claim linear rate s st (price 0 0 x x)
+        (statement_ways program linear rate body
+        (record {
+          names = scope.names;
+          exit = Jumps label;
+          loop_end = Nowhere;
+          loop_next = Nowhere;
+          leave = None;
+        }) callee csite Kc done) o
+        → Claim linear rate s st (price 2 0 x x)
+        (value_ways (pushed context site (pc + 1) temps)
+        (Within program linear rate body shapes base) context site) (ended_call m o)
+    unfolding ended_call
+    function_ends s st x done (Gives (Value v) mid) e has l1 l2 l3 label l4 a = absurd a
+    function_ends s st x done (Gives Normal mid) e has l1 l2 l3 label l4 a =
+        let c0 = conf callee csite done [] mid a.store in
+        let c1 = conf callee csite (done + 1) (0 ∷ []) mid a.store in
+        record {
+          store = left a.store;
+          fits = call_fits e mid a.store a.fits;
+          same = a.same;
+          reaches = reaches_after linear rate s (at c0)
+              (pushed context site (pc + 1) temps 0 (ended mid) (left a.store)) st mid (ended mid) 0 0
+              x 2 0 0 2 0 x (omega arith) (omega arith) a.reaches
+              (reaches_after linear rate (at c0) (at c1)
+              (pushed context site (pc + 1) temps 0 (ended mid) (left a.store)) mid mid
+              (ended mid) 1 0 0 1 0 0 2 0 0 (omega arith) (omega arith)
+              (stepped linear rate c0 (at c1) mid mid 1 0 0 refl (omega arith) (omega arith) refl
+              (prefix_self linear rate mid.events)
+              (λ j. constant_turn linear rate callee csite 0 0 (0 ∷ []) done [] mid a.store j
+              (omega arith) (has.0, has.1, tt) refl))
+              (stepped linear rate c1 (pushed context site (pc + 1) temps 0 (ended mid)
+              (left a.store)) mid (ended mid) 1 0 0 refl (omega arith) (omega arith) refl
+              (prefix_self linear rate mid.events)
+              (λ j. last_turn 0 (done + 1) mid a.store j has.2)));
+        }
+    function_ends s st x done (Gives (Returned v) mid) e has l1 l2 l3 label l4 a = record {
+      store = left a.1.store;
+      fits = call_fits e mid a.1.store a.1.fits;
+      same = a.1.same;
+      reaches = reaches_more linear rate s (pushed context site (pc + 1) temps v (ended mid)
+          (left a.1.store)) st (ended mid) 0 0 x 2 0 x (omega arith) (omega arith)
+          (ended_reaches s (pushed context site (pc + 1) temps v (ended mid) (left a.1.store)) st mid
+          0 0 x a.1.reaches);
+    }
+    function_ends s st x done (Gives Broke mid) e has l1 l2 l3 label l4 a = absurd a
+    function_ends s st x done (Gives Continued mid) e has l1 l2 l3 label l4 a = absurd a
+    function_ends s st x done (Gives LeftTry mid) e has l1 l2 l3 label l4 a = absurd a
+    function_ends s st x done (Gives (Target level exc) mid) e has l1 l2 l3 label l4 q =
+        let to = target_of q.handler exc.code mid.held in
+        let past = target_past (FunctionBody k) to in
+        let f : handlers linear csite.below None
+        ≡ found linear rate context site = ap
+        (λ rs. handlers_in rs context.activation (length site.below)
+        ++ handlers linear site.below None) walked in
+        let low : q.handler.depth < length csite.below = handlers_below linear csite.below None
+        level q.handler q.picked in
+        record {
+          handler = q.handler;
+          picked = subst (λ fs. Picked fs level q.handler) f q.picked;
+          temps = temps;
+          pc = pc;
+          store = left q.store;
+          fits = call_fits e mid q.store q.fits;
+          reaches =
+              let r = q.reaches in
+              let cost = r.most in let least = r.least in
+              record {
+                cost = r.cost;
+                credit = r.credit;
+                paid = r.paid;
+                most = omega arith;
+                least = r.least;
+                low = r.low;
+                grows = r.grows;
+                prior = r.prior;
+                by = λ i. let y = r.by i in (
+                  y.0,
+                  y.1,
+                  y.2
+                      ∙ leaves linear (exec linear i) to
+                      (λ store. unwind linear (exec linear i) past csite.below None mid.events
+                      store) (conf callee csite q.pc q.temps mid q.store) low
+                      ∙ unwound_is program linear rate body past context site pc temps
+                      (left_by_target mid) (left q.store) (exec linear i) walked,
+                );
+              };
+        }
+    function_ends s st x done (Gives (End (Some c)) mid) e has l1 l2 l3 label l4 a = finishes_more
+        linear rate s st mid 0 2 (Finished c mid.events) (omega arith) a
+    function_ends s st x done (Gives (End None) mid) e has l1 l2 l3 label l4 a = stops_more linear
+        rate s st mid 0 0 x 2 0 x (omega arith) (omega arith) a
+
+  -- ---- a call
+
+  pub call_runs : (n : ℕ) (bih : BodyRuns program linear rate body n) (k : ℕ) (fn : Function)
+      (lf : LinearFunction) (vs : List ℕ) (names : Names) (info : Bool) (z : Shape)
+      (shapes : List Shape) (context : Context) (site : Site) (base : Store) (pc : ℕ)
+      (temps : List ℕ) (st : State) (store : Store)
+      → FunctionPlaced program linear rate body k fn lf → st.steps_left ≤ n
+      → length vs ≡ length fn.parameters → regions_at linear site.body pc ≡ site.regions
+      → Around program linear rate body names info z shapes context site base
+      → Within program linear rate body shapes base st store → st.held ≡ site.held
+      → Claim linear rate (λ next. deeper 1 site.held store st.events
+      (next (begin_function k lf vs site.held
+      (Waits (frame_of context site pc temps) ∷ site.below) store st.events))) st
+      (price 2 0 body body)
+      (value_ways (pushed context site (pc + 1) temps) (Within program linear rate body shapes base)
+      context site) (enter (within program n) (Some fn) vs context st)
+  call_runs n bih k fn lf vs names info z shapes context site base pc temps st store f steps len
+      walked around kept held =
+      let w : Ways = value_ways (pushed context site (pc + 1) temps)
+      (Within program linear rate body shapes base) context site in
+      let x = statements_weight fn.body in
+      let m = length st.frames in
+      let scope = scope_of fn in
+      let new : Shape = record { own = own_locals fn; all = lf.body.locals } in
+      let shapes' = shapes ++ new ∷ [] in
+      let given = vs ++ replicate (length fn.locals) 0 in
+      let locals = vs ++ replicate (lf.body.locals - lf.parameters) 0 in
+      let store' : Store = record store { activations = store.activations ++ locals ∷ [] } in
+      let st' : State = record st { frames = st.frames ++ given ∷ [] } in
+      let inner : Context = record {
+        handlers = context.handlers;
+        activation = m;
+        exception = no_exception;
+        abnormal = false;
+      } in
+      let below : List Item = Waits (frame_of context site pc temps) ∷ site.below in
+      let csite : Site = record {
+        body = FunctionBody k;
+        regions = [];
+        below = below;
+        exception = no_exception;
+        held = site.held;
+      } in
+      let begins = begin_function k lf vs site.held below store st.events in
+      let deep : length store.activations ≡ m = kept.0.activations ∙ sym kept.0.count in
+      let here : conf inner csite 0 [] st' store' ≡ begins = ap (λ a. record {
+        frame = record {
+          body = FunctionBody k;
+          next = 0;
+          activation = a;
+          exception = no_exception;
+          held = site.held;
+          temporaries = [];
+          landed = None;
+        };
+        below = below;
+        store = store';
+        events = st.events;
+      }) (sym deep) in
+      let roomy : own_locals fn ≤ lf.body.locals = omega (arith, f.locals) in
+      let alike : FrameAlike new given locals = subst
+      (λ p. FrameAlike new given (vs ++ replicate (lf.body.locals - p) 0)) (sym f.parameters)
+      (begins_alike (length fn.parameters) (length fn.locals) lf.body.locals vs len roomy) in
+      let walk : handlers linear below None ≡ found linear rate context site = ap
+      (λ rs. handlers_in rs context.activation (length site.below)
+      ++ handlers linear site.below None) walked in
+      let top : slice_get shapes' m ≡ Some new = ap (slice_get shapes') kept.0.count
+      ∙ get_push_new shapes new in
+      let standing : Surroundings program linear rate body scope.names new shapes' inner csite
+      store' (statements_notes fn.body) = record {
+        env = record {
+          shape = top;
+          code = refl;
+          flag = refl;
+          informed = λ e. absurd (cc);
+          handlers =
+              subst (λ a. Match program linear rate body (below_slot a (own_locals fn)) shapes'
+              store' context.handlers (found linear rate inner csite)) (sym kept.0.count)
+              (subst (λ fs. Match program linear rate body
+              (below_slot (length shapes) (own_locals fn)) shapes' store' context.handlers fs)
+              (sym walk)
+              (match_pushed shapes new store locals kept.0.activations context.handlers
+              (found linear rate context site)
+              (match_kept program linear rate body everywhere shapes base store context.handlers
+              (found linear rate context site) kept.1 around.handlers)));
+        };
+        past = omega arith;
+        room = omega (arith, f.locals);
+        plain = λ e. absurd (cc);
+      } in
+      deep_claim linear rate 1 site.held store (at begins) st (price 2 0 body body) w
+      (λ st. ended_call (length st.frames) (all (within program n) fn.body
+      (record {
+        handlers = context.handlers;
+        activation = length st.frames;
+        exception = no_exception;
+        abnormal = false;
+      })
+      (record st { frames = st.frames ++ (vs ++ replicate (length fn.locals) 0) ∷ [] }))) deep
+      held
+      (subst (λ c. Claim linear rate (at c) st (price 2 0 body body) w
+      (ended_call m (all (within program n) fn.body inner st'))) here
+      (let light = f.light in
+      let quick = f.quick in
+      more linear rate (at (conf inner csite 0 [] st' store')) st (price 2 0 x x)
+      (price 2 0 body body) w (ended_call m (all (within program n) fn.body inner st'))
+      (omega arith, omega arith, omega arith)
+      (sooner linear rate (at (conf inner csite 0 [] st' store')) st st' (price 2 0 x x) w
+      (ended_call m (all (within program n) fn.body inner st')) refl
+      (prefix_self linear rate st.events)
+      (function_ends k lf scope new shapes context site base pc temps m store locals kept.0.count
+      kept.0.activations walked kept.1 (at (conf inner csite 0 [] st' store')) st' x
+      (0 + statements_size fn.body) (all (within program n) fn.body inner st') refl
+      (has_at linear (FunctionBody k) [] (statements_size fn.body) (0 + statements_size fn.body)
+      (constant 0 0 ∷ instructions.Return (Temporary 0) ∷ []) (omega arith) f.ends) refl refl refl
+      (statements_size fn.body + 1) refl
+      (all_runs program linear rate body n bih scope new shapes' inner csite store' fn.body 0 st'
+      store' steps quick f.placed
+      (record { around = tt; exit = (omega arith, tt, f.ends.2.0); loop_end = tt; loop_next = tt })
+      standing (
+        push_alike shapes st.memory st.frames store new given locals alike kept.0,
+        kept_itself (below_slot m (own_locals fn)) shapes' store',
+      ) held)))))

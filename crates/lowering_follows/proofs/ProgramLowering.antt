@@ -1,0 +1,186 @@
+-- The linear code of a sound program is linked, and follows the program.
+use Rattle.std.proofs.Common.{◌≡◌, inr, ℕ, zero, suc, ◌+◌, ◌≤◌, List, [], ◌∷◌, ◌++◌, length, refl, ap, subst, ◌∙◌, arith, length-append}
+use Rattle.std.proofs.lemmas.Option.{slice_get-map}
+use Rattle.std.specs.Prelude.{true, false, ◌||◌, slice_get, option_map, Option, Some, None}
+use Rattle.c_operations.specs.declared.operation.Size.{Size}
+use Rattle.c_operations.specs.declared.operation.Size.TheVariants.{Int, Long}
+use Rattle.c_checked.specs.Program.{Program, Function}
+use Rattle.c_checked.specs.Sound as sound
+use Rattle.c_checked.specs.Sound.{Inside, are_sizes, some_sizes, funclets, count_up, function_sound, functions_sound, main_sound}
+use Rattle.linear_code.specs.declared.slot.Slot.TheVariants.{Temporary}
+use Rattle.linear_code.specs.declared.instruction.Instruction.TheVariants as instructions
+use Rattle.linear_machine.specs.Frames.{FunctionBody, function_body, body_of}
+use Rattle.seh_ir.specs.declared.funclets.Owner.{Owner}
+use Rattle.lowering_sizes.specs.Sizes.{statements_size}
+use Rattle.lowering_expressions.specs.Expressions.{constant}
+use Rattle.seh_ir.specs.Statements.{statements_code}
+use Rattle.seh_ir.specs.Regions.{statements_regions}
+use Rattle.seh_ir.specs.Funclets.{statements_funclets}
+use Rattle.seh_ir.specs.Lowered.{own_locals, all_locals, scope_of, lowered_function, lowered_funclets, all_funclets, lowered}
+use Rattle.seh_ir.proofs.StatementCodes.{statements_length}
+use Rattle.lowering_follows.specs.StatementPlaces.{FunctionPlaced}
+use Rattle.lowering_follows.specs.Weights.{statements_weight}
+use Rattle.lowering_follows.proofs.WholeProgram.{linked_follows}
+use Rattle.lowering_follows.specs.StepsPerTurn.{weight_of, steps_per_turn_of}
+use Rattle.lowering_follows.specs.LoweringLaws.{LoweredIsLinked, LoweredFollows, LoweredShowsNoMore}
+use Rattle.lowering_follows.proofs.SoundExpressions.{both_left, both_right}
+use Rattle.lowering_follows.proofs.Segments.{IsSegmentAt, front, back, whole_is_at}
+use Rattle.lowering_follows.proofs.FuncletNumbers.{count_front, count_back, statements_count}
+use Rattle.lowering_follows.proofs.Regions.{all_outside}
+use Rattle.lowering_follows.proofs.StatementPlaces.{Alike, code_is_at, whole_cover, bare, place_all}
+
+the_same : {X : Type 0} (x y : X) → Some x ≡ Some y → x ≡ y
+the_same x y e = ap (λ o. elim o [ None ↦ x | Some z ↦ z ]) e
+
+-- ---- `main`
+
+few_parameters : (ps : List Size) → (are_sizes [] (some_sizes ps)
+    || are_sizes (Long ∷ []) (some_sizes ps)) ≡ true → length ps ≤ 1
+few_parameters [] h = omega arith
+few_parameters (z ∷ []) h = omega arith
+few_parameters (Int ∷ y ∷ ps) h = absurd (cc)
+few_parameters (Long ∷ y ∷ ps) h = absurd (cc)
+
+main_is : (o : Option Function) → main_sound o ≡ true
+    → (begins : Function) × (o ≡ Some begins) × (length begins.parameters ≤ 1)
+main_is None h = absurd (cc)
+main_is (Some f) h = (f, refl, few_parameters f.parameters (both_left _ _ h))
+
+module _ (program : Program) where
+  -- a function whose funclets are from an index on
+  record Found (fn : Function) : Type 0 where
+    owner : Owner
+    begin : ℕ
+    sound : function_sound program.functions fn ≡ true
+    light : statements_weight fn.body ≤ weight_of program.functions
+    is_there : IsSegmentAt (lowered program).funclets begin
+        (statements_funclets owner (scope_of fn).names fn.body)
+    numbered : count_up (begin + 1) (funclets fn.body) ≡ true
+
+  find : (fs : List Function) (number j : ℕ) → functions_sound program.functions fs ≡ true
+      → weight_of fs ≤ weight_of program.functions
+      → IsSegmentAt (lowered program).funclets j (all_funclets number fs)
+      → count_up (j + 1) (sound.all_funclets fs) ≡ true → (k : ℕ) (fn : Function)
+      → slice_get fs k ≡ Some fn → Found fn
+  find [] number j ok light h n k fn e = absurd (cc)
+  find (f ∷ fs) number j ok light h n zero fn e =
+      let own = lowered_funclets number f in
+      let rest = all_funclets (number + 1) fs in
+      subst Found (the_same f fn e)
+      (record {
+        owner = record { function = number; locals = all_locals f; parent = None };
+        begin = j;
+        sound = both_left _ _ ok;
+        light = omega arith;
+        is_there = front (lowered program).funclets j own rest h;
+        numbered = count_front (j + 1) (funclets f.body) (sound.all_funclets fs) n;
+      })
+  find (f ∷ fs) number j ok light h n (suc k) fn e =
+      let own = lowered_funclets number f in
+      let rest = all_funclets (number + 1) fs in
+      let count = statements_count (record {
+        function = number;
+        locals = all_locals f;
+        parent = None;
+      }) (scope_of f).names f.body in
+      find fs (number + 1) (j + length own) (both_right _ _ ok) (omega arith)
+      (back (lowered program).funclets j (j + length own) own rest refl h)
+      (count_back (j + 1) (j + length own + 1) (funclets f.body) (sound.all_funclets fs)
+      (omega arith) n) k fn e
+
+  abbrev inside : Function → Inside
+  inside fn = record {
+    scope = record {
+      functions = program.functions;
+      sizes = fn.parameters ++ fn.locals;
+      code = false;
+      information = false;
+      abnormal = false;
+    };
+    returns = fn.returns;
+    loop = false;
+    body = false;
+    function = true;
+  }
+
+  whole_alike : (fn : Function) → Alike program (lowered program) (steps_per_turn_of program)
+      (weight_of program.functions) (own_locals fn) (inside fn) (scope_of fn)
+  whole_alike fn = record {
+    knows = record {
+      functions = refl;
+      sizes = length-append fn.parameters fn.locals;
+      information = refl;
+    };
+    exits = λ h. tt;
+    ends = λ h. absurd (cc);
+    again = λ h. absurd (cc);
+    leaves = λ h. absurd (cc);
+  }
+
+  function_placed : (k : ℕ) (fn : Function) → slice_get (lowered program).functions k
+      ≡ Some (lowered_function fn) → Found fn
+      → FunctionPlaced program (lowered program) (steps_per_turn_of program) (weight_of program.functions) k
+      fn (lowered_function fn)
+  function_placed k fn there g =
+      let linear = lowered program in
+      let rate = steps_per_turn_of program in
+      let most = weight_of program.functions in
+      let light = g.light in
+      let quick : most + most + 4 ≤ rate = omega arith in
+      let lb = (lowered_function fn).body in
+      let home : body_of linear (FunctionBody k) ≡ Some lb = ap function_body there in
+      let code = statements_code (scope_of fn) fn.body 0 in
+      let ends = constant 0 0 ∷ instructions.Return (Temporary 0) ∷ [] in
+      let l = statements_length (scope_of fn) fn.body 0 in
+      let wide = length-append code ends in
+      let whole = whole_is_at lb.code in
+      let cover = whole_cover program linear rate most (own_locals fn) (FunctionBody k) lb home 0
+      (length lb.code) in
+      record {
+        parameters = refl;
+        locals = refl;
+        placed = place_all program linear rate most (own_locals fn) quick fn.body (FunctionBody k)
+            lb home (inside fn) (scope_of fn) (whole_alike fn) g.owner [] 0 g.begin
+            (both_left _ _ (both_left _ _ g.sound)) light
+            (front lb.code 0 code ends whole) (λ q lo hi. cover q lo (omega arith)) g.is_there
+            g.numbered;
+        ends = code_is_at program linear rate most (own_locals fn) (FunctionBody k) lb home []
+            (statements_size fn.body) ends (back lb.code 0 (statements_size fn.body) code ends
+            (omega arith) whole)
+            (λ q lo hi. bare program linear rate most (own_locals fn) (FunctionBody k) []
+            (statements_regions fn.body 0) q (all_outside fn.body 0 q (inr (omega arith)))
+            (cover q (omega arith) (omega arith)));
+        light = light;
+        quick = omega arith;
+      }
+
+pub lowered_is_linked : LoweredIsLinked
+lowered_is_linked program h =
+    let counts = both_left _ _ (both_left _ _ (both_left _ _ h)) in
+    let starts = both_left _ _ counts in
+    let begin = main_is (slice_get program.functions program.main) (both_right _ _ starts) in
+    record {
+      globals = refl;
+      main = refl;
+      least = omega arith;
+      functions = λ k fn e.
+          let there = slice_get-map lowered_function program.functions k
+          ∙ ap (option_map lowered_function) e in (
+            lowered_function fn,
+            there,
+            function_placed program k fn there
+                (find program program.functions 0 0 (both_left _ _ starts) (omega arith)
+                (whole_is_at (lowered program).funclets) (both_right _ _ counts) k fn e),
+          );
+      begins = begin.0;
+      is_main = begin.1;
+      few = begin.2;
+    }
+
+pub lowered_follows : LoweredFollows
+lowered_follows program h = (linked_follows program (lowered program) (steps_per_turn_of program)
+    (weight_of program.functions) (lowered_is_linked program h)).0
+
+pub lowered_shows_no_more : LoweredShowsNoMore
+lowered_shows_no_more program h = (linked_follows program (lowered program) (steps_per_turn_of program)
+    (weight_of program.functions) (lowered_is_linked program h)).1

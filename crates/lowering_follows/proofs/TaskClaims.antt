@@ -1,0 +1,173 @@
+-- What is claimed of each kind of task inside expressions.
+use Rattle.std.proofs.Common.{◌≡◌, ◌≤◌, ℕ, zero, ◌+◌, List, [], ◌∷◌, ◌++◌, length, sym, ◌∙◌, append-nil, append_assoc}
+use Rattle.std.specs.Prelude.{Bool, false, slice_get, Some, None}
+use Rattle.seh_num.specs.declared.event.Event.{Event}
+use Rattle.flat_memory.specs.Memory.{Memory}
+use Rattle.c_operations.specs.declared.operation.Operation.{Operation}
+use Rattle.c_operations.specs.Performed.{performed}
+use Rattle.c_checked.specs.Expression.{Expression, Lvalue, Local, Global, Indirection, Element}
+use Rattle.c_checked.specs.Program.{Program, Function}
+use Rattle.source_meaning.specs.Source.{is_reserved}
+use Rattle.source_meaning.specs.State.{Exception, State}
+use Rattle.source_meaning.specs.Tasks.{Context, Handler, Eval, Locate, Raise, RunFilter, Retry}
+use Rattle.source_meaning.specs.Raises.{raise_event}
+use Rattle.source_meaning.specs.Expressions.{enter}
+use Rattle.source_meaning.specs.Meaning.{within}
+use Rattle.linear_code.specs.declared.slot.Slot.TheVariants.{Temporary}
+use Rattle.linear_code.specs.declared.instruction.Instruction.TheVariants as instructions
+use Rattle.linear_code.specs.Program.{LinearProgram, LinearFunction}
+use Rattle.linear_machine.specs.Frames.{Resumption, Waits, Store, Configuration, deeper, with_temporary}
+use Rattle.linear_machine.specs.Frames as machine
+use Rattle.linear_machine.specs.Regions.{regions_at, handlers}
+use Rattle.linear_machine.specs.Searching.{begin_filter, raise, resumed, answered}
+use Rattle.linear_machine.specs.Instructions.{begin_function, is_constant}
+use Rattle.linear_machine.specs.Run.{exec}
+use Rattle.linear_machine.proofs.RunLengths.{events_of, search_shows}
+use Rattle.linear_machine.proofs.Stretch.{Part, at, Site, frame_of, conf, Kept, value_ways, normal_ways, price, Claim}
+use Rattle.lowering_expressions.specs.declared.scope.Names.{Names}
+use Rattle.lowering_sizes.specs.Sizes.{expression_size, locate_size}
+use Rattle.lowering_expressions.specs.Expressions.{expression_code, locate_code}
+use Rattle.lowering_follows.specs.Fits.{ExpressionFits, LvalueFits}
+use Rattle.lowering_follows.specs.Weights.{expression_weight, lvalue_weight}
+use Rattle.lowering_follows.proofs.Stores.{Shape, everywhere}
+use Rattle.lowering_follows.specs.Places.{HasAt}
+use Rattle.lowering_follows.proofs.Environments.{FilterFits, KeptFrom, Env}
+
+-- the temporaries after a place was located: its address, and of a local nothing
+abbrev pub located : Lvalue → List ℕ → ℕ → List ℕ
+located (Local x) temps a = temps
+located (Global access n) temps a = temps ++ a ∷ []
+located (Indirection access e) temps a = temps ++ a ∷ []
+located (Element access e i) temps a = temps ++ a ∷ []
+
+-- at a place, with one temporary more
+abbrev pub pushed : Context → Site → ℕ → List ℕ → ℕ → State → Store → Part
+pushed context site pc temps v st store = at (conf context site pc (temps ++ v ∷ []) st store)
+
+abbrev pub with_address : Context → Site → ℕ → Lvalue → List ℕ → ℕ → State → Store → Part
+with_address context site pc p temps a st store = at
+    (conf context site pc (located p temps a) st store)
+
+-- an operation reads two temporaries and writes one
+pub record Operands (temps : List ℕ) (to first second a b : ℕ) (after : ℕ → List ℕ) : Type 0 where
+  pub reads_first : slice_get temps first ≡ Some a
+  pub reads_second : slice_get temps second ≡ Some b
+  pub writes : (v : ℕ) → with_temporary temps to v ≡ Some (after v)
+
+module _ (program : Program) (linear : LinearProgram) (rate body : ℕ) where
+  abbrev pub Within : List Shape → Store → Kept
+  Within shapes base = KeptFrom program linear rate body everywhere shapes base
+
+  abbrev pub Around : Names → Bool → Shape → List Shape → Context → Site → Store → Type 0
+  Around names info z shapes context site base = Env program linear rate body everywhere names info
+      z shapes context site base
+
+  -- two operations come to the same in every memory
+  abbrev pub SameOperation' : Operation → (x y a b : ℕ) → Type 0
+  SameOperation' o x y a b = (m : Memory) → performed (is_reserved program.globals) o a b m
+      ≡ performed (is_reserved program.globals) o x y m
+
+  abbrev pub resumes : Resumption → Context → Site → ℕ → List ℕ → State → Store → Part
+  resumes resumption context site pc temps st store = at
+      (resumed resumption (conf context site pc temps st store))
+
+  abbrev pub answers_search : Exception → Resumption → machine.Handler → List machine.Handler
+      → Context → Site → ℕ → List ℕ → ℕ → State → Store → Part
+  answers_search exc resumption f rest context site pc temps v st store next = answered linear next
+      v exc resumption f rest (conf context site pc temps st store)
+
+  -- what is claimed of each kind of task, inside at most n others
+  pub record Runs (n : ℕ) : Type 0 where
+    pub eval : (e : Expression) (names : Names) (info : Bool) (z : Shape) (shapes : List Shape)
+        (context : Context) (site : Site) (base : Store) (pc : ℕ) (temps : List ℕ) (st : State)
+        (store : Store)
+        → st.steps_left ≤ n → expression_weight e + body + 4 ≤ rate
+        → ExpressionFits program z.own info e
+        → HasAt linear site.body site.regions pc (expression_code names e (length temps) pc)
+        → Around names info z shapes context site base → Within shapes base st store
+        → st.held ≡ site.held
+        → Claim linear rate (at (conf context site pc temps st store)) st
+        (price 0 0 (expression_weight e) (expression_weight e))
+        (value_ways (pushed context site (pc + expression_size e) temps) (Within shapes base)
+        context site) (within program n (Eval e) context st)
+    pub locate : (p : Lvalue) (names : Names) (info : Bool) (z : Shape) (shapes : List Shape)
+        (context : Context) (site : Site) (base : Store) (pc : ℕ) (temps : List ℕ) (st : State)
+        (store : Store)
+        → st.steps_left ≤ n → 1 + lvalue_weight p + body + 4 ≤ rate
+        → LvalueFits program z.own info p → HasAt linear site.body site.regions pc
+        (locate_code names p (length temps) pc)
+        → Around names info z shapes context site base → Within shapes base st store
+        → st.held ≡ site.held
+        → Claim linear rate (at (conf context site pc temps st store)) st
+        (price 0 0 (1 + lvalue_weight p) (1 + lvalue_weight p))
+        (value_ways (with_address context site (pc + locate_size p) p temps) (Within shapes base)
+        context site) (within program n (Locate p) context st)
+    pub raised : (exc : Exception) (resumption : Resumption) (names : Names) (info : Bool)
+        (z : Shape) (shapes : List Shape) (context : Context) (site : Site) (base : Store) (pc : ℕ)
+        (temps : List ℕ) (st : State) (store : Store)
+        → st.steps_left ≤ n → regions_at linear site.body pc ≡ site.regions
+        → Around names info z shapes context site base → Within shapes base st store
+        → st.held ≡ site.held
+        → Claim linear rate (λ next. raise linear next exc resumption
+        (conf context site pc temps st store)) st (price 0 0 1 rate)
+        (normal_ways (resumes resumption context site pc temps) (Within shapes base) context site)
+        (within program n (Raise exc) context st)
+    pub retry : (o : Operation) (x y to first second a b : ℕ) (after : ℕ → List ℕ) (names : Names)
+        (info : Bool) (z : Shape) (shapes : List Shape) (context : Context) (site : Site)
+        (base : Store) (pc : ℕ) (temps : List ℕ) (st : State) (store : Store)
+        → is_constant o ≡ false → st.steps_left ≤ n
+        → HasAt linear site.body site.regions pc
+        (instructions.Compute (Temporary to) o (Temporary first) (Temporary second) ∷ [])
+        → Operands temps to first second a b after → SameOperation' o x y a b
+        → Around names info z shapes context site base → Within shapes base st store
+        → st.held ≡ site.held
+        → Claim linear rate (at (conf context site pc temps st store)) st (price 0 0 0 1)
+        (value_ways (λ v st store. at (conf context site (pc + 1) (after v) st store))
+        (Within shapes base) context site) (within program n (Retry o x y) context st)
+    pub filter : (k j : ℕ) (e : Expression) (h : Handler) (f : machine.Handler)
+        (rest : List machine.Handler) (exc : Exception) (resumption : Resumption)
+        (names : Names) (info : Bool) (z : Shape) (shapes : List Shape) (context : Context)
+        (site : Site) (base : Store) (pc : ℕ) (temps : List ℕ) (st : State) (store : Store)
+        → st.steps_left ≤ n → regions_at linear site.body pc ≡ site.regions
+        → h.activation ≡ f.activation → FilterFits program linear rate body everywhere shapes base
+        h.activation h.abnormal k j e
+        → Around names info z shapes context site base → Within shapes base st store
+        → st.held ≡ site.held
+        → Claim linear rate (λ next. deeper 2 site.held store st.events
+        (next (begin_filter j f rest exc resumption (conf context site pc temps st store)))) st
+        (price 0 1 0 (2 + expression_weight e))
+        (value_ways (answers_search exc resumption f rest context site pc temps)
+        (Within shapes base) context site) (within program n (RunFilter k e h exc) context st)
+    pub call : (k : ℕ) (fn : Function) (lf : LinearFunction) (vs : List ℕ) (names : Names)
+        (info : Bool) (z : Shape) (shapes : List Shape) (context : Context) (site : Site)
+        (base : Store) (pc : ℕ) (temps : List ℕ) (st : State) (store : Store)
+        → st.steps_left ≤ n → slice_get program.functions k ≡ Some fn
+        → slice_get linear.functions k ≡ Some lf → length vs ≡ length fn.parameters
+        → regions_at linear site.body pc ≡ site.regions
+        → Around names info z shapes context site base → Within shapes base st store
+        → st.held ≡ site.held
+        → Claim linear rate (λ next. deeper 1 site.held store st.events
+        (next (begin_function k lf vs site.held
+        (Waits (frame_of context site pc temps) ∷ site.below) store st.events))) st
+        (price 2 0 body body)
+        (value_ways (pushed context site (pc + 1) temps) (Within shapes base) context site)
+        (enter (within program n) (Some fn) vs context st)
+
+  pub shown_all : (es : List Event) → (rest : List Event) × (es ≡ es ++ rest)
+  shown_all es = ([], sym (append-nil es))
+
+  pub shown_more : (a b : List Event) (e : Event)
+      → ((rest : List Event) × (b ≡ (a ++ e ∷ []) ++ rest)) → (rest : List Event) × (b ≡ a ++ rest)
+  shown_more a b e p = (e ∷ p.0, p.1 ∙ append_assoc a (e ∷ []) p.0)
+
+  pub shown_raise : (exc : Exception) (resumption : Resumption) (c : Configuration)
+      → (rest : List Event) × (events_of (raise linear (exec linear zero) exc resumption c)
+      ≡ c.events ++ rest)
+  shown_raise exc resumption c = shown_more c.events _ (raise_event exc)
+      (search_shows linear (handlers linear (Waits c.frame ∷ c.below) None) exc resumption
+      (record c { events = c.events ++ raise_event exc ∷ [] }))
+
+  pub shown_none : (c : Configuration) → (rest : List Event)
+      × (events_of (exec linear zero c) ≡ c.events ++ rest)
+  unfolding exec
+  shown_none c = shown_all c.events

@@ -1,0 +1,393 @@
+-- The whole program: its run follows the meaning, and shows nothing more.
+use Rattle.std.proofs.Common.{◌≡◌, ◌⊎◌, inl, inr, ◌<◌, ◌≤◌, ℕ, zero, suc, ◌+◌, ◌-◌, ◌*◌, List, [], ◌∷◌, ◌++◌, length, refl, ap, sym, subst, ◌∙◌, arith, append-nil, append_assoc}
+use native.Mathlib.Nat.{mul-add, mul_comm, mul-one}
+use Rattle.std.proofs.lemmas.Bool.{cases_lt, ne_eqb}
+use Rattle.std.specs.Prelude.{false, nat_eq, if◌then◌else◌, replicate, slice_get, ℤ, Some, None}
+use Rattle.seh_num.specs.declared.event.Event.{Event}
+use Rattle.seh_num.specs.declared.width.Width.TheVariants.{W32, W64}
+use Rattle.seh_num.specs.Widths.{signed, wrapped}
+use Rattle.c_operations.specs.declared.operation.Size.{Size}
+use Rattle.c_checked.specs.Program.{Program, Function}
+use Rattle.source_meaning.specs.declared.ended.Ended.{Ended}
+use Rattle.source_meaning.specs.declared.ended.Ended.TheVariants.{Exit}
+use Rattle.source_meaning.specs.Source.{first_memory}
+use Rattle.source_meaning.specs.State.{State, Value, Normal, Returned, Broke, Continued, LeftTry, Target, End, Outcome, Gives, choose, deeper}
+use Rattle.source_meaning.specs.Tasks.{Context}
+use Rattle.source_meaning.specs.Expressions.{no_exception, all, ended_call, enter}
+use Rattle.source_meaning.specs.Meaning as source
+use Rattle.source_meaning.specs.Meaning.{within, does, for_parameters, outside, ran, shows, meaning}
+use Rattle.source_meaning.specs.Laws.{IsPrefixOf}
+use Rattle.source_meaning.proofs.RemainingSteps.{enters_within}
+use Rattle.linear_code.specs.declared.slot.Slot.TheVariants.{Temporary}
+use Rattle.linear_code.specs.declared.instruction.Instruction.TheVariants as instructions
+use Rattle.linear_code.specs.Program.{LinearProgram, LinearFunction}
+use Rattle.linear_machine.specs.Frames.{FunctionBody, Store, Configuration, Seen, Running, Finished, Stuck, with_some}
+use Rattle.linear_machine.specs.Instructions.{begin_function}
+use Rattle.linear_machine.specs.Run.{main_arguments, start, seen, shown, exec}
+use Rattle.linear_machine.proofs.RunLengths.{events_of, More, longer}
+use Rattle.linear_machine.proofs.Stretch.{Part, at, Site, conf, Kept, price, Claim, Stops, Prefix}
+use Rattle.linear_machine.proofs.SingleTurns.{fetch}
+use Rattle.lowering_sizes.specs.Sizes.{statements_size, statements_notes}
+use Rattle.lowering_expressions.specs.Expressions.{constant}
+use Rattle.seh_ir.specs.Lowered.{own_locals, scope_of}
+use Rattle.lowering_follows.specs.FollowLaws.{Follows, NoMore, LinkedFollows}
+use Rattle.lowering_follows.specs.Weights.{statements_weight}
+use Rattle.lowering_follows.proofs.Stores.{Shape, FrameAlike, Alike, below_slot, kept_itself, push_alike}
+use Rattle.lowering_follows.specs.Places.{HasAt}
+use Rattle.lowering_follows.proofs.Places.{has_at}
+use Rattle.lowering_follows.proofs.Turns.{constant_turn}
+use Rattle.lowering_follows.proofs.BodyClaims.{statement_ways, Stays, Surroundings}
+use Rattle.lowering_follows.proofs.BodySequences.{all_runs}
+use Rattle.lowering_follows.specs.StatementPlaces.{FunctionPlaced}
+use Rattle.lowering_follows.proofs.Functions.{begins_alike}
+use Rattle.lowering_follows.proofs.AllClaims.{both}
+
+mul_le : (k a b : ℕ) → a ≤ b → k * a ≤ k * b
+mul_le k a b le =
+    let e : a + (b - a) ≡ b = omega arith in
+    let f : k * b ≡ k * a + k * (b - a) = ap (λ n. k * n) (sym e) ∙ mul-add k a (b - a) in
+    omega arith
+
+-- so many steps were made that there were enough turns
+enough : (k m cost credit n h : ℕ) → credit ≡ k * cost → (m + 1) * k ≤ n → n ≤ credit + h
+    → h + 2 ≤ k → m < cost
+enough k m cost credit n h paid e least light = go (cases_lt m cost)
+  where
+    go : (m < cost) ⊎ (cost ≤ m) → m < cost
+    go (inl p) = p
+    go (inr p) =
+        let a : (m + 1) * k ≡ k * m + k = mul_comm (m + 1) k ∙ mul-add k m 1
+        ∙ ap (λ x. k * m + x) (mul-one k) in
+        let b = mul_le k cost m p in
+        absurd (omega arith)
+
+shown_events : (a : Seen) → (shown a).events ≡ events_of a
+shown_events (Running es) = refl
+shown_events (Finished e es) = refl
+shown_events (Stuck es) = refl
+
+abbrev IsRunning : Seen → Type 0
+IsRunning (Running es) = Unit {0}
+IsRunning a = ⊥
+
+abbrev IsFinished : Seen → Type 0
+IsFinished (Finished e es) = Unit {0}
+IsFinished a = ⊥
+
+abbrev IsStuck : Seen → Type 0
+IsStuck (Stuck es) = Unit {0}
+IsStuck a = ⊥
+
+-- a run that comes to an end
+against : (x b : Seen) (e : Ended) (es : List Event) → More x b → b ≡ Finished e es
+    → IsPrefixOf (shown x).events es × ((f : Ended) → (shown x).end ≡ Some f
+    → shown (Finished e es) ≡ shown x) × ((fs : List Event) → x ≡ Stuck fs → ⊥)
+against (Running fs) b e es m q = (
+  (m.0, sym m.1 ∙ ap events_of q),
+  (λ f h. absurd (cc)),
+  (λ gs h. absurd (subst IsRunning h tt)),
+)
+against (Finished f fs) b e es m q =
+    let same : Finished f fs ≡ Finished e es = sym m ∙ q in (
+      ([], append-nil fs ∙ ap events_of same),
+      (λ g h. ap shown (sym same)),
+      (λ gs h. absurd (subst IsFinished h tt)),
+    )
+against (Stuck fs) b e es m q = absurd (subst IsStuck (sym m ∙ q) tt)
+
+-- one that continues
+against_running : (x b : Seen) (sh es : List Event) → More x b → b ≡ Running sh → Prefix sh es
+    → IsPrefixOf (shown x).events es × ((f : Ended) → (shown x).end ≡ Some f
+    → record { events = es; end = None } ≡ shown x) × ((fs : List Event) → x ≡ Stuck fs → ⊥)
+against_running (Running fs) b sh es m q p =
+    let e : sh ≡ fs ++ m.0 = sym (ap events_of q) ∙ m.1 in (
+      (m.0 ++ p.0, sym (append_assoc fs m.0 p.0) ∙ ap (λ l. l ++ p.0) (sym e) ∙ sym p.1),
+      (λ f h. absurd (cc)),
+      (λ gs h. absurd (subst IsRunning h tt)),
+    )
+against_running (Finished f fs) b sh es m q p = absurd (subst IsFinished (sym m ∙ q) tt)
+against_running (Stuck fs) b sh es m q p = absurd (subst IsStuck (sym m ∙ q) tt)
+
+events_more : (a b : Seen) → More a b → (rest : List Event) × (events_of b ≡ events_of a ++ rest)
+events_more (Running es) b m = m
+events_more (Finished e es) b m = ([], ap events_of m ∙ sym (append-nil es))
+events_more (Stuck es) b m = ([], ap events_of m ∙ sym (append-nil es))
+
+-- ---- the arguments of `main`
+
+arguments_length : (ps : List Size) (a : ℕ) → length ps ≤ 1
+    → length (for_parameters ps a) ≡ length ps
+arguments_length [] a le = refl
+arguments_length (p ∷ []) a le = refl
+arguments_length (p ∷ q ∷ ps) a le = absurd (omega arith)
+
+arguments_same : (ps : List Size) (a : ℕ) → (if nat_eq (length ps) 0 then [] else a ∷ [])
+    ≡ for_parameters ps a
+arguments_same [] a = refl
+arguments_same (p ∷ ps) a = ap (λ b. if b then [] else a ∷ [])
+    (ne_eqb (length (p ∷ ps)) 0 (λ e. omega arith))
+
+module _ (program : Program) (linear : LinearProgram) (rate body : ℕ)
+    (same_globals : linear.globals ≡ program.globals) (roomy : 4 ≤ rate)
+    (placed : (k : ℕ) (fn : Function) → slice_get program.functions k ≡ Some fn
+    → (lf : LinearFunction) × (slice_get linear.functions k ≡ Some lf)
+    × FunctionPlaced program linear rate body k fn lf)
+    (same_main : linear.main ≡ program.main) (fn : Function)
+    (has : slice_get program.functions program.main ≡ Some fn) (few : length fn.parameters ≤ 1)
+    (lf : LinearFunction) (there : slice_get linear.functions program.main ≡ Some lf)
+    (f : FunctionPlaced program linear rate body program.main fn lf) where
+  module _ (arg : ℤ) where
+    abbrev vs : List ℕ
+    vs = for_parameters fn.parameters (wrapped W64 arg)
+
+    abbrev inner : Context
+    inner = record { handlers = []; activation = 0; exception = no_exception; abnormal = false }
+
+    abbrev csite : Site
+    csite = record {
+      body = FunctionBody program.main;
+      regions = [];
+      below = [];
+      exception = no_exception;
+      held = 0;
+    }
+
+    abbrev given : List ℕ
+    given = vs ++ replicate (length fn.locals) 0
+
+    abbrev locals : List ℕ
+    locals = vs ++ replicate (lf.body.locals - lf.parameters) 0
+
+    abbrev begun : ℕ → State
+    begun n = record (source.start program n) { frames = given ∷ [] }
+
+    abbrev first_store : Store
+    first_store = record { memory = first_memory linear.globals; activations = [] }
+
+    abbrev store' : Store
+    store' = record { memory = first_memory linear.globals; activations = locals ∷ [] }
+
+    abbrev c0 : Configuration
+    c0 = begin_function program.main lf vs 0 [] first_store []
+
+    abbrev x : ℕ
+    x = statements_weight fn.body
+
+    abbrev Done : Part → State → Outcome → Type 0
+    Done s from (Gives (Value v) st) = (j : ℕ) × (j ≤ 16 * from.steps_left + 2)
+        × (s (exec linear j) ≡ Finished (Exit (signed W32 v)) st.events)
+    Done s from (Gives (End (Some e)) st) = (j : ℕ) × (j ≤ 16 * from.steps_left + 2)
+        × (s (exec linear j) ≡ Finished e st.events)
+    Done s from (Gives (End None) st) = Stops linear rate s from st 0 0 x
+    Done s from (Gives Normal st) = ⊥
+    Done s from (Gives (Returned v) st) = ⊥
+    Done s from (Gives Broke st) = ⊥
+    Done s from (Gives Continued st) = ⊥
+    Done s from (Gives LeftTry st) = ⊥
+    Done s from (Gives (Target level exc) st) = ⊥
+
+    return_turn : (v done k : ℕ) (mid : State) (after : Store)
+        → HasAt linear (FunctionBody program.main) [] done (instructions.Return (Temporary 0) ∷ [])
+        → exec linear (suc k) (conf inner csite done (v ∷ []) mid after)
+        ≡ Finished (Exit (signed W32 v)) mid.events
+    unfolding with_some
+    return_turn v done k mid after h = fetch linear rate (conf inner csite done (v ∷ []) mid after)
+        (instructions.Return (Temporary 0)) k h.0
+
+    main_ends : (s : Part) (from : State) (kept : Kept) (done : ℕ) (o : Outcome)
+        → HasAt linear (FunctionBody program.main) [] done
+        (constant 0 0 ∷ instructions.Return (Temporary 0) ∷ [])
+        → Claim linear rate s from (price 0 0 x x)
+        (statement_ways program linear rate body (scope_of fn) inner csite kept done) o
+        → Done s from (ended_call 0 o)
+    unfolding ended_call
+    main_ends s from kept done (Gives (Value v) st) h p = absurd p
+    main_ends s from kept done (Gives Normal st) h p =
+        let y = p.reaches.by (suc (suc zero)) in
+        let most = p.reaches.most in (
+          y.0,
+          omega (arith, y.1),
+          y.2 ∙ constant_turn linear rate inner csite 0 0 (0 ∷ []) done []
+              st p.store (suc zero) (omega arith) (h.0, h.1, tt) refl
+              ∙ return_turn 0 (done + 1) zero st p.store h.2,
+        )
+    main_ends s from kept done (Gives (Returned v) st) h p =
+        let y = p.1.reaches.by zero in
+        let most = p.1.reaches.most in
+        (y.0, omega (arith, y.1), y.2)
+    main_ends s from kept done (Gives Broke st) h p = absurd p
+    main_ends s from kept done (Gives Continued st) h p = absurd p
+    main_ends s from kept done (Gives LeftTry st) h p = absurd p
+    main_ends s from kept done (Gives (Target level exc) st) h p = absurd p.picked
+    main_ends s from kept done (Gives (End (Some e)) st) h p = let y = p.by in
+        (y.0, omega (arith, y.1), y.2)
+    main_ends s from kept done (Gives (End None) st) h p = p
+
+    main_runs : (n : ℕ) → Done (at c0) (begun n)
+        (ended_call 0 (all (within program n) fn.body inner (begun n)))
+    main_runs n =
+        let new : Shape = record { own = own_locals fn; all = lf.body.locals } in
+        let bodies = (both program linear rate body same_globals roomy placed n).bodies in
+        let wide : own_locals fn ≤ lf.body.locals = omega (arith, f.locals) in
+        let alike : FrameAlike new given locals = subst
+        (λ p. FrameAlike new given (vs ++ replicate (lf.body.locals - p) 0)) (sym f.parameters)
+        (begins_alike (length fn.parameters) (length fn.locals) lf.body.locals vs
+        (arguments_length fn.parameters (wrapped W64 arg) few) wide) in
+        let nothing : Alike [] (first_memory program.globals) []
+        first_store = record {
+          same_memory = ap first_memory same_globals;
+          count = refl;
+          activations = refl;
+          each = λ k z h. absurd (cc);
+        } in
+        let standing : Surroundings program linear rate body (scope_of fn).names new (new ∷ [])
+        inner csite store' (statements_notes fn.body) = record {
+          env = record {
+            shape = refl;
+            code = refl;
+            flag = refl;
+            informed = λ e. absurd (cc);
+            handlers = tt;
+          };
+          past = omega arith;
+          room = omega (arith, f.locals);
+          plain = λ e. absurd (cc);
+        } in
+        let whole = has_at linear (FunctionBody program.main) [] (statements_size fn.body)
+        (0 + statements_size fn.body) (constant 0 0 ∷ instructions.Return (Temporary 0) ∷ [])
+        (omega arith) f.ends in
+        main_ends (at c0) (begun n) (Stays program linear rate body (scope_of fn).names (new ∷ [])
+        inner store') (0 + statements_size fn.body)
+        (all (within program n) fn.body inner (begun n)) whole
+        (all_runs program linear rate body n bodies (scope_of fn) new (new ∷ []) inner csite store'
+        fn.body 0 (begun n) store' (omega arith) f.quick f.placed
+        (record {
+          around = tt;
+          exit = (omega arith, tt, f.ends.2.0);
+          loop_end = tt;
+          loop_next = tt;
+        }) standing (
+          push_alike [] (first_memory program.globals) [] first_store new given locals alike nothing,
+          kept_itself (below_slot 0 (own_locals fn)) (new ∷ []) store',
+        ) refl)
+
+    enters : (n : ℕ) → enter (within program n) (Some fn) vs outside (source.start program n)
+        ≡ ended_call 0 (all (within program n) fn.body inner (begun n))
+    unfolding deeper choose
+    enters n = refl
+
+    ran_is : (n : ℕ) → ran program arg n ≡ ended_call 0
+        (all (within program n) fn.body inner (begun n))
+    ran_is n =
+        ap (λ main. enter (does program) main (source.main_arguments main arg) outside
+        (source.start program n)) has
+        ∙ enters_within program n (Some fn) vs outside (source.start program n) (omega arith)
+        ∙ enters n
+
+    done : (n : ℕ) → Done (at c0) (begun n) (ran program arg n)
+    done n = subst (λ o. Done (at c0) (begun n) o) (sym (ran_is n)) (main_runs n)
+
+    seen_is : (t : ℕ) → seen linear arg t ≡ exec linear t c0
+    unfolding with_some
+    seen_is t =
+        let place : ℕ → List ℕ → Configuration = λ k given. begin_function k lf given 0 []
+        first_store [] in
+        let arguments : main_arguments lf.parameters arg
+        ≡ vs = ap (λ p. main_arguments p arg) f.parameters
+        ∙ arguments_same fn.parameters (wrapped W64 arg) in
+        ap (λ o. with_some [] o (λ main. exec linear t (start linear arg main)))
+        (ap (slice_get linear.functions) same_main ∙ there)
+        ∙ ap (λ k. exec linear t (place k (main_arguments lf.parameters arg))) same_main
+        ∙ ap (λ given. exec linear t (place program.main given)) arguments
+
+    later : (j b : ℕ) → j ≤ b → More (exec linear j c0) (exec linear b c0)
+    later j b le = let e : j + (b - j) ≡ b = omega arith in
+        subst (λ k. More (exec linear j c0) (exec linear k c0)) e (longer linear j (b - j) c0)
+
+    -- at least so much
+    follows_by : (b : ℕ) (from : State) (o : Outcome) → 16 * from.steps_left + 2 ≤ b
+        → Done (at c0) from o
+        → IsPrefixOf (shows o).events (shown (exec linear b c0)).events
+        × ((e : Ended) → (shows o).end ≡ Some e → shown (exec linear b c0) ≡ shows o)
+    follows_by b from (Gives (Value v) st) le d =
+        let e : exec linear b c0 ≡ Finished (Exit (signed W32 v)) st.events = subst
+        (λ a. More a (exec linear b c0)) d.2 (later d.0 b (omega (arith, d.1))) in
+        (([], append-nil st.events ∙ sym (ap (λ a. (shown a).events) e)), (λ c h. ap shown e))
+    follows_by b from (Gives (End (Some v)) st) le d =
+        let e : exec linear b c0 ≡ Finished v st.events = subst (λ a. More a (exec linear b c0)) d.2
+        (later d.0 b (omega (arith, d.1))) in
+        (([], append-nil st.events ∙ sym (ap (λ a. (shown a).events) e)), (λ c h. ap shown e))
+    follows_by b from (Gives (End None) st) le d =
+        let m = d.most in
+        let p = events_more (exec linear d.cost c0) (exec linear b c0)
+        (later d.cost b (omega arith)) in (
+          (
+            d.shown.0 ++ p.0,
+            sym (append_assoc st.events d.shown.0 p.0)
+                ∙ ap (λ l. l ++ p.0) (sym d.shown.1) ∙ sym p.1 ∙ sym (shown_events (exec linear b c0)),
+          ),
+          (λ c h. absurd (cc)),
+        )
+    follows_by b from (Gives Normal st) le d = absurd d
+    follows_by b from (Gives (Returned v) st) le d = absurd d
+    follows_by b from (Gives Broke st) le d = absurd d
+    follows_by b from (Gives Continued st) le d = absurd d
+    follows_by b from (Gives LeftTry st) le d = absurd d
+    follows_by b from (Gives (Target level exc) st) le d = absurd d
+
+    abbrev NoMoreThan : ℕ → Outcome → Type 0
+    NoMoreThan m o =
+        IsPrefixOf (shown (exec linear m c0)).events (shows o).events
+        × ((e : Ended) → (shown (exec linear m c0)).end ≡ Some e
+        → shows o ≡ shown (exec linear m c0))
+        × ((es : List Event) → exec linear m c0 ≡ Stuck es → ⊥)
+
+    -- where the run is known to end, every place before it agrees
+    ends_there : (m j : ℕ) (e : Ended) (es : List Event) → exec linear j c0 ≡ Finished e es
+        → exec linear (j + m) c0 ≡ Finished e es
+    ends_there m j e es h = subst (λ a. More a (exec linear (j + m) c0)) h
+        (later j (j + m) (omega arith))
+
+    no_more_by : (m n : ℕ) (o : Outcome) → (m + 1) * rate ≤ n → Done (at c0) (begun n) o
+        → NoMoreThan m o
+    no_more_by m n (Gives (Value v) st) le d = against (exec linear m c0) (exec linear (d.0 + m) c0)
+        (Exit (signed W32 v)) st.events (later m (d.0 + m) (omega arith))
+        (ends_there m d.0 (Exit (signed W32 v)) st.events d.2)
+    no_more_by m n (Gives (End (Some v)) st) le d = against (exec linear m c0)
+        (exec linear (d.0 + m) c0) v st.events (later m (d.0 + m) (omega arith))
+        (ends_there m d.0 v st.events d.2)
+    no_more_by m n (Gives (End None) st) le d =
+        let paid = d.paid in let least = d.least in let l = f.quick in
+        let longer_than = enough rate m d.cost d.credit n x paid le (omega arith) (omega arith) in
+        let b = d.prior (d.cost - 1) (omega arith) in
+        against_running (exec linear m c0) (exec linear (d.cost - 1) c0) b.0 st.events
+        (later m (d.cost - 1) (omega arith)) b.1 b.2
+    no_more_by m n (Gives Normal st) le d = absurd d
+    no_more_by m n (Gives (Returned v) st) le d = absurd d
+    no_more_by m n (Gives Broke st) le d = absurd d
+    no_more_by m n (Gives Continued st) le d = absurd d
+    no_more_by m n (Gives LeftTry st) le d = absurd d
+    no_more_by m n (Gives (Target level exc) st) le d = absurd d
+
+  pub follows : Follows program linear
+  follows arg n turns le =
+      subst (λ a. IsPrefixOf (meaning program arg n).events (shown a).events
+      × ((e : Ended) → (meaning program arg n).end ≡ Some e → shown a ≡ meaning program arg n))
+      (sym (seen_is arg turns))
+      (follows_by arg turns (begun arg n) (ran program arg n) le (done arg n))
+
+  pub no_more : NoMore program linear rate
+  no_more arg m n le =
+      subst (λ a. IsPrefixOf (shown a).events (meaning program arg n).events
+      × ((e : Ended) → (shown a).end ≡ Some e → meaning program arg n ≡ shown a)
+      × ((es : List Event) → a ≡ Stuck es → ⊥)) (sym (seen_is arg m))
+      (no_more_by arg m n (ran program arg n) le (done arg n))
+
+pub linked_follows : LinkedFollows
+linked_follows program linear rate body l =
+    let p = l.functions program.main l.begins l.is_main in (
+      follows program linear rate body l.globals l.least l.functions l.main l.begins l.is_main l.few
+          p.0 p.1 p.2,
+      no_more program linear rate body l.globals l.least l.functions l.main l.begins l.is_main l.few
+          p.0 p.1 p.2,
+    )

@@ -1,0 +1,7 @@
+pub mod Fits
+pub mod Weights
+pub mod Places
+pub mod StatementPlaces
+pub mod FollowLaws
+pub mod StepsPerTurn
+pub mod LoweringLaws

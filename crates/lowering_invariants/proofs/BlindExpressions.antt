@@ -1,0 +1,58 @@
+-- Outside a filter the code of an expression reads nothing of an exception.
+use Rattle.std.proofs.Common.{◌≡◌, ℕ, List, ◌++◌, true, false}
+use Rattle.std.specs.List.{AllByRecursion}
+use Rattle.c_checked.specs.Expression.{Expression}
+use Rattle.c_checked.specs.Program.{Program}
+use Rattle.linear_code.specs.declared.instruction.Instruction.{Instruction}
+use Rattle.lowering_expressions.specs.declared.scope.ExceptionSource.{ExceptionSource}
+use Rattle.lowering_expressions.specs.declared.scope.ExceptionSource.TheVariants.{NoException, OfFilter, KeptIn}
+use Rattle.lowering_expressions.specs.declared.scope.Names.{Names}
+use Rattle.lowering_expressions.specs.Expressions.{code_code, expression_code}
+use Rattle.lowering_follows.specs.Fits.{ExpressionFits}
+use Rattle.lowering_invariants.proofs.PlainExpressions.{all_append}
+use Rattle.lowering_invariants.proofs.EveryExpression.{HoldsOfOperations, expression_every}
+use Rattle.lowering_invariants.specs.Blind.{IsBlind}
+
+abbrev pub AllBlind : List Instruction → Type 0
+AllBlind code = AllByRecursion IsBlind code
+
+pub append : (xs ys : List Instruction) → AllBlind xs → AllBlind ys → AllBlind (xs ++ ys)
+append xs ys h k = all_append IsBlind xs ys h k
+
+operations_blind : HoldsOfOperations IsBlind
+operations_blind = record {
+  of_constant = λ d n. tt;
+  of_copy = λ to from. tt;
+  of_change = λ d o. tt;
+  of_combine = λ d o. tt;
+  of_load = λ w address to. tt;
+  of_store = λ access address from to. tt;
+  of_jump = λ label. tt;
+  of_test = λ d label. tt;
+}
+
+-- what GetExceptionCode reads is no filter's exception
+abbrev pub IsOutside : ExceptionSource → Type 0
+IsOutside NoException = Unit {0}
+IsOutside OfFilter = ⊥
+IsOutside (KeptIn x) = Unit {0}
+
+code_blind : (s : ExceptionSource) (d : ℕ) → IsOutside s → IsBlind (code_code s d)
+code_blind NoException d h = tt
+code_blind OfFilter d h = absurd h
+code_blind (KeptIn x) d h = tt
+
+not_allowed : false ≡ true → ⊥
+not_allowed e = cc
+
+pub expression_blind : (program : Program) (own : ℕ) (names : Names) → IsOutside names.exception
+    → (e : Expression) (d at : ℕ) → ExpressionFits program own false e
+    → AllBlind (expression_code names e d at)
+expression_blind program own names outside e d at f =
+    expression_every IsBlind operations_blind program own false names
+    (record {
+      of_call = λ g first count h. tt;
+      of_built_in = λ k first. tt;
+      of_code = λ first. code_blind names.exception first outside;
+      of_information = λ field to h. absurd (not_allowed h);
+    }) e d at f

@@ -1,0 +1,63 @@
+-- Each call in the code of an expression has as many arguments as its function takes, and what may
+-- fault reads temporaries alone.
+use Rattle.std.proofs.Common.{ℕ, ◌+◌, List, ◌++◌}
+use Rattle.std.specs.List.{AllByRecursion}
+use Rattle.std.specs.Prelude.{Bool}
+use Rattle.c_operations.specs.declared.operation.Operation.{Operation}
+use Rattle.c_operations.specs.declared.operation.Operation.TheVariants as operations
+use Rattle.c_checked.specs.Expression.{Expression}
+use Rattle.c_checked.specs.Program.{Program}
+use Rattle.linear_code.specs.declared.slot.Slot.TheVariants.{Temporary}
+use Rattle.linear_code.specs.declared.instruction.Instruction.{Instruction}
+use Rattle.linear_code.specs.Program.{LinearProgram}
+use Rattle.linear_machine.specs.Frames.{BodyName}
+use Rattle.lowering_expressions.specs.declared.scope.ExceptionSource.{ExceptionSource}
+use Rattle.lowering_expressions.specs.declared.scope.ExceptionSource.TheVariants.{NoException, OfFilter, KeptIn}
+use Rattle.lowering_expressions.specs.declared.scope.Names.{Names}
+use Rattle.lowering_expressions.specs.Expressions.{code_code, expression_code}
+use Rattle.lowering_follows.specs.Fits.{IsCalled, ExpressionFits}
+use Rattle.lowering_invariants.proofs.PlainExpressions.{all_append}
+use Rattle.lowering_invariants.specs.Bodies.{ReadsWell, IsCallee, IsInstructionOf}
+use Rattle.lowering_invariants.proofs.EveryExpression.{HoldsOfOperations, expression_every}
+
+-- an operation on one temporary and the next
+combined : (o : Operation) (d : ℕ) → ReadsWell o (Temporary d) (Temporary (d + 1))
+combined (operations.Pure p) d = tt
+combined o d = (tt, tt)
+
+module _ (program : Program) (linear : LinearProgram)
+    (callee : (f count : ℕ) → IsCalled program f count → IsCallee linear f count) (name : BodyName)
+  where
+    abbrev pub AllCall : List Instruction → Type 0
+    AllCall code = AllByRecursion (IsInstructionOf linear name) code
+
+    pub append : (xs ys : List Instruction) → AllCall xs → AllCall ys → AllCall (xs ++ ys)
+    append xs ys h k = all_append (IsInstructionOf linear name) xs ys h k
+
+    operations_call : HoldsOfOperations (IsInstructionOf linear name)
+    operations_call = record {
+      of_constant = λ d n. tt;
+      of_copy = λ to from. tt;
+      of_change = λ d o. tt;
+      of_combine = λ d o. combined o d;
+      of_load = λ w address to. (tt, tt);
+      of_store = λ access address from to. (tt, tt);
+      of_jump = λ label. tt;
+      of_test = λ d label. tt;
+    }
+
+    code_calls : (s : ExceptionSource) (d : ℕ) → IsInstructionOf linear name (code_code s d)
+    code_calls NoException d = tt
+    code_calls OfFilter d = tt
+    code_calls (KeptIn x) d = tt
+
+    pub expression_calls : (own : ℕ) (info : Bool) (names : Names) (e : Expression) (d at : ℕ)
+        → ExpressionFits program own info e → AllCall (expression_code names e d at)
+    expression_calls own info names e d at f =
+        expression_every (IsInstructionOf linear name) operations_call program own info names
+        (record {
+          of_call = λ g first count h. callee g count h;
+          of_built_in = λ k first. tt;
+          of_code = code_calls names.exception;
+          of_information = λ field to h. tt;
+        }) e d at f

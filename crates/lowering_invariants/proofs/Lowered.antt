@@ -1,0 +1,176 @@
+-- What the bodies of a lowered program name is there.
+use Rattle.std.proofs.Common.{◌≡◌, ℕ, ◌+◌, ◌<◌, ◌≤◌, List, [], ◌∷◌, ◌++◌, length, map, refl, sym, ap, subst, ◌∙◌, arith, length-append}
+use Rattle.std.proofs.lemmas.List.{length-map}
+use Rattle.std.proofs.lemmas.Option.{slice_get-map, slice_get_within}
+use Rattle.std.specs.List.{AllByRecursion}
+use Rattle.std.specs.Prelude.{true, false, slice_get, option_map, Option, Some, None}
+use Rattle.c_checked.specs.Program.{Program, Function}
+use Rattle.c_checked.specs.Sound as sound
+use Rattle.c_checked.specs.Sound.{Inside, IsSound, funclets, count_up, function_sound, functions_sound}
+use Rattle.linear_code.specs.declared.slot.Slot.TheVariants.{Temporary}
+use Rattle.linear_code.specs.declared.instruction.Instruction.TheVariants as instructions
+use Rattle.linear_code.specs.Program.{LinearBody, LinearFunction, LinearFunclet}
+use Rattle.linear_machine.specs.Frames.{FunctionBody, FuncletBody, function_body, funclet_body, body_of}
+use Rattle.linear_machine.proofs.Ranges.{Range, part_of, both_parts, no_part, one_part}
+use Rattle.seh_ir.specs.declared.funclets.Owner.{Owner}
+use Rattle.lowering_expressions.specs.Expressions.{constant}
+use Rattle.seh_ir.specs.Statements.{statements_code}
+use Rattle.seh_ir.specs.Lowered.{own_locals, all_locals, scope_of, lowered_function, lowered_funclets, all_funclets, lowered}
+use Rattle.lowering_follows.specs.Fits.{IsCalled}
+use Rattle.lowering_follows.proofs.FuncletNumbers.{count_front, count_back, statements_count}
+use Rattle.lowering_follows.proofs.Segments.{IsSegmentAt, front, back, whole_is_at}
+use Rattle.lowering_follows.proofs.SoundExpressions.{both_left, both_right, Knows}
+use Rattle.lowering_follows.proofs.ProgramLowering.{lowered_is_linked}
+use Rattle.lowering_invariants.specs.Bodies.{IsCallee, IsBodyOf, AreBodies}
+use Rattle.lowering_invariants.specs.TypeLaws.{LoweredIsWhole}
+use Rattle.lowering_invariants.proofs.Calls.{append}
+use Rattle.lowering_invariants.proofs.TurnStack.{same_it, all_at}
+use Rattle.lowering_invariants.proofs.Wholes.{Fine, all_are_at}
+
+module _ (program : Program) where
+  callee : (f count : ℕ) → IsCalled program f count → IsCallee (lowered program) f count
+  callee f count c = record {
+    function = lowered_function c.function;
+    there = slice_get-map lowered_function program.functions f
+        ∙ ap (option_map lowered_function) c.there;
+    takes = c.takes;
+  }
+
+  abbrev inside : Function → Inside
+  inside fn = record {
+    scope = record {
+      functions = program.functions;
+      sizes = fn.parameters ++ fn.locals;
+      code = false;
+      information = false;
+      abnormal = false;
+    };
+    returns = fn.returns;
+    loop = false;
+    body = false;
+    function = true;
+  }
+
+  knows : (fn : Function) → Knows program (own_locals fn) false (inside fn).scope
+  knows fn = record {
+    functions = refl;
+    sizes = length-append fn.parameters fn.locals;
+    information = refl;
+  }
+
+  -- the body of the function of a number, and that of a funclet
+  abbrev Good : ℕ → Type 0
+  Good k = (b : LinearBody) → body_of (lowered program) (FunctionBody k) ≡ Some b
+      → IsBodyOf (lowered program) (FunctionBody k) b
+
+  abbrev Tidy : ℕ → Type 0
+  Tidy k = Fine program (lowered program) callee k
+
+  function_is_at : (fn : Function) (number j : ℕ) → function_sound program.functions fn ≡ true
+      → slice_get (lowered program).functions number ≡ Some (lowered_function fn)
+      → IsSegmentAt (lowered program).funclets j (lowered_funclets number fn)
+      → count_up (j + 1) (funclets fn.body) ≡ true
+      → Good number × Range Tidy j (j + length (lowered_funclets number fn))
+  function_is_at fn number j ok there f c =
+      let linear = lowered program in
+      let body = (lowered_function fn).body in
+      let owner : Owner = record { function = number; locals = all_locals fn; parent = None } in
+      let code = statements_code (scope_of fn) fn.body 0 in
+      let ends = constant 0 0 ∷ instructions.Return (Temporary 0) ∷ [] in
+      let x = all_are_at program linear callee (own_locals fn) fn.body (FunctionBody number) body
+      (ap function_body there) (inside fn) (knows fn) (scope_of fn) owner
+      (record { parent = refl; function = refl }) 0 j
+      (both_left _ _ (both_left _ _ ok)) (front body.code 0 code ends (whole_is_at body.code)) f
+      c in
+      let whole : IsBodyOf linear (FunctionBody number)
+      body = record {
+        regions = x.regions;
+        code = append program linear callee
+            (FunctionBody number) code ends x.calls (tt, (tt, tt));
+      } in (
+        (λ b e. subst (IsBodyOf linear (FunctionBody number))
+            (same_it body b (sym (ap function_body there) ∙ e)) whole),
+        x.funclets,
+      )
+
+  functions_are_at : (fs : List Function) (number j : ℕ)
+      → functions_sound program.functions fs ≡ true
+      → IsSegmentAt (lowered program).functions number (map lowered_function fs)
+      → IsSegmentAt (lowered program).funclets j (all_funclets number fs)
+      → count_up (j + 1) (sound.all_funclets fs) ≡ true
+      → Range Good number (number + length fs) × Range Tidy j (j + length (all_funclets number fs))
+  functions_are_at [] number j ok g f c = (
+    no_part Good number (number + 0) (omega arith),
+    no_part Tidy j (j + 0) (omega arith),
+  )
+  functions_are_at (fn ∷ fs) number j ok g f c =
+      let own = lowered_funclets number fn in
+      let rest = all_funclets (number + 1) fs in
+      let count = statements_count (record {
+        function = number;
+        locals = all_locals fn;
+        parent = None;
+      }) (scope_of fn).names fn.body in
+      let m = length-append own rest in
+      let end = number + 1 + length fs in
+      let last = j + length own + length rest in
+      let x = function_is_at fn number j (both_left _ _ ok) g.0
+      (front (lowered program).funclets j own rest f)
+      (count_front (j + 1) (funclets fn.body) (sound.all_funclets fs) c) in
+      let y = functions_are_at fs (number + 1) (j + length own) (both_right _ _ ok) g.1
+      (back (lowered program).funclets j (j + length own) own rest refl f)
+      (count_back (j + 1) (j + length own + 1) (funclets fn.body) (sound.all_funclets fs)
+      (omega arith) c) in (
+        part_of Good number end number _ (omega arith) (omega arith)
+            (both_parts Good number (number + 1) end (one_part Good number x.0) y.0),
+        part_of Tidy j last j _ (omega arith) (omega arith)
+            (both_parts Tidy j (j + length own) last x.1 y.1),
+      )
+
+  function_within : (k : ℕ) (o : Option LinearFunction) (b : LinearBody)
+      → slice_get (lowered program).functions k ≡ o → function_body o ≡ Some b
+      → k < length (lowered program).functions
+  function_within k None b e h = absurd (cc)
+  function_within k (Some f) b e h = slice_get_within (lowered program).functions k f e
+
+  funclet_within : (k : ℕ) (o : Option LinearFunclet) (b : LinearBody)
+      → slice_get (lowered program).funclets k ≡ o → funclet_body o ≡ Some b
+      → k < length (lowered program).funclets
+  funclet_within k None b e h = absurd (cc)
+  funclet_within k (Some f) b e h = slice_get_within (lowered program).funclets k f e
+
+  roomy : (fs : List Function) → AllByRecursion (λ f. f.parameters ≤ f.body.locals)
+      (map lowered_function fs)
+  roomy [] = tt
+  roomy (f ∷ fs) = (omega arith, roomy fs)
+
+  bodies_of : IsSound program → AreBodies (lowered program)
+  bodies_of h (FunctionBody k) b e =
+      let counts = both_left _ _ (both_left _ _ (both_left _ _ h)) in
+      let starts = both_left _ _ counts in
+      let l = length-map program.functions lowered_function in
+      let lt = function_within k (slice_get (lowered program).functions k) b refl e in
+      (functions_are_at program.functions 0 0 (both_left _ _ starts)
+      (whole_is_at (lowered program).functions) (whole_is_at (lowered program).funclets)
+      (both_right _ _ counts)).0 k (omega arith) (omega arith) b e
+  bodies_of h (FuncletBody k) b e =
+      let counts = both_left _ _ (both_left _ _ (both_left _ _ h)) in
+      let starts = both_left _ _ counts in
+      let lt = funclet_within k (slice_get (lowered program).funclets k) b refl e in
+      (functions_are_at program.functions 0 0 (both_left _ _ starts)
+      (whole_is_at (lowered program).functions) (whole_is_at (lowered program).funclets)
+      (both_right _ _ counts)).1 k (omega arith) (omega arith) b e
+
+pub lowered_is_whole : LoweredIsWhole
+lowered_is_whole program h =
+    let l = lowered_is_linked program h in
+    let m = l.functions program.main l.begins l.is_main in
+    let few = l.few in
+    let takes = m.2.parameters in
+    record {
+      bodies = bodies_of program h;
+      parameters = λ k f e. all_at (λ f. f.parameters ≤ f.body.locals) (lowered program).functions k
+          f (roomy program program.functions) e;
+      few = λ main e. subst (λ (f : LinearFunction). f.parameters ≤ 1)
+          (same_it m.0 main (sym m.1 ∙ e)) (omega arith);
+    }

@@ -1,0 +1,117 @@
+-- What an operation gives is a number of 64 bits, and a fault has a code of 32.
+use Rattle.std.proofs.Common.{◌≡◌, ℕ, zero, suc, ◌/◌, ◌%◌, ◌^◌, ◌<◌, refl, ap, subst, arith}
+use Rattle.std.proofs.Math.Nat.{div-le_self, mod-le}
+use Rattle.std.specs.Prelude.{Bool, true, false, cond, not, ◌==◌, nat_lt, if◌then◌else◌, ℤ, Option, Some, None, Result, Ok, Err}
+use Rattle.seh_num.specs.declared.width.Width.{Width}
+use Rattle.seh_num.specs.declared.width.Width.TheVariants.{W8, W16, W32, W64}
+use Rattle.seh_num.specs.declared.division.DivFault.{DivFault}
+use Rattle.seh_num.specs.declared.division.DivFault.TheVariants.{Zero, Overflow}
+use Rattle.seh_num.specs.Widths.{limit, low, signed, wrapped, bytes_of}
+use Rattle.seh_num.proofs.Below.{low_below, wrapped_below}
+use Rattle.seh_num.specs.Division.{divided_signed, divided_unsigned}
+use Rattle.flat_memory.specs.Memory.{Memory, next, first_refused, may_read, may_write, number_at, with_number, with_bytes}
+use Rattle.c_operations.specs.declared.operation.Signedness.TheVariants.{Unsigned, Signed}
+use Rattle.c_operations.specs.declared.operation.Operation.{Operation}
+use Rattle.c_operations.specs.declared.operation.Operation.TheVariants as operations
+use Rattle.c_operations.specs.Numbers.{width}
+use Rattle.c_operations.specs.Performed.{OperationResult, Gives, Raises, Undefined, fault_of, signed_part, unsigned_part, unless_reserved, unless_refused, accessed, performed}
+use Rattle.c_operations.proofs.SmallResults.{result_small}
+use Rattle.lowering_invariants.specs.SmallNumbers.{IsSmallAccess}
+
+-- ---- widths
+
+of_width : (w : Width) (n : ℕ) → n < limit w → n < 2 ^ 64
+of_width W8 n lt = omega arith
+of_width W16 n lt = omega arith
+of_width W32 n lt = omega arith
+of_width W64 n lt = lt
+
+-- ---- all operations
+
+abbrev pub IsSmallOutcome : OperationResult → Type 0
+IsSmallOutcome (Gives v m) = v < 2 ^ 64
+IsSmallOutcome (Raises code access) = (code.0 < 2 ^ 32) × IsSmallAccess access
+IsSmallOutcome (Undefined a) = Unit {0}
+
+fault_small : (e : DivFault) → IsSmallOutcome (fault_of e)
+fault_small Zero = (omega arith, tt)
+fault_small Overflow = (omega arith, tt)
+
+signed_small : (part : ℤ × ℤ → ℤ) (w : Width) (m : Memory) (r : Result (ℤ × ℤ) DivFault)
+    → IsSmallOutcome (signed_part part w m r)
+signed_small part w m (Ok x) = of_width w (wrapped w (part x)) (wrapped_below w (part x))
+signed_small part w m (Err e) = fault_small e
+
+unsigned_small : (part : ℕ × ℕ → ℕ) (m : Memory) (r : Result (ℕ × ℕ) DivFault)
+    → ((x : ℕ × ℕ) → r ≡ Ok x → part x < 2 ^ 64) → IsSmallOutcome (unsigned_part part m r)
+unsigned_small part m (Ok x) h = h x refl
+unsigned_small part m (Err e) h = fault_small e
+
+divided : (b c : Bool) (q x : ℕ × ℕ) → (if b then Err Zero else (if c then Ok q else Err Overflow))
+    ≡ Ok x → q ≡ x
+divided true c q x e = absurd (cc)
+divided false false q x e = absurd (cc)
+divided false true q x e = ap (λ r. elim r [ Ok y ↦ y | Err f ↦ q ]) e
+
+module _ (w : Width) (a b : ℕ) where
+  numerator : low w a < 2 ^ 64
+  numerator = of_width w (low w a) (low_below w a)
+
+  quotient_small : (x : ℕ × ℕ) → divided_unsigned w (low w a) (low w b) ≡ Ok x → x.0 < 2 ^ 64
+  quotient_small x e =
+      let p = divided (low w b == 0) (nat_lt (low w a / low w b) (limit w))
+      (low w a / low w b, low w a % low w b) x e in
+      let d = div-le_self (low w a) (low w b) in
+      let n = numerator in
+      subst (λ (y : ℕ × ℕ). y.0 < 2 ^ 64) p (omega arith)
+
+  remainder_small : (x : ℕ × ℕ) → divided_unsigned w (low w a) (low w b) ≡ Ok x → x.1 < 2 ^ 64
+  remainder_small x e =
+      let p = divided (low w b == 0) (nat_lt (low w a / low w b) (limit w))
+      (low w a / low w b, low w a % low w b) x e in
+      let d = mod-le (low w a) (low w b) in
+      let n = numerator in
+      subst (λ (y : ℕ × ℕ). y.1 < 2 ^ 64) p (omega arith)
+
+refused_small : (may : ℕ → Bool) (n at a : ℕ) → at < 2 ^ 64 → first_refused may n at ≡ Some a
+    → a < 2 ^ 64
+unfolding first_refused
+refused_small may zero at a lt e = absurd (cc)
+refused_small may (suc n) at a lt e = go (refused_small may n (next at) a (omega arith)) (may at) e
+  where
+    go : (first_refused may n (next at) ≡ Some a → a < 2 ^ 64) → (b : Bool)
+        → cond b (first_refused may n (next at)) (Some at) ≡ Some a → a < 2 ^ 64
+    go more true e = more e
+    go more false e = subst (λ x. x < 2 ^ 64) (ap (λ o. elim o [ None ↦ at | Some y ↦ y ]) e) lt
+
+accessed_small : (reserved : ℕ → Bool) (write : Bool) (may : ℕ → Bool) (n at : ℕ)
+    (o : OperationResult) → at < 2 ^ 64 → IsSmallOutcome o
+    → IsSmallOutcome (accessed reserved write may n at o)
+accessed_small reserved write may n at o lt h = outer (first_refused (λ a. not (reserved a)) n at)
+  where
+    inner : (r : Option ℕ) → first_refused may n at ≡ r → IsSmallOutcome (unless_refused write r o)
+    inner None e = h
+    inner (Some a) e = (omega arith, refused_small may n at a lt e)
+
+    outer : (r : Option ℕ) → IsSmallOutcome (unless_reserved r
+        (unless_refused write (first_refused may n at) o))
+    outer None = inner (first_refused may n at) refl
+    outer (Some a) = tt
+
+pub outcome_small : (reserved : ℕ → Bool) (o : Operation) (a b : ℕ) (m : Memory) → a < 2 ^ 64
+    → b < 2 ^ 64 → IsSmallOutcome (performed reserved o a b m)
+outcome_small reserved (operations.Pure p) a b m la lb = result_small p a b la
+outcome_small reserved (operations.Divide Signed z) a b m la lb = signed_small (λ x. x.0) (width z)
+    m (divided_signed (width z) (signed (width z) a) (signed (width z) b))
+outcome_small reserved (operations.Divide Unsigned z) a b m la lb = unsigned_small (λ x. x.0) m
+    (divided_unsigned (width z) (low (width z) a) (low (width z) b)) (quotient_small (width z) a b)
+outcome_small reserved (operations.Remainder Signed z) a b m la lb = signed_small (λ x. x.1)
+    (width z) m (divided_signed (width z) (signed (width z) a) (signed (width z) b))
+outcome_small reserved (operations.Remainder Unsigned z) a b m la lb = unsigned_small (λ x. x.1) m
+    (divided_unsigned (width z) (low (width z) a) (low (width z) b)) (remainder_small (width z) a b)
+outcome_small reserved (operations.Load w) a b m la lb = accessed_small reserved false (may_read m)
+    (bytes_of w) a (Gives (low w (number_at m.byte (bytes_of w) a)) m) la
+    (of_width w (low w (number_at m.byte (bytes_of w) a))
+    (low_below w (number_at m.byte (bytes_of w) a)))
+outcome_small reserved (operations.Store w) a b m la lb = accessed_small reserved true (may_write m)
+    (bytes_of w) a (Gives b (with_bytes m (with_number m.byte (bytes_of w) a (low w b)))) la lb

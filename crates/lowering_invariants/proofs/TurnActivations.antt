@@ -1,0 +1,495 @@
+-- Each turn keeps the activations those of the functions that run or wait.
+use Rattle.std.proofs.Common.{◌≡◌, inl, inr, ℕ, zero, suc, ◌+◌, ◌-◌, ◌^◌, ◌≤◌, List, [], ◌∷◌, ◌++◌, length, refl, sym, ap, subst, ◌∙◌, arith, length-append}
+use Rattle.std.proofs.lemmas.List.{length-set, length-replicate, length-drop}
+use Rattle.std.specs.Prelude.{Bool, true, false, nat_eq, nat_lt, slice_get, slice_set, take, drop, replicate, if◌then◌else◌, get_or, ℤ, Option, Some, None}
+use Rattle.seh_num.specs.declared.event.Event.{Event}
+use Rattle.seh_num.specs.declared.event.Event.TheVariants as events
+use Rattle.seh_num.specs.declared.width.Width.TheVariants.{W32}
+use Rattle.seh_num.specs.Widths.{low, signed}
+use Rattle.c_operations.specs.declared.built_in.BuiltIn.{BuiltIn}
+use Rattle.c_operations.specs.declared.built_in.BuiltIn.TheVariants.{Put, Protect, RaiseException}
+use Rattle.c_operations.specs.Performed.{OperationResult, Gives, Raises, Undefined, performed}
+use Rattle.source_meaning.specs.declared.ended.Ended.TheVariants as ends
+use Rattle.source_meaning.specs.State.{Exception}
+use Rattle.source_meaning.specs.Source.{is_reserved}
+use Rattle.source_meaning.specs.Expressions.{of_test, field_of, raised}
+use Rattle.source_meaning.specs.Raises.{noncontinuable, raise_event}
+use Rattle.linear_code.specs.declared.slot.Slot.{Slot}
+use Rattle.linear_code.specs.declared.slot.Slot.TheVariants.{Local, Temporary}
+use Rattle.linear_code.specs.declared.instruction.Instruction.{Instruction}
+use Rattle.linear_code.specs.declared.instruction.Instruction.TheVariants as instructions
+use Rattle.linear_code.specs.declared.program.Region.{Region}
+use Rattle.linear_code.specs.declared.program.RegionKind.{RegionKind}
+use Rattle.linear_code.specs.declared.program.RegionKind.TheVariants as kinds
+use Rattle.linear_code.specs.declared.program.FuncletKind.{FuncletKind}
+use Rattle.linear_code.specs.declared.program.FuncletKind.TheVariants as funclets
+use Rattle.linear_code.specs.Program.{LinearProgram, LinearFunction}
+use Rattle.linear_machine.specs.Frames.{BodyName, FunctionBody, FuncletBody, Frame, Handler, Target, Resumption, AfterCall, SameOperation, Item, Waits, Searches, Unwinds, Store, Configuration, Seen, Finished, Stuck, Next, pick, read, write, with_temporary, with_temporaries, last_temporaries, set_local, at_label, forth, with_last}
+use Rattle.linear_machine.specs.Regions.{regions_at, regions_left, handlers, stops}
+use Rattle.linear_machine.specs.Unwinding.{flag_of, run_finally, arrive, target_past, left_store, leave_region, unwind_body, unwind}
+use Rattle.linear_machine.specs.Searching.{target_of, accept, consult, search, raise, resumed, answer}
+use Rattle.linear_machine.specs.Instructions.{is_constant, operand, written, computed, tested, waiting, begin_function, count_of, built_in, return, end_finally, end_funclet, end_body, not_landed, act}
+use Rattle.linear_machine.specs.Run.{instruction_at, start, main_arguments}
+use Rattle.lowering_invariants.specs.Turns.{IsTurn, IsReached}
+use Rattle.lowering_invariants.specs.Bodies.{IsFilterKind, IsFinallyKind, function_of, owner_of, IsFuncletOf, IsKindOf, IsWhole}
+use Rattle.lowering_invariants.specs.Waiting.{MayWait, Handles, IsHandler, AreHandlers, AreWaiting, IsStacked}
+use Rattle.lowering_invariants.specs.Activations.{with_own, owners_of, WorksOn, AreWorking, IsActivationOf, AreActivations, HasActivations}
+use Rattle.lowering_invariants.proofs.Ready.{last_are}
+use Rattle.lowering_invariants.proofs.Moves.{Turn, Halts, Moves, pick_turn, some_turn, deeper_turn, kept, kept_by_all}
+use Rattle.lowering_invariants.proofs.TurnStack.{same_it, Left, Regions, left_are, handlers_are, instruction_fits, taken, is_landing, waits, stays_stacked, starts_stacked}
+
+-- ---- lists
+
+get_front : {X : Type 0} (xs ys : List X) (i : ℕ) (x : X) → slice_get xs i ≡ Some x → slice_get (xs ++ ys) i ≡ Some x
+get_front [] ys i x e = absurd (cc)
+get_front (y ∷ xs) ys zero x e = e
+get_front (y ∷ xs) ys (suc i) x e = get_front xs ys i x e
+
+get_last : {X : Type 0} (xs : List X) (x : X) → slice_get (xs ++ x ∷ []) (length xs) ≡ Some x
+get_last [] x = refl
+get_last (y ∷ xs) x = get_last xs x
+
+last_is : (b : Bool) (x y : List ℕ) → (if b then Some x else None) ≡ Some y → x ≡ y
+last_is true x y e = same_it x y e
+last_is false x y e = absurd (cc)
+
+last_count : (ts : List ℕ) (first count : ℕ) (vs : List ℕ) → last_temporaries ts first count ≡ Some vs → length vs ≡ count
+last_count ts first count vs e =
+    let n = last_are ts first count vs e in
+    let d = length-drop first ts in
+    ap length (sym (last_is (nat_eq (length ts) (first + count)) (drop first ts) vs e)) ∙ omega arith
+
+module _ (program : LinearProgram) where
+  -- ---- activations
+
+  abbrev Are : List ℕ → List (List ℕ) → Type 0
+  Are ks acts = AreActivations program ks acts
+
+  as_many : (ks : List ℕ) (acts : List (List ℕ)) → Are ks acts → length acts ≡ length ks
+  as_many [] [] h = refl
+  as_many [] (a ∷ acts) h = absurd h
+  as_many (k ∷ ks) [] h = absurd h
+  as_many (k ∷ ks) (a ∷ acts) h = ap suc (as_many ks acts h.1)
+
+  one_more : (ks : List ℕ) (acts : List (List ℕ)) (k : ℕ) (vs : List ℕ)
+      → IsActivationOf program k vs → Are ks acts → Are (ks ++ k ∷ []) (acts ++ vs ∷ [])
+  one_more [] [] k vs a h = (a, tt)
+  one_more [] (b ∷ acts) k vs a h = absurd h
+  one_more (j ∷ ks) [] k vs a h = absurd h
+  one_more (j ∷ ks) (b ∷ acts) k vs a h = (h.0, one_more ks acts k vs a h.1)
+
+  one_less : (ks : List ℕ) (acts : List (List ℕ)) (k : ℕ) → Are (ks ++ k ∷ []) acts → Are ks (take (length ks) acts)
+  one_less [] acts k h = tt
+  one_less (j ∷ ks) [] k h = absurd h
+  one_less (j ∷ ks) (a ∷ acts) k h = (h.0, one_less ks acts k h.1)
+
+  abbrev locals_in : Option (List ℕ) → List ℕ
+  locals_in o = elim o [ Some locals ↦ locals | None ↦ [] ]
+
+  set_kept : (ks : List ℕ) (acts : List (List ℕ)) (i x v : ℕ) → Are ks acts
+      → Are ks (slice_set acts i (slice_set (locals_in (slice_get acts i)) x v))
+  set_kept [] [] i x v h = h
+  set_kept [] (a ∷ acts) i x v h = absurd h
+  set_kept (k ∷ ks) [] i x v h = absurd h
+  set_kept (k ∷ ks) (a ∷ acts) zero x v h = (
+    record
+        { function = h.0.function; there = h.0.there; count = length-set a x v ∙ h.0.count },
+    h.1,
+  )
+  set_kept (k ∷ ks) (a ∷ acts) (suc i) x v h = (h.0, set_kept ks acts i x v h.1)
+
+  -- ---- what runs or waits, over a store
+
+  abbrev Over : List Item → Store → Type 0
+  Over items store = AreWorking program items × Are (owners_of items) store.activations
+
+  abbrev Ok : Configuration → Type 0
+  Ok c = HasActivations program c
+
+  abbrev Items : List Item → Type 0
+  Items items = AreWaiting program items
+
+  -- where a body is left
+  left_by : (name : BodyName) (f : Frame) (owners : List ℕ) (store : Store)
+      → WorksOn program f name owners → Are (with_own name owners) store.activations
+      → Are owners (left_store name f.activation store).activations
+  left_by (FunctionBody k) f owners store w h = subst (λ n. Are owners (take n store.activations))
+      (sym w) (one_less owners store.activations k h)
+  left_by (FuncletBody k) f owners store w h = h
+
+  left_over : (f : Frame) (below : List Item) (store : Store) → Over (Waits f ∷ below) store
+      → Over below (left_store f.body f.activation store)
+  left_over f below store o = (o.0.1, left_by f.body f (owners_of below) store o.0.0 o.1)
+
+  -- the function of a funclet of a body works on that body's activation
+  owned_by : (name : BodyName) (f : Frame) (owners : List ℕ) (k : ℕ) → WorksOn program f name owners
+      → owner_of program name ≡ Some k → slice_get (with_own name owners) f.activation ≡ Some k
+  owned_by (FunctionBody j) f owners k w e = ap (slice_get (owners ++ j ∷ [])) w ∙ get_last owners j ∙ e
+  owned_by (FuncletBody j) f owners k w e = w.2 ∙ sym w.1 ∙ e
+
+  owned : (f : Frame) (below : List Item) (kind : FuncletKind → Type 0) (k : ℕ)
+      → AreWorking program (Waits f ∷ below) → IsFuncletOf program f.body kind k
+      → (function : ℕ) × (owner_of program (FuncletBody k) ≡ Some function)
+      × (slice_get (owners_of (Waits f ∷ below)) f.activation ≡ Some function)
+  owned f below kind k w p = (
+    p.funclet.function,
+    ap function_of p.there,
+    owned_by f.body f (owners_of below) p.funclet.function w.0 p.owner,
+  )
+
+  own_more : (name : BodyName) (owners : List ℕ) (i k : ℕ) → slice_get owners i ≡ Some k → slice_get (with_own name owners) i ≡ Some k
+  own_more (FunctionBody j) owners i k e = get_front owners (j ∷ []) i k e
+  own_more (FuncletBody j) owners i k e = e
+
+  filter_of : (name : BodyName) (end : ℕ) (r : RegionKind) (filter : Option ℕ) (target k : ℕ)
+      → filter ≡ Some k → IsKindOf program name end r → Handles program r filter target → IsFuncletOf program name IsFilterKind k
+  filter_of name end (kinds.Finally j) filter target k e p h = absurd h
+  filter_of name end (kinds.Filter j l) filter target k e p h = subst
+      (IsFuncletOf program name IsFilterKind) (same_it j k (sym h.0 ∙ e)) p.0
+  filter_of name end (kinds.Always l) filter target k e p h = absurd (differ (sym h.0 ∙ e))
+    where
+      differ : None ≡ Some k → ⊥
+      differ e = cc
+
+  -- a filter works on its handler's activation
+  filter_owned : (h : Handler) (k : ℕ) (items : List Item) → h.filter ≡ Some k
+      → IsHandler program h items → AreWorking program items → (function : ℕ) × (owner_of program (FuncletBody k) ≡ Some function)
+      × (slice_get (owners_of items) h.activation ≡ Some function)
+  filter_owned h k [] e p w = absurd p
+  filter_owned h k (Waits f ∷ below) e (inl p) w =
+      let q = owned f below IsFilterKind k w (filter_of f.body p.region.end p.region.kind h.filter
+      h.target k e p.is_there.kind p.handles) in
+      (q.0, q.1, ap (slice_get (owners_of (Waits f ∷ below))) p.activation ∙ q.2)
+  filter_owned h k (Waits f ∷ below) e (inr p) w =
+      let q = filter_owned h k below e p w.1 in
+      (q.0, q.1, own_more f.body (owners_of below) h.activation q.0 q.2)
+  filter_owned h k (Searches exception resumption asked rest ∷ below) e p w = filter_owned h k below
+      e p w
+  filter_owned h k (Unwinds rest target ∷ below) e p w = filter_owned h k below e p w
+
+module _ (program : LinearProgram) (whole : IsWhole program) where
+  abbrev at_rest : Configuration → Type 0
+  at_rest c = Over program (Waits c.frame ∷ c.below) c.store
+
+  goes : (d : Configuration) → at_rest d → Turn (Ok program) (λ next. next d)
+  goes d o = Moves d (record { working = o.0; stored = o.1 }) (λ next. refl)
+
+  -- ---- unwinding
+
+  arrive_turn : (code : Option ℕ) (t : Target) (c : Configuration) → at_rest c → Turn (Ok program) (λ next. arrive t code next c)
+  arrive_turn None t c o = goes (at_label t.label c) o
+  arrive_turn (Some code) t c o = goes _ o
+
+  block_turn : (k held : ℕ) (abnormal : Bool) (items : List Item) (c : Configuration)
+      → IsFuncletOf program c.frame.body IsFinallyKind k → AreWorking program items
+      → owners_of items ≡ owners_of (Waits c.frame ∷ c.below) → at_rest c
+      → Turn (Ok program) (λ next. run_finally program k abnormal held items next c)
+  block_turn k held abnormal items c f w e o =
+      let q = owned program c.frame c.below IsFinallyKind k o.0 f in
+      some_turn (Ok program) c.events (flag_of (slice_get program.funclets k)) _ (λ flag g.
+      deeper_turn (Ok program) 2 held c.store c.events _ (goes _ (
+        ((q.0, q.1, ap (λ ks. slice_get ks c.frame.activation) e ∙ q.2), w),
+        set_kept program (owners_of items) c.store.activations c.frame.activation flag
+            (of_test abnormal) (subst (λ ks. AreActivations program ks c.store.activations) (sym e)
+            o.1),
+      )))
+
+  leave_turn : (r : RegionKind) (end : ℕ) (t : Target) (rest : List Region) (on : Next → Seen)
+      (c : Configuration) → IsKindOf program c.frame.body end r → at_rest c → Turn (Ok program) on
+      → Turn (Ok program) (λ next. leave_region program next t r rest (on next) c)
+  leave_turn (kinds.Finally j) end t rest on c k o h = block_turn j t.held true
+      (Unwinds rest t ∷ Waits c.frame ∷ c.below) c k o.0 refl o
+  leave_turn (kinds.Filter j l) end t rest on c k o h = h
+  leave_turn (kinds.Always l) end t rest on c k o h = h
+
+  body_turn : (t : Target) (out : Next → Store → Seen) (rs : List Region) (c : Configuration)
+      → Regions program whole.bodies c.frame.body rs → at_rest c → (Over program c.below (left_store c.frame.body c.frame.activation c.store)
+      → Turn (Ok program) (λ next. out next (left_store c.frame.body c.frame.activation c.store)))
+      → Turn (Ok program) (λ next. unwind_body program next t (out next) rs c)
+  body_turn t out [] c r o h =
+      pick_turn (Ok program) (nat_eq t.depth (length c.below)) (λ next. arrive t t.code next c)
+      (λ next. out next (left_store c.frame.body c.frame.activation c.store))
+      (λ e. arrive_turn t.code t c o) (λ e. h (left_over program c.frame c.below c.store o))
+  body_turn t out (x ∷ rs) c r o h =
+      pick_turn (Ok program) (stops t x (length c.below)) (λ next. arrive t t.code next c)
+      (λ next. leave_region program next t x.kind rs (unwind_body program next t (out next) rs c)
+      c)
+      (λ e. arrive_turn t.code t c o) (λ e. leave_turn x.kind x.end t rs
+      (λ next. unwind_body program next t (out next) rs c) c r.0.kind o
+      (body_turn t out rs c r.1 o h))
+
+  unwind_turn : (t : Target) (items : List Item) (left : Option (List Region)) (es : List Event)
+      (store : Store) → Left program whole.bodies left items → Items program items → Over program items store → Turn (Ok program)
+      (λ next. unwind program next t items left es store)
+  unwind_turn t [] left es store l w o = Halts (Stuck es) (λ next. refl)
+  unwind_turn t (Waits f ∷ below) left es store l w o =
+      body_turn t (λ next store. unwind program next (target_past f.body t) below None es store)
+      (regions_left left (regions_at program f.body f.next))
+      (record { frame = f; below = below; store = store; events = es })
+      (left_are program whole.bodies left f below l) o
+      (λ p. unwind_turn (target_past f.body t) below None es (left_store f.body f.activation store)
+      tt w.2 p)
+  unwind_turn t (Searches exception resumption asked rest ∷ below) left es store l w o = unwind_turn
+      t below None es store tt w.2 o
+  unwind_turn t (Unwinds rest older ∷ below) left es store l w o = unwind_turn t below (Some rest)
+      es store w.0 w.2 o
+
+  -- ---- searching
+
+  accept_turn : (h : Handler) (exception : Exception) (c : Configuration)
+      → Items program (Waits c.frame ∷ c.below) → at_rest c → Turn (Ok program) (λ next. accept program h exception next c)
+  accept_turn h exception c w o = unwind_turn (target_of h exception.code c.frame.held)
+      (Waits c.frame ∷ c.below) None c.events c.store tt w o
+
+  consult_turn : (k : Option ℕ) (h : Handler) (rest : List Handler) (exception : Exception)
+      (resumption : Resumption) (c : Configuration) → h.filter ≡ k
+      → IsHandler program h (Waits c.frame ∷ c.below) → Items program (Waits c.frame ∷ c.below)
+      → at_rest c → Turn (Ok program) (λ next. consult program k h rest exception resumption next c)
+  consult_turn None h rest exception resumption c e p w o = accept_turn h exception c w o
+  consult_turn (Some k) h rest exception resumption c e p w o =
+      deeper_turn (Ok program) 2 c.frame.held c.store c.events _
+      (goes _ ((filter_owned program h k (Waits c.frame ∷ c.below) e p o.0, o.0), o.1))
+
+  search_turn : (found : List Handler) (exception : Exception) (resumption : Resumption)
+      (c : Configuration) → AreHandlers program found (Waits c.frame ∷ c.below) → Items program (Waits c.frame ∷ c.below) → at_rest c
+      → Turn (Ok program) (λ next. search program next found exception resumption c)
+  search_turn [] exception resumption c p w o = Halts
+      (Finished (ends.Unhandled (record { 0 = exception.code })) c.events) (λ next. refl)
+  search_turn (h ∷ rest) exception resumption c p w o = consult_turn h.filter h rest exception
+      resumption c refl p.0 w o
+
+  raise_turn : (exception : Exception) (resumption : Resumption) (c : Configuration)
+      → Items program (Waits c.frame ∷ c.below) → at_rest c → Turn (Ok program) (λ next. raise program next exception resumption c)
+  raise_turn exception resumption c w o =
+      search_turn (handlers program (Waits c.frame ∷ c.below) None) exception resumption
+      (record c { events = c.events ++ raise_event exception ∷ [] })
+      (handlers_are program whole.bodies (Waits c.frame ∷ c.below) None tt w) w o
+
+  resumed_turn : (resumption : Resumption) (c : Configuration) → at_rest c → Turn (Ok program) (λ next. next (resumed resumption c))
+  resumed_turn AfterCall c o = goes _ o
+  resumed_turn SameOperation c o = goes _ o
+
+  answer_turn : (v : ℕ) (items : List Item) (es : List Event) (store : Store) → Items program items
+      → Over program items store → Turn (Ok program) (λ next. answer program next v items es store)
+  answer_turn v [] es store w o = Halts (Stuck es) (λ next. refl)
+  answer_turn v (Waits f ∷ below) es store w o = Halts (Stuck es) (λ next. refl)
+  answer_turn v (Unwinds rest t ∷ below) es store w o = Halts (Stuck es) (λ next. refl)
+  answer_turn v (Searches exception resumption h rest ∷ []) es store w o = Halts (Stuck es)
+      (λ next. refl)
+  answer_turn v (Searches exception resumption h rest ∷ Searches e r a s ∷ below) es store w o =
+      Halts (Stuck es) (λ next. refl)
+  answer_turn v (Searches exception resumption h rest ∷ Unwinds s t ∷ below) es store w o = Halts
+      (Stuck es) (λ next. refl)
+  answer_turn v (Searches exception resumption h rest ∷ Waits f ∷ below) es store w o =
+      let c : Configuration = record {
+        frame = f;
+        below = below;
+        store = store;
+        events = es ++ events.Answer (signed W32 v) ∷ [];
+      } in
+      pick_turn (Ok program) (nat_eq (low W32 v) 0)
+      (λ next. search program next rest exception resumption c) _
+      (λ e. search_turn rest exception resumption c w.0.1 w.2 o)
+      (λ e. pick_turn (Ok program) (nat_lt (low W32 v) (2 ^ 31))
+      (λ next. accept program h exception next c) _ (λ e. accept_turn h exception c w.2 o)
+      (λ e. pick_turn (Ok program) exception.flag
+      (λ next. raise program next noncontinuable resumption c)
+      (λ next. next (resumed resumption c)) (λ e. raise_turn noncontinuable resumption c w.2 o)
+      (λ e. resumed_turn resumption c o)))
+
+  return_turn : (v : ℕ) (items : List Item) (es : List Event) (store : Store)
+      → Over program items store → Turn (Ok program) (λ next. return next v items es store)
+  return_turn v [] es store o = Halts (Finished (ends.Exit (signed W32 v)) es) (λ next. refl)
+  return_turn v (Waits f ∷ below) es store o = goes _ o
+  return_turn v (Searches exception resumption h rest ∷ below) es store o = Halts (Stuck es)
+      (λ next. refl)
+  return_turn v (Unwinds rest t ∷ below) es store o = Halts (Stuck es) (λ next. refl)
+
+  finally_turn : (items : List Item) (es : List Event) (store : Store) → Items program items → Over program items store → Turn (Ok program)
+      (λ next. end_finally program next items es store)
+  finally_turn [] es store w o = Halts (Stuck es) (λ next. refl)
+  finally_turn (Searches exception resumption h rest ∷ below) es store w o = Halts (Stuck es)
+      (λ next. refl)
+  finally_turn (Waits f ∷ below) es store w o = goes _ o
+  finally_turn (Unwinds rest t ∷ []) es store w o = Halts (Stuck es) (λ next. refl)
+  finally_turn (Unwinds rest t ∷ Searches exception resumption h s ∷ below) es store w o = Halts
+      (Stuck es) (λ next. refl)
+  finally_turn (Unwinds rest t ∷ Unwinds s older ∷ below) es store w o = Halts (Stuck es)
+      (λ next. refl)
+  finally_turn (Unwinds rest t ∷ Waits f ∷ below) es store w o = unwind_turn t (Waits f ∷ below)
+      (Some rest) es store w.0 w.2 o
+
+  funclet_turn : (kind : FuncletKind) (v : ℕ) (c : Configuration) → Items program c.below
+      → Over program c.below c.store → Turn (Ok program) (λ next. end_funclet program next kind v c)
+  funclet_turn funclets.Filter v c w o = answer_turn v c.below c.events c.store w o
+  funclet_turn (funclets.Finally flag) v c w o = finally_turn c.below c.events c.store w o
+
+  end_turn : (name : BodyName) (v : ℕ) (c : Configuration) → c.frame.body ≡ name → Items program c.below → at_rest c → Turn (Ok program)
+      (λ next. end_body program next name v c)
+  end_turn (FunctionBody f) v c e w o = return_turn v c.below c.events
+      (left_store c.frame.body c.frame.activation c.store)
+      (left_over program c.frame c.below c.store o)
+  end_turn (FuncletBody k) v c e w o =
+      let p = subst (λ name. Over program c.below (left_store name c.frame.activation c.store)) e
+      (left_over program c.frame c.below c.store o) in
+      some_turn (Ok program) c.events (slice_get program.funclets k)
+      (λ next f. end_funclet program next f.kind v c) (λ f g. funclet_turn f.kind v c w p)
+
+  -- ---- an instruction
+
+  stored_by : (c : Configuration) (o : Option (List ℕ)) (d : Configuration) → with_temporaries c o ≡ Some d → at_rest c → at_rest d
+  stored_by c None d e o = absurd (cc)
+  stored_by c (Some ts) d e o = subst at_rest (same_it (with_last ts c) d e) o
+
+  write_stored : (c : Configuration) (to : Slot) (v : ℕ) (d : Configuration) → write c to v ≡ Some d → at_rest c → at_rest d
+  write_stored c (Local x) v d e o =
+      subst at_rest (same_it (record c { store = set_local c.store c.frame.activation x v }) d e) (
+        o.0,
+        set_kept program (owners_of (Waits c.frame ∷ c.below)) c.store.activations
+            c.frame.activation x v o.1,
+      )
+  write_stored c (Temporary i) v d e o = stored_by c (with_temporary c.frame.temporaries i v) d e o
+
+  written_turn : (c : Configuration) (to : Slot) (v : ℕ) → at_rest c → Turn (Ok program) (λ next. written c to v next)
+  written_turn c to v o = some_turn (Ok program) c.events (write c to v) (λ next d. next (forth d))
+      (λ d e. goes (forth d) (write_stored c to v d e o))
+
+  computed_turn : (c : Configuration) (to : Slot) (r : OperationResult)
+      → Items program (Waits c.frame ∷ c.below) → at_rest c → Turn (Ok program) (λ next. computed program next to c r)
+  computed_turn c to (Gives v memory) w o = written_turn
+      (record c { store = record c.store { memory = memory } }) to v o
+  computed_turn c to (Raises code access) w o = raise_turn
+      (record { code = code.0; flag = false; access = access }) SameOperation c w o
+  computed_turn c to (Undefined a) w o = Halts (Finished (ends.Undefined a) c.events) (λ next. refl)
+
+  raises_with : (k : BuiltIn) → k ≡ RaiseException → (first n : ℕ) → n ≡ first → MayWait program (instructions.CallBuiltIn k first) n
+  raises_with RaiseException e first n h = h
+  raises_with Put e first n h = absurd (cc)
+  raises_with Protect e first n h = absurd (cc)
+
+  built_in_turn : (c : Configuration) (k : BuiltIn) (vs : List ℕ)
+      → (k ≡ RaiseException → Items program (Waits c.frame ∷ c.below)) → at_rest c → Turn (Ok program) (λ next. built_in program next k vs c)
+  built_in_turn c Put vs w o = goes _ o
+  built_in_turn c Protect vs w o = goes _ o
+  built_in_turn c RaiseException vs w o = raise_turn (raised (get_or vs 0 0) (get_or vs 1 0))
+      AfterCall c (w refl) o
+
+  tested_turn : (c : Configuration) (slot : Slot) (label v : ℕ) → at_rest c
+      → Turn (Ok program) (λ next. pick (nat_eq v 0) (next (at_label label (tested slot c)))
+      (next (forth (tested slot c))))
+  tested_turn c (Local x) label v o = pick_turn (Ok program) (nat_eq v 0)
+      (λ next. next (at_label label c)) (λ next. next (forth c)) (λ e. goes _ o) (λ e. goes _ o)
+  tested_turn c (Temporary i) label v o =
+      let d = with_last (take i c.frame.temporaries) c in
+      pick_turn (Ok program) (nat_eq v 0) (λ next. next (at_label label d)) (λ next. next (forth d))
+      (λ e. goes _ o) (λ e. goes _ o)
+
+  -- a function's activation has as many locals as it has
+  entered : (f count : ℕ) (function : LinearFunction) (vs : List ℕ)
+      → slice_get program.functions f ≡ Some function → length vs ≡ function.parameters
+      → IsActivationOf program f (vs ++ replicate (function.body.locals - function.parameters) 0)
+  entered f count function vs e n =
+      let zeros = replicate (function.body.locals - function.parameters) 0 in
+      let room = whole.parameters f function e in
+      record {
+        function = function;
+        there = e;
+        count = length-append vs zeros
+            ∙ ap (λ k. length vs + k) (length-replicate (function.body.locals - function.parameters) 0) ∙ omega (arith, n, room);
+      }
+
+  call_turn : (c : Configuration) (f first count : ℕ) (vs : List ℕ) (function : LinearFunction)
+      → instruction_at program c ≡ Some (instructions.Call f first count)
+      → last_temporaries c.frame.temporaries first count ≡ Some vs → slice_get program.functions f ≡ Some function → at_rest c
+      → Turn (Ok program) (λ next. next (begin_function f function vs c.frame.held
+      (Waits (waiting c first).frame ∷ c.below) c.store c.events))
+  call_turn c f first count vs function at e g o =
+      let callee = instruction_fits program whole.bodies c (instructions.Call f first count) at in
+      let n = as_many program (owners_of (Waits c.frame ∷ c.below)) c.store.activations o.1 in
+      let takes = callee.takes ∙ ap (λ (h : LinearFunction). h.parameters)
+      (same_it callee.function function (sym callee.there ∙ g)) in
+      goes _ (
+        (n, o.0),
+        one_more program (owners_of (Waits c.frame ∷ c.below)) c.store.activations f
+            _ (entered f count function vs g (last_count c.frame.temporaries first count vs e ∙ takes))
+            o.1,
+      )
+
+  module _ (c : Configuration) (s : IsStacked program c) (o : at_rest c) where
+    waits_as_is : (i : Instruction) → instruction_at program c ≡ Some i → is_landing program whole.bodies (Some i) ≡ false
+        → MayWait program i (length c.frame.temporaries) → Items program (Waits c.frame ∷ c.below)
+    waits_as_is i at plain m = waits program whole.bodies c s i at plain c.frame.temporaries m
+
+    act_turn : (i : Instruction) → instruction_at program c ≡ Some i → Turn (Ok program) (λ next. act program i next c)
+    act_turn (instructions.Compute to p first second) at =
+        some_turn (Ok program) c.events (operand (is_constant p) c first) _ (λ a e.
+        some_turn (Ok program) c.events (operand (is_constant p) c second) _ (λ b e.
+        computed_turn c to (performed (is_reserved program.globals) p a b c.store.memory)
+        (waits_as_is (instructions.Compute to p first second) at refl tt) o))
+    act_turn (instructions.Information to field) at = written_turn c to
+        (field_of field c.frame.exception) o
+    act_turn (instructions.Jump label) at = goes _ o
+    act_turn (instructions.JumpIfZero slot label) at = some_turn (Ok program) c.events (read c slot)
+        _ (λ v e. tested_turn c slot label v o)
+    act_turn (instructions.Call f first count) at =
+        some_turn (Ok program) c.events (last_temporaries c.frame.temporaries first count) _
+        (λ vs e.
+        some_turn (Ok program) c.events (slice_get program.functions f) _ (λ function g.
+        deeper_turn (Ok program) 1 c.frame.held c.store c.events _
+        (call_turn c f first count vs function at e g o)))
+    act_turn (instructions.CallBuiltIn k first) at =
+        some_turn (Ok program) c.events (last_temporaries c.frame.temporaries first (count_of k)) _
+        (λ vs e.
+        built_in_turn (waiting c first) k vs (λ r. waits program whole.bodies c s
+        (instructions.CallBuiltIn k first) at refl (take first c.frame.temporaries)
+        (raises_with k r first (length (take first c.frame.temporaries))
+        (taken first (count_of k) c.frame.temporaries vs e))) o)
+    act_turn (instructions.CallFinally k) at = block_turn k c.frame.held false
+        (Waits c.frame ∷ c.below) c (instruction_fits program whole.bodies c
+        (instructions.CallFinally k) at) o.0 refl o
+    act_turn (instructions.LocalUnwind label) at =
+        unwind_turn (record {
+          depth = length c.below;
+          label = label;
+          code = None;
+          held = c.frame.held;
+        }) (Waits c.frame ∷ c.below) None c.events c.store tt
+        (waits_as_is (instructions.LocalUnwind label) at refl tt) o
+    act_turn (instructions.Landing to) at = some_turn (Ok program) c.events c.frame.landed
+        (λ next code. written (not_landed c) to code next)
+        (λ code e. written_turn (not_landed c) to code o)
+    act_turn instructions.Separator at = goes _ o
+    act_turn (instructions.Return from) at = some_turn (Ok program) c.events (read c from) _
+        (λ v e. end_turn c.frame.body v c refl s.below o)
+
+  abbrev Both : Configuration → Type 0
+  Both c = IsStacked program c × HasActivations program c
+
+  stays : (c d : Configuration) → IsTurn program c d → Both c → Both d
+  stays c d r p = (
+    stays_stacked program whole.bodies c d r p.0,
+    kept (Ok program) (λ next. act program r.instruction next c) d
+        (act_turn c p.0 (p.1.working, p.1.stored) r.instruction r.at) r.goes,
+  )
+
+  begun_with : (arg : ℤ) (n : ℕ) → n ≤ 1 → length (main_arguments n arg) ≡ n
+  begun_with arg zero h = refl
+  begun_with arg (suc zero) h = refl
+  begun_with arg (suc (suc n)) h = absurd (omega arith)
+
+  starts : (arg : ℤ) (main : LinearFunction) → slice_get program.functions program.main ≡ Some main → Both (start program arg main)
+  starts arg main e = (
+    starts_stacked program whole.bodies arg main,
+    record {
+      working = (refl, tt);
+      stored = (
+        entered program.main 0 main
+            (main_arguments main.parameters arg) e (begun_with arg main.parameters (whole.few main e)),
+        tt,
+      );
+    },
+  )
+
+  pub reached_both : (c : Configuration) → IsReached program c → Both c
+  reached_both c r = kept_by_all Both program stays r.turns (start program r.argument r.main) c
+      r.comes (starts r.argument r.main r.is_main)

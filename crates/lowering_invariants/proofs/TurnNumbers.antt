@@ -1,0 +1,478 @@
+-- Each turn keeps every number one of 64 bits.
+use Rattle.std.proofs.Common.{◌≡◌, ℕ, zero, suc, ◌+◌, ◌-◌, ◌^◌, ◌<◌, List, [], ◌∷◌, ◌++◌, length, refl, subst, arith}
+use Rattle.std.specs.List.{AllByRecursion}
+use Rattle.std.specs.Prelude.{Bool, true, false, nat_eq, nat_lt, slice_get, slice_set, take, drop, replicate, if◌then◌else◌, get_or, ℤ, Option, Some, None}
+use Rattle.seh_num.specs.declared.event.Event.{Event}
+use Rattle.seh_num.specs.declared.event.Event.TheVariants as events
+use Rattle.seh_num.specs.declared.width.Width.TheVariants.{W32, W64}
+use Rattle.seh_num.specs.Widths.{low, signed, wrapped}
+use Rattle.c_operations.specs.declared.built_in.BuiltIn.{BuiltIn}
+use Rattle.c_operations.specs.declared.built_in.BuiltIn.TheVariants.{Put, Protect, RaiseException}
+use Rattle.c_operations.specs.declared.field.Field.{Field}
+use Rattle.c_operations.specs.declared.field.Field.TheVariants as fields
+use Rattle.c_operations.specs.Performed.{OperationResult, Gives, Raises, Undefined, performed}
+use Rattle.source_meaning.specs.declared.ended.Ended.TheVariants as ends
+use Rattle.source_meaning.specs.State.{Exception}
+use Rattle.source_meaning.specs.Source.{is_reserved}
+use Rattle.source_meaning.specs.Expressions.{of_test, count_of as parameters_of, parameter_of, field_of, raised}
+use Rattle.source_meaning.specs.Raises.{noncontinuable, raise_event}
+use Rattle.linear_code.specs.declared.slot.Slot.{Slot}
+use Rattle.linear_code.specs.declared.slot.Slot.TheVariants.{Local, Temporary}
+use Rattle.linear_code.specs.declared.instruction.Instruction.{Instruction}
+use Rattle.linear_code.specs.declared.instruction.Instruction.TheVariants as instructions
+use Rattle.linear_code.specs.declared.program.Region.{Region}
+use Rattle.linear_code.specs.declared.program.RegionKind.{RegionKind}
+use Rattle.linear_code.specs.declared.program.RegionKind.TheVariants as kinds
+use Rattle.linear_code.specs.declared.program.FuncletKind.{FuncletKind}
+use Rattle.linear_code.specs.declared.program.FuncletKind.TheVariants as funclets
+use Rattle.linear_code.specs.Program.{LinearProgram, LinearFunction}
+use Rattle.linear_machine.specs.Frames.{BodyName, FunctionBody, FuncletBody, Frame, Handler, Target, Resumption, AfterCall, SameOperation, Item, Waits, Searches, Unwinds, Store, Configuration, Seen, Finished, Stuck, Next, pick, read, write, with_temporary, with_temporaries, last_temporaries, set_local, at_label, forth, with_last}
+use Rattle.linear_machine.specs.Regions.{regions_at, regions_left, handlers, stops}
+use Rattle.linear_machine.specs.Unwinding.{flag_of, run_finally, arrive, target_past, left_store, leave_region, unwind_body, unwind}
+use Rattle.linear_machine.specs.Searching.{target_of, accept, consult, search, raise, resumed, answer}
+use Rattle.linear_machine.specs.Instructions.{is_constant, operand, written, computed, tested, waiting, count_of, built_in, return, end_finally, end_funclet, end_body, not_landed, act}
+use Rattle.linear_machine.specs.Run.{start, main_arguments}
+use Rattle.lowering_invariants.specs.Turns.{IsTurn, IsReached}
+use Rattle.lowering_invariants.specs.SmallNumbers.{AreSmall, IsSmallCode, IsSmallAccess, IsSmallException, IsSmallFrame, AreSmallItems, HasSmallNumbers}
+use Rattle.lowering_invariants.proofs.Moves.{Turn, Halts, Moves, pick_turn, some_turn, deeper_turn, kept, kept_by_all}
+use Rattle.lowering_invariants.proofs.TurnStack.{same_it}
+use Rattle.seh_num.proofs.Below.{low_below, wrapped_below}
+use Rattle.lowering_invariants.proofs.Results.{IsSmallOutcome, outcome_small}
+
+-- ---- lists
+
+all_joined : (xs ys : List ℕ) → AreSmall xs → AreSmall ys → AreSmall (xs ++ ys)
+all_joined [] ys h k = k
+all_joined (x ∷ xs) ys h k = (h.0, all_joined xs ys h.1 k)
+
+all_taken : (n : ℕ) (xs : List ℕ) → AreSmall xs → AreSmall (take n xs)
+all_taken zero xs h = tt
+all_taken (suc n) [] h = tt
+all_taken (suc n) (x ∷ xs) h = (h.0, all_taken n xs h.1)
+
+all_dropped : (n : ℕ) (xs : List ℕ) → AreSmall xs → AreSmall (drop n xs)
+all_dropped zero xs h = h
+all_dropped (suc n) [] h = tt
+all_dropped (suc n) (x ∷ xs) h = all_dropped n xs h.1
+
+all_set : (xs : List ℕ) (i v : ℕ) → AreSmall xs → v < 2 ^ 64 → AreSmall (slice_set xs i v)
+all_set [] i v h lt = tt
+all_set (x ∷ xs) zero v h lt = (lt, h.1)
+all_set (x ∷ xs) (suc i) v h lt = (h.0, all_set xs i v h.1 lt)
+
+zeros : (n : ℕ) → AreSmall (replicate n 0)
+zeros zero = tt
+zeros (suc n) = (omega arith, zeros n)
+
+one_of : (xs : List ℕ) (i : ℕ) → AreSmall xs → get_or xs i 0 < 2 ^ 64
+one_of [] i h = omega arith
+one_of (x ∷ xs) zero h = h.0
+one_of (x ∷ xs) (suc i) h = one_of xs i h.1
+
+got_of : (xs : List ℕ) (i v : ℕ) → AreSmall xs → slice_get xs i ≡ Some v → v < 2 ^ 64
+got_of [] i v h e = absurd (cc)
+got_of (x ∷ xs) zero v h e = subst (λ y. y < 2 ^ 64) (same_it x v e) h.0
+got_of (x ∷ xs) (suc i) v h e = got_of xs i v h.1 e
+
+-- ---- activations
+
+abbrev AllSmall : List (List ℕ) → Type 0
+AllSmall acts = AllByRecursion AreSmall acts
+
+abbrev locals_in : Option (List ℕ) → List ℕ
+locals_in o = elim o [ Some locals ↦ locals | None ↦ [] ]
+
+locals_small : (acts : List (List ℕ)) (k : ℕ) → AllSmall acts → AreSmall (locals_in (slice_get acts k))
+locals_small [] k h = tt
+locals_small (a ∷ acts) zero h = h.0
+locals_small (a ∷ acts) (suc k) h = locals_small acts k h.1
+
+set_small : (acts : List (List ℕ)) (k : ℕ) (vs : List ℕ) → AllSmall acts → AreSmall vs → AllSmall (slice_set acts k vs)
+set_small [] k vs h l = tt
+set_small (a ∷ acts) zero vs h l = (l, h.1)
+set_small (a ∷ acts) (suc k) vs h l = (h.0, set_small acts k vs h.1 l)
+
+taken_small : (n : ℕ) (acts : List (List ℕ)) → AllSmall acts → AllSmall (take n acts)
+taken_small zero acts h = tt
+taken_small (suc n) [] h = tt
+taken_small (suc n) (a ∷ acts) h = (h.0, taken_small n acts h.1)
+
+joined_small : (acts : List (List ℕ)) (vs : List ℕ) → AllSmall acts → AreSmall vs → AllSmall (acts ++ vs ∷ [])
+joined_small [] vs h l = (l, tt)
+joined_small (a ∷ acts) vs h l = (h.0, joined_small acts vs h.1 l)
+
+left_small : (name : BodyName) (k : ℕ) (store : Store) → AllSmall store.activations → AllSmall (left_store name k store).activations
+left_small (FunctionBody f) k store h = taken_small k store.activations h
+left_small (FuncletBody j) k store h = h
+
+local_small : (store : Store) (k x v : ℕ) → AllSmall store.activations → v < 2 ^ 64 → AllSmall (set_local store k x v).activations
+local_small store k x v h lt = set_small store.activations k
+    (slice_set (locals_in (slice_get store.activations k)) x v) h
+    (all_set (locals_in (slice_get store.activations k)) x v (locals_small store.activations k h)
+    lt)
+
+-- ---- exceptions
+
+test_small : (b : Bool) → of_test b < 2 ^ 64
+test_small true = omega arith
+test_small false = omega arith
+
+count_small : (o : Option (Bool × ℕ)) → parameters_of o < 2 ^ 64
+count_small None = omega arith
+count_small (Some access) = omega arith
+
+parameter_small : (o : Option (Bool × ℕ)) (k : ℕ) → IsSmallAccess o → parameter_of o k < 2 ^ 64
+parameter_small None k h = omega arith
+parameter_small (Some access) k h = of (nat_eq k 0) (nat_eq k 1)
+  where
+    of : (a b : Bool) → (if a then of_test access.0 else if b then access.1 else 0) < 2 ^ 64
+    of true b = test_small access.0
+    of false true = h
+    of false false = omega arith
+
+field_small : (f : Field) (e : Exception) → IsSmallException e → field_of f e < 2 ^ 64
+field_small fields.ExceptionCode e h = let c = h.code in omega arith
+field_small fields.ExceptionFlags e h = test_small e.flag
+field_small fields.NumberParameters e h = count_small e.access
+field_small (fields.ExceptionInformation k) e h = parameter_small e.access k h.access
+
+-- ---- what runs or waits, over a store
+
+abbrev Over : List Item → Store → Type 0
+Over items store = AreSmallItems items × AllSmall store.activations
+
+abbrev at_rest : Configuration → Type 0
+at_rest c = Over (Waits c.frame ∷ c.below) c.store
+
+goes : (d : Configuration) → at_rest d → Turn HasSmallNumbers (λ next. next d)
+goes d o = Moves d (record { items = o.0; locals = o.1 }) (λ next. refl)
+
+-- this body with other temporaries, and no exception taken over
+frame_with : (f : Frame) (ts : List ℕ) → AreSmall ts → IsSmallFrame f → IsSmallFrame (record f { temporaries = ts })
+frame_with f ts h s = record { temporaries = h; exception = s.exception; landed = s.landed }
+
+module _ (program : LinearProgram) where
+  -- ---- unwinding
+
+  arrive_turn : (code : Option ℕ) (t : Target) (c : Configuration) → IsSmallCode code → at_rest c
+      → Turn HasSmallNumbers (λ next. arrive t code next c)
+  arrive_turn None t c s o = goes (at_label t.label c) (
+    (
+      record {
+        temporaries = o.0.0.temporaries;
+        exception = o.0.0.exception;
+        landed = o.0.0.landed;
+      },
+      o.0.1,
+    ),
+    o.1,
+  )
+  arrive_turn (Some code) t c s o = goes _ ((record { temporaries = tt; exception = o.0.0.exception; landed = s }, o.0.1), o.1)
+
+  none_small : IsSmallException (record { code = 0; flag = false; access = None })
+  none_small = record { code = omega arith; access = tt }
+
+  block_turn : (k held : ℕ) (abnormal : Bool) (items : List Item) (c : Configuration)
+      → AreSmallItems items → AllSmall c.store.activations
+      → Turn HasSmallNumbers (λ next. run_finally program k abnormal held items next c)
+  block_turn k held abnormal items c w s =
+      some_turn HasSmallNumbers c.events (flag_of (slice_get program.funclets k)) _ (λ flag g.
+      deeper_turn HasSmallNumbers 2 held c.store c.events _
+      (goes _ (
+        (record { temporaries = tt; exception = none_small; landed = tt }, w),
+        local_small c.store c.frame.activation flag (of_test abnormal) s (test_small abnormal),
+      )))
+
+  leave_turn : (r : RegionKind) (t : Target) (rest : List Region) (on : Next → Seen)
+      (c : Configuration) → IsSmallCode t.code → at_rest c → Turn HasSmallNumbers on
+      → Turn HasSmallNumbers (λ next. leave_region program next t r rest (on next) c)
+  leave_turn (kinds.Finally j) t rest on c s o h = block_turn j t.held true (Unwinds rest t ∷ Waits c.frame ∷ c.below) c (s, o.0) o.1
+  leave_turn (kinds.Filter j l) t rest on c s o h = h
+  leave_turn (kinds.Always l) t rest on c s o h = h
+
+  body_turn : (t : Target) (out : Next → Store → Seen) (rs : List Region) (c : Configuration) → IsSmallCode t.code → at_rest c
+      → (AllSmall (left_store c.frame.body c.frame.activation c.store).activations
+      → Turn HasSmallNumbers (λ next. out next
+      (left_store c.frame.body c.frame.activation c.store)))
+      → Turn HasSmallNumbers (λ next. unwind_body program next t (out next) rs c)
+  body_turn t out [] c s o h =
+      pick_turn HasSmallNumbers (nat_eq t.depth (length c.below)) (λ next. arrive t t.code next c)
+      (λ next. out next (left_store c.frame.body c.frame.activation c.store))
+      (λ e. arrive_turn t.code t c s o) (λ e. h (left_small c.frame.body c.frame.activation c.store o.1))
+  body_turn t out (x ∷ rs) c s o h =
+      pick_turn HasSmallNumbers (stops t x (length c.below)) (λ next. arrive t t.code next c)
+      (λ next. leave_region program next t x.kind rs (unwind_body program next t (out next) rs c)
+      c)
+      (λ e. arrive_turn t.code t c s o) (λ e. leave_turn x.kind t rs
+      (λ next. unwind_body program next t (out next) rs c) c s o (body_turn t out rs c s o h))
+
+  past_small : (name : BodyName) (t : Target) → IsSmallCode t.code → IsSmallCode (target_past name t).code
+  past_small (FunctionBody f) t s = s
+  past_small (FuncletBody k) t s = s
+
+  unwind_turn : (t : Target) (items : List Item) (left : Option (List Region)) (es : List Event)
+      (store : Store) → IsSmallCode t.code → Over items store
+      → Turn HasSmallNumbers (λ next. unwind program next t items left es store)
+  unwind_turn t [] left es store s o = Halts (Stuck es) (λ next. refl)
+  unwind_turn t (Waits f ∷ below) left es store s o =
+      body_turn t (λ next store. unwind program next (target_past f.body t) below None es store)
+      (regions_left left (regions_at program f.body f.next))
+      (record { frame = f; below = below; store = store; events = es }) s o
+      (λ p. unwind_turn (target_past f.body t) below None es (left_store f.body f.activation store)
+      (past_small f.body t s) (o.0.1, p))
+  unwind_turn t (Searches exception resumption asked rest ∷ below) left es store s o = unwind_turn t
+      below None es store s (o.0.1, o.1)
+  unwind_turn t (Unwinds rest older ∷ below) left es store s o = unwind_turn t below (Some rest) es store s (o.0.1, o.1)
+
+  -- ---- searching
+
+  accept_turn : (h : Handler) (exception : Exception) (c : Configuration)
+      → IsSmallException exception → at_rest c
+      → Turn HasSmallNumbers (λ next. accept program h exception next c)
+  accept_turn h exception c x o = unwind_turn (target_of h exception.code c.frame.held)
+      (Waits c.frame ∷ c.below) None c.events c.store x.code o
+
+  consult_turn : (k : Option ℕ) (h : Handler) (rest : List Handler) (exception : Exception)
+      (resumption : Resumption) (c : Configuration) → IsSmallException exception → at_rest c
+      → Turn HasSmallNumbers (λ next. consult program k h rest exception resumption next c)
+  consult_turn None h rest exception resumption c x o = accept_turn h exception c x o
+  consult_turn (Some k) h rest exception resumption c x o =
+      deeper_turn HasSmallNumbers 2 c.frame.held c.store c.events _
+      (goes _ ((record { temporaries = tt; exception = x; landed = tt }, (x, o.0)), o.1))
+
+  search_turn : (found : List Handler) (exception : Exception) (resumption : Resumption)
+      (c : Configuration) → IsSmallException exception → at_rest c
+      → Turn HasSmallNumbers (λ next. search program next found exception resumption c)
+  search_turn [] exception resumption c x o = Halts
+      (Finished (ends.Unhandled (record { 0 = exception.code })) c.events) (λ next. refl)
+  search_turn (h ∷ rest) exception resumption c x o = consult_turn h.filter h rest exception resumption c x o
+
+  raise_turn : (exception : Exception) (resumption : Resumption) (c : Configuration)
+      → IsSmallException exception → at_rest c
+      → Turn HasSmallNumbers (λ next. raise program next exception resumption c)
+  raise_turn exception resumption c x o = search_turn
+      (handlers program (Waits c.frame ∷ c.below) None) exception resumption
+      (record c { events = c.events ++ raise_event exception ∷ [] }) x o
+
+  -- a body continues with one more temporary
+  with_result : (c : Configuration) (v : ℕ) → v < 2 ^ 64 → at_rest c → at_rest (with_last (c.frame.temporaries ++ v ∷ []) c)
+  with_result c v lt o = (
+    (
+      frame_with c.frame (c.frame.temporaries ++ v ∷ [])
+          (all_joined c.frame.temporaries (v ∷ []) o.0.0.temporaries (lt, tt)) o.0.0,
+      o.0.1,
+    ),
+    o.1,
+  )
+
+  moved_to : (label : ℕ) (c : Configuration) → at_rest c → at_rest (at_label label c)
+  moved_to label c o = ((record { temporaries = o.0.0.temporaries; exception = o.0.0.exception; landed = o.0.0.landed }, o.0.1), o.1)
+
+  answers_turn : (c : Configuration) (v : ℕ) → v < 2 ^ 64 → at_rest c
+      → Turn HasSmallNumbers (λ next. next (forth (with_last (c.frame.temporaries ++ v ∷ []) c)))
+  answers_turn c v lt o = goes _ (moved_to (c.frame.next + 1) (with_last (c.frame.temporaries ++ v ∷ []) c) (with_result c v lt o))
+
+  resumed_turn : (resumption : Resumption) (c : Configuration) → at_rest c → Turn HasSmallNumbers (λ next. next (resumed resumption c))
+  resumed_turn AfterCall c o = answers_turn c 0 (omega arith) o
+  resumed_turn SameOperation c o = goes c o
+
+  anew : IsSmallException noncontinuable
+  anew = record { code = omega arith; access = tt }
+
+  answer_turn : (v : ℕ) (items : List Item) (es : List Event) (store : Store) → Over items store
+      → Turn HasSmallNumbers (λ next. answer program next v items es store)
+  answer_turn v [] es store o = Halts (Stuck es) (λ next. refl)
+  answer_turn v (Waits f ∷ below) es store o = Halts (Stuck es) (λ next. refl)
+  answer_turn v (Unwinds rest t ∷ below) es store o = Halts (Stuck es) (λ next. refl)
+  answer_turn v (Searches exception resumption h rest ∷ []) es store o = Halts (Stuck es) (λ next. refl)
+  answer_turn v (Searches exception resumption h rest ∷ Searches e r a s ∷ below) es store o = Halts (Stuck es) (λ next. refl)
+  answer_turn v (Searches exception resumption h rest ∷ Unwinds s t ∷ below) es store o = Halts (Stuck es) (λ next. refl)
+  answer_turn v (Searches exception resumption h rest ∷ Waits f ∷ below) es store o =
+      let c : Configuration = record { frame = f; below = below; store = store; events = es ++ events.Answer (signed W32 v) ∷ [] } in
+      let p : at_rest c = (o.0.1, o.1) in
+      pick_turn HasSmallNumbers (nat_eq (low W32 v) 0)
+      (λ next. search program next rest exception resumption c) _
+      (λ e. search_turn rest exception resumption c o.0.0 p)
+      (λ e. pick_turn HasSmallNumbers (nat_lt (low W32 v) (2 ^ 31))
+      (λ next. accept program h exception next c) _ (λ e. accept_turn h exception c o.0.0 p)
+      (λ e. pick_turn HasSmallNumbers exception.flag
+      (λ next. raise program next noncontinuable resumption c)
+      (λ next. next (resumed resumption c)) (λ e. raise_turn noncontinuable resumption c anew p)
+      (λ e. resumed_turn resumption c p)))
+
+  return_turn : (v : ℕ) (items : List Item) (es : List Event) (store : Store) → v < 2 ^ 64
+      → Over items store → Turn HasSmallNumbers (λ next. return next v items es store)
+  return_turn v [] es store lt o = Halts (Finished (ends.Exit (signed W32 v)) es) (λ next. refl)
+  return_turn v (Waits f ∷ below) es store lt o = answers_turn (record { frame = f; below = below; store = store; events = es }) v lt o
+  return_turn v (Searches exception resumption h rest ∷ below) es store lt o = Halts (Stuck es) (λ next. refl)
+  return_turn v (Unwinds rest t ∷ below) es store lt o = Halts (Stuck es) (λ next. refl)
+
+  finally_turn : (items : List Item) (es : List Event) (store : Store) → Over items store
+      → Turn HasSmallNumbers (λ next. end_finally program next items es store)
+  finally_turn [] es store o = Halts (Stuck es) (λ next. refl)
+  finally_turn (Searches exception resumption h rest ∷ below) es store o = Halts (Stuck es) (λ next. refl)
+  finally_turn (Waits f ∷ below) es store o = goes _
+      (moved_to (f.next + 1) (record { frame = f; below = below; store = store; events = es }) o)
+  finally_turn (Unwinds rest t ∷ []) es store o = Halts (Stuck es) (λ next. refl)
+  finally_turn (Unwinds rest t ∷ Searches exception resumption h s ∷ below) es store o = Halts (Stuck es) (λ next. refl)
+  finally_turn (Unwinds rest t ∷ Unwinds s older ∷ below) es store o = Halts (Stuck es) (λ next. refl)
+  finally_turn (Unwinds rest t ∷ Waits f ∷ below) es store o = unwind_turn t (Waits f ∷ below) (Some rest) es store o.0.0 (o.0.1, o.1)
+
+  funclet_turn : (kind : FuncletKind) (v : ℕ) (c : Configuration) → Over c.below c.store
+      → Turn HasSmallNumbers (λ next. end_funclet program next kind v c)
+  funclet_turn funclets.Filter v c o = answer_turn v c.below c.events c.store o
+  funclet_turn (funclets.Finally flag) v c o = finally_turn c.below c.events c.store o
+
+  end_turn : (name : BodyName) (v : ℕ) (c : Configuration) → v < 2 ^ 64 → at_rest c
+      → Turn HasSmallNumbers (λ next. end_body program next name v c)
+  end_turn (FunctionBody f) v c lt o = return_turn v c.below c.events
+      (left_store c.frame.body c.frame.activation c.store) lt
+      (o.0.1, left_small c.frame.body c.frame.activation c.store o.1)
+  end_turn (FuncletBody k) v c lt o = some_turn HasSmallNumbers c.events
+      (slice_get program.funclets k) (λ next f. end_funclet program next f.kind v c)
+      (λ f g. funclet_turn f.kind v c (o.0.1, o.1))
+
+  -- ---- an instruction
+
+  stored_by : (c : Configuration) (o : Option (List ℕ)) (d : Configuration)
+      → with_temporaries c o ≡ Some d → ((ts : List ℕ) → o ≡ Some ts → AreSmall ts) → at_rest c
+      → at_rest d
+  stored_by c None d e h o = absurd (cc)
+  stored_by c (Some ts) d e h o = subst at_rest (same_it (with_last ts c) d e) ((frame_with c.frame ts (h ts refl) o.0.0, o.0.1), o.1)
+
+  new_small : (b : Bool) (ts us : List ℕ) → (if b then Some ts else None) ≡ Some us → AreSmall ts → AreSmall us
+  new_small true ts us e h = subst AreSmall (same_it ts us e) h
+  new_small false ts us e h = absurd (cc)
+
+  write_small : (c : Configuration) (to : Slot) (v : ℕ) (d : Configuration) → write c to v ≡ Some d
+      → v < 2 ^ 64 → at_rest c → at_rest d
+  write_small c (Local x) v d e lt o =
+      subst at_rest (same_it (record c { store = set_local c.store c.frame.activation x v }) d e)
+      (o.0, local_small c.store c.frame.activation x v o.1 lt)
+  write_small c (Temporary i) v d e lt o =
+      stored_by c (with_temporary c.frame.temporaries i v) d e
+      (λ us g. new_small _ (take i c.frame.temporaries ++ v ∷ []) us g
+      (all_joined (take i c.frame.temporaries) (v ∷ [])
+      (all_taken i c.frame.temporaries o.0.0.temporaries) (lt, tt))) o
+
+  written_turn : (c : Configuration) (to : Slot) (v : ℕ) → v < 2 ^ 64 → at_rest c → Turn HasSmallNumbers (λ next. written c to v next)
+  written_turn c to v lt o = some_turn HasSmallNumbers c.events (write c to v)
+      (λ next d. next (forth d)) (λ d e. goes (forth d)
+      (moved_to (d.frame.next + 1) d (write_small c to v d e lt o)))
+
+  computed_turn : (c : Configuration) (to : Slot) (r : OperationResult) → IsSmallOutcome r
+      → at_rest c → Turn HasSmallNumbers (λ next. computed program next to c r)
+  computed_turn c to (Gives v memory) s o = written_turn (record c { store = record c.store { memory = memory } }) to v s o
+  computed_turn c to (Raises code access) s o = raise_turn
+      (record { code = code.0; flag = false; access = access }) SameOperation c
+      (record { code = s.0; access = s.1 }) o
+  computed_turn c to (Undefined a) s o = Halts (Finished (ends.Undefined a) c.events) (λ next. refl)
+
+  read_small : (c : Configuration) (slot : Slot) (v : ℕ) → read c slot ≡ Some v → at_rest c → v < 2 ^ 64
+  read_small c (Local x) v e o =
+      subst (λ y. y < 2 ^ 64) (same_it _ v e)
+      (one_of (locals_in (slice_get c.store.activations c.frame.activation)) x
+      (locals_small c.store.activations c.frame.activation o.1))
+  read_small c (Temporary i) v e o = got_of c.frame.temporaries i v o.0.0.temporaries e
+
+  operand_small : (b : Bool) (c : Configuration) (slot : Slot) (v : ℕ) → operand b c slot ≡ Some v → at_rest c → v < 2 ^ 64
+  operand_small true c slot v e o = subst (λ y. y < 2 ^ 64) (same_it 0 v e) (omega arith)
+  operand_small false c slot v e o = read_small c slot v e o
+
+  with_fewer : (ts : List ℕ) (c : Configuration) → AreSmall ts → at_rest c → at_rest (with_last ts c)
+  with_fewer ts c h o = ((frame_with c.frame ts h o.0.0, o.0.1), o.1)
+
+  built_in_turn : (c : Configuration) (k : BuiltIn) (vs : List ℕ) → at_rest c
+      → Turn HasSmallNumbers (λ next. built_in program next k vs c)
+  built_in_turn c Put vs o = answers_turn (record c { events = _ }) 0 (omega arith) o
+  built_in_turn c Protect vs o = answers_turn (record c { store = record c.store { memory = _ } }) (of_test _) (test_small _) o
+  built_in_turn c RaiseException vs o = raise_turn (raised (get_or vs 0 0) (get_or vs 1 0))
+      AfterCall c (record { code = low_below W32 (get_or vs 0 0); access = tt }) o
+
+  tested_turn : (c : Configuration) (slot : Slot) (label v : ℕ) → at_rest c
+      → Turn HasSmallNumbers (λ next. pick (nat_eq v 0) (next (at_label label (tested slot c)))
+      (next (forth (tested slot c))))
+  tested_turn c (Local x) label v o = pick_turn HasSmallNumbers (nat_eq v 0)
+      (λ next. next (at_label label c)) (λ next. next (forth c)) (λ e. goes _ (moved_to label c o))
+      (λ e. goes _ (moved_to (c.frame.next + 1) c o))
+  tested_turn c (Temporary i) label v o =
+      let d = with_last (take i c.frame.temporaries) c in
+      let p = with_fewer (take i c.frame.temporaries) c (all_taken i c.frame.temporaries o.0.0.temporaries) o in
+      pick_turn HasSmallNumbers (nat_eq v 0) (λ next. next (at_label label d))
+      (λ next. next (forth d)) (λ e. goes _ (moved_to label d p))
+      (λ e. goes _ (moved_to (c.frame.next + 1) d p))
+
+  module _ (c : Configuration) (o : at_rest c) where
+    act_turn : (i : Instruction) → Turn HasSmallNumbers (λ next. act program i next c)
+    act_turn (instructions.Compute to p first second) =
+        some_turn HasSmallNumbers c.events (operand (is_constant p) c first) _ (λ a e.
+        some_turn HasSmallNumbers c.events (operand (is_constant p) c second) _ (λ b g.
+        computed_turn c to (performed (is_reserved program.globals) p a b c.store.memory)
+        (outcome_small (is_reserved program.globals) p a b c.store.memory
+        (operand_small (is_constant p) c first a e o)
+        (operand_small (is_constant p) c second b g o)) o))
+    act_turn (instructions.Information to field) = written_turn c to
+        (field_of field c.frame.exception) (field_small field c.frame.exception o.0.0.exception) o
+    act_turn (instructions.Jump label) = goes _ (moved_to label c o)
+    act_turn (instructions.JumpIfZero slot label) = some_turn HasSmallNumbers c.events (read c slot)
+        _ (λ v e. tested_turn c slot label v o)
+    act_turn (instructions.Call f first count) =
+        some_turn HasSmallNumbers c.events (last_temporaries c.frame.temporaries first count) _ (λ vs e.
+        some_turn HasSmallNumbers c.events (slice_get program.functions f) _ (λ function g.
+        deeper_turn HasSmallNumbers 1 c.frame.held c.store c.events _ (goes _ (
+          (
+            record { temporaries = tt; exception = none_small; landed = tt },
+            (with_fewer (take first c.frame.temporaries) c
+                (all_taken first c.frame.temporaries o.0.0.temporaries) o).0,
+          ),
+          joined_small c.store.activations _ o.1
+              (all_joined vs _ (new_small _ (drop first c.frame.temporaries) vs e
+              (all_dropped first c.frame.temporaries o.0.0.temporaries))
+              (zeros (function.body.locals - function.parameters))),
+        ))))
+    act_turn (instructions.CallBuiltIn k first) =
+        some_turn HasSmallNumbers c.events (last_temporaries c.frame.temporaries first (count_of k)) _ (λ vs e.
+        built_in_turn (waiting c first) k vs (with_fewer (take first c.frame.temporaries) c
+        (all_taken first c.frame.temporaries o.0.0.temporaries) o))
+    act_turn (instructions.CallFinally k) = block_turn k c.frame.held false (Waits c.frame ∷ c.below) c o.0 o.1
+    act_turn (instructions.LocalUnwind label) = unwind_turn
+        (record { depth = length c.below; label = label; code = None; held = c.frame.held })
+        (Waits c.frame ∷ c.below) None c.events c.store tt o
+    act_turn (instructions.Landing to) =
+        some_turn HasSmallNumbers c.events c.frame.landed (λ next code. written (not_landed c) to code next) (λ code e.
+        written_turn (not_landed c) to code (code_small c.frame.landed code e o.0.0.landed) (
+          (
+            record { temporaries = o.0.0.temporaries; exception = o.0.0.exception; landed = tt },
+            o.0.1,
+          ),
+          o.1,
+        ))
+      where
+        code_small : (l : Option ℕ) (code : ℕ) → l ≡ Some code → IsSmallCode l → code < 2 ^ 64
+        code_small None code e h = absurd (cc)
+        code_small (Some x) code e h = let s = same_it x code e in omega arith
+    act_turn instructions.Separator = goes _ (moved_to (c.frame.next + 1) (with_last [] c) (with_fewer [] c tt o))
+    act_turn (instructions.Return from) = some_turn HasSmallNumbers c.events (read c from) _
+        (λ v e. end_turn c.frame.body v c (read_small c from v e o) o)
+
+  pub stays_small : (c d : Configuration) → IsTurn program c d → HasSmallNumbers c → HasSmallNumbers d
+  stays_small c d r p = kept HasSmallNumbers (λ next. act program r.instruction next c) d
+      (act_turn c (p.items, p.locals) r.instruction) r.goes
+
+  arguments_small : (b : Bool) (arg : ℤ) → AreSmall (if b then [] else wrapped W64 arg ∷ [])
+  arguments_small true arg = tt
+  arguments_small false arg = (wrapped_below W64 arg, tt)
+
+  starts_small : (arg : ℤ) (main : LinearFunction) → HasSmallNumbers (start program arg main)
+  starts_small arg main = record {
+    items = (record { temporaries = tt; exception = none_small; landed = tt }, tt);
+    locals = (
+      all_joined (main_arguments main.parameters arg) _
+          (arguments_small (nat_eq main.parameters 0) arg) (zeros (main.body.locals - main.parameters)),
+      tt,
+    );
+  }
+
+  pub reached_small : (c : Configuration) → IsReached program c → HasSmallNumbers c
+  reached_small c r = kept_by_all HasSmallNumbers program stays_small r.turns
+      (start program r.argument r.main) c r.comes (starts_small r.argument r.main)

@@ -1,0 +1,5 @@
+use Rattle.lowering_invariants.proofs.BlockSeparators as lemma
+use Rattle.lowering_invariants.proofs.place_laws.lowered_is_followed.Goals as goal
+
+pub returns : goal.returns
+returns c = record { followed = lemma.lowered_is_followed }

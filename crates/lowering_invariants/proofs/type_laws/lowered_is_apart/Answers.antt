@@ -1,0 +1,5 @@
+use Rattle.lowering_invariants.proofs.ReturnRegions as lemma
+use Rattle.lowering_invariants.proofs.type_laws.lowered_is_apart.Goals as goal
+
+pub returns : goal.returns
+returns c = record { apart = lemma.lowered_is_apart }

@@ -1,0 +1,38 @@
+-- Every number that is kept is one of 64 bits.
+use Rattle.std.specs.Prelude.{ℕ, ◌^◌, ◌<◌, Bool, List, [], ◌∷◌, Option, Some, None}
+use Rattle.std.specs.List.{AllByRecursion}
+use Rattle.source_meaning.specs.State.{Exception}
+use Rattle.linear_machine.specs.Frames.{Frame, Item, Waits, Searches, Unwinds, Configuration}
+
+abbrev pub AreSmall : List ℕ → Type 0
+AreSmall vs = AllByRecursion (λ v. v < 2 ^ 64) vs
+
+-- a code has 32 bits
+abbrev pub IsSmallCode : Option ℕ → Type 0
+IsSmallCode None = Unit {0}
+IsSmallCode (Some code) = code < 2 ^ 32
+
+abbrev pub IsSmallAccess : Option (Bool × ℕ) → Type 0
+IsSmallAccess None = Unit {0}
+IsSmallAccess (Some access) = access.1 < 2 ^ 64
+
+pub record IsSmallException (e : Exception) : Type 0 where
+  pub code : e.code < 2 ^ 32
+  pub access : IsSmallAccess e.access
+
+pub record IsSmallFrame (f : Frame) : Type 0 where
+  pub temporaries : AreSmall f.temporaries
+  pub exception : IsSmallException f.exception
+  pub landed : IsSmallCode f.landed
+
+abbrev pub AreSmallItems : List Item → Type 0
+AreSmallItems [] = Unit {0}
+AreSmallItems (Waits f ∷ below) = IsSmallFrame f × AreSmallItems below
+AreSmallItems (Searches exception resumption asked rest ∷ below) =
+    IsSmallException exception × AreSmallItems below
+AreSmallItems (Unwinds rest target ∷ below) = IsSmallCode target.code × AreSmallItems below
+
+-- in temporaries, locals and exceptions
+pub record HasSmallNumbers (c : Configuration) : Type 0 where
+  pub items : AreSmallItems (Waits c.frame ∷ c.below)
+  pub locals : AllByRecursion AreSmall c.store.activations

@@ -1,0 +1,28 @@
+//! Laws of places in the linear code of a program.
+
+ghost use Rattle.lowering_invariants.specs.PlaceLaws.{LoweredIsFollowed, LoweredHasSameRegions, LoweredStaysInside, LoweredHasFlags, LoweredInformsFilters};
+
+/// An instruction that does nothing is after each that runs `__finally` blocks.
+pub fn lowered_is_followed()
+    ensures followed { LoweredIsFollowed }
+{}
+
+/// Each region that holds a call holds the instruction after it, and no other one does.
+pub fn lowered_has_same_regions()
+    ensures same { LoweredHasSameRegions }
+{}
+
+/// Each local unwind goes to an instruction of its body.
+pub fn lowered_stays_inside()
+    ensures inside { LoweredStaysInside }
+{}
+
+/// The flag of each `__finally` block is one of the locals of its body.
+pub fn lowered_has_flags()
+    ensures flags { LoweredHasFlags }
+{}
+
+/// Only filters read their exception.
+pub fn lowered_informs_filters()
+    ensures filters { LoweredInformsFilters }
+{}

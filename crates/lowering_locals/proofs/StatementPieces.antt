@@ -1,0 +1,300 @@
+-- Expressions in statements, declarations and ways out, where they are beside their sets.
+use Rattle.std.proofs.Common.{◌≡◌, ◌⊎◌, inl, inr, ℕ, ◌+◌, ◌<◌, ◌≤◌, List, [], ◌∷◌, ◌++◌, length, refl, sym, subst, arith, length-append}
+use Rattle.std.proofs.lemmas.Bool.{ltb-true}
+use Rattle.std.proofs.lemmas.List.{length-replicate}
+use Rattle.std.specs.Prelude.{true, replicate, Option, Some, None}
+use Rattle.c_checked.specs.Expression.{Expression}
+use Rattle.c_checked.specs.Sound as sound
+use Rattle.c_checked.specs.Sound.{declared_sound, all_declared_sound}
+use Rattle.c_checked.specs.Statement.{Declared}
+use Rattle.linear_code.specs.declared.slot.Slot.TheVariants.{Local, Temporary}
+use Rattle.linear_code.specs.declared.instruction.Instruction.{Instruction}
+use Rattle.linear_code.specs.declared.instruction.Instruction.TheVariants as instructions
+use Rattle.linear_code.specs.Program.{LinearProgram}
+use Rattle.linear_machine.specs.Frames.{BodyName}
+use Rattle.lowering_sizes.specs.Sizes.{expression_size, discarded_size, condition_size, returned_size, declared_size, all_declared_size}
+use Rattle.lowering_expressions.specs.declared.scope.ExceptionSource.{ExceptionSource}
+use Rattle.lowering_expressions.specs.declared.scope.ExceptionSource.TheVariants.{NoException, OfFilter, KeptIn}
+use Rattle.lowering_expressions.specs.declared.scope.Names.{Names}
+use Rattle.lowering_expressions.specs.declared.scope.Way.{Way}
+use Rattle.lowering_expressions.specs.declared.scope.Way.TheVariants.{Nowhere, Jumps, Unwinds}
+use Rattle.lowering_expressions.specs.Expressions.{copy, expression_code}
+use Rattle.seh_ir.specs.Statements.{jump_code, return_code, leave_code, discarded_code, returned_code, condition_code, initialiser_code, declared_code, all_declared_code}
+use Rattle.lowering_expressions.proofs.Codes.{expression_length}
+use Rattle.seh_ir.proofs.StatementCodes.{discarded_length, declared_length}
+use Rattle.lowering_follows.proofs.Segments.{IsSegmentAt, front, back}
+use Rattle.lowering_invariants.proofs.PlainExpressions.{all_append}
+use Rattle.c_checked.specs.LocalScopes.{SeenNames, with_local, IsPart, expression_within, optional_within, after_declared, after_all_declared, declared_within, all_declared_within}
+use Rattle.c_checked.proofs.ScopeTests.{both_left, both_right, seen_cases, sees_before, part_with, within}
+use Rattle.lowering_locals.specs.Sets.{locals_at, Leads}
+use Rattle.lowering_locals.specs.Places.{initialiser_size, declared_sets, all_declared_sets, set_in}
+use Rattle.lowering_locals.proofs.StraightCode.{is_same, is_same_back, head_recorded, Even, even_part, even_list, Fine, AllFine, AllLead, both_lead, straight}
+use Rattle.lowering_locals.proofs.ExpressionSets.{CodeIn, FlagIn, IsAround, expression_fine}
+use Rattle.lowering_locals.proofs.SetLists.{declared_long, all_declared_long, replicate_first, all_declared_first, begins, initialiser_is}
+
+-- ---- what is recorded around a part, with one more local
+
+pub code_kept : (seen more : SeenNames) (s : ExceptionSource) → IsPart seen more → CodeIn seen s
+    → CodeIn more s
+code_kept seen more NoException p h = tt
+code_kept seen more OfFilter p h = tt
+code_kept seen more (KeptIn x) p h = p x h
+
+pub flag_kept : (seen more : SeenNames) (o : Option ℕ) → IsPart seen more → FlagIn seen o
+    → FlagIn more o
+flag_kept seen more None p h = tt
+flag_kept seen more (Some x) p h = p x h
+
+pub below_with : (locals x : ℕ) (seen : SeenNames) → ((y : ℕ) → seen y ≡ true → y < locals)
+    → x < locals → (y : ℕ) → with_local x seen y ≡ true → y < locals
+below_with locals x seen below lt y h = of (seen_cases seen x y h)
+  where
+    of : (y ≡ x) ⊎ (seen y ≡ true) → y < locals
+    of (inl e) = subst (λ z. z < locals) (sym e) lt
+    of (inr e) = below y e
+
+pub around_declared : (locals : ℕ) (names : Names) (before seen : SeenNames) (x : ℕ) → x < locals
+    → IsAround locals names before seen → IsAround locals names (with_local x before)
+    (with_local x seen)
+around_declared locals names before seen x lt a = record {
+  part = part_with before seen x a.part;
+  below = below_with locals x seen a.below lt;
+  code = code_kept seen (with_local x seen) names.exception (sees_before seen x) a.code;
+  flag = flag_kept seen (with_local x seen) names.abnormal (sees_before seen x) a.flag;
+}
+
+pub declared_small : (s : sound.TypingContext) (d : Declared) (locals : ℕ) → length s.sizes ≤ locals
+    → declared_sound s d ≡ true → d.local < locals
+declared_small s d locals le ok = let lt = ltb-true d.local (length s.sizes) (both_left _ _ ok) in
+    omega arith
+
+pub around_all_declared : (locals : ℕ) (names : Names) (s : sound.TypingContext)
+    (ds : List Declared) (before seen : SeenNames) → length s.sizes ≤ locals
+    → all_declared_sound s ds ≡ true → IsAround locals names before seen
+    → IsAround locals names (after_all_declared before ds) (after_all_declared seen ds)
+around_all_declared locals names s [] before seen le ok a = a
+around_all_declared locals names s (d ∷ ds) before seen le ok a =
+    around_all_declared locals names s ds (after_declared before d) (after_declared seen d) le
+    (both_right _ _ ok) (around_declared locals names before seen d.local
+    (declared_small s d locals le (both_left _ _ ok)) a)
+
+module _ (linear : LinearProgram) (lists : BodyName → List SeenNames) (name : BodyName) where
+  abbrev pub sets : BodyName → ℕ → SeenNames
+  sets n label = set_in (lists n) label
+
+  abbrev pub At : ℕ → List SeenNames → Type 0
+  At at ys = IsSegmentAt (lists name) at ys
+
+  abbrev pub IsRecordedAt : ℕ → SeenNames → Type 0
+  IsRecordedAt label seen = IsPart (sets name label) seen
+
+  abbrev pub Lead : ℕ → List Instruction → Type 0
+  Lead at code = AllLead linear sets name at code
+
+  -- where ways out lead to, no more is recorded
+  abbrev pub WayIn : SeenNames → Way → Type 0
+  WayIn seen Nowhere = Unit {0}
+  WayIn seen (Jumps label) = IsRecordedAt label seen
+  WayIn seen (Unwinds label) = IsRecordedAt label seen
+
+  abbrev pub LabelIn : SeenNames → Option ℕ → Type 0
+  LabelIn seen None = Unit {0}
+  LabelIn seen (Some label) = IsRecordedAt label seen
+
+  -- ---- single instructions
+
+  pub from_here : (at label : ℕ) (seen : SeenNames) → sets name at ≡ seen → IsRecordedAt label seen
+      → IsPart (sets name label) (sets name at)
+  from_here at label seen e t = within (sets name label) seen (sets name at) t
+      (is_same_back (sets name at) seen e)
+
+  -- from one instruction to the next, and from that one to the one after the piece
+  abbrev Onward : ℕ → Type 0
+  Onward at = IsPart (sets name (at + 1)) (sets name at)
+      × IsPart (sets name (at + 1 + 1)) (sets name (at + 1))
+
+  onward : (at : ℕ) (seen : SeenNames) → Even (sets name) seen at (at + 2) → Onward at
+  onward at seen e = (
+    from_here at (at + 1) seen (e.inside at (omega arith) (omega arith))
+        (is_same (sets name (at + 1)) seen second),
+    from_here (at + 1) (at + 1 + 1) seen second (subst (λ n. IsRecordedAt n seen) same e.end),
+  )
+    where
+      second : sets name (at + 1) ≡ seen
+      second = e.inside (at + 1) (omega arith) (omega arith)
+
+      same : at + 2 ≡ at + 1 + 1
+      same = omega arith
+
+  leads_there : (at label : ℕ) (seen : SeenNames) → IsRecordedAt label seen
+      → Even (sets name) seen at (at + 2) → IsPart (sets name label) (sets name at)
+  leads_there at label seen h e = from_here at label seen (e.inside at (omega arith) (omega arith))
+      h
+
+  pub jump_leads : (w : Way) (at : ℕ) (seen : SeenNames) → WayIn seen w
+      → Even (sets name) seen at (at + 2) → Lead at (jump_code w)
+  jump_leads Nowhere at seen h e = let o = onward at seen e in (o.0, (o.1, tt))
+  jump_leads (Jumps label) at seen h e = let o = onward at seen e in
+      (leads_there at label seen h e, (o.1, tt))
+  jump_leads (Unwinds label) at seen h e = let o = onward at seen e in
+      (leads_there at label seen h e, (o.1, tt))
+
+  pub return_leads : (w : Way) (at : ℕ) (seen : SeenNames) → WayIn seen w
+      → Even (sets name) seen at (at + 2) → Lead at (return_code w)
+  return_leads Nowhere at seen h e = let o = onward at seen e in (o.0, (o.1, tt))
+  return_leads (Jumps label) at seen h e = let o = onward at seen e in (tt, (o.1, tt))
+  return_leads (Unwinds label) at seen h e = let o = onward at seen e in
+      (leads_there at label seen h e, (o.1, tt))
+
+  pub leave_leads : (w : Option ℕ) (at : ℕ) (seen : SeenNames) → LabelIn seen w
+      → Even (sets name) seen at (at + 1) → Lead at (leave_code w ∷ [])
+  leave_leads None at seen h e = (
+    from_here at (at + 1) seen
+        (e.inside at (omega arith) (omega arith)) e.end,
+    tt,
+  )
+  leave_leads (Some label) at seen h e = (
+    from_here at label seen
+        (e.inside at (omega arith) (omega arith)) h,
+    tt,
+  )
+
+  -- ---- expressions
+
+  module _ (locals : ℕ) (room : locals_at linear name ≡ locals) (names : Names)
+      (before seen : SeenNames) (around : IsAround locals names before seen) where
+    abbrev AllOk : ℕ → ℕ → List Instruction → Type 0
+    AllOk lo hi code = AllFine locals lo hi seen code
+
+    used_fine : (e : Expression) (lo hi at : ℕ) (rest : List Instruction)
+        → expression_within before e ≡ true → lo ≤ at → at + expression_size e ≤ hi → AllOk lo hi rest
+        → AllOk lo hi (expression_code names e 0 at ++ rest)
+    used_fine e lo hi at rest w a b h = all_append (Fine locals lo hi seen)
+        (expression_code names e 0 at) rest (expression_fine locals names before seen around lo hi e 0
+        at w a b) h
+
+    even_leads : (lo hi at : ℕ) (code : List Instruction) → Even (sets name) seen lo hi → lo ≤ at
+        → at + length code ≤ hi → AllOk lo hi code → Lead at code
+    even_leads lo hi at code e a b h = straight linear sets name locals room seen lo hi e at code a
+        b h
+
+    pub value_leads : (e : Expression) (at : ℕ) → expression_within before e ≡ true
+        → Even (sets name) seen at (at + expression_size e) → Lead at (expression_code names e 0 at)
+    value_leads e at w v =
+        let hi = at + expression_size e in
+        let l = expression_length names e 0 at in
+        even_leads at hi at (expression_code names e 0 at) v (omega arith) (omega arith)
+        (expression_fine locals names before seen around at hi e 0 at w (omega arith)
+        (omega arith))
+
+    pub discarded_leads : (e : Option Expression) (at : ℕ) → optional_within before e ≡ true
+        → Even (sets name) seen at (at + discarded_size e) → Lead at (discarded_code names e at)
+    discarded_leads None at w v = tt
+    discarded_leads (Some e) at w v =
+        let hi = at + discarded_size (Some e) in
+        let l = discarded_length names (Some e) at in
+        even_leads at hi at (discarded_code names (Some e) at) v (omega arith) (omega arith)
+        (used_fine e at hi at (instructions.Separator ∷ []) w (omega arith) (omega arith)
+        (tt, tt))
+
+    pub returned_leads : (e : Option Expression) (at : ℕ) → optional_within before e ≡ true
+        → Even (sets name) seen at (at + returned_size e) → Lead at (returned_code names e at)
+    returned_leads None at w v = even_leads at (at + 1) at (returned_code names None at) v
+        (omega arith) (omega arith) ((tt, tt), tt)
+    returned_leads (Some e) at w v = value_leads e at w v
+
+    -- to a label beyond, where the condition is 0
+    pub test_leads : (at label i : ℕ) → sets name at ≡ seen → IsRecordedAt label seen
+        → IsRecordedAt (at + 1) seen → Leads linear sets name at
+        (instructions.JumpIfZero (Temporary i) label)
+    test_leads at label i e t n = (tt, from_here at label seen e t, from_here at (at + 1) seen e n)
+
+    pub condition_leads : (e : Option Expression) (label at : ℕ) → optional_within before e ≡ true
+        → IsRecordedAt label seen → Even (sets name) seen at (at + condition_size e)
+        → Lead at (condition_code names e label at)
+    condition_leads None label at w t v = tt
+    condition_leads (Some e) label at w t v =
+        let place = at + expression_size e in
+        let l = expression_length names e 0 at in
+        let same : at + condition_size (Some e) ≡ place + 1 = omega arith in
+        both_lead linear sets name at place (expression_code names e 0 at)
+        (instructions.JumpIfZero (Temporary 0) label ∷ []) (omega arith)
+        (value_leads e at w (even_part (sets name) seen at (at + condition_size (Some e)) at place v
+        (omega arith) (omega arith) (omega arith))) (
+          test_leads place label 0 (v.inside place (omega arith) (omega arith)) t
+              (subst (λ n. IsRecordedAt n seen) same v.end),
+          tt,
+        )
+
+    pub initialiser_leads : (x : ℕ) (e : Option Expression) (at : ℕ) → x < locals
+        → optional_within before e ≡ true → Even (sets name) seen at (at + initialiser_size e)
+        → Lead at (initialiser_code names x e at)
+    initialiser_leads x None at lt w v = tt
+    initialiser_leads x (Some e) at lt w v =
+        let hi = at + initialiser_size (Some e) in
+        let l = expression_length names e 0 at in
+        let m = length-append (expression_code names e 0 at)
+        (copy (Local x) (Temporary 0) ∷ instructions.Separator ∷ []) in
+        even_leads at hi at (initialiser_code names x (Some e) at) v (omega arith) (omega arith)
+        (used_fine e at hi at (copy (Local x) (Temporary 0) ∷ instructions.Separator ∷ []) w
+        (omega arith) (omega arith) (((tt, tt), lt), (tt, tt)))
+
+  -- ---- declarations
+
+  module _ (locals : ℕ) (room : locals_at linear name ≡ locals) (names : Names)
+      (s : sound.TypingContext) (fits : length s.sizes ≤ locals) where
+    pub declared_leads : (d : Declared) (before seen : SeenNames) (at : ℕ)
+        → IsAround locals names before seen → declared_sound s d ≡ true
+        → declared_within before d ≡ true → At at (declared_sets seen d)
+        → IsRecordedAt (at + declared_size d) (after_declared seen d)
+        → Lead at (declared_code names d at)
+    declared_leads d before seen at a ok w h end =
+        let x = d.local in
+        let lt = declared_small s d locals fits ok in
+        let n = initialiser_size d.value in
+        let i = initialiser_is d.value in
+        let l = length-replicate n (after_declared seen d) in
+        let same : at + declared_size d ≡ at + 1 + n = omega arith in
+        let end' : IsRecordedAt (at + 1 + n) (after_declared seen d) = subst
+        (λ k. IsRecordedAt k (after_declared seen d)) same end in
+        let first = head_recorded (lists name) at seen (replicate n (after_declared seen d)) h in
+        let next : IsRecordedAt (at + 1) (after_declared seen d) = begins (lists name) (at + 1)
+        (at + 1 + n) (replicate n (after_declared seen d)) (after_declared seen d)
+        (after_declared seen d) h.1 (replicate_first n (after_declared seen d)) (omega arith)
+        end' in (
+          (
+            tt,
+            subst (λ k. x < k) (sym room) lt,
+            subst (λ (f : SeenNames). IsPart (sets name (at + 1)) (with_local x f)) (sym first)
+                next,
+          ),
+          initialiser_leads locals room names (after_declared before d) (after_declared seen d)
+              (around_declared locals names before seen x lt a) x d.value (at + 1) lt w
+              (even_list (lists name) (after_declared seen d) n (at + 1) (at + 1 + n) refl h.1 end'),
+        )
+
+    pub all_declared_leads : (ds : List Declared) (before seen : SeenNames) (at to : ℕ)
+        → at + all_declared_size ds ≡ to → IsAround locals names before seen
+        → all_declared_sound s ds ≡ true → all_declared_within before ds ≡ true
+        → At at (all_declared_sets seen ds)
+        → IsRecordedAt to (after_all_declared seen ds) → Lead at (all_declared_code names ds at)
+    all_declared_leads [] before seen at to e a ok w h end = tt
+    all_declared_leads (d ∷ ds) before seen at to e a ok w h end =
+        let mid = at + declared_size d in
+        let xs = declared_sets seen d in
+        let ys = all_declared_sets (after_declared seen d) ds in
+        let m = declared_long d seen in
+        let n = all_declared_long ds (after_declared seen d) in
+        let rest = back (lists name) at mid xs ys (omega arith) h in
+        let l = declared_length names d at in
+        let start = begins (lists name) mid to ys (after_declared seen d)
+        (after_all_declared (after_declared seen d) ds) rest
+        (all_declared_first ds (after_declared seen d)) (omega arith) end in
+        both_lead linear sets name at mid (declared_code names d at)
+        (all_declared_code names ds mid) (omega arith)
+        (declared_leads d before seen at a (both_left _ _ ok) (both_left _ _ w)
+        (front (lists name) at xs ys h) start)
+        (all_declared_leads ds (after_declared before d) (after_declared seen d) mid to
+        (omega arith) (around_declared locals names before seen d.local
+        (declared_small s d locals fits (both_left _ _ ok)) a) (both_right _ _ ok)
+        (both_right _ _ w) rest end)

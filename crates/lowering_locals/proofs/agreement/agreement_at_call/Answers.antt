@@ -1,0 +1,5 @@
+use Rattle.lowering_locals.proofs.AgreementSteps as lemma
+use Rattle.lowering_locals.proofs.agreement.agreement_at_call.Goals as goal
+
+pub returns : goal.returns
+returns c = record { agreement = lemma.agreement_at_call }

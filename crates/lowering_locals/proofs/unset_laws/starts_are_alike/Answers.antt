@@ -1,0 +1,5 @@
+use Rattle.lowering_locals.proofs.Alike as lemma
+use Rattle.lowering_locals.proofs.unset_laws.starts_are_alike.Goals as goal
+
+pub returns : goal.returns
+returns c = record { alike = lemma.starts_are_alike }

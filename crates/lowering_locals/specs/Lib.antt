@@ -1,0 +1,10 @@
+pub mod Marks
+pub mod Alike
+pub mod Reads
+pub mod UnsetLaws
+pub mod Agreement
+pub mod Sets
+pub mod Lives
+pub mod SetLaws
+pub mod Places
+pub mod ScopedLaws

@@ -1,0 +1,58 @@
+-- Other numbers in the locals of one activation leave the others as they are.
+use Rattle.std.proofs.Common.{◌≡◌, ℕ, suc, ◌<◌, Bool, true, false, List, [], ◌∷◌, length, refl, sym, ap, ◌∙◌, arith, inl, inr}
+use Rattle.std.specs.Prelude.{◌==◌}
+use Rattle.std.proofs.lemmas.Bool.{eq-eqb, ne_eqb}
+use Rattle.match_stack.specs.ItemMatches.{Activation, IsActivation}
+use Rattle.match_bodies.specs.SlotStores.{with_values_if, with_values}
+
+-- ---- activations
+
+pub with_count : (acts : List Activation) (k : ℕ) (values : List ℕ)
+    → length (with_values acts k values) ≡ length acts
+with_count [] k values = refl
+with_count (a ∷ outer) k values = by (k == length outer) (with_count outer k values)
+  where
+    by : (b : Bool) → length (with_values outer k values) ≡ length outer
+        → length (with_values_if b a outer values (with_values outer k values)) ≡ length (a ∷ outer)
+    by true e = refl
+    by false e = ap suc e
+
+pub is_lower : (acts : List Activation) (k base distance : ℕ) → IsActivation acts k base distance
+    → k < length acts
+is_lower [] k base distance i = absurd i
+is_lower (a ∷ outer) k base distance (inl b) = omega (arith, b.number)
+is_lower (a ∷ outer) k base distance (inr i) = let e = is_lower outer k base distance i in
+    omega arith
+
+-- each activation has the base that it had
+pub still_is : (acts : List Activation) (k : ℕ) (values : List ℕ) (j base distance : ℕ)
+    → IsActivation acts j base distance → IsActivation (with_values acts k values) j base distance
+still_is [] k values j base distance i = absurd i
+still_is (a ∷ outer) k values j base distance i = by (k == length outer) i
+    (λ h. still_is outer k values j base distance h)
+  where
+    by : (b : Bool) → IsActivation (a ∷ outer) j base distance
+        → (IsActivation outer j base distance → IsActivation (with_values outer k values) j base
+        distance) → IsActivation (with_values_if b a outer values (with_values outer k values)) j
+        base distance
+    by true (inl h) rest = inl (record { number = h.number; base = h.base; distance = h.distance })
+    by true (inr h) rest = inr h
+    by false (inl h) rest = inl (record {
+      number = h.number ∙ sym (with_count outer k values);
+      base = h.base;
+      distance = h.distance;
+    })
+    by false (inr h) rest = inr (rest h)
+
+-- the first one, and one of the others
+pub first_changes : (a : Activation) (outer : List Activation) (k : ℕ) (values : List ℕ)
+    → k ≡ length outer → with_values (a ∷ outer) k values ≡ record a { values = values } ∷ outer
+first_changes a outer k values e = ap (λ b. with_values_if b a outer values
+    (with_values outer k values)) (eq-eqb k (length outer) e)
+
+pub later_changes : (a : Activation) (outer : List Activation) (k : ℕ) (values : List ℕ)
+    → k < length outer → with_values (a ∷ outer) k values ≡ a ∷ with_values outer k values
+later_changes a outer k values lt = ap (λ b. with_values_if b a outer values
+    (with_values outer k values)) (ne_eqb k (length outer) (λ e. absurd (omega arith)))
+
+-- ---- the list

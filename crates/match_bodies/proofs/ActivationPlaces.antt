@@ -1,0 +1,175 @@
+-- Where the locals of an activation are in the list.
+use Rattle.std.proofs.Common.{◌≡◌, ℕ, zero, suc, ◌+◌, ◌*◌, ◌≤◌, Some, List, [], ◌∷◌, ◌++◌, length, refl, sym, subst, ◌∙◌, arith, inl, inr, length-append}
+use Rattle.std.specs.Prelude.{slice_get}
+use Rattle.host_layout.specs.declared.range.TheConstants.{STACK_END}
+use Rattle.flat_memory.specs.Memory.{Memory}
+use Rattle.x64_machine.specs.declared.context.Context.{Context}
+use Rattle.x64_machine.specs.Contexts.{context_of}
+use Rattle.virtual_unwind.specs.Contexts.{rsp}
+use Rattle.virtual_unwind.specs.CallerOf.{Functions}
+use Rattle.host_model.specs.declared.funclet.Funclet.{Funclet}
+use Rattle.template_code.specs.declared.layout.Layout.{Layout}
+use Rattle.linear_code.specs.Program.{LinearProgram}
+use Rattle.linear_machine.specs.Frames.{BodyName, FunctionBody, FuncletBody, Item, Waits, Searches, Unwinds}
+use Rattle.match_stack.specs.Stack.{StackItem, Framed, Leaf, Searching, Unwinding, IsStack, after_frame, after_leaf}
+use Rattle.match_stack.proofs.ItemVisits.{set_head}
+use Rattle.match_stack.proofs.StackKeeping.{rises}
+use Rattle.match_stack.specs.ImagePlan.{ImagePlan}
+use Rattle.match_stack.specs.ItemMatches.{Activation, locals_of, activations_below, HoldsWords, HasActivation, HoldsLocals, IsActivation, ActivationHasBase, home_end, Linked}
+use Rattle.match_stack.proofs.ListEnds.{words_fit, in_stack}
+use Rattle.match_bodies.specs.SlotStores.{ActivationIsAt, ActivationsAreAt}
+
+-- ---- lists
+
+pub locals_count : (acts : List Activation) → length (locals_of acts) ≡ length acts
+locals_count [] = refl
+locals_count (a ∷ outer) = omega (
+  arith,
+  length-append (locals_of outer) (a.values ∷ []),
+  locals_count outer,
+)
+
+pub got_before : {A : Type 0} → (xs ys : List A) (k : ℕ) (x : A) → slice_get xs k ≡ Some x
+    → slice_get (xs ++ ys) k ≡ Some x
+got_before [] ys k x h = cc
+got_before (y ∷ xs) ys zero x h = h
+got_before (y ∷ xs) ys (suc k) x h = got_before xs ys k x h
+
+pub got_last : {A : Type 0} → (xs : List A) (y : A) → slice_get (xs ++ y ∷ []) (length xs) ≡ Some y
+got_last [] y = refl
+got_last (x ∷ xs) y = got_last xs y
+
+pub words_shorter : (m : Memory) (at end : ℕ) (vs : List ℕ) → HoldsWords m at end vs
+    → HoldsWords m at (at + 8 * length vs) vs
+words_shorter m at end [] h = omega arith
+words_shorter m at end (v ∷ vs) h = (
+  h.0,
+  let e : at + 8 + 8 * length vs
+      ≡ at + 8 * length (v ∷ vs) = omega arith in
+      subst (λ x. HoldsWords m (at + 8) x vs) e (words_shorter m (at + 8) end vs h.1),
+)
+
+-- ---- the list
+
+module _ (t : Functions) (fs : List Funclet) (program : LinearProgram) (p : ImagePlan) where
+  higher : (m : Memory) (low above k base distance : ℕ) (acts : List Activation) → low ≤ above
+      → ActivationIsAt t fs program p m above k base distance acts
+      → ActivationIsAt t fs program p m low k base distance acts
+  higher m low above k base distance acts le a = let l = a.low_end in
+      record {
+        values = a.values;
+        number = a.number;
+        low_end = omega arith;
+        high_end = a.high_end;
+        holds = a.holds;
+      }
+
+  one_more : (m : Memory) (low k base distance : ℕ) (a : Activation) (outer : List Activation)
+      → ActivationIsAt t fs program p m low k base distance outer
+      → ActivationIsAt t fs program p m low k base distance (a ∷ outer)
+  one_more m low k base distance a outer s = record {
+    values = s.values;
+    number = got_before (locals_of outer) (a.values ∷ []) k s.values s.number;
+    low_end = s.low_end;
+    high_end = s.high_end;
+    holds = s.holds;
+  }
+
+  -- in a function's own frame
+  own : (m : Memory) (y : Layout) (sp size number k base distance : ℕ) (a : Activation)
+      (outer : List Activation) → HoldsLocals m y sp size number a outer
+      → ActivationHasBase k base distance a outer → sp + size ≤ STACK_END
+      → ActivationIsAt t fs program p m sp k base distance (a ∷ outer)
+  own m y sp size number k base distance a outer h b le =
+      let at : sp + y.locals ≡ base + distance = omega
+      (arith, h.activation.base, h.activation.distance, b.base, b.distance) in
+      let fit = words_fit m (sp + y.locals) (sp + size) a.values h.values in
+      let n : length (locals_of outer) ≡ k = locals_count outer ∙ sym b.number in
+      record {
+        values = a.values;
+        number = subst (λ x. slice_get (locals_of outer ++ a.values ∷ []) x ≡ Some a.values) n
+            (got_last (locals_of outer) a.values);
+        low_end = omega arith;
+        high_end = omega arith;
+        holds = subst (λ x. HoldsWords m x (x + 8 * length a.values) a.values) at
+            (words_shorter m (sp + y.locals) (sp + size) a.values h.values);
+      }
+
+  -- a body's activation, or one of those below it
+  in_body : (m : Memory) (y : Layout) (sp size number above k base distance : ℕ)
+      (acts : List Activation) (name : BodyName) → HasActivation m y sp size number acts name
+      → IsActivation acts k base distance → sp + size ≤ STACK_END → sp ≤ above
+      → (IsActivation (activations_below name acts) k base distance
+      → ActivationIsAt t fs program p m above k base distance (activations_below name acts))
+      → ActivationIsAt t fs program p m sp k base distance acts
+  in_body m y sp size number above k base distance [] name h i le up rest = absurd i
+  in_body m y sp size number above k base distance (a ∷ outer) (FunctionBody f) h (inl b) le up
+      rest =
+      own m y sp size number k base distance a outer h b le
+  in_body m y sp size number above k base distance (a ∷ outer) (FunctionBody f) h (inr i) le up
+      rest =
+      one_more m sp k base distance a outer
+      (higher m sp above k base distance outer up (rest i))
+  in_body m y sp size number above k base distance (a ∷ outer) (FuncletBody j) h i le up rest =
+      higher m sp above k base distance (a ∷ outer) up (rest i)
+
+  pub are_there : (m : Memory) (c : Context) (is : List StackItem) (items : List Item)
+      (acts : List Activation) (k base distance : ℕ) → IsStack t m c is
+      → Linked t fs program p m c is items acts → IsActivation acts k base distance
+      → ActivationIsAt t fs program p m (rsp c) k base distance acts
+  are_there m c [] [] acts k base distance s h i = absurd
+      (subst (λ a. IsActivation a k base distance) h.0 i)
+  are_there m c (Framed f ∷ is) (Waits b ∷ below) acts k base distance s h i =
+      let nine = s.0.kept in
+      let e : rsp (after_frame c f) ≡ rsp c + f.size
+      + 8 = set_head c.kept (rsp c + f.size + 8) (omega arith) in
+      let l = in_stack t fs program p m (after_frame c f) is below (activations_below b.body acts)
+      s.1 h.2 in
+      in_body m (p.layout b.body) (rsp c) f.size b.activation (rsp (after_frame c f)) k base
+      distance acts b.body h.0.waits.activation i (omega arith) (omega arith)
+      (λ j. are_there m (after_frame c f) is below (activations_below b.body acts) k base distance
+      s.1 h.2 j)
+  are_there m c (Leaf back ∷ is) (Waits b ∷ below) acts k base distance s h i =
+      let e = rises t m c (Leaf back) s.0 in
+      let home = h.0.home in
+      let w = words_fit m (rsp c + (p.layout b.body).temporaries) (rsp c + home_end) b.temporaries
+      h.0.waits.temporaries in
+      in_body m (p.layout b.body) (rsp c) (p.layout b.body).temporaries b.activation
+      (rsp (after_leaf c back)) k base distance acts b.body h.0.waits.activation i (omega arith)
+      (omega arith)
+      (λ j. are_there m (after_leaf c back) is below (activations_below b.body acts) k base distance
+      s.1 h.2 j)
+  are_there m c (Searching r ∷ is) (Searches exception resumption asked rest ∷ below) acts k base
+      distance s h i =
+      let e = rises t m c (Searching r) s.0 in
+      higher m (rsp c) (rsp (context_of r.saved)) k base distance acts (omega arith)
+      (are_there m (context_of r.saved) is below acts k base distance s.1 h.1 i)
+  are_there m c (Unwinding r ∷ is) (Unwinds rest target ∷ below) acts k base distance s h i =
+      let e = rises t m c (Unwinding r) s.0 in
+      higher m (rsp c) (rsp r.walk) k base distance acts (omega arith)
+      (are_there m r.walk is below acts k base distance s.1 h.1 i)
+  are_there m c [] (j ∷ items) acts k base distance s h i = absurd h
+  are_there m c (Framed f ∷ is) [] acts k base distance s h i = absurd h
+  are_there m c (Framed f ∷ is) (Searches exception resumption asked rest ∷ below) acts k base
+      distance s h i =
+      absurd h
+  are_there m c (Framed f ∷ is) (Unwinds rest target ∷ below) acts k base distance s h i = absurd h
+  are_there m c (Leaf back ∷ is) [] acts k base distance s h i = absurd h
+  are_there m c (Leaf back ∷ is) (Searches exception resumption asked rest ∷ below) acts k base
+      distance s h i =
+      absurd h
+  are_there m c (Leaf back ∷ is) (Unwinds rest target ∷ below) acts k base distance s h i = absurd h
+  are_there m c (Searching r ∷ is) [] acts k base distance s h i = absurd h
+  are_there m c (Searching r ∷ is) (Waits b ∷ below) acts k base distance s h i = absurd h
+  are_there m c (Searching r ∷ is) (Unwinds rest target ∷ below) acts k base distance s h i = absurd
+      h
+  are_there m c (Unwinding r ∷ is) [] acts k base distance s h i = absurd h
+  are_there m c (Unwinding r ∷ is) (Waits b ∷ below) acts k base distance s h i = absurd h
+  are_there m c (Unwinding r ∷ is) (Searches exception resumption asked rest ∷ below) acts k base
+      distance s h i =
+      absurd h
+
+pub activations_are_at : (t : Functions) (fs : List Funclet) (program : LinearProgram)
+    (p : ImagePlan) → ActivationsAreAt t fs program p
+activations_are_at t fs program p m c is items acts k base distance s i = are_there t fs program p m
+    c is items acts k base distance s.stack s.linked i

@@ -1,0 +1,267 @@
+-- A body that waits runs again.
+use Rattle.std.proofs.Common.{◌≡◌, ℕ, ◌+◌, ◌^◌, ◌<◌, ◌≤◌, Bool, true, false, List, [], ◌∷◌, length, Option, Some, None, Ok, refl, sym, ap, subst, ◌∙◌, arith}
+use Rattle.std.specs.Prelude.{slice_set, slice_get}
+use Rattle.std.specs.List.{AllByRecursion}
+use Rattle.std.proofs.lemmas.List.{length-set}
+use Rattle.seh_num.specs.declared.event.Event.{Event}
+use Rattle.host_layout.specs.declared.range.TheConstants.{STACK_END}
+use Rattle.flat_memory.specs.Memory.{Memory}
+use Rattle.x64_instr.specs.declared.register.Reg.TheVariants.{Rsp}
+use Rattle.x64_machine.specs.declared.context.Context.{Context}
+use Rattle.x64_machine.specs.Contexts.{context_of}
+use Rattle.x64_machine.specs.Effect.{State, register}
+use Rattle.eh_tables.specs.declared.code.UnwindCode.{UnwindCode}
+use Rattle.eh_tables.specs.declared.code.UnwindOperation.{UnwindOperation}
+use Rattle.eh_tables.specs.declared.code.UnwindOperation.TheVariants.{Allocate}
+use Rattle.eh_tables.specs.Tables.{Entry}
+use Rattle.virtual_unwind.specs.Contexts.{rsp}
+use Rattle.virtual_unwind.specs.CallerOf.{Functions}
+use Rattle.virtual_unwind.specs.Undone.{word}
+use Rattle.host_model.specs.declared.funclet.Funclet.{Funclet}
+use Rattle.template_code.specs.declared.layout.Layout.{Layout}
+use Rattle.linear_code.specs.declared.program.Region.{Region}
+use Rattle.linear_code.specs.Program.{LinearProgram, LinearBody, LinearFunclet}
+use Rattle.linear_machine.specs.Frames.{BodyName, FunctionBody, FuncletBody, Frame, Item, Waits, Searches, Unwinds, body_of}
+use Rattle.linear_machine.specs.Regions.{holds, regions_of}
+use Rattle.match_stack.specs.Stack.{StackFrame, StackItem, Framed, Leaf, FrameIsAt, after_frame, after_leaf}
+use Rattle.match_stack.specs.WalkLaws.{context_below}
+use Rattle.match_stack.proofs.ItemVisits.{set_head}
+use Rattle.match_stack.specs.ImagePlan.{ImagePlan, InCode}
+use Rattle.match_stack.specs.ItemMatches.{Activation, activations_below, HoldsWords, HasActivation, temporaries_end, home_end, HasSpace, below_end, BodyWaits, HasPointers, IsAbove, FuncletIsAbove}
+use Rattle.match_stack.specs.StackRecords.{On}
+use Rattle.match_stack.specs.HostUnwind.{on_top}
+use Rattle.match_bodies.specs.CodeSites.{Sites}
+use Rattle.match_bodies.specs.Layouts.{IsLaidOut}
+use Rattle.match_bodies.specs.ProgramImages.{IsProgramImage}
+use Rattle.match_bodies.specs.Bodies.{slots_end, last_temporary, InBody}
+use Rattle.match_bodies.proofs.StackContexts.{on_moved}
+use Rattle.match_bodies.proofs.StackTop.{leaf_layout}
+
+-- ---- the size of a frame
+
+abbrev size_by : ℕ → UnwindOperation → ℕ
+size_by d (Allocate n) = n
+size_by d o = d
+
+abbrev size_of : ℕ → List UnwindCode → ℕ
+size_of d [] = d
+size_of d (x ∷ xs) = size_by d x.operation
+
+same_size : (offset offset' size size' : ℕ) (codes : List UnwindCode)
+    → codes ≡ record { offset = offset; operation = Allocate size } ∷ []
+    → codes ≡ record { offset = offset'; operation = Allocate size' } ∷ [] → size ≡ size'
+same_size offset offset' size size' codes a b = ap (size_of 0) (sym a ∙ b)
+
+all_same : (label : ℕ) (rs : List Region) → AllByRecursion
+    (λ (r : Region). holds label r ≡ holds label r) rs
+all_same label [] = tt
+all_same label (r ∷ rs) = (refl, all_same label rs)
+
+-- the body continues at an instruction, with these temporaries
+abbrev pub again : Frame → ℕ → List ℕ → Option ℕ → Frame
+again b label ts landed = record b { next = label; temporaries = ts; landed = landed }
+
+-- where some words are, these do: the first of them, or none
+abbrev pub IsFront : Memory → List ℕ → List ℕ → Type 0
+IsFront m vs ts = (at end : ℕ) → HoldsWords m at end vs → HoldsWords m at end ts
+
+module _ (t : Functions) (fs : List Funclet) (program : LinearProgram) (p : ImagePlan) (q : Sites)
+  where
+    abbrev IsFunctionName : BodyName → Type 0
+    IsFunctionName (FunctionBody f) = Unit {0}
+    IsFunctionName (FuncletBody k) = ⊥
+
+    leaf_is_function : (name : BodyName) (b : LinearBody) → p.leaf name ≡ true
+        → IsLaidOut program p name b → IsFunctionName name
+    leaf_is_function (FunctionBody f) b e h = tt
+    leaf_is_function (FuncletBody k) b e h = let z : true ≡ false = sym e ∙ h.framed in absurd cc
+
+    -- a function keeps no EXCEPTION_POINTERS
+    leaf_pointers : (m : Memory) (y : Layout) (sp size : ℕ) (b : Frame) (name : BodyName)
+        (below : List Item) → IsFunctionName name → IsAbove t fs program p b name below
+        → HasPointers t fs program p m y sp size below
+    leaf_pointers m y sp size b (FuncletBody k) below is h = absurd is
+    leaf_pointers m y sp size b (FunctionBody f) [] is h = tt
+    leaf_pointers m y sp size b (FunctionBody f) (Waits w ∷ below) is h = tt
+    leaf_pointers m y sp size b (FunctionBody f) (Searches exception resumption asked rest ∷ below) is
+        h =
+        absurd h
+    leaf_pointers m y sp size b (FunctionBody f) (Unwinds rest target ∷ below) is h = absurd h
+
+    -- the same name, exception and what lies below
+    above_same : (b b' : Frame) (name : BodyName) (below : List Item) → b'.exception ≡ b.exception
+        → IsAbove t fs program p b name below → IsAbove t fs program p b' name below
+    above_same b b' (FunctionBody f) below e h = h
+    above_same b b' (FuncletBody k) below e h = by_funclet (slice_get program.funclets k) below h
+      where
+        by_funclet : (f : Option LinearFunclet) (below : List Item)
+            → FuncletIsAbove t fs program p k b f below → FuncletIsAbove t fs program p k b' f below
+        by_funclet None below h = absurd h
+        by_funclet (Some f) [] h = absurd h
+        by_funclet (Some f) (Searches exception resumption asked rest ∷ Waits w ∷ below) h =
+            let alike = h.1 in (h.0, (alike.0, e ∙ alike.1))
+        by_funclet (Some f) (Unwinds rest target ∷ Waits w ∷ below) h = h
+        by_funclet (Some f) (Waits w ∷ below) h = h
+        by_funclet (Some f) below h = absurd h
+
+    module _ (image : IsProgramImage t fs program p q) where
+      pub frame_size : (m : Memory) (c : Context) (f : StackFrame) (name : BodyName) (b : LinearBody)
+          → body_of program name ≡ Some b → p.leaf name ≡ false → f.entry ≡ p.entry name
+          → FrameIsAt t m c f → f.size ≡ (p.layout name).frame
+      frame_size m c f name b there leaf entry s =
+          let a = image.allocations name b there leaf in
+          same_size f.offset a.offset f.size (p.layout name).frame (p.entry name).info.codes
+          (ap (λ (e : Entry). e.info.codes) (sym entry) ∙ s.codes) a.codes
+
+      -- ---- on top of the list
+
+      framed_again : (u : State) (c : Context) (f : StackFrame) (is : List StackItem) (b : Frame)
+          (below : List Item) (acts : List Activation) (label : ℕ) (ts : List ℕ) (landed : Option ℕ)
+          (source : Memory) (es : List Event)
+          → On t fs program p u.memory c (Framed f ∷ is) (Waits b ∷ below) acts
+          → register u.cpu Rsp ≡ rsp c → InCode p b.body label u.cpu.rip → u.cpu.rip < 2 ^ 64
+          → IsFront u.memory b.temporaries ts
+          → InBody t fs program p q u (on_top (again b label ts landed) below source acts es)
+      framed_again u c f is b below acts label ts landed source es on sp inside small front =
+          let m = u.memory in
+          let name = b.body in
+          let y = p.layout name in
+          let s = on.is_there.stack in
+          let l = on.is_there.linked in
+          let w = l.0.waits in
+          let b' = again b label ts landed in
+          let size = frame_size m c f name w.code w.body l.0.framed l.0.entry s.0 in
+          let n1 : length (slice_set c.kept 0 (rsp c + f.size + 8))
+          ≡ 9 = length-set c.kept 0 (rsp c + f.size + 8) ∙ s.0.kept in
+          let nine = s.0.kept in
+          let up : register u.cpu Rsp + y.frame + 8
+          ≡ rsp (after_frame c f) = (let z : register u.cpu Rsp + y.frame + 8
+          ≡ rsp c + f.size + 8 = omega (arith, sp, size) in z)
+          ∙ sym (set_head c.kept (rsp c + f.size + 8) (omega arith)) in
+          let slots : BodyWaits t fs program p m (context_of u.cpu) y.frame
+          (temporaries_end y name y.frame) b' acts = record {
+            code = w.code;
+            body = w.body;
+            label = label;
+            instruction = record { low = inside.low; high = inside.high };
+            same = all_same label (regions_of (body_of program name));
+            small = small;
+            activation = subst (λ x. HasActivation m y x y.frame b.activation acts name) (sym sp)
+                (subst (λ n. HasActivation m y (rsp c) n b.activation acts name) size w.activation);
+            temporaries = subst (λ x. HoldsWords m (x + y.temporaries)
+                (x + temporaries_end y name y.frame) ts) (sym sp)
+                (front (rsp c + y.temporaries) (rsp c + temporaries_end y name y.frame)
+                (subst (λ n. HoldsWords m (rsp c + y.temporaries) (rsp c + temporaries_end y name n)
+                b.temporaries) size w.temporaries));
+            space = subst (λ x. HasSpace x below_end (length acts + b.held)) (sym sp) w.space;
+          } in
+          record {
+            acts = acts;
+            store = refl;
+            slots = subst (λ (leaf : Bool). BodyWaits t fs program p m (context_of u.cpu)
+                (slots_end y leaf) (last_temporary y name leaf) b' acts) (sym l.0.framed) slots;
+            pointers = subst (λ x. HasPointers t fs program p m y x y.frame below) (sym sp)
+                (subst (λ n. HasPointers t fs program p m y (rsp c) n below) size l.0.pointers);
+            above = above_same b b' name below refl l.1;
+            home = λ yes. let z : true ≡ false = sym yes ∙ l.0.framed in absurd cc;
+            back = f.return_address;
+            returns_to = l.0.returns;
+            returns = subst (λ x. word m (x + y.frame) ≡ Ok f.return_address) (sym sp)
+                (subst (λ n. word m (rsp c + n) ≡ Ok f.return_address) size s.0.returns);
+            is = is;
+            below = λ others n. on_moved t fs program p m (after_frame c f)
+                (context_below f.return_address (register u.cpu Rsp + y.frame + 8) others) is below
+                (activations_below name acts) n1 (omega arith) refl up
+                (record {
+                  is_there = record { stack = s.1; linked = l.2 };
+                  data_alone = on.data_alone;
+                });
+          }
+
+      leaf_again : (u : State) (c : Context) (back : ℕ) (is : List StackItem) (b : Frame)
+          (below : List Item) (acts : List Activation) (label : ℕ) (ts : List ℕ) (landed : Option ℕ)
+          (source : Memory) (es : List Event)
+          → On t fs program p u.memory c (Leaf back ∷ is) (Waits b ∷ below) acts
+          → register u.cpu Rsp ≡ rsp c → InCode p b.body label u.cpu.rip → u.cpu.rip < 2 ^ 64
+          → IsFront u.memory b.temporaries ts
+          → InBody t fs program p q u (on_top (again b label ts landed) below source acts es)
+      leaf_again u c back is b below acts label ts landed source es on sp inside small front =
+          let m = u.memory in
+          let name = b.body in
+          let y = p.layout name in
+          let s = on.is_there.stack in
+          let l = on.is_there.linked in
+          let w = l.0.waits in
+          let b' = again b label ts landed in
+          let none = leaf_layout t fs program p q name w.code l.0.leaf
+          (image.laid_out name w.code w.body) in
+          let n1 : length (slice_set c.kept 0 (rsp c + 8)) ≡ 9 = length-set c.kept 0 (rsp c + 8)
+          ∙ s.0.kept in
+          let nine = s.0.kept in
+          let zero_frame = none.frame in
+          let up : register u.cpu Rsp + y.frame + 8
+          ≡ rsp (after_leaf c back) = (let z : register u.cpu Rsp + y.frame + 8
+          ≡ rsp c + 8 = omega (arith, sp) in z) ∙ sym (set_head c.kept (rsp c + 8) (omega arith)) in
+          let at : rsp c ≡ register u.cpu Rsp + y.frame = omega (arith, sp) in
+          let slots : BodyWaits t fs program p m (context_of u.cpu) y.temporaries home_end b'
+          acts = record {
+            code = w.code;
+            body = w.body;
+            label = label;
+            instruction = record { low = inside.low; high = inside.high };
+            same = all_same label (regions_of (body_of program name));
+            small = small;
+            activation = subst (λ x. HasActivation m y x y.temporaries b.activation acts name)
+                (sym sp) w.activation;
+            temporaries = subst (λ x. HoldsWords m (x + y.temporaries) (x + home_end) ts) (sym sp)
+                (front (rsp c + y.temporaries) (rsp c + home_end) w.temporaries);
+            space = subst (λ x. HasSpace x below_end (length acts + b.held)) (sym sp) w.space;
+          } in
+          record {
+            acts = acts;
+            store = refl;
+            slots = subst (λ (leaf : Bool). BodyWaits t fs program p m (context_of u.cpu)
+                (slots_end y leaf) (last_temporary y name leaf) b' acts) (sym l.0.leaf) slots;
+            pointers = leaf_pointers m y (register u.cpu Rsp) y.frame b name below
+                (leaf_is_function name w.code l.0.leaf (image.laid_out name w.code w.body)) l.1;
+            above = above_same b b' name below refl l.1;
+            home = λ yes. subst (λ x. x + home_end ≤ STACK_END) (sym sp) l.0.home;
+            back = back;
+            returns_to = l.0.returns;
+            returns = subst (λ x. word m x ≡ Ok back) at s.0.returns;
+            is = is;
+            below = λ others n. on_moved t fs program p m (after_leaf c back)
+                (context_below back (register u.cpu Rsp + y.frame + 8) others) is below
+                (activations_below name acts) n1 (omega arith) refl up
+                (record {
+                  is_there = record { stack = s.1; linked = l.2 };
+                  data_alone = on.data_alone;
+                });
+          }
+
+      -- whatever represents it
+      pub waits_in_body : (u : State) (c : Context) (is : List StackItem) (b : Frame)
+          (below : List Item) (acts : List Activation) (label : ℕ) (ts : List ℕ) (landed : Option ℕ)
+          (source : Memory) (es : List Event)
+          → On t fs program p u.memory c is (Waits b ∷ below) acts → register u.cpu Rsp ≡ rsp c
+          → InCode p b.body label u.cpu.rip → u.cpu.rip < 2 ^ 64 → IsFront u.memory b.temporaries ts
+          → InBody t fs program p q u (on_top (again b label ts landed) below source acts es)
+      waits_in_body u c (Framed f ∷ is) b below acts label ts landed source es on sp inside small
+          front =
+          framed_again u c f is b below acts label ts landed source es on sp inside small front
+      waits_in_body u c (Leaf back ∷ is) b below acts label ts landed source es on sp inside small
+          front =
+          leaf_again u c back is b below acts label ts landed source es on sp inside small front
+      waits_in_body u c is b below acts label ts landed source es on sp inside small front = absurd
+          on.is_there.linked
+
+-- no temporaries, or all of them
+words_end : (m : Memory) (at end : ℕ) (vs : List ℕ) → HoldsWords m at end vs → at ≤ end
+words_end m at end [] h = h
+words_end m at end (v ∷ vs) h = let e = words_end m (at + 8) end vs h.1 in omega arith
+
+pub no_front : (m : Memory) (vs : List ℕ) → IsFront m vs []
+no_front m vs at end h = words_end m at end vs h
+
+pub all_front : (m : Memory) (vs : List ℕ) → IsFront m vs vs
+all_front m vs at end h = h

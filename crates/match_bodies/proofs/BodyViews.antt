@@ -1,0 +1,277 @@
+-- The running body has a view: its slots as templates see them hold linear code's numbers.
+use Rattle.std.proofs.Common.{◌≡◌, ℕ, ◌+◌, ◌*◌, ◌≤◌, Bool, true, false, Some, None, List, [], ◌∷◌, length, refl, sym, ap, subst, ◌∙◌, arith, inl, inr}
+use Rattle.std.specs.Prelude.{◌⊎◌, slice_get, slice_index, drop, replicate}
+use Rattle.host_layout.specs.declared.range.TheConstants.{STACK_START, STACK_END}
+use Rattle.x64_instr.specs.declared.register.Reg.TheVariants.{Rsp}
+use Rattle.x64_machine.specs.Effect.{State, register}
+use Rattle.virtual_unwind.specs.CallerOf.{Functions}
+use Rattle.host_model.specs.declared.funclet.Funclet.{Funclet}
+use Rattle.linear_code.specs.Program.{LinearProgram, LinearBody}
+use Rattle.linear_machine.specs.Frames as linear
+use Rattle.linear_machine.specs.Frames.{BodyName, FunctionBody, FuncletBody, body_of, Configuration}
+use Rattle.x64_templates.specs.Straight.{machine}
+use Rattle.match_stack.specs.WalkLaws.{context_below}
+use Rattle.match_stack.specs.ImagePlan.{ImagePlan}
+use Rattle.match_stack.specs.ItemMatches.{locals_of, activations_below, temporaries_end, HasActivation}
+use Rattle.match_stack.proofs.ListEnds.{in_stack}
+use Rattle.match_bodies.specs.CodeSites.{Sites}
+use Rattle.match_stack.specs.ListLaws.{IsLinkedStack}
+use Rattle.match_bodies.specs.Layouts.{IsFunctionLayout, IsLeafLayout, IsFuncletLayout, IsLayoutIf, IsLaidOut, IsFuncletPlan}
+use Rattle.match_bodies.specs.ProgramImages.{IsProgramImage}
+use Rattle.match_bodies.specs.Bodies.{slots_end, last_temporary, RepresentsAt}
+use Rattle.x64_templates.specs.Runs.{Roomy, FrameHolds}
+use Rattle.match_bodies.specs.BodyViews.{seen_by_templates, counts_of, frame_at, state_of, HasSlotsOf, HasView}
+use Rattle.match_bodies.proofs.SlotPlaces.{SlotsPlaced, function_placed, leaf_placed, funclet_placed, room_of, holds_of, local_is, temporary_is}
+
+-- a state is made of its registers
+pub registers_are : (rs : List ℕ) → length rs ≡ 16
+    → rs ≡ slice_index rs 0 ∷ slice_index rs 1 ∷ slice_index rs 2 ∷ drop 3 rs
+registers_are [] e = absurd (omega arith)
+registers_are (a ∷ []) e = absurd (omega arith)
+registers_are (a ∷ b ∷ []) e = absurd (omega arith)
+registers_are (a ∷ b ∷ c ∷ rs) e = refl
+
+pub is_machine : (s : State) → length s.cpu.registers ≡ 16
+    → s ≡ machine (seen_by_templates s) s.cpu.rip s.cpu.flags
+is_machine s e = ap (λ rs. let u : State = record {
+  cpu =
+      record { registers = rs; rip = s.cpu.rip; flags = s.cpu.flags };
+  memory = s.memory;
+} in u)
+    (registers_are s.cpu.registers e)
+
+module _ (t : Functions) (fs : List Funclet) (program : LinearProgram) (p : ImagePlan) (q : Sites)
+    (image : IsProgramImage t fs program p q) where
+  -- the body that runs has as many locals in its activation as its code names
+  abbrev pub IsCounted : Configuration → Type 0
+  IsCounted c = (b : LinearBody) → body_of program c.frame.body ≡ Some b
+      → length (linear.locals_of c.store c.frame.activation) ≡ b.locals
+
+  module _ (s : State) (c : Configuration) (b : RepresentsAt t fs program p q s c) (counted : IsCounted c)
+    where
+      abbrev code : LinearBody
+      code = b.body.slots.code
+
+      abbrev sp : ℕ
+      sp = register s.cpu Rsp
+
+      pub sp_low : STACK_START + 196568 ≤ sp
+      sp_low = let s = b.body.slots.space.space in let d = b.body.slots.space.shallow in omega arith
+
+      pub frame_top : sp + (p.layout c.frame.body).frame + 8 ≤ STACK_END
+      frame_top =
+          let o = b.body.below (replicate 8 0) refl in
+          in_stack t fs program p s.memory (context_below b.body.back
+          (sp + (p.layout c.frame.body).frame + 8) (replicate 8 0)) b.body.is c.below
+          (activations_below c.frame.body b.body.acts) o.is_there.stack o.is_there.linked
+
+      values_count : (values : List ℕ) → slice_get (locals_of b.body.acts) c.frame.activation
+          ≡ Some values → length values ≡ code.locals
+      values_count values e =
+          let same : linear.locals_of c.store c.frame.activation ≡ values =
+          ap (λ x. elim (slice_get x c.frame.activation) [ Some locals ↦ locals | None ↦ [] ])
+          b.body.store ∙ ap (λ x. elim x [ Some locals ↦ locals | None ↦ [] ]) e in
+          ap length (sym same) ∙ counted code b.body.slots.body
+
+      by_leaf : (f : ℕ) (leaf : Bool) → c.frame.body ≡ FunctionBody f → p.leaf c.frame.body ≡ leaf
+          → IsLaidOut program p (FunctionBody f) code
+          → HasActivation s.memory (p.layout c.frame.body) sp (slots_end (p.layout c.frame.body) leaf)
+          c.frame.activation b.body.acts (FunctionBody f)
+          → SlotsPlaced s.memory (p.layout c.frame.body) code.temporaries sp c.frame.activation
+          b.body.acts
+      by_leaf f true name is layouts h =
+          let low = sp_low in
+          leaf_placed s.memory (p.layout c.frame.body) code sp c.frame.activation f b.body.acts
+          (subst (λ l. IsLayoutIf program p (p.layout c.frame.body) code l) is
+          (subst (λ n. IsLayoutIf program p (p.layout n) code (p.leaf n)) (sym name) layouts))
+          (omega arith) (b.body.home is) h
+      by_leaf f false name is layouts h =
+          let low = sp_low in
+          let top = frame_top in
+          function_placed s.memory (p.layout c.frame.body) code sp c.frame.activation f b.body.acts
+          (subst (λ l. IsLayoutIf program p (p.layout c.frame.body) code l) is
+          (subst (λ n. IsLayoutIf program p (p.layout n) code (p.leaf n)) (sym name) layouts))
+          (omega arith) (omega arith) h
+
+      by_funclet : (k : ℕ) → c.frame.body ≡ FuncletBody k → IsFuncletPlan program p k code
+          → HasActivation s.memory (p.layout c.frame.body) sp (p.layout c.frame.body).frame
+          c.frame.activation b.body.acts (FuncletBody k)
+          → SlotsPlaced s.memory (p.layout c.frame.body) code.temporaries sp c.frame.activation
+          b.body.acts
+      by_funclet k name plan h =
+          let low = sp_low in
+          let o = b.body.below (replicate 8 0) refl in
+          let y = p.layout c.frame.body in
+          let function_plan : IsLaidOut program p (FunctionBody plan.funclet.function)
+          plan.function = image.laid_out (FunctionBody plan.funclet.function) plan.function
+          plan.function_there in
+          let function_layout = subst (λ l. IsLayoutIf program p
+          (p.layout (FunctionBody plan.funclet.function)) plan.function l) plan.function_framed
+          function_plan in
+          let wide = function_layout.locals in
+          let small = function_layout.small in
+          let same = plan.same_locals in
+          funclet_placed t fs program p s.memory y (p.layout (FunctionBody plan.funclet.function))
+          code sp c.frame.activation k b.body.acts
+          (context_below b.body.back (sp + y.frame + 8) (replicate 8 0)) b.body.is c.below
+          (subst (λ n. IsFuncletLayout (p.layout n) (p.layout (FunctionBody plan.funclet.function))
+          code) (sym name) plan.layout) (omega arith) refl
+          (subst (λ n. IsLinkedStack t fs program p s.memory
+          (context_below b.body.back (sp + y.frame + 8) (replicate 8 0)) b.body.is c.below
+          (activations_below n b.body.acts)) name o.is_there) h
+          (λ values e. let n = values_count values e in omega arith) (omega arith)
+
+      by_name : (name : BodyName) → c.frame.body ≡ name
+          → HasActivation s.memory (p.layout c.frame.body) sp
+          (slots_end (p.layout c.frame.body) (p.leaf c.frame.body)) c.frame.activation b.body.acts
+          name
+          → SlotsPlaced s.memory (p.layout c.frame.body) code.temporaries sp c.frame.activation
+          b.body.acts
+      by_name (FunctionBody f) name h = by_leaf f (p.leaf c.frame.body) name refl
+          (subst (λ n. IsLaidOut program p n code) name
+          (image.laid_out c.frame.body code b.body.slots.body)) h
+      by_name (FuncletBody k) name h =
+          let plan : IsFuncletPlan program p k code = subst (λ n. IsLaidOut program p n code) name
+          (image.laid_out c.frame.body code b.body.slots.body) in
+          by_funclet k name plan
+          (subst (λ l. HasActivation s.memory (p.layout c.frame.body) sp
+          (slots_end (p.layout c.frame.body) l) c.frame.activation b.body.acts (FuncletBody k))
+          (ap p.leaf name ∙ plan.framed) h)
+
+      pub placed : SlotsPlaced s.memory (p.layout c.frame.body) code.temporaries sp c.frame.activation
+          b.body.acts
+      placed = by_name c.frame.body refl b.body.slots.activation
+
+      pub count : length placed.values ≡ code.locals
+      count = values_count placed.values placed.number
+
+      pub room_here : Roomy (frame_at program p c.frame.body code sp placed.base)
+      room_here = room_of s.memory (p.layout c.frame.body) (counts_of code) sp c.frame.activation
+          b.body.acts placed count
+
+      pub holds_here : FrameHolds (frame_at program p c.frame.body code sp placed.base) s.memory
+          (state_of program p s c placed.base)
+      holds_here = holds_of program.globals s.memory c.store.memory (p.layout c.frame.body)
+          (counts_of code) sp c.frame.activation b.body.acts placed count b.memory.data_alone.bytes
+          b.memory.stack b.memory.agrees
+
+      pub slots_here : HasSlotsOf program p c code (state_of program p s c placed.base)
+      slots_here = record {
+        locals = λ i lt. local_is s.memory (p.layout c.frame.body) code.temporaries sp i b.body.acts c
+            b.body.store placed (let n = count in omega arith);
+        temporaries = λ i v e. temporary_is s.memory (p.layout c.frame.body) sp _ i v
+            c.frame.temporaries b.body.slots.temporaries e;
+        source = refl;
+      }
+
+      pub has_view : HasView program p s c
+      has_view = record {
+        is_machine = is_machine s b.well_formed.count;
+        body = code;
+        there = b.body.slots.body;
+        base = placed.base;
+        room = room_here;
+        holds = holds_here;
+        slots = slots_here;
+      }
+
+      -- ---- which kind of body it is
+
+      pub record AsFunction : Type 0 where
+        pub number : ℕ
+        pub name : c.frame.body ≡ FunctionBody number
+        pub framed : p.leaf c.frame.body ≡ false
+        pub layout : IsFunctionLayout (p.layout c.frame.body) code
+        pub activation : HasActivation s.memory (p.layout c.frame.body) sp
+            (p.layout c.frame.body).frame c.frame.activation b.body.acts (FunctionBody number)
+
+      pub record AsLeaf : Type 0 where
+        pub number : ℕ
+        pub name : c.frame.body ≡ FunctionBody number
+        pub leaf : p.leaf c.frame.body ≡ true
+        pub layout : IsLeafLayout (p.layout c.frame.body) code
+        pub activation : HasActivation s.memory (p.layout c.frame.body) sp
+            (p.layout c.frame.body).temporaries c.frame.activation b.body.acts (FunctionBody number)
+
+      pub record AsFunclet : Type 0 where
+        pub number : ℕ
+        pub name : c.frame.body ≡ FuncletBody number
+        pub framed : p.leaf c.frame.body ≡ false
+        pub plan : IsFuncletPlan program p number code
+        pub layout : IsFuncletLayout (p.layout c.frame.body)
+            (p.layout (FunctionBody plan.funclet.function)) code
+        pub activation : HasActivation s.memory (p.layout c.frame.body) sp
+            (p.layout c.frame.body).frame c.frame.activation b.body.acts (FuncletBody number)
+
+      kind_by_leaf : (f : ℕ) (leaf : Bool) → c.frame.body ≡ FunctionBody f
+          → p.leaf c.frame.body ≡ leaf → IsLaidOut program p (FunctionBody f) code
+          → HasActivation s.memory (p.layout c.frame.body) sp (slots_end (p.layout c.frame.body) leaf)
+          c.frame.activation b.body.acts (FunctionBody f)
+          → AsFunction ⊎ (AsLeaf ⊎ AsFunclet)
+      kind_by_leaf f true name is layouts h = inr (inl (record {
+        number = f;
+        name = name;
+        leaf = is;
+        layout = subst (λ l. IsLayoutIf program p (p.layout c.frame.body) code l) is
+            (subst (λ n. IsLayoutIf program p (p.layout n) code (p.leaf n)) (sym name) layouts);
+        activation = h;
+      }))
+      kind_by_leaf f false name is layouts h = inl (record {
+        number = f;
+        name = name;
+        framed = is;
+        layout = subst (λ l. IsLayoutIf program p (p.layout c.frame.body) code l) is
+            (subst (λ n. IsLayoutIf program p (p.layout n) code (p.leaf n)) (sym name) layouts);
+        activation = h;
+      })
+
+      kind_by_name : (name : BodyName) → c.frame.body ≡ name
+          → HasActivation s.memory (p.layout c.frame.body) sp
+          (slots_end (p.layout c.frame.body) (p.leaf c.frame.body)) c.frame.activation b.body.acts
+          name → AsFunction ⊎ (AsLeaf ⊎ AsFunclet)
+      kind_by_name (FunctionBody f) name h = kind_by_leaf f (p.leaf c.frame.body) name refl
+          (subst (λ n. IsLaidOut program p n code) name
+          (image.laid_out c.frame.body code b.body.slots.body)) h
+      kind_by_name (FuncletBody k) name h =
+          let plan : IsFuncletPlan program p k code = subst (λ n. IsLaidOut program p n code) name
+          (image.laid_out c.frame.body code b.body.slots.body) in
+          let framed : p.leaf c.frame.body ≡ false = ap p.leaf name ∙ plan.framed in
+          inr (inr (record {
+            number = k;
+            name = name;
+            framed = framed;
+            plan = plan;
+            layout = subst (λ n. IsFuncletLayout (p.layout n)
+                (p.layout (FunctionBody plan.funclet.function)) code) (sym name) plan.layout;
+            activation = subst (λ l. HasActivation s.memory (p.layout c.frame.body) sp
+                (slots_end (p.layout c.frame.body) l) c.frame.activation b.body.acts (FuncletBody k))
+                framed h;
+          }))
+
+      pub kind : AsFunction ⊎ (AsLeaf ⊎ AsFunclet)
+      kind = kind_by_name c.frame.body refl b.body.slots.activation
+
+      -- the temporaries have room
+      pub last_room : (p.layout c.frame.body).temporaries + 8 * code.temporaries
+          ≤ last_temporary (p.layout c.frame.body) c.frame.body (p.leaf c.frame.body)
+      last_room = elim kind [
+        | inl f ↦ subst (λ l. (p.layout c.frame.body).temporaries + 8 * code.temporaries
+            ≤ last_temporary (p.layout c.frame.body) c.frame.body l) (sym f.framed)
+            (subst (λ n. (p.layout c.frame.body).temporaries + 8 * code.temporaries
+            ≤ temporaries_end (p.layout c.frame.body) n (p.layout c.frame.body).frame) (sym f.name)
+            f.layout.temporaries)
+        | inr (inl f) ↦ subst (λ l. (p.layout c.frame.body).temporaries + 8 * code.temporaries
+            ≤ last_temporary (p.layout c.frame.body) c.frame.body l) (sym f.leaf)
+            (let a = f.layout.temporaries in let z = f.layout.few in omega arith)
+        | inr (inr f) ↦ subst (λ l. (p.layout c.frame.body).temporaries + 8 * code.temporaries
+            ≤ last_temporary (p.layout c.frame.body) c.frame.body l) (sym f.framed)
+            (subst (λ n. (p.layout c.frame.body).temporaries + 8 * code.temporaries
+            ≤ temporaries_end (p.layout c.frame.body) n (p.layout c.frame.body).frame) (sym f.name)
+            f.layout.temporaries)
+      ]
+
+      -- the locals that linear code has here are the activation's
+      pub locals_here : linear.locals_of c.store c.frame.activation ≡ placed.values
+      locals_here =
+          ap (λ x. elim (slice_get x c.frame.activation) [ Some locals ↦ locals | None ↦ [] ])
+          b.body.store ∙ ap (λ x. elim x [ Some locals ↦ locals | None ↦ [] ]) placed.number

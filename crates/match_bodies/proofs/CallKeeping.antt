@@ -1,0 +1,271 @@
+-- A body calls: the instructions up to the callee's first byte keep the shadow; so does the jump of
+-- a thunk to a service.
+use Rattle.std.proofs.Common.{◌≡◌, ℕ, ◌+◌, ◌-◌, ◌≤◌, Bool, true, false, Some, None, Ok, List, [], ◌∷◌, ◌++◌, length, refl, sym, ap, subst, ◌∙◌, arith, append_assoc}
+use Rattle.std.specs.Prelude.{slice_get, slice_index}
+use Rattle.std.proofs.lemmas.List.{append-nil}
+use Rattle.flat_memory.specs.Memory.{Memory}
+use Rattle.x64_instr.specs.declared.register.Reg.TheVariants.{Rsp}
+use Rattle.x64_instr.specs.declared.operand.Base.TheVariants as bases
+use Rattle.x64_instr.specs.declared.operand.RegisterOrMemory.TheVariants as places
+use Rattle.x64_instr.specs.declared.instruction.Target.TheVariants.{Indirect}
+use Rattle.x64_instr.specs.declared.instruction.Instr.{Instr}
+use Rattle.x64_machine.specs.declared.context.Context.{Context}
+use Rattle.x64_machine.specs.Effect.{State, register, with_rip}
+use Rattle.virtual_unwind.specs.CallerOf.{Functions}
+use Rattle.virtual_unwind.specs.Undone.{word}
+use Rattle.host_model.specs.declared.funclet.Funclet.{Funclet}
+use Rattle.linear_code.specs.declared.instruction.Instruction.{Instruction}
+use Rattle.linear_code.specs.Program.{LinearProgram, LinearBody}
+use Rattle.linear_machine.specs.Frames.{BodyName, body_of}
+use Rattle.template_code.specs.Bytes.{size, sizes, thunk}
+use Rattle.template_code.specs.Jumps.{IsNear, call}
+use Rattle.template_code.specs.Template.{template}
+use Rattle.x64_templates.specs.Epilogues.{IsReturn}
+use Rattle.x64_templates.specs.Runs.{Steps, HasCode}
+use Rattle.x64_templates.specs.Thunks.{HasThunk}
+use Rattle.x64_templates.proofs.PlacedCode.{thunk_encodable}
+use Rattle.x64_templates.proofs.Computes.{code_split}
+use Rattle.match_stack.specs.Stack.{StackItem, Framed, Leaf, ItemIsAt, OwnedBy, context_after}
+use Rattle.match_stack.specs.WalkLaws.{context_below}
+use Rattle.match_stack.specs.ImagePlan.{ImagePlan}
+use Rattle.match_runs.specs.Shadow.{is_call, KeepsShadow, AllKeep}
+use Rattle.match_runs.proofs.Shadows.{straight, keep_first}
+use Rattle.match_bodies.specs.CodeSites.{Sites, links_of}
+use Rattle.match_bodies.specs.ProgramImages.{frame_with, HasProgram, IsResumed, IsProgramImage}
+use Rattle.match_bodies.specs.Callers.{FindsReturn}
+use Rattle.match_bodies.proofs.InstructionEffects.{others_of, Calls, jumps}
+use Rattle.match_bodies.proofs.SilentTurns.{program_kept}
+use Rattle.match_bodies.proofs.StackTop.{leaf_layout}
+use Rattle.match_bodies.proofs.RoutineWalks.{read_here, effect_here, StepsTo, steps_split, keeps_split, Beneath, beneath_stays, callers_above, AllPlain, Finds, Ran, ran}
+use Rattle.match_bodies.proofs.ShadowTurns.{gives_here, called, beneath_called, call_keeps_shadow, beneath_callee}
+use Rattle.match_bodies.proofs.ReturnAddresses.{resumed_found, within_found, template_there}
+
+module _ (t : Functions) (fs : List Funclet) (program : LinearProgram) (p : ImagePlan) (q : Sites)
+    (image : IsProgramImage t fs program p q) where
+  module _ (name : BodyName) (b : LinearBody) (is : body_of program name ≡ Some b) (label : ℕ)
+      (i : Instruction) (at : slice_get b.code label ≡ Some i) (goes : IsReturn i → ⊥)
+      (before after : List Instr) (next to : ℕ)
+      (parts : template (links_of p q name) (p.layout name) (p.address name label) i
+      ≡ before ++ (call next to ∷ after))
+      (next_is : p.address name label + sizes before + 5 ≡ next) (near : IsNear next to) (there : ℕ)
+      (resumed : IsResumed t fs program p q name b there next)
+      (enters : (m : Memory) → FindsReturn t m to 0)
+      (s w : State) (top back : ℕ) (others : List ℕ) (list : List StackItem)
+      (here : s.cpu.rip ≡ p.address name label)
+      (beneath : Beneath t s top (top + 8) back others list)
+      (below : register s.cpu Rsp + (p.layout name).frame ≡ top) (low : 8 ≤ register s.cpu Rsp)
+      (has : HasProgram t fs program p q s.memory)
+      (plain : AllPlain (p.layout name).frame 8 before) (run : StepsTo (length before + 1) s w)
+    where
+      abbrev frame : ℕ
+      frame = (p.layout name).frame
+
+      abbrev sp : ℕ
+      sp = register s.cpu Rsp
+
+      -- up to the call
+      halves : (u : State) × StepsTo (length before) s u × StepsTo 1 u w
+      halves = steps_split (length before) 1 s w run
+
+      abbrev u : State
+      u = halves.0
+
+      finds : Finds t fs program p q top (top + 8) back others list s.cpu.rip before frame
+      finds done left split m h = by left split
+        where
+          by : (left : List Instr) → before ≡ done ++ left
+              → FindsReturn t m (s.cpu.rip + sizes done) frame
+          by [] e =
+              subst (λ a. FindsReturn t m (a + sizes done) frame) (sym here)
+              (within_found t fs program p q image name b is m h label i at goes done after
+              (call next to) (parts ∙ ap (λ (xs : List Instr). xs ++ (call next to ∷ after))
+              (e ∙ append-nil done)))
+          by (item ∷ left') e =
+              subst (λ a. FindsReturn t m (a + sizes done) frame) (sym here)
+              (within_found t fs program p q image name b is m h label i at goes done
+              (left' ++ (call next to ∷ after)) item
+              (parts ∙ ap (λ (xs : List Instr). xs ++ (call next to ∷ after)) e
+              ∙ append_assoc done (item ∷ left') (call next to ∷ after)))
+
+      codes : (m : Memory) → HasProgram t fs program p q m
+          → HasCode m (p.address name label) before
+          × HasCode m (p.address name label + sizes before) (call next to ∷ after)
+      codes m h = code_split m (p.address name label) before (call next to ∷ after)
+          (subst (HasCode m (p.address name label)) parts
+          (template_there t fs program p q image name b is m h label i at))
+
+      first : Ran t fs program p q top (top + 8) back others list s u before
+      first = ran t fs program p q top (top + 8) back others list before s u frame 8 halves.1 plain
+          (subst (λ a. HasCode s.memory a before) (sym here) (codes s.memory has).0) has beneath below
+          refl finds
+
+      -- the call
+      abbrev calling : StepsTo 1 u w
+      calling = halves.2
+
+      abbrev v : State
+      v = calling.0
+
+      abbrev st : Steps u v
+      st = calling.1
+
+      code_there : HasCode u.memory u.cpu.rip (call next to ∷ after)
+      code_there = let z : p.address name label + sizes before
+          ≡ u.cpu.rip = omega (arith, first.rip) in
+          subst (λ a. HasCode u.memory a (call next to ∷ after)) z (codes u.memory first.has).1
+
+      sp_below : register u.cpu Rsp ≡ sp - 8 + 8
+      sp_below = let z = first.stack in omega arith
+
+      up : sp - 8 + 8 + frame ≡ top
+      up = omega arith
+
+      there_is : u.cpu.rip + 5 ≡ next
+      there_is = let z = first.rip in omega arith
+
+      is_called : Calls (with_rip u next) v (sp - 8) to
+      is_called = called t fs top (top + 8) back others list u v st first.beneath (sp - 8) frame to
+          sp_below up next there_is near after code_there
+
+      still_beneath : Beneath t v top (top + 8) back others list
+      still_beneath = beneath_called t fs top (top + 8) back others list u v st first.beneath (sp - 8)
+          frame to sp_below up next there_is near after code_there
+
+      has_called : HasProgram t fs program p q v.memory
+      has_called = program_kept t fs program p q u.memory v.memory
+          (record { protection = st.protection; fixed = st.fixed }) first.has
+
+      call_found : FindsReturn t u.memory u.cpu.rip frame
+      call_found =
+          let z : p.address name label + sizes before ≡ u.cpu.rip = omega (arith, first.rip) in
+          subst (λ a. FindsReturn t u.memory a frame) z
+          (within_found t fs program p q image name b is u.memory first.has label i at goes before
+          after (call next to) parts)
+
+      keeps_called : KeepsShadow t fs u v
+      keeps_called =
+          call_keeps_shadow t fs top (top + 8) back others list u v st first.beneath (sp - 8) frame to
+          sp_below up next there_is near after code_there
+          call_found (enters v.memory) (resumed_found t fs program p q image name b is v.memory
+          has_called there next resumed)
+
+      pub calls_keep : AllKeep t fs (length before + 1) s
+      calls_keep = keeps_split t fs (length before) 1 s u halves.1 first.keeps
+          (keep_first t fs 0 u v st.steps keeps_called tt)
+
+      -- at the callee's first byte the caller is an item of the list
+      abbrev from_here : Context
+      from_here = context_below next (sp - 8 + 8) others
+
+      record Waits (limit : ℕ) : Type 0 where
+        item : StackItem
+        is_there : ItemIsAt t v.memory from_here item
+        same : context_after from_here item ≡ context_below back (top + 8) others
+        owned : (a : ℕ) → OwnedBy from_here item a → limit ≤ a
+
+      waits : (limit : ℕ) → limit ≤ top → Waits limit
+      waits limit most = by (p.leaf name) refl
+        where
+          eight : length others ≡ 8
+          eight = ap (λ (xs : List ℕ). length xs) (sym beneath.others_are)
+
+          back_there : word v.memory (sp - 8 + 8 + frame) ≡ Ok back
+          back_there = ap (word v.memory) up ∙ still_beneath.returns
+
+          by : (leaf : Bool) → p.leaf name ≡ leaf → Waits limit
+          by false e =
+              let high = beneath.high in
+              let f = image.frames v.memory name b there from_here back is e has_called resumed
+              (let n = eight in omega arith) (omega arith) back_there in
+              let z : sp - 8 + 8 + frame + 8 ≡ top + 8 = omega arith in
+              record {
+                item = Framed (frame_with (p.entry name) frame f.offset back);
+                is_there = f.is_there;
+                same = ap (λ n. context_below back n others) z;
+                owned = λ a o. (let l = o.low in omega arith);
+              }
+          by true e =
+              let high = beneath.high in
+              let none = (leaf_layout t fs program p q name b e (image.laid_out name b is)).frame in
+              let z : sp - 8 + 8 ≡ sp - 8 + 8 + frame = omega arith in
+              let y : sp - 8 + 8 + 8 ≡ top + 8 = omega arith in
+              record {
+                item = Leaf back;
+                is_there = image.leaves v.memory name b there from_here back is e resumed
+                    (let n = eight in omega arith) (omega arith) (ap (word v.memory) z ∙ back_there);
+                same = ap (λ n. context_below back n others) y;
+                owned = λ a o. (let l = o.low in omega arith);
+              }
+
+      record CalleeFrom (limit : ℕ) (x : State) : Type 0 where
+        item : StackItem
+        beneath_it : Beneath t x (sp - 8) limit next others (item ∷ list)
+        rip : x.cpu.rip ≡ to
+        stack : register x.cpu Rsp ≡ sp - 8
+        program_there : HasProgram t fs program p q x.memory
+
+      pub record CalleeBegins (limit : ℕ) : Type 0 where
+        pub item : StackItem
+        pub beneath_it : Beneath t w (sp - 8) limit next others (item ∷ list)
+        pub rip : w.cpu.rip ≡ to
+        pub stack : register w.cpu Rsp ≡ sp - 8
+        pub program_there : HasProgram t fs program p q w.memory
+
+      pub callee_begins : (limit : ℕ) → sp ≤ limit → limit ≤ top → CalleeBegins limit
+      callee_begins limit le most =
+          let i = waits limit most in
+          let first_state : CalleeFrom limit v = record {
+            item = i.item;
+            beneath_it = beneath_callee t fs top (top + 8) back others list u v st first.beneath
+                (sp - 8) frame to sp_below up next there_is near after code_there i.item limit
+                i.is_there i.same i.owned (omega arith) most;
+            rip = is_called.rip;
+            stack = is_called.stack;
+            program_there = has_called;
+          } in
+          let k = subst (CalleeFrom limit) calling.2 first_state in
+          record {
+            item = k.item;
+            beneath_it = k.beneath_it;
+            rip = k.rip;
+            stack = k.stack;
+            program_there = k.program_there;
+          }
+
+  -- a thunk leads to its service
+  module _ (s w : State) (top from back : ℕ) (others : List ℕ) (list : List StackItem)
+      (beneath : Beneath t s top from back others list) (at_top : register s.cpu Rsp ≡ top)
+      (at service : ℕ) (here : s.cpu.rip ≡ at) (there : HasThunk s.memory at service)
+      (run : StepsTo 1 s w) (to : w.cpu.rip ≡ service)
+      (begins : (m : Memory) → FindsReturn t m at 0)
+      (served : (m : Memory) → FindsReturn t m service 0) where
+    pub thunk_keeps : AllKeep t fs 1 s
+    thunk_keeps =
+        let v = run.0 in
+        let st = run.1 in
+        let n = there.near in
+        let i = thunk there.away in
+        let enc = thunk_encodable there.away n in
+        let code = subst (λ a. HasCode s.memory a (i ∷ [])) (sym here) there.code in
+        let j = jumps (with_rip s (s.cpu.rip + size i)) v
+        (Indirect (places.Memory (record {
+          base = bases.Rip;
+          index = None;
+          displacement = there.away;
+        }))) (effect_here s v i [] enc code st.steps) in
+        let b = beneath_stays t s v top from back others list st (ap others_of j.registers)
+        (λ x o. ap (λ (m : Memory). m.byte x) j.memory) beneath in
+        let rip : service ≡ v.cpu.rip = sym to ∙ ap (λ (x : State). x.cpu.rip) (sym run.2) in
+        let sp : register v.cpu Rsp ≡ top = ap (λ (r : List ℕ). slice_index r 4) j.registers
+        ∙ at_top in
+        let z : register s.cpu Rsp + 0 ≡ top = omega arith in
+        let y : register v.cpu Rsp + 0 ≡ top = omega arith in
+        keep_first t fs 0 s v st.steps
+        (straight t fs s v (callers_above t top back others list) st.steps
+        (ap is_call (read_here s v i [] enc code))
+        (gives_here t fs top from back others list s 0 beneath
+        (subst (λ a. FindsReturn t s.memory a 0) (sym here) (begins s.memory)) z)
+        (gives_here t fs top from back others list v 0 b
+        (subst (λ a. FindsReturn t v.memory a 0) rip (served v.memory)) y)
+        (let h : register v.cpu Rsp + 8 ≤ top + 8 = omega arith in h))
+        tt

@@ -1,0 +1,269 @@
+-- The step of an operation that doesn't fault, and of a landing.
+use Rattle.std.proofs.Common.{◌≡◌, ℕ, zero, ◌+◌, ◌≤◌, Bool, true, false, Option, Some, None, List, [], ◌∷◌, ◌++◌, length, take, refl, sym, ap, subst, ◌∙◌, arith, length-append, length-take-le}
+use Rattle.std.specs.Prelude.{nat_le, slice_get, slice_set, if◌then◌else◌}
+use Rattle.std.proofs.lemmas.Bool.{leb-true, le-leb}
+use Rattle.flat_memory.specs.Memory.{Memory}
+use Rattle.x64_machine.specs.Effect.{State}
+use Rattle.virtual_unwind.specs.CallerOf.{Functions}
+use Rattle.host_model.specs.declared.funclet.Funclet.{Funclet}
+use Rattle.c_operations.specs.declared.operation.Operation.{Operation}
+use Rattle.c_operations.specs.declared.operation.Operation.TheVariants as operations
+use Rattle.c_operations.specs.declared.operation.Pure.TheVariants.{Constant}
+use Rattle.c_operations.specs.Performed.{OperationResult, Gives, performed}
+use Rattle.source_meaning.specs.Source.{is_reserved}
+use Rattle.linear_code.specs.declared.slot.Slot.{Slot}
+use Rattle.linear_code.specs.declared.slot.Slot.TheVariants.{Local, Temporary}
+use Rattle.linear_code.specs.declared.instruction.Instruction.TheVariants as instructions
+use Rattle.linear_code.specs.BodyState.{BodyState, with_slot}
+use Rattle.linear_code.specs.Meaning.{IsSlot, kept}
+use Rattle.linear_code.specs.Program.{LinearProgram, LinearBody}
+use Rattle.linear_machine.specs.Frames as linear
+use Rattle.linear_machine.specs.Frames.{Configuration, Next, read, with_temporaries, forth, with_some}
+use Rattle.linear_machine.specs.Instructions.{is_constant, operand, written, computed, act}
+use Rattle.linear_machine.specs.Run.{exec}
+use Rattle.template_code.specs.Bytes.{sizes}
+use Rattle.x64_instr.specs.declared.register.Reg.{Reg}
+use Rattle.x64_instr.specs.declared.register.Reg.TheVariants.{Rax, Rcx}
+use Rattle.template_code.specs.declared.layout.Layout.{Layout}
+use Rattle.template_code.specs.Operations.{before}
+use Rattle.template_code.specs.Slots.{local_at, fetch_local, fetch, finish_code, compute_code}
+use Rattle.template_code.specs.Template.{template_size}
+use Rattle.template_code.proofs.Lengths.{compute_length}
+use Rattle.x64_templates.specs.Runs.{Computed}
+use Rattle.x64_templates.proofs.Computes.{compute_run}
+use Rattle.match_stack.specs.ImagePlan.{ImagePlan}
+use Rattle.match_runs.specs.Ends.{HasRule}
+use Rattle.match_runs.specs.Matched.{Moves}
+use Rattle.lowering_invariants.specs.Room.{HaveRoom}
+use Rattle.lowering_invariants.specs.Ready as ready
+use Rattle.match_bodies.specs.CodeSites.{Sites}
+use Rattle.match_bodies.specs.ProgramImages.{IsProgramImage}
+use Rattle.match_bodies.specs.Bodies.{turns_left, RepresentsAt}
+use Rattle.match_bodies.specs.BodyViews.{counts_of}
+use Rattle.match_bodies.proofs.BodyViews.{IsCounted, count, room_here, holds_here, slots_here, locals_here}
+use Rattle.match_bodies.proofs.TemplateSlots.{Leaves}
+use Rattle.match_bodies.proofs.TemplateRuns.{code, frame, slots, v, sp_is, has_slots, template_here, next_address, Surroundings}
+use Rattle.match_bodies.proofs.SlotWrites.{locals_after, temporaries_after, FitsAfter, local_after, temporary_after, locals_count_after, one_more}
+use Rattle.match_bodies.proofs.TemplateKeeping.{compute_keeps}
+use Rattle.match_bodies.proofs.PlainSteps.{at_other, same_store, GoesInside, from_here, label_small, is_read, moves_to}
+
+-- the size of its template, and that it isn't empty
+compute_size : (y : Layout) (to : Slot) (o : Operation) (first second : Slot)
+    → template_size y (instructions.Compute to o first second)
+    ≡ sizes (compute_code y to o first second)
+unfolding template_size
+compute_size y to o first second = refl
+
+some_fetch : (y : Layout) (r : Reg) (slot : Slot) → 1 ≤ length (fetch y r slot)
+some_fetch y r (Temporary i) = omega arith
+some_fetch y r (Local i) = by y.base
+  where
+    by : (o : Option ℕ) → 1 ≤ length (fetch_local o r (local_at y i))
+    by None = omega arith
+    by (Some k) = omega arith
+
+some_code : (y : Layout) (to : Slot) (o : Operation) (first second : Slot)
+    → 1 ≤ length (compute_code y to o first second)
+some_code y to o first second =
+    let f = some_fetch y Rax first in
+    omega (
+      arith,
+      length-append (fetch y Rax first ++ (fetch y Rcx second ++ before o))
+          (finish_code y o to),
+      length-append (fetch y Rax first) (fetch y Rcx second ++ before o),
+    )
+
+-- a temporary is the last one after it is written
+exactly : (ts : List ℕ) (i value : ℕ) → i ≤ length ts → length (take i ts ++ value ∷ []) ≡ i + 1
+exactly ts i value le = omega (
+  arith,
+  length-append (take i ts) (value ∷ []),
+  length-take-le i ts le,
+)
+
+-- a constant reads nothing
+pub same_constant : (reserved : ℕ → Bool) (o : Operation) (a b x y : ℕ) (m : Memory)
+    → is_constant o ≡ true → performed reserved o a b m ≡ performed reserved o x y m
+same_constant reserved (operations.Pure (Constant n)) a b x y m e = refl
+same_constant reserved o a b x y m e = absurd cc
+
+module _ (t : Functions) (fs : List Funclet) (program : LinearProgram) (p : ImagePlan) (q : Sites)
+    (image : IsProgramImage t fs program p q) (roomy : HaveRoom program) (s : State)
+    (c : Configuration) (b : RepresentsAt t fs program p q s c)
+    (counted : IsCounted t fs program p q image c)
+    (around : Surroundings t fs program p q image roomy s c b counted) where
+  abbrev body : LinearBody
+  body = code t fs program p q image roomy s c b counted
+
+  abbrev now : BodyState
+  now = slots t fs program p q image roomy s c b counted
+
+  abbrev pub outcome_here : Operation → Slot → Slot → OperationResult
+  outcome_here o first second = performed (is_reserved program.globals) o (now.slots first)
+      (now.slots second) c.store.memory
+
+  -- linear code makes the same operation on the same numbers
+  pub operands_read : (to : Slot) (o : Operation) (first second : Slot) (constant : Bool)
+      → is_constant o ≡ constant → IsSlot (counts_of body) first → IsSlot (counts_of body) second
+      → ready.IsRead constant (length c.frame.temporaries) first
+      → ready.IsRead constant (length c.frame.temporaries) second
+      → (next : Next) → act program (instructions.Compute to o first second) next c
+      ≡ computed program next to c (outcome_here o first second)
+  unfolding with_some
+  operands_read to o first second true e f g hf hg next =
+      ap (λ z. with_some c.events (operand z c first)
+      (λ a. with_some c.events (operand z c second)
+      (λ b. computed program next to c (performed (is_reserved program.globals) o a b
+      c.store.memory)))) e
+      ∙ ap (computed program next to c) (same_constant (is_reserved program.globals) o 0 0
+      (now.slots first) (now.slots second) c.store.memory e)
+  operands_read to o first second false e f g hf hg next =
+      let x = is_read t fs program p q image roomy s c b counted around first f hf in
+      let y = is_read t fs program p q image roomy s c b counted around second g hg in
+      ap (λ z. with_some c.events (operand z c first)
+      (λ a. with_some c.events (operand z c second)
+      (λ b. computed program next to c (performed (is_reserved program.globals) o a b
+      c.store.memory)))) e
+      ∙ ap (λ z. with_some c.events z (λ a. with_some c.events (read c second)
+      (λ b. computed program next to c (performed (is_reserved program.globals) o a b
+      c.store.memory)))) x.reads
+      ∙ ap (λ z. with_some c.events z (λ b. computed program next to c
+      (performed (is_reserved program.globals) o x.value b c.store.memory))) y.reads
+      ∙ ap (λ z. computed program next to c (performed (is_reserved program.globals) o z y.value
+      c.store.memory)) (sym x.same)
+      ∙ ap (λ z. computed program next to c (performed (is_reserved program.globals) o
+      (now.slots first) z c.store.memory)) (sym y.same)
+
+  -- linear code with a number in a slot and another memory, at the next instruction
+  abbrev pub stored : Slot → ℕ → Memory → Configuration
+  stored to v m = at_other t fs program p q image roomy c (c.frame.next + 1)
+      (locals_after (linear.locals_of c.store c.frame.activation) to v)
+      (temporaries_after c.frame.temporaries to v) c.frame.landed m c.events
+
+  written_fits : (to : Slot) → length c.frame.temporaries ≤ body.temporaries
+      → FitsAfter c.frame.temporaries to → IsSlot (counts_of body) to → (value : ℕ)
+      → length (temporaries_after c.frame.temporaries to value) ≤ body.temporaries
+  written_fits (Local x) held fits there value = held
+  written_fits (Temporary i) held fits there value = let n = exactly c.frame.temporaries i value
+      fits in omega arith
+
+  -- the slots after a store
+  pub leaves_stored : (to : Slot) (value : ℕ) (m : Memory)
+      → length c.frame.temporaries ≤ body.temporaries → FitsAfter c.frame.temporaries to
+      → IsSlot (counts_of body) to
+      → Leaves body (record { slots = with_slot now.slots to value; memory = m })
+      (locals_after (linear.locals_of c.store c.frame.activation) to value)
+      (temporaries_after c.frame.temporaries to value)
+  leaves_stored to value m held fits there =
+      let all = slots_here t fs program p q image s c b counted in
+      let n : length (linear.locals_of c.store c.frame.activation)
+      ≡ body.locals = ap length (locals_here t fs program p q image s c b counted)
+      ∙ count t fs program p q image s c b counted in
+      record {
+        count = locals_count_after (linear.locals_of c.store c.frame.activation) to value ∙ n;
+        locals = λ i lt. local_after now.slots (linear.locals_of c.store c.frame.activation) to
+            value i (omega arith) (all.locals i lt);
+        few = written_fits to held fits there value;
+        temporaries = λ i w e. temporary_after now.slots c.frame.temporaries to value i w fits
+            all.temporaries e;
+      }
+
+  -- linear code writes a slot, in another memory
+  pub writes : (to : Slot) (value : ℕ) (m : Memory) → FitsAfter c.frame.temporaries to
+      → (next : Next) → written (record c { store = record c.store { memory = m } }) to value next
+      ≡ next (stored to value m)
+  unfolding with_some
+  writes (Local x) value m fits next = refl
+  writes (Temporary i) value m fits next =
+      let d : Configuration = record c { store = record c.store { memory = m } } in
+      ap (λ z. with_some c.events (with_temporaries d
+      (if z then Some (take i c.frame.temporaries ++ value ∷ []) else None))
+      (λ e. next (forth e))) (le-leb i (length c.frame.temporaries) fits)
+      ∙ ap (λ xs. let o : Configuration = record {
+        frame = record c.frame
+            { next = c.frame.next + 1; temporaries = take i c.frame.temporaries ++ value ∷ [] };
+        below = c.below;
+        store = record { memory = m; activations = xs };
+        events = c.events;
+      } in
+      next o) (sym (same_store_here))
+    where
+      same_store_here : slice_set c.store.activations c.frame.activation
+          (linear.locals_of c.store c.frame.activation) ≡ c.store.activations
+      same_store_here = ap (slice_set c.store.activations c.frame.activation)
+          (locals_here t fs program p q image s c b counted)
+          ∙ same_store t fs program p q image roomy s c b counted around
+
+  -- it isn't stuck, so that the slot is the next one at most
+  pub fits_when_read : (to : Slot) (value : ℕ) (m : Memory)
+      → HasRule (written (record c { store = record c.store { memory = m } }) to value
+      (exec program zero)) → FitsAfter c.frame.temporaries to
+  unfolding with_some
+  fits_when_read (Local x) value m h = tt
+  fits_when_read (Temporary i) value m h = by (nat_le i (length c.frame.temporaries)) refl h
+    where
+      by : (z : Bool) → nat_le i (length c.frame.temporaries) ≡ z
+          → HasRule (with_some c.events (with_temporaries
+          (record c { store = record c.store { memory = m } })
+          (if z then Some (take i c.frame.temporaries ++ value ∷ []) else None))
+          (λ e. exec program zero (forth e))) → i ≤ length c.frame.temporaries
+      by true e h = leb-true i (length c.frame.temporaries) e
+      by false e h = absurd h
+
+  pub compute_step : (to : Slot) (o : Operation) (first second : Slot) (value : ℕ) (m : Memory)
+      → c.frame.landed ≡ None → slice_get body.code c.frame.next
+      ≡ Some (instructions.Compute to o first second)
+      → length c.frame.temporaries ≤ body.temporaries
+      → ready.IsRead (is_constant o) (length c.frame.temporaries) first
+      → ready.IsRead (is_constant o) (length c.frame.temporaries) second
+      → HasRule (act program (instructions.Compute to o first second) (exec program zero) c)
+      → GoesInside t fs program p q image roomy s c b counted around
+      (instructions.Compute to o first second)
+      → outcome_here o first second ≡ Gives value m
+      → Moves t fs program 16 turns_left (RepresentsAt t fs program p q) s c
+      (instructions.Compute to o first second)
+  compute_step to o first second value m free e held hf hg rule inside gives =
+      let there = has_slots t fs program p q image roomy s c b counted
+      (instructions.Compute to o first second) e in
+      let reads = operands_read to o first second (is_constant o) refl there.1 there.2 hf hg in
+      let fits = fits_when_read to value m (subst HasRule
+      (reads (exec program zero) ∙ ap (computed program (exec program zero) to c) gives) rule) in
+      let acts : (next : Next) → act program (instructions.Compute to o first second) next c
+      ≡ next (stored to value m) = λ next. reads next ∙ ap (computed program next to c) gives
+      ∙ writes to value m fits next in
+      let lt = inside (stored to value m) acts body b.body.slots.body in
+      let at = next_address t fs program p q image roomy s c b counted
+      (instructions.Compute to o first second) e in
+      let small = label_small t fs program p q image roomy s c b counted around (c.frame.next + 1)
+      lt in
+      let run : Computed (frame t fs program p q image roomy s c b counted) to o first second
+      (v t fs program p q image roomy s c b counted) s.cpu.rip s.cpu.flags now
+      (kept to now.slots (Gives value m)) =
+      subst (λ x. Computed (frame t fs program p q image roomy s c b counted) to o first second
+      (v t fs program p q image roomy s c b counted) s.cpu.rip s.cpu.flags now
+      (kept to now.slots x)) gives
+      (compute_run (frame t fs program p q image roomy s c b counted) to o first second
+      (v t fs program p q image roomy s c b counted) s.cpu.rip s.cpu.flags now
+      (room_here t fs program p q image s c b counted) there.0 there.1 there.2
+      (sp_is t fs program p q image roomy s c b counted)
+      (holds_here t fs program p q image s c b counted)
+      (template_here t fs program p q image roomy s c b counted
+      (instructions.Compute to o first second) e)) in
+      let y = p.layout c.frame.body in
+      let len = compute_length y to o first second in
+      let more = one_more c.frame.temporaries to value fits in
+      moves_to t fs program p q image roomy s c b counted around
+      (instructions.Compute to o first second) (length (compute_code y to o first second))
+      (c.frame.next + 1) (s.cpu.rip + sizes (compute_code y to o first second))
+      (record { slots = with_slot now.slots to value; memory = m })
+      (locals_after (linear.locals_of c.store c.frame.activation) to value)
+      (temporaries_after c.frame.temporaries to value) c.frame.landed
+      (from_here t fs program p q image roomy s c b counted around
+      (length (compute_code y to o first second))
+      (s.cpu.rip + sizes (compute_code y to o first second))
+      (record { slots = with_slot now.slots to value; memory = m }) run)
+      (let z = compute_size y to o first second in omega arith) lt
+      (let z = compute_size y to o first second in omega arith)
+      (leaves_stored to value m held fits there.0) free
+      (compute_keeps t fs program p q image roomy s c b counted around to o first second e value m
+      gives) acts (some_code y to o first second) (omega arith)

@@ -1,0 +1,159 @@
+-- From a routine's first byte on the shadow is kept, while its frame is made and its arguments are
+-- stored.
+use Rattle.std.proofs.Common.{◌≡◌, ℕ, zero, suc, ◌+◌, ◌*◌, ◌^◌, ◌<◌, ◌≤◌, Bool, true, false, Option, Some, None, List, [], ◌∷◌, ◌++◌, length, refl, sym, ap, subst, ◌∙◌, arith, inl, inr, append_assoc}
+use Rattle.std.specs.Prelude.{◌⊎◌, nat_lt, if◌then◌else◌}
+use Rattle.x64_instr.specs.declared.register.Reg.{Reg}
+use Rattle.x64_instr.specs.declared.register.Reg.TheVariants.{Rax, Rdx, Rsp}
+use Rattle.x64_instr.specs.declared.instruction.Instr.{Instr}
+use Rattle.x64_machine.specs.Effect.{State, register}
+use Rattle.virtual_unwind.specs.CallerOf.{Functions}
+use Rattle.host_model.specs.declared.funclet.Funclet.{Funclet}
+use Rattle.linear_code.specs.Program.{LinearProgram, LinearBody}
+use Rattle.linear_machine.specs.Frames.{BodyName, body_of}
+use Rattle.template_code.specs.declared.layout.Layout.{Layout}
+use Rattle.template_code.specs.Bytes.{sizes}
+use Rattle.template_code.specs.Slots.{fetched, temporary_at, local_at}
+use Rattle.template_code.specs.Calls.{keep_register, parameter_register, stack_parameter, parameter_code, parameters_code, passing_code, arguments_code}
+use Rattle.x64_templates.specs.Runs.{HasCode}
+use Rattle.x64_templates.proofs.Computes.{code_split}
+use Rattle.x64_templates.proofs.Encoded.{near}
+use Rattle.match_stack.specs.Stack.{StackItem}
+use Rattle.match_stack.specs.ImagePlan.{ImagePlan}
+use Rattle.match_runs.specs.Shadow.{AllKeep}
+use Rattle.match_bodies.specs.CodeSites as sites
+use Rattle.match_bodies.specs.CodeSites.{Sites, begin_of, making_size}
+use Rattle.match_bodies.specs.ProgramImages.{HasProgram, IsProgramImage}
+use Rattle.match_bodies.specs.Callers.{FindsReturn}
+use Rattle.match_bodies.proofs.RoutineWalks.{StepsTo, steps_split, keeps_split, Beneath, IsPlain, AllPlain, Finds, ran}
+use Rattle.match_bodies.proofs.ReturnAddresses.{argument_found}
+use Rattle.match_bodies.proofs.FrameMaking.{making_steps, frame_there, made_by}
+use Rattle.template_code.specs.declared.layout.TheConstants.{LARGEST_FRAME}
+
+-- ---- what entries and calls are made of
+
+pub plain_both : (d e : ℕ) (a b : List Instr) → AllPlain d e a → AllPlain d e b
+    → AllPlain d e (a ++ b)
+plain_both d e [] b p q = q
+plain_both d e (i ∷ a) b p q = (p.0, plain_both d e a b p.1 q)
+
+pub kept_plain : (d e : ℕ) (r : Reg) (k : ℕ) → k < 2 ^ 31
+    → (k + 8 ≤ d) ⊎ ((d + 8 ≤ k) × (k + 8 ≤ d + e)) → IsPlain d e (keep_register r k)
+kept_plain d e r k lt inside = (
+  near k lt,
+  inr
+      (record { kept = r; offset = k; is = refl; inside = inside }),
+)
+
+pub fetched_plain : (d e : ℕ) (base : Reg) (k : ℕ) → k < 2 ^ 31 → IsPlain d e (fetched Rax base k)
+fetched_plain d e base k lt = (near k lt, inl refl)
+
+-- the four registers of arguments
+pub arguments_plain : (d e : ℕ) (y : Layout) (first : ℕ) → temporary_at y (first + 3) < 2 ^ 31
+    → AllPlain d e (arguments_code y first)
+arguments_plain d e y first lt = (
+  (near (temporary_at y first) (omega arith), inl refl),
+  (
+    (near (temporary_at y (first + 1)) (omega arith), inl refl),
+    (
+      (near (temporary_at y (first + 2)) (omega arith), inl refl),
+      ((near (temporary_at y (first + 3)) (omega arith), inl refl), tt),
+    ),
+  ),
+)
+
+-- those from the fifth on
+pub passing_plain : (d e : ℕ) (y : Layout) (first i n : ℕ) → temporary_at y (first + i + n) < 2 ^ 31
+    → 8 * (i + n) ≤ d → d < 2 ^ 31 → AllPlain d e (passing_code y first i n)
+passing_plain d e y first i zero lt le small = tt
+passing_plain d e y first i (suc n) lt le small = (
+  fetched_plain d e Rsp (temporary_at y (first + i)) (omega arith),
+  (
+    kept_plain d e Rax (8 * i) (omega arith) (inl (omega arith)),
+    passing_plain d e y first (i + 1) n (omega arith) (omega arith) small,
+  ),
+)
+
+-- parameters
+parameter_plain : (d e : ℕ) (y : Layout) (i : ℕ) (few : Bool) → local_at y i < 2 ^ 31
+    → stack_parameter y i < 2 ^ 31 → (local_at y i + 8 ≤ d)
+    ⊎ ((d + 8 ≤ local_at y i) × (local_at y i + 8 ≤ d + e))
+    → AllPlain d e (if few then keep_register (parameter_register i) (local_at y i)
+    ∷ [] else fetched Rax Rsp (stack_parameter y i) ∷ keep_register Rax (local_at y i) ∷ [])
+parameter_plain d e y i true lt lt' inside = (
+  kept_plain d e (parameter_register i) (local_at y i)
+      lt inside,
+  tt,
+)
+parameter_plain d e y i false lt lt' inside = (
+  fetched_plain d e Rsp (stack_parameter y i) lt',
+  (kept_plain d e Rax (local_at y i) lt inside, tt),
+)
+
+pub parameters_plain : (d e : ℕ) (y : Layout) (i n : ℕ) → local_at y (i + n) < 2 ^ 31
+    → stack_parameter y (i + n) < 2 ^ 31
+    → ((j : ℕ) → j < i + n → (local_at y j + 8 ≤ d)
+    ⊎ ((d + 8 ≤ local_at y j) × (local_at y j + 8 ≤ d + e))) → AllPlain d e (parameters_code y i n)
+parameters_plain d e y i zero lt lt' inside = tt
+parameters_plain d e y i (suc n) lt lt' inside =
+    plain_both d e (parameter_code y i) (parameters_code y (i + 1) n)
+    (parameter_plain d e y i (nat_lt i 4) (omega arith) (omega arith) (inside i (omega arith)))
+    (parameters_plain d e y (i + 1) n (omega arith) (omega arith) (λ j l. inside j (omega arith)))
+
+-- where a funclet keeps its base
+pub base_plain : (d e : ℕ) (parent : Option ℕ) (b : ℕ)
+    → ((away : ℕ) → parent ≡ Some away → away < 2 ^ 31) → b + 8 ≤ d → d < 2 ^ 31
+    → AllPlain d e (sites.keep_base parent b)
+base_plain d e None b lt le small = (kept_plain d e Rdx b (omega arith) (inl le), tt)
+base_plain d e (Some away) b lt le small = (
+  fetched_plain d e Rdx away (lt away refl),
+  (kept_plain d e Rax b (omega arith) (inl le), tt),
+)
+
+-- ---- a routine is entered
+
+module _ (t : Functions) (fs : List Funclet) (program : LinearProgram) (p : ImagePlan) (q : Sites)
+    (image : IsProgramImage t fs program p q) where
+  module _ (name : BodyName) (b : LinearBody) (is : body_of program name ≡ Some b)
+      (some : 0 < length b.code) (top from back : ℕ) (others : List ℕ) (list : List StackItem) where
+    abbrev frame : ℕ
+    frame = (p.layout name).frame
+
+    -- its frame is made, and these of its arguments are stored
+    pub record EntryRan (n : ℕ) (e w : State) (stored : List Instr) : Type 0 where
+      pub keeps : AllKeep t fs n e
+      pub beneath : Beneath t w top from back others list
+      pub has : HasProgram t fs program p q w.memory
+      pub rip : w.cpu.rip ≡ begin_of p q name + making_size p q name + sizes stored
+      pub stack : register w.cpu Rsp + frame ≡ top
+
+    pub entry_ran : (n : ℕ) (e w : State) (a c : List Instr) (extra : ℕ)
+        → sites.arguments_code program p name ≡ a ++ c
+        → n ≡ making_steps (p.leaf name) frame + length a → StepsTo n e w
+        → e.cpu.rip ≡ begin_of p q name → register e.cpu Rsp ≡ top
+        → Beneath t e top from back others list → HasProgram t fs program p q e.memory
+        → frame + 8 ≤ LARGEST_FRAME → LARGEST_FRAME ≤ top → from ≡ top + extra
+        → AllPlain frame extra a → EntryRan n e w a
+    entry_ran n e w a c extra parts count run here at_top beneath has most low up plain =
+        let making = making_steps (p.leaf name) frame in
+        let h = steps_split making (length a) e w (subst (λ k. StepsTo k e w) count run) in
+        let u = h.0 in
+        let m = made_by t fs program p q image name b is some top from back others list e u here
+        at_top beneath has (omega arith) (p.leaf name) refl most (omega arith) h.1 in
+        let code = code_split u.memory (begin_of p q name + making_size p q name) a c
+        (subst (HasCode u.memory (begin_of p q name + making_size p q name)) parts
+        (frame_there t fs program p q image name b is some u.memory m.has).1) in
+        let finds : Finds t fs program p q top from back others list u.cpu.rip a frame = λ done left
+        split mem k.
+        subst (λ x. FindsReturn t mem (x + sizes done) frame) (sym m.rip)
+        (argument_found t fs program p q image name b is mem k some done (left ++ c)
+        (parts ∙ ap (λ (xs : List Instr). xs ++ c) split ∙ append_assoc done left c)) in
+        let r = ran t fs program p q top from back others list a u w frame extra h.2 plain
+        (subst (λ x. HasCode u.memory x a) (sym m.rip) code.0) m.has m.beneath m.stack up finds in
+        record {
+          keeps = subst (λ k. AllKeep t fs k e) (sym count)
+              (keeps_split t fs making (length a) e u h.1 m.keeps r.keeps);
+          beneath = r.beneath;
+          has = r.has;
+          rip = r.rip ∙ ap (λ x. x + sizes a) m.rip;
+          stack = ap (λ x. x + frame) r.stack ∙ m.stack;
+        }

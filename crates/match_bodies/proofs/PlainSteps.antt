@@ -1,0 +1,389 @@
+-- The steps of linear code that need no dispatcher and no call.
+use Rattle.std.proofs.Common.{◌≡◌, ℕ, zero, suc, ◌+◌, ◌*◌, ◌^◌, ◌<◌, ◌≤◌, Bool, true, false, cond, Option, Some, None, List, [], ◌∷◌, length, take, refl, sym, ap, subst, ◌∙◌, arith, length-take}
+use Rattle.std.specs.Prelude.{nat_eq, slice_get, slice_index, slice_set}
+use Rattle.std.proofs.lemmas.List.{append-nil}
+use Rattle.std.proofs.lemmas.Option.{slice_get_within}
+use Rattle.seh_num.specs.declared.event.Event.{Event}
+use Rattle.flat_memory.specs.Memory.{Memory}
+use Rattle.x64_machine.specs.Effect.{State}
+use Rattle.virtual_unwind.specs.CallerOf.{Functions}
+use Rattle.host_model.specs.declared.funclet.Funclet.{Funclet}
+use Rattle.linear_code.specs.declared.slot.Slot.{Slot}
+use Rattle.linear_code.specs.declared.slot.Slot.TheVariants.{Local, Temporary}
+use Rattle.linear_code.specs.declared.instruction.Instruction.{Instruction}
+use Rattle.linear_code.specs.declared.instruction.Instruction.TheVariants as instructions
+use Rattle.linear_code.specs.BodyState.{BodyState}
+use Rattle.linear_code.specs.Meaning as meanings
+use Rattle.linear_code.specs.Meaning.{JumpsTo, IsSlot}
+use Rattle.lowering_invariants.specs.Ready.{IsHeld}
+use Rattle.linear_code.specs.Program.{LinearProgram, LinearBody}
+use Rattle.linear_machine.specs.Frames.{body_of, Configuration, Next, local_of, read, at_label, forth, with_last, pick, with_some}
+use Rattle.linear_machine.specs.Instructions.{tested, act}
+use Rattle.template_code.specs.declared.layout.Layout.{Layout}
+use Rattle.x64_templates.specs.Straight.{machine}
+use Rattle.x64_templates.specs.InstructionRuns.{InstructionDone}
+use Rattle.x64_templates.specs.Runs.{ReachesBody}
+use Rattle.template_code.specs.Template.{template, template_size, body_size, offset_of}
+use Rattle.match_bodies.specs.BodyViews.{counts_of}
+use Rattle.match_stack.specs.ImagePlan.{ImagePlan}
+use Rattle.match_stack.specs.ItemMatches.{locals_of}
+use Rattle.match_runs.specs.Matched.{Moves}
+use Rattle.lowering_invariants.specs.Room.{HaveRoom}
+use Rattle.match_bodies.specs.CodeSites.{Sites, links_of}
+use Rattle.match_bodies.specs.ProgramImages.{IsProgramImage}
+use Rattle.match_bodies.specs.Bodies.{turns_left, RepresentsAt}
+use Rattle.match_bodies.specs.SlotStores.{with_values}
+use Rattle.match_bodies.proofs.ActivationPlaces.{locals_count}
+use Rattle.match_bodies.proofs.ActivationStores.{activated, same_activations}
+use Rattle.match_bodies.proofs.BodyViews.{IsCounted, placed, count, slots_here, locals_here}
+use Rattle.match_bodies.proofs.TemplateSlots.{Leaves}
+use Rattle.match_bodies.proofs.TemplateRuns.{code, frame, slots, v, same_state, done, has_slots, next_address, Surroundings, to_label}
+use Rattle.match_bodies.proofs.TemplateShadows.{RunsKeep}
+use Rattle.match_bodies.proofs.TemplateKeeping.{separator_keeps, jump_keeps, jump_if_zero_keeps}
+
+-- an instruction of a body begins within it
+offset_most : (y : Layout) (body : List Instruction) (number : ℕ)
+    → offset_of y body number ≤ body_size y body
+offset_most y [] zero = omega arith
+offset_most y [] (suc number) = omega arith
+offset_most y (i ∷ body) zero = omega arith
+offset_most y (i ∷ body) (suc number) = let r = offset_most y body number in omega arith
+
+-- an element of a front of a list
+taken : (i : ℕ) (xs : List ℕ) (j v : ℕ) → slice_get (take i xs) j ≡ Some v → slice_get xs j ≡ Some v
+taken zero xs j v e = cc
+taken (suc i) [] j v e = cc
+taken (suc i) (x ∷ xs) zero v e = e
+taken (suc i) (x ∷ xs) (suc j) v e = taken i xs j v e
+
+got_within : (vs : List ℕ) (i : ℕ) → i < length vs → slice_get vs i ≡ Some (slice_index vs i)
+got_within [] i lt = absurd (omega arith)
+got_within (x ∷ vs) zero lt = refl
+got_within (x ∷ vs) (suc i) lt = got_within vs i (omega arith)
+
+module _ (t : Functions) (fs : List Funclet) (program : LinearProgram) (p : ImagePlan) (q : Sites)
+    (image : IsProgramImage t fs program p q) (roomy : HaveRoom program) where
+  -- linear code at another instruction of the body that runs, with these numbers in its slots
+  abbrev pub at_other : Configuration → (label : ℕ) (values ts : List ℕ) (landed : Option ℕ)
+      → Memory → List Event → Configuration
+  at_other c label values ts landed source events = record {
+    frame = record c.frame { next = label; temporaries = ts; landed = landed };
+    below = c.below;
+    store = record {
+      memory = source;
+      activations = slice_set c.store.activations c.frame.activation
+          values;
+    };
+    events = events;
+  }
+
+  module _ (s : State) (c : Configuration) (b : RepresentsAt t fs program p q s c)
+      (counted : IsCounted t fs program p q image c)
+      (around : Surroundings t fs program p q image roomy s c b counted) where
+    abbrev body : LinearBody
+    body = code t fs program p q image roomy s c b counted
+
+    abbrev pub values_here : List ℕ
+    values_here = (placed t fs program p q image s c b counted).values
+
+    is_there : c.frame.activation < length b.body.acts
+    is_there = let n = slice_get_within (locals_of b.body.acts) c.frame.activation values_here
+        (placed t fs program p q image s c b counted).number in let k = locals_count b.body.acts in
+        omega arith
+
+    -- a turn of linear code that is a run of a template to an instruction of the body
+    pub moves_to : (i : Instruction) (n label rip : ℕ) (d : BodyState) (values ts : List ℕ)
+        (landed : Option ℕ)
+        → ReachesBody (frame t fs program p q image roomy s c b counted) n s rip
+        (v t fs program p q image roomy s c b counted).rest d → rip ≡ p.address c.frame.body label
+        → label < length body.code → rip < 2 ^ 64 → Leaves body d values ts → landed ≡ None
+        → RunsKeep t fs program p q image s c b counted n s
+        → ((next : Next) → act program i next c
+        ≡ next (at_other c label values ts landed d.memory c.events)) → 1 ≤ n
+        → n + 3 * length ts ≤ 16 + 3 * length c.frame.temporaries
+        → Moves t fs program 16 turns_left (RepresentsAt t fs program p q) s c i
+    moves_to i n label rip d values ts landed r at lt small leaves free keep acts some few =
+        let m = to_label t fs program p q image roomy s c b counted around n label rip d values ts
+        landed c.events r at lt small leaves free keep in
+        let store : locals_of (with_values b.body.acts c.frame.activation values)
+        ≡ slice_set c.store.activations c.frame.activation values =
+        activated b.body.acts c.frame.activation values is_there
+        ∙ ap (λ xs. slice_set xs c.frame.activation values) (sym b.body.store) in
+        record {
+          turns = n;
+          some = some;
+          configuration = at_other c label values ts landed d.memory c.events;
+          few = omega arith;
+          state = m.0;
+          events = [];
+          comes = m.1;
+          acts = acts;
+          shown = sym (append-nil c.events);
+          is_there = subst (λ (xs : List (List ℕ)). let o : Configuration = record {
+            frame = record c.frame { next = label; temporaries = ts; landed = landed };
+            below = c.below;
+            store = record { memory = d.memory; activations = xs };
+            events = c.events;
+          } in RepresentsAt t fs program p q m.0 o) store m.2;
+        }
+
+    -- the same numbers in the locals
+    pub same_store : slice_set c.store.activations c.frame.activation values_here
+        ≡ c.store.activations
+    same_store =
+        ap (λ xs. slice_set xs c.frame.activation values_here) b.body.store
+        ∙ sym (activated b.body.acts c.frame.activation values_here is_there)
+        ∙ same_activations b.body.acts c.frame.activation values_here is_there
+        (placed t fs program p q image s c b counted).number
+        ∙ sym b.body.store
+
+    -- ---- jumps, and nothing
+
+    -- the slots as they are
+    pub all_as_they_are : length c.frame.temporaries ≤ body.temporaries
+        → Leaves body (slots t fs program p q image roomy s c b counted) values_here
+        c.frame.temporaries
+    all_as_they_are held =
+        let w = slots_here t fs program p q image s c b counted in
+        record {
+          count = count t fs program p q image s c b counted;
+          locals = λ i lt. w.locals i lt ∙ ap (λ xs. slice_index xs i)
+              (locals_here t fs program p q image s c b counted);
+          few = held;
+          temporaries = w.temporaries;
+        }
+
+    -- linear code's next configuration is at an instruction
+    abbrev pub GoesInside : Instruction → Type 0
+    GoesInside i = (d : Configuration) → ((next : Next) → act program i next c ≡ next d)
+        → (o : LinearBody) → body_of program d.frame.body ≡ Some o → d.frame.next < length o.code
+
+    -- a template's run begins in the state itself
+    abbrev pub Reached : ℕ → ℕ → BodyState → Type 0
+    Reached n rip d = ReachesBody (frame t fs program p q image roomy s c b counted) n s rip
+        (v t fs program p q image roomy s c b counted).rest d
+
+    pub from_here : (n rip : ℕ) (d : BodyState)
+        → ReachesBody (frame t fs program p q image roomy s c b counted) n
+        (machine (v t fs program p q image roomy s c b counted) s.cpu.rip s.cpu.flags) rip
+        (v t fs program p q image roomy s c b counted).rest d → Reached n rip d
+    from_here n rip d r = subst (λ x. ReachesBody (frame t fs program p q image roomy s c b counted)
+        n x rip (v t fs program p q image roomy s c b counted).rest d)
+        (sym (same_state t fs program p q image roomy s c b counted)) r
+
+    pub label_small : (label : ℕ) → label < length body.code → p.address c.frame.body label < 2 ^ 64
+    label_small label lt =
+        let a = image.addresses c.frame.body body b.body.slots.body in
+        let high = a.inside.high in
+        let r = a.rises label lt in
+        let most = offset_most (p.layout c.frame.body) body.code label in
+        let e = a.labels label in
+        omega arith
+
+    pub jump_step : (label : ℕ) → c.frame.landed ≡ None
+        → slice_get body.code c.frame.next ≡ Some (instructions.Jump label)
+        → length c.frame.temporaries ≤ body.temporaries → GoesInside (instructions.Jump label)
+        → Moves t fs program 16 turns_left (RepresentsAt t fs program p q) s c (instructions.Jump label)
+    jump_step label free e held inside =
+        let r = done t fs program p q image roomy s c b counted (instructions.Jump label) e in
+        let most = r.most in
+        let lt = inside (at_label label c) (λ next. refl) body b.body.slots.body in
+        moves_to (instructions.Jump label) 1 label (p.address c.frame.body label)
+        (slots t fs program p q image roomy s c b counted) values_here c.frame.temporaries
+        c.frame.landed
+        (from_here 1 (p.address c.frame.body label)
+        (slots t fs program p q image roomy s c b counted) r.follows) refl lt
+        (label_small label lt) (all_as_they_are held) free
+        (jump_keeps t fs program p q image roomy s c b counted label e)
+        (λ next. ap (λ xs. let o : Configuration =
+        record {
+          frame = record c.frame { next = label };
+          below = c.below;
+          store = record { memory = c.store.memory; activations = xs };
+          events = c.events;
+        } in
+        next o) (sym same_store)) r.least (omega arith)
+
+    -- ---- slots that are read
+
+    abbrev pub slots_now : BodyState
+    slots_now = slots t fs program p q image roomy s c b counted
+
+    pub record IsRead (slot : Slot) : Type 0 where
+      pub value : ℕ
+      pub reads : read c slot ≡ Some value
+      pub same : slots_now.slots slot ≡ value
+
+    pub is_read : (slot : Slot) → IsSlot (counts_of body) slot
+        → IsHeld (length c.frame.temporaries) slot → IsRead slot
+    is_read (Local x) there h = record {
+      value = local_of c.store c.frame.activation x;
+      reads = refl;
+      same = (slots_here t fs program p q image s c b counted).locals x there;
+    }
+    is_read (Temporary i) there h =
+        let e = got_within c.frame.temporaries i h in
+        record {
+          value = slice_index c.frame.temporaries i;
+          reads = e;
+          same = (slots_here t fs program p q image s c b counted).temporaries i
+              (slice_index c.frame.temporaries i) e;
+        }
+
+    -- fewer temporaries
+    pub fewer : (ts : List ℕ) → length c.frame.temporaries ≤ body.temporaries
+        → length ts ≤ length c.frame.temporaries
+        → ((i v : ℕ) → slice_get ts i ≡ Some v → slice_get c.frame.temporaries i ≡ Some v)
+        → Leaves body slots_now values_here ts
+    fewer ts held le front =
+        let all = all_as_they_are held in
+        record {
+          count = all.count;
+          locals = all.locals;
+          few = omega arith;
+          temporaries = λ i v e. all.temporaries i v (front i v e);
+        }
+
+    pub separator_step : c.frame.landed ≡ None
+        → slice_get body.code c.frame.next ≡ Some instructions.Separator
+        → length c.frame.temporaries ≤ body.temporaries → GoesInside instructions.Separator
+        → Moves t fs program 16 turns_left (RepresentsAt t fs program p q) s c instructions.Separator
+    separator_step free e held inside =
+        let r = done t fs program p q image roomy s c b counted instructions.Separator e in
+        let most = r.most in
+        let lt = inside (forth (with_last [] c)) (λ next. refl) body b.body.slots.body in
+        let at = next_address t fs program p q image roomy s c b counted instructions.Separator e in
+        let small = label_small (c.frame.next + 1) lt in
+        moves_to instructions.Separator 1 (c.frame.next + 1)
+        (s.cpu.rip + template_size (p.layout c.frame.body) instructions.Separator) slots_now
+        values_here [] c.frame.landed
+        (from_here 1 (s.cpu.rip + template_size (p.layout c.frame.body) instructions.Separator)
+        slots_now r.follows) (sym at) lt (omega arith) (fewer [] held (omega arith) (λ i v g. cc))
+        free (separator_keeps t fs program p q image roomy s c b counted e)
+        (λ next. ap (λ xs. let o : Configuration =
+        record {
+          frame = record c.frame { next = c.frame.next + 1; temporaries = [] };
+          below = c.below;
+          store = record { memory = c.store.memory; activations = xs };
+          events = c.events;
+        } in next o) (sym same_store)) r.least (omega arith)
+
+    -- the temporaries after a test
+    abbrev pub after_test : Slot → List ℕ
+    after_test (Local x) = c.frame.temporaries
+    after_test (Temporary i) = take i c.frame.temporaries
+
+    test_front : (slot : Slot) → length c.frame.temporaries ≤ body.temporaries
+        → Leaves body slots_now values_here (after_test slot)
+    test_front (Local x) held = all_as_they_are held
+    test_front (Temporary i) held = fewer (take i c.frame.temporaries) held
+        (let n = length-take i c.frame.temporaries in omega arith) (taken i c.frame.temporaries)
+
+    test_fewer : (slot : Slot) → length (after_test slot) ≤ length c.frame.temporaries
+    test_fewer (Local x) = omega arith
+    test_fewer (Temporary i) = let n = length-take i c.frame.temporaries in omega arith
+
+    abbrev pub tested_at : Slot → ℕ → Configuration
+    tested_at slot label = record {
+      frame = record c.frame
+          { next = label; temporaries = after_test slot };
+      below = c.below;
+      store = c.store;
+      events = c.events;
+    }
+
+    tested_is : (slot : Slot) (label : ℕ) → at_label label (tested slot c) ≡ tested_at slot label
+    tested_is (Local x) label = refl
+    tested_is (Temporary i) label = refl
+
+    forth_is : (slot : Slot) → forth (tested slot c) ≡ tested_at slot (c.frame.next + 1)
+    forth_is (Local x) = refl
+    forth_is (Temporary i) = refl
+
+    -- ---- a jump where a slot holds 0
+
+    acts_tested : (slot : Slot) (label value : ℕ) (z : Bool) → read c slot ≡ Some value
+        → nat_eq value 0 ≡ z → (next : Next) → act program (instructions.JumpIfZero slot label) next c
+        ≡ pick z (next (at_label label (tested slot c))) (next (forth (tested slot c)))
+    unfolding with_some
+    acts_tested slot label value z r e next =
+        ap (λ o. with_some c.events o (λ v. pick (nat_eq v 0)
+        (next (at_label label (tested slot c))) (next (forth (tested slot c))))) r
+        ∙ ap (λ w. pick w (next (at_label label (tested slot c))) (next (forth (tested slot c)))) e
+
+    jumps : (slot : Slot) (label value : ℕ) → read c slot ≡ Some value → nat_eq value 0 ≡ true
+        → (next : Next) → act program (instructions.JumpIfZero slot label) next c
+        ≡ next (tested_at slot label)
+    unfolding pick
+    jumps slot label value r e next = acts_tested slot label value true r e next
+        ∙ ap next (tested_is slot label)
+
+    continues : (slot : Slot) (label value : ℕ) → read c slot ≡ Some value → nat_eq value 0 ≡ false
+        → (next : Next) → act program (instructions.JumpIfZero slot label) next c
+        ≡ next (tested_at slot (c.frame.next + 1))
+    unfolding pick
+    continues slot label value r e next = acts_tested slot label value false r e next
+        ∙ ap next (forth_is slot)
+
+    -- a test takes fewer turns than it frees
+    to_tested : (slot : Slot) (label n rip to : ℕ) → c.frame.landed ≡ None
+        → rip ≡ p.address c.frame.body to → Reached n rip slots_now
+        → length c.frame.temporaries ≤ body.temporaries
+        → GoesInside (instructions.JumpIfZero slot label)
+        → RunsKeep t fs program p q image s c b counted n s
+        → ((next : Next) → act program (instructions.JumpIfZero slot label) next c
+        ≡ next (tested_at slot to)) → 1 ≤ n → n ≤ 16
+        → Moves t fs program 16 turns_left (RepresentsAt t fs program p q) s c
+        (instructions.JumpIfZero slot label)
+    to_tested slot label n rip to free at r held inside keep acts some most =
+        let lt = inside (tested_at slot to) acts body b.body.slots.body in
+        let small = label_small to lt in
+        let len = test_fewer slot in
+        moves_to (instructions.JumpIfZero slot label) n to rip slots_now values_here
+        (after_test slot) c.frame.landed r at lt (omega arith) (test_front slot held) free keep
+        (λ next. acts next ∙ ap (λ xs. let o : Configuration =
+        record {
+          frame = record c.frame { next = to; temporaries = after_test slot };
+          below = c.below;
+          store = record { memory = c.store.memory; activations = xs };
+          events = c.events;
+        } in next o) (sym same_store)) some (omega arith)
+
+    pub jump_if_zero_step : (slot : Slot) (label : ℕ) → c.frame.landed ≡ None
+        → slice_get body.code c.frame.next ≡ Some (instructions.JumpIfZero slot label)
+        → length c.frame.temporaries ≤ body.temporaries → IsHeld (length c.frame.temporaries) slot
+        → GoesInside (instructions.JumpIfZero slot label)
+        → Moves t fs program 16 turns_left (RepresentsAt t fs program p q) s c
+        (instructions.JumpIfZero slot label)
+    jump_if_zero_step slot label free e held there inside =
+        let r = is_read slot (has_slots t fs program p q image roomy s c b counted
+        (instructions.JumpIfZero slot label) e) there in
+        by_value r (nat_eq (slots_now.slots slot) 0) refl
+        (done t fs program p q image roomy s c b counted (instructions.JumpIfZero slot label) e)
+      where
+        turns : ℕ
+        turns = length (template (links_of p q c.frame.body) (p.layout c.frame.body) s.cpu.rip
+            (instructions.JumpIfZero slot label))
+
+        keep : RunsKeep t fs program p q image s c b counted turns s
+        keep = jump_if_zero_keeps t fs program p q image roomy s c b counted slot label e
+
+        by_value : (r : IsRead slot) (z : Bool) → nat_eq (slots_now.slots slot) 0 ≡ z
+            → InstructionDone (frame t fs program p q image roomy s c b counted)
+            (links_of p q c.frame.body) (v t fs program p q image roomy s c b counted) s.cpu.rip
+            s.cpu.flags slots_now (instructions.JumpIfZero slot label)
+            (cond z (JumpsTo slots_now label) (meanings.Next slots_now))
+            → Moves t fs program 16 turns_left (RepresentsAt t fs program p q) s c
+            (instructions.JumpIfZero slot label)
+        by_value r true z d = to_tested slot label turns (p.address c.frame.body label) label free
+            refl (from_here turns (p.address c.frame.body label) slots_now d.follows) held inside keep
+            (jumps slot label r.value r.reads (ap (λ x. nat_eq x 0) (sym r.same) ∙ z)) d.least d.most
+        by_value r false z d =
+            to_tested slot label turns (s.cpu.rip
+            + template_size (p.layout c.frame.body) (instructions.JumpIfZero slot label))
+            (c.frame.next + 1) free (sym (next_address t fs program p q image roomy s c b
+            counted (instructions.JumpIfZero slot label) e))
+            (from_here turns (s.cpu.rip + template_size (p.layout c.frame.body)
+            (instructions.JumpIfZero slot label)) slots_now d.follows) held inside keep
+            (continues slot label r.value r.reads (ap (λ x. nat_eq x 0) (sym r.same) ∙ z)) d.least
+            d.most

@@ -1,0 +1,141 @@
+-- The program stays in a memory in which no byte of the image has changed.
+use Rattle.std.proofs.Common.{◌≡◌, ℕ, ◌+◌, ◌<◌, ◌≤◌, true, Some, List, [], ◌∷◌, length, sym, ap, subst, ◌∙◌, arith}
+use Rattle.host_layout.specs.declared.range.TheConstants.{IMAGE_BASE, IMAGE_RANGE_END}
+use Rattle.host_layout.specs.declared.service.Service.{Service}
+use Rattle.host_layout.specs.declared.service.Service.TheVariants as services
+use Rattle.host_layout.specs.Services.{address_of}
+use Rattle.flat_memory.specs.declared.protection.Protection.{Protection}
+use Rattle.flat_memory.specs.Protections.{is_readable, is_writable}
+use Rattle.flat_memory.specs.Memory.{Memory}
+use Rattle.virtual_unwind.specs.CallerOf.{Functions}
+use Rattle.host_model.specs.declared.funclet.Funclet.{Funclet}
+use Rattle.x64_instr.specs.declared.instruction.Instr.{Instr}
+use Rattle.source_meaning.specs.Source.{is_reserved}
+use Rattle.linear_code.specs.Program.{LinearProgram, LinearBody}
+use Rattle.linear_machine.specs.Frames.{BodyName, body_of}
+use Rattle.template_code.specs.Bytes.{spelled, sizes, thunk}
+use Rattle.template_code.specs.Probing.{check_stack}
+use Rattle.template_code.specs.Template.{code_from, body_size}
+use Rattle.template_code.proofs.Sizes.{sizes_spelled, sizes_append, body_sizes}
+use Rattle.x64_templates.specs.Placed.{IsCodeAt}
+use Rattle.x64_templates.specs.Runs.{HasCode}
+use Rattle.x64_templates.specs.Thunks.{HasThunk}
+use Rattle.x64_templates.proofs.PlacedCode.{same_number}
+use Rattle.x64_templates.proofs.Services.{thunk_size}
+use Rattle.match_stack.specs.ImagePlan.{ImagePlan}
+use Rattle.match_bodies.specs.CodeSites.{Sites, links_of, begin_of, entry_code, code_of}
+use Rattle.match_bodies.specs.ProgramImages.{service_of, IsInImage, HasService, HasProgram, IsProgramImage}
+
+-- bytes of a range, and what may be done there
+pub record SameThere (m m' : Memory) (from to : ℕ) : Type 0 where
+  pub byte : (a : ℕ) → from ≤ a → a < to → m'.byte a ≡ m.byte a
+  pub protection : (a : ℕ) → from ≤ a → a < to → m'.protection a ≡ m.protection a
+
+pub code_there : (m m' : Memory) (at : ℕ) (bytes : List ℕ) → SameThere m m' at (at + length bytes)
+    → IsCodeAt m at bytes → IsCodeAt m' at bytes
+code_there m m' at [] same h = tt
+code_there m m' at (b ∷ bytes) same h =
+    let e = same.protection at (omega arith) (omega arith) in (
+      record {
+        byte = same.byte at (omega arith) (omega arith) ∙ h.0.byte;
+        executes = ap (λ (x : Protection). x.execute) e ∙ h.0.executes;
+        fixed = ap (λ (x : Protection). is_writable x.rights) e ∙ h.0.fixed;
+      },
+      code_there m m' (at + 1) bytes (record {
+        byte = λ a l u. same.byte a (omega arith)
+            (omega arith);
+        protection = λ a l u. same.protection a (omega arith) (omega arith);
+      }) h.1,
+    )
+
+pub has_code_there : (m m' : Memory) (at : ℕ) (code : List Instr)
+    → SameThere m m' at (at + sizes code) → HasCode m at code → HasCode m' at code
+has_code_there m m' at code same h = record {
+  is_there = code_there m m' at (spelled code)
+      (let e = sizes_spelled code in record {
+        byte = λ a l u. same.byte a l (omega arith);
+        protection = λ a l u. same.protection a l (omega arith);
+      }) h.is_there;
+  placed = h.placed;
+}
+
+-- what may be read of the image, where the source may not look, is as it was
+pub record KeepsImage (globals : List ℕ) (m m' : Memory) : Type 0 where
+  pub byte : (a : ℕ) → IMAGE_BASE ≤ a → a < IMAGE_RANGE_END → is_reserved globals a ≡ true
+      → m'.byte a ≡ m.byte a
+  pub protection : (a : ℕ) → IMAGE_BASE ≤ a → a < IMAGE_RANGE_END → is_reserved globals a ≡ true
+      → m'.protection a ≡ m.protection a
+
+module _ (t : Functions) (fs : List Funclet) (program : LinearProgram) (p : ImagePlan) (q : Sites)
+  where
+    there : (m m' : Memory) (from to : ℕ) → KeepsImage program.globals m m'
+        → IsInImage t fs program p q from to → SameThere m m' from to
+    there m m' from to keeps inside =
+        let low = inside.low in
+        let high = inside.high in
+        record {
+          byte = λ a l u. keeps.byte a (omega arith) (omega arith) (inside.own a l u);
+          protection = λ a l u. keeps.protection a (omega arith) (omega arith) (inside.own a l u);
+        }
+
+    thunk_there : (m m' : Memory) (at service : ℕ) (h : HasThunk m at service)
+        → SameThere m m' at (at + 6) → SameThere m m' (at + 6 + h.away) (at + 6 + h.away + 8)
+        → HasThunk m' at service
+    thunk_there m m' at service h code slot =
+        let near = h.near in
+        let high = h.code.placed.high in
+        record {
+          away = h.away;
+          near = h.near;
+          code = has_code_there m m' at (thunk h.away ∷ [])
+              (let e = thunk_size h.away in record {
+                byte = λ a l u. code.byte a l (omega arith);
+                protection = λ a l u. code.protection a l (omega arith);
+              }) h.code;
+          readable = λ a l u. ap (λ (x : Protection). is_readable x.rights) (slot.protection a l u)
+              ∙ h.readable a l u;
+          fixed = λ a l u. ap (λ (x : Protection). is_writable x.rights) (slot.protection a l u)
+              ∙ h.fixed a l u;
+          bound = same_number m'.byte m.byte 8 (at + 6 + h.away) (omega arith) slot.byte ∙ h.bound;
+        }
+
+    service_there : (m m' : Memory) (at : ℕ) (service : Service) → KeepsImage program.globals m m'
+        → HasService t fs program p q m at service → HasService t fs program p q m' at service
+    unfolding thunk_there
+    service_there m m' at service keeps h = record {
+      thunk = thunk_there m m' at (address_of service) h.thunk (there m m' at (at + 6) keeps h.inside)
+          (there m m' (at + 6 + h.thunk.away) (at + 6 + h.thunk.away + 8) keeps h.slot);
+      inside = h.inside;
+      slot = h.slot;
+    }
+
+    module _ (image : IsProgramImage t fs program p q) where
+      code_size : (name : BodyName) (b : LinearBody) → body_of program name ≡ Some b
+          → begin_of p q name + sizes (code_of program p q name b)
+          ≡ p.address name 0 + body_size (p.layout name) b.code
+      code_size name b e =
+          let a = image.addresses name b e in
+          omega (
+            arith,
+            a.first,
+            sizes_append (entry_code program p q name)
+                (code_from (links_of p q name) (p.layout name) (p.address name 0) b.code),
+            body_sizes (links_of p q name) (p.layout name) (p.address name 0) b.code,
+          )
+
+      pub program_stays : (m m' : Memory) → KeepsImage program.globals m m'
+          → HasProgram t fs program p q m → HasProgram t fs program p q m'
+      program_stays m m' keeps h = record {
+        code = λ name b e.
+            let inside = there m m' (begin_of p q name)
+            (p.address name 0 + body_size (p.layout name) b.code) keeps
+            (image.addresses name b e).inside in
+            has_code_there m m' (begin_of p q name) (code_of program p q name b)
+            (subst (SameThere m m' (begin_of p q name)) (sym (code_size name b e)) inside)
+            (h.code name b e);
+        thunks = λ f. service_there m m' (q.thunk f) (service_of f) keeps (h.thunks f);
+        local_unwind = service_there m m' q.local_unwind services.LocalUnwind keeps h.local_unwind;
+        check_stack = has_code_there m m' q.check_stack check_stack
+            (there m m' q.check_stack (q.check_stack + sizes check_stack) keeps image.check_stack)
+            h.check_stack;
+      }

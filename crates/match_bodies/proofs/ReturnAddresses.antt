@@ -1,0 +1,165 @@
+-- Where an image's code is, a walk finds the return address of its routine.
+use Rattle.std.proofs.Common.{◌≡◌, ℕ, ◌+◌, ◌<◌, ◌≤◌, Bool, true, false, Some, List, [], ◌∷◌, ◌++◌, length, get_or, refl, sym, ap, subst, ◌∙◌, arith, inl, inr}
+use Rattle.std.specs.Prelude.{slice_get, slice_set}
+use Rattle.std.proofs.lemmas.Option.{slice_get_cases, slice_get_within, get_or_from_slice_get}
+use Rattle.std.proofs.lemmas.List.{append-nil}
+use Rattle.flat_memory.specs.Memory.{Memory}
+use Rattle.x64_instr.specs.declared.register.Reg.TheVariants.{Rax}
+use Rattle.x64_instr.specs.declared.instruction.Instr.{Instr}
+use Rattle.x64_machine.specs.declared.context.Context.{Context}
+use Rattle.virtual_unwind.specs.Contexts.{rsp}
+use Rattle.virtual_unwind.specs.CallerOf.{Functions}
+use Rattle.virtual_unwind.specs.Undone.{word}
+use Rattle.host_model.specs.declared.funclet.Funclet.{Funclet}
+use Rattle.linear_code.specs.declared.instruction.Instruction.{Instruction}
+use Rattle.linear_code.specs.declared.instruction.Instruction.TheVariants as instructions
+use Rattle.linear_code.specs.Program.{LinearProgram, LinearBody}
+use Rattle.linear_machine.specs.Frames.{BodyName, body_of}
+use Rattle.template_code.specs.Bytes.{sizes}
+use Rattle.template_code.specs.Slots.{fetch}
+use Rattle.template_code.specs.Template.{template, offset_of, code_from}
+use Rattle.template_code.proofs.Sizes.{sizes_append, template_sizes}
+use Rattle.x64_templates.specs.Epilogues.{IsReturn}
+use Rattle.x64_templates.specs.Runs.{HasCode}
+use Rattle.x64_templates.proofs.Computes.{code_split}
+use Rattle.x64_templates.proofs.Linked.{template_placed}
+use Rattle.match_stack.specs.Stack.{after_leaf}
+use Rattle.match_stack.proofs.ItemVisits.{frame_is_visited, leaf_is_visited}
+use Rattle.match_stack.specs.ImagePlan.{ImagePlan}
+use Rattle.match_bodies.specs.CodeSites.{Sites, links_of, begin_of, making_size, frame_code, arguments_code, entry_code}
+use Rattle.match_bodies.specs.ProgramImages.{frame_with, HasProgram, IsResumed, IsProgramImage}
+use Rattle.match_bodies.specs.Callers.{caller_above, HasCaller, FindsReturn}
+use Rattle.match_bodies.proofs.StackTop.{leaf_layout}
+use Rattle.match_bodies.proofs.TemplateSizes.{template_some}
+
+record First (code : List Instr) : Type 0 where
+  item : Instr
+  left : List Instr
+  parts : code ≡ item ∷ left
+
+first_of : (code : List Instr) → 1 ≤ sizes code → First code
+first_of [] le = absurd (omega arith)
+first_of (i ∷ is) le = record { item = i; left = is; parts = refl }
+
+module _ (t : Functions) (fs : List Funclet) (program : LinearProgram) (p : ImagePlan) (q : Sites)
+    (image : IsProgramImage t fs program p q) where
+  module _ (name : BodyName) (b : LinearBody) (is : body_of program name ≡ Some b) (m : Memory)
+      (has : HasProgram t fs program p q m) where
+    -- where a body waits, or is within an instruction that isn't a return
+    pub resumed_found : (label rip : ℕ) → IsResumed t fs program p q name b label rip
+        → FindsReturn t m rip (p.layout name).frame
+    resumed_found label rip r c back at nine room w = by (p.leaf name) refl
+      where
+        y : ℕ
+        y = (p.layout name).frame
+
+        here : IsResumed t fs program p q name b label c.rip
+        here = record {
+          instruction = r.instruction;
+          there = r.there;
+          continues = r.continues;
+          done = r.done;
+          item = r.item;
+          left = r.left;
+          parts = r.parts;
+          here = at ∙ r.here;
+        }
+
+        by : (leaf : Bool) → p.leaf name ≡ leaf
+            → HasCaller t m c (caller_above c (p.layout name).frame back)
+        by false e =
+            let f = image.frames m name b label c back is e has here nine room w in
+            record {
+              frame = _;
+              visits = frame_is_visited t m c 0
+                  (frame_with (p.entry name) (p.layout name).frame f.offset back) f.is_there;
+              context = refl;
+            }
+        by true e =
+            let none = leaf_layout t fs program p q name b e (image.laid_out name b is) in
+            let zero_frame = none.frame in
+            let z : rsp c + (p.layout name).frame ≡ rsp c = omega arith in
+            let up : rsp c + 8 ≡ rsp c + (p.layout name).frame + 8 = omega arith in
+            let l = image.leaves m name b label c back is e here nine (omega arith)
+            (ap (word m) (sym z) ∙ w) in
+            let k : HasCaller t m c (after_leaf c back) =
+            record { frame = _; visits = leaf_is_visited t m c 0 back l; context = refl } in
+            subst (λ n. let x : Context = record { rip = back; kept = slice_set c.kept 0 n } in
+            HasCaller t m c x) up k
+
+    pub within_found : (label : ℕ) (i : Instruction) → slice_get b.code label ≡ Some i
+        → (IsReturn i → ⊥) → (done left : List Instr) (item : Instr)
+        → template (links_of p q name) (p.layout name) (p.address name label) i
+        ≡ done ++ (item ∷ left)
+        → FindsReturn t m (p.address name label + sizes done) (p.layout name).frame
+    within_found label i at continues done left item parts =
+        resumed_found label (p.address name label + sizes done)
+        (record {
+          instruction = i;
+          there = at;
+          continues = continues;
+          done = done;
+          item = item;
+          left = left;
+          parts = parts;
+          here = refl;
+        })
+
+    -- where an instruction begins
+    pub label_found : (label : ℕ) (i : Instruction) → slice_get b.code label ≡ Some i
+        → FindsReturn t m (p.address name label) (p.layout name).frame
+    label_found label (instructions.Return from) at =
+        let z : p.address name label + 0 ≡ p.address name label = omega arith in
+        subst (λ a. FindsReturn t m a (p.layout name).frame) z
+        ((image.callers name b is).returns m label from [] (fetch (p.layout name) Rax from) has at
+        refl)
+    label_found label i at =
+        let y = p.layout name in
+        let k = links_of p q name in
+        let a = p.address name label in
+        let some = template_some y i in
+        let size = template_sizes k y a i in
+        let f = first_of (template k y a i) (omega arith) in
+        let z : a + 0 ≡ a = omega arith in
+        subst (λ x. FindsReturn t m x y.frame) z
+        (within_found label i at (λ h. h) [] f.left f.item f.parts)
+
+    -- where arguments are stored, up to the first instruction
+    pub argument_found : 0 < length b.code → (done left : List Instr)
+        → arguments_code program p name ≡ done ++ left
+        → FindsReturn t m (begin_of p q name + making_size p q name + sizes done)
+        (p.layout name).frame
+    argument_found some done (item ∷ left) parts = (image.callers name b is).arguments m done left
+        item has parts
+    argument_found some done [] parts =
+        let a = image.addresses name b is in
+        let first = a.first in
+        let making = frame_code (p.layout name).frame (begin_of p q name) q.check_stack
+        (p.leaf name) in
+        let whole = ap sizes (parts ∙ append-nil done) in
+        let z : p.address name 0 ≡ begin_of p q name + making_size p q name
+        + sizes done = omega (arith, sizes_append making (arguments_code program p name)) in
+        elim (slice_get_cases b.code 0).1 [
+          | inl x ↦ subst (λ a. FindsReturn t m a (p.layout name).frame) z (label_found 0 x.0 x.2)
+          | inr x ↦ let le = x.0 in absurd (omega arith)
+        ]
+
+    -- the code of an instruction
+    pub template_there : (label : ℕ) (i : Instruction) → slice_get b.code label ≡ Some i
+        → HasCode m (p.address name label) (template (links_of p q name) (p.layout name)
+        (p.address name label) i)
+    template_there label i at =
+        let a = image.addresses name b is in
+        let y = p.layout name in
+        let k = links_of p q name in
+        let same : get_or b.code label instructions.Separator
+        ≡ i = get_or_from_slice_get b.code label i instructions.Separator at in
+        let h = code_split m (begin_of p q name) (entry_code program p q name)
+        (code_from k y (p.address name 0) b.code) (has.code name b is) in
+        let all = subst (λ x. HasCode m x (code_from k y (p.address name 0) b.code)) (sym a.first)
+        h.1 in
+        subst (λ x. HasCode m x (template k y x i)) (sym (a.labels label))
+        (subst (λ j. HasCode m (p.address name 0 + offset_of y b.code label)
+        (template k y (p.address name 0 + offset_of y b.code label) j)) same
+        (template_placed k y m (p.address name 0) b.code label instructions.Separator all
+        (slice_get_within b.code label i at)))

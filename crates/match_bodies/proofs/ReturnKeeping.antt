@@ -1,0 +1,143 @@
+-- A body returns: its result is fetched, its frame is given back, and the return is made; the
+-- shadow is kept.
+use Rattle.std.proofs.Common.{◌≡◌, ℕ, zero, suc, ◌+◌, ◌^◌, ◌<◌, Option, Some, None, List, [], ◌∷◌, length, refl, sym, ap, subst, ◌∙◌, arith, inl, length-append}
+use Rattle.std.specs.Prelude.{slice_get}
+use Rattle.std.proofs.lemmas.List.{append-nil}
+use Rattle.flat_memory.specs.Memory.{Memory}
+use Rattle.x64_instr.specs.declared.register.Reg.TheVariants.{Rax, Rsp}
+use Rattle.x64_instr.specs.declared.instruction.Instr.{Instr}
+use Rattle.x64_instr.specs.declared.instruction.Instr.TheVariants as instrs
+use Rattle.x64_machine.specs.Effect.{State, register, with_rip}
+use Rattle.virtual_unwind.specs.CallerOf.{Functions}
+use Rattle.host_model.specs.declared.funclet.Funclet.{Funclet}
+use Rattle.linear_code.specs.declared.slot.Slot.{Slot}
+use Rattle.linear_code.specs.declared.slot.Slot.TheVariants.{Local, Temporary}
+use Rattle.linear_code.specs.declared.instruction.Instruction.TheVariants as instructions
+use Rattle.linear_code.specs.Program.{LinearProgram, LinearBody}
+use Rattle.linear_machine.specs.Frames.{BodyName, body_of}
+use Rattle.template_code.specs.declared.layout.Layout.{Layout}
+use Rattle.template_code.specs.Bytes.{size, sizes}
+use Rattle.template_code.specs.Slots.{fetch, fetch_local, local_at}
+use Rattle.template_code.specs.Calls.{epilogue, return_code}
+use Rattle.x64_templates.specs.Runs.{HasCode}
+use Rattle.x64_templates.proofs.Computes.{code_split}
+use Rattle.x64_templates.proofs.Encoded.{Fine, near}
+use Rattle.match_stack.specs.Stack.{StackItem}
+use Rattle.match_stack.specs.ImagePlan.{ImagePlan}
+use Rattle.match_runs.specs.Shadow.{is_call, AllKeep}
+use Rattle.match_runs.proofs.Shadows.{keep_first}
+use Rattle.match_bodies.specs.CodeSites.{Sites, give_back}
+use Rattle.match_bodies.specs.ProgramImages.{HasProgram, IsProgramImage}
+use Rattle.match_bodies.specs.Callers.{FindsReturn}
+use Rattle.match_bodies.proofs.InstructionEffects.{rises}
+use Rattle.match_bodies.proofs.SilentTurns.{program_kept}
+use Rattle.match_bodies.proofs.RoutineWalks.{read_here, effect_here, code_next, StepsTo, steps_split, keeps_split, Beneath, AllPlain, Finds, Ran, ran}
+use Rattle.match_bodies.proofs.ShadowTurns.{shifts, return_keeps_shadow}
+use Rattle.match_bodies.proofs.ReturnAddresses.{template_there}
+
+-- what a return fetches
+fetch_local_plain : (d e : ℕ) (o : Option ℕ) (k : ℕ) → Fine (fetch_local o Rax k)
+    → AllPlain d e (fetch_local o Rax k)
+fetch_local_plain d e None k f = ((f.0, inl refl), tt)
+fetch_local_plain d e (Some b) k f = ((f.0, inl refl), ((f.3.0, inl refl), tt))
+
+pub fetch_plain : (d e : ℕ) (y : Layout) (x : Slot) → Fine (fetch y Rax x)
+    → AllPlain d e (fetch y Rax x)
+fetch_plain d e y (Temporary i) f = ((f.0, inl refl), tt)
+fetch_plain d e y (Local i) f = fetch_local_plain d e y.base (local_at y i) f
+
+module _ (t : Functions) (fs : List Funclet) (program : LinearProgram) (p : ImagePlan) (q : Sites)
+    (image : IsProgramImage t fs program p q) where
+  module _ (name : BodyName) (b : LinearBody) (is : body_of program name ≡ Some b) (label : ℕ)
+      (from : Slot) (at : slice_get b.code label ≡ Some (instructions.Return from))
+      (s w : State) (top back : ℕ) (others : List ℕ) (list : List StackItem)
+      (here : s.cpu.rip ≡ p.address name label)
+      (beneath : Beneath t s top (top + 8) back others list)
+      (below : register s.cpu Rsp + (p.layout name).frame ≡ top)
+      (has : HasProgram t fs program p q s.memory) (small : (p.layout name).frame < 2 ^ 31)
+      (plain : AllPlain (p.layout name).frame 8 (fetch (p.layout name) Rax from))
+      (run : StepsTo (length (return_code (p.layout name) from)) s w) where
+    abbrev y : Layout
+    y = p.layout name
+
+    abbrev fetching : List Instr
+    fetching = fetch y Rax from
+
+    halves : (u : State) × StepsTo (length fetching) s u × StepsTo (length (epilogue y.frame)) u w
+    halves = steps_split (length fetching) (length (epilogue y.frame)) s w
+        (subst (λ n. StepsTo n s w) (length-append fetching (epilogue y.frame)) run)
+
+    abbrev u : State
+    u = halves.0
+
+    codes : (m : Memory) → HasProgram t fs program p q m
+        → HasCode m (p.address name label) fetching
+        × HasCode m (p.address name label + sizes fetching) (epilogue y.frame)
+    codes m h = code_split m (p.address name label) fetching (epilogue y.frame)
+        (template_there t fs program p q image name b is m h label (instructions.Return from) at)
+
+    finds : Finds t fs program p q top (top + 8) back others list s.cpu.rip fetching y.frame
+    finds done left split m h = subst (λ a. FindsReturn t m (a + sizes done) y.frame) (sym here)
+        ((image.callers name b is).returns m label from done left h at split)
+
+    first : Ran t fs program p q top (top + 8) back others list s u fetching
+    first = ran t fs program p q top (top + 8) back others list fetching s u y.frame 8 halves.1
+        plain (subst (λ a. HasCode s.memory a fetching) (sym here) (codes s.memory has).0) has beneath
+        below refl finds
+
+    there_is : p.address name label + sizes fetching ≡ u.cpu.rip
+    there_is = omega (arith, first.rip)
+
+    epilogue_found : FindsReturn t u.memory u.cpu.rip y.frame
+    epilogue_found = subst (λ a. FindsReturn t u.memory a y.frame) there_is
+        ((image.callers name b is).returns u.memory label from fetching [] first.has at
+        (sym (append-nil fetching)))
+
+    -- the return itself
+    last_keeps : (v : State) → Beneath t v top (top + 8) back others list → register v.cpu Rsp ≡ top
+        → FindsReturn t v.memory v.cpu.rip 0 → HasCode v.memory v.cpu.rip (instrs.Return ∷ [])
+        → StepsTo 1 v w → AllKeep t fs 1 v
+    last_keeps v b' up found code r = keep_first t fs 0 v r.0 r.1.steps
+        (return_keeps_shadow t fs top (top + 8) back others list v r.0 r.1 b' up [] code found) tt
+
+    epilogue_keeps : (n : ℕ) → y.frame ≡ n → StepsTo (length (epilogue n)) u w
+        → HasCode u.memory u.cpu.rip (epilogue n) → AllKeep t fs (length (epilogue n)) u
+    epilogue_keeps zero e r code =
+        let z = first.stack in
+        last_keeps u first.beneath (omega arith)
+        (subst (λ n. FindsReturn t u.memory u.cpu.rip n) e epilogue_found) code r
+    epilogue_keeps (suc n) e r code =
+        let i = give_back (suc n) in
+        let v = r.0 in
+        let st = r.1 in
+        let enc = near (suc n) (omega arith) in
+        let next = u.cpu.rip + size i in
+        let high = first.beneath.high in
+        let z = first.stack in
+        let at_top : register u.cpu Rsp + suc n ≡ top = omega arith in
+        let below' : register u.cpu Rsp + y.frame ≡ top = omega arith in
+        let up : top + 0 ≡ top = omega arith in
+        let sets = rises (with_rip u next) v (suc n) top first.beneath.count at_top (omega arith)
+        (effect_here u v i (instrs.Return ∷ []) enc code st.steps) in
+        let has' = program_kept t fs program p q u.memory v.memory
+        (record { protection = st.protection; fixed = st.fixed }) first.has in
+        let found : (m : Memory) → HasProgram t fs program p q m → FindsReturn t m next 0 = λ m h.
+        (let f = (image.callers name b is).ends m label from n h at e in
+        let same : p.address name label + sizes fetching + size (give_back y.frame)
+        ≡ next = ap (λ k. p.address name label + sizes fetching + size (give_back k)) e
+        ∙ ap (λ k. k + size i) there_is in
+        subst (λ a. FindsReturn t m a 0) same f) in
+        let k = shifts t fs top (top + 8) back others list u v st first.beneath top next y.frame 0
+        sets below' up (ap is_call (read_here u v i (instrs.Return ∷ []) enc code)) epilogue_found
+        (found v.memory has') in
+        keep_first t fs 1 u v st.steps k.keeps
+        (last_keeps v k.beneath k.stack (subst (λ a. FindsReturn t v.memory a 0) (sym k.rip)
+        (found v.memory has')) (code_next u v i (instrs.Return ∷ []) enc code st k.rip) r.2)
+
+    pub returns_keep : AllKeep t fs (length (return_code y from)) s
+    returns_keep =
+        subst (λ n. AllKeep t fs n s) (sym (length-append fetching (epilogue y.frame)))
+        (keeps_split t fs (length fetching) (length (epilogue y.frame)) s u halves.1 first.keeps
+        (epilogue_keeps y.frame refl halves.2
+        (subst (λ a. HasCode u.memory a (epilogue y.frame)) there_is
+        (codes u.memory first.has).1)))

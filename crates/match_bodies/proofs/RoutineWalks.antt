@@ -1,0 +1,379 @@
+-- Code that runs below its routine's return address, and what a walk gives there.
+use Rattle.std.proofs.Common.{◌≡◌, ℕ, zero, suc, ◌+◌, ◌%◌, ◌^◌, ◌<◌, ◌≤◌, Bool, true, false, List, [], ◌∷◌, ◌++◌, length, Option, Some, None, Ok, refl, sym, ap, subst, ◌∙◌, arith, inl, inr}
+use Rattle.std.specs.Prelude.{◌⊎◌, slice_index}
+use Rattle.std.proofs.lemmas.Bool.{cases_lt}
+use Rattle.flat_memory.specs.declared.protection.Protection.{Protection}
+use Rattle.flat_memory.specs.Protections.{is_readable, is_writable}
+use Rattle.flat_memory.specs.Memory.{Memory, executable, may_read, may_write, first_refused, number_at, with_bytes, access}
+use Rattle.x64_instr.specs.declared.register.Reg.{Reg}
+use Rattle.x64_instr.specs.declared.register.Reg.TheVariants.{Rsp}
+use Rattle.x64_instr.specs.declared.instruction.Instr.{Instr}
+use Rattle.x64_instr.specs.Spelling.{leading}
+use Rattle.x64_encode.specs.Chosen.{chosen, is_encodable}
+use Rattle.x64_encode.proofs.Lengths.{longest}
+use Rattle.x64_machine.specs.declared.context.Context.{Context}
+use Rattle.x64_machine.specs.Contexts.{context_of}
+use Rattle.x64_machine.specs.Effect.{State, register, with_rip, effect, step}
+use Rattle.virtual_unwind.specs.Contexts.{rsp}
+use Rattle.virtual_unwind.specs.CallerOf.{Functions}
+use Rattle.virtual_unwind.specs.Undone.{word, readable}
+use Rattle.host_model.specs.declared.funclet.Funclet.{Funclet}
+use Rattle.linear_code.specs.Program.{LinearProgram}
+use Rattle.template_code.specs.Bytes.{spelled, size, sizes}
+use Rattle.template_code.specs.Calls.{keep_register}
+use Rattle.x64_templates.specs.Runs.{Steps, Reaches, Enters, HasCode}
+use Rattle.x64_templates.proofs.PlacedCode.{same_number, bytes_kept, outside_page, bytes_split, spells, reads}
+use Rattle.match_stack.specs.Stack.{StackItem, IsStack, Owned, Agree}
+use Rattle.match_stack.specs.WalkLaws.{context_below}
+use Rattle.match_stack.specs.PlainWalks.{state}
+use Rattle.match_stack.proofs.StackKeeping.{kept_by_other_stores, nothing_below_is_owned}
+use Rattle.match_stack.specs.ImagePlan.{ImagePlan}
+use Rattle.match_runs.specs.Shadow.{is_call, calls, GivesCallers, WalkGives, AllKeep}
+use Rattle.match_runs.proofs.Shadows.{past_frame, straight, keep_first}
+use Rattle.match_bodies.specs.CodeSites.{Sites}
+use Rattle.match_bodies.specs.ProgramImages.{HasProgram}
+use Rattle.match_bodies.specs.Callers.{caller_above, HasCaller, FindsReturn}
+use Rattle.match_bodies.proofs.StackWalks.{callers, on_stack}
+use Rattle.match_bodies.proofs.InstructionEffects.{others_of, is_idle, idle_leaves, idle_calls_nothing, store_leaves}
+use Rattle.match_bodies.proofs.SilentTurns.{program_kept}
+
+-- ---- the instruction at RIP is run
+
+module _ (s u : State) (i : Instr) (more : List Instr) (enc : is_encodable i ≡ true)
+    (code : HasCode s.memory s.cpu.rip (i ∷ more)) where
+  pub read_here : leading (executable s.memory 15 s.cpu.rip) ≡ Some (i, length (chosen i))
+  unfolding size
+  read_here =
+      let l = code.placed.low in
+      let h = code.placed.high in
+      reads s i (chosen i) (spells i enc) (longest i)
+      (bytes_split s.memory s.cpu.rip (chosen i) (spelled more) code.is_there).0
+      (record { low = l; high = omega arith })
+
+  pub effect_here : step s ≡ Ok u → effect (with_rip s (s.cpu.rip + size i)) i ≡ Ok u
+  unfolding step size
+  effect_here e =
+      let l = code.placed.low in
+      let h = code.placed.high in
+      let next : (s.cpu.rip + length (chosen i)) % 2 ^ 64
+      ≡ s.cpu.rip + length (chosen i) = omega arith in
+      let stepped : step s ≡ effect (with_rip s (s.cpu.rip + length (chosen i))) i = rw
+      (outside_page s.cpu.rip l, read_here, next) refl in
+      sym stepped ∙ e
+
+  -- what follows it is still there
+  pub code_next : Steps s u → u.cpu.rip ≡ s.cpu.rip + size i → HasCode u.memory u.cpu.rip more
+  unfolding size
+  code_next st at =
+      let l = code.placed.low in
+      let h = code.placed.high in
+      let next = s.cpu.rip + length (chosen i) in
+      subst (λ a. HasCode u.memory a more) (sym at)
+      (record {
+        is_there = bytes_kept s.memory u.memory next (spelled more) st.fixed st.protection
+            (bytes_split s.memory s.cpu.rip (chosen i) (spelled more) code.is_there).1;
+        placed = record { low = omega arith; high = omega arith };
+      })
+
+-- ---- steps one after another
+
+abbrev pub StepsTo : ℕ → State → State → Type 0
+StepsTo zero s w = s ≡ w
+StepsTo (suc n) s w = (u : State) × Steps s u × StepsTo n u w
+
+pub reaches_steps : (n : ℕ) (s w : State) → Reaches n s w → StepsTo n s w
+reaches_steps zero s w r = r
+reaches_steps (suc n) s w r = (r.0, r.1.steps, reaches_steps n r.0 w r.2)
+
+pub enters_steps : (n : ℕ) (s w : State) → Enters n s w → StepsTo n s w
+enters_steps zero s w r = r
+enters_steps (suc n) s w r = (r.0, r.1, reaches_steps n r.0 w r.2)
+
+-- where the first of them lead
+pub steps_split : (m n : ℕ) (s w : State) → StepsTo (m + n) s w
+    → (u : State) × StepsTo m s u × StepsTo n u w
+steps_split zero n s w r = (
+  s,
+  refl,
+  subst (λ k. StepsTo k s w)
+      (let z : 0 + n ≡ n = omega arith in z) r,
+)
+steps_split (suc m) n s w r =
+    let z : suc m + n ≡ suc (m + n) = omega arith in
+    let r' = subst (λ k. StepsTo k s w) z r in
+    let x = steps_split m n r'.0 w r'.2 in
+    (x.0, (r'.0, r'.1, x.1), x.2)
+
+pub keeps_split : (t : Functions) (fs : List Funclet) (m n : ℕ) (s u : State) → StepsTo m s u
+    → AllKeep t fs m s → AllKeep t fs n u → AllKeep t fs (m + n) s
+keeps_split t fs zero n s u r before after = subst (λ k. AllKeep t fs k s)
+    (let z : n ≡ 0 + n = omega arith in z) (subst (AllKeep t fs n) (sym r) after)
+keeps_split t fs (suc m) n s u r before after =
+    let e : suc (m + n) ≡ suc m + n = omega arith in
+    let first = before r.0 r.1.steps in
+    subst (λ k. AllKeep t fs k s) e (keep_first t fs (m + n) s r.0 r.1.steps first.0
+    (keeps_split t fs m n r.0 u r.2 first.1 after))
+
+-- ---- words
+
+-- a word that is read has its number
+pub word_number : (m : Memory) (at v : ℕ) → word m at ≡ Ok v → number_at m.byte 8 at ≡ v
+word_number m at v e = by (first_refused (may_read m) 8 at) e
+  where
+    by : (o : Option ℕ) → readable at (access false o (number_at m.byte 8 at)) ≡ Ok v
+        → number_at m.byte 8 at ≡ v
+    by None is = cc
+    by (Some a) is = absurd cc
+
+-- and is read again in bytes that are the same
+pub word_stays : (m m' : Memory) (at v : ℕ) → at + 8 < 2 ^ 64 → m'.protection ≡ m.protection
+    → ((a : ℕ) → at ≤ a → a < at + 8 → m'.byte a ≡ m.byte a) → word m at ≡ Ok v → word m' at ≡ Ok v
+word_stays m m' at v lt same bytes e =
+    let n : number_at m'.byte 8 at ≡ number_at m.byte 8 at = same_number m'.byte m.byte 8 at lt
+    bytes in
+    ap (λ (f : ℕ → Protection). readable at (access false
+    (first_refused (λ a. is_readable (f a).rights) 8 at) (number_at m'.byte 8 at))) same
+    ∙ ap (λ x. readable at (access false (first_refused (may_read m) 8 at) x)) n
+    ∙ e
+
+-- ---- below a return address
+
+module _ (t : Functions) where
+  -- RSP and a routine's return address aren't above `top`; from there on is the list for these
+  -- nonvolatile registers, and no byte below `from` is owned by it
+  pub record Beneath (s : State) (top from back : ℕ) (others : List ℕ) (is : List StackItem) : Type
+      0 where
+    pub others_are : others_of s.cpu.registers ≡ others
+    pub count : length s.cpu.registers ≡ 16
+    pub returns : word s.memory top ≡ Ok back
+    pub list : IsStack t s.memory (context_below back (top + 8) others) is
+    pub owned : (a : ℕ) → Owned (context_below back (top + 8) others) is a → from ≤ a
+    pub past : top + 8 ≤ from
+    pub high : top + 8 < 2 ^ 63
+    pub limit : from < 2 ^ 63
+    pub no_code : (a : ℕ) → may_write s.memory a ≡ true → (s.memory.protection a).execute ≡ false
+
+  -- bytes that a step leaves
+  abbrev pub Stays : State → State → ℕ → ℕ → Type 0
+  Stays s u top from = (a : ℕ) → ((top ≤ a) × (a < top + 8)) ⊎ (from ≤ a)
+      → u.memory.byte a ≡ s.memory.byte a
+
+  fixed_code : (m : Memory) (a : ℕ) (b : Bool) → may_write m a ≡ b
+      → ((a : ℕ) → may_write m a ≡ true → (m.protection a).execute ≡ false)
+      → (m.protection a).execute ≡ true → may_write m a ≡ false
+  fixed_code m a true w alone e = let z : true ≡ false = sym e ∙ alone a w in absurd cc
+  fixed_code m a false w alone e = w
+
+  pub beneath_stays : (s u : State) (top from back : ℕ) (others : List ℕ) (is : List StackItem)
+      → Steps s u → others_of u.cpu.registers ≡ others_of s.cpu.registers → Stays s u top from
+      → Beneath s top from back others is → Beneath u top from back others is
+  beneath_stays s u top from back others is st same stays b =
+      let high = b.high in
+      let m : Memory = with_bytes s.memory u.memory.byte in
+      let is_m : m ≡ u.memory = ap (λ (f : ℕ → Protection).
+      let x : Memory = record { protection = f; byte = u.memory.byte } in x)
+      (sym st.protection) in
+      let agree : Agree s.memory u.memory.byte
+      (Owned (context_below back (top + 8) others) is) = record {
+        code = λ a e. st.fixed a (fixed_code s.memory a (may_write s.memory a) refl b.no_code e);
+        owned = λ a o. stays a (inr (b.owned a o));
+      } in
+      record {
+        others_are = same ∙ b.others_are;
+        count = st.count ∙ b.count;
+        returns = word_stays s.memory u.memory top back (omega arith) st.protection
+            (λ a l h. stays a (inl (l, h))) b.returns;
+        list = subst (λ (x : Memory). IsStack t x (context_below back (top + 8) others) is) is_m
+            (kept_by_other_stores t s.memory u.memory.byte (context_below back (top + 8) others) is
+            agree b.list);
+        owned = b.owned;
+        past = b.past;
+        high = b.high;
+        limit = b.limit;
+        no_code = λ a w. ap (λ (f : ℕ → Protection). (f a).execute) st.protection
+            ∙ b.no_code a (ap (λ (f : ℕ → Protection). is_writable (f a).rights) (sym st.protection)
+            ∙ w);
+      }
+
+  -- the callers there
+  abbrev pub callers_above : (top back : ℕ) → List ℕ → List StackItem → List Context
+  callers_above top back others is = context_below back (top + 8) others
+      ∷ callers (context_below back (top + 8) others) is
+
+  -- a walk gives them, where it finds the return address
+  pub gives_above : (s : State) (top from back : ℕ) (others : List ℕ) (is : List StackItem) (d : ℕ)
+      → Beneath s top from back others is → FindsReturn t s.memory s.cpu.rip d
+      → register s.cpu Rsp + d ≡ top → WalkGives t s (callers_above top back others is)
+  gives_above s top from back others is d b finds at =
+      let high = b.high in
+      let c = context_of s.cpu in
+      let above = context_below back (top + 8) others in
+      let h = finds c back refl refl (let z : rsp c + d + 8 < 2 ^ 64 = omega arith in z)
+      (ap (word s.memory) at ∙ b.returns) in
+      let same : caller_above c d back ≡ above = λ i. context_below back (at i + 8)
+      (b.others_are i) in
+      let k = subst (HasCaller t s.memory c) same h in
+      subst (λ x. GivesCallers t s.memory (state c 0) (x ∷ callers above is)) k.context
+      (past_frame t s.memory (state c 0) k.frame (state above 0) (callers above is) k.visits
+      (on_stack t s.memory above 0 is b.list))
+
+-- ---- straight code
+
+-- a register is kept in a routine's own frame, or in the home space above its return address; d:
+-- from RSP up to the return address, e: from there up to the end of what it may write
+pub record IsKept (d e : ℕ) (i : Instr) : Type 0 where
+  pub kept : Reg
+  pub offset : ℕ
+  pub is : i ≡ keep_register kept offset
+  pub inside : (offset + 8 ≤ d) ⊎ ((d + 8 ≤ offset) × (offset + 8 ≤ d + e))
+
+-- that, or volatile registers alone are written
+abbrev pub IsPlain : ℕ → ℕ → Instr → Type 0
+IsPlain d e i = (is_encodable i ≡ true) × ((is_idle i ≡ true) ⊎ IsKept d e i)
+
+abbrev pub AllPlain : ℕ → ℕ → List Instr → Type 0
+AllPlain d e [] = Unit {0}
+AllPlain d e (i ∷ is) = IsPlain d e i × AllPlain d e is
+
+plain_calls_nothing : (d e : ℕ) (i : Instr) → (is_idle i ≡ true) ⊎ IsKept d e i → calls i ≡ false
+plain_calls_nothing d e i (inl q) = idle_calls_nothing i q
+plain_calls_nothing d e i (inr k) = ap calls k.is
+
+module _ (t : Functions) (fs : List Funclet) (program : LinearProgram) (p : ImagePlan) (q : Sites)
+  where
+    module _ (top from back : ℕ) (others : List ℕ) (is : List StackItem) where
+      -- after an instruction that isn't a jump
+      pub record Moved (s u : State) (i : Instr) : Type 0 where
+        pub beneath : Beneath t u top from back others is
+        pub rip : u.cpu.rip ≡ s.cpu.rip + size i
+        pub stack : register u.cpu Rsp ≡ register s.cpu Rsp
+
+      pub plain_step : (s u : State) (d e : ℕ) (i : Instr) (more : List Instr) → IsPlain d e i
+          → HasCode s.memory s.cpu.rip (i ∷ more) → Steps s u → Beneath t s top from back others is
+          → register s.cpu Rsp + d ≡ top → from ≡ top + e → Moved s u i
+      plain_step s u d e i more plain code st b at up =
+          let high = b.limit in
+          let effect' = effect_here s u i more plain.0 code st.steps in
+          by plain.1 effect'
+        where
+          a : State
+          a = with_rip s (s.cpu.rip + size i)
+
+          by : (is_idle i ≡ true) ⊎ IsKept d e i → effect a i ≡ Ok u → Moved s u i
+          by (inl idle) ef =
+              let l = idle_leaves a u i idle ef in
+              record {
+                beneath = beneath_stays t s u top from back others is st l.others
+                    (λ x o. ap (λ (m : Memory). m.byte x) l.memory) b;
+                rip = l.rip;
+                stack = l.stack;
+              }
+          by (inr k) ef =
+              let sp = register s.cpu Rsp in
+              let inside = k.inside in
+              let l = store_leaves a u k.offset k.kept
+              (elim inside [ inl x ↦ omega arith | inr x ↦ (let z = x.1 in omega arith) ])
+              (subst (λ j. effect a j ≡ Ok u) k.is ef) in
+              record {
+                beneath = beneath_stays t s u top from back others is st (ap others_of l.registers)
+                    (λ x o. l.beside x (elim inside [
+                      | inl z ↦ inr (elim o [
+                        | inl w ↦ (let w0 = w.0 in omega arith)
+                        | inr w ↦ omega
+                            arith
+                      ])
+                      | inr z ↦ (let z0 = z.0 in let z1 = z.1 in
+                          elim o [
+                            | inl w ↦ (let w1 = w.1 in inl (omega arith))
+                            | inr w ↦ inr
+                                (omega arith)
+                          ])
+                    ]))
+                    b;
+                rip = l.rip;
+                stack = ap (λ (r : List ℕ). slice_index r 4) l.registers;
+              }
+
+      -- where straight code comes to
+      pub record Ran (s w : State) (code : List Instr) : Type 0 where
+        pub keeps : AllKeep t fs (length code) s
+        pub beneath : Beneath t w top from back others is
+        pub has : HasProgram t fs program p q w.memory
+        pub rip : w.cpu.rip ≡ s.cpu.rip + sizes code
+        pub stack : register w.cpu Rsp ≡ register s.cpu Rsp
+
+      -- a walk finds the return address at each of its instructions
+      abbrev pub Finds : ℕ → List Instr → ℕ → Type 0
+      Finds rip code d = (done left : List Instr) → code ≡ done ++ left → (m : Memory)
+          → HasProgram t fs program p q m → FindsReturn t m (rip + sizes done) d
+
+      pub ran : (code : List Instr) (s w : State) (d e : ℕ) → StepsTo (length code) s w
+          → AllPlain d e code → HasCode s.memory s.cpu.rip code → HasProgram t fs program p q s.memory
+          → Beneath t s top from back others is
+          → register s.cpu Rsp + d ≡ top → from ≡ top + e → Finds s.cpu.rip code d → Ran s w code
+      ran [] s w d e r plain code has b at up finds =
+          subst (λ (x : State). Ran s x []) r (record {
+            keeps = tt;
+            beneath = b;
+            has = has;
+            rip = (let z : s.cpu.rip ≡ s.cpu.rip + 0 = omega arith in z);
+            stack = refl;
+          })
+      ran (i ∷ code) s w d e r plain code' has b at up finds =
+          let u = r.0 in
+          let st = r.1 in
+          let first = plain_step s u d e i code plain.0 code' st b at up in
+          let has' = program_kept t fs program p q s.memory u.memory
+          (record { protection = st.protection; fixed = st.fixed }) has in
+          let at' : register u.cpu Rsp + d ≡ top = omega (arith, first.stack) in
+          let z : s.cpu.rip + 0 ≡ s.cpu.rip = omega arith in
+          let next : s.cpu.rip + (size i + 0) ≡ u.cpu.rip = omega (arith, first.rip) in
+          let before = gives_above t s top from back others is d b
+          (subst (λ a. FindsReturn t s.memory a d) z (finds [] (i ∷ code) refl s.memory has)) at in
+          let after = gives_above t u top from back others is d first.beneath
+          (subst (λ a. FindsReturn t u.memory a d) next (finds (i ∷ []) code refl u.memory has'))
+          at' in
+          let quiet = ap is_call (read_here s u i code plain.0.0 code')
+          ∙ plain_calls_nothing d e i plain.0.1 in
+          let keep = straight t fs s u (callers_above t top back others is) st.steps quiet before
+          after (let h : register u.cpu Rsp + 8 ≤ top + 8 = omega arith in h) in
+          let finds' : Finds u.cpu.rip code d = λ done left parts m h.
+          (let same : s.cpu.rip + (size i + sizes done)
+          ≡ u.cpu.rip + sizes done = omega (arith, first.rip) in
+          subst (λ a. FindsReturn t m a d) same
+          (finds (i ∷ done) left (ap (λ (xs : List Instr). i ∷ xs) parts) m h)) in
+          let rest = ran code u w d e r.2 plain.1 (code_next s u i code plain.0.0 code' st first.rip)
+          has' first.beneath at' up finds' in
+          record {
+            keeps = keep_first t fs (length code) s u st.steps keep rest.keeps;
+            beneath = rest.beneath;
+            has = rest.has;
+            rip = rest.rip ∙ (let same : u.cpu.rip + sizes code
+                ≡ s.cpu.rip + (size i + sizes code) = omega (arith, first.rip) in same);
+            stack = rest.stack ∙ first.stack;
+          }
+
+-- ---- where a list is above a return address
+
+pub beneath_by : (t : Functions) (s : State) (top back : ℕ) (is : List StackItem)
+    → length s.cpu.registers ≡ 16 → word s.memory top ≡ Ok back
+    → IsStack t s.memory (context_below back (top + 8) (others_of s.cpu.registers)) is
+    → top + 8 < 2 ^ 62
+    → ((a : ℕ) → may_write s.memory a ≡ true → (s.memory.protection a).execute ≡ false)
+    → Beneath t s top (top + 8) back (others_of s.cpu.registers) is
+beneath_by t s top back is count returns list high no_code = record {
+  others_are = refl;
+  count = count;
+  returns = returns;
+  list = list;
+  owned = λ a o. elim (cases_lt a (top + 8)) [
+    | inl lt ↦ absurd
+        (nothing_below_is_owned t s.memory (context_below back (top + 8) (others_of s.cpu.registers))
+        is a list lt o)
+    | inr ge ↦ ge
+  ];
+  past = (let z : top + 8 ≤ top + 8 = omega arith in z);
+  high = omega arith;
+  limit = omega arith;
+  no_code = no_code;
+}

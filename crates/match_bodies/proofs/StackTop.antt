@@ -1,0 +1,157 @@
+-- A body that runs is on top of what waits below it, as one that waits.
+use Rattle.std.proofs.Common.{◌≡◌, ℕ, ◌+◌, Bool, true, false, List, [], ◌∷◌, refl, sym, ap, subst, ◌∙◌, arith}
+use Rattle.x64_instr.specs.declared.register.Reg.TheVariants.{Rsp, Rbx, Rbp, Rsi, Rdi, R12, R13, R14, R15}
+use Rattle.x64_machine.specs.Contexts.{context_of}
+use Rattle.x64_machine.specs.Effect.{State, register}
+use Rattle.virtual_unwind.specs.CallerOf.{Functions}
+use Rattle.virtual_unwind.specs.Undone.{word}
+use Rattle.host_model.specs.declared.funclet.Funclet.{Funclet}
+use Rattle.linear_code.specs.Program.{LinearProgram, LinearBody}
+use Rattle.linear_machine.specs.Frames.{BodyName, FunctionBody, FuncletBody, Waits, Configuration}
+use Rattle.linear_machine.specs.Regions.{regions_of}
+use Rattle.match_stack.specs.Stack.{StackItem, Framed, Leaf, LeafIsAt}
+use Rattle.match_stack.specs.WalkLaws.{context_below}
+use Rattle.match_stack.specs.ImagePlan.{ImagePlan, IsGiven}
+use Rattle.match_stack.specs.ItemMatches.{Activation, activations_below, BodyWaits}
+use Rattle.match_stack.proofs.ListEnds.{in_stack}
+use Rattle.match_stack.specs.StackRecords.{On}
+use Rattle.match_bodies.specs.CodeSites.{Sites}
+use Rattle.match_bodies.specs.Layouts.{IsLayoutIf, IsLeafLayout, IsLaidOut}
+use Rattle.match_bodies.specs.ProgramImages.{HasProgram, IsResumed, IsFramed, IsProgramImage, frame_with}
+use Rattle.match_bodies.specs.Bodies.{slots_end, last_temporary, InBody}
+
+module _ (t : Functions) (fs : List Funclet) (program : LinearProgram) (p : ImagePlan) (q : Sites)
+  where
+    -- ---- leaf functions
+
+    pub leaf_layout : (name : BodyName) (b : LinearBody) → p.leaf name ≡ true
+        → IsLaidOut program p name b → IsLeafLayout (p.layout name) b
+    leaf_layout (FunctionBody f) b e h = subst (λ (leaf : Bool). IsLayoutIf program p
+        (p.layout (FunctionBody f)) b leaf) e h
+    leaf_layout (FuncletBody k) b e h = let z : true ≡ false = sym e ∙ h.framed in absurd cc
+
+    no_regions : (name : BodyName) (b : LinearBody) → p.leaf name ≡ true
+        → IsGiven t fs program p name b (p.leaf name) → b.regions ≡ []
+    no_regions name b e h = subst (λ (leaf : Bool). IsGiven t fs program p name b leaf) e h
+
+    -- ---- a body on top of the list
+
+    pub record OnTop (u : State) (c : Configuration) (acts : List Activation) : Type 0 where
+      pub is : List StackItem
+      pub on : On t fs program p u.memory (context_of u.cpu) is (Waits c.frame ∷ c.below) acts
+
+    abbrev pub others_of : State → List ℕ
+    others_of u = register u.cpu Rbx ∷ register u.cpu Rbp ∷ register u.cpu Rsi ∷ register u.cpu Rdi
+        ∷ register u.cpu R12 ∷ register u.cpu R13 ∷ register u.cpu R14 ∷ register u.cpu R15 ∷ []
+
+    -- a body whose frame is there
+    pub framed_top : (u : State) (c : Configuration) (at : InBody t fs program p q u c)
+        → p.leaf c.frame.body ≡ false → IsFramed t fs program p q u.memory c.frame.body
+        (context_of u.cpu) at.back → OnTop u c at.acts
+    framed_top u c at e f =
+        let name = c.frame.body in
+        let y = p.layout name in
+        let rest = at.below (others_of u) refl in
+        record {
+          is = Framed (frame_with (p.entry name) y.frame f.offset at.back) ∷ at.is;
+          on = record {
+            is_there = record {
+              stack = (f.is_there, rest.is_there.stack);
+              linked = (
+                record {
+                  framed = e;
+                  entry = refl;
+                  waits = subst (λ (leaf : Bool). BodyWaits t fs program p u.memory (context_of u.cpu)
+                      (slots_end y leaf) (last_temporary y name leaf) c.frame at.acts) e at.slots;
+                  pointers = at.pointers;
+                  returns = at.returns_to;
+                },
+                at.above,
+                rest.is_there.linked,
+              );
+            };
+            data_alone = rest.data_alone;
+          };
+        }
+
+    module _ (image : IsProgramImage t fs program p q) where
+      -- a leaf function whose return address is there
+      pub leaf_top : (u : State) (c : Configuration) (at : InBody t fs program p q u c)
+          → p.leaf c.frame.body ≡ true → LeafIsAt t u.memory (context_of u.cpu) at.back
+          → OnTop u c at.acts
+      leaf_top u c at e l =
+          let name = c.frame.body in
+          let y = p.layout name in
+          let sp = register u.cpu Rsp in
+          let b = at.slots.code in
+          let none = leaf_layout name b e (image.laid_out name b at.slots.body) in
+          let up : sp + y.frame + 8 ≡ sp + 8 = let z = none.frame in omega arith in
+          let rest : On t fs program p u.memory (context_below at.back (sp + 8) (others_of u)) at.is
+          c.below (activations_below name at.acts) =
+          subst (λ a. On t fs program p u.memory (context_below at.back a (others_of u)) at.is c.below
+          (activations_below name at.acts)) up (at.below (others_of u) refl) in
+          record {
+            is = Leaf at.back ∷ at.is;
+            on = record {
+              is_there = record {
+                stack = (l, rest.is_there.stack);
+                linked = (
+                  record {
+                    leaf = e;
+                    home = at.home e;
+                    none = ap regions_of at.slots.body
+                        ∙ no_regions name b e (image.gives name b at.slots.body);
+                    waits = subst (λ (leaf : Bool). BodyWaits t fs program p u.memory
+                        (context_of u.cpu) (slots_end y leaf) (last_temporary y name leaf) c.frame
+                        at.acts) e at.slots;
+                    returns = at.returns_to;
+                  },
+                  at.above,
+                  rest.is_there.linked,
+                );
+              };
+              data_alone = rest.data_alone;
+            };
+          }
+
+      framed_on_top : (u : State) (c : Configuration) (label : ℕ) (at : InBody t fs program p q u c)
+          → IsResumed t fs program p q c.frame.body at.slots.code label u.cpu.rip
+          → HasProgram t fs program p q u.memory → p.leaf c.frame.body ≡ false → OnTop u c at.acts
+      framed_on_top u c label at resumed has e =
+          let name = c.frame.body in
+          let y = p.layout name in
+          let sp = register u.cpu Rsp in
+          let rest = at.below (others_of u) refl in
+          let top = in_stack t fs program p u.memory
+          (context_below at.back (sp + y.frame + 8) (others_of u)) at.is c.below
+          (activations_below name at.acts) rest.is_there.stack rest.is_there.linked in
+          framed_top u c at e (image.frames u.memory name at.slots.code label (context_of u.cpu)
+          at.back at.slots.body e has resumed refl (omega arith) at.returns)
+
+      leaf_on_top : (u : State) (c : Configuration) (label : ℕ) (at : InBody t fs program p q u c)
+          → IsResumed t fs program p q c.frame.body at.slots.code label u.cpu.rip
+          → p.leaf c.frame.body ≡ true → OnTop u c at.acts
+      leaf_on_top u c label at resumed e =
+          let name = c.frame.body in
+          let y = p.layout name in
+          let sp = register u.cpu Rsp in
+          let b = at.slots.code in
+          let none = leaf_layout name b e (image.laid_out name b at.slots.body) in
+          let here : sp + y.frame ≡ sp = let z = none.frame in omega arith in
+          let rest = at.below (others_of u) refl in
+          let top = in_stack t fs program p u.memory
+          (context_below at.back (sp + y.frame + 8) (others_of u)) at.is c.below
+          (activations_below name at.acts) rest.is_there.stack rest.is_there.linked in
+          leaf_top u c at e (image.leaves u.memory name b label (context_of u.cpu) at.back
+          at.slots.body e resumed refl (let z = none.frame in omega arith)
+          (ap (word u.memory) (sym here) ∙ at.returns))
+
+      -- where RIP is at a machine instruction of an instruction of its code
+      pub body_on_top : (u : State) (c : Configuration) (label : ℕ) (at : InBody t fs program p q u c)
+          → IsResumed t fs program p q c.frame.body at.slots.code label u.cpu.rip
+          → HasProgram t fs program p q u.memory → OnTop u c at.acts
+      body_on_top u c label at resumed has = by_leaf (p.leaf c.frame.body) refl
+        where
+          by_leaf : (leaf : Bool) → p.leaf c.frame.body ≡ leaf → OnTop u c at.acts
+          by_leaf false e = framed_on_top u c label at resumed has e
+          by_leaf true e = leaf_on_top u c label at resumed e

@@ -1,0 +1,89 @@
+-- A piece of a body's template keeps the shadow.
+use Rattle.std.proofs.Common.{◌≡◌, ℕ, ◌+◌, ◌^◌, ◌<◌, Some, List, ◌∷◌, ◌++◌, length, get_or, refl, sym, ap, subst, ◌∙◌, arith, append_assoc}
+use Rattle.std.specs.Prelude.{slice_get}
+use Rattle.flat_memory.specs.Memory.{Memory}
+use Rattle.x64_instr.specs.declared.register.Reg.TheVariants.{Rsp}
+use Rattle.x64_instr.specs.declared.instruction.Instr.{Instr}
+use Rattle.x64_machine.specs.declared.context.Context.{Context}
+use Rattle.x64_machine.specs.Contexts.{kept_of}
+use Rattle.x64_machine.specs.Effect.{State, register}
+use Rattle.virtual_unwind.specs.CallerOf.{Functions}
+use Rattle.host_model.specs.declared.funclet.Funclet.{Funclet}
+use Rattle.linear_code.specs.declared.instruction.Instruction.{Instruction}
+use Rattle.linear_code.specs.Program.{LinearProgram, LinearBody}
+use Rattle.linear_machine.specs.Frames.{BodyName, body_of}
+use Rattle.template_code.specs.Bytes.{sizes}
+use Rattle.template_code.specs.Template.{template}
+use Rattle.template_code.proofs.Sizes.{sizes_append}
+use Rattle.x64_templates.specs.Runs.{Reaches, HasCode}
+use Rattle.x64_templates.specs.Epilogues.{IsReturn}
+use Rattle.x64_templates.proofs.Computes.{code_split}
+use Rattle.x64_templates.proofs.Flows.{IsFlow}
+use Rattle.match_stack.specs.ImagePlan.{ImagePlan}
+use Rattle.match_runs.specs.Shadow.{AllKeep}
+use Rattle.match_bodies.specs.CodeSites.{Sites, links_of}
+use Rattle.match_bodies.specs.Callers.{FindsReturn}
+use Rattle.match_bodies.specs.ProgramImages.{HasProgram, IsProgramImage}
+use Rattle.match_bodies.proofs.ReturnAddresses.{within_found, template_there}
+use Rattle.match_bodies.proofs.FlowKeeping.{IsBelow, from_state, flow_keeps}
+
+module _ (t : Functions) (fs : List Funclet) (program : LinearProgram) (p : ImagePlan) (q : Sites)
+    (image : IsProgramImage t fs program p q) (name : BodyName) (b : LinearBody) (label : ℕ)
+    (i : Instruction)
+    (there : body_of program name ≡ Some b) (at : slice_get b.code label ≡ Some i) where
+  abbrev code_of : List Instr
+  code_of = template (links_of p q name) (p.layout name) (p.address name label) i
+
+  module _ (goes : IsReturn i → ⊥) (before code after : List Instr)
+      (parts : code_of ≡ before ++ (code ++ after)) where
+    -- a walk finds the return address at each of its instructions
+    pub piece_finds : (m : Memory) (a : ℕ) (done left : List Instr) (item : Instr)
+        → a ≡ p.address name label + sizes before → HasProgram t fs program p q m
+        → code ≡ done ++ (item ∷ left) → FindsReturn t m (a + sizes done) (p.layout name).frame
+    piece_finds m a done left item e has split =
+        let all = parts ∙ ap (λ (xs : List Instr). before ++ (xs ++ after)) split
+        ∙ ap (λ (xs : List Instr). before ++ xs) (append_assoc done (item ∷ left) after)
+        ∙ sym (append_assoc before done ((item ∷ left) ++ after)) in
+        let here : p.address name label + sizes (before ++ done)
+        ≡ a + sizes done = omega (arith, sizes_append before done) in
+        subst (λ x. FindsReturn t m x (p.layout name).frame) here
+        (within_found t fs program p q image name b there m has label i at goes (before ++ done)
+        (left ++ after) item all)
+
+    -- and its code is there
+    pub piece_there : (m : Memory) → HasProgram t fs program p q m
+        → HasCode m (p.address name label + sizes before) code
+    piece_there m has =
+        let all = subst (HasCode m (p.address name label)) parts
+        (template_there t fs program p q image name b there m has label i at) in
+        (code_split m (p.address name label + sizes before) code after
+        (code_split m (p.address name label) before (code ++ after) all).1).0
+
+    -- a run over the piece, with the frame as it was and what lies above it in both memories, and
+    -- to where a walk finds the return address too
+    pub piece_keeps : (u w : State) (kept : List ℕ) (back : ℕ) (cs : List Context) → IsFlow code
+        → Reaches (length code) u w
+        → u.cpu.rip ≡ p.address name label + sizes before → kept_of u.cpu.registers ≡ kept
+        → kept_of w.cpu.registers ≡ kept → get_or kept 0 0 + (p.layout name).frame + 8 < 2 ^ 64
+        → IsBelow t fs program p q u.memory kept (p.layout name).frame back cs
+        → IsBelow t fs program p q w.memory kept (p.layout name).frame back cs
+        → FindsReturn t w.memory w.cpu.rip (p.layout name).frame → AllKeep t fs (length code) u
+    piece_keeps u w kept back cs flow r here same_begin same_end room begin end finds =
+        let size = (p.layout name).frame in
+        let own = kept_of u.cpu.registers in
+        let back_to = sym same_begin in
+        let same : kept_of w.cpu.registers ≡ own = same_end ∙ back_to in
+        let sp : register w.cpu Rsp ≡ register u.cpu Rsp = ap (λ (ks : List ℕ). get_or ks 0 0)
+        same in
+        let enough : register u.cpu Rsp + size + 8
+        < 2 ^ 64 = subst (λ (ks : List ℕ). get_or ks 0 0 + size + 8 < 2 ^ 64) back_to room in
+        let first = subst (λ (ks : List ℕ). IsBelow t fs program p q u.memory ks size back cs)
+        back_to begin in
+        let last = subst (λ (ks : List ℕ). IsBelow t fs program p q w.memory ks size back cs)
+        back_to end in
+        let gives = from_state t fs program p q w own size back cs finds same refl enough last in
+        flow_keeps t fs program p q code u w size back cs enough
+        (λ m done left item has split. piece_finds m u.cpu.rip done left item here has split)
+        first last
+        flow.spelling flow.flow flow.once (subst (λ a. HasCode u.memory a code) (sym here)
+        (piece_there u.memory begin.program_there)) r gives (omega arith)

@@ -1,0 +1,230 @@
+-- A run of a template of the body that runs, and the turn of linear code that it is.
+use Rattle.std.proofs.Common.{◌≡◌, ℕ, zero, suc, ◌+◌, ◌^◌, ◌<◌, true, Option, Some, None, List, [], ◌∷◌, length, get_or, refl, sym, ap, subst, ◌∙◌, arith}
+use Rattle.std.specs.Prelude.{slice_get, slice_index, drop}
+use Rattle.std.specs.List.{AllByRecursion}
+use Rattle.std.proofs.lemmas.Option.{slice_get_within, get_or_from_slice_get}
+use Rattle.seh_num.specs.declared.event.Event.{Event}
+use Rattle.x64_instr.specs.declared.register.Reg.TheVariants.{Rsp}
+use Rattle.x64_machine.specs.Effect.{State, register}
+use Rattle.virtual_unwind.specs.CallerOf.{Functions, distance}
+use Rattle.host_model.specs.declared.funclet.Funclet.{Funclet}
+use Rattle.host_model.specs.Funclets.{arrivals}
+use Rattle.linear_code.specs.declared.instruction.Instruction.{Instruction}
+use Rattle.linear_code.specs.declared.instruction.Instruction.TheVariants as instructions
+use Rattle.linear_code.specs.BodyState.{BodyState}
+use Rattle.linear_code.specs.Meaning.{HasSlots, step}
+use Rattle.linear_code.specs.Program.{LinearProgram, LinearBody}
+use Rattle.linear_machine.specs.Frames.{BodyName, FuncletBody, Configuration}
+use Rattle.template_code.specs.declared.layout.Layout.{Layout}
+use Rattle.template_code.specs.Template.{template, template_size, code_from, offset_of}
+use Rattle.template_code.proofs.Sizes.{offset_next}
+use Rattle.x64_templates.specs.Straight.{MachineView, machine}
+use Rattle.x64_templates.specs.CallStates.{sp_of}
+use Rattle.x64_templates.specs.Runs.{HasCode, FramePlace, ReachesBody}
+use Rattle.x64_templates.proofs.Computes.{code_split}
+use Rattle.x64_templates.specs.InstructionRuns.{InstructionDone}
+use Rattle.x64_templates.proofs.InstructionRuns.{body_instruction_run}
+use Rattle.x64_templates.proofs.Linked.{template_placed}
+use Rattle.match_stack.specs.ImagePlan.{ImagePlan}
+use Rattle.match_runs.specs.Comes.{Comes}
+use Rattle.lowering_invariants.specs.Room.{HaveRoom}
+use Rattle.match_bodies.specs.CodeSites.{Sites, links_of, begin_of, entry_code}
+use Rattle.match_bodies.specs.ProgramImages.{IsProgramImage}
+use Rattle.match_bodies.specs.Bodies.{RepresentsAt}
+use Rattle.match_bodies.proofs.SilentTurns.{reaches_silently}
+use Rattle.match_bodies.specs.BodyViews.{seen_by_templates, counts_of, frame_at, state_of}
+use Rattle.match_bodies.specs.SlotStores.{OwnerHasFrame}
+use Rattle.match_bodies.proofs.HomeSpace.{CallerHasFrame}
+use Rattle.match_bodies.proofs.TemplateShadows.{kept_by_rest, is_after, ends_at, RunsKeep}
+use Rattle.match_bodies.proofs.BodyViews.{IsCounted, is_machine, room_here, holds_here, placed}
+use Rattle.match_bodies.proofs.ChainKeeping.{reaches_keeps, stays_well_formed}
+use Rattle.match_bodies.proofs.TemplateSlots.{Leaves}
+use Rattle.match_bodies.proofs.NextInstruction.{further, Ran, represents_next}
+
+-- ---- registers
+
+pub index_of : (xs : List ℕ) (i : ℕ) → get_or xs i 0 ≡ slice_index xs i
+index_of [] i = refl
+index_of (x ∷ xs) zero = refl
+index_of (x ∷ xs) (suc i) = index_of xs i
+
+pub dropped : (xs : List ℕ) → slice_index (drop 3 xs) 1 ≡ slice_index xs 4
+dropped [] = refl
+dropped (a ∷ []) = refl
+dropped (a ∷ b ∷ []) = refl
+dropped (a ∷ b ∷ c ∷ xs) = refl
+
+pub sp_seen : (s : State) → sp_of (seen_by_templates s) ≡ register s.cpu Rsp
+sp_seen s = index_of (drop 3 s.cpu.registers) 1 ∙ dropped s.cpu.registers
+
+-- what of a list holds of each of its elements
+pub each : {A : Type 0} → (P : A → Type 0) (xs : List A) (i : ℕ) (x : A) → AllByRecursion P xs
+    → slice_get xs i ≡ Some x → P x
+each P [] i x h e = cc
+each {A = A} P (y ∷ xs) zero x h e = subst P (the_same y x e) h.0
+  where
+    the_same : (a b : A) → Some a ≡ Some b → a ≡ b
+    the_same a b e = cc
+each P (y ∷ xs) (suc i) x h e = each P xs i x h.1 e
+
+pub get_or_is : {A : Type 0} → (xs : List A) (i : ℕ) (x d : A) → slice_get xs i ≡ Some x
+    → (get_or xs i d ≡ x) × (i < length xs)
+get_or_is xs i x d e = (get_or_from_slice_get xs i x d e, slice_get_within xs i x e)
+
+-- nothing has landed
+nothing : (landed : Option ℕ) (value : ℕ) → landed ≡ None → landed ≡ Some value → ⊥
+nothing None value e f = cc
+nothing (Some x) value e f = cc
+
+-- ---- the body's code
+
+module _ (t : Functions) (fs : List Funclet) (program : LinearProgram) (p : ImagePlan) (q : Sites)
+    (image : IsProgramImage t fs program p q) (roomy : HaveRoom program) where
+  module _ (s : State) (c : Configuration) (b : RepresentsAt t fs program p q s c)
+      (counted : IsCounted t fs program p q image c) where
+    abbrev pub code : LinearBody
+    code = b.body.slots.code
+
+    abbrev pub name : BodyName
+    name = c.frame.body
+
+    abbrev pub y : Layout
+    y = p.layout c.frame.body
+
+    abbrev pub v : MachineView
+    v = seen_by_templates s
+
+    abbrev pub base : ℕ
+    base = (placed t fs program p q image s c b counted).base
+
+    abbrev pub frame : FramePlace
+    frame = frame_at program p name code (register s.cpu Rsp) base
+
+    abbrev pub slots : BodyState
+    slots = state_of program p s c base
+
+    pub same_state : s ≡ machine v s.cpu.rip s.cpu.flags
+    same_state = is_machine s b.well_formed.count
+
+    -- the instructions, one after another
+    pub body_code : HasCode s.memory (p.address name 0)
+        (code_from (links_of p q name) y (p.address name 0) code.code)
+    body_code =
+        let a = image.addresses name code b.body.slots.body in
+        let h = code_split s.memory (begin_of p q name) (entry_code program p q name)
+        (code_from (links_of p q name) y (p.address name 0) code.code)
+        (b.memory.code.code name code b.body.slots.body) in
+        subst (λ x. HasCode s.memory x (code_from (links_of p q name) y (p.address name 0)
+        code.code)) (sym a.first) h.1
+
+    -- the template of an instruction
+    pub template_here : (i : Instruction) → slice_get code.code c.frame.next ≡ Some i
+        → HasCode s.memory s.cpu.rip (template (links_of p q name) y s.cpu.rip i)
+    template_here i e =
+        let a = image.addresses name code b.body.slots.body in
+        let g = get_or_is code.code c.frame.next i instructions.Separator e in
+        let at : p.address name 0 + offset_of y code.code c.frame.next
+        ≡ s.cpu.rip = sym (a.labels c.frame.next) ∙ sym b.rip in
+        subst (λ x. HasCode s.memory x (template (links_of p q name) y x i)) at
+        (subst (λ j. HasCode s.memory (p.address name 0 + offset_of y code.code c.frame.next)
+        (template (links_of p q name) y (p.address name 0 + offset_of y code.code c.frame.next)
+        j)) g.0
+        (template_placed (links_of p q name) y s.memory (p.address name 0) code.code c.frame.next
+        instructions.Separator body_code g.1))
+
+    pub has_slots : (i : Instruction) → slice_get code.code c.frame.next ≡ Some i
+        → HasSlots (counts_of code) i
+    has_slots i e = each (HasSlots (counts_of code)) code.code c.frame.next i
+        (roomy name code b.body.slots.body).slots e
+
+    -- the next instruction is right after the template
+    pub next_address : (i : Instruction) → slice_get code.code c.frame.next ≡ Some i
+        → p.address name (c.frame.next + 1) ≡ s.cpu.rip + template_size y i
+    next_address i e =
+        let a = image.addresses name code b.body.slots.body in
+        let g = get_or_is code.code c.frame.next i instructions.Separator e in
+        let o = offset_next y code.code c.frame.next instructions.Separator g.1 in
+        let z : template_size y (get_or code.code c.frame.next instructions.Separator)
+        ≡ template_size y i = ap (template_size y) g.0 in
+        let n : offset_of y code.code (c.frame.next + 1)
+        ≡ offset_of y code.code (suc c.frame.next) =
+        (let k : c.frame.next + 1 ≡ suc c.frame.next = omega arith in
+        ap (offset_of y code.code) k) in
+        omega (arith, a.labels (c.frame.next + 1), a.labels c.frame.next, b.rip, n, o, z)
+
+    pub sp_is : sp_of v ≡ register s.cpu Rsp
+    sp_is = sp_seen s
+
+    -- what the template of the instruction here does
+    pub done : (i : Instruction) → slice_get code.code c.frame.next ≡ Some i
+        → InstructionDone frame (links_of p q name) v s.cpu.rip s.cpu.flags slots i
+        (step frame.reserved i slots)
+    done i e =
+        let a = image.addresses name code b.body.slots.body in
+        let low = a.inside.low in
+        let high = a.inside.high in
+        let g = get_or_is code.code c.frame.next i instructions.Separator e in
+        let at : p.address name 0 + offset_of y code.code c.frame.next
+        ≡ s.cpu.rip = sym (a.labels c.frame.next) ∙ sym b.rip in
+        let first = a.first in
+        subst (λ j. InstructionDone frame (links_of p q name) v s.cpu.rip s.cpu.flags slots j
+        (step frame.reserved j slots)) g.0
+        (subst (λ x. InstructionDone frame (links_of p q name) v x s.cpu.flags slots
+        (get_or code.code c.frame.next instructions.Separator)
+        (step frame.reserved (get_or code.code c.frame.next instructions.Separator) slots)) at
+        (body_instruction_run frame (links_of p q name) (p.address name 0) code.code c.frame.next v
+        s.cpu.flags slots (room_here t fs program p q image s c b counted) a.labels (omega arith)
+        (omega arith) g.1
+        (subst (HasSlots (counts_of code)) (sym g.0) (has_slots i e)) sp_is
+        (holds_here t fs program p q image s c b counted) body_code))
+
+    -- ---- a turn of linear code that stays in the body
+
+    -- RIP at an instruction is at no funclet's first byte
+    pub silent_at : (label rip : ℕ) → rip ≡ p.address name label → label < length code.code
+        → rip < 2 ^ 64 → (u : State) → u.cpu.rip ≡ rip
+        → arrivals u.cpu (distance t.base u.cpu.rip) 1 fs ≡ []
+    silent_at label rip at lt small u here =
+        let a = image.addresses name code b.body.slots.body in
+        subst (λ r. arrivals u.cpu (distance t.base r) 1 fs ≡ []) (sym here)
+        (image.funclets.none rip small (λ k inside e. a.not_first label k lt inside (sym at ∙ e))
+        u.cpu)
+
+    -- what holds below of a leaf's caller, and of the activation of a funclet
+    pub record Surroundings : Type 0 where
+      pub caller : p.leaf c.frame.body ≡ true → CallerHasFrame p c.below
+      pub owner : (k : ℕ) → c.frame.body ≡ FuncletBody k
+          → OwnerHasFrame t fs program p c.frame.activation c.below b.body.acts
+
+    module _ (around : Surroundings) where
+      -- a run of so many turns to an instruction of the body, with these slots
+      pub to_label : (n label rip : ℕ) (d : BodyState) (values ts : List ℕ) (landed : Option ℕ)
+          (events : List Event) → ReachesBody frame n s rip v.rest d → rip ≡ p.address name label
+          → label < length code.code → rip < 2 ^ 64 → Leaves code d values ts → landed ≡ None
+          → RunsKeep t fs program p q image s c b counted n s
+          → (u : State) × (Comes t fs n s [] u)
+          × (RepresentsAt t fs program p q u (further t fs program p q image c b.body.acts label values ts
+          landed d.memory events))
+      to_label n label rip d values ts landed events r at lt small leaves free keep =
+          let u : State = machine r.after rip r.flags in
+          let keeps = reaches_keeps n s u r.comes in
+          let sp : register u.cpu Rsp ≡ register s.cpu Rsp = ap (λ (xs : List ℕ). slice_index xs 1)
+          r.rest ∙ dropped s.cpu.registers in
+          let ran : Ran t fs program p q image s c b counted u d values
+          ts = record {
+            changed = record { changes = r.changes; keeps = keeps };
+            holds = r.holds;
+            stack = sp;
+            leaves = leaves;
+          } in
+          let kept = kept_by_rest r.after.rest s.cpu.registers r.rest in
+          let ends = ends_at t fs program p q image s c b counted u label at lt kept
+          (is_after t fs program p q image s c b counted u d values ts ran around.caller
+          around.owner) in (
+            u,
+            reaches_silently t fs program p q image n s u r.comes (keep u r.comes ends) b.memory.code
+                (silent_at label rip at lt small u refl),
+            represents_next t fs program p q image s c b counted u d values ts ran label landed events
+                at lt (stays_well_formed s u keeps small b.well_formed)
+                (λ value e. absurd (nothing landed value free e)) around.caller around.owner,
+          )

@@ -1,0 +1,260 @@
+-- The walk from a body that runs gives its caller and those of the list below, also where a
+-- template's run has come; so each turn of that run keeps the shadow.
+use Rattle.std.proofs.Common.{◌≡◌, ℕ, suc, ◌+◌, ◌^◌, ◌<◌, ◌≤◌, true, Some, List, [], ◌∷◌, ◌++◌, length, drop, get_or, refl, sym, ap, subst, ◌∙◌, arith, append_assoc, length-append}
+use Rattle.std.specs.Prelude.{slice_get, slice_index}
+use Rattle.std.proofs.lemmas.List.{append-nil}
+use Rattle.std.proofs.lemmas.Option.{slice_get_within, get_or_from_slice_get}
+use Rattle.flat_memory.specs.Memory.{Memory}
+use Rattle.x64_instr.specs.declared.register.Reg.TheVariants.{Rsp}
+use Rattle.x64_instr.specs.declared.instruction.Instr.{Instr}
+use Rattle.x64_machine.specs.declared.context.Context.{Context}
+use Rattle.x64_machine.specs.Contexts.{kept_of}
+use Rattle.x64_machine.specs.Effect.{State, register}
+use Rattle.virtual_unwind.specs.CallerOf.{Functions}
+use Rattle.host_model.specs.declared.funclet.Funclet.{Funclet}
+use Rattle.linear_code.specs.declared.instruction.Instruction.{Instruction}
+use Rattle.linear_code.specs.declared.instruction.Instruction.TheVariants as instructions
+use Rattle.linear_code.specs.BodyState.{BodyState}
+use Rattle.linear_code.specs.Program.{LinearProgram, LinearBody}
+use Rattle.linear_machine.specs.Frames.{FuncletBody, Configuration}
+use Rattle.source_meaning.specs.Source.{is_reserved}
+use Rattle.template_code.specs.declared.layout.Layout.{Layout}
+use Rattle.template_code.specs.Bytes.{sizes}
+use Rattle.template_code.specs.Template.{template, template_size}
+use Rattle.template_code.proofs.Sizes.{offset_next}
+use Rattle.x64_templates.specs.Frames.{Agrees, IsBytes}
+use Rattle.x64_templates.specs.Runs.{Reaches}
+use Rattle.x64_templates.specs.Epilogues.{IsReturn}
+use Rattle.x64_templates.proofs.Bodies.{holds_same, changes_same}
+use Rattle.x64_templates.proofs.Flows.{IsFlow}
+use Rattle.x64_templates.proofs.InstructionRuns.{LabelsNear, body_most, labels_near}
+use Rattle.match_stack.specs.ImagePlan.{ImagePlan}
+use Rattle.match_runs.specs.Shadow.{WalkGives, AllKeep}
+use Rattle.match_bodies.specs.CodeSites.{Sites, links_of}
+use Rattle.match_bodies.specs.Callers.{FindsReturn}
+use Rattle.match_bodies.specs.ProgramImages.{IsProgramImage}
+use Rattle.match_bodies.specs.Bodies.{RepresentsAt}
+use Rattle.match_bodies.proofs.StackWalks.{callers, on_stack, keep_then}
+use Rattle.match_bodies.proofs.SilentTurns.{program_kept}
+use Rattle.match_bodies.proofs.BodyCallers.{begin_finds}
+use Rattle.match_bodies.proofs.FlowKeeping.{caller_by, IsBelow, from_state}
+use Rattle.match_bodies.proofs.TemplatePieces.{piece_finds, piece_keeps}
+use Rattle.match_bodies.specs.BodyViews.{counts_of, state_of}
+use Rattle.match_bodies.specs.SlotStores.{OwnerHasFrame}
+use Rattle.match_bodies.proofs.HomeSpace.{CallerHasFrame}
+use Rattle.match_bodies.proofs.ChainKeeping.{Keeps}
+use Rattle.match_bodies.proofs.BodyViews.{IsCounted, placed, count, frame_top, room_here, holds_here, slots_here, locals_here}
+use Rattle.match_bodies.proofs.NextInstruction.{Ran, returns, new_on}
+
+some_length : (code : List Instr) → 1 ≤ length code
+    → (item : Instr) × (left : List Instr) × (code ≡ item ∷ left)
+some_length [] le = absurd (omega arith)
+some_length (i ∷ is) le = (i, is, refl)
+
+-- the registers that a run of templates leaves are those by their numbers from 3 on
+kept_dropped : (xs : List ℕ) → kept_of (0 ∷ 0 ∷ 0 ∷ drop 3 xs) ≡ kept_of xs
+kept_dropped [] = refl
+kept_dropped (a ∷ []) = refl
+kept_dropped (a ∷ b ∷ []) = refl
+kept_dropped (a ∷ b ∷ c ∷ xs) = refl
+
+pub kept_by_rest : (rest xs : List ℕ) → rest ≡ drop 3 xs → kept_of (0 ∷ 0 ∷ 0 ∷ rest) ≡ kept_of xs
+kept_by_rest rest xs e = ap (λ (r : List ℕ). kept_of (0 ∷ 0 ∷ 0 ∷ r)) e ∙ kept_dropped xs
+
+module _ (t : Functions) (fs : List Funclet) (program : LinearProgram) (p : ImagePlan) (q : Sites)
+    (image : IsProgramImage t fs program p q) (s : State) (c : Configuration)
+    (b : RepresentsAt t fs program p q s c) (counted : IsCounted t fs program p q image c) where
+  abbrev code_here : LinearBody
+  code_here = b.body.slots.code
+
+  abbrev layout_here : Layout
+  layout_here = p.layout c.frame.body
+
+  abbrev pub kept_here : List ℕ
+  kept_here = kept_of s.cpu.registers
+
+  -- what the body's caller continues with, and the callers beyond it
+  abbrev pub caller_here : Context
+  caller_here = caller_by kept_here layout_here.frame b.body.back
+
+  abbrev pub beyond_here : List Context
+  beyond_here = callers caller_here b.body.is
+
+  abbrev pub Below : Memory → Type 0
+  Below m = IsBelow t fs program p q m kept_here layout_here.frame b.body.back beyond_here
+
+  enough : get_or kept_here 0 0 + layout_here.frame + 8 < 2 ^ 64
+  enough = let h = frame_top t fs program p q image s c b counted in omega arith
+
+  pub is_here : Below s.memory
+  is_here = record {
+    program_there = b.memory.code;
+    returns = b.body.returns;
+    beyond = on_stack t s.memory caller_here 0 b.body.is
+        (b.body.below (drop 1 kept_here) refl).is_there.stack;
+  }
+
+  -- after a run of a template
+  pub is_after : (u : State) (d : BodyState) (values ts : List ℕ)
+      → Ran t fs program p q image s c b counted u d values ts
+      → (p.leaf c.frame.body ≡ true → CallerHasFrame p c.below)
+      → ((k : ℕ) → c.frame.body ≡ FuncletBody k
+      → OwnerHasFrame t fs program p c.frame.activation c.below b.body.acts) → Below u.memory
+  is_after u d values ts r caller owner = record {
+    program_there = program_kept t fs program p q s.memory u.memory
+        (record { protection = r.changed.keeps.protection; fixed = r.changed.keeps.fixed })
+        b.memory.code;
+    returns = returns t fs program p q image s c b counted u d values ts r;
+    beyond = on_stack t u.memory caller_here 0 b.body.is
+        (new_on t fs program p q image s c b counted u d values ts r caller owner (drop 1 kept_here)
+        refl).is_there.stack;
+  }
+
+  -- where no reserved byte has changed the slots are as they were
+  pub ran_same : (u : State) (source : Memory) → Keeps s u
+      → ((a : ℕ) → is_reserved program.globals a ≡ true → u.memory.byte a ≡ s.memory.byte a)
+      → (IsBytes s.memory → IsBytes u.memory) → Agrees (is_reserved program.globals) u.memory source
+      → register u.cpu Rsp ≡ register s.cpu Rsp
+      → Ran t fs program p q image s c b counted u
+      (record {
+        slots = (state_of program p s c
+            (placed t fs program p q image s c b counted).base).slots;
+        memory = source;
+      })
+      (placed t fs program p q image s c b counted).values []
+  ran_same u source keeps own bytes agrees sp =
+      let base = (placed t fs program p q image s c b counted).base in
+      let room = room_here t fs program p q image s c b counted in
+      let w = slots_here t fs program p q image s c b counted in
+      record {
+        changed = record {
+          changes = changes_same layout_here (counts_of code_here)
+              (is_reserved program.globals) (register s.cpu Rsp) base room s.memory u.memory own
+              keeps.protection bytes;
+          keeps = keeps;
+        };
+        holds = holds_same layout_here (counts_of code_here) (is_reserved program.globals)
+            (register s.cpu Rsp) base room s.memory u.memory source (state_of program p s c base) own
+            keeps.protection agrees (holds_here t fs program p q image s c b counted);
+        stack = sp;
+        leaves = record {
+          count = count t fs program p q image s c b counted;
+          locals = λ i lt. w.locals i lt ∙ ap (λ xs. slice_index xs i)
+              (locals_here t fs program p q image s c b counted);
+          few = omega arith;
+          temporaries = λ i v e. cc;
+        };
+      }
+
+  -- ---- runs of the template, from its begin or from within
+
+  -- where the walk finds the return address, with the frame as it was
+  pub record Ends (u : State) : Type 0 where
+    pub registers : kept_of u.cpu.registers ≡ kept_here
+    pub is_there : Below u.memory
+    pub finds : FindsReturn t u.memory u.cpu.rip layout_here.frame
+
+  -- at an instruction of the body
+  pub ends_at : (u : State) (label : ℕ) → u.cpu.rip ≡ p.address c.frame.body label
+      → label < length code_here.code → kept_of u.cpu.registers ≡ kept_here → Below u.memory
+      → Ends u
+  ends_at u label rip lt registers is_there = record {
+    registers = registers;
+    is_there = is_there;
+    finds = subst (λ a. FindsReturn t u.memory a layout_here.frame) (sym rip)
+        (begin_finds t fs program p q image u.memory c.frame.body code_here label b.body.slots.body
+        is_there.program_there lt);
+  }
+
+  -- there the walk gives these callers
+  pub ends_gives : (u : State) → Ends u → WalkGives t u (caller_here ∷ beyond_here)
+  ends_gives u e =
+      let nine : length kept_here ≡ 9 = refl in
+      from_state t fs program p q u kept_here layout_here.frame b.body.back beyond_here e.finds
+      e.registers nine enough e.is_there
+
+  -- each turn of a run that ends so keeps the shadow
+  abbrev pub RunsKeep : ℕ → State → Type 0
+  RunsKeep n x = (u : State) → Reaches n x u → Ends u → AllKeep t fs n x
+
+  module _ (i : Instruction) (at : slice_get code_here.code c.frame.next ≡ Some i)
+      (goes : IsReturn i → ⊥) where
+    abbrev pub whole : List Instr
+    whole = template (links_of p q c.frame.body) layout_here (p.address c.frame.body c.frame.next) i
+
+    -- past some of its instructions
+    pub record IsPast (before : List Instr) (x : State) : Type 0 where
+      pub rip : x.cpu.rip ≡ p.address c.frame.body c.frame.next + sizes before
+      pub registers : kept_of x.cpu.registers ≡ kept_here
+      pub is_there : Below x.memory
+
+    pub past_none : IsPast [] s
+    past_none = let e = b.rip in record { rip = omega arith; registers = refl; is_there = is_here }
+
+    -- the rest of the template
+    pub one_piece : (before code : List Instr) (x : State) → whole ≡ before ++ code → IsFlow code
+        → IsPast before x → RunsKeep (length code) x
+    one_piece before code x parts flow past u r ends =
+        piece_keeps t fs program p q image c.frame.body code_here c.frame.next i b.body.slots.body
+        at goes before code [] (parts ∙ ap (λ (xs : List Instr). before ++ xs)
+        (sym (append-nil code)))
+        x u kept_here b.body.back beyond_here flow r past.rip past.registers ends.registers enough
+        past.is_there ends.is_there ends.finds
+
+    -- where another instruction of the template is left, the walk finds the return address
+    pub past_ends : (before left : List Instr) (x : State) → whole ≡ before ++ left
+        → 1 ≤ length left → IsPast before x → Ends x
+    past_ends before left x parts some past =
+        let z = some_length left some in
+        let begin = p.address c.frame.body c.frame.next + sizes before in
+        let none : begin + sizes [] ≡ begin = omega arith in
+        let parts_after : whole ≡ before ++ (left ++ []) = parts
+        ∙ ap (λ (xs : List Instr). before ++ xs) (sym (append-nil left)) in
+        let finds = piece_finds t fs program p q image c.frame.body code_here c.frame.next i
+        b.body.slots.body at goes before left [] parts_after x.memory begin [] z.1 z.0 refl
+        past.is_there.program_there z.2 in
+        record {
+          registers = past.registers;
+          is_there = past.is_there;
+          finds = subst (λ a. FindsReturn t x.memory a layout_here.frame) (none ∙ sym past.rip)
+              finds;
+        }
+
+    -- a piece before others, up to where they begin
+    pub piece_to : (before first second : List Instr) (x mid : State)
+        → whole ≡ before ++ (first ++ second) → IsFlow first → 1 ≤ length second → IsPast before x
+        → Reaches (length first) x mid → IsPast (before ++ first) mid → AllKeep t fs (length first) x
+    piece_to before first second x mid parts flow some past comes there =
+        let ends = past_ends (before ++ first) second mid
+        (parts ∙ sym (append_assoc before first second)) some there in
+        piece_keeps t fs program p q image c.frame.body code_here c.frame.next i b.body.slots.body
+        at goes before first second parts x mid kept_here b.body.back beyond_here flow comes
+        past.rip past.registers ends.registers enough past.is_there ends.is_there ends.finds
+
+    -- and with them, where they do so too
+    pub piece_then : (before first second : List Instr) (x mid : State)
+        → whole ≡ before ++ (first ++ second) → IsFlow first → 1 ≤ length second → IsPast before x
+        → Reaches (length first) x mid → IsPast (before ++ first) mid
+        → AllKeep t fs (length second) mid → AllKeep t fs (length (first ++ second)) x
+    piece_then before first second x mid parts flow some past comes there rest =
+        subst (λ k. AllKeep t fs k x) (sym (length-append first second))
+        (keep_then t fs (length first) (length second) x mid comes
+        (piece_to before first second x mid parts flow some past comes there) rest)
+
+    -- the labels that it goes to are near
+    pub near_here : LabelsNear (links_of p q c.frame.body) layout_here
+        (p.address c.frame.body c.frame.next) i
+    near_here =
+        let a = image.addresses c.frame.body code_here b.body.slots.body in
+        let lt = slice_get_within code_here.code c.frame.next i at in
+        let same = ap (template_size layout_here)
+        (get_or_from_slice_get code_here.code c.frame.next i instructions.Separator at) in
+        let next = offset_next layout_here code_here.code c.frame.next instructions.Separator lt in
+        let most = body_most layout_here code_here.code (suc c.frame.next) in
+        let low = a.inside.low in
+        let high = a.inside.high in
+        let first = a.first in
+        subst (λ x. LabelsNear (links_of p q c.frame.body) layout_here x i)
+        (sym (a.labels c.frame.next))
+        (labels_near (links_of p q c.frame.body) layout_here (p.address c.frame.body 0)
+        code_here.code c.frame.next i a.labels (omega arith) (omega arith) (omega arith))

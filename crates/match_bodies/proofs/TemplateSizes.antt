@@ -1,0 +1,121 @@
+-- Where an instruction begins, RIP is in its code: each template has a byte at least.
+use Rattle.std.proofs.Common.{◌≡◌, ℕ, suc, ◌+◌, ◌*◌, ◌%◌, ◌<◌, ◌≤◌, List, ◌++◌, length, get_or, Option, Some, None, ap, ◌∙◌, arith, length-append}
+use Rattle.seh_num.specs.declared.width.Width.{Width}
+use Rattle.x64_instr.specs.declared.register.Reg.{Reg}
+use Rattle.x64_instr.specs.declared.register.Reg.TheVariants.{Rax, Rcx, Rsp}
+use Rattle.x64_instr.specs.declared.operand.RegisterOrMemory.{RegisterOrMemory}
+use Rattle.x64_encode.specs.declared.writing.Opcode.{Opcode}
+use Rattle.x64_encode.specs.declared.writing.Opcode.TheVariants as opcodes
+use Rattle.x64_encode.specs.Chosen.{prefixes, modrm_bits, opcode_bytes, place_bytes, modrm}
+use Rattle.virtual_unwind.specs.CallerOf.{Functions}
+use Rattle.host_model.specs.declared.funclet.Funclet.{Funclet}
+use Rattle.linear_code.specs.declared.slot.Slot.{Slot}
+use Rattle.linear_code.specs.declared.slot.Slot.TheVariants.{Local, Temporary}
+use Rattle.linear_code.specs.declared.instruction.Instruction.{Instruction}
+use Rattle.linear_code.specs.declared.instruction.Instruction.TheVariants as instructions
+use Rattle.linear_code.specs.Program.{LinearProgram, LinearBody}
+use Rattle.linear_machine.specs.Frames.{BodyName, body_of}
+use Rattle.template_code.specs.declared.layout.Layout.{Layout}
+use Rattle.template_code.specs.Bytes.{size, sizes}
+use Rattle.template_code.specs.Operations.{before}
+use Rattle.template_code.specs.Slots.{fetched, put_back, local_at, fetch_local, keep_local, fetch, keep, operands_code, finish_code}
+use Rattle.template_code.specs.Calls.{epilogue, finally_arguments}
+use Rattle.template_code.specs.Template.{template_size}
+use Rattle.template_code.proofs.Sizes.{sizes_append, call_size, jump_size, jump_if_zero_size, call_code_size, passing_call_size, offset_next}
+use Rattle.match_stack.specs.ImagePlan.{ImagePlan, InCode}
+use Rattle.match_bodies.specs.CodeSites.{Sites}
+use Rattle.match_bodies.specs.ProgramImages.{IsProgramImage}
+
+-- ---- bytes
+
+opcode_some : (op : Opcode) → 1 ≤ length (opcode_bytes op)
+opcode_some (opcodes.One b) = omega arith
+opcode_some (opcodes.Two b) = omega arith
+
+modrm_some : (w : Width) (op : Opcode) (r : ℕ) (at : RegisterOrMemory)
+    → 1 ≤ length (modrm w op r at)
+unfolding modrm
+modrm_some w op r at =
+    let bits = modrm_bits w r at in
+    omega (
+      arith,
+      opcode_some op,
+      length-append (prefixes w bits ++ opcode_bytes op)
+          (place_bytes (r % 8) at),
+      length-append (prefixes w bits) (opcode_bytes op),
+    )
+
+fetched_some : (to base : Reg) (d : ℕ) → 1 ≤ size (fetched to base d)
+unfolding size
+fetched_some to base d = modrm_some _ _ _ _
+
+put_some : (base : Reg) (d : ℕ) → 1 ≤ size (put_back base d)
+unfolding size
+put_some base d = modrm_some _ _ _ _
+
+fetch_local_some : (o : Option ℕ) (r : Reg) (d : ℕ) → 1 ≤ sizes (fetch_local o r d)
+fetch_local_some None r d = let e = fetched_some r Rsp d in omega arith
+fetch_local_some (Some b) r d = let e = fetched_some r Rsp b in omega arith
+
+fetch_some : (y : Layout) (r : Reg) (x : Slot) → 1 ≤ sizes (fetch y r x)
+fetch_some y r (Temporary i) = let e = fetched_some r Rsp (y.temporaries + 8 * i) in omega arith
+fetch_some y r (Local i) = fetch_local_some y.base r (local_at y i)
+
+keep_local_some : (o : Option ℕ) (d : ℕ) → 1 ≤ sizes (keep_local o d)
+keep_local_some None d = let e = put_some Rsp d in omega arith
+keep_local_some (Some b) d = let e = fetched_some Rcx Rsp b in omega arith
+
+keep_some : (y : Layout) (x : Slot) → 1 ≤ sizes (keep y x)
+keep_some y (Temporary i) = let e = put_some Rsp (y.temporaries + 8 * i) in omega arith
+keep_some y (Local i) = keep_local_some y.base (local_at y i)
+
+-- ---- templates
+
+pub template_some : (y : Layout) (i : Instruction) → 1 ≤ template_size y i
+unfolding template_size size
+template_some y (instructions.Compute to o first second) =
+    omega (
+      arith,
+      fetch_some y Rax first,
+      sizes_append (operands_code y o first second)
+          (finish_code y o to),
+      sizes_append (fetch y Rax first) (fetch y Rcx second ++ before o),
+    )
+template_some y (instructions.Information to field) = let e = fetched_some Rax Rsp y.pointers in
+    omega arith
+template_some y (instructions.Landing to) = keep_some y to
+template_some y (instructions.Jump label) = let a = jump_size 5 0 in omega arith
+template_some y (instructions.JumpIfZero slot label) = let a = jump_if_zero_size y slot 0 0 in
+    omega arith
+template_some y (instructions.Call function first count) = let a = passing_call_size y first count 0
+    0 in omega arith
+template_some y (instructions.CallBuiltIn function first) = let a = call_code_size y
+    (Temporary first) first 0 0 in omega arith
+template_some y (instructions.CallFinally funclet) = let a = call_size
+    (0 + sizes finally_arguments + 5) 0 in omega arith
+template_some y (instructions.LocalUnwind label) = let a = call_size 15 0 in omega arith
+template_some y instructions.Separator = omega arith
+template_some y (instructions.Return from) = omega
+    (arith, fetch_some y Rax from, sizes_append (fetch y Rax from) (epilogue y.frame))
+
+module _ (t : Functions) (fs : List Funclet) (program : LinearProgram) (p : ImagePlan) (q : Sites)
+    (image : IsProgramImage t fs program p q) where
+  -- the next instruction's code begins where this one's ends
+  pub address_next : (name : BodyName) (b : LinearBody) (label : ℕ) → body_of program name ≡ Some b
+      → label < length b.code → p.address name (label + 1)
+      ≡ p.address name label + template_size (p.layout name)
+      (get_or b.code label instructions.Separator)
+  address_next name b label e lt =
+      let a = (image.addresses name b e).labels in
+      let n : label + 1 ≡ suc label = omega arith in
+      let o = offset_next (p.layout name) b.code label instructions.Separator lt in
+      let x = a label in
+      let z = ap (p.address name) n ∙ a (suc label) in
+      omega arith
+
+  pub first_in_code : (name : BodyName) (b : LinearBody) (label : ℕ) → body_of program name ≡ Some b
+      → label < length b.code → InCode p name label (p.address name label)
+  first_in_code name b label e lt =
+      let x = address_next name b label e lt in
+      let s = template_some (p.layout name) (get_or b.code label instructions.Separator) in
+      record { low = omega arith; high = omega arith }

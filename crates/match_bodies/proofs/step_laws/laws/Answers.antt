@@ -1,0 +1,5 @@
+use Rattle.match_bodies.proofs.BodySteps as lemma
+use Rattle.match_bodies.proofs.step_laws.laws.Goals as goal
+
+pub returns : goal.returns
+returns c = record { within = lemma.within_body }

@@ -1,0 +1,120 @@
+-- Where the code of a program's parts begins, and what comes before a body.
+use Rattle.std.specs.Prelude.{ℕ, Bool, true, false, nat_le, List, [], ◌∷◌, ◌++◌, slice_get, Option, Some, None}
+use Rattle.seh_num.specs.declared.width.Width.TheVariants.{W32, W64}
+use Rattle.host_layout.specs.declared.range.TheConstants.{PAGE}
+use Rattle.x64_instr.specs.declared.register.Reg.TheVariants.{Rax, Rcx, Rsp}
+use Rattle.x64_instr.specs.declared.operand.RegisterOrMemory.TheVariants as places
+use Rattle.x64_instr.specs.declared.operand.Operand.TheVariants as operands
+use Rattle.x64_instr.specs.declared.instruction.Operation.TheVariants as arithmetic
+use Rattle.x64_instr.specs.declared.instruction.Instr.{Instr}
+use Rattle.x64_instr.specs.declared.instruction.Instr.TheVariants as instrs
+use Rattle.c_operations.specs.declared.built_in.BuiltIn.{BuiltIn}
+use Rattle.linear_code.specs.declared.slot.Slot.TheVariants.{Local}
+use Rattle.linear_code.specs.declared.program.FuncletKind.{FuncletKind}
+use Rattle.linear_code.specs.declared.program.FuncletKind.TheVariants.{Filter, Finally}
+use Rattle.linear_code.specs.Program.{LinearProgram, LinearBody, LinearFunction, LinearFunclet}
+use Rattle.linear_machine.specs.Frames.{BodyName, FunctionBody, FuncletBody}
+use Rattle.template_code.specs.declared.layout.Layout.{Layout}
+use Rattle.template_code.specs.Bytes.{sizes}
+use Rattle.template_code.specs.Operations.{move}
+use Rattle.template_code.specs.Slots.{keep}
+use Rattle.template_code.specs.Calls as calls
+use Rattle.template_code.specs.Calls.{enter_code, keep_register, parameters_code}
+use Rattle.template_code.specs.Probing.{enter_large}
+use Rattle.template_code.specs.Template.{Links, code_from}
+use Rattle.match_stack.specs.ImagePlan.{ImagePlan}
+
+-- the first bytes of functions, the thunks of the built-in functions and of `_local_unwind`, and
+-- `__chkstk`
+pub record Sites : Type 0 where
+  pub function : ℕ → ℕ
+  pub thunk : BuiltIn → ℕ
+  pub local_unwind : ℕ
+  pub check_stack : ℕ
+
+-- what the code of a body refers to
+abbrev pub links_of : ImagePlan → Sites → BodyName → Links
+links_of p q name =
+    record {
+      label = p.address name;
+      function = q.function;
+      known = q.thunk;
+      funclet = p.funclet;
+      local_unwind = q.local_unwind;
+    }
+
+-- the first byte of a body's function or funclet
+abbrev pub begin_of : ImagePlan → Sites → BodyName → ℕ
+begin_of p q (FunctionBody f) = q.function f
+begin_of p q (FuncletBody k) = p.funclet k
+
+-- ---- what comes before the first instruction
+
+-- the frame is made: a leaf function has none, and one above a page is probed
+abbrev pub making : ℕ → ℕ → ℕ → Bool → List Instr
+making size at check true = enter_code size
+making size at check false = enter_large size at check
+
+-- the code that makes a frame; a leaf function has none
+abbrev pub frame_code : ℕ → ℕ → ℕ → Bool → List Instr
+frame_code size at check true = []
+frame_code size at check false = making size at check (nat_le size PAGE)
+
+-- how many bytes that takes
+abbrev pub making_size : ImagePlan → Sites → BodyName → ℕ
+making_size p q name =
+    sizes (frame_code (p.layout name).frame (begin_of p q name) q.check_stack (p.leaf name))
+
+-- and given back
+abbrev pub give_back : ℕ → Instr
+give_back frame =
+    instrs.Arithmetic arithmetic.Add W64 (places.Register Rsp) (operands.Immediate frame)
+
+-- where a funclet keeps the base, and where its parent does, if that is a funclet
+abbrev pub base_in : Layout → ℕ
+base_in y = elim y.base [ Some b ↦ b | None ↦ 0 ]
+
+-- where a funclet's parent keeps its base, if that is a funclet
+abbrev pub parent_base : ImagePlan → Option ℕ → Option ℕ
+parent_base p None = None
+parent_base p (Some parent) = (p.layout (FuncletBody parent)).base
+
+-- the base in RDX, or where the frame in RDX is a funclet's, the base that is kept there
+abbrev pub keep_base : Option ℕ → ℕ → List Instr
+keep_base None b = calls.keep_base b
+keep_base (Some parent) b = calls.keep_parents_base parent b
+
+-- a filter keeps the address of its EXCEPTION_POINTERS, a `__finally` block its flag
+abbrev pub keep_argument : Layout → FuncletKind → List Instr
+keep_argument y Filter = keep_register Rcx y.pointers ∷ []
+keep_argument y (Finally flag) = move W32 Rax Rcx ∷ keep y (Local flag)
+
+-- a function stores its parameters
+abbrev pub function_arguments : Layout → Option LinearFunction → List Instr
+function_arguments y None = []
+function_arguments y (Some f) = parameters_code y 0 f.parameters
+
+-- a funclet keeps its base and its argument
+abbrev pub funclet_arguments : ImagePlan → Layout → Option LinearFunclet → List Instr
+funclet_arguments p y None = []
+funclet_arguments p y (Some f) =
+    keep_base (parent_base p f.parent) (base_in y) ++ keep_argument y f.kind
+
+-- what a body stores as it begins
+abbrev pub arguments_code : LinearProgram → ImagePlan → BodyName → List Instr
+arguments_code program p (FunctionBody f) =
+    function_arguments (p.layout (FunctionBody f)) (slice_get program.functions f)
+arguments_code program p (FuncletBody k) =
+    funclet_arguments p (p.layout (FuncletBody k)) (slice_get program.funclets k)
+
+-- the code before a body's first instruction
+abbrev pub entry_code : LinearProgram → ImagePlan → Sites → BodyName → List Instr
+entry_code program p q name =
+    frame_code (p.layout name).frame (begin_of p q name) q.check_stack (p.leaf name)
+    ++ arguments_code program p name
+
+-- all of its code
+abbrev pub code_of : LinearProgram → ImagePlan → Sites → BodyName → LinearBody → List Instr
+code_of program p q name b =
+    entry_code program p q name ++ code_from (links_of p q name) (p.layout name)
+    (p.address name 0) b.code

@@ -1,0 +1,46 @@
+-- What is known of a program of linear code, and of a configuration that it comes to.
+use Rattle.std.specs.Prelude.{◌≡◌, ℕ, true, false, slice_get, Some}
+use Rattle.linear_code.specs.declared.instruction.Instruction.{Instruction}
+use Rattle.linear_code.specs.Program.{LinearProgram, LinearBody}
+use Rattle.linear_machine.specs.Frames.{BodyName, body_of, Configuration, Next}
+use Rattle.linear_machine.specs.Instructions.{act}
+use Rattle.linear_machine.specs.Run.{instruction_at}
+use Rattle.match_stack.specs.ImagePlan.{ImagePlan}
+use Rattle.lowering_invariants.specs.Ready.{CanContinue}
+use Rattle.lowering_invariants.specs.Bodies.{IsWhole}
+use Rattle.lowering_invariants.specs.Waiting.{IsStacked}
+use Rattle.lowering_invariants.specs.Activations.{HasActivations}
+use Rattle.lowering_invariants.specs.SmallNumbers.{HasSmallNumbers}
+use Rattle.lowering_invariants.specs.Depths.{HasDepths}
+use Rattle.lowering_invariants.specs.Room.{HaveRoom}
+use Rattle.lowering_invariants.specs.ReturnRegions.{AllReturnsStayInRegions, is_call}
+
+module _ (program : LinearProgram) where
+  -- a leaf function calls nothing (Microsoft x64 ABI, "Leaf functions")
+  abbrev pub LeavesCallNothing : ImagePlan → Type 0
+  LeavesCallNothing p =
+      (name : BodyName) (b : LinearBody) (label : ℕ) (i : Instruction)
+      → body_of program name ≡ Some b → p.leaf name ≡ true → slice_get b.code label ≡ Some i
+      → is_call i ≡ false
+
+  -- of the program
+  pub record IsWellMade (p : ImagePlan) : Type 0 where
+    pub whole : IsWhole program
+    pub room : HaveRoom program
+    pub apart : AllReturnsStayInRegions program
+    pub leaves : LeavesCallNothing p
+
+  -- of a configuration, and of those after one turn
+  pub record IsKnown (c : Configuration) : Type 0 where
+    pub continues : CanContinue program c
+    pub stacked : IsStacked program c
+    pub activations : HasActivations program c
+    pub small : HasSmallNumbers c
+    pub depths : HasDepths program c
+    pub next : (i : Instruction) (d : Configuration) → instruction_at program c ≡ Some i
+        → ((next : Next) → act program i next c ≡ next d) → CanContinue program d
+
+-- and of the configuration after a step
+abbrev pub KnownNext : LinearProgram → Configuration → Instruction → Type 0
+KnownNext program c i =
+    (d : Configuration) → ((next : Next) → act program i next c ≡ next d) → IsKnown program d

@@ -1,0 +1,64 @@
+-- Where the slots of each body are (Microsoft x64 ABI, "Stack allocation").
+use Rattle.std.specs.Prelude.{◌≡◌, ℕ, ◌+◌, ◌*◌, ◌≤◌, true, false, Bool, slice_get, Some, None}
+use Rattle.host_layout.specs.declared.range.TheConstants.{PAGE}
+use Rattle.linear_code.specs.Program.{LinearProgram, LinearBody, LinearFunclet}
+use Rattle.linear_machine.specs.Frames.{BodyName, FunctionBody, FuncletBody, body_of}
+use Rattle.template_code.specs.declared.layout.Layout.{Layout}
+use Rattle.match_stack.specs.ImagePlan.{ImagePlan}
+use Rattle.template_code.specs.declared.layout.TheConstants.{LARGEST_FRAME}
+
+-- a function's frame, from RSP up: home space and further arguments of its calls, temporaries,
+-- locals
+pub record IsFunctionLayout (y : Layout) (b : LinearBody) : Type 0 where
+  pub none : y.base ≡ None
+  pub passed : 32 + 8 * b.passed ≤ y.temporaries
+  pub temporaries : y.temporaries + 8 * b.temporaries ≤ y.locals
+  pub locals : y.locals + 8 * b.locals ≤ y.frame
+  pub small : y.frame + 8 ≤ LARGEST_FRAME
+
+-- a leaf function has no frame: its slots are in the home space above its return address
+pub record IsLeafLayout (y : Layout) (b : LinearBody) : Type 0 where
+  pub none : y.base ≡ None
+  pub frame : y.frame ≡ 0
+  pub locals : y.locals ≡ 8
+  pub temporaries : y.temporaries ≡ 8 + 8 * b.locals
+  pub few : b.locals + b.temporaries ≤ 4
+
+-- a funclet's frame: home space and further arguments, the base, the address of EXCEPTION_POINTERS,
+-- temporaries; its locals are those of its function, above the base
+pub record IsFuncletLayout (y function : Layout) (b : LinearBody) : Type 0 where
+  pub slot : ℕ
+  pub base : y.base ≡ Some slot
+  pub passed : 32 + 8 * b.passed ≤ slot
+  pub pointers : y.pointers ≡ slot + 8
+  pub kept : slot + 16 ≤ y.temporaries
+  pub temporaries : y.temporaries + 8 * b.temporaries ≤ y.frame
+  pub locals : y.locals ≡ function.locals
+  pub small : y.frame ≤ PAGE
+
+module _ (program : LinearProgram) (p : ImagePlan) where
+  -- the layout of a leaf function, or of one with a frame
+  abbrev pub IsLayoutIf : Layout → LinearBody → Bool → Type 0
+  IsLayoutIf y b true = IsLeafLayout y b
+  IsLayoutIf y b false = IsFunctionLayout y b
+
+  -- the function of a funclet is no leaf, and has as many locals
+  pub record IsFuncletPlan (k : ℕ) (b : LinearBody) : Type 0 where
+    pub funclet : LinearFunclet
+    pub there : slice_get program.funclets k ≡ Some funclet
+    pub framed : p.leaf (FuncletBody k) ≡ false
+    pub function_framed : p.leaf (FunctionBody funclet.function) ≡ false
+    pub function : LinearBody
+    pub function_there : body_of program (FunctionBody funclet.function) ≡ Some function
+    pub same_locals : b.locals ≡ function.locals
+    pub layout : IsFuncletLayout (p.layout (FuncletBody k))
+        (p.layout (FunctionBody funclet.function)) b
+
+  -- the layout of a body
+  abbrev pub IsLaidOut : BodyName → LinearBody → Type 0
+  IsLaidOut (FunctionBody f) b = IsLayoutIf (p.layout (FunctionBody f)) b (p.leaf (FunctionBody f))
+  IsLaidOut (FuncletBody k) b = IsFuncletPlan k b
+
+  -- the layouts of all bodies
+  abbrev pub AreLaidOut : Type 0
+  AreLaidOut = (name : BodyName) (b : LinearBody) → body_of program name ≡ Some b → IsLaidOut name b

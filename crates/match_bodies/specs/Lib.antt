@@ -1,0 +1,9 @@
+pub mod CodeSites
+pub mod Layouts
+pub mod Callers
+pub mod ProgramImages
+pub mod Bodies
+pub mod BodyViews
+pub mod SlotStores
+pub mod ConfigurationFacts
+pub mod StepLaws

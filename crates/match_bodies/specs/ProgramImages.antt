@@ -1,0 +1,278 @@
+-- What an image has of a linear program: its code in memory, and what is known of its addresses.
+use Rattle.std.specs.Prelude.{◌≡◌, ◌≢◌, ℕ, suc, ◌+◌, ◌^◌, ◌<◌, ◌≤◌, Bool, true, false, List, [], ◌∷◌, ◌++◌, length, drop, slice_get, Some, Ok}
+use Rattle.host_layout.specs.declared.range.TheConstants.{IMAGE_BASE, IMAGE_RANGE_END, STACK_START, STACK_END, PAGE}
+use Rattle.host_layout.specs.Ranges.{in_arena}
+use Rattle.host_layout.specs.declared.service.Service.{Service}
+use Rattle.host_layout.specs.declared.service.Service.TheVariants as services
+use Rattle.host_layout.specs.Services.{address_of}
+use Rattle.host_layout.specs.declared.limit.TheConstants.{LEAST_BASE}
+use Rattle.flat_memory.specs.declared.protection.TheConstants.{UNMAPPED}
+use Rattle.flat_memory.specs.Memory.{Memory, may_write}
+use Rattle.x64_instr.specs.declared.instruction.Instr.{Instr}
+use Rattle.x64_machine.specs.declared.context.Context.{Context}
+use Rattle.x64_instr.specs.declared.register.Reg.TheVariants.{Rax, Rcx, Rdx}
+use Rattle.x64_machine.specs.declared.cpu.Cpu.{Cpu}
+use Rattle.x64_machine.specs.Effect.{register}
+use Rattle.eh_tables.specs.declared.code.UnwindOperation.TheVariants.{Allocate}
+use Rattle.eh_tables.specs.Tables.{Entry}
+use Rattle.virtual_unwind.specs.Contexts.{rsp}
+use Rattle.virtual_unwind.specs.CallerOf.{Functions, distance}
+use Rattle.virtual_unwind.specs.Undone.{word}
+use Rattle.host_model.specs.declared.funclet.Funclet.{Funclet}
+use Rattle.host_model.specs.Funclets.{by_kind, arrivals}
+use Rattle.c_operations.specs.declared.operation.Operation.{Operation}
+use Rattle.c_operations.specs.declared.built_in.BuiltIn.{BuiltIn}
+use Rattle.c_operations.specs.declared.built_in.BuiltIn.TheVariants.{Put, Protect, RaiseException}
+use Rattle.source_meaning.specs.Source.{is_reserved}
+use Rattle.linear_code.specs.declared.slot.Slot.{Slot}
+use Rattle.linear_code.specs.declared.slot.Slot.TheVariants.{Temporary}
+use Rattle.linear_code.specs.declared.instruction.Instruction.{Instruction}
+use Rattle.linear_code.specs.declared.instruction.Instruction.TheVariants as instructions
+use Rattle.linear_code.specs.declared.program.FuncletKind.{FuncletKind}
+use Rattle.linear_code.specs.declared.program.FuncletKind.TheVariants.{Filter, Finally}
+use Rattle.linear_code.specs.Program.{LinearProgram, LinearBody, LinearFunclet}
+use Rattle.linear_machine.specs.Frames.{BodyName, body_of, Frame, Resumption, AfterCall, SameOperation}
+use Rattle.linear_machine.specs.Run.{instruction_in}
+use Rattle.template_code.specs.Bytes.{size, sizes}
+use Rattle.template_code.specs.Slots.{fetch, operands_code}
+use Rattle.template_code.specs.Calls.{return_at}
+use Rattle.template_code.specs.Probing.{check_stack}
+use Rattle.template_code.specs.Template.{template, HasLabels, body_size}
+use Rattle.x64_templates.specs.Straight.{MachineView}
+use Rattle.x64_templates.specs.Frames.{Agrees}
+use Rattle.x64_templates.specs.Implements.{IsReady}
+use Rattle.x64_templates.specs.Runs.{HasCode}
+use Rattle.x64_templates.specs.Thunks.{HasThunk}
+use Rattle.x64_templates.specs.Epilogues.{IsReturn}
+use Rattle.match_stack.specs.Stack.{StackFrame, FrameIsAt, LeafIsAt}
+use Rattle.match_stack.specs.ImagePlan.{ImagePlan, Gives}
+use Rattle.match_stack.specs.StackRecords.{IsData}
+use Rattle.seh_walk.specs.Walk.{filter_return, finally_return}
+use Rattle.match_bodies.specs.CodeSites.{Sites, links_of, begin_of, making_size, give_back, arguments_code, entry_code, code_of}
+use Rattle.match_bodies.specs.Layouts.{AreLaidOut}
+use Rattle.match_bodies.specs.Callers.{FindsReturn}
+
+-- the service of a built-in function
+abbrev pub service_of : BuiltIn → Service
+service_of Put = services.Put
+service_of Protect = services.Protect
+service_of RaiseException = services.RaiseException
+
+-- a frame of its size, with its entry
+abbrev pub frame_with : Entry → ℕ → ℕ → ℕ → StackFrame
+frame_with entry size offset back =
+    record { entry = entry; size = size; offset = offset; return_address = back }
+
+-- the registers of a saved state, as templates see them; its memory plays no part
+abbrev pub no_memory : Memory
+no_memory = record { protection = λ a. UNMAPPED; byte = λ a. 0 }
+
+-- the registers as templates see them
+abbrev pub view_of : Cpu → MachineView
+view_of c =
+    record {
+      rax = register c Rax;
+      rcx = register c Rcx;
+      rdx = register c Rdx;
+      rest = drop 3 c.registers;
+      memory = no_memory;
+    }
+
+module _ (t : Functions) (fs : List Funclet) (program : LinearProgram) (p : ImagePlan)
+    (q : Sites) where
+  -- ---- addresses
+
+  -- from one address up to another lies the image without its data, where no access of the source
+  -- reaches
+  pub record IsInImage (from to : ℕ) : Type 0 where
+    pub low : IMAGE_BASE < from
+    pub high : to < IMAGE_RANGE_END
+    pub own : (a : ℕ) → from ≤ a → a < to → is_reserved program.globals a ≡ true
+
+  -- a body's instructions follow what comes before them, one after another
+  pub record HasAddresses (name : BodyName) (b : LinearBody) : Type 0 where
+    pub first : p.address name 0 ≡ begin_of p q name + sizes (entry_code program p q name)
+    pub labels : HasLabels (links_of p q name) (p.layout name) (p.address name 0) b.code
+    pub rises : (label : ℕ) → label < length b.code
+        → p.address name label < p.address name (label + 1)
+    pub inside : IsInImage (begin_of p q name) (p.address name 0 + body_size (p.layout name) b.code)
+    pub not_first : (label k : ℕ) → label < length b.code → k < length program.funclets
+        → p.address name label ≢ p.funclet k
+
+  -- ---- memory
+
+  -- a thunk of the image, through a slot of the image
+  pub record HasService (m : Memory) (at : ℕ) (service : Service) : Type 0 where
+    pub thunk : HasThunk m at (address_of service)
+    pub inside : IsInImage at (at + 6)
+    pub slot : IsInImage (at + 6 + thunk.away) (at + 6 + thunk.away + 8)
+
+  -- all code of the program, with its thunks and `__chkstk`
+  pub record HasProgram (m : Memory) : Type 0 where
+    pub code : (name : BodyName) (b : LinearBody) → body_of program name ≡ Some b
+        → HasCode m (begin_of p q name) (code_of program p q name b)
+    pub thunks : (f : BuiltIn) → HasService m (q.thunk f) (service_of f)
+    pub local_unwind : HasService m q.local_unwind services.LocalUnwind
+    pub check_stack : HasCode m q.check_stack check_stack
+
+  -- the machine's memory beside the source's: they agree where the source may look; the whole stack
+  -- may be written; no page of the arena, whose rights a program may set, is code
+  pub record IsMachineMemory (m source : Memory) : Type 0 where
+    pub data_alone : IsData m
+    pub agrees : Agrees (is_reserved program.globals) m source
+    pub stack : (a : ℕ) → STACK_START ≤ a → a < STACK_END → may_write m a ≡ true
+    pub arena : (a : ℕ) → in_arena a ≡ true → (m.protection a).execute ≡ false
+    pub code : HasProgram m
+
+  -- ---- where a body waits
+
+  -- a machine instruction of a body's instruction begins at RIP, and the body's instruction isn't a
+  -- return
+  pub record IsResumed (name : BodyName) (b : LinearBody) (label rip : ℕ) : Type 0 where
+    pub instruction : Instruction
+    pub there : slice_get b.code label ≡ Some instruction
+    pub continues : IsReturn instruction → ⊥
+    pub done : List Instr
+    pub item : Instr
+    pub left : List Instr
+    pub parts : template (links_of p q name) (p.layout name) (p.address name label) instruction
+        ≡ done ++ (item ∷ left)
+    pub here : rip ≡ p.address name label + sizes done
+
+  pub record IsFramed (m : Memory) (name : BodyName) (c : Context) (back : ℕ) : Type 0 where
+    pub offset : ℕ
+    pub is_there : FrameIsAt t m c (frame_with (p.entry name) (p.layout name).frame offset back)
+
+  -- there its entry is found, RIP is past the prologue and in no epilogue: where its return address
+  -- is at the frame's end, its frame is there
+  abbrev pub FramesAreWaiting : Type 0
+  FramesAreWaiting =
+      (m : Memory) (name : BodyName) (b : LinearBody) (label : ℕ) (c : Context) (back : ℕ)
+      → body_of program name ≡ Some b → p.leaf name ≡ false → HasProgram m
+      → IsResumed name b label c.rip
+      → length c.kept ≡ 9 → rsp c + (p.layout name).frame + 8 < 2 ^ 64
+      → word m (rsp c + (p.layout name).frame) ≡ Ok back
+      → IsFramed m name c back
+
+  -- the unwind codes of an entry are the allocation of its body's frame
+  pub record HasAllocation (name : BodyName) : Type 0 where
+    pub offset : ℕ
+    pub codes : (p.entry name).info.codes
+        ≡ record { offset = offset; operation = Allocate (p.layout name).frame } ∷ []
+
+  -- a leaf function has no entry
+  abbrev pub LeavesAreWaiting : Type 0
+  LeavesAreWaiting =
+      (m : Memory) (name : BodyName) (b : LinearBody) (label : ℕ) (c : Context) (back : ℕ)
+      → body_of program name ≡ Some b → p.leaf name ≡ true → IsResumed name b label c.rip
+      → length c.kept ≡ 9 → rsp c + 8 < 2 ^ 64 → word m (rsp c) ≡ Ok back
+      → LeafIsAt t m c back
+
+  -- ---- where a body continues after an exception that is continued
+
+  abbrev pub at_instruction : Frame → Instruction → Type 0
+  at_instruction b i = instruction_in (body_of program b.body) b.next ≡ Some i
+
+  -- after its call of RaiseException
+  pub record ReturnsThere (b : Frame) (saved : Cpu) : Type 0 where
+    pub first : ℕ
+    pub calls : at_instruction b (instructions.CallBuiltIn RaiseException first)
+    pub here : saved.rip ≡ return_at (p.layout b.body) first (p.address b.body b.next + 5)
+    pub no_result : register saved Rax ≡ 0
+
+  -- at the machine instruction that faulted, with the same operands in their registers: they are
+  -- temporaries, which no filter changes
+  pub record WorksAgain (b : Frame) (saved : Cpu) : Type 0 where
+    pub to : Slot
+    pub operation : Operation
+    pub first : ℕ
+    pub second : ℕ
+    pub works : at_instruction b (instructions.Compute to operation (Temporary first)
+        (Temporary second))
+    pub here : saved.rip ≡ p.address b.body b.next + sizes
+        (operands_code (p.layout b.body) operation (Temporary first) (Temporary second))
+    pub has_first : slice_get b.temporaries first ≡ Some (register saved Rax)
+    pub has_second : slice_get b.temporaries second ≡ Some (register saved Rcx)
+    pub ready : IsReady operation (view_of saved)
+
+  abbrev pub IsResumption : Resumption → Frame → Cpu → Type 0
+  IsResumption AfterCall b saved = ReturnsThere b saved
+  IsResumption SameOperation b saved = WorksAgain b saved
+
+  pub record SaysResumptions (resumption : Resumption) (b : Frame) (saved : Cpu) : Type 0 where
+    pub says : IsResumption resumption b saved → p.resumes resumption b saved ≡ true
+    pub said : p.resumes resumption b saved ≡ true → IsResumption resumption b saved
+
+  -- ---- funclets
+
+  -- the funclet is a `__finally` block
+  abbrev pub is_finally : FuncletKind → Bool
+  is_finally Filter = false
+  is_finally (Finally flag) = true
+
+  -- RIP arrives at a funclet where its first byte is, and shows the event of its number
+  pub record FuncletsBegin : Type 0 where
+    pub named : (k : ℕ) (f : LinearFunclet) → slice_get program.funclets k ≡ Some f → (c : Cpu)
+        → arrivals c (distance t.base (p.funclet k)) 1 fs
+        ≡ by_kind c (k + 1) (is_finally f.kind) ∷ []
+    pub none : (a : ℕ) → a < 2 ^ 64 → ((k : ℕ) → k < length program.funclets → a ≢ p.funclet k)
+        → (c : Cpu) → arrivals c (distance t.base a) 1 fs ≡ []
+
+  -- ---- where a walk finds callers
+
+  -- until a frame is made the return address is at RSP, in it above the frame, and at RSP again
+  -- once the frame is given back
+  pub record FindsCallers (name : BodyName) (b : LinearBody) : Type 0 where
+    pub entries : (m : Memory) → (p.leaf name ≡ true → 0 < length b.code)
+        → FindsReturn t m (begin_of p q name) 0
+    pub probes : (m : Memory) → p.leaf name ≡ false → PAGE < (p.layout name).frame
+        → FindsReturn t m (begin_of p q name + 5) 0 × FindsReturn t m (begin_of p q name + 10) 0
+    pub arguments :
+        (m : Memory) (done left : List Instr) (item : Instr)
+        → HasProgram m → arguments_code program p name ≡ done ++ (item ∷ left)
+        → FindsReturn t m (begin_of p q name + making_size p q name + sizes done)
+        (p.layout name).frame
+    pub returns :
+        (m : Memory) (label : ℕ) (from : Slot) (done left : List Instr)
+        → HasProgram m → slice_get b.code label ≡ Some (instructions.Return from)
+        → fetch (p.layout name) Rax from ≡ done ++ left
+        → FindsReturn t m (p.address name label + sizes done) (p.layout name).frame
+    pub ends :
+        (m : Memory) (label : ℕ) (from : Slot) (n : ℕ)
+        → HasProgram m → slice_get b.code label ≡ Some (instructions.Return from)
+        → (p.layout name).frame ≡ suc n
+        → FindsReturn t m (p.address name label + sizes (fetch (p.layout name) Rax from)
+        + size (give_back (p.layout name).frame)) 0
+
+  -- so it is where no entry of the function table is: in thunks, in `__chkstk`, and at the host's
+  -- services
+  pub record FindsCallersOutside : Type 0 where
+    pub thunks : (m : Memory) (f : BuiltIn) → FindsReturn t m (q.thunk f) 0
+    pub local_unwind : (m : Memory) → FindsReturn t m q.local_unwind 0
+    pub check_stack : (m : Memory) (d : ℕ) → d < sizes check_stack
+        → FindsReturn t m (q.check_stack + d) 0
+    pub services : (m : Memory) (a : ℕ) → 0 < a → a < LEAST_BASE → a ≢ filter_return
+        → a ≢ finally_return → FindsReturn t m a 0
+
+  -- ---- all of it
+
+  pub record IsProgramImage : Type 0 where
+    pub gives : Gives t fs program p
+    pub laid_out : AreLaidOut program p
+    pub addresses : (name : BodyName) (b : LinearBody) → body_of program name ≡ Some b
+        → HasAddresses name b
+    pub check_stack : IsInImage q.check_stack (q.check_stack + sizes check_stack)
+    pub lands : (name : BodyName) (b : LinearBody) (label : ℕ) → body_of program name ≡ Some b
+        → label < length b.code → p.lands name label ≡ true
+    pub landings : (name : BodyName) (b : LinearBody) (label : ℕ) → body_of program name ≡ Some b
+        → p.lands name label ≡ true → label < length b.code
+    pub allocations : (name : BodyName) (b : LinearBody) → body_of program name ≡ Some b
+        → p.leaf name ≡ false → HasAllocation name
+    pub frames : FramesAreWaiting
+    pub leaves : LeavesAreWaiting
+    pub funclets : FuncletsBegin
+    pub resumptions : (resumption : Resumption) (b : Frame) (saved : Cpu)
+        → SaysResumptions resumption b saved
+    pub callers : (name : BodyName) (b : LinearBody) → body_of program name ≡ Some b
+        → FindsCallers name b
+    pub callers_outside : FindsCallersOutside

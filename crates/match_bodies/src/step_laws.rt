@@ -1,0 +1,10 @@
+//! Laws of the steps of linear code that need neither a call nor the dispatcher.
+
+ghost use Rattle.match_bodies.specs.StepLaws.{StepsWithinBodiesAreMatched};
+
+/// Where the machine represents a configuration of linear code, it makes each step within the body
+/// in at most sixteen turns, less those that a temporary takes more or fewer, and represents the
+/// next one.
+pub fn laws()
+    ensures within { StepsWithinBodiesAreMatched }
+{}

@@ -1,0 +1,67 @@
+-- The list ends in the stack, and each of its parts below that.
+use Rattle.std.proofs.Common.{ℕ, ◌+◌, ◌*◌, ◌≤◌, List, [], ◌∷◌, length, arith}
+use Rattle.host_layout.specs.declared.range.TheConstants.{STACK_END}
+use Rattle.flat_memory.specs.Memory.{Memory}
+use Rattle.x64_machine.specs.declared.context.Context.{Context}
+use Rattle.x64_machine.specs.Contexts.{context_of}
+use Rattle.virtual_unwind.specs.Contexts.{rsp}
+use Rattle.virtual_unwind.specs.CallerOf.{Functions}
+use Rattle.host_model.specs.declared.funclet.Funclet.{Funclet}
+use Rattle.template_code.specs.declared.layout.Layout.{Layout}
+use Rattle.linear_code.specs.Program.{LinearProgram}
+use Rattle.linear_machine.specs.Frames.{BodyName, FunctionBody, FuncletBody, Item, Waits, Searches, Unwinds}
+use Rattle.match_stack.specs.Stack.{StackItem, Framed, Leaf, Searching, Unwinding, IsStack, after_frame, after_leaf}
+use Rattle.match_stack.proofs.StackKeeping.{rises}
+use Rattle.match_stack.specs.ImagePlan.{ImagePlan}
+use Rattle.match_stack.specs.ItemMatches.{Activation, activations_below, HoldsWords, temporaries_end, HasActivation, Linked}
+
+-- ---- slots
+
+pub words_fit : (m : Memory) (at end : ℕ) (vs : List ℕ) → HoldsWords m at end vs
+    → at + 8 * length vs ≤ end
+words_fit m at end [] h = let e = h in omega arith
+words_fit m at end (v ∷ vs) h = let e = words_fit m (at + 8) end vs h.1 in omega arith
+
+-- temporaries end within the frame
+pub end_within : (m : Memory) (y : Layout) (sp size k : ℕ) (acts : List Activation)
+    (name : BodyName) → HasActivation m y sp size k acts name
+    → sp + temporaries_end y name size ≤ sp + size
+end_within m y sp size k [] (FunctionBody f) h = absurd h
+end_within m y sp size k (a ∷ outer) (FunctionBody f) h = let e = words_fit m (sp + y.locals)
+    (sp + size) a.values h.values in omega arith
+end_within m y sp size k acts (FuncletBody j) h = omega arith
+
+-- ---- the list
+
+module _ (t : Functions) (fs : List Funclet) (program : LinearProgram) (p : ImagePlan) where
+  pub in_stack : (m : Memory) (c : Context) (is : List StackItem) (items : List Item)
+      (acts : List Activation) → IsStack t m c is → Linked t fs program p m c is items acts
+      → rsp c ≤ STACK_END
+  in_stack m c [] [] acts s h = h.1
+  in_stack m c (Framed f ∷ is) (Waits b ∷ below) acts s h = let e = rises t m c (Framed f) s.0 in
+      let l = in_stack m (after_frame c f) is below (activations_below b.body acts) s.1 h.2 in
+      omega arith
+  in_stack m c (Leaf back ∷ is) (Waits b ∷ below) acts s h = let e = rises t m c (Leaf back) s.0 in
+      let l = in_stack m (after_leaf c back) is below (activations_below b.body acts) s.1 h.2 in
+      omega arith
+  in_stack m c (Searching r ∷ is) (Searches exception resumption asked rest ∷ below) acts s h =
+      let e = rises t m c (Searching r) s.0 in
+      let l = in_stack m (context_of r.saved) is below acts s.1 h.1 in omega arith
+  in_stack m c (Unwinding r ∷ is) (Unwinds rest target ∷ below) acts s h = let e = rises t m c
+      (Unwinding r) s.0 in let l = in_stack m r.walk is below acts s.1 h.1 in omega arith
+  in_stack m c [] (j ∷ items) acts s h = absurd h
+  in_stack m c (Framed f ∷ is) [] acts s h = absurd h
+  in_stack m c (Framed f ∷ is) (Searches exception resumption asked rest ∷ below) acts s h = absurd
+      h
+  in_stack m c (Framed f ∷ is) (Unwinds rest target ∷ below) acts s h = absurd h
+  in_stack m c (Leaf back ∷ is) [] acts s h = absurd h
+  in_stack m c (Leaf back ∷ is) (Searches exception resumption asked rest ∷ below) acts s h = absurd
+      h
+  in_stack m c (Leaf back ∷ is) (Unwinds rest target ∷ below) acts s h = absurd h
+  in_stack m c (Searching r ∷ is) [] acts s h = absurd h
+  in_stack m c (Searching r ∷ is) (Waits b ∷ below) acts s h = absurd h
+  in_stack m c (Searching r ∷ is) (Unwinds rest target ∷ below) acts s h = absurd h
+  in_stack m c (Unwinding r ∷ is) [] acts s h = absurd h
+  in_stack m c (Unwinding r ∷ is) (Waits b ∷ below) acts s h = absurd h
+  in_stack m c (Unwinding r ∷ is) (Searches exception resumption asked rest ∷ below) acts s h =
+      absurd h

@@ -1,0 +1,53 @@
+-- Records and regions from a row on, and the record before a row.
+use Rattle.std.proofs.Common.{◌≡◌, ℕ, zero, suc, ◌+◌, ◌≤◌, List, [], ◌∷◌, length, drop, Some, sym, ap, ◌∙◌, arith}
+use Rattle.std.specs.List.{AllByRecursion}
+use Rattle.std.proofs.Math.Seq.{drop-nil}
+use Rattle.std.proofs.lemmas.List.{drop-drop}
+use Rattle.eh_tables.specs.declared.scope.ScopeRecord.{ScopeRecord}
+use Rattle.virtual_unwind.specs.CallerOf.{Functions}
+use Rattle.host_model.specs.declared.funclet.Funclet.{Funclet}
+use Rattle.host_model.specs.Dispatch.{row_before}
+use Rattle.linear_code.specs.declared.program.Region.{Region}
+use Rattle.linear_code.specs.Program.{LinearProgram}
+use Rattle.linear_machine.specs.Frames.{BodyName}
+use Rattle.match_stack.specs.ImagePlan.{ImagePlan, AreRegions}
+
+pub row_before_dropped : (row off : ℕ) (xs : List ScopeRecord) (q : ScopeRecord)
+    → row_before (drop row xs) (suc off) ≡ Some q → row_before xs (suc (row + off)) ≡ Some q
+row_before_dropped row off [] q e = ap (λ (ys : List ScopeRecord). row_before ys (suc off))
+    (sym (drop-nil row)) ∙ e
+row_before_dropped zero off (x ∷ xs) q e = ap (row_before (x ∷ xs))
+    (let a : suc (0 + off) ≡ suc off = omega arith in a) ∙ e
+row_before_dropped (suc row) off (x ∷ xs) q e = ap (row_before (x ∷ xs))
+    (let a : suc (suc row + off) ≡ suc (suc (row + off)) = omega arith in a)
+    ∙ row_before_dropped row off xs q e
+
+pub row_before_short : (xs : List ScopeRecord) (k : ℕ) (q : ScopeRecord)
+    → row_before xs (suc k) ≡ Some q → suc k ≤ length xs
+row_before_short [] k q e = absurd cc
+row_before_short (x ∷ xs) zero q e = omega arith
+row_before_short (x ∷ xs) (suc k) q e = let h = row_before_short xs k q e in omega arith
+
+module _ (t : Functions) (fs : List Funclet) (program : LinearProgram) (p : ImagePlan)
+    (name : BodyName) where
+  pub regions_dropped : (row : ℕ) (xs : List ScopeRecord) (rs : List Region)
+      → AreRegions t fs program p name xs rs → AreRegions t fs program p name (drop row xs)
+      (drop row rs)
+  regions_dropped zero xs rs h = h
+  regions_dropped (suc row) [] [] h = tt
+  regions_dropped (suc row) (x ∷ xs) (r ∷ rs) h = regions_dropped row xs rs h.1
+  regions_dropped (suc row) [] (r ∷ rs) h = absurd h
+  regions_dropped (suc row) (x ∷ xs) [] h = absurd h
+
+-- what is left after a place that was counted from a row on
+pub dropped_again : {A : Type 0} (row off index : ℕ) (rs : List A) → index ≡ row + off
+    → drop (suc off) (drop row rs) ≡ drop (index + 1) rs
+dropped_again row off index rs e = drop-drop (suc off) row rs
+    ∙ ap (λ n. drop n rs) (let a : row + suc off ≡ index + 1 = omega arith in a)
+
+-- what holds of each element holds of each from a place on
+pub all_dropped : {A : Type 0} (P : A → Type 0) (row : ℕ) (xs : List A) → AllByRecursion P xs
+    → AllByRecursion P (drop row xs)
+all_dropped P zero xs h = h
+all_dropped P (suc row) [] h = tt
+all_dropped P (suc row) (x ∷ xs) h = all_dropped P row xs h.1

@@ -1,0 +1,39 @@
+-- A body continues wherever an exception of it is continued: after its call, or at the same
+-- operation.
+use Rattle.std.proofs.Common.{ℕ, List, inl}
+use Rattle.x64_machine.specs.Effect.{State}
+use Rattle.virtual_unwind.specs.CallerOf.{Functions}
+use Rattle.host_model.specs.declared.funclet.Funclet.{Funclet}
+use Rattle.linear_code.specs.Program.{LinearProgram}
+use Rattle.linear_machine.specs.Frames.{AfterCall, SameOperation, Configuration}
+use Rattle.match_stack.specs.ImagePlan.{ImagePlan}
+use Rattle.match_runs.specs.Comes.{LeadsTo}
+use Rattle.match_bodies.specs.CodeSites.{Sites}
+use Rattle.match_bodies.specs.Bodies.{RepresentsAt}
+use Rattle.match_turns.specs.DispatchOutcome.{Represents}
+use Rattle.match_turns.proofs.OperationSteps.{continuations}
+use Rattle.match_turns.specs.RaiseLaws.{BodiesContinue}
+use Rattle.match_turns.proofs.RaiseContinuation.{continuations_after_calls}
+
+begun_represents : (t : Functions) (fs : List Funclet) (program : LinearProgram) (p : ImagePlan)
+    (q : Sites) (most : ℕ) (s : State) (c : Configuration)
+    → LeadsTo t fs most (RepresentsAt t fs program p q) s c
+    → LeadsTo t fs most (Represents t fs program p q) s c
+begun_represents t fs program p q most s c l =
+    record {
+      turns = l.turns;
+      few = l.few;
+      state = l.state;
+      comes = l.comes;
+      is_there = inl l.is_there;
+    }
+
+pub bodies_continue : BodiesContinue
+bodies_continue t fs program p q image made s saved is acts AfterCall c on well_formed says memory store =
+    let x = continuations_after_calls t fs program p q image made s saved is acts c on well_formed says
+    memory store in
+    (x.0, λ known free. begun_represents t fs program p q _ _ _ (x.1 known free))
+bodies_continue t fs program p q image made s saved is acts SameOperation c on well_formed says memory
+    store =
+    let x = continuations t fs program p q image made s saved is acts c on well_formed says memory store in
+    (x.0, λ known free. x.1)

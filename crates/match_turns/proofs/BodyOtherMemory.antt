@@ -1,0 +1,133 @@
+-- The same body in another memory, whose stack is the same from RSP up.
+use Rattle.std.proofs.Common.{◌≡◌, ℕ, ◌+◌, ◌≤◌, false, List, sym, ap, ◌∙◌, arith}
+use Rattle.host_layout.specs.declared.range.TheConstants.{STACK_START, STACK_END}
+use Rattle.flat_memory.specs.Memory.{Memory}
+use Rattle.x64_instr.specs.declared.register.Reg.TheVariants.{Rsp}
+use Rattle.x64_machine.specs.Contexts.{context_of}
+use Rattle.x64_machine.specs.Effect.{State, register}
+use Rattle.virtual_unwind.specs.CallerOf.{Functions}
+use Rattle.host_model.specs.declared.funclet.Funclet.{Funclet}
+use Rattle.linear_code.specs.Program.{LinearProgram}
+use Rattle.linear_machine.specs.Frames.{Configuration}
+use Rattle.match_stack.specs.WalkLaws.{context_below}
+use Rattle.match_stack.specs.ImagePlan.{ImagePlan}
+use Rattle.match_stack.specs.ItemMatches.{activations_below, temporaries_end, BodyWaits}
+use Rattle.match_stack.specs.ListLaws.{KeepsStack}
+use Rattle.match_stack.proofs.ListEnds.{end_within}
+use Rattle.match_stack.proofs.ListMemories.{ReadsSame, body_kept, pointers_kept}
+use Rattle.match_stack.proofs.ListKeeping.{reads_other, kept_by_other_memories}
+use Rattle.match_bodies.specs.CodeSites.{Sites}
+use Rattle.match_bodies.specs.ProgramImages.{IsMachineMemory, IsProgramImage}
+use Rattle.match_bodies.specs.Bodies.{slots_end, last_temporary, RepresentsAt}
+use Rattle.match_bodies.proofs.BodyViews.{IsCounted, sp_low, frame_top}
+use Rattle.match_bodies.proofs.StepNeeds.{some_is}
+
+-- the stack from further up
+pub higher_stack : (m m' : Memory) (low high : ℕ) → low ≤ high → KeepsStack m m' low
+    → KeepsStack m m' high
+higher_stack m m' low high le k = record {
+  bytes = λ x from to. k.bytes x (omega arith) to;
+  protection = k.protection;
+  code = k.code;
+  no_more_code = k.no_more_code;
+}
+
+module _ (t : Functions) (fs : List Funclet) (program : LinearProgram) (p : ImagePlan) (q : Sites)
+    (image : IsProgramImage t fs program p q) (s : State) (c : Configuration)
+    (b : RepresentsAt t fs program p q s c) (counted : IsCounted t fs program p q image c)
+    (framed : p.leaf c.frame.body ≡ false)
+    (m source : Memory) (keeps : KeepsStack s.memory m (register s.cpu Rsp))
+    (memory : IsMachineMemory t fs program p q m source) where
+  abbrev pub elsewhere : State
+  elsewhere = record { cpu = s.cpu; memory = m }
+
+  abbrev pub source_elsewhere : Configuration
+  source_elsewhere = record c { store = record c.store { memory = source } }
+
+  abbrev sp : ℕ
+  sp = register s.cpu Rsp
+
+  abbrev frame : ℕ
+  frame = (p.layout c.frame.body).frame
+
+  low : STACK_START ≤ sp
+  low = let l = sp_low t fs program p q image s c b counted in omega arith
+
+  top : sp + frame + 8 ≤ STACK_END
+  top = frame_top t fs program p q image s c b counted
+
+  reads : ReadsSame s.memory m sp 0x70800000
+  reads = reads_other s.memory m sp 0x70800000
+      (record {
+        bytes = keeps.bytes;
+        protection = keeps.protection;
+        code = keeps.code;
+        no_more_code = keeps.no_more_code;
+      }) low (omega arith)
+
+  size_is : slots_end (p.layout c.frame.body) (p.leaf c.frame.body) ≡ frame
+  size_is = ap (slots_end (p.layout c.frame.body)) framed
+
+  end_is : last_temporary (p.layout c.frame.body) c.frame.body (p.leaf c.frame.body)
+      ≡ temporaries_end (p.layout c.frame.body) c.frame.body
+      (slots_end (p.layout c.frame.body) (p.leaf c.frame.body))
+  end_is = ap (λ l. last_temporary (p.layout c.frame.body) c.frame.body l) framed
+      ∙ ap (λ l. temporaries_end (p.layout c.frame.body) c.frame.body
+      (slots_end (p.layout c.frame.body) l)) (sym framed)
+
+  slots : BodyWaits t fs program p m (context_of s.cpu)
+      (slots_end (p.layout c.frame.body) (p.leaf c.frame.body))
+      (last_temporary (p.layout c.frame.body) c.frame.body (p.leaf c.frame.body)) c.frame
+      b.body.acts
+  slots =
+      let h = top in
+      let e = size_is in
+      let f = end_is in
+      let w = end_within s.memory (p.layout c.frame.body) sp
+      (slots_end (p.layout c.frame.body) (p.leaf c.frame.body)) c.frame.activation b.body.acts
+      c.frame.body b.body.slots.activation in
+      body_kept s.memory m 0x70800000 t fs program p (context_of s.cpu)
+      (slots_end (p.layout c.frame.body) (p.leaf c.frame.body))
+      (last_temporary (p.layout c.frame.body) c.frame.body (p.leaf c.frame.body)) c.frame
+      b.body.acts reads (omega arith) (omega arith) b.body.slots
+
+  pub represents_elsewhere : RepresentsAt t fs program p q elsewhere source_elsewhere
+  represents_elsewhere =
+      let l = low in
+      let h = top in
+      record {
+        rip = b.rip;
+        well_formed = record { rip_small = b.well_formed.rip_small; count = b.well_formed.count; small = b.well_formed.small };
+        memory = memory;
+        body = record {
+          acts = b.body.acts;
+          store = b.body.store;
+          slots = slots;
+          pointers = pointers_kept s.memory m 0x70800000 t fs program p (p.layout c.frame.body) sp
+              frame c.below reads (omega arith) b.body.pointers;
+          above = b.body.above;
+          home = b.body.home;
+          back = b.body.back;
+          returns_to = b.body.returns_to;
+          returns = reads.words (sp + frame) b.body.back (omega arith) h b.body.returns;
+          is = b.body.is;
+          below = λ others eight. record {
+            is_there = kept_by_other_memories t fs program p s.memory m
+                (context_below b.body.back (sp + frame + 8) others) b.body.is c.below
+                (activations_below c.frame.body b.body.acts)
+                (higher_stack s.memory m sp (sp + frame + 8) (omega arith) keeps) (omega arith)
+                (b.body.below others eight).is_there;
+            data_alone = memory.data_alone;
+          };
+        };
+        landed = b.landed;
+      }
+
+  -- with the same activations, and the same code
+  pub same_activations : represents_elsewhere.body.acts ≡ b.body.acts
+  unfolding represents_elsewhere
+  same_activations = λ i. b.body.acts
+
+  pub same_code : b.body.slots.code ≡ represents_elsewhere.body.slots.code
+  same_code = some_is b.body.slots.code represents_elsewhere.body.slots.code
+      (sym b.body.slots.body ∙ represents_elsewhere.body.slots.body)

@@ -1,0 +1,99 @@
+-- The body that runs is in its body too with the state that the host saves of it: RSP is the same,
+-- and RIP at the instruction or, where a call is the last of its code, at the next one.
+use Rattle.std.proofs.Common.{◌≡◌, ℕ, zero, suc, ◌+◌, ◌^◌, ◌<◌, ◌≤◌, List, [], ◌∷◌, length, Option, Some, None, Ok, sym, subst, arith}
+use Rattle.std.specs.Prelude.{slice_get, take}
+use Rattle.host_layout.specs.declared.range.TheConstants.{STACK_END}
+use Rattle.flat_memory.specs.Memory.{Memory}
+use Rattle.x64_instr.specs.declared.register.Reg.TheVariants.{Rsp}
+use Rattle.x64_machine.specs.declared.cpu.Cpu.{Cpu}
+use Rattle.x64_machine.specs.Effect.{State, register}
+use Rattle.virtual_unwind.specs.Undone.{word}
+use Rattle.virtual_unwind.specs.CallerOf.{Functions}
+use Rattle.host_model.specs.declared.funclet.Funclet.{Funclet}
+use Rattle.template_code.specs.declared.layout.Layout.{Layout}
+use Rattle.linear_code.specs.Program.{LinearProgram, LinearFunclet}
+use Rattle.linear_machine.specs.Frames.{BodyName, FunctionBody, FuncletBody, body_of, Frame, Item, Waits, Searches, Unwinds, Configuration, with_last}
+use Rattle.match_stack.specs.WalkLaws.{context_below}
+use Rattle.match_stack.specs.ImagePlan.{ImagePlan, InCode}
+use Rattle.match_stack.specs.ItemMatches.{activations_below, home_end, below_end, HoldsWords, HasActivation, HasSpace, SameRegions, HasPointers, FuncletIsAbove, IsAbove}
+use Rattle.match_stack.specs.StackRecords.{On}
+use Rattle.match_bodies.specs.CodeSites.{Sites}
+use Rattle.match_bodies.specs.Bodies.{slots_end, last_temporary, InBody, RepresentsAt}
+use Rattle.match_bodies.proofs.BodyResumption.{IsFront}
+
+-- the first of some words
+pub first_words : (m : Memory) (vs : List ℕ) (n : ℕ) → IsFront m vs (take n vs)
+first_words m [] zero at end h = h
+first_words m [] (suc n) at end h = h
+first_words m (v ∷ vs) zero at end h = fits (v ∷ vs) at h
+  where
+    fits : (ws : List ℕ) (a : ℕ) → HoldsWords m a end ws → a ≤ end
+    fits [] a h = h
+    fits (w ∷ ws) a h = let r = fits ws (a + 8) h.1 in omega arith
+first_words m (v ∷ vs) (suc n) at end h = (h.0, first_words m vs n (at + 8) end h.1)
+
+module _ (t : Functions) (fs : List Funclet) (program : LinearProgram) (p : ImagePlan) (q : Sites)
+  where
+    -- what is below a body doesn't depend on its temporaries
+    pub above_same : (b : Frame) (ts : List ℕ) (name : BodyName) (below : List Item)
+        → IsAbove t fs program p b name below → IsAbove t fs program p (record b { temporaries = ts })
+        name below
+    above_same b ts (FunctionBody f) below h = h
+    above_same b ts (FuncletBody k) below h = by_funclet (slice_get program.funclets k) below h
+      where
+        by_funclet : (f : Option LinearFunclet) (below : List Item)
+            → FuncletIsAbove t fs program p k b f below
+            → FuncletIsAbove t fs program p k (record b { temporaries = ts }) f below
+        by_funclet None below h = absurd h
+        by_funclet (Some f) [] h = absurd h
+        by_funclet (Some f) (Searches exception resumption asked rest ∷ Waits w ∷ below) h = h
+        by_funclet (Some f) (Unwinds rest target ∷ Waits w ∷ below) h = h
+        by_funclet (Some f) (Waits w ∷ below) h = h
+        by_funclet (Some f) below h = absurd h
+
+    module _ (s : State) (c : Configuration) (b : RepresentsAt t fs program p q s c) (saved : Cpu)
+        (label : ℕ) (ts : List ℕ)
+        (sp : register saved Rsp ≡ register s.cpu Rsp)
+        (inside : InCode p c.frame.body label saved.rip)
+        (same : SameRegions t fs program p (body_of program c.frame.body) label c.frame.next)
+        (small : saved.rip < 2 ^ 64) (front : IsFront s.memory c.frame.temporaries ts) where
+      abbrev y : Layout
+      y = p.layout c.frame.body
+
+      abbrev size : ℕ
+      size = slots_end y (p.leaf c.frame.body)
+
+      abbrev end : ℕ
+      end = last_temporary y c.frame.body (p.leaf c.frame.body)
+
+      abbrev pub in_body : InBody t fs program p q (record { cpu = saved; memory = s.memory })
+          (with_last ts c)
+      in_body = record {
+        acts = b.body.acts;
+        store = b.body.store;
+        slots = record {
+          code = b.body.slots.code;
+          body = b.body.slots.body;
+          label = label;
+          instruction = record { low = inside.low; high = inside.high };
+          same = same;
+          small = small;
+          activation = subst (λ x. HasActivation s.memory y x size c.frame.activation b.body.acts
+              c.frame.body) (sym sp) b.body.slots.activation;
+          temporaries = subst (λ x. HoldsWords s.memory (x + y.temporaries) (x + end) ts) (sym sp)
+              (front _ _ b.body.slots.temporaries);
+          space = subst (λ x. HasSpace x below_end (length b.body.acts + c.frame.held)) (sym sp)
+              b.body.slots.space;
+        };
+        pointers = subst (λ x. HasPointers t fs program p s.memory y x y.frame c.below) (sym sp)
+            b.body.pointers;
+        above = above_same c.frame ts c.frame.body c.below b.body.above;
+        home = λ leaf. subst (λ x. x + home_end ≤ STACK_END) (sym sp) (b.body.home leaf);
+        back = b.body.back;
+        returns_to = b.body.returns_to;
+        returns = subst (λ x. word s.memory (x + y.frame) ≡ Ok b.body.back) (sym sp) b.body.returns;
+        is = b.body.is;
+        below = λ others n. subst (λ x. On t fs program p s.memory
+            (context_below b.body.back (x + y.frame + 8) others) b.body.is c.below
+            (activations_below c.frame.body b.body.acts)) (sym sp) (b.body.below others n);
+      }

@@ -1,0 +1,307 @@
+-- A built-in function is called: the service is reached, and what it saves of the body is on top of
+-- the list.
+use Rattle.std.proofs.Common.{◌≡◌, ℕ, ◌+◌, ◌-◌, ◌%◌, ◌^◌, ◌<◌, ◌≤◌, Some, List, [], ◌∷◌, length, Ok, refl, sym, ap, subst, ◌∙◌, arith, length-set, set}
+use Rattle.std.specs.Prelude.{◌==◌, false, slice_get, take}
+use Rattle.seh_num.specs.declared.width.Width.TheVariants.{W64}
+use Rattle.flat_memory.specs.Memory.{loaded}
+use Rattle.std.proofs.lemmas.List.{length-drop}
+use Rattle.host_layout.specs.declared.range.TheConstants.{IMAGE_BASE, IMAGE_RANGE_END, STACK_START, STACK_END}
+use Rattle.host_layout.specs.Services.{address_of}
+use Rattle.x64_instr.specs.declared.register.Reg.TheVariants.{Rsp}
+use Rattle.x64_instr.specs.declared.instruction.Instr.{Instr}
+use Rattle.x64_encode.specs.Chosen.{opcode_register}
+use Rattle.x64_machine.specs.declared.cpu.Cpu.{Cpu}
+use Rattle.x64_machine.specs.Effect.{State, register}
+use Rattle.virtual_unwind.specs.CallerOf.{Functions}
+use Rattle.host_model.specs.declared.funclet.Funclet.{Funclet}
+use Rattle.c_operations.specs.declared.built_in.BuiltIn.{BuiltIn}
+use Rattle.c_operations.specs.declared.built_in.BuiltIn.TheVariants.{Put, Protect, RaiseException}
+use Rattle.linear_code.specs.declared.slot.Slot.TheVariants.{Temporary}
+use Rattle.linear_code.specs.declared.instruction.Instruction.TheVariants as instructions
+use Rattle.linear_code.specs.BodyState.{BodyState}
+use Rattle.linear_code.specs.Program.{LinearProgram, LinearBody}
+use Rattle.linear_machine.specs.Frames.{Configuration}
+use Rattle.linear_machine.specs.Regions.{regions_of}
+use Rattle.linear_machine.specs.Frames.{body_of}
+use Rattle.linear_machine.specs.Instructions.{waiting}
+use Rattle.linear_machine.specs.Run.{instruction_at}
+use Rattle.template_code.specs.declared.layout.Layout.{Layout}
+use Rattle.template_code.specs.Bytes.{size, sizes}
+use Rattle.template_code.specs.Slots.{put_back, keep, temporary_at}
+use Rattle.template_code.specs.Jumps.{call, IsNear}
+use Rattle.template_code.specs.Calls.{arguments_code, return_at, begin_call, clear_result}
+use Rattle.template_code.specs.Template.{template, template_size}
+use Rattle.template_code.proofs.Sizes.{sizes_append, call_size, template_sizes}
+use Rattle.x64_templates.specs.Straight.{MachineView, machine}
+use Rattle.x64_templates.specs.CallStates.{pushed}
+use Rattle.x64_templates.specs.Runs.{Reaches, HasCode}
+use Rattle.match_stack.specs.ImagePlan.{ImagePlan}
+use Rattle.match_stack.specs.ListLaws.{KeepsAbove}
+use Rattle.match_stack.specs.DispatchStates.{IsWellFormed}
+use Rattle.match_stack.proofs.FuncletEntry.{set_small}
+use Rattle.match_runs.specs.Comes.{IsLive, Comes}
+use Rattle.match_bodies.specs.CodeSites.{Sites, links_of}
+use Rattle.match_bodies.specs.ProgramImages.{service_of, IsResumed, IsMachineMemory, IsProgramImage}
+use Rattle.match_bodies.specs.Bodies.{InBody, RepresentsAt}
+use Rattle.match_bodies.proofs.TemplateSizes.{template_some}
+use Rattle.match_bodies.proofs.SilentTurns.{reaches_silently}
+use Rattle.match_bodies.specs.ConfigurationFacts.{IsWellMade, IsKnown}
+use Rattle.match_bodies.proofs.StepNeeds.{counted_here, code_at}
+use Rattle.match_bodies.proofs.ChainKeeping.{reaches_keeps, stays_well_formed}
+use Rattle.match_bodies.proofs.TemplateRuns.{frame, slots, v, same_state, template_here, has_slots, next_address, sp_is}
+use Rattle.match_bodies.proofs.BodyViews.{IsCounted, sp_low, frame_top, room_here, holds_here}
+use Rattle.match_turns.proofs.FunctionFrame.{same_itself}
+use Rattle.match_turns.proofs.CallResult.{offset_most}
+use Rattle.match_turns.proofs.BuiltInCall.{with_arguments_of, ServiceReached, service_reached}
+use Rattle.match_turns.proofs.BuiltInShadow.{built_in_keeps}
+use Rattle.match_turns.proofs.HostRequest.{Asks, asks_host}
+use Rattle.match_turns.proofs.DispatchMemory.{memory_untouched}
+use Rattle.match_turns.proofs.ReturnAddressPush as pushing
+use Rattle.match_turns.proofs.HostPage.{host_silent}
+use Rattle.match_turns.proofs.BodySavedState.{first_words, in_body}
+
+-- the services are in the host's page
+service_low : (f : BuiltIn) → (1 ≤ address_of (service_of f))
+    × (address_of (service_of f) < 0x100000000)
+service_low Put = (omega arith, omega arith)
+service_low Protect = (omega arith, omega arith)
+service_low RaiseException = (omega arith, omega arith)
+
+service_live : (f : BuiltIn) → (address_of (service_of f) == 0) ≡ false
+service_live Put = refl
+service_live Protect = refl
+service_live RaiseException = refl
+
+pub clear_size : size clear_result ≡ 5
+unfolding size opcode_register
+clear_size = refl
+
+keep_some : (y : Layout) (first : ℕ) → 1 ≤ sizes (keep y (Temporary first))
+unfolding template_size
+keep_some y first = template_some y (instructions.Landing (Temporary first))
+
+module _ (t : Functions) (fs : List Funclet) (program : LinearProgram) (p : ImagePlan) (q : Sites)
+    (image : IsProgramImage t fs program p q) (made : IsWellMade program p) where
+  module _ (s : State) (c : Configuration) (b : RepresentsAt t fs program p q s c)
+      (known : IsKnown program c) (f : BuiltIn) (first : ℕ)
+      (at : instruction_at program c ≡ Some (instructions.CallBuiltIn f first)) where
+    abbrev counted : IsCounted t fs program p q image c
+    counted = counted_here t fs program p q image made c known
+
+    abbrev body : LinearBody
+    body = b.body.slots.code
+
+    abbrev y : Layout
+    y = p.layout c.frame.body
+
+    abbrev sp : ℕ
+    sp = register s.cpu Rsp
+
+    abbrev place : ℕ
+    place = p.address c.frame.body c.frame.next
+
+    -- where the call returns to
+    abbrev pub back : ℕ
+    back = return_at y first (place + 5)
+
+    abbrev service : ℕ
+    service = address_of (service_of f)
+
+    abbrev view : MachineView
+    view = v t fs program p q image made.room s c b counted
+
+    abbrev pub numbers : BodyState
+    numbers = slots t fs program p q image made.room s c b counted
+
+    pub here : slice_get body.code c.frame.next ≡ Some (instructions.CallBuiltIn f first)
+    here = code_at t fs program p q image made s c b known (instructions.CallBuiltIn f first) at
+
+    pub room : first + 4 ≤ body.temporaries
+    room = has_slots t fs program p q image made.room s c b counted
+        (instructions.CallBuiltIn f first) here
+
+    low : STACK_START + 196568 ≤ sp
+    low = sp_low t fs program p q image s c b counted
+
+    top : sp + y.frame + 8 ≤ STACK_END
+    top = frame_top t fs program p q image s c b counted
+
+    -- ---- the return address
+
+    abbrev pub done : List Instr
+    done = clear_result ∷ begin_call y first (place + 5) (q.thunk f)
+
+    pub back_is : back ≡ place + sizes done
+    back_is =
+        let n = clear_size in
+        let five = call_size back (q.thunk f) in
+        omega (arith, sizes_append (arguments_code y first) (call back (q.thunk f) ∷ []))
+
+    pub back_inside : (place ≤ back) × (back < p.address c.frame.body (c.frame.next + 1))
+    back_inside =
+        let n = next_address t fs program p q image made.room s c b counted
+        (instructions.CallBuiltIn f first) here in
+        let z = template_sizes (links_of p q c.frame.body) y place
+        (instructions.CallBuiltIn f first) in
+        let k = keep_some y first in
+        let e = back_is in
+        (omega arith, omega (arith, n, z, b.rip, k, sizes_append done (keep y (Temporary first))))
+
+    back_near : (IMAGE_BASE < back) × (back < IMAGE_RANGE_END)
+    back_near =
+        let a = image.addresses c.frame.body body b.body.slots.body in
+        let low = a.inside.low in
+        let high = a.inside.high in
+        let first = a.first in
+        let from = a.labels c.frame.next in
+        let most = offset_most y body.code (c.frame.next + 1) in
+        let e = a.labels (c.frame.next + 1) in
+        let r = back_inside.1 in
+        let l = back_inside.0 in
+        (omega arith, omega arith)
+
+    near : IsNear back (q.thunk f)
+    near =
+        let n = back_near in
+        let l = n.0 in
+        let h = n.1 in
+        let a = (b.memory.code.thunks f).inside.low in
+        let z = (b.memory.code.thunks f).inside.high in
+        (omega arith, omega arith, omega arith, omega arith)
+
+    resumed : IsResumed t fs program p q c.frame.body body c.frame.next back
+    resumed = record {
+      instruction = instructions.CallBuiltIn f first;
+      there = here;
+      continues = λ r. absurd r;
+      done = done;
+      item = put_back Rsp (temporary_at y first);
+      left = [];
+      parts = refl;
+      here = back_is;
+    }
+
+    -- ---- the run to the service
+
+    same : s ≡ machine view place s.cpu.flags
+    same = same_state t fs program p q image made.room s c b counted
+        ∙ ap (λ a. machine view a s.cpu.flags) b.rip
+
+    code_here : HasCode s.memory place (template (links_of p q c.frame.body) y place
+        (instructions.CallBuiltIn f first))
+    code_here =
+        subst (λ a. HasCode s.memory a (template (links_of p q c.frame.body) y a
+        (instructions.CallBuiltIn f first))) b.rip
+        (template_here t fs program p q image made.room s c b counted
+        (instructions.CallBuiltIn f first) here)
+
+    pub run : ServiceReached (frame t fs program p q image made.room s c b counted) first view place
+        service s.cpu.flags numbers
+    run =
+        service_reached (frame t fs program p q image made.room s c b counted) first view place
+        (q.thunk f) service s.cpu.flags numbers
+        (room_here t fs program p q image s c b counted) room
+        (sp_is t fs program p q image made.room s c b counted)
+        (holds_here t fs program p q image s c b counted)
+        (let l = low in let h = top in pushing.below view sp back (omega arith) (omega arith)
+        b.memory.data_alone b.memory.stack)
+        near code_here (b.memory.code.thunks f).thunk
+
+    -- with the arguments in their registers
+    abbrev pub given : MachineView
+    given = with_arguments_of view numbers first
+
+    abbrev pub state : State
+    state = machine (pushed given sp back) service run.flags
+
+    pub reaches : Reaches 7 s state
+    reaches = subst (λ x. Reaches 7 x state) (sym same) run.comes
+
+    pub comes : Comes t fs 7 s [] state
+    comes = reaches_silently t fs program p q image 7 s state reaches
+        (built_in_keeps t fs program p q image made.room s c b counted f first here state reaches refl
+        near) b.memory.code (host_silent t fs program p q image s.memory service state.cpu
+        b.memory.code (service_low f).1)
+
+    pub live : IsLive state
+    live = service_live f
+
+    pub well_formed : IsWellFormed state
+    well_formed = let l = (service_low f).1 in stays_well_formed s state (reaches_keeps 7 s state reaches)
+        (omega arith) b.well_formed
+
+    -- ---- the return
+
+    pub many : length given.rest ≡ 13
+    many =
+        let x = numbers.slots (Temporary (first + 2)) in
+        let z = numbers.slots (Temporary (first + 3)) in
+        length-set (set view.rest 5 x) 6 z ∙ length-set view.rest 5 x
+        ∙ length-drop 3 s.cpu.registers ∙ (let k = b.well_formed.count in omega arith)
+
+    pub low_enough : STACK_START + 8 ≤ sp
+    low_enough = let l = low in omega arith
+
+    pub high_enough : sp ≤ STACK_END
+    high_enough = let h = top in omega arith
+
+    pub back_small : back < 2 ^ 64
+    back_small = let n = back_near.1 in omega arith
+
+    -- the state that the service continues from, and that it may save
+    abbrev pub saved : Cpu
+    saved = pushing.saved given sp back low_enough high_enough b.memory.data_alone b.memory.stack
+        service run.flags back_small many
+
+    pub returns : loaded state.memory (register state.cpu Rsp) W64 ≡ Ok back
+    returns = pushing.returns_there given sp back low_enough high_enough b.memory.data_alone
+        b.memory.stack service run.flags back_small many
+
+    pub sp_there : register state.cpu Rsp ≡ sp - 8
+    sp_there = pushing.sp_there given sp back low_enough high_enough b.memory.data_alone
+        b.memory.stack service run.flags back_small many
+
+    pub sp_saved : register saved Rsp ≡ sp
+    sp_saved = pushing.sp_saved given sp back low_enough high_enough b.memory.data_alone
+        b.memory.stack service run.flags back_small many
+
+    pub well_formed_saved : IsWellFormed (record { cpu = saved; memory = state.memory })
+    well_formed_saved =
+        let raised = (register state.cpu Rsp + 8) % 2 ^ 64 % 2 ^ 64 in
+        record {
+          rip_small = back_small;
+          count = length-set state.cpu.registers 4 raised ∙ well_formed.count;
+          small = set_small state.cpu.registers 4 raised well_formed.small (omega arith);
+        }
+
+    -- ---- memory, and the list
+
+    pub memory : IsMachineMemory t fs program p q state.memory c.store.memory
+    memory =
+        memory_untouched t fs program p q s.memory state.memory c.store.memory
+        (pushing.pushed_untouched given sp back low_enough high_enough b.memory.data_alone
+        b.memory.stack) b.memory
+        (pushing.pushed_data given sp back low_enough high_enough b.memory.data_alone
+        b.memory.stack)
+
+    abbrev at_return : InBody t fs program p q (record { cpu = saved; memory = s.memory })
+        (waiting c first)
+    at_return =
+        in_body t fs program p q s c b saved c.frame.next (take first c.frame.temporaries) sp_saved
+        (record { low = back_inside.0; high = back_inside.1 })
+        (same_itself (regions_of (body_of program c.frame.body)) c.frame.next) back_small
+        (first_words s.memory c.frame.temporaries first)
+
+    pub asks : Asks t fs program p q image state.cpu saved s.memory
+        (pushing.bytes given sp back low_enough high_enough b.memory.data_alone b.memory.stack)
+        (waiting c first) b.body.acts
+    asks =
+        asks_host t fs program p q image state.cpu saved s.memory
+        (pushing.bytes given sp back low_enough high_enough b.memory.data_alone b.memory.stack)
+        (waiting c first) c.frame.next c.store.memory
+        at_return resumed b.memory.code
+        (subst (KeepsAbove s.memory (pushing.bytes given sp back low_enough high_enough
+        b.memory.data_alone b.memory.stack)) (sym sp_saved)
+        (pushing.keeps_above given sp back low_enough high_enough b.memory.data_alone
+        b.memory.stack))
+        memory well_formed well_formed_saved

@@ -1,0 +1,379 @@
+-- RAX goes to the temporary after those that a body has kept: where what it called has returned,
+-- the next instruction begins.
+use Rattle.std.proofs.Common.{◌≡◌, ℕ, zero, suc, ◌+◌, ◌^◌, ◌<◌, ◌≤◌, Bool, true, cond, Option, Some, None, List, [], ◌∷◌, ◌++◌, length, refl, sym, ap, subst, ◌∙◌, arith, inl, inr, length-append}
+use Rattle.std.specs.Prelude.{◌⊎◌, slice_get, slice_index}
+use Rattle.std.proofs.lemmas.Bool.{eq-eqb, ne_eqb}
+use Rattle.std.proofs.lemmas.Option.{slice_get_within}
+use Rattle.seh_num.specs.declared.event.Event.{Event}
+use Rattle.flat_memory.specs.Memory.{Memory}
+use Rattle.x64_instr.specs.declared.register.Reg.TheVariants.{Rax, Rsp}
+use Rattle.x64_instr.specs.declared.instruction.Instr.{Instr}
+use Rattle.x64_machine.specs.declared.context.Context.{Context}
+use Rattle.x64_machine.specs.Effect.{State, register}
+use Rattle.virtual_unwind.specs.Contexts.{rsp}
+use Rattle.virtual_unwind.specs.CallerOf.{Functions, distance}
+use Rattle.host_model.specs.declared.funclet.Funclet.{Funclet}
+use Rattle.host_model.specs.Funclets.{arrivals}
+use Rattle.linear_code.specs.declared.slot.Slot.TheVariants.{Temporary}
+use Rattle.linear_code.specs.declared.instruction.Instruction.{Instruction}
+use Rattle.linear_code.specs.BodyState.{BodyState, with_slot}
+use Rattle.linear_code.specs.Program.{LinearProgram, LinearBody}
+use Rattle.linear_machine.specs.Frames.{BodyName, FuncletBody, body_of, Frame, Item, Waits, Configuration}
+use Rattle.template_code.specs.declared.layout.Layout.{Layout}
+use Rattle.template_code.specs.Bytes.{sizes}
+use Rattle.template_code.specs.Slots.{keep}
+use Rattle.template_code.specs.Template.{template, body_size, offset_of}
+use Rattle.template_code.proofs.Sizes.{sizes_append, template_sizes}
+use Rattle.x64_templates.specs.Straight.{machine}
+use Rattle.x64_templates.specs.Runs.{HasCode, Reaches, ReachesBody}
+use Rattle.x64_templates.proofs.Computes.{code_split}
+use Rattle.x64_templates.specs.Epilogues.{IsReturn}
+use Rattle.x64_templates.proofs.Returns.{call_ends}
+use Rattle.x64_templates.proofs.Flows.{keep_flow}
+use Rattle.match_stack.specs.Stack.{StackItem}
+use Rattle.match_stack.specs.ImagePlan.{ImagePlan}
+use Rattle.match_stack.specs.ItemMatches.{Activation, locals_of}
+use Rattle.match_stack.specs.StackRecords.{On}
+use Rattle.match_stack.specs.HostUnwind.{on_top}
+use Rattle.match_stack.specs.DispatchStates.{IsWellFormed}
+use Rattle.match_runs.specs.Shadow.{AllKeep}
+use Rattle.lowering_invariants.specs.Room.{HaveRoom}
+use Rattle.match_bodies.specs.CodeSites.{Sites, links_of}
+use Rattle.match_bodies.specs.ProgramImages.{IsMachineMemory, IsProgramImage}
+use Rattle.match_bodies.specs.Bodies.{RepresentsAt}
+use Rattle.match_bodies.proofs.TemplateSizes.{first_in_code}
+use Rattle.match_bodies.proofs.BodyResumption.{again, waits_in_body}
+use Rattle.match_bodies.specs.BodyViews.{seen_by_templates, counts_of}
+use Rattle.match_bodies.specs.SlotStores.{OwnerHasFrame, with_values}
+use Rattle.match_bodies.proofs.ActivationPlaces.{locals_count}
+use Rattle.match_bodies.proofs.ActivationStores.{same_activations}
+use Rattle.match_bodies.proofs.HomeSpace.{CallerHasFrame}
+use Rattle.match_bodies.proofs.ChainKeeping.{Keeps, reaches_keeps, stays_well_formed}
+use Rattle.match_bodies.proofs.BodyViews.{IsCounted, is_machine, placed, count, room_here, holds_here, slots_here, locals_here}
+use Rattle.match_bodies.proofs.TemplateSlots.{Leaves}
+use Rattle.match_bodies.proofs.NextInstruction.{Ran, represents_next}
+use Rattle.match_bodies.proofs.TemplateShadows.{kept_by_rest, is_here, is_after, ends_at, RunsKeep, one_piece}
+use Rattle.match_bodies.proofs.TemplateRuns.{code, y, v, frame, slots, template_here, next_address, sp_is, silent_at, dropped, Surroundings}
+
+-- an instruction of a body begins within it
+pub offset_most : (y : Layout) (body : List Instruction) (number : ℕ)
+    → offset_of y body number ≤ body_size y body
+offset_most y [] zero = omega arith
+offset_most y [] (suc number) = omega arith
+offset_most y (i ∷ body) zero = omega arith
+offset_most y (i ∷ body) (suc number) = let r = offset_most y body number in omega arith
+
+-- no exception was just taken over
+pub nothing : (landed : Option ℕ) (code : ℕ) → landed ≡ None → landed ≡ Some code → ⊥
+nothing landed code e h = let z : ◌≡◌ {A = Option ℕ} None (Some code) = sym e ∙ h in cc
+
+-- ---- one more temporary
+
+got_more : (xs : List ℕ) (x : ℕ) (i v : ℕ) → slice_get (xs ++ x ∷ []) i ≡ Some v
+    → ((i < length xs) × (slice_get xs i ≡ Some v)) ⊎ ((i ≡ length xs) × (x ≡ v))
+got_more [] x zero v e = inr (refl, the_same x v e)
+  where
+    the_same : (a b : ℕ) → Some a ≡ Some b → a ≡ b
+    the_same a b e = cc
+got_more [] x (suc i) v e = cc
+got_more (z ∷ xs) x zero v e = inl (omega arith, e)
+got_more (z ∷ xs) x (suc i) v e = elim (got_more xs x i v e) [
+  | inl w ↦ (let lt = w.0 in inl (omega arith, w.1))
+  | inr w ↦ (let n = w.0 in inr (omega arith, w.1))
+]
+
+-- after a write of the temporary past the last, the slots are those of a list that is longer by one
+longer_leaves : (b : LinearBody) (d : BodyState) (values ts : List ℕ) (v : ℕ) → Leaves b d values ts
+    → length ts < b.temporaries → Leaves b (record
+    { slots = with_slot d.slots (Temporary (length ts)) v; memory = d.memory }) values
+    (ts ++ v ∷ [])
+longer_leaves b d values ts v l lt = record {
+  count = l.count;
+  locals = l.locals;
+  few = omega (arith, length-append ts (v ∷ []));
+  temporaries = λ i x e. elim (got_more ts v i x e) [
+    | inl w ↦ (let small = w.0 in ap (λ (c : Bool). cond c v (d.slots (Temporary i)))
+        (ne_eqb i (length ts) (λ n. absurd (omega arith))) ∙ l.temporaries i x w.1)
+    | inr w ↦ ap (λ (c : Bool). cond c v (d.slots (Temporary i))) (eq-eqb i (length ts) w.0) ∙ w.1
+  ];
+}
+
+-- in one turn, which keeps the shadow, it comes to where a configuration begins
+pub record Resumes (t : Functions) (fs : List Funclet) (program : LinearProgram) (p : ImagePlan)
+    (q : Sites) (u : State) (c : Configuration) : Type 0 where
+  pub state : State
+  pub reaches : Reaches 1 u state
+  pub silent : arrivals state.cpu (distance t.base state.cpu.rip) 1 fs ≡ []
+  pub begins : RepresentsAt t fs program p q state c
+  pub keeps : AllKeep t fs 1 u
+
+module _ (t : Functions) (fs : List Funclet) (program : LinearProgram) (p : ImagePlan) (q : Sites)
+    (image : IsProgramImage t fs program p q) (roomy : HaveRoom program) where
+  -- what the frames below a body are like: a leaf's caller has one, and the function whose locals a
+  -- funclet works on
+  pub record IsSurrounded (name : BodyName) (activation : ℕ) (items : List Item) (depth : ℕ) : Type
+      0 where
+    pub caller : p.leaf name ≡ true → CallerHasFrame p items
+    pub owner : (k : ℕ) → name ≡ FuncletBody k → (acts : List Activation) → length acts ≡ depth
+        → OwnerHasFrame t fs program p activation items acts
+
+  -- linear code where the body that waited has the result
+  abbrev pub answered : Frame → List Item → Memory → List Activation → List Event → ℕ
+      → Configuration
+  answered w items source acts es v = on_top (again w (w.next + 1) (w.temporaries ++ v ∷ [])
+      w.landed) items source acts es
+
+  -- where what the body called has returned RSP is the body's, the list is there from there on, and
+  -- RIP is at the code that keeps the result
+  module _ (u : State) (w : Frame) (items : List Item) (acts : List Activation) (source : Memory)
+      (es : List Event) (above : Context) (is : List StackItem)
+      (on : On t fs program p u.memory above is (Waits w ∷ items) acts)
+      (sp : register u.cpu Rsp ≡ rsp above) (well_formed : IsWellFormed u)
+      (memory : IsMachineMemory t fs program p q u.memory source)
+      (o : LinearBody) (there : body_of program w.body ≡ Some o) (i : Instruction) (first : ℕ)
+      (done : List Instr) (calls : slice_get o.code w.next ≡ Some i) (goes : IsReturn i → ⊥)
+      (parts : template (links_of p q w.body) (p.layout w.body) (p.address w.body w.next) i
+      ≡ done ++ keep (p.layout w.body) (Temporary first))
+      (fits : first < o.temporaries) (within : w.next + 1 < length o.code)
+      (held : length w.temporaries ≡ first) (free : w.landed ≡ None)
+      (back : u.cpu.rip ≡ p.address w.body w.next + sizes done) where
+    -- the same state, but that the instruction of the call begins
+    abbrev pub earlier : State
+    earlier = record {
+      cpu = record {
+        registers = u.cpu.registers;
+        rip = p.address w.body w.next;
+        flags = u.cpu.flags;
+      };
+      memory = u.memory;
+    }
+
+    abbrev pub caller : Configuration
+    caller = on_top w items source acts es
+
+    small_address : p.address w.body w.next < 2 ^ 64
+    small_address = let a = well_formed.rip_small in omega (arith, back)
+
+    pub waits : RepresentsAt t fs program p q earlier caller
+    waits =
+        let lt = slice_get_within o.code w.next i calls in
+        record {
+          rip = refl;
+          well_formed = record { rip_small = small_address; count = well_formed.count; small = well_formed.small };
+          memory = memory;
+          body = waits_in_body t fs program p q image earlier above is w items acts w.next
+              w.temporaries w.landed source es on sp
+              (first_in_code t fs program p q image w.body o w.next there lt) small_address
+              (λ at end h. h);
+          landed = λ code e. absurd (nothing w.landed code free e);
+        }
+
+    module _ (counted : IsCounted t fs program p q image caller)
+        (surrounded : IsSurrounded w.body w.activation items (length acts)) where
+      around : Surroundings t fs program p q image roomy earlier caller waits counted
+      around = record {
+        caller = surrounded.caller;
+        owner = λ k e. surrounded.owner k e waits.body.acts
+            (omega (
+              arith,
+              locals_count waits.body.acts,
+              locals_count acts,
+              ap length waits.body.store,
+            ));
+      }
+
+      same_code : (a b : LinearBody) → Some a ≡ Some b → a ≡ b
+      same_code a b e = cc
+
+      abbrev body : LinearBody
+      body = waits.body.slots.code
+
+      is_body : o ≡ body
+      is_body = same_code o body (sym there ∙ waits.body.slots.body)
+
+      calls_here : slice_get body.code w.next ≡ Some i
+      calls_here = subst (λ (b : LinearBody). slice_get b.code w.next ≡ Some i) is_body calls
+
+      abbrev place : ℕ
+      place = p.address w.body w.next
+
+      abbrev layout : Layout
+      layout = p.layout w.body
+
+      -- the code after the call
+      keeps_code : HasCode u.memory u.cpu.rip (keep layout (Temporary first))
+      keeps_code =
+          let whole = template_here t fs program p q image roomy earlier caller waits counted i
+          calls_here in
+          let after = code_split u.memory place done (keep layout (Temporary first))
+          (subst (HasCode u.memory place) parts whole) in
+          subst (λ x. HasCode u.memory x (keep layout (Temporary first))) (sym back) after.1
+
+      abbrev result : ℕ
+      result = register u.cpu Rax
+
+      same_state : u ≡ machine (seen_by_templates u) u.cpu.rip u.cpu.flags
+      same_state = is_machine u well_formed.count
+
+      room_slots : first < body.temporaries
+      room_slots = subst (λ (b : LinearBody). first < b.temporaries) is_body fits
+
+      -- RAX goes to its temporary
+      kept : ReachesBody (frame t fs program p q image roomy earlier caller waits counted) 1
+          (machine (seen_by_templates u) u.cpu.rip u.cpu.flags)
+          (u.cpu.rip + sizes (keep layout (Temporary first))) (seen_by_templates u).rest
+          (record {
+            slots = with_slot (slots t fs program p q image roomy earlier caller waits
+                counted).slots (Temporary first) result;
+            memory = source;
+          })
+      kept =
+          let r = room_slots in
+          call_ends (frame t fs program p q image roomy earlier caller waits counted)
+          (Temporary first) (seen_by_templates u) u.cpu.rip u.cpu.flags
+          (slots t fs program p q image roomy earlier caller waits counted)
+          (room_here t fs program p q image earlier caller waits counted) (omega arith)
+          (result_small u.cpu.registers well_formed.count well_formed.small)
+          (sp_is t fs program p q image roomy earlier caller waits counted)
+          (holds_here t fs program p q image earlier caller waits counted) keeps_code
+        where
+          result_small : (rs : List ℕ) → length rs ≡ 16
+              → ((i : ℕ) → i < length rs → slice_index rs i < 2 ^ 64) → slice_index rs 0 < 2 ^ 64
+          result_small rs n small = small 0 (omega arith)
+
+      next_place : u.cpu.rip + sizes (keep layout (Temporary first)) ≡ p.address w.body (w.next + 1)
+      next_place =
+          let n = next_address t fs program p q image roomy earlier caller waits counted i
+          calls_here in
+          let z = template_sizes (links_of p q w.body) layout place i in
+          let e = ap sizes parts in
+          omega (arith, back, n, z, e, sizes_append done (keep layout (Temporary first)))
+
+      next_small : p.address w.body (w.next + 1) < 2 ^ 64
+      next_small =
+          let a = image.addresses w.body o there in
+          let r = a.rises (w.next + 1) within in
+          let high = a.inside.high in
+          let e = a.labels (w.next + 1) in
+          let most = offset_most layout o.code (w.next + 1) in
+          omega arith
+
+      abbrev values_here : List ℕ
+      values_here = (placed t fs program p q image earlier caller waits counted).values
+
+      as_they_were : Leaves body (slots t fs program p q image roomy earlier caller waits counted)
+          values_here w.temporaries
+      as_they_were =
+          let s = slots_here t fs program p q image earlier caller waits counted in
+          let r = room_slots in
+          record {
+            count = count t fs program p q image earlier caller waits counted;
+            locals = λ i lt. s.locals i lt ∙ ap (λ xs. slice_index xs i)
+                (locals_here t fs program p q image earlier caller waits counted);
+            few = omega (arith, held);
+            temporaries = s.temporaries;
+          }
+
+      leaves : Leaves body (record {
+        slots = with_slot
+            (slots t fs program p q image roomy earlier caller waits counted).slots (Temporary first)
+            result;
+        memory = source;
+      }) values_here (w.temporaries ++ result ∷ [])
+      leaves =
+          let r = room_slots in
+          subst (λ n. Leaves body (record {
+            slots = with_slot
+                (slots t fs program p q image roomy earlier caller waits counted).slots (Temporary n)
+                result;
+            memory = source;
+          }) values_here (w.temporaries ++ result ∷ [])) held
+          (longer_leaves body (slots t fs program p q image roomy earlier caller waits counted)
+          values_here w.temporaries result as_they_were (omega (arith, held)))
+
+      same_locals : locals_of (with_values waits.body.acts w.activation values_here)
+          ≡ locals_of acts
+      same_locals =
+          let n = slice_get_within (locals_of waits.body.acts) w.activation values_here
+          (placed t fs program p q image earlier caller waits counted).number in
+          let k = locals_count waits.body.acts in
+          same_activations waits.body.acts w.activation values_here (omega arith)
+          (placed t fs program p q image earlier caller waits counted).number
+          ∙ sym waits.body.store
+
+      -- the code that keeps the result keeps the shadow
+      keeps_shadow : RunsKeep t fs program p q image earlier caller waits counted 1 u
+      keeps_shadow =
+          let room = room_here t fs program p q image earlier caller waits counted in
+          one_piece t fs program p q image earlier caller waits counted i calls_here goes done
+          (keep layout (Temporary first)) u parts
+          (keep_flow layout (counts_of body) (register u.cpu Rsp)
+          (placed t fs program p q image earlier caller waits counted).base room (Temporary first)
+          room_slots)
+          (record {
+            rip = back;
+            registers = refl;
+            is_there = is_here t fs program p q image earlier caller waits counted;
+          })
+
+      -- in one turn, which keeps the shadow, the next instruction begins
+      pub resumes : Resumes t fs program p q u (answered w items source acts es result)
+      resumes =
+          let r = subst (λ x. ReachesBody (frame t fs program p q image roomy earlier caller waits
+          counted) 1 x (u.cpu.rip + sizes (keep layout (Temporary first)))
+          (seen_by_templates u).rest (record {
+            slots = with_slot (slots t fs program p q image roomy earlier caller waits
+                counted).slots (Temporary first) result;
+            memory = source;
+          })) (sym same_state) kept in
+          let rip = u.cpu.rip + sizes (keep layout (Temporary first)) in
+          let z : State = machine r.after rip r.flags in
+          let k = reaches_keeps 1 u z r.comes in
+          let keeps : Keeps earlier z = record {
+            protection = k.protection;
+            fixed = k.fixed;
+            count = k.count;
+            small = k.small;
+          } in
+          let stack : register z.cpu Rsp ≡ register u.cpu Rsp = ap
+          (λ (xs : List ℕ). slice_index xs 1) r.rest ∙ dropped u.cpu.registers in
+          let d : BodyState = record {
+            slots = with_slot
+                (slots t fs program p q image roomy earlier caller waits counted).slots
+                (Temporary first) result;
+            memory = source;
+          } in
+          let ts = w.temporaries ++ result ∷ [] in
+          let ran : Ran t fs program p q image earlier caller waits counted z d values_here
+          ts = record {
+            changed = record { changes = r.changes; keeps = keeps };
+            holds = r.holds;
+            stack = stack;
+            leaves = leaves;
+          } in
+          let inside : w.next + 1 < length body.code = subst
+          (λ (b : LinearBody). w.next + 1 < length b.code) is_body within in
+          let small : rip < 2 ^ 64 = let n = next_small in omega (arith, next_place) in
+          let begins = represents_next t fs program p q image earlier caller waits counted z d
+          values_here ts ran (w.next + 1) w.landed es next_place inside
+          (stays_well_formed earlier z keeps small waits.well_formed)
+          (λ code e. absurd (nothing w.landed code free e)) around.caller around.owner in
+          let ends = ends_at t fs program p q image earlier caller waits counted z (w.next + 1)
+          next_place inside (kept_by_rest r.after.rest u.cpu.registers r.rest)
+          (is_after t fs program p q image earlier caller waits counted z d values_here ts ran
+          around.caller around.owner) in
+          record {
+            state = z;
+            reaches = r.comes;
+            silent = silent_at t fs program p q image roomy earlier caller waits counted (w.next + 1)
+                rip next_place inside small z refl;
+            begins = subst (λ (xs : List (List ℕ)).
+                let c : Configuration = record {
+                  frame = again w (w.next + 1) ts w.landed;
+                  below = items;
+                  store = record { memory = source; activations = xs };
+                  events = es;
+                } in
+                RepresentsAt t fs program p q z c) same_locals begins;
+            keeps = keeps_shadow z r.comes ends;
+          }

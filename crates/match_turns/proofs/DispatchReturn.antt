@@ -1,0 +1,290 @@
+-- At the host's return addresses: a filter has answered, a `__finally` block has ended.
+use Rattle.std.proofs.Common.{◌≡◌, ℕ, zero, ◌+◌, ◌*◌, ◌≤◌, Bool, true, List, [], ◌∷◌, ◌++◌, Option, Some, None, refl, sym, ap, subst, ◌∙◌, arith, inl, inr, append_assoc, length-append}
+use Rattle.std.proofs.lemmas.List.{append-nil}
+use Rattle.seh_num.specs.declared.width.Width.TheVariants.{W32}
+use Rattle.seh_num.specs.declared.event.Event.{Event}
+use Rattle.seh_num.specs.declared.event.Event.TheVariants as events
+use Rattle.seh_num.specs.Widths.{signed}
+use Rattle.x64_instr.specs.declared.register.Reg.TheVariants.{Rsp}
+use Rattle.x64_machine.specs.declared.context.Context.{Context}
+use Rattle.x64_machine.specs.Contexts.{context_of}
+use Rattle.x64_machine.specs.Effect.{State, register}
+use Rattle.virtual_unwind.specs.Contexts.{rsp}
+use Rattle.virtual_unwind.specs.CallerOf.{Functions, distance}
+use Rattle.seh_records.specs.declared.dispatch.DispatchRecord.{DispatchRecord}
+use Rattle.seh_records.specs.Record.{placed, fetched}
+use Rattle.host_model.specs.declared.funclet.Funclet.{Funclet}
+use Rattle.host_model.specs.Turns.{Turn, Continues, with_event}
+use Rattle.host_model.specs.Funclets.{arrivals, arrived}
+use Rattle.host_model.specs.Dispatch.{eax, again, accepted, restored, searches_on, unwinds_on, finally_returned, if_unwinding}
+use Rattle.source_meaning.specs.State.{Exception}
+use Rattle.source_meaning.specs.Raises.{noncontinuable, raise_event}
+use Rattle.linear_code.specs.declared.program.Region.{Region}
+use Rattle.linear_code.specs.Program.{LinearProgram}
+use Rattle.linear_machine.specs.Frames.{Handler, Target, Resumption, AfterCall, SameOperation, Waits, Unwinds, Item, Frame, Store, Seen, Next, Configuration}
+use Rattle.linear_machine.specs.Regions.{handlers}
+use Rattle.linear_machine.specs.Searching.{search, accept, resumed}
+use Rattle.linear_machine.specs.Unwinding.{unwind}
+use Rattle.linear_machine.specs.Instructions.{end_finally}
+use Rattle.linear_machine.specs.Run.{exec}
+use Rattle.match_stack.specs.Stack.{StackItem, Unwinding}
+use Rattle.match_stack.specs.ImagePlan.{ImagePlan}
+use Rattle.match_stack.specs.ItemMatches.{Activation, locals_of}
+use Rattle.match_stack.proofs.ListEnds.{in_stack}
+use Rattle.match_stack.specs.StackRecords.{On, RecordHasRoom}
+use Rattle.match_stack.specs.HostUnwind.{store_of}
+use Rattle.match_stack.specs.DispatchStates.{IsWellFormed}
+use Rattle.match_stack.specs.UnwindOutcomes.{Unwound}
+use Rattle.match_stack.specs.DispatchSteps.{placed_in, SearchIsAnswered, AnswersAs}
+use Rattle.match_stack.specs.FilterReturns.{filter_turn, with_answer, answered, linear_answer, AsksTheNext, AskedTakesOver, ContinuesException, IsRaisedAnew}
+use Rattle.match_stack.proofs.DispatchSteps.{answers_continue, finally_returns_unwind}
+use Rattle.match_stack.proofs.FilterAnswers.{filter_returns}
+use Rattle.match_runs.specs.Ends.{HasRule}
+use Rattle.match_runs.specs.Shadow.{WalkGives}
+use Rattle.match_runs.proofs.Shadows.{none_below}
+use Rattle.match_bodies.specs.CodeSites.{Sites}
+use Rattle.match_bodies.specs.Callers.{callers}
+use Rattle.match_bodies.proofs.StackWalks.{on_stack, stack_rises}
+use Rattle.match_bodies.specs.ProgramImages.{IsMachineMemory, IsProgramImage}
+use Rattle.match_bodies.specs.Bodies.{held_below, turns_left}
+use Rattle.match_turns.specs.FuncletEntry.{FlagsFit}
+use Rattle.match_turns.specs.DispatchOutcome.{NoneLanded, Outcome, Shows}
+use Rattle.match_turns.specs.ExceptionContinuation.{Continuations}
+use Rattle.match_turns.proofs.DispatchMemory.{memory_untouched, placing}
+use Rattle.match_turns.proofs.DispatchOutcomeSteps.{arrived_with, with_one, with_two, with_none, outcome_same, outcome_more}
+use Rattle.match_turns.proofs.UnwindTurn.{unwound}
+use Rattle.match_turns.proofs.SearchTurn.{searched, taken_over}
+
+module _ (t : Functions) (fs : List Funclet) (program : LinearProgram) (p : ImagePlan) (q : Sites)
+    (image : IsProgramImage t fs program p q) (fits : FlagsFit program) where
+  -- ---- a filter has answered
+
+  module _ (continues : Continuations t fs program p q) (s : State) (r : DispatchRecord)
+      (is : List StackItem) (acts : List Activation) (exception : Exception)
+      (resumption : Resumption) (asked : Handler) (rest : List Handler) (c : Configuration)
+      (answers : SearchIsAnswered t fs program p s r is acts exception resumption asked rest c)
+      (memory : IsMachineMemory t fs program p q s.memory c.store.memory)
+      (store : c.store.activations ≡ locals_of acts) (free : c.frame.landed ≡ None) where
+    abbrev event : Event
+    event = events.Answer (signed W32 (eax s))
+
+    abbrev c' : Configuration
+    c' = answered s c
+
+    abbrev seen : Next → Seen
+    seen next = linear_answer program s exception resumption asked rest c next
+
+    abbrev at : ℕ
+    at = rsp (context_of s.cpu)
+
+    abbrev pub shadow : List Context
+    shadow = callers (context_of r.saved) is
+
+    abbrev Answers : Type 0
+    Answers = Shows t fs program p q (arrived t fs (filter_turn t s)) (event ∷ []) seen c.events
+        (turns_left c + 3) shadow
+
+    onward : AnswersAs t fs program p s r is acts exception asked rest c'
+    onward = answers_continue t fs program p s r is acts exception resumption asked rest c'
+        (record { gives = answers.gives; well_formed = answers.well_formed; on = answers.on })
+
+    resumes : p.resumes resumption c.frame r.saved ≡ true
+    resumes = answers.on.is_there.linked.0.resumes
+
+    shows : (x : Turn) → filter_turn t s ≡ with_answer s x
+        → Outcome t fs program p q (arrived t fs x) seen (c.events ++ event ∷ []) (turns_left c + 3)
+        shadow → Answers
+    shows x e outcome = record {
+      further = arrived t fs x;
+      turns = ap (arrived t fs) e
+          ∙ arrived_with t fs event x ∙ with_one event (arrived t fs x);
+      outcome = outcome;
+    }
+
+    asks_next : AsksTheNext t program s r exception resumption asked rest c
+        → HasRule (seen (exec program zero)) → Answers
+    asks_next a rule =
+        let x = searches_on t s at r in
+        shows x a.turns
+        (outcome_more t fs program p q (arrived t fs x) seen (c.events ++ event ∷ []) (turns_left c)
+        (turns_left c + 3) shadow (omega arith)
+        (outcome_same t fs program p q (arrived t fs x) (arrived t fs x)
+        (λ next. search program next rest exception resumption c') seen (c.events ++ event ∷ [])
+        (turns_left c) shadow refl a.goes
+        (searched t fs program p q image fits s at r is acts exception rest c' onward.next memory
+        store resumption resumes (subst HasRule (a.goes (exec program zero)) rule))))
+
+    asked_takes_over : AskedTakesOver t fs program p s r is exception resumption asked rest c
+        → HasRule (seen (exec program zero)) → Answers
+    asked_takes_over a rule =
+        let x = accepted t s at r r.frame a.address in
+        shows x a.turns
+        (outcome_more t fs program p q (arrived t fs x) seen (c.events ++ event ∷ []) (turns_left c)
+        (turns_left c + 3) shadow (omega arith)
+        (outcome_same t fs program p q (arrived t fs x) (arrived t fs x)
+        (λ next. accept program asked exception next c') seen (c.events ++ event ∷ [])
+        (turns_left c) shadow refl a.goes
+        (taken_over t fs program p q image fits s at r is acts exception rest c' onward.next memory
+        store asked r.frame a.address a.frame_small a.address_small a.aimed
+        (subst HasRule (a.goes (exec program zero)) rule))))
+
+    is_continued : ContinuesException t fs program p s r is acts exception resumption asked rest c
+        → Answers
+    is_continued a =
+        let x : Turn = Continues (restored s r) [] in
+        let l = continues s r.saved is acts resumption c' a.on a.well_formed a.resumes memory store in
+        shows x a.turns (inl (record {
+          state = restored s r;
+          events = [];
+          turns = ap (λ (es : List Event). Continues (restored s r) es) (continued_silently a);
+          configuration = resumed resumption c';
+          few = resumed_few resumption;
+          acts = a.goes;
+          shown = shown_same resumption;
+          silent = continued_silently a;
+          walk = (let stack = a.on.is_there.stack in
+              subst (WalkGives t (restored s r))
+              (sym (none_below (rsp (context_of r.saved)) shadow
+              (stack_rises t s.memory (context_of r.saved) is stack)))
+              (on_stack t s.memory (context_of r.saved) 0 is stack));
+          leads = λ known. l.1 known free;
+        }))
+      where
+        continued_silently : ContinuesException t fs program p s r is acts exception resumption asked
+            rest c → arrivals r.saved (distance t.base r.saved.rip) 1 fs ≡ []
+        continued_silently a = (continues s r.saved is acts resumption c' a.on a.well_formed a.resumes
+            memory store).0
+
+        resumed_few : (k : Resumption) → turns_left (resumed k c') ≤ turns_left c + 3
+        resumed_few AfterCall = omega (arith, length-append c.frame.temporaries (0 ∷ []))
+        resumed_few SameOperation = omega arith
+
+        shown_same : (k : Resumption) → (resumed k c').events ≡ (c.events ++ event ∷ []) ++ []
+        shown_same AfterCall = sym (append-nil (c.events ++ event ∷ []))
+        shown_same SameOperation = sym (append-nil (c.events ++ event ∷ []))
+
+    -- the exception in its place shows its own event too
+    raised_anew : IsRaisedAnew t program s r exception resumption asked rest c
+        → HasRule (seen (exec program zero))
+        → Shows t fs program p q (arrived t fs (filter_turn t s))
+        (event ∷ raise_event noncontinuable ∷ []) seen c.events (turns_left c + 3) shadow
+    raised_anew a rule =
+        let e = raise_event noncontinuable in
+        let c2 : Configuration = record {
+          frame = c.frame;
+          below = c.below;
+          store = c.store;
+          events = (c.events ++ event ∷ []) ++ e ∷ [];
+        } in
+        let g = answers_continue t fs program p s r is acts exception resumption asked rest c2
+        (record { gives = answers.gives; well_formed = answers.well_formed; on = answers.on }) in
+        let anew = again r in
+        let x = searches_on t (placed_in s at anew) at anew in
+        let y = arrived t fs x in
+        let above = rsp (context_of r.saved) in
+        let top = in_stack t fs program p s.memory (context_of r.saved) is (Waits c.frame ∷ c.below)
+        acts g.next.on.is_there.stack g.next.on.is_there.linked in
+        let room : RecordHasRoom s.memory at anew
+        above = record {
+          fits = g.anew.room.fits;
+          below = g.next.room.below;
+          small = g.next.room.small;
+          room = g.next.room.room;
+        } in
+        let untouched = placing s.memory at anew above answers.on.data_alone room top in
+        let memory' = memory_untouched t fs program p q s.memory (placed s.memory at anew)
+        c.store.memory untouched memory g.anew.on.data_alone in
+        let assoc = append_assoc c.events (event ∷ []) (e ∷ []) in
+        record {
+          further = y;
+          turns = ap (arrived t fs) (a.turns ∙ ap (with_answer s) g.raises)
+              ∙ arrived_with t fs event (with_event e x)
+              ∙ ap (with_event event) (arrived_with t fs e x) ∙ with_two event e y;
+          outcome = subst (λ (es : List Event). Outcome t fs program p q y seen es
+              (turns_left c + 3) shadow) assoc
+              (outcome_more t fs program p q y seen ((c.events ++ event ∷ []) ++ e ∷ [])
+              (turns_left c) (turns_left c + 3) shadow (omega arith)
+              (outcome_same t fs program p q y y
+              (λ next. search program next (handlers program (Waits c.frame ∷ c.below) None)
+              noncontinuable resumption c2) seen ((c.events ++ event ∷ []) ++ e ∷ [])
+              (turns_left c) shadow refl a.goes
+              (searched t fs program p q image fits (placed_in s at anew) at anew is acts
+              noncontinuable (handlers program (Waits c.frame ∷ c.below) None) c2 g.anew memory'
+              store resumption resumes (subst HasRule (a.goes (exec program zero)) rule))));
+        }
+
+    -- whatever it answers
+    pub record AnswerShows : Type 0 where
+      pub before : List Event
+      pub shown : Shows t fs program p q (arrived t fs (filter_turn t s)) before seen c.events
+          (turns_left c + 3) shadow
+
+    pub filter_answered : HasRule (seen (exec program zero)) → AnswerShows
+    filter_answered rule = elim (filter_returns t fs program p s r is acts exception resumption
+        asked rest c answers) [
+          | inl a ↦ record { before = event ∷ []; shown = asks_next a rule }
+          | inr x ↦ elim x [
+            | inl a ↦ record { before = event ∷ []; shown = asked_takes_over a rule }
+            | inr y ↦ elim y [
+              | inl a ↦ record { before = event ∷ []; shown = is_continued a }
+              | inr a ↦ record {
+                before = event ∷ raise_event noncontinuable ∷ [];
+                shown = raised_anew a rule;
+              }
+            ]
+          ]
+        ]
+
+  -- ---- a `__finally` block has ended
+
+  pub finally_ended : (s : State) (r : DispatchRecord) (is : List StackItem)
+      (acts : List Activation) (rest : List Region) (target : Target) (f : Frame)
+      (below : List Item) (c : Configuration)
+      → IsWellFormed s → On t fs program p s.memory (context_of s.cpu) (Unwinding r ∷ is)
+      (Unwinds rest target ∷ Waits f ∷ below) acts
+      → IsMachineMemory t fs program p q s.memory c.store.memory
+      → c.store.activations ≡ locals_of acts → c.below ≡ Unwinds rest target ∷ Waits f ∷ below
+      → NoneLanded c.below
+      → HasRule (end_finally program (exec program zero) c.below c.events c.store)
+      → Shows t fs program p q (arrived t fs (finally_returned t s (register s.cpu Rsp)
+      (fetched s.memory (register s.cpu Rsp)))) []
+      (λ next. end_finally program next c.below c.events c.store) c.events (turns_left c)
+      (callers r.walk is)
+  finally_ended s r is acts rest target f below c well_formed on memory store under unlanded rule =
+      let at = register s.cpu Rsp in
+      let w : Unwound = record {
+        target = target;
+        items = Waits f ∷ below;
+        left = Some rest;
+        acts = acts;
+        source = c.store.memory;
+        shown = c.events;
+      } in
+      let u = finally_returns_unwind t fs program p s r is acts rest target (Waits f ∷ below)
+      c.store.memory c.events image.gives well_formed on in
+      let x = arrived t fs (unwinds_on t s at r) in
+      let y = arrived t fs (finally_returned t s at (fetched s.memory at)) in
+      let turns : y ≡ x = ap (λ (o : Option DispatchRecord). arrived t fs
+      (finally_returned t s at o)) on.is_there.stack.0.fetches
+      ∙ ap (λ (b : Bool). arrived t fs (if_unwinding t s at r b)) on.is_there.stack.0.kind in
+      let same_store : c.store ≡ store_of c.store.memory acts = ap
+      (λ (xs : List (List ℕ)). let z : Store =
+      record { memory = c.store.memory; activations = xs } in z) store in
+      let same = λ (next : Next). ap (λ (items : List Item). end_finally program next items c.events
+      c.store) under ∙ ap (λ (z : Store). unwind program next target (Waits f ∷ below) (Some rest)
+      c.events z) same_store in
+      let few : 3 * held_below (Waits f ∷ below)
+      ≤ turns_left c = (let z = ap held_below under in omega arith) in
+      let done = outcome_same t fs program p q x y
+      (λ next. unwind program next w.target w.items w.left w.shown (store_of w.source w.acts))
+      (λ next. end_finally program next c.below c.events c.store) c.events (turns_left c)
+      (callers r.walk is) turns same
+      (unwound t fs program p q image fits w (turns_left c) few (λ e. subst NoneLanded under unlanded) s
+      at r is u memory (subst HasRule (same (exec program zero)) rule)) in
+      record {
+        further = y;
+        turns = with_none y;
+        outcome = subst (λ (es : List Event). Outcome t fs program p q y
+            (λ next. end_finally program next c.below c.events c.store) es (turns_left c)
+            (callers r.walk is)) (sym (append-nil c.events)) done;
+      }

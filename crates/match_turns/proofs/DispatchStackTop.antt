@@ -1,0 +1,62 @@
+-- What is on top of the machine's stack where a search or an unwinding waits: its record, at the
+-- host's return address.
+use Rattle.std.proofs.Common.{◌≡◌, List, [], ◌∷◌, refl}
+use Rattle.flat_memory.specs.Memory.{Memory}
+use Rattle.x64_machine.specs.declared.context.Context.{Context}
+use Rattle.virtual_unwind.specs.CallerOf.{Functions}
+use Rattle.seh_records.specs.declared.dispatch.DispatchRecord.{DispatchRecord}
+use Rattle.seh_walk.specs.Walk.{filter_return, finally_return}
+use Rattle.host_model.specs.declared.funclet.Funclet.{Funclet}
+use Rattle.source_meaning.specs.State.{Exception}
+use Rattle.linear_code.specs.declared.program.Region.{Region}
+use Rattle.linear_code.specs.Program.{LinearProgram}
+use Rattle.linear_machine.specs.Frames.{Handler, Target, Resumption, Item, Waits, Searches, Unwinds}
+use Rattle.match_stack.specs.Stack.{StackItem, Framed, Leaf, Searching, Unwinding, IsStack}
+use Rattle.match_stack.specs.ImagePlan.{ImagePlan}
+use Rattle.match_stack.specs.ItemMatches.{Activation, Linked}
+use Rattle.lowering_invariants.specs.Waiting.{AreWaiting}
+use Rattle.match_turns.specs.DispatchOutcome.{NoneLanded}
+
+-- no body that waits has just taken over
+pub none_landed : (program : LinearProgram) (items : List Item) → AreWaiting program items
+    → NoneLanded items
+none_landed program [] h = tt
+none_landed program (Waits f ∷ below) h = (h.0.landed, none_landed program below h.2)
+none_landed program (Searches exception resumption asked rest ∷ below) h = none_landed program below h.2
+none_landed program (Unwinds rest target ∷ below) h = none_landed program below h.2
+
+pub record IsSearchOnTop (c : Context) (is : List StackItem) : Type 0 where
+  pub dispatch : DispatchRecord
+  pub others : List StackItem
+  pub items : is ≡ Searching dispatch ∷ others
+  pub at_host : c.rip ≡ filter_return
+
+pub record IsUnwindingOnTop (c : Context) (is : List StackItem) : Type 0 where
+  pub dispatch : DispatchRecord
+  pub others : List StackItem
+  pub items : is ≡ Unwinding dispatch ∷ others
+  pub at_host : c.rip ≡ finally_return
+
+module _ (t : Functions) (fs : List Funclet) (program : LinearProgram) (p : ImagePlan) where
+  pub search_on_top : (m : Memory) (c : Context) (is : List StackItem) (exception : Exception)
+      (resumption : Resumption) (asked : Handler) (rest : List Handler) (items : List Item)
+      (acts : List Activation)
+      → IsStack t m c is → Linked t fs program p m c is
+      (Searches exception resumption asked rest ∷ items) acts → IsSearchOnTop c is
+  search_on_top m c [] exception resumption asked rest items acts s h = absurd h
+  search_on_top m c (Framed f ∷ is) exception resumption asked rest items acts s h = absurd h
+  search_on_top m c (Leaf back ∷ is) exception resumption asked rest items acts s h = absurd h
+  search_on_top m c (Unwinding r ∷ is) exception resumption asked rest items acts s h = absurd h
+  search_on_top m c (Searching r ∷ is) exception resumption asked rest items acts s h =
+      record { dispatch = r; others = is; items = refl; at_host = s.0.at_host }
+
+  pub unwinding_on_top : (m : Memory) (c : Context) (is : List StackItem) (rest : List Region)
+      (target : Target) (items : List Item) (acts : List Activation)
+      → IsStack t m c is → Linked t fs program p m c is (Unwinds rest target ∷ items) acts
+      → IsUnwindingOnTop c is
+  unwinding_on_top m c [] rest target items acts s h = absurd h
+  unwinding_on_top m c (Framed f ∷ is) rest target items acts s h = absurd h
+  unwinding_on_top m c (Leaf back ∷ is) rest target items acts s h = absurd h
+  unwinding_on_top m c (Searching r ∷ is) rest target items acts s h = absurd h
+  unwinding_on_top m c (Unwinding r ∷ is) rest target items acts s h =
+      record { dispatch = r; others = is; items = refl; at_host = s.0.at_host }

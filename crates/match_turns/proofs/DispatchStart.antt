@@ -1,0 +1,156 @@
+-- A body asks the dispatcher: a raise and a local unwind.
+use Rattle.std.proofs.Common.{◌≡◌, ℕ, zero, ◌^◌, ◌<◌, ◌≤◌, Bool, true, List, [], ◌∷◌, ◌++◌, length, Option, None, sym, ap, subst, ◌∙◌, arith}
+use Rattle.std.proofs.lemmas.List.{append-nil}
+use Rattle.seh_num.specs.declared.event.Code.{Code}
+use Rattle.seh_num.specs.declared.event.Event.{Event}
+use Rattle.x64_machine.specs.declared.cpu.Cpu.{Cpu}
+use Rattle.x64_machine.specs.Contexts.{context_of}
+use Rattle.x64_machine.specs.Effect.{State}
+use Rattle.virtual_unwind.specs.Contexts.{rsp}
+use Rattle.virtual_unwind.specs.CallerOf.{Functions}
+use Rattle.seh_records.specs.declared.dispatch.Kind.TheVariants.{Search}
+use Rattle.seh_records.specs.Record.{placed}
+use Rattle.host_model.specs.declared.funclet.Funclet.{Funclet}
+use Rattle.host_model.specs.Funclets.{arrived}
+use Rattle.host_model.specs.Dispatch.{place_of, new_record, raised, to_target, unwound_locally, searches_on, unwinds_on}
+use Rattle.source_meaning.specs.State.{Exception}
+use Rattle.source_meaning.specs.Raises.{raise_event}
+use Rattle.linear_code.specs.Program.{LinearProgram}
+use Rattle.linear_machine.specs.Frames.{Target, Resumption, Waits, Store, Next, Configuration}
+use Rattle.linear_machine.specs.Regions.{handlers}
+use Rattle.linear_machine.specs.Searching.{raise}
+use Rattle.linear_machine.specs.Unwinding.{unwind}
+use Rattle.linear_machine.specs.Instructions.{local_unwind}
+use Rattle.linear_machine.specs.Run.{exec}
+use Rattle.match_stack.specs.Stack.{StackItem}
+use Rattle.match_stack.specs.ImagePlan.{ImagePlan}
+use Rattle.match_stack.specs.ItemMatches.{Activation, locals_of, Aimed}
+use Rattle.match_stack.proofs.ListEnds.{in_stack}
+use Rattle.match_stack.specs.StackRecords.{RecordHasRoom}
+use Rattle.match_stack.specs.HostUnwind.{store_of}
+use Rattle.match_stack.specs.DispatchSteps.{placed_in, from_body, AsksHost, IsException}
+use Rattle.match_stack.proofs.DispatchSteps.{raise_searches, local_unwind_unwinds}
+use Rattle.match_runs.specs.Ends.{HasRule}
+use Rattle.match_bodies.specs.CodeSites.{Sites}
+use Rattle.match_bodies.specs.Callers.{callers}
+use Rattle.match_bodies.specs.ProgramImages.{IsMachineMemory, IsProgramImage}
+use Rattle.match_bodies.specs.Bodies.{turns_left}
+use Rattle.match_turns.specs.FuncletEntry.{FlagsFit}
+use Rattle.match_turns.specs.DispatchOutcome.{NoneLanded, Outcome, Shows}
+use Rattle.match_turns.proofs.DispatchMemory.{memory_untouched, placing}
+use Rattle.match_turns.proofs.DispatchOutcomeSteps.{arrived_with, with_one, with_none, outcome_same}
+use Rattle.match_turns.proofs.UnwindTurn.{unwound}
+use Rattle.match_turns.proofs.SearchTurn.{searched}
+
+-- linear code that has shown an event more
+abbrev pub having_shown : Event → Configuration → Configuration
+having_shown e c = record {
+  frame = c.frame;
+  below = c.below;
+  store = c.store;
+  events = c.events ++ e ∷ [];
+}
+
+module _ (t : Functions) (fs : List Funclet) (program : LinearProgram) (p : ImagePlan) (q : Sites)
+    (image : IsProgramImage t fs program p q) (fits : FlagsFit program) where
+  module _ (s : State) (saved : Cpu) (is : List StackItem) (acts : List Activation)
+      (c : Configuration)
+      (asks : AsksHost t fs program p s saved is (Waits c.frame ∷ c.below) acts)
+      (memory : IsMachineMemory t fs program p q s.memory c.store.memory)
+      (store : c.store.activations ≡ locals_of acts) where
+    top : rsp (context_of saved) ≤ 0x70800000
+    top = in_stack t fs program p s.memory (context_of saved) is (Waits c.frame ∷ c.below) acts
+        asks.on.is_there.stack asks.on.is_there.linked
+
+    -- a raise shows its event, and searches
+    pub raised_as : (code : Code) (flags : ℕ) (access : Option (Bool × ℕ)) (exception : Exception)
+        (resumption : Resumption)
+        → IsException code flags access exception → p.resumes resumption c.frame saved ≡ true
+        → HasRule (raise program (exec program zero) exception resumption c)
+        → Shows t fs program p q (arrived t fs (raised t s code flags access saved))
+        (raise_event exception ∷ []) (λ next. raise program next exception resumption c) c.events
+        (turns_left c) (callers (context_of saved) is)
+    raised_as code flags access exception resumption is_exception resumes rule =
+        let e = raise_event exception in
+        let c' = having_shown e c in
+        let r = new_record Search code flags access saved in
+        let at = place_of saved in
+        let a = raise_searches t fs program p s code flags access saved is acts exception c' asks
+        is_exception in
+        let found = a.searching in
+        let room : RecordHasRoom s.memory at r
+        (rsp (context_of saved)) = record {
+          fits = found.room.fits;
+          below = found.room.below;
+          small = found.room.small;
+          room = asks.room;
+        } in
+        let untouched = placing s.memory at r (rsp (context_of saved)) asks.on.data_alone room
+        top in
+        let memory' = memory_untouched t fs program p q s.memory (placed s.memory at r)
+        c.store.memory untouched memory found.on.data_alone in
+        record {
+          further = arrived t fs (searches_on t (placed_in s at r) at r);
+          turns = ap (arrived t fs) a.turns ∙ arrived_with t fs e
+              (searches_on t (placed_in s at r) at r)
+              ∙ with_one e (arrived t fs (searches_on t (placed_in s at r) at r));
+          outcome = searched t fs program p q image fits (placed_in s at r) at r is acts exception
+              (handlers program (Waits c.frame ∷ c.below) None) c' found memory' store resumption
+              resumes rule;
+        }
+
+    -- a local unwind
+    pub unwound_to : (frame address label : ℕ) → frame < 2 ^ 64 → address < 2 ^ 64
+        → Aimed t fs program p (length c.below) label frame address (context_of saved) is
+        (Waits c.frame ∷ c.below)
+        → HasRule (local_unwind program (exec program zero) label c)
+        → NoneLanded (Waits c.frame ∷ c.below)
+        → Shows t fs program p q (arrived t fs (unwound_locally t s frame address saved)) []
+        (λ next. local_unwind program next label c) c.events (turns_left c)
+        (callers (context_of saved) is)
+    unwound_to frame address label frame_small address_small aimed rule unlanded =
+        let r = to_target saved frame address in
+        let at = place_of saved in
+        let target : Target = record {
+          depth = length c.below;
+          label = label;
+          code = None;
+          held = c.frame.held;
+        } in
+        let w = from_body target c.frame c.below acts c.store.memory c.events in
+        let a = local_unwind_unwinds t fs program p s frame address saved is acts (length c.below)
+        label c.frame c.below c.store.memory c.events asks frame_small address_small aimed in
+        let u = a.unwinding in
+        let room : RecordHasRoom s.memory at r
+        (rsp (context_of saved)) = record {
+          fits = u.room.fits;
+          below = u.room.below;
+          small = u.room.small;
+          room = asks.room;
+        } in
+        let untouched = placing s.memory at r (rsp (context_of saved)) asks.on.data_alone room
+        top in
+        let memory' = memory_untouched t fs program p q s.memory (placed s.memory at r)
+        c.store.memory untouched memory u.on.data_alone in
+        let same_store : c.store ≡ store_of c.store.memory acts = ap
+        (λ (xs : List (List ℕ)). let x : Store =
+        record { memory = c.store.memory; activations = xs } in x) store in
+        let same = λ (next : Next). ap (λ (x : Store). unwind program next target
+        (Waits c.frame ∷ c.below) None c.events x) same_store in
+        let done = outcome_same t fs program p q
+        (arrived t fs (unwinds_on t (placed_in s at r) at r))
+        (arrived t fs (unwound_locally t s frame address saved))
+        (λ next. unwind program next w.target w.items w.left w.shown (store_of w.source w.acts))
+        (λ next. local_unwind program next label c) c.events (turns_left c)
+        (callers (context_of saved) is)
+        (ap (arrived t fs) a.turns) same
+        (unwound t fs program p q image fits w (turns_left c) (omega arith) (λ e. unlanded)
+        (placed_in s at r) at r is u memory' (subst HasRule (same (exec program zero)) rule)) in
+        record {
+          further = arrived t fs (unwound_locally t s frame address saved);
+          turns = with_none (arrived t fs (unwound_locally t s frame address saved));
+          outcome = subst (λ (es : List Event). Outcome t fs program p q
+              (arrived t fs (unwound_locally t s frame address saved))
+              (λ next. local_unwind program next label c) es (turns_left c)
+              (callers (context_of saved) is)) (sym (append-nil c.events)) done;
+        }

@@ -1,0 +1,83 @@
+-- Where a fault is continued, the saved state is within the same operation.
+use Rattle.std.proofs.Common.{◌≡◌, ℕ, true, List, [], ◌∷◌, Some, refl, sym, ap, subst, arith}
+use Rattle.std.specs.Prelude.{slice_get}
+use Rattle.x64_machine.specs.declared.cpu.Cpu.{Cpu}
+use Rattle.x64_machine.specs.Contexts.{context_of}
+use Rattle.x64_machine.specs.Effect.{State}
+use Rattle.virtual_unwind.specs.CallerOf.{Functions, distance}
+use Rattle.host_model.specs.declared.funclet.Funclet.{Funclet}
+use Rattle.host_model.specs.Funclets.{arrivals}
+use Rattle.linear_code.specs.declared.slot.Slot.TheVariants.{Temporary}
+use Rattle.linear_code.specs.declared.instruction.Instruction.{Instruction}
+use Rattle.linear_code.specs.declared.instruction.Instruction.TheVariants as instructions
+use Rattle.linear_code.specs.Program.{LinearProgram, LinearBody}
+use Rattle.linear_machine.specs.Frames.{body_of, SameOperation, Waits, Configuration}
+use Rattle.match_stack.specs.Stack.{StackItem}
+use Rattle.match_stack.specs.ImagePlan.{ImagePlan, InCode}
+use Rattle.match_stack.specs.ItemMatches.{Activation, locals_of}
+use Rattle.match_stack.specs.StackRecords.{On}
+use Rattle.match_stack.specs.DispatchStates.{IsWellFormed}
+use Rattle.match_bodies.specs.CodeSites.{Sites}
+use Rattle.match_bodies.specs.ProgramImages.{WorksAgain, IsMachineMemory, IsProgramImage}
+use Rattle.match_bodies.specs.Bodies.{InBody}
+use Rattle.match_bodies.proofs.TemplateSizes.{address_next}
+use Rattle.match_bodies.proofs.BodyResumption.{waits_in_body, all_front}
+use Rattle.match_bodies.specs.ConfigurationFacts.{IsWellMade}
+use Rattle.match_bodies.proofs.TemplateRuns.{get_or_is}
+use Rattle.match_bodies.proofs.StepNeeds.{label_in, body_there}
+use Rattle.match_turns.specs.DispatchOutcome.{WorksOn}
+use Rattle.match_turns.proofs.OperationCode.{some_finish, whole_size, silent_within}
+use Rattle.template_code.specs.Template.{template_size}
+
+module _ (t : Functions) (fs : List Funclet) (program : LinearProgram) (p : ImagePlan) (q : Sites)
+    (image : IsProgramImage t fs program p q) (made : IsWellMade program p)
+    (s : State) (saved : Cpu) (is : List StackItem) (acts : List Activation) (c : Configuration)
+    (on : On t fs program p s.memory (context_of saved) is (Waits c.frame ∷ c.below) acts)
+    (well_formed : IsWellFormed (record { cpu = saved; memory = s.memory }))
+    (resumes : p.resumes SameOperation c.frame saved ≡ true)
+    (memory : IsMachineMemory t fs program p q s.memory c.store.memory)
+    (store : c.store.activations ≡ locals_of acts) where
+  again : WorksAgain t fs program p q c.frame saved
+  again = (image.resumptions SameOperation c.frame saved).said resumes
+
+  abbrev i : Instruction
+  i = instructions.Compute again.to again.operation (Temporary again.first) (Temporary again.second)
+
+  there : (b : LinearBody) × (body_of program c.frame.body ≡ Some b)
+  there = body_there (body_of program c.frame.body) c.frame.next i again.works
+
+  at : slice_get there.0.code c.frame.next ≡ Some i
+  at = label_in (body_of program c.frame.body) there.0 c.frame.next i there.1 again.works
+
+  pub silent_there : arrivals saved (distance t.base saved.rip) 1 fs ≡ []
+  silent_there =
+      subst (λ a. arrivals saved (distance t.base a) 1 fs ≡ []) (sym again.here)
+      (silent_within t fs program p q image made.room s.memory c.frame.body there.0 c.frame.next
+      again.to again.operation (Temporary again.first) (Temporary again.second) memory.code
+      there.1 at saved)
+
+  inside : InCode p c.frame.body c.frame.next saved.rip
+  inside =
+      let y = p.layout c.frame.body in
+      let g = get_or_is there.0.code c.frame.next i instructions.Separator at in
+      let n = address_next t fs program p q image c.frame.body there.0 c.frame.next there.1 g.1 in
+      let z = ap (template_size y) g.0 in
+      let w = whole_size y again.to again.operation (Temporary again.first)
+      (Temporary again.second) in
+      let f = some_finish y again.operation again.to in
+      let h = again.here in
+      record { low = omega arith; high = omega arith }
+
+  abbrev u : State
+  u = record { cpu = saved; memory = s.memory }
+
+  in_body : InBody t fs program p q u c
+  in_body =
+      subst (λ (xs : List (List ℕ)). InBody t fs program p q u
+      (record c { store = record { memory = c.store.memory; activations = xs } })) (sym store)
+      (waits_in_body t fs program p q image u (context_of saved) is c.frame c.below acts
+      c.frame.next c.frame.temporaries c.frame.landed c.store.memory c.events on refl inside
+      well_formed.rip_small (all_front s.memory c.frame.temporaries))
+
+  pub works_on : WorksOn t fs program p q u c
+  works_on = record { again = again; well_formed = well_formed; memory = memory; body = in_body }

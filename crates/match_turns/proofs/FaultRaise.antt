@@ -1,0 +1,194 @@
+-- Within an operation that faults, the machine raises the fault, and the body's state
+-- there is saved.
+use Rattle.std.proofs.Common.{◌≡◌, ℕ, zero, suc, ◌^◌, ◌<◌, Bool, true, false, List, [], ◌∷◌, ◌++◌, Option, Some, None, Err, refl, ap, subst, ◌∙◌, arith}
+use Rattle.std.specs.Prelude.{slice_index, replicate}
+use Rattle.std.proofs.lemmas.Bool.{ne_eqb}
+use Rattle.seh_num.specs.declared.event.Code.{Code}
+use Rattle.x64_instr.specs.declared.instruction.Instr.{Instr}
+use Rattle.x64_machine.specs.declared.outcome.Stop.TheVariants as stops
+use Rattle.x64_machine.specs.Contexts.{context_of}
+use Rattle.x64_machine.specs.Effect.{State, step}
+use Rattle.virtual_unwind.specs.Contexts.{rsp}
+use Rattle.virtual_unwind.specs.CallerOf.{Functions}
+use Rattle.seh_records.specs.Laws.{AllSmall}
+use Rattle.host_model.specs.declared.funclet.Funclet.{Funclet}
+use Rattle.host_model.specs.Funclets.{arrived}
+use Rattle.host_model.specs.Dispatch.{write_number, parameters, raised}
+use Rattle.c_operations.specs.Performed.{Raises}
+use Rattle.source_meaning.specs.State.{Exception}
+use Rattle.source_meaning.specs.Raises.{raise_event}
+use Rattle.source_meaning.specs.Source.{is_reserved}
+use Rattle.c_operations.specs.declared.operation.Operation.{Operation}
+use Rattle.linear_code.specs.declared.slot.Slot.{Slot}
+use Rattle.linear_code.specs.declared.slot.Slot.TheVariants.{Temporary}
+use Rattle.linear_code.specs.declared.instruction.Instruction.{Instruction}
+use Rattle.linear_code.specs.declared.instruction.Instruction.TheVariants as instructions
+use Rattle.template_code.specs.declared.layout.Layout.{Layout}
+use Rattle.linear_code.specs.Program.{LinearProgram}
+use Rattle.linear_machine.specs.Frames.{SameOperation, Configuration, Next}
+use Rattle.linear_machine.specs.Searching.{raise}
+use Rattle.linear_machine.specs.Instructions.{act}
+use Rattle.linear_machine.specs.Run.{exec}
+use Rattle.template_code.specs.Slots.{operands_code, finish_code}
+use Rattle.x64_templates.specs.Runs.{Finished}
+use Rattle.match_stack.specs.ImagePlan.{ImagePlan}
+use Rattle.match_stack.specs.ListLaws.{KeepsAbove}
+use Rattle.lowering_invariants.specs.SmallNumbers.{IsSmallAccess}
+use Rattle.lowering_invariants.proofs.Results.{IsSmallOutcome, outcome_small}
+use Rattle.match_stack.specs.DispatchSteps.{IsException}
+use Rattle.match_runs.specs.Comes.{IsLive}
+use Rattle.match_runs.specs.Ends.{HasRule}
+use Rattle.match_runs.specs.Matched.{IsMatched}
+use Rattle.match_runs.proofs.Turns.{comes_nowhere}
+use Rattle.match_bodies.specs.Callers.{callers}
+use Rattle.match_bodies.proofs.StackWalks.{on_stack}
+use Rattle.match_bodies.specs.CodeSites.{Sites}
+use Rattle.match_bodies.specs.ProgramImages.{IsResumed, IsProgramImage}
+use Rattle.match_bodies.specs.Bodies.{turns_left}
+use Rattle.match_bodies.specs.ConfigurationFacts.{IsWellMade, IsKnown, KnownNext}
+use Rattle.match_bodies.specs.BodyViews.{seen_by_templates}
+use Rattle.match_bodies.proofs.BodyViews.{is_machine}
+use Rattle.match_turns.specs.FuncletEntry.{FlagsFit}
+use Rattle.match_turns.specs.DispatchOutcome.{WorksOn, Represents, Shows}
+use Rattle.match_turns.proofs.DispatchStart.{raised_as}
+use Rattle.match_turns.proofs.HostRequest.{Asks, asks_host}
+use Rattle.match_turns.proofs.HostTurns.{fault_turns, raised_keeps, matched_when_shown}
+use Rattle.match_turns.specs.OperationOutcome.{ComesTo}
+use Rattle.match_turns.proofs.OperationMeaning.{acts_as}
+use Rattle.match_turns.proofs.OperationCode.{some_finish, is_some}
+use Rattle.match_turns.proofs.OperationInProgress.{there, frame_here, slots_now, first_small, second_small, code_here, outcome, made_here, same_outcome}
+
+-- ---- what a fault raises
+
+zeros_small : (n j : ℕ) → slice_index (replicate n 0) j < 2 ^ 64
+zeros_small zero j = omega arith
+zeros_small (suc n) zero = omega arith
+zeros_small (suc n) (suc j) = zeros_small n j
+
+write_small : (w : Bool) → write_number w < 2 ^ 64
+write_small true = omega arith
+write_small false = omega arith
+
+parameters_small : (access : Option (Bool × ℕ)) → IsSmallAccess access
+    → AllSmall (parameters access)
+parameters_small None h j lt = zeros_small 15 j
+parameters_small (Some x) h zero lt = write_small x.0
+parameters_small (Some x) h (suc zero) lt = h
+parameters_small (Some x) h (suc (suc j)) lt = zeros_small 13 j
+
+abbrev pub exception_of : Code → Option (Bool × ℕ) → Exception
+exception_of code access = record { code = code.0; flag = false; access = access }
+
+is_exception : (code : Code) (access : Option (Bool × ℕ)) → IsSmallOutcome (Raises code access)
+    → IsException code 0 access (exception_of code access)
+is_exception code access h = record {
+  same_code = refl;
+  same_flag = refl;
+  same_access = refl;
+  code_small = h.0;
+  one_flag = omega arith;
+  access_small = parameters_small access h.1;
+}
+
+module _ (t : Functions) (fs : List Funclet) (program : LinearProgram) (p : ImagePlan) (q : Sites)
+    (image : IsProgramImage t fs program p q) (made : IsWellMade program p)
+    (fits : FlagsFit program)
+    (s : State) (c : Configuration) (w : WorksOn t fs program p q s c) (known : IsKnown program c)
+  where
+    abbrev to : Slot
+    to = w.again.to
+
+    abbrev o : Operation
+    o = w.again.operation
+
+    abbrev first : Slot
+    first = Temporary w.again.first
+
+    abbrev second : Slot
+    second = Temporary w.again.second
+
+    abbrev i : Instruction
+    i = instructions.Compute to o first second
+
+    abbrev y : Layout
+    y = p.layout c.frame.body
+
+    abbrev ops : List Instr
+    ops = operands_code y o first second
+
+    abbrev finish : List Instr
+    finish = finish_code y o to
+
+    -- RIP is at a machine instruction of the body's instruction
+    resumed : IsResumed t fs program p q c.frame.body w.body.slots.code c.frame.next s.cpu.rip
+    resumed =
+        let x = is_some finish (some_finish y o to) in
+        record {
+          instruction = i;
+          there = there t fs program p q image made s c w known;
+          continues = λ h. h;
+          done = ops;
+          item = x.item;
+          left = x.left;
+          parts = ap (λ rest. ops ++ rest) x.parts;
+          here = w.again.here;
+        }
+
+    untouched : KeepsAbove s.memory s.memory.byte (rsp (context_of s.cpu))
+    untouched = record { above = λ x le. refl; code = λ x e. refl }
+
+    asks : Asks t fs program p q image s.cpu s.cpu s.memory s.memory.byte c w.body.acts
+    asks = asks_host t fs program p q image s.cpu s.cpu s.memory s.memory.byte c c.frame.next
+        c.store.memory w.body resumed w.memory.code untouched w.memory w.well_formed w.well_formed
+
+    live : IsLive s
+    live = let l = (code_here t fs program p q image made s c w known).placed.low in
+        ne_eqb s.cpu.rip 0 (λ e. absurd (omega arith))
+
+    module _ (code : Code) (access : Option (Bool × ℕ))
+        (raises : ComesTo program c o first second (Raises code access)) where
+      is_raised : outcome t fs program p q image made s c w known ≡ Raises code access
+      is_raised = same_outcome t fs program p q image made s c w known (Raises code access) raises
+
+      faults : step s ≡ Err (stops.Fault code access)
+      faults =
+          ap step (is_machine s w.well_formed.count)
+          ∙ subst (λ x. Finished (frame_here t fs program p q image made s c w known) o to
+          (seen_by_templates s) s.cpu.rip s.cpu.flags
+          (slots_now t fs program p q image made s c w known) x) is_raised
+          (made_here t fs program p q image made s c w known)
+
+      small : IsSmallOutcome (Raises code access)
+      small =
+          subst IsSmallOutcome is_raised
+          (outcome_small (is_reserved program.globals) o _ _ c.store.memory
+          (first_small t fs program p q image made s c w known)
+          (second_small t fs program p q image made s c w known))
+
+      acts : (next : Next) → act program i next c
+          ≡ raise program next (exception_of code access) SameOperation c
+      acts = acts_as program c to o first second (Raises code access) raises
+
+      shows : HasRule (act program i (exec program zero) c)
+          → Shows t fs program p q (arrived t fs (raised t s code 0 access s.cpu))
+          (raise_event (exception_of code access) ∷ [])
+          (λ next. raise program next (exception_of code access) SameOperation c) c.events
+          (turns_left c) (callers (context_of s.cpu) asks.is)
+      shows rule =
+          raised_as t fs program p q image fits s s.cpu asks.is w.body.acts c asks.asks w.memory
+          w.body.store code 0 access (exception_of code access) SameOperation
+          (is_exception code access small) ((image.resumptions SameOperation c.frame s.cpu).says
+          w.again) (subst HasRule (acts (exec program zero)) rule)
+
+      pub raised_at_once : HasRule (act program i (exec program zero) c) → KnownNext program c i
+          → IsMatched t fs program 7 turns_left (Represents t fs program p q) s c i
+      raised_at_once rule next =
+          matched_when_shown t fs program p q 7 0 (turns_left c) s s c i
+          (arrived t fs (raised t s code 0 access s.cpu))
+          (raise_event (exception_of code access) ∷ [])
+          (λ next. raise program next (exception_of code access) SameOperation c)
+          (callers (context_of s.cpu) asks.is) (comes_nowhere t fs s) live
+          (fault_turns t fs s code access faults)
+          (raised_keeps t fs program p q s code access (callers (context_of s.cpu) asks.is) faults
+          (on_stack t s.memory (context_of s.cpu) 0 asks.is asks.asks.on.is_there.stack))
+          (shows rule) acts (omega arith) next

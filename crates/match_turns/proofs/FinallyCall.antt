@@ -1,0 +1,370 @@
+-- A body calls its `__finally` block: the machine comes to the block's first byte, above the body
+-- that waits.
+use Rattle.std.proofs.Common.{◌≡◌, ℕ, ◌+◌, ◌-◌, ◌^◌, ◌<◌, ◌≤◌, true, false, Option, Some, None, Ok, List, [], ◌∷◌, length, refl, sym, ap, subst, ◌∙◌, arith, inl}
+use Rattle.std.specs.Prelude.{slice_get, drop}
+use Rattle.std.proofs.lemmas.List.{length-drop, get_or-set_same}
+use Rattle.seh_num.specs.declared.event.Event.TheVariants as events
+use Rattle.host_layout.specs.declared.range.TheConstants.{STACK_START, STACK_END}
+use Rattle.x64_instr.specs.declared.register.Reg.TheVariants.{Rdx, Rsp}
+use Rattle.x64_instr.specs.declared.instruction.Instr.TheVariants as instrs
+use Rattle.x64_machine.specs.Contexts.{context_of}
+use Rattle.x64_machine.specs.Effect.{State, register}
+use Rattle.virtual_unwind.specs.CallerOf.{Functions, distance}
+use Rattle.virtual_unwind.specs.Undone.{word}
+use Rattle.host_model.specs.declared.funclet.Funclet.{Funclet}
+use Rattle.host_model.specs.Funclets.{by_kind, arrivals}
+use Rattle.source_meaning.specs.Expressions.{of_test}
+use Rattle.linear_code.specs.declared.instruction.Instruction.TheVariants as instructions
+use Rattle.linear_code.specs.declared.program.FuncletKind.TheVariants as funclets
+use Rattle.linear_code.specs.Program.{LinearProgram, LinearBody}
+use Rattle.linear_machine.specs.Frames.{BodyName, FuncletBody, body_of, funclet_body, Waits, Configuration}
+use Rattle.linear_machine.specs.Run.{instruction_in}
+use Rattle.template_code.specs.declared.layout.Layout.{Layout}
+use Rattle.template_code.specs.Bytes.{sizes}
+use Rattle.template_code.specs.Jumps.{IsNear}
+use Rattle.template_code.specs.Calls.{finally_arguments}
+use Rattle.x64_templates.specs.Straight.{MachineView, machine}
+use Rattle.x64_templates.specs.CallStates.{pushed, HasBelow}
+use Rattle.x64_templates.specs.Runs.{Reaches}
+use Rattle.x64_templates.proofs.Unwinds.{with_two, FinallyCalled, finally_begins}
+use Rattle.x64_templates.proofs.Entries.{pushed_back}
+use Rattle.match_stack.specs.WalkLaws.{context_below}
+use Rattle.match_stack.specs.ImagePlan.{ImagePlan, InCode, by_parent, parent_body, IsFunclet}
+use Rattle.match_stack.specs.ItemMatches as linked
+use Rattle.match_stack.specs.ItemMatches.{HasActivation, return_of, ReturnsTo}
+use Rattle.match_stack.specs.ListLaws.{KeepsAbove}
+use Rattle.match_stack.proofs.ListKeeping.{reaches_above, kept_by_stores_below}
+use Rattle.match_stack.specs.StackRecords.{On}
+use Rattle.match_stack.proofs.SearchHandlers.{body_reaches}
+use Rattle.match_stack.specs.DispatchStates.{IsWellFormed}
+use Rattle.match_runs.specs.Shadow.{AllKeep}
+use Rattle.match_runs.specs.Comes.{Comes}
+use Rattle.lowering_invariants.specs.ReturnRegions.{AllReturnsStayInRegions}
+use Rattle.lowering_invariants.specs.Bodies.{IsFinallyKind, parent_of, IsFuncletOf}
+use Rattle.lowering_invariants.specs.Room.{HaveRoom}
+use Rattle.match_bodies.specs.CodeSites.{Sites}
+use Rattle.match_bodies.specs.Bodies.{slots_end, InBody, RepresentsAt}
+use Rattle.match_bodies.specs.ProgramImages.{IsMachineMemory, IsResumed, is_finally, IsProgramImage}
+use Rattle.match_bodies.proofs.TemplateSizes.{first_in_code}
+use Rattle.match_bodies.proofs.StackContexts.{on_moved}
+use Rattle.match_bodies.proofs.SilentTurns.{reaches_comes}
+use Rattle.match_bodies.proofs.InstructionEffects.{others_of}
+use Rattle.match_bodies.proofs.RoutineWalks.{reaches_steps}
+use Rattle.match_bodies.proofs.CallKeeping.{calls_keep}
+use Rattle.match_bodies.proofs.StackTop.{OnTop, body_on_top}
+use Rattle.match_bodies.proofs.StackWords.{may_read_written, word_of}
+use Rattle.match_bodies.proofs.ChainKeeping.{reaches_keeps, stays_well_formed}
+use Rattle.match_bodies.proofs.BodyViews.{IsCounted, sp_low, frame_top}
+use Rattle.match_bodies.proofs.TemplateRuns.{v, same_state, template_here, sp_is}
+use Rattle.match_turns.proofs.ReturnAddressPlace.{top_of, begins_beneath}
+use Rattle.match_turns.proofs.FinallyCallReturn.{offset_most, after_call}
+use Rattle.match_turns.proofs.FuncletFrame.{ArrivesBelow}
+use Rattle.match_turns.proofs.CallRegions.{apart_same}
+use Rattle.match_turns.proofs.DispatchMemory.{memory_untouched}
+use Rattle.match_turns.proofs.ReturnAddressPush as pushing
+
+same_parents : (function : ℕ) (o : Option ℕ) → by_parent function o ≡ parent_of function o
+same_parents function None = refl
+same_parents function (Some j) = refl
+
+module _ (t : Functions) (fs : List Funclet) (program : LinearProgram) (p : ImagePlan) (q : Sites)
+    (image : IsProgramImage t fs program p q) (roomy : HaveRoom program)
+    (apart : AllReturnsStayInRegions program) where
+  module _ (s : State) (c : Configuration) (b : RepresentsAt t fs program p q s c)
+      (counted : IsCounted t fs program p q image c) (k flag : ℕ)
+      (at : slice_get b.body.slots.code.code c.frame.next ≡ Some (instructions.CallFinally k))
+      (separator : slice_get b.body.slots.code.code (c.frame.next + 1)
+      ≡ Some instructions.Separator) (framed : p.leaf c.frame.body ≡ false)
+      (block : IsFuncletOf program c.frame.body IsFinallyKind k)
+      (kind : block.funclet.kind ≡ funclets.Finally flag) where
+    abbrev name : BodyName
+    name = c.frame.body
+
+    abbrev y : Layout
+    y = p.layout c.frame.body
+
+    abbrev code : LinearBody
+    code = b.body.slots.code
+
+    abbrev sp : ℕ
+    sp = register s.cpu Rsp
+
+    abbrev back : ℕ
+    back = s.cpu.rip + sizes finally_arguments + 5
+
+    abbrev before : MachineView
+    before = with_two (v t fs program p q image roomy s c b counted) 0 sp
+
+    low : STACK_START + 196568 ≤ sp
+    low = sp_low t fs program p q image s c b counted
+
+    top : sp + y.frame + 8 ≤ STACK_END
+    top = frame_top t fs program p q image s c b counted
+
+    -- ---- the return address is that of the next instruction
+
+    back_is : back ≡ p.address name (c.frame.next + 1)
+    back_is = ap (λ r. r + sizes finally_arguments + 5) b.rip
+        ∙ after_call t fs program p q image roomy apart name code c.frame.next k b.body.slots.body at
+
+    inside : c.frame.next + 1 < length code.code
+    inside = (apart name code b.body.slots.body).within c.frame.next (instructions.CallFinally k) at
+        refl
+
+    back_code : InCode p name (c.frame.next + 1) back
+    back_code = subst (InCode p name (c.frame.next + 1)) (sym back_is)
+        (first_in_code t fs program p q image name code (c.frame.next + 1) b.body.slots.body inside)
+
+    target_there : body_of program (FuncletBody k) ≡ Some block.funclet.body
+    target_there = ap funclet_body block.there
+
+    target_small : p.funclet k < 2 ^ 64
+    target_small =
+        let a = image.addresses (FuncletBody k) block.funclet.body target_there in
+        let high = a.inside.high in
+        let first = a.first in
+        omega arith
+
+    back_near : IsNear back (p.funclet k)
+    back_near =
+        let a = image.addresses name code b.body.slots.body in
+        let l = a.labels (c.frame.next + 1) in
+        let m = offset_most y code.code (c.frame.next + 1) in
+        let low = a.inside.low in
+        let high = a.inside.high in
+        let first = a.first in
+        let z = image.addresses (FuncletBody k) block.funclet.body target_there in
+        let to_low = z.inside.low in
+        let to_high = z.inside.high in
+        let to_first = z.first in
+        let e = back_is in
+        (omega arith, omega arith, omega arith, omega arith)
+
+    back_small : back < 2 ^ 64
+    back_small = let n = back_near.0 in omega arith
+
+    -- ---- the call
+
+    low_enough : STACK_START + 8 ≤ sp
+    low_enough = let l = low in omega arith
+
+    high_enough : sp ≤ STACK_END
+    high_enough = let h = top in omega arith
+
+    abbrev bytes : ℕ → ℕ
+    bytes = pushing.bytes before sp back low_enough high_enough b.memory.data_alone b.memory.stack
+
+    below_sp : HasBelow s.memory sp 8
+    below_sp = pushing.below before sp back low_enough high_enough b.memory.data_alone
+        b.memory.stack
+
+    pub run : FinallyCalled (v t fs program p q image roomy s c b counted) sp s.cpu.rip
+        (p.funclet k) s.cpu.flags
+    run =
+        finally_begins (v t fs program p q image roomy s c b counted) sp s.cpu.rip (p.funclet k)
+        s.cpu.flags (sp_is t fs program p q image roomy s c b counted) below_sp back_near
+        (template_here t fs program p q image roomy s c b counted (instructions.CallFinally k) at)
+
+    -- at the block's first byte
+    abbrev pub called : State
+    called = machine (pushed before sp back) (p.funclet k) run.flags
+
+    reaches : Reaches 3 s called
+    reaches = subst (λ z. Reaches 3 z called)
+        (sym (same_state t fs program p q image roomy s c b counted)) run.comes
+
+    shown : arrivals called.cpu (distance t.base called.cpu.rip) 1 fs
+        ≡ events.Finally (k + 1) false ∷ []
+    shown = image.funclets.named k block.funclet block.there called.cpu
+        ∙ ap (λ z. by_kind called.cpu (k + 1) (is_finally t fs program p q z) ∷ []) kind
+
+    -- each turn keeps the shadow
+    abbrev next : ℕ
+    next = p.address name c.frame.next + sizes finally_arguments + 5
+
+    back_next : back ≡ next
+    back_next = ap (λ r. r + sizes finally_arguments + 5) b.rip
+
+    next_resumed : IsResumed t fs program p q name code (c.frame.next + 1) next
+    next_resumed = record {
+      instruction = instructions.Separator;
+      there = separator;
+      continues = λ r. absurd r;
+      done = [];
+      item = instrs.NoOperation;
+      left = [];
+      parts = refl;
+      here = sym back_next ∙ back_is ∙ (let z : p.address name (c.frame.next + 1)
+          ≡ p.address name (c.frame.next + 1) + 0 = omega arith in z);
+    }
+
+    keeps_shadow : AllKeep t fs 3 s
+    keeps_shadow =
+        calls_keep t fs program p q image name code b.body.slots.body c.frame.next
+        (instructions.CallFinally k) at (λ h. h) finally_arguments [] next (p.funclet k) refl refl
+        (subst (λ a. IsNear a (p.funclet k)) back_next back_near) (c.frame.next + 1) next_resumed
+        (λ m. (image.callers (FuncletBody k) block.funclet.body target_there).entries m
+        (λ e. absurd (let z : true ≡ false = sym e ∙ block_framed in cc)))
+        s called (top_of t fs program p q image s c b counted) b.body.back
+        (others_of s.cpu.registers) b.body.is b.rip
+        (begins_beneath t fs program p q image s c b counted) refl (let l = low in omega arith)
+        b.memory.code
+        ((refl, inl refl), ((refl, inl refl), tt)) (reaches_steps 3 s called reaches)
+      where
+        block_framed : p.leaf (FuncletBody k) ≡ false
+        block_framed = (image.laid_out (FuncletBody k) block.funclet.body target_there).framed
+
+    pub comes : Comes t fs 3 s (events.Finally (k + 1) false ∷ []) called
+    comes = reaches_comes t fs program p q image 2 s called (events.Finally (k + 1) false ∷ [])
+        reaches keeps_shadow b.memory.code shown
+
+    pub memory : IsMachineMemory t fs program p q called.memory c.store.memory
+    memory =
+        memory_untouched t fs program p q s.memory called.memory c.store.memory
+        (pushing.pushed_untouched before sp back low_enough high_enough b.memory.data_alone
+        b.memory.stack) b.memory
+        (pushing.pushed_data before sp back low_enough high_enough b.memory.data_alone
+        b.memory.stack)
+
+    keeps_above : KeepsAbove s.memory bytes sp
+    keeps_above = pushing.keeps_above before sp back low_enough high_enough b.memory.data_alone
+        b.memory.stack
+
+    stack_there : register called.cpu Rsp ≡ sp - 8
+    stack_there =
+        let n = length-drop 3 s.cpu.registers in
+        let z = b.well_formed.count in
+        get_or-set_same (drop 3 s.cpu.registers) 1 (sp - 8) 0 (omega arith)
+
+    returns : word called.memory (register called.cpu Rsp) ≡ Ok back
+    returns =
+        let l = low in
+        let h = top in
+        subst (λ a. word called.memory a ≡ Ok back) (sym stack_there)
+        (word_of called.memory (sp - 8) back (omega arith)
+        (λ x from to. may_read_written called.memory x
+        (b.memory.stack x (omega arith) (omega arith)))
+        (pushed_back before sp back below_sp back_small).number)
+
+    returns_to : ReturnsTo t fs program p (Waits c.frame ∷ c.below) back
+    returns_to =
+        ap (λ o. return_of y (p.address name c.frame.next) (instruction_in o c.frame.next))
+        b.body.slots.body
+        ∙ ap (return_of y (p.address name c.frame.next)) at
+        ∙ ap (λ r. Some (r + sizes finally_arguments + 5)) (sym b.rip)
+
+    -- ---- the body waits, at the next instruction
+
+    abbrev later : State
+    later = record {
+      cpu = record { registers = s.cpu.registers; rip = back; flags = s.cpu.flags };
+      memory = s.memory;
+    }
+
+    resumed : IsResumed t fs program p q name code (c.frame.next + 1) back
+    resumed = record {
+      instruction = instructions.Separator;
+      there = separator;
+      continues = λ r. absurd r;
+      done = [];
+      item = instrs.NoOperation;
+      left = [];
+      parts = refl;
+      here = back_is ∙ (let z : p.address name (c.frame.next + 1)
+          ≡ p.address name (c.frame.next + 1) + 0 = omega arith in z);
+    }
+
+    abbrev in_body : InBody t fs program p q later c
+    in_body = record {
+      acts = b.body.acts;
+      store = b.body.store;
+      slots = record {
+        code = b.body.slots.code;
+        body = b.body.slots.body;
+        label = c.frame.next + 1;
+        instruction = back_code;
+        same = apart_same t fs program p apart name code c.frame.next (instructions.CallFinally k)
+            b.body.slots.body at refl;
+        small = back_small;
+        activation = b.body.slots.activation;
+        temporaries = b.body.slots.temporaries;
+        space = b.body.slots.space;
+      };
+      pointers = b.body.pointers;
+      above = b.body.above;
+      home = b.body.home;
+      back = b.body.back;
+      returns_to = b.body.returns_to;
+      returns = b.body.returns;
+      is = b.body.is;
+      below = b.body.below;
+    }
+
+    on_top : OnTop t fs program p q later c b.body.acts
+    on_top = body_on_top t fs program p q image later c (c.frame.next + 1) in_body resumed
+        b.memory.code
+
+    list : (others : List ℕ) → length others ≡ 8
+        → On t fs program p called.memory (context_below back sp others) on_top.is
+        (Waits c.frame ∷ c.below) b.body.acts
+    list others eight =
+        on_moved t fs program p called.memory (context_of later.cpu) (context_below back sp others)
+        on_top.is (Waits c.frame ∷ c.below) b.body.acts refl (omega (arith, eight)) refl refl
+        (record {
+          is_there = kept_by_stores_below t fs program p s.memory bytes (context_of later.cpu)
+              on_top.is (Waits c.frame ∷ c.below) b.body.acts keeps_above on_top.on.is_there;
+          data_alone = pushing.pushed_data before sp back low_enough high_enough b.memory.data_alone
+              b.memory.stack;
+        })
+
+    -- ---- what the block finds
+
+    held : HasActivation s.memory y sp y.frame c.frame.activation b.body.acts name
+    held = subst (λ z. HasActivation s.memory y sp (slots_end y z) c.frame.activation b.body.acts
+        name) framed b.body.slots.activation
+
+    activation : linked.Reaches t fs program p called.memory name (register called.cpu Rdx)
+        c.frame.activation b.body.acts
+    activation =
+        let h = top in
+        reaches_above t fs program p s.memory bytes sp name sp c.frame.activation b.body.acts
+        keeps_above (omega arith)
+        (body_reaches t fs program p s.memory name sp y.frame c.frame.activation b.body.acts
+        (omega arith) held)
+
+    is_funclet : IsFunclet t fs program p name k
+    is_funclet = record {
+      parent = ap parent_body block.there
+          ∙ ap (λ n. Some n) (same_parents block.funclet.function block.funclet.parent ∙ block.parent);
+      small = target_small;
+    }
+
+    well_formed : IsWellFormed called
+    well_formed = stays_well_formed s called (reaches_keeps 3 s called reaches) target_small b.well_formed
+
+    pub arrives : ArrivesBelow t fs program p called k c.frame.activation (of_test false)
+        (Waits c.frame ∷ c.below) b.body.acts
+    arrives =
+        let l = low in
+        let h = top in
+        record {
+          rip = refl;
+          name = name;
+          funclet = is_funclet;
+          argument = refl;
+          reaches = activation;
+          at = sp;
+          stack = (let e = stack_there in omega arith);
+          at_small = omega arith;
+          back = back;
+          returns = returns;
+          returns_to = returns_to;
+          is = on_top.is;
+          on = list;
+          well_formed = well_formed;
+        }
+
+    -- above the caller's stack pointer
+    pub arrives_at : arrives.at ≡ sp
+    unfolding arrives
+    arrives_at = refl

@@ -1,0 +1,236 @@
+-- A `__finally` block that a body has called returns: the body continues after its call.
+use Rattle.std.proofs.Common.{◌≡◌, ℕ, zero, suc, ◌+◌, ◌<◌, ◌≤◌, Option, Some, None, List, [], ◌∷◌, length, get_or, refl, sym, ap, subst, ◌∙◌, arith}
+use Rattle.std.specs.Prelude.{slice_get, replicate}
+use Rattle.std.proofs.lemmas.List.{append-nil}
+use Rattle.x64_instr.specs.declared.register.Reg.TheVariants.{Rsp}
+use Rattle.x64_machine.specs.declared.context.Context.{Context}
+use Rattle.x64_machine.specs.Effect.{State, register}
+use Rattle.virtual_unwind.specs.CallerOf.{Functions, distance}
+use Rattle.host_model.specs.declared.funclet.Funclet.{Funclet}
+use Rattle.host_model.specs.Funclets.{arrivals}
+use Rattle.linear_code.specs.declared.slot.Slot.{Slot}
+use Rattle.linear_code.specs.declared.instruction.Instruction.{Instruction}
+use Rattle.linear_code.specs.declared.instruction.Instruction.TheVariants as instructions
+use Rattle.linear_code.specs.declared.program.FuncletKind.TheVariants as funclets
+use Rattle.linear_code.specs.Program.{LinearProgram, LinearBody, LinearFunclet}
+use Rattle.linear_machine.specs.Frames.{BodyName, FuncletBody, body_of, Frame, Item, Waits, Configuration, Next, with_some, read, forth}
+use Rattle.linear_machine.specs.Run.{instruction_in}
+use Rattle.linear_machine.specs.Instructions.{end_finally, end_funclet, end_body, act}
+use Rattle.template_code.specs.declared.layout.Layout.{Layout}
+use Rattle.template_code.specs.Bytes.{sizes}
+use Rattle.template_code.specs.Jumps.{call}
+use Rattle.template_code.specs.Calls.{finally_arguments, return_code}
+use Rattle.template_code.specs.Template.{template_size, body_size, offset_of}
+use Rattle.template_code.proofs.Sizes.{sizes_append, call_size, template_sizes, offset_next}
+use Rattle.x64_templates.specs.CallStates.{HasBack}
+use Rattle.x64_templates.specs.Runs.{Reaches}
+use Rattle.match_stack.specs.WalkLaws.{context_below}
+use Rattle.lowering_invariants.specs.ReturnRegions.{AllReturnsStayInRegions}
+use Rattle.lowering_invariants.specs.Room.{HaveRoom}
+use Rattle.match_stack.specs.ImagePlan.{ImagePlan, InCode}
+use Rattle.match_stack.specs.ItemMatches.{Activation, locals_of, activations_below, return_of, ReturnsTo}
+use Rattle.match_stack.specs.StackRecords.{On}
+use Rattle.match_stack.specs.DispatchStates.{IsWellFormed}
+use Rattle.match_runs.specs.Matched.{Moves}
+use Rattle.match_bodies.specs.CodeSites.{Sites, links_of}
+use Rattle.match_bodies.specs.Bodies.{held_below, turns_left, InBody, RepresentsAt}
+use Rattle.match_bodies.specs.ProgramImages.{IsProgramImage}
+use Rattle.match_bodies.proofs.SilentTurns.{reaches_silently}
+use Rattle.match_bodies.proofs.BodyResumption.{again, waits_in_body, all_front}
+use Rattle.match_bodies.proofs.BodyViews.{IsCounted}
+use Rattle.match_bodies.proofs.TemplateRuns.{get_or_is}
+use Rattle.match_turns.proofs.BodyReturn as leaving
+use Rattle.match_turns.proofs.BodyReturn.{returns_soon}
+
+-- an instruction of a body begins within it
+pub offset_most : (y : Layout) (body : List Instruction) (number : ℕ)
+    → offset_of y body number ≤ body_size y body
+offset_most y [] zero = omega arith
+offset_most y [] (suc number) = omega arith
+offset_most y (i ∷ body) zero = omega arith
+offset_most y (i ∷ body) (suc number) = let r = offset_most y body number in omega arith
+
+same_number : (a b : ℕ) → Some a ≡ Some b → a ≡ b
+same_number a b e = cc
+
+not_landed : (landed : Option ℕ) (value : ℕ) → landed ≡ None → landed ≡ Some value → ⊥
+not_landed landed value e f = let z : ◌≡◌ {A = Option ℕ} None (Some value) = sym e ∙ f in cc
+
+module _ (t : Functions) (fs : List Funclet) (program : LinearProgram) (p : ImagePlan) (q : Sites)
+    (image : IsProgramImage t fs program p q) (roomy : HaveRoom program)
+    (apart : AllReturnsStayInRegions program) where
+  -- where a call of a block returns to: the next instruction
+  pub after_call : (name : BodyName) (o : LinearBody) (label k : ℕ) → body_of program name ≡ Some o
+      → slice_get o.code label ≡ Some (instructions.CallFinally k)
+      → p.address name label + sizes finally_arguments + 5 ≡ p.address name (label + 1)
+  after_call name o label k there at =
+      let y = p.layout name in
+      let links = links_of p q name in
+      let place = p.address name label in
+      let a = image.addresses name o there in
+      let g = get_or_is o.code label (instructions.CallFinally k) instructions.Separator at in
+      let n = offset_next y o.code label instructions.Separator g.1 in
+      let z : template_size y (get_or o.code label instructions.Separator)
+      ≡ template_size y (instructions.CallFinally k) = ap (template_size y) g.0 in
+      let e : offset_of y o.code (label + 1) ≡ offset_of y o.code
+      (suc label) = (let j : label + 1 ≡ suc label = omega arith in ap (offset_of y o.code) j) in
+      let w = template_sizes links y place (instructions.CallFinally k) in
+      let five = call_size (place + sizes finally_arguments + 5) (p.funclet k) in
+      omega (
+        arith,
+        a.labels (label + 1),
+        a.labels label,
+        n,
+        z,
+        e,
+        w,
+        five,
+        sizes_append finally_arguments (call (place + sizes finally_arguments + 5) (p.funclet k)
+            ∷ []),
+      )
+
+  module _ (s : State) (c : Configuration) (b : RepresentsAt t fs program p q s c)
+      (counted : IsCounted t fs program p q image c) (k : ℕ) (is : c.frame.body ≡ FuncletBody k)
+      (from : Slot)
+      (at : slice_get b.body.slots.code.code c.frame.next ≡ Some (instructions.Return from)) (x : ℕ)
+      (reads : read c from ≡ Some x)
+      (g : LinearFunclet) (funclet : slice_get program.funclets k ≡ Some g) (flag : ℕ)
+      (kind : g.kind ≡ funclets.Finally flag)
+      (w : Frame) (items : List Item) (below : c.below ≡ Waits w ∷ items) (o : LinearBody)
+      (there : body_of program w.body ≡ Some o) (j : ℕ)
+      (calls : slice_get o.code w.next ≡ Some (instructions.CallFinally j))
+      (free : w.landed ≡ None) where
+    abbrev layout : Layout
+    layout = p.layout c.frame.body
+
+    abbrev sp : ℕ
+    sp = register s.cpu Rsp
+
+    abbrev back : ℕ
+    back = b.body.back
+
+    abbrev n : ℕ
+    n = length (return_code layout from)
+
+    abbrev pub after : State
+    after = leaving.after t fs program p q image roomy s c b counted from at
+
+    has_back : HasBack s.memory (sp + layout.frame) back
+    has_back = leaving.has_back t fs program p q image roomy s c b counted from at
+
+    reaches : Reaches n s after
+    reaches = leaving.reaches t fs program p q image roomy s c b counted from at
+
+    sp_after : register after.cpu Rsp ≡ sp + layout.frame + 8
+    sp_after = leaving.sp_after t fs program p q image roomy s c b counted from at
+
+    well_formed_after : IsWellFormed after
+    well_formed_after = leaving.well_formed_after t fs program p q image roomy s c b counted from at
+
+    -- ---- the body that waits
+
+    returns : back ≡ p.address w.body w.next + sizes finally_arguments + 5
+    returns =
+        let to : ReturnsTo t fs program p (Waits w ∷ items) back = subst
+        (λ ws. ReturnsTo t fs program p ws back) below b.body.returns_to in
+        let r : return_of (p.layout w.body) (p.address w.body w.next)
+        (instruction_in (body_of program w.body) w.next)
+        ≡ Some (p.address w.body w.next + sizes finally_arguments + 5) =
+        ap (λ z. return_of (p.layout w.body) (p.address w.body w.next) (instruction_in z w.next))
+        there ∙ ap (return_of (p.layout w.body) (p.address w.body w.next)) calls in
+        same_number back (p.address w.body w.next + sizes finally_arguments + 5) (sym to ∙ r)
+
+    back_is : back ≡ p.address w.body (w.next + 1)
+    back_is = returns ∙ after_call w.body o w.next j there calls
+
+    inside : w.next + 1 < length o.code
+    inside = (apart w.body o there).within w.next (instructions.CallFinally j) calls refl
+
+    back_code : InCode p w.body (w.next + 1) back
+    back_code =
+        let r = (image.addresses w.body o there).rises (w.next + 1) inside in
+        record { low = omega (arith, back_is); high = omega (arith, back_is) }
+
+    silent : arrivals after.cpu (distance t.base after.cpu.rip) 1 fs ≡ []
+    silent =
+        let a = image.addresses w.body o there in
+        image.funclets.none back has_back.small
+        (λ i lt e. a.not_first (w.next + 1) i inside lt (sym back_is ∙ e)) after.cpu
+
+    abbrev outer : List Activation
+    outer = activations_below c.frame.body b.body.acts
+
+    outer_is : outer ≡ b.body.acts
+    outer_is = ap (λ name. activations_below name b.body.acts) is
+
+    abbrev rest : List ℕ
+    rest = replicate 8 0
+
+    abbrev above : Context
+    above = context_below back (sp + layout.frame + 8) rest
+
+    on : On t fs program p s.memory above b.body.is (Waits w ∷ items) outer
+    on = subst (λ ws. On t fs program p s.memory above b.body.is ws outer) below
+        (b.body.below rest refl)
+
+    abbrev pub next_one : Configuration
+    next_one = forth (record { frame = w; below = items; store = c.store; events = c.events })
+
+    in_body : InBody t fs program p q after next_one
+    in_body = subst (λ (xs : List (List ℕ)). let d : Configuration =
+        record {
+          frame = again w (w.next + 1) w.temporaries w.landed;
+          below = items;
+          store = record { memory = c.store.memory; activations = xs };
+          events = c.events;
+        } in
+        InBody t fs program p q after d)
+        (ap locals_of outer_is ∙ sym b.body.store)
+        (waits_in_body t fs program p q image after above b.body.is w items outer (w.next + 1)
+        w.temporaries w.landed c.store.memory c.events on sp_after back_code has_back.small
+        (all_front s.memory w.temporaries))
+
+    begins : RepresentsAt t fs program p q after next_one
+    begins = record {
+      rip = back_is;
+      well_formed = well_formed_after;
+      memory = record {
+        data_alone = b.memory.data_alone;
+        agrees = b.memory.agrees;
+        stack = b.memory.stack;
+        arena = b.memory.arena;
+        code = b.memory.code;
+      };
+      body = in_body;
+      landed = λ value e. absurd (not_landed w.landed value free e);
+    }
+
+    acts_as : (next : Next) → act program (instructions.Return from) next c ≡ next next_one
+    unfolding with_some
+    acts_as next =
+        ap (λ r. with_some c.events r (λ z. end_body program next c.frame.body z c)) reads
+        ∙ ap (λ name. end_body program next name x c) is
+        ∙ ap (λ f. with_some c.events f (λ z. end_funclet program next z.kind x c)) funclet
+        ∙ ap (λ z. end_funclet program next z x c) kind
+        ∙ ap (λ ws. end_finally program next ws c.events c.store) below
+
+    pub return_of_block : Moves t fs program 16 turns_left (RepresentsAt t fs program p q) s c
+        (instructions.Return from)
+    return_of_block =
+        let few = (returns_soon layout from).1 in
+        let some = (returns_soon layout from).0 in
+        let credit : held_below c.below ≡ length w.temporaries
+        + held_below items = ap held_below below in
+        record {
+          turns = n;
+          some = some;
+          configuration = next_one;
+          few = omega (arith, few, credit);
+          state = after;
+          events = [];
+          comes = reaches_silently t fs program p q image n s after reaches
+              (leaving.keeps t fs program p q image roomy s c b counted from at) b.memory.code silent;
+          acts = acts_as;
+          shown = sym (append-nil c.events);
+          is_there = begins;
+        }

@@ -1,0 +1,32 @@
+-- A `__finally` block begins that an unwinding runs.
+use Rattle.std.proofs.Common.{◌+◌, ◌≤◌, true, List, [], ◌∷◌, ◌++◌, length, ap, arith}
+use Rattle.seh_num.specs.declared.event.Event.TheVariants as events
+use Rattle.virtual_unwind.specs.CallerOf.{Functions}
+use Rattle.host_model.specs.declared.funclet.Funclet.{Funclet}
+use Rattle.linear_code.specs.Program.{LinearProgram}
+use Rattle.linear_machine.specs.Frames.{Waits, Unwinds}
+use Rattle.match_stack.specs.WalkLaws.{context_below}
+use Rattle.match_stack.specs.ImagePlan.{ImagePlan}
+use Rattle.match_bodies.specs.CodeSites.{Sites}
+use Rattle.match_bodies.specs.ProgramImages.{IsProgramImage}
+use Rattle.match_bodies.proofs.ActivationPlaces.{locals_count}
+use Rattle.match_turns.specs.FuncletEntry.{FlagsFit, BlocksBegin}
+use Rattle.match_turns.proofs.DispatchSpace.{shallow_is, unwind_space}
+use Rattle.match_turns.proofs.FuncletFrame.{arrives_below}
+use Rattle.match_turns.proofs.FinallyEntry.{block_leads}
+
+pub blocks_begin : (t : Functions) (fs : List Funclet) (program : LinearProgram) (p : ImagePlan)
+    (q : Sites) → IsProgramImage t fs program p q → FlagsFit program → BlocksBegin t fs program p q
+blocks_begin t fs program p q image fits s k flag rest target c acts a flagged memory stored shallow
+    typed =
+    let items = Unwinds rest target ∷ Waits c.frame ∷ c.below in
+    let n : length acts + target.held + 2 ≤ 1000 =
+    (let z = shallow_is (length c.store.activations + target.held + 2) shallow in
+    omega (arith, ap length stored, locals_count acts)) in
+    block_leads t fs program p q image s k flag c.frame.activation target.held true items c.store
+    (c.events ++ events.Finally (k + 1) true ∷ []) acts
+    (arrives_below t fs program p s k c.frame.activation 1 items acts a tt) c.frame.body
+    typed.stacked.above.funclet flagged fits memory stored
+    (unwind_space t fs program p s.memory (context_below a.back a.at []) a.is rest target
+    (Waits c.frame ∷ c.below) acts (a.on []).is_there.linked).space n
+    (λ m sp size. tt) (λ g kind. (flag, kind)) typed

@@ -1,0 +1,101 @@
+-- Where an instruction is that makes no frame, no funclet begins.
+use Rattle.std.proofs.Common.{◌≡◌, ℕ, ◌^◌, ◌<◌, ◌≤◌, Bool, true, false, List, [], ◌∷◌, length, Option, Some, None, refl, sym, ap, subst, ◌∙◌, arith, inl, inr}
+use Rattle.std.specs.Prelude.{slice_get}
+use Rattle.std.proofs.lemmas.Bool.{le-leb}
+use Rattle.std.proofs.lemmas.Option.{slice_get_cases}
+use Rattle.seh_num.specs.declared.width.Width.TheVariants.{W64}
+use Rattle.flat_memory.specs.Memory.{Memory, executable}
+use Rattle.x64_instr.specs.declared.register.Reg.TheVariants.{Rsp}
+use Rattle.x64_instr.specs.declared.operand.RegisterOrMemory.TheVariants as places
+use Rattle.x64_instr.specs.declared.operand.Operand.TheVariants as operands
+use Rattle.x64_instr.specs.declared.instruction.Operation.TheVariants as operations
+use Rattle.x64_instr.specs.declared.instruction.Instr.{Instr}
+use Rattle.x64_instr.specs.declared.instruction.Instr.TheVariants as instrs
+use Rattle.x64_instr.specs.Spelling.{leading}
+use Rattle.x64_encode.specs.Chosen.{chosen, is_encodable}
+use Rattle.x64_encode.proofs.Lengths.{longest}
+use Rattle.x64_machine.specs.declared.cpu.Cpu.{Cpu}
+use Rattle.x64_machine.specs.Effect.{State}
+use Rattle.virtual_unwind.specs.CallerOf.{Functions, distance}
+use Rattle.host_model.specs.declared.funclet.Funclet.{Funclet}
+use Rattle.host_model.specs.Funclets.{arrivals}
+use Rattle.host_model.specs.Dispatch.{no_flags}
+use Rattle.linear_code.specs.Program.{LinearProgram, LinearFunclet}
+use Rattle.linear_machine.specs.Frames.{FuncletBody, body_of, funclet_body}
+use Rattle.template_code.specs.Bytes.{size}
+use Rattle.template_code.specs.Calls.{enter_code}
+use Rattle.template_code.specs.Template.{code_from}
+use Rattle.x64_templates.specs.Straight.{takes_frame}
+use Rattle.x64_templates.specs.Runs.{HasCode}
+use Rattle.x64_templates.proofs.PlacedCode.{bytes_split, spells, reads}
+use Rattle.x64_templates.proofs.Computes.{code_split}
+use Rattle.x64_templates.proofs.Encoded.{near}
+use Rattle.match_stack.specs.ImagePlan.{ImagePlan}
+use Rattle.match_bodies.specs.CodeSites.{Sites, making, frame_code, arguments_code, entry_code, links_of}
+use Rattle.match_bodies.specs.Layouts.{IsFuncletPlan}
+use Rattle.match_bodies.specs.ProgramImages.{HasProgram, IsProgramImage}
+
+-- the first instruction of code that is somewhere is read there
+reads_first : (m : Memory) (at : ℕ) (j : Instr) → is_encodable j ≡ true → HasCode m at (j ∷ [])
+    → leading (executable m 15 at) ≡ Some (j, length (chosen j))
+unfolding size
+reads_first m at j fine code =
+    let parts = bytes_split m at (chosen j) [] code.is_there in
+    let l = code.placed.low in
+    let h = code.placed.high in
+    let s : State = record {
+      cpu = record { registers = []; rip = at; flags = no_flags };
+      memory = m;
+    } in
+    reads s j (chosen j) (spells j fine) (longest j) parts.0
+    (record { low = l; high = omega arith })
+
+abbrev taking : Option (Instr × ℕ) → Bool
+taking None = true
+taking (Some x) = takes_frame x.0
+
+never_both : (i j : Instr) (m n : ℕ) → ◌≡◌ {A = Option (Instr × ℕ)} (Some (i, m)) (Some (j, n))
+    → takes_frame i ≡ true → takes_frame j ≡ false → ⊥
+never_both i j m n e makes silent = let z : true ≡ false = sym makes ∙ ap taking e ∙ silent in
+    absurd cc
+
+made_at_once : (size at check : ℕ) (leaf : Bool) → leaf ≡ false → size ≤ 4096
+    → frame_code size at check leaf ≡ enter_code size
+made_at_once size at check leaf e small = ap (frame_code size at check) e
+    ∙ ap (making size at check) (le-leb size 4096 small)
+
+module _ (t : Functions) (fs : List Funclet) (program : LinearProgram) (p : ImagePlan) (q : Sites)
+    (image : IsProgramImage t fs program p q) where
+  -- a funclet begins with an instruction that makes its frame
+  makes_frame : (m : Memory) (k : ℕ) (f : LinearFunclet) (j : Instr)
+      → slice_get program.funclets k ≡ Some f → HasProgram t fs program p q m
+      → is_encodable j ≡ true → takes_frame j ≡ false → HasCode m (p.funclet k) (j ∷ []) → ⊥
+  makes_frame m k f j there has fine silent code =
+      let name = FuncletBody k in
+      let is : body_of program name ≡ Some f.body = ap funclet_body there in
+      let plan : IsFuncletPlan program p k f.body = image.laid_out name f.body is in
+      let small = plan.layout.small in
+      let y = p.layout name in
+      let first = frame_code y.frame (p.funclet k) q.check_stack (p.leaf name) in
+      let all = has.code name f.body is in
+      let entry = code_split m (p.funclet k) (entry_code program p q name)
+      (code_from (links_of p q name) y (p.address name 0) f.body.code) all in
+      let frame = code_split m (p.funclet k) first (arguments_code program p name) entry.0 in
+      let i = instrs.Arithmetic operations.Sub W64 (places.Register Rsp)
+      (operands.Immediate y.frame) in
+      let made : HasCode m (p.funclet k) (i ∷ []) = subst (HasCode m (p.funclet k))
+      (made_at_once y.frame (p.funclet k) q.check_stack (p.leaf name) plan.framed small)
+      frame.0 in
+      never_both i j (length (chosen i)) (length (chosen j))
+      (sym (reads_first m (p.funclet k) i (near y.frame (omega arith)) made)
+      ∙ reads_first m (p.funclet k) j fine code) refl silent
+
+  pub silent_code : (m : Memory) (at : ℕ) (j : Instr) (c : Cpu) → HasProgram t fs program p q m
+      → is_encodable j ≡ true → takes_frame j ≡ false → HasCode m at (j ∷ []) → at < 2 ^ 64
+      → arrivals c (distance t.base at) 1 fs ≡ []
+  silent_code m at j c has fine silent code small =
+      image.funclets.none at small (λ k inside e. elim (slice_get_cases program.funclets k).1 [
+        | inl x ↦ makes_frame m k x.0 j x.2 has fine silent
+            (subst (λ a. HasCode m a (j ∷ [])) e code)
+        | inr x ↦ let le = x.0 in absurd (omega arith)
+      ]) c

@@ -1,0 +1,212 @@
+-- A funclet's first turns: its frame is made, and keeps the base of its activation.
+use Rattle.std.proofs.Common.{◌≡◌, ℕ, ◌+◌, ◌-◌, ◌*◌, ◌^◌, ◌<◌, ◌≤◌, Some, None, List, [], ◌∷◌, ◌++◌, length, refl, sym, ap, subst, ◌∙◌, arith}
+use Rattle.std.specs.Prelude.{slice_index, drop, replicate}
+use Rattle.std.proofs.lemmas.Bool.{le-leb}
+use Rattle.host_layout.specs.declared.range.TheConstants.{STACK_START, STACK_END}
+use Rattle.flat_memory.specs.Memory.{Memory, number_at}
+use Rattle.x64_instr.specs.declared.register.Reg.TheVariants.{Rcx, Rdx, Rsp}
+use Rattle.x64_instr.specs.declared.instruction.Instr.{Instr}
+use Rattle.x64_machine.specs.declared.cpu.Flags.{Flags}
+use Rattle.x64_machine.specs.Effect.{State, register}
+use Rattle.virtual_unwind.specs.CallerOf.{Functions, distance}
+use Rattle.host_model.specs.declared.funclet.Funclet.{Funclet}
+use Rattle.host_model.specs.Funclets.{arrivals}
+use Rattle.linear_code.specs.Program.{LinearProgram}
+use Rattle.linear_machine.specs.Frames.{FuncletBody, body_of, funclet_body, Item}
+use Rattle.template_code.specs.declared.layout.Layout.{Layout}
+use Rattle.template_code.specs.Bytes.{sizes}
+use Rattle.template_code.specs.Calls.{enter_code}
+use Rattle.template_code.specs.Template.{code_from}
+use Rattle.template_code.proofs.Sizes.{sizes_append}
+use Rattle.x64_templates.specs.Straight.{MachineView, machine}
+use Rattle.x64_templates.specs.CallStates.{sp_of}
+use Rattle.x64_templates.specs.Runs.{HasCode, Enters}
+use Rattle.x64_templates.proofs.Computes.{code_split}
+use Rattle.x64_templates.proofs.FilterEntries.{Within, within_keeps_code}
+use Rattle.match_stack.specs.ImagePlan.{ImagePlan}
+use Rattle.match_stack.specs.ItemMatches.{Activation, below_end, record_room}
+use Rattle.match_stack.proofs.ListEnds.{in_stack}
+use Rattle.match_bodies.specs.CodeSites as sites
+use Rattle.match_bodies.specs.CodeSites.{Sites, links_of, making, frame_code, parent_base, keep_argument, funclet_arguments, arguments_code, entry_code}
+use Rattle.match_bodies.specs.ProgramImages.{HasProgram, IsMachineMemory, IsProgramImage}
+use Rattle.match_bodies.specs.BodyViews.{seen_by_templates}
+use Rattle.match_bodies.proofs.ActivationPlaces.{activations_are_at}
+use Rattle.match_bodies.proofs.BodyViews.{is_machine}
+use Rattle.match_bodies.proofs.TemplateRuns.{index_of, sp_seen}
+use Rattle.match_turns.proofs.FuncletPrologue.{LeadsBy, first_code, Made, HasRoom, made}
+use Rattle.match_turns.proofs.FuncletFrame.{ArrivesBelow, IsPlanned}
+use Rattle.template_code.specs.declared.layout.TheConstants.{LARGEST_FRAME}
+
+dropped_count : (rs : List ℕ) → length rs ≡ 16 → length (drop 3 rs) ≡ 13
+dropped_count [] e = absurd (omega arith)
+dropped_count (a ∷ []) e = absurd (omega arith)
+dropped_count (a ∷ b ∷ []) e = absurd (omega arith)
+dropped_count (a ∷ b ∷ c ∷ rs) e = omega arith
+
+module _ (t : Functions) (fs : List Funclet) (program : LinearProgram) (p : ImagePlan) (q : Sites)
+    (image : IsProgramImage t fs program p q) where
+  module _ (k : ℕ) (l : IsPlanned t fs program p q image k) where
+    abbrev y : Layout
+    y = p.layout (FuncletBody k)
+
+    abbrev slot : ℕ
+    slot = l.plan.layout.slot
+
+    abbrev is : body_of program (FuncletBody k) ≡ Some l.funclet.body
+    is = ap funclet_body l.there
+
+    frame_small : y.frame ≤ 4096
+    frame_small = l.plan.layout.small
+
+    abbrev pub front : List Instr
+    front = first_code y.frame (parent_base p l.funclet.parent) slot
+
+    abbrev pub last : List Instr
+    last = keep_argument y l.funclet.kind
+
+    entry_is : entry_code program p q (FuncletBody k) ≡ front ++ last
+    entry_is =
+        ap (λ f. frame_code y.frame (p.funclet k) q.check_stack f
+        ++ arguments_code program p (FuncletBody k)) l.plan.framed
+        ∙ ap (λ b. making y.frame (p.funclet k) q.check_stack b
+        ++ arguments_code program p (FuncletBody k)) (le-leb y.frame 4096 frame_small)
+        ∙ ap (λ o. enter_code y.frame ++ funclet_arguments p y o) l.there
+        ∙ ap (λ o. enter_code y.frame ++ (sites.keep_base (parent_base p l.funclet.parent)
+        (elim o [ Some b ↦ b | None ↦ 0 ]) ++ last)) l.plan.layout.base
+
+    pub entry_codes : (m : Memory) → HasProgram t fs program p q m
+        → HasCode m (p.funclet k) front × HasCode m (p.funclet k + sizes front) last
+    entry_codes m has =
+        let h = code_split m (p.funclet k) (entry_code program p q (FuncletBody k))
+        (code_from (links_of p q (FuncletBody k)) y (p.address (FuncletBody k) 0)
+        l.funclet.body.code) (has.code (FuncletBody k) l.funclet.body is) in
+        code_split m (p.funclet k) front last (subst (HasCode m (p.funclet k)) entry_is h.0)
+
+    pub first_is : p.address (FuncletBody k) 0 ≡ p.funclet k + sizes front + sizes last
+    first_is =
+        let a = image.addresses (FuncletBody k) l.funclet.body is in
+        omega (arith, a.first, ap sizes entry_is, sizes_append front last)
+
+    pub first_small : p.address (FuncletBody k) 0 < 2 ^ 64
+    first_small = let h = (image.addresses (FuncletBody k) l.funclet.body is).inside.high in
+        omega arith
+
+    -- no funclet begins at the first instruction
+    pub silent_there : (u : State) → u.cpu.rip ≡ p.address (FuncletBody k) 0
+        → 0 < length l.funclet.body.code → arrivals u.cpu (distance t.base u.cpu.rip) 1 fs ≡ []
+    silent_there u here some =
+        let a = image.addresses (FuncletBody k) l.funclet.body is in
+        subst (λ r. arrivals u.cpu (distance t.base r) 1 fs ≡ []) (sym here)
+        (image.funclets.none (p.address (FuncletBody k) 0) first_small
+        (λ j inside e. a.not_first 0 j some inside e) u.cpu)
+
+  -- the state after these turns: RSP is at the frame, which keeps the base, and the rest of the
+  -- entry follows
+  pub record HasEntered (s : State) (k : ℕ) (l : IsPlanned t fs program p q image k) (base : ℕ) : Type
+      0 where
+    pub sp : ℕ
+    pub sp_is : register s.cpu Rsp ≡ sp + (p.layout (FuncletBody k)).frame
+    pub low : STACK_START ≤ sp
+    pub top : sp + (p.layout (FuncletBody k)).frame + 8 ≤ STACK_END
+    pub turns : ℕ
+    pub exact : turns ≡ length (front k l)
+    pub few : turns ≤ 3
+    pub after : MachineView
+    pub rip : ℕ
+    pub flags : Flags
+    pub comes : Enters turns s (machine after rip flags)
+    pub at : sp_of after ≡ sp
+    pub stack : slice_index after.rest 1 ≡ sp
+    pub rcx : after.rcx ≡ register s.cpu Rcx
+    pub number : number_at after.memory.byte 8 (sp + l.plan.layout.slot) ≡ base
+    pub within : Within sp (sp + (p.layout (FuncletBody k)).frame) s.memory after.memory
+    pub code : HasCode after.memory rip (last k l)
+    pub place : rip + sizes (last k l) ≡ p.address (FuncletBody k) 0
+
+  -- the frame, and the base in it
+  module _ (s : State) (k first activation : ℕ) (items : List Item) (acts : List Activation)
+      (l : IsPlanned t fs program p q image k) (a : ArrivesBelow t fs program p s k activation first
+      items acts) (source : Memory) (memory : IsMachineMemory t fs program p q s.memory source)
+      (depth : ℕ) (space : STACK_END ≤ a.at + (below_end + record_room) + LARGEST_FRAME * depth)
+      (shallow : depth + 2 ≤ 1000) (leads : LeadsBy s.memory (parent_base p l.funclet.parent)
+      (register s.cpu Rdx) a.reaches.base) where
+    abbrev frame : ℕ
+    frame = (p.layout (FuncletBody k)).frame
+
+    abbrev pub sp : ℕ
+    sp = register s.cpu Rsp - frame
+
+    abbrev pub v : MachineView
+    v = seen_by_templates s
+
+    pub top : a.at ≤ STACK_END
+    top = in_stack t fs program p s.memory _ a.is items acts
+        (a.on (replicate 8 0) refl).is_there.stack (a.on (replicate 8 0) refl).is_there.linked
+
+    pub low : STACK_START + LARGEST_FRAME ≤ register s.cpu Rsp
+    low = let e = a.stack in omega (arith, space, shallow)
+
+    pub sp_is : register s.cpu Rsp ≡ sp + frame
+    sp_is = let e = low in let f = l.plan.layout.small in omega arith
+
+    pub base_small : a.reaches.base < 2 ^ 64
+    base_small = let r = activations_are_at t fs program p s.memory _ a.is items acts activation
+        a.reaches.base _ (a.on (replicate 8 0) refl).is_there a.reaches.activation in
+        let h = r.high_end in omega arith
+
+    pub room : HasRoom v sp frame (l.plan.layout.slot)
+    room =
+        let e = a.stack in
+        let f = top in
+        let g = low in
+        let h = sp_is in
+        let x = l.plan.layout.small in
+        let z = l.plan.layout.kept in
+        let w = l.plan.layout.temporaries in
+        record {
+          count = dropped_count s.cpu.registers a.well_formed.count;
+          at = sp_seen s ∙ sp_is;
+          high = omega arith;
+          small = x;
+          inside = omega arith;
+          writable = λ b c d. memory.stack b (omega arith) (omega arith);
+        }
+
+    abbrev pub run : Made (parent_base p l.funclet.parent) v sp frame (l.plan.layout.slot)
+        a.reaches.base s.cpu.rip (s.cpu.rip + sizes (front k l)) s.cpu.flags
+    run = made (parent_base p l.funclet.parent) v sp frame (l.plan.layout.slot) a.reaches.base
+        s.cpu.rip s.cpu.flags room base_small leads
+        (subst (λ r. HasCode s.memory r (front k l)) (sym a.rip)
+        (entry_codes k l s.memory memory.code).0)
+
+    pub rest_code : HasCode run.after.memory (s.cpu.rip + sizes (front k l)) (last k l)
+    rest_code = within_keeps_code sp (sp + frame) s.memory run.after.memory
+        (s.cpu.rip + sizes (front k l)) (last k l) room.writable run.within
+        (subst (λ r. HasCode s.memory (r + sizes (front k l)) (last k l)) (sym a.rip)
+        (entry_codes k l s.memory memory.code).1)
+
+    pub place : s.cpu.rip + sizes (front k l) + sizes (last k l) ≡ p.address (FuncletBody k) 0
+    place = let e = first_is k l in let f = a.rip in omega arith
+
+    pub entered : HasEntered s k l a.reaches.base
+    entered = record {
+      sp = sp;
+      sp_is = sp_is;
+      low = (let e = low in let f = sp_is in let g = l.plan.layout.small in omega arith);
+      top = (let e = top in let f = a.stack in let g = sp_is in omega arith);
+      turns = run.turns;
+      exact = run.exact;
+      few = run.few;
+      after = run.after;
+      rip = s.cpu.rip + sizes (front k l);
+      flags = run.flags;
+      comes = subst (λ x. Enters run.turns x (machine run.after (s.cpu.rip + sizes (front k l))
+          run.flags)) (sym (is_machine s a.well_formed.count)) run.comes;
+      at = run.lowered;
+      stack = sym (index_of run.after.rest 1) ∙ run.lowered;
+      rcx = run.rcx;
+      number = run.number;
+      within = run.within;
+      code = rest_code;
+      place = place;
+    }

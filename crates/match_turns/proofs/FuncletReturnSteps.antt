@@ -1,0 +1,109 @@
+-- A funclet returns, by what waits below it.
+use Rattle.std.proofs.Common.{◌≡◌, ℕ, zero, Option, Some, None, List, [], ◌∷◌, refl, subst, inl}
+use Rattle.std.specs.Prelude.{slice_get}
+use Rattle.x64_machine.specs.Effect.{State}
+use Rattle.virtual_unwind.specs.CallerOf.{Functions}
+use Rattle.host_model.specs.declared.funclet.Funclet.{Funclet}
+use Rattle.linear_code.specs.declared.slot.Slot.{Slot}
+use Rattle.linear_code.specs.declared.instruction.Instruction.TheVariants as instructions
+use Rattle.linear_code.specs.Program.{LinearProgram, LinearFunclet}
+use Rattle.linear_machine.specs.Frames.{FuncletBody, Item, Waits, Searches, Unwinds, Configuration, read}
+use Rattle.linear_machine.specs.Instructions.{act}
+use Rattle.linear_machine.specs.Run.{instruction_at, exec}
+use Rattle.match_stack.specs.ImagePlan.{ImagePlan}
+use Rattle.match_stack.specs.ItemMatches.{FuncletIsAbove, IsAbove}
+use Rattle.match_runs.specs.Ends.{HasRule}
+use Rattle.match_runs.specs.Matched.{Moves, IsMatched}
+use Rattle.match_bodies.specs.CodeSites.{Sites}
+use Rattle.match_bodies.specs.Bodies.{turns_left, RepresentsAt}
+use Rattle.match_bodies.specs.ProgramImages.{IsProgramImage}
+use Rattle.match_bodies.specs.ConfigurationFacts.{IsWellMade, IsKnown, KnownNext}
+use Rattle.match_bodies.specs.StepLaws.{turns_per_step}
+use Rattle.match_bodies.proofs.StepNeeds.{counted_here, code_at, ready_here}
+use Rattle.match_turns.specs.FuncletEntry.{FlagsFit}
+use Rattle.match_turns.proofs.FuncletSteps.{reads_some, returns_of_blocks_are_matched}
+use Rattle.match_turns.specs.DispatchOutcome.{Represents}
+use Rattle.match_turns.specs.ExceptionContinuation.{Continuations}
+use Rattle.match_turns.specs.EndLaws.{FuncletReturnsAreMatched}
+use Rattle.match_turns.proofs.FuncletReturn.{filter_returns, block_returns}
+
+module _ (t : Functions) (fs : List Funclet) (program : LinearProgram) (p : ImagePlan) (q : Sites)
+    (image : IsProgramImage t fs program p q) (made : IsWellMade program p)
+    (fits : FlagsFit program) (continues : Continuations t fs program p q) where
+  module _ (s : State) (c : Configuration) (k : ℕ) (from : Slot) (b : RepresentsAt t fs program p q s c)
+      (known : IsKnown program c) (name : c.frame.body ≡ FuncletBody k)
+      (at : instruction_at program c ≡ Some (instructions.Return from))
+      (rule : HasRule (act program (instructions.Return from) (exec program zero) c))
+      (after : KnownNext program c (instructions.Return from)) where
+    abbrev Goal : Type 0
+    Goal = IsMatched t fs program turns_per_step turns_left (Represents t fs program p q) s c
+        (instructions.Return from)
+
+    value : (x : ℕ) × (read c from ≡ Some x)
+    value = reads_some c from (ready_here t fs program p q image made s c b known
+        (instructions.Return from) at)
+
+    moves_on : Moves t fs program turns_per_step turns_left (RepresentsAt t fs program p q) s c
+        (instructions.Return from) → Goal
+    moves_on m = inl (record {
+      turns = m.turns;
+      some = m.some;
+      configuration = m.configuration;
+      few = m.few;
+      state = m.state;
+      events = m.events;
+      comes = m.comes;
+      acts = m.acts;
+      shown = m.shown;
+      is_there = inl m.is_there;
+    })
+
+    module _ (g : LinearFunclet) (there : slice_get program.funclets k ≡ Some g) where
+      by_list : (items : List Item) → c.below ≡ items
+          → FuncletIsAbove t fs program p k c.frame (Some g) items → Goal
+      by_list [] e h = absurd h
+      by_list (Searches exception resumption asked rest ∷ []) e h = absurd h
+      by_list (Searches exception resumption asked rest ∷ Searches x y z w ∷ below) e h = absurd h
+      by_list (Searches exception resumption asked rest ∷ Unwinds x y ∷ below) e h = absurd h
+      by_list (Searches exception resumption asked rest ∷ Waits w ∷ below) e h =
+          filter_returns t fs program p q image made.room s c b
+          (counted_here t fs program p q image made c known) k name from
+          (code_at t fs program p q image made s c b known (instructions.Return from) at)
+          value.0 value.1 g there rule after fits continues h.0 exception resumption asked rest w
+          below e known.stacked.below
+      by_list (Unwinds rest target ∷ []) e h = absurd h
+      by_list (Unwinds rest target ∷ Searches x y z w ∷ below) e h = absurd h
+      by_list (Unwinds rest target ∷ Unwinds x y ∷ below) e h = absurd h
+      by_list (Unwinds rest target ∷ Waits f ∷ below) e h =
+          block_returns t fs program p q image made.room s c b
+          (counted_here t fs program p q image made c known) k name from
+          (code_at t fs program p q image made s c b known (instructions.Return from) at)
+          value.0 value.1 g there rule after fits h.0 h.1 rest target f below e known.stacked.below
+      by_list (Waits w ∷ below) e h =
+          moves_on (returns_of_blocks_are_matched t fs program p q image made s c from b known at
+          (record {
+            number = k;
+            name = name;
+            funclet = g;
+            there = there;
+            flag = h.0;
+            kind = h.1;
+            body = w;
+            items = below;
+            below = e;
+          }))
+
+    by_funclet : (o : Option LinearFunclet) → slice_get program.funclets k ≡ o
+        → FuncletIsAbove t fs program p k c.frame o c.below → Goal
+    by_funclet None there h = absurd h
+    by_funclet (Some g) there h = by_list g there c.below refl h
+
+    pub returned : Goal
+    returned = by_funclet (slice_get program.funclets k) refl
+        (subst (λ x. IsAbove t fs program p c.frame x c.below) name b.body.above)
+
+pub funclet_returns_are_matched : FuncletReturnsAreMatched
+funclet_returns_are_matched t fs program p q image made fits continues s c k from b known name at
+    rule after =
+    returned t fs program p q image made fits continues s c k from b known name at rule
+    after

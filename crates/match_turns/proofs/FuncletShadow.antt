@@ -1,0 +1,76 @@
+-- A funclet's frame is made and its arguments are stored, and the shadow is kept.
+use Rattle.std.proofs.Common.{◌≡◌, ℕ, ◌+◌, ◌^◌, ◌<◌, ◌≤◌, Option, Some, None, List, ◌++◌, length, refl, sym, ap, ◌∙◌, arith}
+use Rattle.std.specs.Prelude.{if◌then◌else◌}
+use Rattle.std.proofs.lemmas.Bool.{le-leb}
+use Rattle.host_layout.specs.declared.range.TheConstants.{STACK_START, STACK_END}
+use Rattle.flat_memory.specs.Memory.{Memory}
+use Rattle.x64_instr.specs.declared.register.Reg.TheVariants.{Rsp}
+use Rattle.x64_instr.specs.declared.instruction.Instr.{Instr}
+use Rattle.x64_machine.specs.Effect.{State, register}
+use Rattle.virtual_unwind.specs.CallerOf.{Functions}
+use Rattle.host_model.specs.declared.funclet.Funclet.{Funclet}
+use Rattle.linear_code.specs.Program.{LinearProgram}
+use Rattle.linear_machine.specs.Frames.{FuncletBody, funclet_body, Item}
+use Rattle.match_stack.specs.ImagePlan.{ImagePlan}
+use Rattle.match_stack.specs.ItemMatches.{Activation}
+use Rattle.match_bodies.specs.CodeSites.{Sites, parent_base, keep_base, keep_argument, funclet_arguments, arguments_code}
+use Rattle.match_bodies.specs.ProgramImages.{IsMachineMemory, IsProgramImage}
+use Rattle.match_bodies.proofs.InstructionEffects.{others_of}
+use Rattle.match_bodies.proofs.RoutineWalks.{StepsTo, AllPlain}
+use Rattle.match_bodies.proofs.FrameMaking.{making_steps}
+use Rattle.match_bodies.proofs.EntryKeeping.{EntryRan, entry_ran, base_plain}
+use Rattle.match_turns.proofs.FuncletPrologue.{LeadsBy}
+use Rattle.match_turns.proofs.FuncletFrame.{ArrivesBelow, IsPlanned}
+use Rattle.match_turns.proofs.ReturnAddressPlace.{arrives_beneath}
+
+-- the parent's base is near, where it is kept in a frame
+pub near_parent : (m : Memory) (o : Option ℕ) (frame base : ℕ) → LeadsBy m o frame base → (away : ℕ)
+    → o ≡ Some away → away < 2 ^ 31
+near_parent m None frame base leads away e = absurd cc
+near_parent m (Some x) frame base leads away e = let same : x ≡ away = cc in let n = leads.near in
+    omega arith
+
+module _ (t : Functions) (fs : List Funclet) (program : LinearProgram) (p : ImagePlan) (q : Sites)
+    (image : IsProgramImage t fs program p q) where
+  module _ (s : State) (k activation argument : ℕ) (items : List Item) (acts : List Activation)
+      (l : IsPlanned t fs program p q image k) (a : ArrivesBelow t fs program p s k activation argument
+      items acts) (source : Memory) (memory : IsMachineMemory t fs program p q s.memory source)
+      (some : 0 < length l.funclet.body.code) (low : STACK_START ≤ register s.cpu Rsp)
+      (high : a.at ≤ STACK_END) (frame base : ℕ)
+      (leads : LeadsBy s.memory (parent_base p l.funclet.parent) frame base) where
+    abbrev pub base_code : List Instr
+    base_code = keep_base (parent_base p l.funclet.parent) l.plan.layout.slot
+
+    pub arguments_are : arguments_code program p (FuncletBody k)
+        ≡ base_code ++ keep_argument (p.layout (FuncletBody k)) l.funclet.kind
+    arguments_are =
+        ap (λ o. funclet_arguments p (p.layout (FuncletBody k)) o) l.there
+        ∙ ap (λ o. keep_base (parent_base p l.funclet.parent) (elim o [ Some b ↦ b | None ↦ 0 ])
+        ++ keep_argument (p.layout (FuncletBody k)) l.funclet.kind) l.plan.layout.base
+
+    pub base_is_plain : AllPlain (p.layout (FuncletBody k)).frame 8 base_code
+    base_is_plain =
+        let x = l.plan.layout.small in
+        let z = l.plan.layout.kept in
+        let w = l.plan.layout.temporaries in
+        base_plain (p.layout (FuncletBody k)).frame 8 (parent_base p l.funclet.parent)
+        l.plan.layout.slot (near_parent s.memory (parent_base p l.funclet.parent) frame base
+        leads) (omega arith) (omega arith)
+
+    pub funclet_ran : (n : ℕ) (w : State) (stored left : List Instr)
+        → arguments_code program p (FuncletBody k) ≡ stored ++ left → n ≡ 1 + length stored
+        → StepsTo n s w → AllPlain (p.layout (FuncletBody k)).frame 8 stored
+        → EntryRan t fs program p q image (FuncletBody k) l.funclet.body (ap funclet_body l.there)
+        some (register s.cpu Rsp) (register s.cpu Rsp + 8) a.back (others_of s.cpu.registers) a.is
+        n s w stored
+    funclet_ran n w stored left parts count run plain =
+        let small = l.plan.layout.small in
+        let one : making_steps (p.leaf (FuncletBody k)) (p.layout (FuncletBody k)).frame ≡ 1 =
+        ap (λ leaf. making_steps leaf (p.layout (FuncletBody k)).frame) l.plan.framed
+        ∙ ap (λ x. if x then 1 else 8) (le-leb (p.layout (FuncletBody k)).frame 4096 small) in
+        entry_ran t fs program p q image (FuncletBody k) l.funclet.body (ap funclet_body l.there)
+        some (register s.cpu Rsp) (register s.cpu Rsp + 8) a.back (others_of s.cpu.registers) a.is
+        n s w stored left 8 parts
+        (count ∙ ap (λ x. x + length stored) (sym one)) run a.rip refl
+        (arrives_beneath t fs program p q image s k activation argument items acts a high)
+        memory.code (omega arith) (omega arith) refl plain

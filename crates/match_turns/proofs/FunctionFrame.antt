@@ -1,0 +1,138 @@
+-- A function begins: its frame is below its return address, and on top of what waits.
+use Rattle.std.proofs.Common.{◌≡◌, ℕ, suc, ◌+◌, ◌<◌, ◌≤◌, Bool, true, false, Some, None, Ok, List, [], ◌∷◌, length, refl, arith}
+use Rattle.std.specs.List.{AllByRecursion}
+use Rattle.seh_num.specs.declared.event.Event.{Event}
+use Rattle.host_layout.specs.declared.range.TheConstants.{STACK_END}
+use Rattle.flat_memory.specs.Memory.{Memory}
+use Rattle.x64_instr.specs.declared.register.Reg.TheVariants.{Rsp}
+use Rattle.x64_machine.specs.Contexts.{context_of}
+use Rattle.x64_machine.specs.Effect.{State, register}
+use Rattle.virtual_unwind.specs.CallerOf.{Functions}
+use Rattle.virtual_unwind.specs.Undone.{word}
+use Rattle.host_model.specs.declared.funclet.Funclet.{Funclet}
+use Rattle.source_meaning.specs.Expressions.{no_exception}
+use Rattle.linear_code.specs.declared.program.Region.{Region}
+use Rattle.linear_code.specs.Program.{LinearProgram, LinearBody}
+use Rattle.linear_machine.specs.Frames.{FunctionBody, body_of, Item, Waits, Searches, Unwinds}
+use Rattle.linear_machine.specs.Regions.{holds, regions_of}
+use Rattle.template_code.specs.declared.layout.Layout.{Layout}
+use Rattle.match_stack.specs.Stack.{StackItem}
+use Rattle.match_stack.specs.WalkLaws.{context_below}
+use Rattle.match_stack.specs.ImagePlan.{ImagePlan}
+use Rattle.match_stack.specs.ItemMatches.{Activation, locals_of, HasSpace, below_end, HoldsWords, home_end, BodyWaits, HasPointers, FunctionIsAbove, ReturnsTo}
+use Rattle.match_stack.specs.StackRecords.{On}
+use Rattle.match_stack.specs.DispatchStates.{IsWellFormed}
+use Rattle.match_bodies.specs.CodeSites.{Sites}
+use Rattle.match_bodies.specs.Layouts.{IsLayoutIf}
+use Rattle.match_bodies.specs.ProgramImages.{IsMachineMemory, IsProgramImage}
+use Rattle.match_bodies.specs.Bodies.{slots_end, last_temporary, RepresentsAt}
+use Rattle.match_bodies.proofs.ActivationPlaces.{locals_count}
+use Rattle.match_turns.specs.CallOutcome.{begun}
+use Rattle.match_turns.proofs.CallResult.{nothing}
+
+pub same_itself : (rs : List Region) (label : ℕ)
+    → AllByRecursion (λ (r : Region). holds label r ≡ holds label r) rs
+same_itself [] label = tt
+same_itself (r ∷ rs) label = (refl, same_itself rs label)
+
+count_of_locals : (acts : List Activation) → length (locals_of acts) ≡ length acts
+count_of_locals acts = locals_count acts
+
+module _ (t : Functions) (fs : List Funclet) (program : LinearProgram) (p : ImagePlan) (q : Sites)
+    (image : IsProgramImage t fs program p q) where
+  no_pointers : (m : Memory) (y : Layout) (sp size : ℕ) (items : List Item)
+      → FunctionIsAbove t fs program p items → HasPointers t fs program p m y sp size items
+  no_pointers m y sp size [] h = tt
+  no_pointers m y sp size (Waits w ∷ below) h = tt
+  no_pointers m y sp size (Searches exception resumption asked rest ∷ below) h = absurd h
+  no_pointers m y sp size (Unwinds rest target ∷ below) h = absurd h
+
+  module _ (z : State) (source : Memory) (f : ℕ) (o : LinearBody)
+      (there : body_of program (FunctionBody f) ≡ Some o) (items : List Item)
+      (acts : List Activation) (held : ℕ) (es : List Event) (values : List ℕ)
+      (well_formed : IsWellFormed z) (memory : IsMachineMemory t fs program p q z.memory source)
+      (rip : z.cpu.rip ≡ p.address (FunctionBody f) 0) (some : 0 < length o.code)
+      (space : HasSpace (register z.cpu Rsp) below_end (suc (length acts) + held))
+      (function : FunctionIsAbove t fs program p items)
+      (home : p.leaf (FunctionBody f) ≡ true → register z.cpu Rsp + home_end ≤ STACK_END)
+      (back : ℕ) (returns_to : ReturnsTo t fs program p items back)
+      (returns : word z.memory (register z.cpu Rsp + (p.layout (FunctionBody f)).frame) ≡ Ok back)
+      (numbers : HoldsWords z.memory (register z.cpu Rsp + (p.layout (FunctionBody f)).locals)
+      (register z.cpu Rsp + slots_end (p.layout (FunctionBody f)) (p.leaf (FunctionBody f)))
+      values)
+      (is : List StackItem)
+      (below : (others : List ℕ) → length others ≡ 8
+      → On t fs program p z.memory (context_below back
+      (register z.cpu Rsp + (p.layout (FunctionBody f)).frame + 8) others) is items acts) where
+    abbrev y : Layout
+    y = p.layout (FunctionBody f)
+
+    abbrev sp : ℕ
+    sp = register z.cpu Rsp
+
+    abbrev own : Activation
+    own = record { base = sp; distance = y.locals; values = values }
+
+    abbrev HasPlan : Bool → Type 0
+    HasPlan leaf = IsLayoutIf program p y o leaf
+
+    no_base : (leaf : Bool) → HasPlan leaf → y.base ≡ None
+    no_base true l = l.none
+    no_base false l = l.none
+
+    room : (leaf : Bool) → HasPlan leaf → y.temporaries ≤ last_temporary y (FunctionBody f) leaf
+    room true l = let a = l.temporaries in let b = l.few in omega arith
+    room false l = let a = l.temporaries in omega arith
+
+    slots : BodyWaits t fs program p z.memory (context_of z.cpu)
+        (slots_end y (p.leaf (FunctionBody f)))
+        (last_temporary y (FunctionBody f) (p.leaf (FunctionBody f)))
+        (record {
+          body = FunctionBody f;
+          next = 0;
+          activation = length (locals_of acts);
+          exception = no_exception;
+          held = held;
+          temporaries = [];
+          landed = None;
+        }) (own ∷ acts)
+    slots =
+        let planned = image.laid_out (FunctionBody f) o there in
+        let rises = (image.addresses (FunctionBody f) o there).rises 0 some in
+        record {
+          code = o;
+          body = there;
+          label = 0;
+          instruction = record { low = omega (arith, rip); high = omega (arith, rip, rises) };
+          same = same_itself (regions_of (body_of program (FunctionBody f))) 0;
+          small = well_formed.rip_small;
+          activation = record {
+            none = no_base (p.leaf (FunctionBody f)) planned;
+            activation = record { number = count_of_locals acts; base = refl; distance = refl };
+            values = numbers;
+          };
+          temporaries = (let r = room (p.leaf (FunctionBody f)) planned in omega arith);
+          space = space;
+        }
+
+    pub function_begins : RepresentsAt t fs program p q z
+        (begun f values held items source (locals_of acts) es)
+    function_begins = record {
+      rip = rip;
+      well_formed = well_formed;
+      memory = memory;
+      body = record {
+        acts = own ∷ acts;
+        store = refl;
+        slots = slots;
+        pointers = no_pointers z.memory y sp y.frame items function;
+        above = function;
+        home = home;
+        back = back;
+        returns_to = returns_to;
+        returns = returns;
+        is = is;
+        below = below;
+      };
+      landed = λ code e. absurd (nothing None code refl e);
+    }

@@ -1,0 +1,252 @@
+-- A function returns: to the body that waits for it, or out of `main`.
+use Rattle.std.proofs.Common.{◌≡◌, ◌≢◌, ℕ, ◌+◌, ◌<◌, Some, None, List, [], ◌∷◌, length, refl, sym, ap, subst, ◌∙◌, arith, length-append}
+use Rattle.std.specs.Prelude.{get_or, slice_get, replicate}
+use Rattle.std.proofs.lemmas.List.{append-nil, length-drop}
+use Rattle.std.proofs.lemmas.Option.{slice_get-get_or}
+use Rattle.seh_num.specs.declared.width.Width.TheVariants.{W32}
+use Rattle.seh_num.specs.Widths.{signed}
+use Rattle.x64_instr.specs.declared.register.Reg.TheVariants.{Rsp}
+use Rattle.x64_machine.specs.declared.context.Context.{Context}
+use Rattle.x64_machine.specs.Effect.{State, register}
+use Rattle.virtual_unwind.specs.CallerOf.{Functions, distance}
+use Rattle.host_model.specs.declared.funclet.Funclet.{Funclet}
+use Rattle.host_model.specs.Funclets.{arrivals}
+use Rattle.linear_code.specs.declared.slot.Slot.{Slot}
+use Rattle.linear_code.specs.declared.instruction.Instruction.TheVariants as instructions
+use Rattle.linear_code.specs.declared.program.FuncletKind.TheVariants as kinds
+use Rattle.linear_code.specs.Program.{LinearProgram, LinearBody, LinearFunclet}
+use Rattle.linear_machine.specs.Frames.{FunctionBody, FuncletBody, body_of, funclet_body, Frame, Item, Waits, Store, Configuration, Finished, Next, with_some, read}
+use Rattle.linear_machine.specs.Run.{instruction_in}
+use Rattle.linear_machine.specs.Unwinding.{left_store}
+use Rattle.linear_machine.specs.Instructions.{return, end_body, act}
+use Rattle.source_meaning.specs.declared.ended.Ended.TheVariants as ends
+use Rattle.template_code.specs.declared.layout.Layout.{Layout}
+use Rattle.template_code.specs.Calls.{return_code}
+use Rattle.x64_templates.specs.Straight.{MachineView, machine}
+use Rattle.x64_templates.specs.CallStates.{HasBack, with_sp, moved}
+use Rattle.x64_templates.specs.Returned.{Returned}
+use Rattle.x64_templates.specs.Runs.{Reaches}
+use Rattle.x64_templates.proofs.PlacedCode.{reaches_then}
+use Rattle.x64_templates.proofs.Returns.{sp_moved}
+use Rattle.match_stack.specs.WalkLaws.{context_below}
+use Rattle.match_stack.specs.ImagePlan.{ImagePlan}
+use Rattle.match_stack.specs.ItemMatches.{Activation, activations_below, return_of, ReturnsTo}
+use Rattle.match_stack.specs.StackRecords.{On}
+use Rattle.match_stack.specs.HostUnwind.{store_of, on_top}
+use Rattle.match_stack.proofs.UnwindBlocks.{left_activations}
+use Rattle.match_stack.specs.DispatchStates.{IsWellFormed}
+use Rattle.match_runs.specs.Shadow.{AllKeep}
+use Rattle.match_runs.specs.Matched.{Moves, Exits}
+use Rattle.lowering_invariants.specs.Room.{HaveRoom}
+use Rattle.match_bodies.specs.CodeSites.{Sites}
+use Rattle.match_bodies.specs.Bodies.{held_below, turns_left, slots_end, RepresentsAt}
+use Rattle.match_bodies.specs.ProgramImages.{IsProgramImage}
+use Rattle.match_bodies.proofs.StackWalks.{keep_then}
+use Rattle.match_bodies.proofs.SilentTurns.{reaches_silently}
+use Rattle.match_bodies.proofs.ChainKeeping.{reaches_keeps, stays_well_formed}
+use Rattle.match_bodies.proofs.BodyViews.{IsCounted}
+use Rattle.match_bodies.proofs.TemplateRuns.{v, slots, same_state, index_of}
+use Rattle.match_turns.proofs.CallResult.{IsSurrounded, answered}
+use Rattle.match_turns.proofs.CallReturn.{returns_at, resumes}
+use Rattle.match_turns.proofs.BodyReturn as leaving
+
+module _ (t : Functions) (fs : List Funclet) (program : LinearProgram) (p : ImagePlan) (q : Sites)
+    (image : IsProgramImage t fs program p q) (roomy : HaveRoom program) where
+  module _ (s : State) (c : Configuration) (b : RepresentsAt t fs program p q s c)
+      (counted : IsCounted t fs program p q image c) (f : ℕ)
+      (function : c.frame.body ≡ FunctionBody f) (from : Slot)
+      (at : slice_get b.body.slots.code.code c.frame.next ≡ Some (instructions.Return from)) (x : ℕ)
+      (reads : read c from ≡ Some x) where
+    abbrev layout : Layout
+    layout = p.layout c.frame.body
+
+    abbrev sp : ℕ
+    sp = register s.cpu Rsp
+
+    abbrev back : ℕ
+    back = b.body.back
+
+    abbrev n : ℕ
+    n = length (return_code layout from)
+
+    has_back : HasBack s.memory (sp + layout.frame) back
+    has_back = leaving.has_back t fs program p q image roomy s c b counted from at
+
+    abbrev view : MachineView
+    view = v t fs program p q image roomy s c b counted
+
+    -- the state after it
+    pub run : Returned n view (sp + layout.frame + 8) back
+        ((slots t fs program p q image roomy s c b counted).slots from) s.cpu.rip s.cpu.flags
+    run = leaving.run t fs program p q image roomy s c b counted from at
+
+    abbrev after_view : ℕ → MachineView
+    after_view r = record {
+      rax = r;
+      rcx = view.rcx;
+      rdx = view.rdx;
+      rest = view.rest;
+      memory = view.memory;
+    }
+
+    abbrev pub after : State
+    after = machine (moved (after_view x) (sp + layout.frame + 8)) back run.flags
+
+    pub reaches : Reaches n s after
+    reaches =
+        subst (λ z. Reaches n z after) (sym (same_state t fs program p q image roomy s c b counted))
+        (subst (λ r. Reaches n (machine view s.cpu.rip s.cpu.flags)
+        (machine (moved (after_view r) (sp + layout.frame + 8)) back run.flags))
+        (leaving.result_is t fs program p q image roomy s c b counted from at x reads) run.comes)
+
+    pub sp_after : register after.cpu Rsp ≡ sp + layout.frame + 8
+    sp_after = sym (index_of (with_sp view.rest (sp + layout.frame + 8)) 1)
+        ∙ sp_moved view (sp + layout.frame + 8)
+        (length-drop 3 s.cpu.registers ∙ (let k = b.well_formed.count in omega arith))
+
+    well_formed_after : IsWellFormed after
+    well_formed_after = stays_well_formed s after (reaches_keeps n s after reaches) has_back.small b.well_formed
+
+    -- each turn keeps the shadow
+    keeps : AllKeep t fs n s
+    keeps = leaving.keeps t fs program p q image roomy s c b counted from at
+
+    -- linear code leaves the function's locals
+    left : left_store c.frame.body c.frame.activation c.store
+        ≡ store_of c.store.memory (activations_below c.frame.body b.body.acts)
+    left =
+        ap (λ (xs : List (List ℕ)). let o : Store =
+        record { memory = c.store.memory; activations = xs } in
+        left_store c.frame.body c.frame.activation o) b.body.store
+        ∙ left_activations s.memory c.store.memory layout sp
+        (slots_end layout (p.leaf c.frame.body)) c.frame.activation b.body.acts c.frame.body
+        b.body.slots.activation
+
+    acts_as : (next : Next) → act program (instructions.Return from) next c
+        ≡ return next x c.below c.events (store_of c.store.memory
+        (activations_below c.frame.body b.body.acts))
+    unfolding with_some
+    acts_as next =
+        ap (λ o. with_some c.events o (λ v. end_body program next c.frame.body v c)) reads
+        ∙ ap (λ name. end_body program next name x c) function
+        ∙ ap (return next x c.below c.events) left
+
+    -- ---- out of `main`
+
+    first_is_high : (k : ℕ) → k < length program.funclets → 0 ≢ p.funclet k
+    first_is_high k lt e =
+        let g = slice_get-get_or program.funclets k other lt in
+        let a = image.addresses (FuncletBody k) (get_or program.funclets k other).body
+        (ap funclet_body g) in
+        let low = a.inside.low in
+        absurd (omega (arith, e))
+      where
+        other : LinearFunclet
+        other = record {
+          kind = kinds.Filter;
+          function = 0;
+          parent = None;
+          body = record { locals = 0; temporaries = 0; passed = 0; code = []; regions = [] };
+        }
+
+    pub exits : c.below ≡ [] → Exits t fs program 16 turns_left s c (instructions.Return from)
+    exits none =
+        let few = (leaving.returns_soon layout from).1 in
+        let over : back ≡ 0 = subst (λ items. ReturnsTo t fs program p items back) none
+        b.body.returns_to in
+        record {
+          turns = n;
+          few = omega arith;
+          state = after;
+          events = [];
+          comes = reaches_silently t fs program p q image n s after reaches keeps b.memory.code
+              (subst (λ r. arrivals after.cpu (distance t.base r) 1 fs ≡ []) (sym over)
+              (image.funclets.none 0 (omega arith) first_is_high after.cpu));
+          over = over;
+          value = signed W32 x;
+          answer = refl;
+          acts = λ next. acts_as next ∙ ap (λ items. return next x items c.events
+              (store_of c.store.memory (activations_below c.frame.body b.body.acts))) none
+              ∙ ap (λ es. Finished (ends.Exit (signed W32 x)) es) (sym (append-nil c.events));
+        }
+
+    -- ---- to the body that waits
+
+    module _ (w : Frame) (items : List Item) (below : c.below ≡ Waits w ∷ items) (o : LinearBody)
+        (there : body_of program w.body ≡ Some o) (g first arguments : ℕ)
+        (calls : slice_get o.code w.next ≡ Some (instructions.Call g first arguments))
+        (within : w.next + 1 < length o.code) (held : length w.temporaries ≡ first)
+        (free : w.landed ≡ None) where
+      returns : back ≡ returns_at (p.layout w.body) first arguments (p.address w.body w.next)
+      returns =
+          let to : ReturnsTo t fs program p (Waits w ∷ items) back = subst
+          (λ items. ReturnsTo t fs program p items back) below b.body.returns_to in
+          let is : return_of (p.layout w.body) (p.address w.body w.next)
+          (instruction_in (body_of program w.body) w.next)
+          ≡ Some (returns_at (p.layout w.body) first arguments (p.address w.body w.next)) =
+          ap (λ o. return_of (p.layout w.body) (p.address w.body w.next) (instruction_in o w.next))
+          there ∙ ap (return_of (p.layout w.body) (p.address w.body w.next)) calls in
+          the_same back (returns_at (p.layout w.body) first arguments (p.address w.body w.next))
+          (sym to ∙ is)
+        where
+          the_same : (a b : ℕ) → Some a ≡ Some b → a ≡ b
+          the_same a b e = cc
+
+      abbrev pub outer : List Activation
+      outer = activations_below c.frame.body b.body.acts
+
+      abbrev rest : List ℕ
+      rest = replicate 8 0
+
+      abbrev above : Context
+      above = context_below back (sp + layout.frame + 8) rest
+
+      on : On t fs program p s.memory above b.body.is (Waits w ∷ items) outer
+      on = subst (λ ws. On t fs program p s.memory above b.body.is ws outer) below
+          (b.body.below rest refl)
+
+      abbrev pub waiting_for_it : Configuration
+      waiting_for_it = on_top w items c.store.memory outer c.events
+
+      -- the next configuration
+      abbrev pub next_one : Configuration
+      next_one = answered t fs program p q image roomy w items c.store.memory outer c.events x
+
+      pub goes : (next : Next) → act program (instructions.Return from) next c ≡ next next_one
+      goes next = acts_as next ∙ ap (λ ws. return next x ws c.events
+          (store_of c.store.memory outer)) below
+
+      pub moves : IsCounted t fs program p q image waiting_for_it
+          → IsSurrounded t fs program p q image roomy w.body w.activation items (length outer)
+          → Moves t fs program 16 turns_left (RepresentsAt t fs program p q) s c
+          (instructions.Return from)
+      moves counts surrounded =
+          let few = (leaving.returns_soon layout from).1 in
+          let some = (leaving.returns_soon layout from).0 in
+          let more = length-append w.temporaries (x ∷ []) in
+          let z = resumes t fs program p q image roomy after w items outer c.store.memory c.events
+          above b.body.is on sp_after well_formed_after
+          (record {
+            data_alone = b.memory.data_alone;
+            agrees = b.memory.agrees;
+            stack = b.memory.stack;
+            arena = b.memory.arena;
+            code = b.memory.code;
+          }) o there g first
+          arguments calls within held free returns counts surrounded in
+          let credit : held_below c.below ≡ length w.temporaries
+          + held_below items = ap held_below below in
+          record {
+            turns = n + 1;
+            some = omega arith;
+            configuration = next_one;
+            few = omega (arith, few, more, credit);
+            state = z.state;
+            events = [];
+            comes = reaches_silently t fs program p q image (n + 1) s z.state
+                (reaches_then n 1 s after z.state reaches z.reaches)
+                (keep_then t fs n 1 s after reaches keeps z.keeps) b.memory.code z.silent;
+            acts = goes;
+            shown = sym (append-nil c.events);
+            is_there = z.begins;
+          }

@@ -1,0 +1,93 @@
+-- A body that runs asks the host: it is on top of the list, with room for a record below.
+use Rattle.std.proofs.Common.{◌≡◌, ℕ, ◌+◌, ◌^◌, ◌<◌, ◌≤◌, Bool, true, false, cond, List, ◌∷◌, Some, None, ap, ◌∙◌, arith}
+use Rattle.std.specs.Prelude.{nat_lt}
+use Rattle.std.proofs.lemmas.Bool.{le-ltb}
+use Rattle.host_layout.specs.declared.range.TheConstants.{STACK_START, STACK_END}
+use Rattle.flat_memory.specs.Memory.{Memory, first_refused, may_write, with_bytes}
+use Rattle.x64_machine.specs.declared.cpu.Cpu.{Cpu}
+use Rattle.x64_machine.specs.Contexts.{context_of}
+use Rattle.x64_machine.specs.Effect.{State}
+use Rattle.virtual_unwind.specs.Contexts.{rsp}
+use Rattle.virtual_unwind.specs.CallerOf.{Functions}
+use Rattle.seh_records.specs.Record.{return_address_at, misplaced, place_below}
+use Rattle.host_model.specs.declared.funclet.Funclet.{Funclet}
+use Rattle.linear_code.specs.Program.{LinearProgram}
+use Rattle.linear_machine.specs.Frames.{Waits, Configuration}
+use Rattle.x64_templates.proofs.PlacedCode.{all_may}
+use Rattle.match_stack.specs.Stack.{StackItem}
+use Rattle.match_stack.specs.ImagePlan.{ImagePlan}
+use Rattle.match_stack.specs.ItemMatches.{Activation}
+use Rattle.match_stack.specs.ListLaws.{KeepsAbove}
+use Rattle.match_stack.proofs.ListEnds.{in_stack}
+use Rattle.match_stack.proofs.ListKeeping.{kept_by_stores_below}
+use Rattle.match_stack.specs.DispatchStates.{IsWellFormed}
+use Rattle.match_stack.specs.DispatchSteps.{AsksHost}
+use Rattle.match_bodies.specs.CodeSites.{Sites}
+use Rattle.match_bodies.specs.ProgramImages.{HasProgram, IsResumed, IsMachineMemory, IsProgramImage}
+use Rattle.match_bodies.specs.Bodies.{InBody}
+use Rattle.match_bodies.proofs.StackTop.{body_on_top}
+
+-- in the stack, far enough above its start, a record can be placed
+pub record_fits : (m : Memory) (sp : ℕ) → STACK_START + 1592 ≤ sp → sp ≤ STACK_END
+    → ((a : ℕ) → STACK_START ≤ a → a < STACK_END → may_write m a ≡ true)
+    → misplaced m (place_below sp) ≡ None
+unfolding misplaced
+record_fits m sp low high may =
+    let at = place_below sp in
+    let below : at + 1568 ≤ sp = omega arith in
+    let near : sp ≤ at + 1583 = omega arith in
+    let from : return_address_at at + 8 ≡ at = omega arith in
+    let first : nat_lt (2 ^ 64) (return_address_at at + 1576)
+    ≡ false = le-ltb (2 ^ 64) (return_address_at at + 1576) (omega arith) in
+    let second : nat_lt (return_address_at at) STACK_START
+    ≡ false = le-ltb (return_address_at at) STACK_START (omega arith) in
+    let third = all_may (may_write m) 1576 (return_address_at at) (omega arith)
+    (λ a p q. may a (omega arith) (omega arith)) in
+    ap (λ (b : Bool). cond b (Some 0) (cond (nat_lt (return_address_at at) STACK_START)
+    (Some (return_address_at at)) (first_refused (may_write m) 1576 (return_address_at at))))
+    first
+    ∙ ap (λ (b : Bool). cond b (Some (return_address_at at))
+    (first_refused (may_write m) 1576 (return_address_at at))) second
+    ∙ third
+
+module _ (t : Functions) (fs : List Funclet) (program : LinearProgram) (p : ImagePlan) (q : Sites)
+    (image : IsProgramImage t fs program p q) where
+  -- the body's state is saved, and bytes below its stack pointer may have been stored since
+  pub record Asks (cpu saved : Cpu) (m : Memory) (byte : ℕ → ℕ) (c : Configuration)
+      (acts : List Activation) : Type 0 where
+    pub is : List StackItem
+    pub asks : AsksHost t fs program p (record { cpu = cpu; memory = with_bytes m byte }) saved is
+        (Waits c.frame ∷ c.below) acts
+
+  -- where the saved state is at a machine instruction of an instruction of the body
+  pub asks_host : (cpu saved : Cpu) (m : Memory) (byte : ℕ → ℕ) (c : Configuration) (label : ℕ)
+      (source : Memory) (at : InBody t fs program p q (record { cpu = saved; memory = m }) c)
+      → IsResumed t fs program p q c.frame.body at.slots.code label saved.rip
+      → HasProgram t fs program p q m → KeepsAbove m byte (rsp (context_of saved))
+      → IsMachineMemory t fs program p q (with_bytes m byte) source
+      → IsWellFormed (record { cpu = cpu; memory = with_bytes m byte })
+      → IsWellFormed (record { cpu = saved; memory = with_bytes m byte })
+      → Asks cpu saved m byte c at.acts
+  asks_host cpu saved m byte c label source at resumed has keeps memory well_formed well_formed_saved =
+      let u : State = record { cpu = saved; memory = m } in
+      let top = body_on_top t fs program p q image u c label at resumed has in
+      let high = in_stack t fs program p m (context_of saved) top.is (Waits c.frame ∷ c.below)
+      at.acts top.on.is_there.stack top.on.is_there.linked in
+      let space = at.slots.space.space in
+      let shallow = at.slots.space.shallow in
+      let low : STACK_START + 1592 ≤ rsp (context_of saved) = omega arith in
+      record {
+        is = top.is;
+        asks = record {
+          gives = image.gives;
+          well_formed = well_formed;
+          well_formed_saved = well_formed_saved;
+          on = record {
+            is_there = kept_by_stores_below t fs program p m byte (context_of saved)
+                top.is (Waits c.frame ∷ c.below) at.acts keeps top.on.is_there;
+            data_alone = memory.data_alone;
+          };
+          low = omega arith;
+          room = record_fits (with_bytes m byte) (rsp (context_of saved)) low high memory.stack;
+        };
+      }

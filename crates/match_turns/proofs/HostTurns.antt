@@ -1,0 +1,151 @@
+-- The host's turns at its services, and steps of linear code that one of them matches.
+use Rattle.std.proofs.Common.{◌≡◌, ℕ, ◌+◌, ◌%◌, ◌≤◌, Bool, cond, List, [], ◌∷◌, ◌++◌, Option, None, Ok, Err, refl, ap, ◌∙◌}
+use Rattle.std.specs.Prelude.{Result}
+use Rattle.seh_num.specs.declared.width.Width.TheVariants.{W32, W64}
+use Rattle.seh_num.specs.declared.event.Code.{Code}
+use Rattle.seh_num.specs.declared.event.Event.{Event}
+use Rattle.seh_num.specs.Widths.{low}
+use Rattle.host_layout.specs.declared.service.Service.TheVariants as services
+use Rattle.host_layout.specs.Services.{address_of, service_at, in_host_page}
+use Rattle.flat_memory.specs.declared.access.RefusedAccess.{RefusedAccess}
+use Rattle.flat_memory.specs.Memory.{executable, loaded}
+use Rattle.x64_instr.specs.declared.register.Reg.TheVariants.{Rcx, Rdx, Rsp}
+use Rattle.x64_instr.specs.Spelling.{leading}
+use Rattle.x64_machine.specs.declared.context.Context.{Context}
+use Rattle.x64_machine.specs.declared.outcome.Stop.TheVariants as stops
+use Rattle.x64_machine.specs.Effect.{State, Answer, register, hosted, execute, step}
+use Rattle.virtual_unwind.specs.CallerOf.{Functions, distance}
+use Rattle.seh_records.specs.Record.{fetched}
+use Rattle.seh_walk.specs.Walk.{filter_return, finally_return}
+use Rattle.host_model.specs.declared.funclet.Funclet.{Funclet}
+use Rattle.host_model.specs.Turns.{Turn}
+use Rattle.host_model.specs.Funclets.{arrivals, arrived}
+use Rattle.host_model.specs.Dispatch.{raised, unwound_locally, finally_returned}
+use Rattle.host_model.specs.HostStep.{back, returned, turned, turn}
+use Rattle.linear_code.specs.declared.instruction.Instruction.{Instruction}
+use Rattle.linear_code.specs.Program.{LinearProgram}
+use Rattle.linear_machine.specs.Frames.{Configuration, Seen, Next}
+use Rattle.linear_machine.specs.Instructions.{act}
+use Rattle.match_stack.specs.ImagePlan.{ImagePlan}
+use Rattle.match_stack.specs.FilterReturns.{filter_turn}
+use Rattle.match_runs.specs.Shadow.{drop_below, started, served, WalkGives, KeepsShadow}
+use Rattle.match_runs.specs.Comes.{IsLive, Comes}
+use Rattle.match_runs.proofs.Shadows.{host_keeps, fault_keeps}
+use Rattle.match_runs.specs.Matched.{IsMatched}
+use Rattle.match_bodies.specs.CodeSites.{Sites}
+use Rattle.match_bodies.specs.Bodies.{turns_left}
+use Rattle.match_bodies.specs.ConfigurationFacts.{KnownNext}
+use Rattle.match_turns.specs.FuncletEntry.{entry_turns}
+use Rattle.match_turns.specs.DispatchOutcome.{Represents, Shows, KeepsWith}
+use Rattle.match_turns.proofs.DispatchOutcomeSteps.{outcome_same, matched_by_turn}
+
+module _ (t : Functions) (fs : List Funclet) where
+  -- what a step is where RIP is in the host's page
+  abbrev hosted_turn : State → ℕ → Turn
+  hosted_turn s a = arrived t fs (turned t s (cond (in_host_page a) (Err (hosted a (service_at a)))
+      (execute s (leading (executable s.memory 15 s.cpu.rip)))))
+
+  at_service : (s : State) (a : ℕ) → s.cpu.rip ≡ a → turn t fs s ≡ hosted_turn s a
+  unfolding turn step
+  at_service s a e = ap (hosted_turn s) e
+
+  -- at the return address of a filter, and of a `__finally` block
+  pub filter_turns : (s : State) → s.cpu.rip ≡ filter_return
+      → turn t fs s ≡ arrived t fs (filter_turn t s)
+  filter_turns s e = at_service s filter_return e
+
+  pub finally_turns : (s : State) → s.cpu.rip ≡ finally_return
+      → turn t fs s ≡ arrived t fs (finally_returned t s (register s.cpu Rsp)
+      (fetched s.memory (register s.cpu Rsp)))
+  finally_turns s e = at_service s finally_return e
+
+  -- RaiseException: its code is ECX, bit 0 of its flags that of EDX, and the state after its return
+  -- is saved
+  pub raise_turns : (s : State) (ret : ℕ) → s.cpu.rip ≡ address_of services.RaiseException
+      → loaded s.memory (register s.cpu Rsp) W64 ≡ Ok ret
+      → turn t fs s ≡ arrived t fs (raised t s (record { 0 = low W32 (register s.cpu Rcx) })
+      (register s.cpu Rdx % 2) None (back s ret).cpu)
+  raise_turns s ret e w = at_service s (address_of services.RaiseException) e
+      ∙ ap (λ (x : Result ℕ RefusedAccess). arrived t fs
+      (returned s x (λ u. raised t s (record { 0 = low W32 (register s.cpu Rcx) })
+      (register s.cpu Rdx % 2) None u.cpu))) w
+
+  -- a local unwind: to the target in RDX, of the frame in RCX
+  pub local_unwind_turns : (s : State) (ret : ℕ) → s.cpu.rip ≡ address_of services.LocalUnwind
+      → loaded s.memory (register s.cpu Rsp) W64 ≡ Ok ret
+      → turn t fs s ≡ arrived t fs (unwound_locally t s (register s.cpu Rcx) (register s.cpu Rdx)
+      (back s ret).cpu)
+  local_unwind_turns s ret e w = at_service s (address_of services.LocalUnwind) e
+      ∙ ap (λ (x : Result ℕ RefusedAccess). arrived t fs
+      (returned s x (λ u. unwound_locally t s (register s.cpu Rcx) (register s.cpu Rdx) u.cpu))) w
+
+  -- an instruction that faults raises an exception, and its own state is saved
+  pub fault_turns : (s : State) (code : Code) (access : Option (Bool × ℕ))
+      → step s ≡ Err (stops.Fault code access)
+      → turn t fs s ≡ arrived t fs (raised t s code 0 access s.cpu)
+  unfolding turn
+  fault_turns s code access e = ap (λ (x : Answer State). arrived t fs (turned t s x)) e
+
+  -- a turn there keeps the shadow, and so does a fault
+  keeps_at : (s : State) (a : ℕ) (cs : List Context) → step s ≡ Err (stops.Host a)
+      → WalkGives t s cs
+      → (u : State) (es : List Event) → arrivals u.cpu (distance t.base u.cpu.rip) 1 fs ≡ es
+      → WalkGives t u (drop_below (register u.cpu Rsp) (started u es (served (service_at a) cs)))
+      → KeepsShadow t fs s u
+  keeps_at s a cs e before u es arrives after = host_keeps t fs s u a es cs
+      (drop_below (register u.cpu Rsp) (started u es (served (service_at a) cs))) e arrives before
+      after refl
+
+  service_step : (s : State) (a : ℕ) → s.cpu.rip ≡ a
+      → step s ≡ cond (in_host_page a) (Err (hosted a (service_at a)))
+      (execute s (leading (executable s.memory 15 s.cpu.rip)))
+  unfolding step
+  service_step s a e = ap (λ b. cond (in_host_page b) (Err (hosted b (service_at b)))
+      (execute s (leading (executable s.memory 15 s.cpu.rip)))) e
+
+  -- ---- steps of linear code
+
+  module _ (program : LinearProgram) (p : ImagePlan) (q : Sites) where
+    pub filter_return_keeps : (s : State) (cs : List Context) → s.cpu.rip ≡ filter_return
+        → WalkGives t s cs → KeepsWith t fs program p q s cs
+    filter_return_keeps s cs e before = keeps_at s filter_return cs (service_step s filter_return e)
+        before
+
+    pub finally_return_keeps : (s : State) (cs : List Context) → s.cpu.rip ≡ finally_return
+        → WalkGives t s cs → KeepsWith t fs program p q s cs
+    finally_return_keeps s cs e before = keeps_at s finally_return cs
+        (service_step s finally_return e) before
+
+    -- the call of a service that dispatches is over
+    pub raise_keeps : (s : State) (c : Context) (cs : List Context)
+        → s.cpu.rip ≡ address_of services.RaiseException → WalkGives t s (c ∷ cs)
+        → KeepsWith t fs program p q s cs
+    raise_keeps s c cs e before = keeps_at s (address_of services.RaiseException) (c ∷ cs)
+        (service_step s (address_of services.RaiseException) e) before
+
+    pub local_unwind_keeps : (s : State) (c : Context) (cs : List Context)
+        → s.cpu.rip ≡ address_of services.LocalUnwind → WalkGives t s (c ∷ cs)
+        → KeepsWith t fs program p q s cs
+    local_unwind_keeps s c cs e before = keeps_at s (address_of services.LocalUnwind) (c ∷ cs)
+        (service_step s (address_of services.LocalUnwind) e) before
+
+    pub raised_keeps : (s : State) (code : Code) (access : Option (Bool × ℕ)) (cs : List Context)
+        → step s ≡ Err (stops.Fault code access) → WalkGives t s cs → KeepsWith t fs program p q s cs
+    raised_keeps s code access cs e before = λ u es arrives after. fault_keeps t fs s u code access
+        es cs (drop_below (register u.cpu Rsp) (started u es cs)) e arrives before after refl
+
+    -- silent turns lead to a turn of the host, which shows what the step shows
+    pub matched_when_shown : (turns_per_step k left : ℕ) (s u : State) (c : Configuration) (i : Instruction)
+        (x : Turn) (before : List Event) (seen : Next → Seen) (shadow : List Context)
+        → Comes t fs k s [] u → IsLive u → turn t fs u ≡ x → KeepsWith t fs program p q u shadow
+        → Shows t fs program p q x before seen c.events left shadow
+        → ((next : Next) → act program i next c ≡ seen next)
+        → k + 1 + entry_turns + left ≤ turns_per_step + turns_left c
+        → KnownNext program c i
+        → IsMatched t fs program turns_per_step turns_left (Represents t fs program p q) s c i
+    matched_when_shown turns_per_step k left s u c i x before seen shadow silent live e keeps shows acts enough
+        known =
+        matched_by_turn t fs program p q turns_per_step k left s u c i before shows.further silent live
+        (e ∙ shows.turns) enough known shadow keeps
+        (outcome_same t fs program p q shows.further shows.further seen
+        (λ next. act program i next c) (c.events ++ before) left shadow refl acts shows.outcome)

@@ -1,0 +1,225 @@
+-- From where an operation begins to where its operands are in their registers.
+use Rattle.std.proofs.Common.{◌≡◌, ℕ, ◌+◌, ◌^◌, ◌<◌, ◌≤◌, false, Bool, List, [], ◌++◌, length, Some, refl, sym, ap, subst, ◌∙◌, arith, length-append}
+use Rattle.std.specs.Prelude.{slice_get, slice_index}
+use Rattle.flat_memory.specs.Memory.{Memory}
+use Rattle.x64_instr.specs.declared.register.Reg.TheVariants.{Rax, Rcx, Rsp}
+use Rattle.x64_instr.specs.declared.instruction.Instr.{Instr}
+use Rattle.x64_machine.specs.Effect.{State, register}
+use Rattle.virtual_unwind.specs.CallerOf.{Functions, distance}
+use Rattle.host_model.specs.declared.funclet.Funclet.{Funclet}
+use Rattle.host_model.specs.Funclets.{arrivals}
+use Rattle.c_operations.specs.declared.operation.Operation.{Operation}
+use Rattle.linear_code.specs.declared.slot.Slot.{Slot}
+use Rattle.linear_code.specs.declared.slot.Slot.TheVariants.{Temporary}
+use Rattle.linear_code.specs.declared.instruction.Instruction.{Instruction}
+use Rattle.linear_code.specs.declared.instruction.Instruction.TheVariants as instructions
+use Rattle.linear_code.specs.Meaning.{HasSlots}
+use Rattle.linear_code.specs.Program.{LinearProgram, LinearBody}
+use Rattle.linear_machine.specs.Frames.{Configuration}
+use Rattle.linear_machine.specs.Instructions.{is_constant}
+use Rattle.linear_machine.specs.Run.{instruction_at}
+use Rattle.template_code.specs.declared.layout.Layout.{Layout}
+use Rattle.template_code.specs.Bytes.{sizes}
+use Rattle.template_code.specs.Operations.{before}
+use Rattle.template_code.specs.Slots.{fetch, operands_code, finish_code}
+use Rattle.template_code.proofs.Lengths.{before_length}
+use Rattle.x64_templates.specs.Straight.{machine}
+use Rattle.x64_templates.specs.Runs.{Reaches}
+use Rattle.x64_templates.proofs.Computes.{code_split, Begun, operands_run}
+use Rattle.match_stack.specs.ImagePlan.{ImagePlan, InCode}
+use Rattle.match_stack.specs.DispatchStates.{IsWellFormed}
+use Rattle.match_runs.specs.Shadow.{AllKeep}
+use Rattle.match_runs.specs.Comes.{Comes, LeadsTo}
+use Rattle.lowering_invariants.specs.Ready as ready
+use Rattle.match_bodies.specs.CodeSites.{Sites}
+use Rattle.match_bodies.specs.ProgramImages.{view_of, WorksAgain, IsProgramImage}
+use Rattle.match_bodies.specs.Bodies.{RepresentsAt}
+use Rattle.match_bodies.proofs.SilentTurns.{reaches_silently}
+use Rattle.match_bodies.specs.ConfigurationFacts.{IsWellMade, IsKnown}
+use Rattle.match_bodies.specs.BodyViews.{counts_of}
+use Rattle.match_bodies.proofs.BodyViews.{IsCounted, room_here, holds_here}
+use Rattle.match_bodies.proofs.TemplateShadows.{kept_by_rest, is_here}
+use Rattle.match_bodies.proofs.TemplateKeeping.{operands_keep}
+use Rattle.match_bodies.proofs.TemplateRuns.{code, frame, slots, v, dropped, same_state, template_here, has_slots, next_address, sp_is, Surroundings}
+use Rattle.match_bodies.proofs.ChainKeeping.{reaches_keeps, stays_well_formed}
+use Rattle.match_bodies.proofs.PlainSteps.{is_read}
+use Rattle.match_bodies.proofs.StepNeeds.{counted_here, around_here, code_at, ready_here}
+use Rattle.match_turns.specs.DispatchOutcome.{WorksOn}
+use Rattle.match_turns.specs.FaultLaws.{fetch_turns, OperandsAreFetched}
+use Rattle.match_turns.proofs.OperationCode.{some_finish, whole_size, finish_is_at, silent_within}
+use Rattle.match_turns.proofs.OperationInProgress.{in_body_at, ready_same}
+
+-- two temporaries are fetched in one turn each
+few_operands : (y : Layout) (o : Operation) (first second : ℕ)
+    → length (operands_code y o (Temporary first) (Temporary second)) ≤ 3
+few_operands y o first second =
+    let b = before_length o in
+    omega (
+      arith,
+      length-append (fetch y Rax (Temporary first))
+          (fetch y Rcx (Temporary second) ++ before o),
+      length-append (fetch y Rcx (Temporary second)) (before o),
+    )
+
+module _ (t : Functions) (fs : List Funclet) (program : LinearProgram) (p : ImagePlan) (q : Sites)
+    (image : IsProgramImage t fs program p q) (made : IsWellMade program p)
+    (s : State) (c : Configuration) (to : Slot) (o : Operation) (first second : ℕ)
+    (b : RepresentsAt t fs program p q s c) (known : IsKnown program c) (reads : is_constant o ≡ false)
+    (e : instruction_at program c ≡ Some (instructions.Compute to o (Temporary first)
+    (Temporary second))) where
+  abbrev here : Instruction
+  here = instructions.Compute to o (Temporary first) (Temporary second)
+
+  abbrev counted : IsCounted t fs program p q image c
+  counted = counted_here t fs program p q image made c known
+
+  around : Surroundings t fs program p q image made.room s c b counted
+  around = around_here t fs program p q image made s c b known
+
+  abbrev body : LinearBody
+  body = code t fs program p q image made.room s c b counted
+
+  at_here : slice_get body.code c.frame.next ≡ Some here
+  at_here = code_at t fs program p q image made s c b known here e
+
+  there : HasSlots (counts_of body) here
+  there = has_slots t fs program p q image made.room s c b counted here at_here
+
+  abbrev ops : List Instr
+  ops = operands_code (p.layout c.frame.body) o (Temporary first) (Temporary second)
+
+  abbrev n : ℕ
+  n = length ops
+
+  begun : Begun (frame t fs program p q image made.room s c b counted) o (Temporary first)
+      (Temporary second) (v t fs program p q image made.room s c b counted) s.cpu.rip s.cpu.flags
+      (slots t fs program p q image made.room s c b counted)
+  begun =
+      operands_run (frame t fs program p q image made.room s c b counted) o (Temporary first)
+      (Temporary second) (v t fs program p q image made.room s c b counted) s.cpu.rip s.cpu.flags
+      (slots t fs program p q image made.room s c b counted)
+      (room_here t fs program p q image s c b counted) there.1 there.2
+      (sp_is t fs program p q image made.room s c b counted)
+      (holds_here t fs program p q image s c b counted)
+      (code_split s.memory s.cpu.rip ops (finish_code (p.layout c.frame.body) o to)
+      (template_here t fs program p q image made.room s c b counted here at_here)).0
+
+  -- the state that is reached, in the same memory
+  abbrev u : State
+  u = machine (record {
+    rax = begun.stopped.rax;
+    rcx = begun.stopped.rcx;
+    rdx = begun.stopped.rdx;
+    rest = begun.stopped.rest;
+    memory = s.memory;
+  }) (s.cpu.rip + sizes ops) begun.left
+
+  comes : Reaches n s u
+  comes =
+      subst (λ (m : Memory). Reaches n s (machine
+      (record {
+        rax = begun.stopped.rax;
+        rcx = begun.stopped.rcx;
+        rdx = begun.stopped.rdx;
+        rest = begun.stopped.rest;
+        memory = m;
+      }) (s.cpu.rip + sizes ops) begun.left)) begun.memory
+      (subst (λ (x : State). Reaches n x (machine begun.stopped (s.cpu.rip + sizes ops) begun.left))
+      (sym (same_state t fs program p q image made.room s c b counted)) begun.comes)
+
+  at_end : u.cpu.rip ≡ p.address c.frame.body c.frame.next + sizes ops
+  at_end = ap (λ a. a + sizes ops) b.rip
+
+  next_at : p.address c.frame.body (c.frame.next + 1)
+      ≡ s.cpu.rip + (sizes ops + sizes (finish_code (p.layout c.frame.body) o to))
+  next_at = next_address t fs program p q image made.room s c b counted here at_here
+      ∙ ap (λ x. s.cpu.rip + x) (whole_size (p.layout c.frame.body) to o (Temporary first)
+      (Temporary second))
+
+  inside : InCode p c.frame.body c.frame.next u.cpu.rip
+  inside =
+      let some = some_finish (p.layout c.frame.body) o to in
+      let a = next_at in
+      let r = b.rip in
+      record { low = omega arith; high = omega arith }
+
+  small : u.cpu.rip < 2 ^ 64
+  small =
+      let code = finish_is_at t fs program p q image s.memory c.frame.body b.body.slots.code
+      c.frame.next to o (Temporary first) (Temporary second) b.memory.code b.body.slots.body
+      at_here in
+      let high = code.placed.high in
+      let a = at_end in
+      omega arith
+
+  well_formed : IsWellFormed u
+  well_formed = stays_well_formed s u (reaches_keeps n s u comes) small b.well_formed
+
+  sp : register u.cpu Rsp ≡ register s.cpu Rsp
+  sp = ap (λ (xs : List ℕ). slice_index xs 1) begun.rest ∙ dropped s.cpu.registers
+
+  -- the operands are the temporaries
+  has_temporary : (i x : ℕ) → (slots t fs program p q image made.room s c b counted).slots
+      (Temporary i) ≡ x → ready.IsRead (is_constant o) (length c.frame.temporaries) (Temporary i)
+      → (h : i < body.temporaries) → slice_get c.frame.temporaries i ≡ Some x
+  has_temporary i x is held h =
+      let r = is_read t fs program p q image made.room s c b counted around (Temporary i) h
+      (subst (λ (constant : Bool). ready.IsRead constant (length c.frame.temporaries)
+      (Temporary i)) reads held) in
+      r.reads ∙ ap (λ z. Some z) (sym r.same ∙ is)
+
+  again : WorksAgain t fs program p q c.frame u.cpu
+  again =
+      let r = ready_here t fs program p q image made s c b known here e in
+      record {
+        to = to;
+        operation = o;
+        first = first;
+        second = second;
+        works = e;
+        here = at_end;
+        has_first = has_temporary first begun.stopped.rax (sym begun.waits.first) r.0 there.1;
+        has_second = has_temporary second begun.stopped.rcx (sym begun.waits.second) r.1 there.2;
+        ready = ready_same o begun.stopped (view_of u.cpu) refl refl begun.waits.ready;
+      }
+
+  works : WorksOn t fs program p q u c
+  works = record {
+    again = again;
+    well_formed = well_formed;
+    memory = b.memory;
+    body = in_body_at t fs program p q s c u.cpu b.body sp inside small;
+  }
+
+  -- each turn keeps the shadow
+  keeps_shadow : AllKeep t fs n s
+  keeps_shadow =
+      operands_keep t fs program p q image made.room s c b counted around to o (Temporary first)
+      (Temporary second) at_here u comes
+      (record {
+        rip = at_end;
+        registers = kept_by_rest begun.stopped.rest s.cpu.registers
+            begun.rest;
+        is_there = is_here t fs program p q image s c b counted;
+      })
+
+  silently : Comes t fs n s [] u
+  silently =
+      reaches_silently t fs program p q image n s u comes keeps_shadow b.memory.code
+      (subst (λ a. arrivals u.cpu (distance t.base a) 1 fs ≡ []) (sym at_end)
+      (silent_within t fs program p q image made.room s.memory c.frame.body b.body.slots.code
+      c.frame.next to o (Temporary first) (Temporary second) b.memory.code b.body.slots.body
+      at_here u.cpu))
+
+  pub fetched : LeadsTo t fs fetch_turns (WorksOn t fs program p q) s c
+  fetched = record {
+    turns = n;
+    few = few_operands (p.layout c.frame.body) o first second;
+    state = u;
+    comes = silently;
+    is_there = works;
+  }
+
+pub operands_are_fetched : OperandsAreFetched
+operands_are_fetched t fs program p q image made s c to o first second b known reads e = fetched t
+    fs program p q image made s c to o first second b known reads e

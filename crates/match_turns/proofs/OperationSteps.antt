@@ -1,0 +1,210 @@
+-- Each operation is matched, wherever the machine is.
+use Rattle.std.proofs.Common.{◌≡◌, ℕ, zero, ◌+◌, Bool, List, Option, Some, sym, subst, ◌∙◌, arith, inl, inr}
+use Rattle.seh_num.specs.declared.event.Code.{Code}
+use Rattle.x64_machine.specs.Effect.{State}
+use Rattle.virtual_unwind.specs.CallerOf.{Functions}
+use Rattle.host_model.specs.declared.funclet.Funclet.{Funclet}
+use Rattle.c_operations.specs.declared.operation.Operation.{Operation}
+use Rattle.c_operations.specs.Performed.{OperationResult, Gives, Raises, Undefined}
+use Rattle.source_meaning.specs.Source.{is_reserved}
+use Rattle.linear_code.specs.declared.slot.Slot.{Slot}
+use Rattle.linear_code.specs.declared.slot.Slot.TheVariants.{Local, Temporary}
+use Rattle.linear_code.specs.declared.instruction.Instruction.{Instruction}
+use Rattle.linear_code.specs.declared.instruction.Instruction.TheVariants as instructions
+use Rattle.linear_code.specs.Program.{LinearProgram}
+use Rattle.linear_machine.specs.Frames.{Configuration, body_of}
+use Rattle.linear_machine.specs.Instructions.{act}
+use Rattle.linear_machine.specs.Run.{instruction_at, exec}
+use Rattle.match_stack.specs.ImagePlan.{ImagePlan}
+use Rattle.lowering_invariants.specs.Bodies.{IsTemporary, ReadsWell, IsInstructionOf}
+use Rattle.lowering_invariants.specs.Ready.{IsReady}
+use Rattle.match_runs.specs.Ends.{HasRule}
+use Rattle.match_runs.specs.Matched.{Moves, IsMatched}
+use Rattle.match_runs.proofs.Matches.{matched_after, matched_slower}
+use Rattle.match_runs.proofs.Turns.{comes_nowhere}
+use Rattle.match_bodies.specs.CodeSites.{Sites}
+use Rattle.match_bodies.specs.ProgramImages.{IsProgramImage}
+use Rattle.match_bodies.specs.Bodies.{turns_left, RepresentsAt}
+use Rattle.match_bodies.specs.ConfigurationFacts.{IsWellMade, IsKnown, KnownNext}
+use Rattle.match_bodies.specs.StepLaws.{turns_per_step}
+use Rattle.match_bodies.proofs.TemplateRuns.{each}
+use Rattle.match_bodies.proofs.BodySteps.{within_body}
+use Rattle.match_bodies.proofs.StepNeeds.{some_is, label_in, body_there}
+use Rattle.match_turns.specs.FuncletEntry.{FlagsFit}
+use Rattle.match_turns.specs.DispatchOutcome.{WorksOn, Represents}
+use Rattle.match_turns.specs.OperationOutcome.{ComesTo}
+use Rattle.match_turns.specs.FaultLaws.{RetriesAreMatched, ContinuationsAtOperations, OperationsAreMatched}
+use Rattle.match_turns.proofs.OperationMeaning.{comes_to_something, undefined, not_constant, fault_reads}
+use Rattle.match_turns.proofs.OperationOperands.{fetched}
+use Rattle.match_turns.proofs.FaultRaise.{raised_at_once}
+use Rattle.match_turns.proofs.OperationCompletion.{completed}
+use Rattle.match_turns.proofs.FaultContinuation.{silent_there, works_on}
+
+-- the operation that an instruction is comes to this
+abbrev Meets : LinearProgram → Configuration → OperationResult → Instruction → Type 0
+Meets program c x (instructions.Compute to o first second) = ComesTo program c o first second x
+Meets program c x i = ⊥
+
+ready_at : (program : LinearProgram) (c : Configuration) (i : Instruction) → IsKnown program c
+    → instruction_at program c ≡ Some i → IsReady program c i
+ready_at program c i known e = subst (IsReady program c)
+    (some_is known.continues.instruction i (sym known.continues.at ∙ e)) known.continues.ready
+
+-- where an instruction begins, the machine is
+pub matched_represents : (t : Functions) (fs : List Funclet) (program : LinearProgram)
+    (p : ImagePlan) (q : Sites) (most : ℕ) (s : State) (c : Configuration) (i : Instruction)
+    → Moves t fs program most turns_left (RepresentsAt t fs program p q) s c i
+    → IsMatched t fs program most turns_left (Represents t fs program p q) s c i
+matched_represents t fs program p q most s c i m = inl (record {
+  turns = m.turns;
+  some = m.some;
+  configuration = m.configuration;
+  few = m.few;
+  state = m.state;
+  events = m.events;
+  comes = m.comes;
+  acts = m.acts;
+  shown = m.shown;
+  is_there = inl m.is_there;
+})
+
+module _ (t : Functions) (fs : List Funclet) (program : LinearProgram) (p : ImagePlan) (q : Sites)
+    (image : IsProgramImage t fs program p q) (made : IsWellMade program p)
+    (fits : FlagsFit program) where
+  -- the instruction that is made again
+  abbrev again : (s : State) (c : Configuration) → WorksOn t fs program p q s c → Instruction
+  again s c w = instructions.Compute w.again.to w.again.operation (Temporary w.again.first)
+      (Temporary w.again.second)
+
+  -- ---- within an operation
+
+  pub within_operation : (s : State) (c : Configuration) (w : WorksOn t fs program p q s c)
+      (known : IsKnown program c)
+      → (x : OperationResult) → ComesTo program c w.again.operation (Temporary w.again.first)
+      (Temporary w.again.second) x
+      → HasRule (act program (again s c w) (exec program zero) c)
+      → KnownNext program c (again s c w)
+      → IsMatched t fs program turns_per_step turns_left (Represents t fs program p q) s c (again s c w)
+  within_operation s c w known (Gives value m) h rule next = matched_represents t fs program p q turns_per_step s c
+      (again s c w) (completed t fs program p q image made s c w known value m h rule)
+  within_operation s c w known (Raises code access) h rule next =
+      matched_slower t fs program turns_left 7 turns_per_step (Represents t fs program p q) s c (again s c w)
+      (omega arith)
+      (raised_at_once t fs program p q image made fits s c w known code access h rule next)
+  within_operation s c w known (Undefined at) h rule next =
+      inr (inr (inr (undefined t fs program s c w.again.to w.again.operation
+      (Temporary w.again.first) (Temporary w.again.second) at h)))
+
+  pub retried : (s : State) (c : Configuration) (i : Instruction) → WorksOn t fs program p q s c
+      → IsKnown program c → instruction_at program c ≡ Some i
+      → HasRule (act program i (exec program zero) c) → KnownNext program c i
+      → IsMatched t fs program turns_per_step turns_left (Represents t fs program p q) s c i
+  retried s c i w known e = subst (λ j. HasRule (act program j (exec program zero) c)
+      → KnownNext program c j → IsMatched t fs program turns_per_step turns_left (Represents t fs program p q)
+      s c j) same
+      (λ rule next. let x = comes_to_something program c w.again.to w.again.operation
+      (Temporary w.again.first) (Temporary w.again.second)
+      (ready_at program c (again s c w) known w.again.works) in
+      within_operation s c w known x.0 x.1 rule next)
+    where
+      same : again s c w ≡ i
+      same = some_is (again s c w) i (sym w.again.works ∙ e)
+
+  -- one that faults takes no more turns than the host's own
+  faults_within : (s : State) (c : Configuration) (i : Instruction) (code : Code)
+      (access : Option (Bool × ℕ)) → WorksOn t fs program p q s c → IsKnown program c
+      → instruction_at program c ≡ Some i
+      → Meets program c (Raises code access) i → HasRule (act program i (exec program zero) c)
+      → KnownNext program c i → IsMatched t fs program 7 turns_left (Represents t fs program p q) s
+      c i
+  faults_within s c i code access w known e =
+      subst (λ j. Meets program c (Raises code access) j
+      → HasRule (act program j (exec program zero) c) → KnownNext program c j
+      → IsMatched t fs program 7 turns_left (Represents t fs program p q) s c j)
+      (some_is (again s c w) i (sym w.again.works ∙ e))
+      (λ h rule next. raised_at_once t fs program p q image made fits s c w known code access h rule
+      next)
+
+  -- ---- where an operation begins
+
+  module _ (s : State) (c : Configuration) (to : Slot) (o : Operation)
+      (b : RepresentsAt t fs program p q s c) (known : IsKnown program c) where
+    -- one that faults: its operands are fetched first
+    faults : (first second : Slot) (code : Code) (access : Option (Bool × ℕ))
+        → IsTemporary first × IsTemporary second
+        → (h : ComesTo program c o first second (Raises code access))
+        → instruction_at program c ≡ Some (instructions.Compute to o first second)
+        → HasRule (act program (instructions.Compute to o first second) (exec program zero) c)
+        → KnownNext program c (instructions.Compute to o first second)
+        → IsMatched t fs program turns_per_step turns_left (Represents t fs program p q) s c
+        (instructions.Compute to o first second)
+    faults (Local x) second code access temporaries h e rule next = absurd temporaries.0
+    faults (Temporary x) (Local y) code access temporaries h e rule next = absurd temporaries.1
+    faults (Temporary x) (Temporary y) code access temporaries h e rule next =
+        let i = instructions.Compute to o (Temporary x) (Temporary y) in
+        let l = fetched t fs program p q image made s c to o x y b known
+        (not_constant (is_reserved program.globals) o h.a h.b c.store.memory code access h.comes)
+        e in
+        let few = l.few in
+        matched_slower t fs program turns_left (l.turns + 7) turns_per_step (Represents t fs program p q) s c
+        i (omega arith)
+        (matched_after t fs program turns_left l.turns 7 (Represents t fs program p q) s l.state c i
+        l.comes (faults_within l.state c i code access l.is_there known e h rule next))
+
+    from_beginning : (first second : Slot) (x : OperationResult)
+        → ComesTo program c o first second x → instruction_at program c
+        ≡ Some (instructions.Compute to o first second)
+        → HasRule (act program (instructions.Compute to o first second) (exec program zero) c)
+        → KnownNext program c (instructions.Compute to o first second)
+        → IsMatched t fs program turns_per_step turns_left (Represents t fs program p q) s c
+        (instructions.Compute to o first second)
+    from_beginning first second (Gives value m) h e rule next =
+        matched_represents t fs program p q turns_per_step s c (instructions.Compute to o first second)
+        (within_body t fs program p q image made s c (instructions.Compute to o first second) b
+        known e (record {
+          a = h.a;
+          b = h.b;
+          reads_first = h.reads_first;
+          reads_second = h.reads_second;
+          value = value;
+          memory = m;
+          gives = h.comes;
+        }) rule)
+    from_beginning first second (Raises code access) h e rule next =
+        let i = instructions.Compute to o first second in
+        let there = body_there (body_of program c.frame.body) c.frame.next i e in
+        let well : ReadsWell o first second =
+        each (IsInstructionOf program c.frame.body) there.0.code c.frame.next i
+        (made.whole.bodies c.frame.body there.0 there.1).code
+        (label_in (body_of program c.frame.body) there.0 c.frame.next i there.1 e) in
+        faults first second code access (fault_reads (is_reserved program.globals) o first second
+        h.a h.b c.store.memory code access h.comes well) h e rule next
+    from_beginning first second (Undefined at) h e rule next = inr
+        (inr (inr (undefined t fs program s c to o first second at h)))
+
+pub operations : OperationsAreMatched
+operations t fs program p q image made fits s c to o first second (inl b) known e rule next =
+    let i = instructions.Compute to o first second in
+    let x = comes_to_something program c to o first second (ready_at program c i known e) in
+    from_beginning t fs program p q image made fits s c to o b known first second x.0 x.1 e rule
+    next
+operations t fs program p q image made fits s c to o first second (inr w) known e rule next =
+    retried t fs program p q image made fits s c (instructions.Compute to o first second) w known e
+    rule next
+
+pub retries : RetriesAreMatched
+retries t fs program p q image made fits s c i w known e rule next = retried t fs program p q image
+    made fits s c i w known e rule next
+
+pub continuations : ContinuationsAtOperations
+continuations t fs program p q image made s saved is acts c on well_formed resumes memory store = (
+  silent_there t fs program p q image made s saved is acts c on well_formed resumes memory store,
+  record {
+    turns = 0;
+    few = omega arith;
+    state = record { cpu = saved; memory = s.memory };
+    comes = comes_nowhere t fs (record { cpu = saved; memory = s.memory });
+    is_there = inr (works_on t fs program p q image made s saved is acts c on well_formed resumes memory
+        store);
+  },
+)

@@ -1,0 +1,183 @@
+-- A call of RaiseException: the exception is raised where the call returns to.
+use Rattle.std.proofs.Common.{◌≡◌, ℕ, zero, suc, ◌+◌, ◌%◌, ◌^◌, ◌<◌, ◌≤◌, Bool, true, List, [], ◌∷◌, length, drop, get_or, Some, None, refl, sym, ap, subst, ◌∙◌, arith, length-take}
+use Rattle.std.specs.Prelude.{nat_eq, replicate, slice_get, slice_index, if◌then◌else◌}
+use Rattle.std.proofs.lemmas.Bool.{eq-eqb}
+use Rattle.std.proofs.lemmas.List.{get_or-drop}
+use Rattle.std.proofs.lemmas.Option.{slice_get-get_or}
+use Rattle.seh_num.specs.declared.width.Width.TheVariants.{W32}
+use Rattle.seh_num.specs.declared.event.Code.{Code}
+use Rattle.seh_num.specs.Widths.{low}
+use Rattle.x64_instr.specs.declared.register.Reg.TheVariants.{Rcx, Rdx}
+use Rattle.host_layout.specs.declared.service.Service.TheVariants as services
+use Rattle.host_layout.specs.Services.{address_of}
+use Rattle.x64_machine.specs.Contexts.{context_of}
+use Rattle.x64_machine.specs.Effect.{State, register}
+use Rattle.virtual_unwind.specs.CallerOf.{Functions}
+use Rattle.host_model.specs.declared.funclet.Funclet.{Funclet}
+use Rattle.host_model.specs.Funclets.{arrived}
+use Rattle.host_model.specs.Dispatch.{raised}
+use Rattle.c_operations.specs.declared.built_in.BuiltIn.TheVariants.{RaiseException}
+use Rattle.source_meaning.specs.State.{Exception}
+use Rattle.source_meaning.specs.Raises.{raise_event}
+use Rattle.source_meaning.specs.Expressions as expressions
+use Rattle.linear_code.specs.declared.slot.Slot.TheVariants.{Temporary}
+use Rattle.linear_code.specs.declared.instruction.Instruction.{Instruction}
+use Rattle.linear_code.specs.declared.instruction.Instruction.TheVariants as instructions
+use Rattle.linear_code.specs.Program.{LinearProgram}
+use Rattle.linear_machine.specs.Frames.{AfterCall, Configuration, Next, with_some, last_temporaries}
+use Rattle.linear_machine.specs.Searching.{raise}
+use Rattle.linear_machine.specs.Instructions.{count_of, waiting, built_in, act}
+use Rattle.linear_machine.specs.Run.{instruction_at, exec}
+use Rattle.match_stack.specs.ImagePlan.{ImagePlan}
+use Rattle.match_stack.specs.DispatchSteps.{IsException}
+use Rattle.match_runs.specs.Ends.{HasRule}
+use Rattle.match_runs.specs.Matched.{IsMatched}
+use Rattle.match_bodies.specs.Callers.{callers}
+use Rattle.match_bodies.specs.CodeSites.{Sites}
+use Rattle.match_bodies.specs.ProgramImages.{IsProgramImage}
+use Rattle.match_bodies.specs.Bodies.{turns_left, RepresentsAt}
+use Rattle.match_bodies.specs.ConfigurationFacts.{IsWellMade, IsKnown, KnownNext}
+use Rattle.match_bodies.specs.StepLaws.{turns_per_step}
+use Rattle.match_bodies.proofs.StepNeeds.{counted_here, ready_here}
+use Rattle.match_bodies.proofs.BodyViews.{slots_here}
+use Rattle.match_turns.specs.FuncletEntry.{FlagsFit}
+use Rattle.match_turns.specs.DispatchOutcome.{Represents}
+use Rattle.match_turns.proofs.DispatchStart.{raised_as}
+use Rattle.match_turns.proofs.DispatchWalks.{service_walk}
+use Rattle.match_turns.proofs.HostTurns.{raise_turns, raise_keeps, matched_when_shown}
+use Rattle.match_turns.specs.RaiseLaws.{RaisesAreMatched}
+use Rattle.match_turns.proofs.BuiltInRequest as asking
+
+-- an argument, among the last temporaries
+argument_is : (ts : List ℕ) (first i : ℕ) → first + i < length ts
+    → slice_get ts (first + i) ≡ Some (get_or (drop first ts) i 0)
+argument_is ts first i lt = slice_get-get_or ts (first + i) 0 lt
+    ∙ ap (λ x. Some x) (sym (get_or-drop first ts i 0))
+
+-- no parameters are zeros
+zeros : (n j : ℕ) → slice_index (replicate n 0) j < 2 ^ 64
+zeros zero j = omega arith
+zeros (suc n) zero = omega arith
+zeros (suc n) (suc j) = zeros n j
+
+-- what is raised
+abbrev asked_for : Configuration → ℕ → Exception
+asked_for c first = expressions.raised (get_or (drop first c.frame.temporaries) 0 0)
+    (get_or (drop first c.frame.temporaries) 1 0)
+
+-- what linear code does
+raise_acts : (program : LinearProgram) (c : Configuration) (first : ℕ)
+    → length c.frame.temporaries ≡ first + 4
+    → (next : Next) → act program (instructions.CallBuiltIn RaiseException first) next c
+    ≡ raise program next (asked_for c first) AfterCall (waiting c first)
+unfolding with_some
+raise_acts program c first held next =
+    let last : last_temporaries c.frame.temporaries first (count_of RaiseException)
+    ≡ Some (drop first c.frame.temporaries) =
+    ap (λ (x : Bool). if x then Some (drop first c.frame.temporaries) else None)
+    (eq-eqb (length c.frame.temporaries) (first + 4) held) in
+    ap (λ o. with_some c.events o (λ vs. built_in program next RaiseException vs (waiting c first)))
+    last
+
+module _ (t : Functions) (fs : List Funclet) (program : LinearProgram) (p : ImagePlan) (q : Sites)
+    (image : IsProgramImage t fs program p q) (made : IsWellMade program p)
+    (fits : FlagsFit program) where
+  module _ (s : State) (c : Configuration) (b : RepresentsAt t fs program p q s c)
+      (known : IsKnown program c) (first : ℕ)
+      (at : instruction_at program c ≡ Some (instructions.CallBuiltIn RaiseException first)) where
+    abbrev i : Instruction
+    i = instructions.CallBuiltIn RaiseException first
+
+    abbrev state : State
+    state = asking.state t fs program p q image made s c b known RaiseException first at
+
+    abbrev back : ℕ
+    back = asking.back t fs program p q image made s c b known RaiseException first at
+
+    abbrev exception : Exception
+    exception = asked_for c first
+
+    held : length c.frame.temporaries ≡ first + 4
+    held = ready_here t fs program p q image made s c b known i at
+
+    argument : (j : ℕ) → j < 4 → (asking.numbers t fs program p q image made s c b known
+        RaiseException first at).slots (Temporary (first + j))
+        ≡ get_or (drop first c.frame.temporaries) j 0
+    argument j lt =
+        let n = held in
+        (slots_here t fs program p q image s c b
+        (counted_here t fs program p q image made c known)).temporaries (first + j)
+        (get_or (drop first c.frame.temporaries) j 0)
+        (argument_is c.frame.temporaries first j (omega arith))
+
+    code_given : register state.cpu Rcx ≡ get_or (drop first c.frame.temporaries) 0 0
+    code_given = (let z : first + 0 ≡ first = omega arith in
+        ap (λ n. (asking.numbers t fs program p q image made s c b known RaiseException first
+        at).slots (Temporary n)) (sym z)) ∙ argument 0 (omega arith)
+
+    flags_given : register state.cpu Rdx ≡ get_or (drop first c.frame.temporaries) 1 0
+    flags_given = argument 1 (omega arith)
+
+    abbrev code : Code
+    code = record { 0 = low W32 (register state.cpu Rcx) }
+
+    is_exception : IsException code (register state.cpu Rdx % 2) None exception
+    is_exception = record {
+      same_code = ap (low W32) code_given;
+      same_flag = ap (λ x. nat_eq (x % 2) 1) flags_given;
+      same_access = refl;
+      code_small = omega arith;
+      one_flag = omega arith;
+      access_small = λ j lt. zeros 15 j;
+    }
+
+    resumes : p.resumes AfterCall (waiting c first).frame
+        (asking.saved t fs program p q image made s c b known RaiseException first at) ≡ true
+    resumes = (image.resumptions AfterCall (waiting c first).frame
+        (asking.saved t fs program p q image made s c b known RaiseException first at)).says
+        (record { first = first; calls = at; here = refl; no_result = refl })
+
+    goes : (next : Next) → act program i next c
+        ≡ raise program next exception AfterCall (waiting c first)
+    goes = raise_acts program c first held
+
+    pub raise_step : HasRule (act program i (exec program zero) c) → KnownNext program c i
+        → IsMatched t fs program turns_per_step turns_left (Represents t fs program p q) s c i
+    raise_step rule after =
+        let asks = asking.asks t fs program p q image made s c b known RaiseException first at in
+        let shown = raised_as t fs program p q image fits state
+        (asking.saved t fs program p q image made s c b known RaiseException first at) asks.is
+        b.body.acts (waiting c first) asks.asks
+        (asking.memory t fs program p q image made s c b known RaiseException first at) b.body.store
+        code (register state.cpu Rdx % 2) None exception AfterCall is_exception resumes
+        (subst HasRule (goes (exec program zero)) rule) in
+        let less : turns_left (waiting c first)
+        ≤ turns_left c = (let n = length-take first c.frame.temporaries in omega arith) in
+        let saved = asking.saved t fs program p q image made s c b known RaiseException first at in
+        let shadow = callers (context_of saved) asks.is in
+        let high = asking.high_enough t fs program p q image made s c b known RaiseException first
+        at in
+        let low = asking.low_enough t fs program p q image made s c b known RaiseException first
+        at in
+        let well_formed = asking.well_formed t fs program p q image made s c b known RaiseException first at in
+        let there = asking.sp_there t fs program p q image made s c b known RaiseException first
+        at in
+        let walk =
+        service_walk t fs program p q image state (address_of services.RaiseException) back asks.is
+        refl (omega arith) (omega arith) (λ e. absurd (omega arith)) (λ e. absurd (omega arith))
+        (asking.returns t fs program p q image made s c b known RaiseException first at) well_formed.count
+        (omega arith) asks.asks.on.is_there.stack in
+        matched_when_shown t fs program p q 16 7 (turns_left (waiting c first)) s state c i
+        (arrived t fs (raised t state code (register state.cpu Rdx % 2) None
+        (asking.saved t fs program p q image made s c b known RaiseException first at)))
+        (raise_event exception ∷ [])
+        (λ next. raise program next exception AfterCall (waiting c first)) shadow
+        (asking.comes t fs program p q image made s c b known RaiseException first at)
+        (asking.live t fs program p q image made s c b known RaiseException first at)
+        (raise_turns t fs state back refl (asking.returns t fs program p q image made s c b known
+        RaiseException first at)) (raise_keeps t fs program p q state walk.0 shadow refl walk.1)
+        shown goes (omega arith) after
+
+pub raises_are_matched : RaisesAreMatched
+raises_are_matched t fs program p q image made fits s c first b known at rule after = raise_step t
+    fs program p q image made fits s c b known first at rule after

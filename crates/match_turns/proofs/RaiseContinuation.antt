@@ -1,0 +1,195 @@
+-- Where the exception of a call of RaiseException is continued, the instruction after the call
+-- begins, with the result 0.
+use Rattle.std.proofs.Common.{◌≡◌, ℕ, suc, ◌+◌, ◌*◌, ◌≤◌, Bool, true, false, List, [], ◌∷◌, ◌++◌, length, Some, None, refl, sym, ap, subst, ◌∙◌, arith, length-append}
+use Rattle.std.specs.Prelude.{slice_get}
+use Rattle.x64_instr.specs.declared.register.Reg.TheVariants.{Rsp}
+use Rattle.x64_instr.specs.declared.instruction.Instr.{Instr}
+use Rattle.x64_machine.specs.declared.cpu.Cpu.{Cpu}
+use Rattle.x64_machine.specs.Contexts.{context_of}
+use Rattle.x64_machine.specs.Effect.{State}
+use Rattle.virtual_unwind.specs.CallerOf.{Functions, distance}
+use Rattle.host_model.specs.declared.funclet.Funclet.{Funclet}
+use Rattle.host_model.specs.Funclets.{arrivals}
+use Rattle.c_operations.specs.declared.built_in.BuiltIn.TheVariants.{RaiseException}
+use Rattle.linear_code.specs.declared.slot.Slot.TheVariants.{Temporary}
+use Rattle.linear_code.specs.declared.instruction.Instruction.{Instruction}
+use Rattle.linear_code.specs.declared.instruction.Instruction.TheVariants as instructions
+use Rattle.linear_code.specs.Meaning.{HasSlots}
+use Rattle.linear_code.specs.Program.{LinearProgram, LinearBody}
+use Rattle.linear_machine.specs.Frames.{BodyName, FunctionBody, FuncletBody, body_of, AfterCall, Waits, Configuration}
+use Rattle.linear_machine.specs.Searching.{resumed}
+use Rattle.template_code.specs.declared.layout.Layout.{Layout}
+use Rattle.template_code.specs.Bytes.{sizes}
+use Rattle.template_code.specs.Slots.{put_back, keep, temporary_at}
+use Rattle.template_code.specs.Jumps.{call}
+use Rattle.template_code.specs.Calls.{arguments_code, return_at, begin_call, clear_result}
+use Rattle.template_code.proofs.Sizes.{sizes_append, call_size}
+use Rattle.x64_templates.specs.Runs.{HasCode}
+use Rattle.x64_templates.proofs.Computes.{code_split}
+use Rattle.x64_templates.proofs.Encoded.{near}
+use Rattle.match_stack.specs.Stack.{StackItem}
+use Rattle.match_stack.specs.ImagePlan.{ImagePlan}
+use Rattle.match_stack.specs.ItemMatches.{Activation, locals_of}
+use Rattle.match_stack.specs.StackRecords.{On}
+use Rattle.match_stack.specs.HostUnwind.{on_top}
+use Rattle.match_stack.specs.DispatchStates.{IsWellFormed}
+use Rattle.match_runs.specs.Comes.{LeadsTo}
+use Rattle.lowering_invariants.specs.Depths.{depth_at, depth_in}
+use Rattle.lowering_invariants.proofs.Scans.{depth_next}
+use Rattle.match_bodies.specs.Layouts.{IsLayoutIf, IsLaidOut}
+use Rattle.match_bodies.specs.CodeSites.{Sites}
+use Rattle.match_bodies.specs.ProgramImages.{ReturnsThere, IsMachineMemory, IsProgramImage}
+use Rattle.match_bodies.specs.Bodies.{RepresentsAt}
+use Rattle.match_bodies.proofs.ReturnAddresses.{template_there}
+use Rattle.match_bodies.proofs.SilentTurns.{reaches_silently}
+use Rattle.match_bodies.specs.ConfigurationFacts.{IsWellMade, IsKnown}
+use Rattle.match_bodies.specs.BodyViews.{counts_of}
+use Rattle.match_bodies.proofs.ActivationPlaces.{locals_count}
+use Rattle.match_bodies.proofs.StepNeeds.{label_in, body_there, counted_here}
+use Rattle.match_bodies.proofs.TemplateRuns.{each}
+use Rattle.match_bodies.proofs.BodyViews.{IsCounted}
+use Rattle.match_turns.proofs.CallResult as kept
+use Rattle.match_turns.proofs.CallSteps.{surrounded}
+use Rattle.match_turns.specs.FuncletEntry.{entry_turns}
+use Rattle.match_turns.specs.RaiseLaws.{ContinuationsAfterCalls}
+use Rattle.match_turns.proofs.BuiltInRequest.{clear_size}
+use Rattle.match_turns.proofs.FuncletFirstInstruction.{silent_code}
+use Rattle.template_code.specs.declared.layout.TheConstants.{LARGEST_FRAME}
+
+-- the locals of an activation
+abbrev locals_in : List (List ℕ) → ℕ → List ℕ
+locals_in xs k = elim (slice_get xs k) [ Some locals ↦ locals | None ↦ [] ]
+
+-- temporaries are near RSP
+temporaries_near : (program : LinearProgram) (p : ImagePlan) (name : BodyName) (b : LinearBody)
+    → IsLaidOut program p name b → (p.layout name).temporaries + 8 * b.temporaries + 8
+    ≤ LARGEST_FRAME
+temporaries_near program p (FunctionBody f) b h = by (p.leaf (FunctionBody f)) h
+  where
+    by : (leaf : Bool) → IsLayoutIf program p (p.layout (FunctionBody f)) b leaf
+        → (p.layout (FunctionBody f)).temporaries + 8 * b.temporaries + 8 ≤ LARGEST_FRAME
+    by true l = let a = l.temporaries in let e = l.few in omega arith
+    by false l = let a = l.temporaries in let e = l.locals in let z = l.small in omega arith
+temporaries_near program p (FuncletBody k) b h = let a = h.layout.temporaries in
+    let z = h.layout.small in omega arith
+
+module _ (t : Functions) (fs : List Funclet) (program : LinearProgram) (p : ImagePlan) (q : Sites)
+    (image : IsProgramImage t fs program p q) where
+  module _ (made : IsWellMade program p) (s : State) (saved : Cpu) (is : List StackItem)
+      (acts : List Activation) (c : Configuration)
+      (on : On t fs program p s.memory (context_of saved) is (Waits c.frame ∷ c.below) acts)
+      (well_formed : IsWellFormed (record { cpu = saved; memory = s.memory }))
+      (says : p.resumes AfterCall c.frame saved ≡ true)
+      (memory : IsMachineMemory t fs program p q s.memory c.store.memory)
+      (store : c.store.activations ≡ locals_of acts) where
+    abbrev name : BodyName
+    name = c.frame.body
+
+    abbrev y : Layout
+    y = p.layout c.frame.body
+
+    abbrev place : ℕ
+    place = p.address c.frame.body c.frame.next
+
+    returns : ReturnsThere t fs program p q c.frame saved
+    returns = (image.resumptions AfterCall c.frame saved).said says
+
+    abbrev first : ℕ
+    first = returns.first
+
+    abbrev i : Instruction
+    i = instructions.CallBuiltIn RaiseException first
+
+    code : (o : LinearBody) × (body_of program name ≡ Some o)
+    code = body_there (body_of program name) c.frame.next i returns.calls
+
+    here : slice_get code.0.code c.frame.next ≡ Some i
+    here = label_in (body_of program name) code.0 c.frame.next i code.1 returns.calls
+
+    fits : first + 4 ≤ code.0.temporaries
+    fits = each (HasSlots (counts_of code.0)) code.0.code c.frame.next i
+        (made.room name code.0 code.1).slots here
+
+    abbrev done : List Instr
+    done = clear_result ∷ begin_call y first (place + 5) (q.thunk RaiseException)
+
+    back_is : saved.rip ≡ place + sizes done
+    back_is =
+        let n = clear_size in
+        let back = return_at y first (place + 5) in
+        let five = call_size back (q.thunk RaiseException) in
+        omega (
+          arith,
+          returns.here,
+          sizes_append (arguments_code y first)
+              (call back (q.thunk RaiseException) ∷ []),
+        )
+
+    -- the code that keeps the result
+    keeps : HasCode s.memory saved.rip (put_back Rsp (temporary_at y first) ∷ [])
+    keeps =
+        let h = code_split s.memory place done (keep y (Temporary first))
+        (template_there t fs program p q image name code.0 code.1 s.memory memory.code
+        c.frame.next i here) in
+        subst (λ x. HasCode s.memory x (keep y (Temporary first))) (sym back_is) h.1
+
+    pub silent_there : arrivals saved (distance t.base saved.rip) 1 fs ≡ []
+    silent_there =
+        let n = temporaries_near program p name code.0 (image.laid_out name code.0 code.1) in
+        let f = fits in
+        silent_code t fs program p q image s.memory saved.rip (put_back Rsp (temporary_at y first))
+        saved memory.code (near (temporary_at y first) (omega arith)) refl keeps well_formed.rip_small
+
+    module _ (known : IsKnown program (resumed AfterCall c)) (free : c.frame.landed ≡ None) where
+      held : length c.frame.temporaries ≡ first
+      held =
+          let d = known.depths.held ∙ ap (λ o. depth_in o (c.frame.next + 1)) code.1 in
+          let one : c.frame.next + 1 ≡ suc c.frame.next = omega arith in
+          let n = ap (depth_at code.0.code) one ∙ depth_next code.0.code 0 c.frame.next i here in
+          let more = length-append c.frame.temporaries (0 ∷ []) in
+          omega (arith, d, n, more)
+
+      abbrev caller : Configuration
+      caller = on_top c.frame c.below c.store.memory acts c.events
+
+      counted : IsCounted t fs program p q image caller
+      counted b there = ap (λ (xs : List (List ℕ)). length (locals_in xs c.frame.activation))
+          (sym store) ∙ counted_here t fs program p q image made (resumed AfterCall c) known b there
+
+      pub continues : LeadsTo t fs entry_turns (RepresentsAt t fs program p q)
+          (record { cpu = saved; memory = s.memory }) (resumed AfterCall c)
+      continues =
+          let around = surrounded t fs program p q image made (resumed AfterCall c) known code.0
+          code.1 (length acts) (sym (locals_count acts) ∙ sym (ap length store)) in
+          let u : State = record { cpu = saved; memory = s.memory } in
+          let f = fits in
+          let z = kept.resumes t fs program p q image made.room u c.frame c.below acts
+          c.store.memory c.events (context_of saved) is on refl well_formed memory code.0 code.1 i first
+          done here (λ h. h) refl (omega arith)
+          ((made.apart name code.0 code.1).within c.frame.next i here refl) held free back_is
+          counted around in
+          record {
+            turns = 1;
+            few = omega arith;
+            state = z.state;
+            comes = reaches_silently t fs program p q image 1 u z.state z.reaches z.keeps memory.code
+                z.silent;
+            is_there = subst (λ xs. RepresentsAt t fs program p q z.state (record {
+              frame = record c.frame {
+                next = c.frame.next + 1;
+                temporaries = c.frame.temporaries ++ 0 ∷ [];
+              };
+              below = c.below;
+              store = record { memory = c.store.memory; activations = xs };
+              events = c.events;
+            })) (sym store) (subst (λ x. RepresentsAt t fs program p q z.state
+                (kept.answered t fs program p q image made.room c.frame c.below c.store.memory acts
+                c.events x)) returns.no_result z.begins);
+          }
+
+pub continuations_after_calls : ContinuationsAfterCalls
+continuations_after_calls t fs program p q image made s saved is acts c on well_formed says memory store = (
+  silent_there t fs program p q image made s saved is acts c on well_formed says memory store,
+  λ known free. continues t fs program p q image made s saved is acts c on well_formed says memory
+      store known free,
+)

@@ -1,0 +1,50 @@
+-- Where a body begins an instruction, and where a funclet is called, the list is above the return
+-- address.
+use Rattle.std.proofs.Common.{ℕ, ◌+◌, ◌≤◌, List, refl, sym, subst, arith}
+use Rattle.host_layout.specs.declared.range.TheConstants.{STACK_END}
+use Rattle.x64_instr.specs.declared.register.Reg.TheVariants.{Rsp}
+use Rattle.x64_machine.specs.Effect.{State, register}
+use Rattle.virtual_unwind.specs.CallerOf.{Functions}
+use Rattle.host_model.specs.declared.funclet.Funclet.{Funclet}
+use Rattle.linear_code.specs.Program.{LinearProgram}
+use Rattle.linear_machine.specs.Frames.{Item, Configuration}
+use Rattle.match_stack.specs.Stack.{IsStack}
+use Rattle.match_stack.specs.WalkLaws.{context_below}
+use Rattle.match_stack.specs.ImagePlan.{ImagePlan}
+use Rattle.match_stack.specs.ItemMatches.{Activation}
+use Rattle.match_bodies.specs.CodeSites.{Sites}
+use Rattle.match_bodies.specs.ProgramImages.{IsProgramImage}
+use Rattle.match_bodies.specs.Bodies.{RepresentsAt}
+use Rattle.match_bodies.proofs.InstructionEffects.{others_of}
+use Rattle.match_bodies.proofs.RoutineWalks.{Beneath, beneath_by}
+use Rattle.match_bodies.proofs.BodyViews.{IsCounted, frame_top}
+use Rattle.match_turns.proofs.FuncletFrame.{ArrivesBelow}
+
+module _ (t : Functions) (fs : List Funclet) (program : LinearProgram) (p : ImagePlan) (q : Sites)
+    (image : IsProgramImage t fs program p q) where
+  module _ (s : State) (c : Configuration) (b : RepresentsAt t fs program p q s c)
+      (counted : IsCounted t fs program p q image c) where
+    -- the return address of the body that runs
+    abbrev pub top_of : ℕ
+    top_of = register s.cpu Rsp + (p.layout c.frame.body).frame
+
+    pub begins_beneath : Beneath t s top_of (top_of + 8) b.body.back (others_of s.cpu.registers)
+        b.body.is
+    begins_beneath =
+        let h = frame_top t fs program p q image s c b counted in
+        beneath_by t s top_of b.body.back b.body.is b.well_formed.count b.body.returns
+        (b.body.below (others_of s.cpu.registers) refl).is_there.stack (omega arith)
+        b.memory.data_alone.no_code
+
+  -- that of a funclet
+  pub arrives_beneath : (s : State) (k activation first : ℕ) (items : List Item)
+      (acts : List Activation) (a : ArrivesBelow t fs program p s k activation first items acts)
+      → a.at ≤ STACK_END
+      → Beneath t s (register s.cpu Rsp) (register s.cpu Rsp + 8) a.back (others_of s.cpu.registers)
+      a.is
+  arrives_beneath s k activation first items acts a high =
+      let e = a.stack in
+      let on = a.on (others_of s.cpu.registers) refl in
+      beneath_by t s (register s.cpu Rsp) a.back a.is a.well_formed.count a.returns
+      (subst (λ n. IsStack t s.memory (context_below a.back n (others_of s.cpu.registers)) a.is)
+      (sym e) on.is_there.stack) (omega arith) on.data_alone.no_code

@@ -1,0 +1,151 @@
+-- A turn that searches: a filter begins, a handler takes over, or nobody does.
+use Rattle.std.proofs.Common.{◌≡◌, ℕ, zero, ◌+◌, ◌%◌, ◌^◌, ◌<◌, true, List, [], ◌∷◌, None, refl, sym, ap, subst, arith, inl, inr}
+use Rattle.seh_num.specs.declared.event.Event.TheVariants as events
+use Rattle.x64_machine.specs.Contexts.{context_of}
+use Rattle.x64_machine.specs.Effect.{State}
+use Rattle.virtual_unwind.specs.Contexts.{rsp}
+use Rattle.virtual_unwind.specs.CallerOf.{Functions}
+use Rattle.seh_records.specs.declared.dispatch.DispatchRecord.{DispatchRecord}
+use Rattle.seh_records.specs.Record.{placed}
+use Rattle.host_model.specs.declared.funclet.Funclet.{Funclet}
+use Rattle.host_model.specs.Turns.{Turn}
+use Rattle.host_model.specs.Funclets.{arrived}
+use Rattle.host_model.specs.Dispatch.{accepting, accepted, searches_on, unwinds_on}
+use Rattle.source_meaning.specs.State.{Exception}
+use Rattle.linear_code.specs.Program.{LinearProgram}
+use Rattle.linear_machine.specs.Frames.{Handler, Resumption, Waits, Store, Next, Configuration}
+use Rattle.linear_machine.specs.Searching as linear
+use Rattle.linear_machine.specs.Searching.{target_of, begin_filter, accept}
+use Rattle.linear_machine.specs.Unwinding.{unwind}
+use Rattle.linear_machine.specs.Run.{exec}
+use Rattle.match_stack.specs.Stack.{StackItem}
+use Rattle.match_stack.specs.ImagePlan.{ImagePlan}
+use Rattle.match_stack.specs.ItemMatches.{Activation, locals_of, Aimed}
+use Rattle.match_stack.proofs.ListEnds.{in_stack}
+use Rattle.match_stack.specs.StackRecords.{RecordHasRoom}
+use Rattle.match_stack.specs.HostUnwind.{store_of}
+use Rattle.match_stack.specs.SearchOutcomes.{FilterBegins}
+use Rattle.match_stack.specs.TurnLaws.{IsSearching}
+use Rattle.match_stack.specs.DispatchSteps.{placed_in, from_body}
+use Rattle.match_stack.proofs.SearchTurns.{search_turns}
+use Rattle.match_stack.proofs.DispatchSteps.{acceptance_unwinds}
+use Rattle.match_runs.specs.Ends.{HasRule}
+use Rattle.match_bodies.specs.CodeSites.{Sites}
+use Rattle.match_bodies.specs.Callers.{callers}
+use Rattle.match_bodies.specs.ProgramImages.{IsMachineMemory, IsProgramImage}
+use Rattle.match_bodies.specs.Bodies.{turns_left}
+use Rattle.match_turns.specs.FuncletEntry.{FlagsFit}
+use Rattle.match_turns.proofs.FuncletSteps.{called_filters_begin}
+use Rattle.match_turns.specs.DispatchOutcome.{EntersFunclet, Outcome}
+use Rattle.match_turns.proofs.DispatchMemory.{memory_untouched, placing}
+use Rattle.match_turns.proofs.DispatchOutcomeSteps.{represents_there, outcome_same}
+use Rattle.match_turns.proofs.DispatchWalks.{filter_walk}
+use Rattle.match_turns.proofs.UnwindTurn.{unwound}
+
+module _ (t : Functions) (fs : List Funclet) (program : LinearProgram) (p : ImagePlan) (q : Sites)
+    (image : IsProgramImage t fs program p q) (fits : FlagsFit program) where
+  module _ (s : State) (at : ℕ) (r : DispatchRecord) (is : List StackItem) (acts : List Activation)
+      (exception : Exception) (found : List Handler) (c : Configuration)
+      (h : IsSearching t fs program p s at r is acts exception found c)
+      (memory : IsMachineMemory t fs program p q s.memory c.store.memory)
+      (store : c.store.activations ≡ locals_of acts) where
+    same_store : store_of c.store.memory acts ≡ c.store
+    same_store = ap (λ (xs : List (List ℕ)). let x : Store =
+        record { memory = c.store.memory; activations = xs } in x) (sym store)
+
+    -- ---- a handler takes over, in a frame of the list
+
+    pub taken_over : (f : Handler) (frame address : ℕ) → frame < 2 ^ 64 → address < 2 ^ 64
+        → Aimed t fs program p f.depth f.target frame address (context_of r.saved) is
+        (Waits c.frame ∷ c.below)
+        → HasRule (accept program f exception (exec program zero) c)
+        → Outcome t fs program p q (arrived t fs (accepted t s at r frame address))
+        (λ next. accept program f exception next c) c.events (turns_left c)
+        (callers (context_of r.saved) is)
+    taken_over f frame address frame_small address_small aimed rule =
+        let a = acceptance_unwinds t fs program p s at r frame address is acts exception found f c
+        c.store.memory h frame_small address_small aimed in
+        let w = from_body (target_of f exception.code c.frame.held) c.frame c.below acts
+        c.store.memory c.events in
+        let record' = accepting r frame address in
+        let room : RecordHasRoom s.memory at record'
+        (rsp (context_of r.saved)) = record {
+          fits = a.unwinding.room.fits;
+          below = h.room.below;
+          small = h.room.small;
+          room = h.room.room;
+        } in
+        let top = in_stack t fs program p s.memory (context_of r.saved) is (Waits c.frame ∷ c.below)
+        acts h.on.is_there.stack h.on.is_there.linked in
+        let untouched = placing s.memory at record' (rsp (context_of r.saved)) h.on.data_alone room
+        top in
+        let memory' = memory_untouched t fs program p q s.memory (placed s.memory at record')
+        c.store.memory untouched memory a.unwinding.on.data_alone in
+        let same = λ (next : Next). ap (λ (x : Store). unwind program next
+        (target_of f exception.code c.frame.held) (Waits c.frame ∷ c.below) None c.events x)
+        (sym same_store) in
+        outcome_same t fs program p q (arrived t fs
+        (unwinds_on t (placed_in s at record') at record'))
+        (arrived t fs (accepted t s at r frame address))
+        (λ next. unwind program next w.target w.items w.left w.shown (store_of w.source w.acts))
+        (λ next. accept program f exception next c) c.events (turns_left c)
+        (callers (context_of r.saved) is)
+        (ap (arrived t fs) a.turns) same
+        (unwound t fs program p q image fits w (turns_left c) (omega arith) (λ e. absurd cc)
+        (placed_in s at record') at record' is a.unwinding memory'
+        (subst HasRule (same (exec program zero)) rule))
+
+    -- ---- a filter is asked
+
+    filter_enters : (turn : Turn) (resumption : Resumption)
+        → FilterBegins t fs program p s at r turn found exception resumption is acts c
+        → EntersFunclet t fs program p q turn (λ next. linear.search program next found exception
+        resumption c) c.events (turns_left c) (callers (context_of r.saved) is)
+    filter_enters turn resumption f =
+        let memory' = memory_untouched t fs program p q s.memory f.state.memory c.store.memory
+        f.untouched memory (f.arrives.on []).data_alone in
+        record {
+          state = f.state;
+          event = events.Filter (f.filter + 1);
+          turns = f.turns;
+          configuration = begin_filter f.filter f.handler f.rest exception resumption c;
+          more = 2;
+          held = c.frame.held;
+          store = c.store;
+          few = λ shallow. omega arith;
+          acts = f.goes;
+          shown = refl;
+          arrives = f.named;
+          walk = filter_walk t fs program p q image s at r turn found exception resumption is acts c
+              f;
+          leads = λ shallow known. represents_there t fs program p q f.state
+              (begin_filter f.filter f.handler f.rest exception resumption c)
+              (called_filters_begin t fs program p q image f.state f.filter ((at + 80) % 2 ^ 64)
+              f.handler f.rest exception resumption c acts f.arrives f.pointers f.asked memory'
+              store shallow known);
+        }
+
+    -- ---- all of them
+
+    pub searched : (resumption : Resumption) → p.resumes resumption c.frame r.saved ≡ true
+        → HasRule (linear.search program (exec program zero) found exception resumption c)
+        → Outcome t fs program p q (arrived t fs (searches_on t s at r))
+        (λ next. linear.search program next found exception resumption c) c.events (turns_left c)
+        (callers (context_of r.saved) is)
+    searched resumption resumes rule = elim (search_turns t fs program p s at r is acts exception
+        resumption found c h resumes) [
+          | inl f ↦ inr (inl (filter_enters (arrived t fs (searches_on t s at r)) resumption f))
+          | inr x ↦ elim x [
+            | inl k ↦ outcome_same t fs program p q (arrived t fs (accepted t s at r k.frame k.address))
+                (arrived t fs (searches_on t s at r)) (λ next. accept program k.handler exception next c)
+                (λ next. linear.search program next found exception resumption c) c.events
+                (turns_left c) (callers (context_of r.saved) is) k.turns k.goes
+                (taken_over k.handler k.frame k.address k.frame_small k.address_small k.aimed
+                (subst HasRule (k.goes (exec program zero)) rule))
+            | inr z ↦ inr (inr (record {
+              code = record { 0 = exception.code };
+              turns = z.turns;
+              acts = z.goes;
+            }))
+          ]
+        ]

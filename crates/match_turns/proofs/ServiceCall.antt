@@ -1,0 +1,211 @@
+-- A body calls a service: the service is reached, with the arguments in RCX and RDX.
+use Rattle.std.proofs.Common.{◌≡◌, ℕ, zero, suc, ◌+◌, ◌^◌, ◌<◌, ◌≤◌, List, [], ◌∷◌, length, set, Some, Ok, refl, sym, subst, ◌∙◌, arith, length-drop}
+use Rattle.std.specs.Prelude.{slice_get}
+use Rattle.std.proofs.lemmas.Bool.{ne_eqb}
+use Rattle.std.proofs.lemmas.List.{length-set}
+use Rattle.x64_encode.specs.Chosen.{opcode_register}
+use Rattle.host_layout.specs.declared.range.TheConstants.{IMAGE_BASE, IMAGE_RANGE_END, STACK_START, STACK_END}
+use Rattle.host_layout.specs.Services.{address_of}
+use Rattle.seh_num.specs.declared.width.Width.TheVariants.{W64}
+use Rattle.flat_memory.specs.Memory.{loaded}
+use Rattle.x64_instr.specs.declared.register.Reg.TheVariants.{Rsp}
+use Rattle.x64_machine.specs.declared.cpu.Flags.{Flags}
+use Rattle.x64_machine.specs.Effect.{State, register}
+use Rattle.virtual_unwind.specs.CallerOf.{Functions}
+use Rattle.host_model.specs.declared.funclet.Funclet.{Funclet}
+use Rattle.c_operations.specs.declared.built_in.BuiltIn.{BuiltIn}
+use Rattle.c_operations.specs.declared.built_in.BuiltIn.TheVariants.{Put, Protect, RaiseException}
+use Rattle.linear_code.specs.declared.slot.Slot.TheVariants.{Temporary}
+use Rattle.linear_code.specs.declared.instruction.Instruction.{Instruction}
+use Rattle.linear_code.specs.declared.instruction.Instruction.TheVariants as instructions
+use Rattle.linear_code.specs.BodyState.{BodyState}
+use Rattle.linear_code.specs.Program.{LinearProgram}
+use Rattle.linear_machine.specs.Frames.{Configuration}
+use Rattle.template_code.specs.declared.layout.Layout.{Layout}
+use Rattle.template_code.specs.Bytes.{size, sizes}
+use Rattle.template_code.specs.Slots.{keep}
+use Rattle.template_code.specs.Jumps.{IsNear, call}
+use Rattle.template_code.specs.Calls.{arguments_code, return_at, begin_call, call_code, clear_result}
+use Rattle.template_code.specs.Template.{template_size, body_size, offset_of}
+use Rattle.template_code.proofs.Sizes.{sizes_append, call_size, call_code_size}
+use Rattle.x64_templates.specs.Straight.{MachineView, machine}
+use Rattle.x64_templates.specs.CallStates.{pushed}
+use Rattle.x64_templates.specs.Runs.{Reaches, HasCode}
+use Rattle.x64_templates.proofs.Computes.{code_split}
+use Rattle.match_stack.specs.ImagePlan.{ImagePlan}
+use Rattle.match_runs.specs.Comes.{IsLive, Comes}
+use Rattle.lowering_invariants.specs.Room.{HaveRoom}
+use Rattle.match_bodies.specs.CodeSites.{Sites}
+use Rattle.match_bodies.specs.ProgramImages.{service_of, IsProgramImage}
+use Rattle.match_bodies.specs.Bodies.{RepresentsAt}
+use Rattle.match_bodies.proofs.SilentTurns.{reaches_silently}
+use Rattle.match_bodies.proofs.BodyViews.{IsCounted, room_here, holds_here, sp_low, frame_top}
+use Rattle.match_bodies.proofs.TemplateRuns.{frame, slots, v, sp_is, same_state, has_slots, template_here, next_address}
+use Rattle.match_turns.proofs.BuiltInCall.{ServiceReached, with_arguments_of, service_reached}
+use Rattle.match_turns.proofs.BuiltInShadow.{built_in_keeps}
+use Rattle.match_turns.proofs.HostPage.{host_silent}
+use Rattle.match_turns.proofs.ReturnAddressPush.{below, returns_there}
+
+clear_size : size clear_result ≡ 5
+unfolding size opcode_register
+clear_size = refl
+
+service_low : (f : BuiltIn) → (0 < address_of (service_of f))
+    × (address_of (service_of f) < 0x100000000)
+service_low Put = (omega arith, omega arith)
+service_low Protect = (omega arith, omega arith)
+service_low RaiseException = (omega arith, omega arith)
+
+-- an instruction of a body begins within it
+offset_most : (y : Layout) (body : List Instruction) (number : ℕ)
+    → offset_of y body number ≤ body_size y body
+offset_most y [] zero = omega arith
+offset_most y [] (suc number) = omega arith
+offset_most y (i ∷ body) zero = omega arith
+offset_most y (i ∷ body) (suc number) = let r = offset_most y body number in omega arith
+
+built_in_size : (y : Layout) (f : BuiltIn) (first : ℕ)
+    → template_size y (instructions.CallBuiltIn f first)
+    ≡ 5 + (sizes (arguments_code y first) + 5 + sizes (keep y (Temporary first)))
+unfolding template_size
+built_in_size y f first = let a = call_code_size y (Temporary first) first 5 0 in
+    let b = clear_size in omega arith
+
+module _ (t : Functions) (fs : List Funclet) (program : LinearProgram) (p : ImagePlan) (q : Sites)
+    (image : IsProgramImage t fs program p q) (roomy : HaveRoom program) where
+  module _ (s : State) (c : Configuration) (b : RepresentsAt t fs program p q s c)
+      (counted : IsCounted t fs program p q image c) (f : BuiltIn) (first : ℕ)
+      (at : slice_get b.body.slots.code.code c.frame.next ≡ Some (instructions.CallBuiltIn f first))
+    where
+      abbrev pub layout : Layout
+      layout = p.layout c.frame.body
+
+      abbrev pub sp : ℕ
+      sp = register s.cpu Rsp
+
+      abbrev pub view : MachineView
+      view = v t fs program p q image roomy s c b counted
+
+      abbrev pub numbers : BodyState
+      numbers = slots t fs program p q image roomy s c b counted
+
+      -- where the service returns to
+      abbrev pub back : ℕ
+      back = return_at layout first (s.cpu.rip + 5)
+
+      abbrev pub service : ℕ
+      service = address_of (service_of f)
+
+      pub low : STACK_START + 196568 ≤ sp
+      low = sp_low t fs program p q image s c b counted
+
+      pub top : sp ≤ STACK_END
+      top = let h = frame_top t fs program p q image s c b counted in omega arith
+
+      -- with the arguments in their registers
+      abbrev pub given : MachineView
+      given = with_arguments_of view numbers first
+
+      pub many : length given.rest ≡ 13
+      many =
+          let x = numbers.slots (Temporary (first + 2)) in
+          let z = numbers.slots (Temporary (first + 3)) in
+          length-set (set view.rest 5 x) 6 z ∙ length-set view.rest 5 x
+          ∙ length-drop 3 s.cpu.registers ∙ (let k = b.well_formed.count in omega arith)
+
+      -- the next instruction begins after the result is kept
+      pub next_is : p.address c.frame.body (c.frame.next + 1)
+          ≡ back + sizes (keep layout (Temporary first))
+      next_is =
+          let n = next_address t fs program p q image roomy s c b counted
+          (instructions.CallBuiltIn f first) at in
+          let z = built_in_size layout f first in
+          omega arith
+
+      pub back_near : (IMAGE_BASE < back) × (back < IMAGE_RANGE_END)
+      back_near =
+          let a = image.addresses c.frame.body b.body.slots.code b.body.slots.body in
+          let inside_low = a.inside.low in
+          let inside_high = a.inside.high in
+          let begin = a.first in
+          let from = a.labels c.frame.next in
+          let most = offset_most layout b.body.slots.code.code (c.frame.next + 1) in
+          let to = a.labels (c.frame.next + 1) in
+          let e = b.rip in
+          let n = next_is in
+          (omega arith, omega arith)
+
+      near : IsNear back (q.thunk f)
+      near =
+          let n = back_near in
+          let l = n.0 in
+          let h = n.1 in
+          let inside = (b.memory.code.thunks f).inside in
+          let k = inside.low in
+          let z = inside.high in
+          (omega arith, omega arith, omega arith, omega arith)
+
+      reached : ServiceReached (frame t fs program p q image roomy s c b counted) first view s.cpu.rip
+          service s.cpu.flags numbers
+      reached =
+          service_reached (frame t fs program p q image roomy s c b counted) first view s.cpu.rip
+          (q.thunk f) service s.cpu.flags numbers (room_here t fs program p q image s c b counted)
+          (has_slots t fs program p q image roomy s c b counted (instructions.CallBuiltIn f first) at)
+          (sp_is t fs program p q image roomy s c b counted)
+          (holds_here t fs program p q image s c b counted)
+          (below view sp back (let l = low in omega arith) top b.memory.data_alone b.memory.stack)
+          near
+          (template_here t fs program p q image roomy s c b counted (instructions.CallBuiltIn f first)
+          at) (b.memory.code.thunks f).thunk
+
+      pub flags_there : Flags
+      flags_there = reached.flags
+
+      -- at the service
+      abbrev pub at_service : State
+      at_service = machine (pushed given sp back) service flags_there
+
+      pub reaches : Reaches 7 s at_service
+      unfolding flags_there
+      reaches = subst (λ x. Reaches 7 x (machine (pushed given sp back) service reached.flags))
+          (sym (same_state t fs program p q image roomy s c b counted)) reached.comes
+
+      pub comes_there : Comes t fs 7 s [] at_service
+      comes_there = reaches_silently t fs program p q image 7 s at_service reaches
+          (built_in_keeps t fs program p q image roomy s c b counted f first at at_service reaches refl
+          (subst (λ r. IsNear (return_at layout first (r + 5)) (q.thunk f)) b.rip near)) b.memory.code
+          (host_silent t fs program p q image s.memory service at_service.cpu b.memory.code
+          (service_low f).1)
+
+      pub live_there : IsLive at_service
+      live_there = let l = (service_low f).0 in ne_eqb service 0 (λ e. absurd (omega arith))
+
+      pub back_small : back < 2 ^ 64
+      back_small = let n = back_near.1 in omega arith
+
+      pub returns : loaded at_service.memory (register at_service.cpu Rsp) W64 ≡ Ok back
+      returns = returns_there given sp back (let l = low in omega arith) top b.memory.data_alone
+          b.memory.stack service flags_there back_small many
+
+      -- after the call the result is kept
+      pub code_after : HasCode s.memory back (keep layout (Temporary first))
+      code_after =
+          let whole = template_here t fs program p q image roomy s c b counted
+          (instructions.CallBuiltIn f first) at in
+          let parts = code_split s.memory s.cpu.rip (clear_result ∷ [])
+          (call_code layout (Temporary first) first (s.cpu.rip + 5) (q.thunk f)) whole in
+          let n = clear_size in
+          let there : s.cpu.rip + sizes (clear_result ∷ []) ≡ s.cpu.rip + 5 = omega arith in
+          let rest = subst (λ a. HasCode s.memory a
+          (call_code layout (Temporary first) first (s.cpu.rip + 5) (q.thunk f))) there parts.1 in
+          let last = code_split s.memory (s.cpu.rip + 5)
+          (begin_call layout first (s.cpu.rip + 5) (q.thunk f)) (keep layout (Temporary first))
+          rest in
+          let five = call_size back (q.thunk f) in
+          let long : s.cpu.rip + 5 + sizes (begin_call layout first (s.cpu.rip + 5) (q.thunk f))
+          ≡ back = omega (
+            arith,
+            sizes_append (arguments_code layout first)
+                (call back (q.thunk f) ∷ []),
+          ) in
+          subst (λ x. HasCode s.memory x (keep layout (Temporary first))) long last.1

@@ -1,0 +1,142 @@
+-- A service that has been called returns: its own call is over, and the walk gives the callers of
+-- the body again.
+use Rattle.std.proofs.Common.{◌≡◌, ℕ, ◌+◌, ◌^◌, ◌<◌, ◌≤◌, List, [], ◌∷◌, drop, Ok, Err, refl, ap, subst, ◌∙◌, arith}
+use Rattle.std.specs.Prelude.{Result, slice_index, slice_set, if◌then◌else◌}
+use Rattle.seh_num.specs.declared.width.Width.TheVariants.{W64}
+use Rattle.flat_memory.specs.declared.access.RefusedAccess.{RefusedAccess}
+use Rattle.host_layout.specs.Services.{address_of, service_at, in_host_page}
+use Rattle.flat_memory.specs.Memory.{Memory, executable, loaded}
+use Rattle.x64_instr.specs.declared.register.Reg.TheVariants.{Rsp}
+use Rattle.x64_instr.specs.Spelling.{leading}
+use Rattle.x64_machine.specs.declared.context.Context.{Context}
+use Rattle.x64_machine.specs.declared.outcome.Stop.TheVariants as stops
+use Rattle.x64_machine.specs.Contexts.{kept_of, context_of}
+use Rattle.x64_machine.specs.Effect.{State, register, hosted, execute, step}
+use Rattle.virtual_unwind.specs.Contexts.{rsp}
+use Rattle.virtual_unwind.specs.CallerOf.{Functions, distance}
+use Rattle.virtual_unwind.specs.Undone.{readable, word}
+use Rattle.seh_walk.specs.Walk.{filter_return, finally_return}
+use Rattle.host_model.specs.declared.funclet.Funclet.{Funclet}
+use Rattle.host_model.specs.Funclets.{arrivals}
+use Rattle.c_operations.specs.declared.built_in.BuiltIn.{BuiltIn}
+use Rattle.c_operations.specs.declared.built_in.BuiltIn.TheVariants.{Put, Protect, RaiseException}
+use Rattle.linear_code.specs.Program.{LinearProgram}
+use Rattle.linear_machine.specs.Frames.{Configuration}
+use Rattle.x64_templates.proofs.Keeping.{index_other}
+use Rattle.match_stack.specs.PlainWalks.{state}
+use Rattle.match_stack.specs.ImagePlan.{ImagePlan}
+use Rattle.match_stack.specs.ItemMatches.{activations_below}
+use Rattle.match_stack.specs.ListLaws.{KeepsStack}
+use Rattle.match_stack.proofs.ListKeeping.{reads_other, kept_by_other_memories}
+use Rattle.match_runs.specs.Shadow.{drop_below, started, served, GivesCallers, WalkGives, KeepsShadow}
+use Rattle.match_runs.proofs.Shadows.{none_below, one_below, host_keeps}
+use Rattle.match_bodies.specs.CodeSites.{Sites}
+use Rattle.match_bodies.specs.Callers.{caller_above}
+use Rattle.match_bodies.specs.ProgramImages.{service_of, HasProgram, IsProgramImage}
+use Rattle.match_bodies.specs.Bodies.{RepresentsAt}
+use Rattle.match_bodies.proofs.StackWalks.{on_stack}
+use Rattle.match_bodies.proofs.BodyCallers.{gives_caller}
+use Rattle.match_bodies.proofs.BodyViews.{IsCounted, sp_low, frame_top}
+use Rattle.match_bodies.proofs.TemplateShadows.{kept_here, caller_here, Below}
+use Rattle.match_turns.proofs.BodyOtherMemory.{higher_stack}
+
+-- at a service of a built-in function the host continues
+host_step : (f : BuiltIn) (s : State) → s.cpu.rip ≡ address_of (service_of f)
+    → step s ≡ Err (stops.Host (address_of (service_of f)))
+unfolding step
+host_step Put s e = ap (λ b. if in_host_page b then Err (hosted b (service_at b)) else execute s
+    (leading (executable s.memory 15 s.cpu.rip))) e
+host_step Protect s e = ap (λ b. if in_host_page b then Err (hosted b (service_at b)) else execute s
+    (leading (executable s.memory 15 s.cpu.rip))) e
+host_step RaiseException s e = ap (λ b. if in_host_page b then Err (hosted b (service_at b))
+    else execute s (leading (executable s.memory 15 s.cpu.rip))) e
+
+-- the service's own call is dropped
+call_over : (f : BuiltIn) (sp : ℕ) (u : State) (c d : Context) (cs : List Context) → rsp c < sp + 8
+    → sp + 8 ≤ rsp d → drop_below sp (started u []
+    (served (service_at (address_of (service_of f))) (c ∷ d ∷ cs))) ≡ d ∷ cs
+call_over Put sp u c d cs below above = one_below sp c (d ∷ cs) below ∙ none_below sp (d ∷ cs) above
+call_over Protect sp u c d cs below above = one_below sp c (d ∷ cs) below
+    ∙ none_below sp (d ∷ cs) above
+call_over RaiseException sp u c d cs below above = none_below sp (d ∷ cs) above
+
+service_found : (f : BuiltIn) → (0 < address_of (service_of f))
+    × (address_of (service_of f) < 0x100000000) × (address_of (service_of f) ≡ filter_return → ⊥)
+    × (address_of (service_of f) ≡ finally_return → ⊥)
+service_found Put = (omega arith, omega arith, λ e. absurd (omega arith), λ e. absurd (omega arith))
+service_found Protect = (
+  omega arith,
+  omega arith,
+  λ e. absurd (omega arith),
+  λ e. absurd (omega arith),
+)
+service_found RaiseException = (
+  omega arith,
+  omega arith,
+  λ e. absurd (omega arith),
+  λ e. absurd (omega arith),
+)
+
+module _ (t : Functions) (fs : List Funclet) (program : LinearProgram) (p : ImagePlan) (q : Sites)
+    (image : IsProgramImage t fs program p q) where
+  -- in another memory with the stack as it was from RSP up
+  pub is_elsewhere : (s : State) (c : Configuration) (b : RepresentsAt t fs program p q s c)
+      (counted : IsCounted t fs program p q image c) (m : Memory)
+      → KeepsStack s.memory m (register s.cpu Rsp) → HasProgram t fs program p q m
+      → Below t fs program p q image s c b counted m
+  is_elsewhere s c b counted m keeps has =
+      let sp = register s.cpu Rsp in
+      let frame = (p.layout c.frame.body).frame in
+      let low = sp_low t fs program p q image s c b counted in
+      let top = frame_top t fs program p q image s c b counted in
+      let reads = reads_other s.memory m sp 0x70800000
+      (record {
+        bytes = keeps.bytes;
+        protection = keeps.protection;
+        code = keeps.code;
+        no_more_code = keeps.no_more_code;
+      }) (omega arith) (omega arith) in
+      let kept = kept_here t fs program p q image s c b counted in
+      let caller = caller_here t fs program p q image s c b counted in
+      let list = kept_by_other_memories t fs program p s.memory m caller b.body.is c.below
+      (activations_below c.frame.body b.body.acts)
+      (higher_stack s.memory m sp (sp + frame + 8) (omega arith) keeps) (omega arith)
+      (b.body.below (drop 1 kept) refl).is_there in
+      record {
+        program_there = has;
+        returns = reads.words (sp + frame) b.body.back (omega arith)
+            (omega arith) b.body.returns;
+        beyond = on_stack t m caller 0 b.body.is list.stack;
+      }
+
+  -- where the return address of the call is at RSP, and the walk gives the same callers after the
+  -- return
+  pub service_keeps : (f : BuiltIn) (s u : State) (back : ℕ) (d : Context) (cs : List Context)
+      → s.cpu.rip ≡ address_of (service_of f) → loaded s.memory (register s.cpu Rsp) W64 ≡ Ok back
+      → register s.cpu Rsp + 8 < 2 ^ 64
+      → context_of u.cpu ≡ caller_above (context_of s.cpu) 0 back
+      → WalkGives t (record { cpu = u.cpu; memory = s.memory }) (d ∷ cs) → WalkGives t u (d ∷ cs)
+      → register u.cpu Rsp ≡ register s.cpu Rsp + 8 → register u.cpu Rsp + 8 ≤ rsp d
+      → arrivals u.cpu (distance t.base u.cpu.rip) 1 fs ≡ [] → KeepsShadow t fs s u
+  service_keeps f s u back d cs here returns high same before after sp above silent =
+      let c = caller_above (context_of s.cpu) 0 back in
+      let at = service_found f in
+      let flat : register s.cpu Rsp + 0 ≡ register s.cpu Rsp = omega arith in
+      let there : word s.memory (register s.cpu Rsp + 0) ≡ Ok back = ap (word s.memory) flat
+      ∙ ap (λ (x : Result ℕ RefusedAccess). readable (register s.cpu Rsp) x) returns in
+      let found = image.callers_outside.services s.memory (address_of (service_of f)) at.0 at.1 at.2
+      at.3 (context_of s.cpu) back here refl (omega arith) there in
+      let gives : WalkGives t s (c ∷ d ∷ cs) = gives_caller t s.memory (context_of s.cpu) c (d ∷ cs)
+      found (subst (λ (x : Context). GivesCallers t s.memory (state x 0) (d ∷ cs)) same before) in
+      host_keeps t fs s u (address_of (service_of f)) [] (c ∷ d ∷ cs) (d ∷ cs) (host_step f s here)
+      silent gives after (call_over f (register u.cpu Rsp) u c d cs (omega arith) above)
+
+-- RSP alone is set anew
+pub set_back : (xs : List ℕ) (sp v : ℕ) → slice_index (slice_set xs 1 sp) 1 ≡ v
+    → kept_of (0 ∷ 0 ∷ 0 ∷ slice_set xs 1 sp) ≡ slice_set (kept_of (0 ∷ 0 ∷ 0 ∷ xs)) 0 v
+set_back xs sp v e =
+    let same = λ (k : ℕ) (n : 1 ≡ k → ⊥). index_other xs 1 k sp n in
+    let far = λ (k : ℕ) (h : 1 < k). same k (λ z. absurd (omega arith)) in
+    λ j. e j ∷ same 0 (λ z. absurd (omega arith)) j ∷ far 2 (omega arith) j ∷ far 3 (omega arith) j
+    ∷ far 4 (omega arith) j ∷ far 9 (omega arith) j ∷ far 10 (omega arith) j
+    ∷ far 11 (omega arith) j ∷ far 12 (omega arith) j ∷ []

@@ -1,0 +1,293 @@
+-- The host's turns at `put` and at `protect`, and the steps of linear code that they match.
+use Rattle.std.proofs.Common.{◌≡◌, ℕ, zero, suc, ◌+◌, ◌%◌, ◌^◌, ◌<◌, ◌≤◌, Bool, true, false, cond, List, [], ◌∷◌, ◌++◌, length, drop, get_or, Some, None, Ok, Err, ℤ, refl, sym, ap, ◌∙◌, arith}
+use Rattle.std.specs.Prelude.{Result, slice_get, if◌then◌else◌, is_some}
+use Rattle.std.proofs.lemmas.Bool.{eq-eqb}
+use Rattle.std.proofs.lemmas.List.{append-nil}
+use Rattle.std.proofs.lemmas.Option.{slice_get-get_or}
+use Rattle.seh_num.specs.declared.width.Width.TheVariants.{W32, W64}
+use Rattle.seh_num.specs.declared.event.Event.{Event}
+use Rattle.seh_num.specs.declared.event.Event.TheVariants as events
+use Rattle.seh_num.specs.Widths.{signed}
+use Rattle.host_layout.specs.declared.service.Service.TheVariants as services
+use Rattle.host_layout.specs.Services.{address_of, service_at, in_host_page}
+use Rattle.flat_memory.specs.declared.access.RefusedAccess.{RefusedAccess}
+use Rattle.flat_memory.specs.Memory.{Memory, executable, loaded, protected, rights_asked}
+use Rattle.x64_instr.specs.declared.register.Reg.TheVariants.{Rcx, Rdx, Rsp}
+use Rattle.x64_instr.specs.Spelling.{leading}
+use Rattle.x64_machine.specs.Effect.{State, register, hosted, execute, step}
+use Rattle.virtual_unwind.specs.CallerOf.{Functions}
+use Rattle.host_model.specs.declared.funclet.Funclet.{Funclet}
+use Rattle.host_model.specs.Turns.{Turn, Continues}
+use Rattle.host_model.specs.Funclets.{arrived}
+use Rattle.host_model.specs.HostStep.{back, returned, answer_number, protecting, turned, turn}
+use Rattle.c_operations.specs.declared.built_in.BuiltIn.{BuiltIn}
+use Rattle.c_operations.specs.declared.built_in.BuiltIn.TheVariants.{Put, Protect}
+use Rattle.source_meaning.specs.Expressions.{of_test}
+use Rattle.linear_code.specs.declared.slot.Slot.TheVariants.{Temporary}
+use Rattle.linear_code.specs.declared.instruction.Instruction.TheVariants as instructions
+use Rattle.linear_code.specs.Program.{LinearProgram}
+use Rattle.linear_machine.specs.Frames.{Configuration, Next, with_some, last_temporaries}
+use Rattle.linear_machine.specs.Instructions.{count_of, built_in, waiting, act}
+use Rattle.match_stack.specs.ImagePlan.{ImagePlan}
+use Rattle.match_stack.specs.ListLaws.{KeepsStack}
+use Rattle.match_runs.specs.Matched.{Moves}
+use Rattle.lowering_invariants.specs.Room.{HaveRoom}
+use Rattle.match_bodies.specs.CodeSites.{Sites}
+use Rattle.match_bodies.specs.ProgramImages.{IsMachineMemory, IsProgramImage}
+use Rattle.match_bodies.specs.Bodies.{turns_left, RepresentsAt}
+use Rattle.match_bodies.proofs.BodyViews.{IsCounted, slots_here}
+use Rattle.match_bodies.proofs.TemplateRuns.{Surroundings}
+use Rattle.match_turns.proofs.DispatchMemory.{memory_untouched}
+use Rattle.match_turns.proofs.ReturnAddressPush.{pushed_untouched, pushed_data}
+use Rattle.match_turns.proofs.ArenaRights.{arena_memory, arena_stack}
+use Rattle.match_turns.proofs.ServiceCall.{sp, low, top, numbers, returns}
+use Rattle.match_turns.proofs.ServiceReturn.{with_given, to, there, memory_there, returned_to, answered, silent_back, served}
+
+module _ (t : Functions) (fs : List Funclet) where
+  -- what a step is where RIP is in the host's page
+  abbrev hosted_turn : State → ℕ → Turn
+  hosted_turn s a = arrived t fs (turned t s (cond (in_host_page a) (Err (hosted a (service_at a)))
+      (execute s (leading (executable s.memory 15 s.cpu.rip)))))
+
+  at_service : (s : State) (a : ℕ) → s.cpu.rip ≡ a → turn t fs s ≡ hosted_turn s a
+  unfolding turn step
+  at_service s a e = ap (hosted_turn s) e
+
+  put_turns : (s : State) (ret : ℕ) → s.cpu.rip ≡ address_of services.Put
+      → loaded s.memory (register s.cpu Rsp) W64 ≡ Ok ret
+      → turn t fs s ≡ arrived t fs (Continues (back s ret)
+      (events.Put (signed W64 (register s.cpu Rcx)) ∷ []))
+  put_turns s ret e w = at_service s (address_of services.Put) e
+      ∙ ap (λ (x : Result ℕ RefusedAccess). arrived t fs
+      (returned s x (λ u. Continues u (events.Put (signed W64 (register s.cpu Rcx)) ∷ [])))) w
+
+  protect_turns : (s : State) (ret : ℕ) → s.cpu.rip ≡ address_of services.Protect
+      → loaded s.memory (register s.cpu Rsp) W64 ≡ Ok ret
+      → turn t fs s ≡ arrived t fs (protecting s (back s ret))
+  protect_turns s ret e w = at_service s (address_of services.Protect) e
+      ∙ ap (λ (x : Result ℕ RefusedAccess). arrived t fs (returned s x (protecting s))) w
+
+-- ---- linear code
+
+-- what a built-in function is given
+given_in : (ts : List ℕ) (first k : ℕ) → get_or (drop first ts) k 0 ≡ get_or ts (first + k) 0
+given_in ts zero k = let z : k ≡ 0 + k = omega arith in ap (λ i. get_or ts i 0) z
+given_in [] (suc first) k = λ i. 0
+given_in (x ∷ ts) (suc first) k = given_in ts first k
+    ∙ (let z : suc (first + k) ≡ suc first + k = omega arith in ap (λ i. get_or (x ∷ ts) i 0) z)
+
+calls_as : (program : LinearProgram) (c : Configuration) (f : BuiltIn) (first : ℕ)
+    → length c.frame.temporaries ≡ first + count_of f → (next : Next)
+    → act program (instructions.CallBuiltIn f first) next c
+    ≡ built_in program next f (drop first c.frame.temporaries) (waiting c first)
+unfolding with_some
+calls_as program c f first held next =
+    let arguments = drop first c.frame.temporaries in
+    let e : last_temporaries c.frame.temporaries first (count_of f) ≡ Some arguments =
+    ap (λ (x : Bool). if x then Some arguments else None)
+    (eq-eqb (length c.frame.temporaries) (first + count_of f) held) in
+    ap (λ o. with_some c.events o (λ vs. built_in program next f vs (waiting c first))) e
+
+numbered : (b : Bool) → answer_number b % 2 ^ 64 ≡ of_test b
+numbered true = refl
+numbered false = refl
+
+module _ (t : Functions) (fs : List Funclet) (program : LinearProgram) (p : ImagePlan) (q : Sites)
+    (image : IsProgramImage t fs program p q) (roomy : HaveRoom program) where
+  module _ (s : State) (c : Configuration) (b : RepresentsAt t fs program p q s c)
+      (counted : IsCounted t fs program p q image c)
+      (around : Surroundings t fs program p q image roomy s c b counted) (f : BuiltIn) (first : ℕ)
+      (at : slice_get b.body.slots.code.code c.frame.next ≡ Some (instructions.CallBuiltIn f first))
+      (framed : p.leaf c.frame.body ≡ false)
+      (within : c.frame.next + 1 < length b.body.slots.code.code)
+      (held : length c.frame.temporaries ≤ b.body.slots.code.temporaries)
+      (fits : first ≤ length c.frame.temporaries) (free : c.frame.landed ≡ None) where
+    -- the number of an argument, for templates and for linear code
+    argument : (k : ℕ) → first + k < length c.frame.temporaries
+        → (numbers t fs program p q image roomy s c b counted f first at).slots
+        (Temporary (first + k)) ≡ get_or (drop first c.frame.temporaries) k 0
+    argument k lt = (slots_here t fs program p q image s c b counted).temporaries (first + k)
+        (get_or c.frame.temporaries (first + k) 0)
+        (slice_get-get_or c.frame.temporaries (first + k) 0 lt)
+        ∙ sym (given_in c.frame.temporaries first k)
+
+    pushed_memory : IsMachineMemory t fs program p q
+        (memory_there t fs program p q image roomy s c b counted around f first at framed within held
+        fits free) c.store.memory
+    pushed_memory =
+        let v = with_given t fs program p q image roomy s c b counted around f first at framed
+        within held fits free in
+        let from = sp t fs program p q image roomy s c b counted f first at in
+        let ret = to t fs program p q image roomy s c b counted around f first at framed within held
+        fits free in
+        let l = low t fs program p q image roomy s c b counted f first at in
+        let h = top t fs program p q image roomy s c b counted f first at in
+        memory_untouched t fs program p q s.memory
+        (memory_there t fs program p q image roomy s c b counted around f first at framed within
+        held fits free) c.store.memory
+        (pushed_untouched v from ret (omega arith) h b.memory.data_alone b.memory.stack) b.memory
+        (pushed_data v from ret (omega arith) h b.memory.data_alone b.memory.stack)
+
+    same_stack : (m : Memory) (from : ℕ) → KeepsStack m m from
+    same_stack m from = record {
+      bytes = λ a l u. refl;
+      protection = λ a l u. refl;
+      code = λ a e. (refl, refl);
+      no_more_code = λ a e. e;
+    }
+
+  -- `put`
+  module _ (s : State) (c : Configuration) (b : RepresentsAt t fs program p q s c)
+      (counted : IsCounted t fs program p q image c)
+      (around : Surroundings t fs program p q image roomy s c b counted) (first : ℕ)
+      (at : slice_get b.body.slots.code.code c.frame.next
+      ≡ Some (instructions.CallBuiltIn Put first)) (framed : p.leaf c.frame.body ≡ false)
+      (within : c.frame.next + 1 < length b.body.slots.code.code)
+      (held : length c.frame.temporaries ≤ b.body.slots.code.temporaries)
+      (count : length c.frame.temporaries ≡ first + 1) (free : c.frame.landed ≡ None) where
+    abbrev fits : first ≤ length c.frame.temporaries
+    fits = omega arith
+
+    abbrev here : State
+    here = there t fs program p q image roomy s c b counted around Put first at framed within held
+        fits free
+
+    abbrev value : ℕ
+    value = register here.cpu Rcx
+
+    abbrev shown : List Event
+    shown = events.Put (signed W64 value) ∷ []
+
+    value_is : value ≡ get_or (drop first c.frame.temporaries) 0 0
+    value_is =
+        let z : first + 0 ≡ first = omega arith in
+        ap (λ i. (numbers t fs program p q image roomy s c b counted Put first at).slots
+        (Temporary i)) (sym z) ∙ argument s c b counted around Put first at framed within held
+        fits free 0 (omega arith)
+
+    abbrev after_put : Configuration
+    after_put = answered t fs program p q image roomy s c b counted around Put first at framed
+        within held fits free 0 c.store.memory (c.events ++ shown)
+
+    puts : (next : Next) → act program (instructions.CallBuiltIn Put first) next c ≡ next after_put
+    puts next =
+        calls_as program c Put first count next
+        ∙ ap (λ x. next (answered t fs program p q image roomy s c b counted around Put first at
+        framed within held fits free 0 c.store.memory
+        (c.events ++ events.Put (signed W64 x) ∷ []))) (sym value_is)
+
+    turns : turn t fs here ≡ Continues (returned_to t fs program p q image roomy s c b counted
+        around Put first at framed within held fits free 0 here.memory) shown
+    turns =
+        let u = returned_to t fs program p q image roomy s c b counted around Put first at framed
+        within held fits free 0 here.memory in
+        let silent = silent_back t fs program p q image roomy s c b counted around Put first at framed
+        within held fits free 0 (omega arith) here.memory c.store.memory (c.events ++ shown)
+        (same_stack s c b counted around Put first at framed within held fits free here.memory
+        (sp t fs program p q image roomy s c b counted Put first at))
+        (pushed_memory s c b counted around Put first at framed within held fits free) in
+        put_turns t fs here (to t fs program p q image roomy s c b counted around Put first at
+        framed within held fits free) refl (returns t fs program p q image roomy s c b counted Put
+        first at)
+        ∙ ap (λ es. Continues u (shown ++ es)) silent
+
+    pub put_step : Moves t fs program 16 turns_left (RepresentsAt t fs program p q) s c
+        (instructions.CallBuiltIn Put first)
+    put_step =
+        served t fs program p q image roomy s c b counted around Put first at framed within held
+        fits free 0 (omega arith) here.memory c.store.memory (c.events ++ shown)
+        (same_stack s c b counted around Put first at framed within held fits free here.memory
+        (sp t fs program p q image roomy s c b counted Put first at))
+        (pushed_memory s c b counted around Put first at framed within held fits free)
+        shown turns refl puts
+
+  -- `protect`
+  module _ (s : State) (c : Configuration) (b : RepresentsAt t fs program p q s c)
+      (counted : IsCounted t fs program p q image c)
+      (around : Surroundings t fs program p q image roomy s c b counted) (first : ℕ)
+      (at : slice_get b.body.slots.code.code c.frame.next
+      ≡ Some (instructions.CallBuiltIn Protect first)) (framed : p.leaf c.frame.body ≡ false)
+      (within : c.frame.next + 1 < length b.body.slots.code.code)
+      (held : length c.frame.temporaries ≤ b.body.slots.code.temporaries)
+      (count : length c.frame.temporaries ≡ first + 2) (free : c.frame.landed ≡ None) where
+    abbrev enough : first ≤ length c.frame.temporaries
+    enough = omega arith
+
+    abbrev at_protect : State
+    at_protect = there t fs program p q image roomy s c b counted around Protect first at framed
+        within held enough free
+
+    abbrev page : ℕ
+    page = register at_protect.cpu Rcx
+
+    abbrev rights : ℤ
+    rights = signed W32 (register at_protect.cpu Rdx)
+
+    abbrev result : ℕ
+    result = answer_number (is_some (rights_asked page rights)) % 2 ^ 64
+
+    abbrev new_memory : Memory
+    new_memory = protected at_protect.memory page rights
+
+    abbrev new_source : Memory
+    new_source = protected c.store.memory page rights
+
+    page_is : page ≡ get_or (drop first c.frame.temporaries) 0 0
+    page_is =
+        let z : first + 0 ≡ first = omega arith in
+        ap (λ i. (numbers t fs program p q image roomy s c b counted Protect first at).slots
+        (Temporary i)) (sym z) ∙ argument s c b counted around Protect first at framed within held
+        enough free 0 (omega arith)
+
+    number_is : register at_protect.cpu Rdx ≡ get_or (drop first c.frame.temporaries) 1 0
+    number_is = argument s c b counted around Protect first at framed within held enough free 1
+        (omega arith)
+
+    abbrev after_protect : Configuration
+    after_protect = answered t fs program p q image roomy s c b counted around Protect first at
+        framed within held enough free result new_source c.events
+
+    protects : (next : Next) → act program (instructions.CallBuiltIn Protect first) next c
+        ≡ next after_protect
+    protects next =
+        let arrive = λ (a n : ℕ). next (answered t fs program p q image roomy s c b counted around
+        Protect first at framed within held enough free
+        (of_test (is_some (rights_asked a (signed W32 n))))
+        (protected c.store.memory a (signed W32 n)) c.events) in
+        calls_as program c Protect first count next
+        ∙ ap (λ a. arrive a (get_or (drop first c.frame.temporaries) 1 0)) (sym page_is)
+        ∙ ap (arrive page) (sym number_is)
+        ∙ ap (λ x. next (answered t fs program p q image roomy s c b counted around Protect first at
+        framed within held enough free x new_source c.events))
+        (sym (numbered (is_some (rights_asked page rights))))
+
+    kept_stack : KeepsStack at_protect.memory new_memory
+        (sp t fs program p q image roomy s c b counted Protect first at)
+    kept_stack = arena_stack t fs program p q image at_protect.memory c.store.memory page rights
+        (pushed_memory s c b counted around Protect first at framed within held enough free)
+        (sp t fs program p q image roomy s c b counted Protect first at)
+
+    kept_memory : IsMachineMemory t fs program p q new_memory new_source
+    kept_memory = arena_memory t fs program p q image at_protect.memory c.store.memory page rights
+        (pushed_memory s c b counted around Protect first at framed within held enough free)
+
+    protect_turn : turn t fs at_protect ≡ Continues
+        (returned_to t fs program p q image roomy s c b counted around Protect first at framed within
+        held enough free result new_memory) []
+    protect_turn =
+        let u = returned_to t fs program p q image roomy s c b counted around Protect first at
+        framed within held enough free result new_memory in
+        let silent = silent_back t fs program p q image roomy s c b counted around Protect first at
+        framed within held enough free result (omega arith) new_memory new_source c.events
+        kept_stack kept_memory in
+        protect_turns t fs at_protect (to t fs program p q image roomy s c b counted around Protect
+        first at framed within held enough free) refl
+        (returns t fs program p q image roomy s c b counted Protect first at)
+        ∙ ap (λ es. Continues u es) silent
+
+    pub protect_step : Moves t fs program 16 turns_left (RepresentsAt t fs program p q) s c
+        (instructions.CallBuiltIn Protect first)
+    protect_step =
+        served t fs program p q image roomy s c b counted around Protect first at framed within held
+        enough free result (omega arith) new_memory new_source c.events kept_stack kept_memory
+        [] protect_turn (sym (append-nil c.events)) protects

@@ -1,0 +1,13 @@
+use Rattle.match_turns.proofs.RaiseCall as raising
+use Rattle.match_turns.proofs.LocalUnwindCall as unwinding
+use Rattle.match_turns.proofs.RaiseContinuation as continuing
+use Rattle.match_turns.proofs.BodyContinuation as joining
+use Rattle.match_turns.proofs.raise_laws.laws.Goals as goal
+
+pub returns : goal.returns
+returns c = record {
+  raises = raising.raises_are_matched;
+  unwinds = unwinding.local_unwinds_are_matched;
+  continuations = continuing.continuations_after_calls;
+  all_continuations = joining.bodies_continue;
+}

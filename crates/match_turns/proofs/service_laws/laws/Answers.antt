@@ -1,0 +1,9 @@
+use Rattle.match_turns.proofs.ServiceSteps as lemma
+use Rattle.match_turns.proofs.service_laws.laws.Goals as goal
+
+pub returns : goal.returns
+returns c = record {
+  information = lemma.information_is_matched;
+  puts = lemma.puts_are_matched;
+  protects = lemma.protects_are_matched;
+}

@@ -1,0 +1,15 @@
+pub mod CallOutcome
+pub mod CallLaws
+pub mod FuncletEntry
+pub mod FuncletLaws
+pub mod DispatchOutcome
+pub mod ExceptionContinuation
+pub mod TurnLaws
+pub mod BlockLaws
+pub mod FilterInformation
+pub mod ServiceLaws
+pub mod LocalUnwindPlaces
+pub mod RaiseLaws
+pub mod OperationOutcome
+pub mod FaultLaws
+pub mod EndLaws

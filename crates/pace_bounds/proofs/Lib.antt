@@ -1,2 +1,0 @@
-pub mod ResolvedWeights
-pub mod Pace

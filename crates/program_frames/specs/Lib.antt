@@ -1,3 +1,0 @@
-pub mod InMemory
-pub mod Functions
-pub mod Laws

@@ -1,5 +1,0 @@
-use Rattle.program_link.proofs.Images as lemma
-use Rattle.program_link.proofs.laws.images_are_small.Goals as goal
-
-pub returns : goal.returns
-returns c = lemma.images_are_small

@@ -1,6 +1,0 @@
-use Rattle.std.proofs.Common.{◌≡◌, drop}
-use Rattle.program_link.specs.Routines.{has_call}
-use Rattle.program_link.proofs.routine.has_call.Given as goal
-
-abbrev pub invariant-loop-instruction : goal.invariant-loop-instruction
-invariant-loop-instruction l = has_call (drop l.instruction-index l.code) ≡ has_call l.code

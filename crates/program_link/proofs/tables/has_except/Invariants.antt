@@ -1,6 +1,0 @@
-use Rattle.std.proofs.Common.{◌≡◌, drop}
-use Rattle.program_link.specs.Tables.{has_except}
-use Rattle.program_link.proofs.tables.has_except.Given as goal
-
-abbrev pub invariant-loop-region : goal.invariant-loop-region
-invariant-loop-region l = has_except (drop l.region-index l.regions) ≡ has_except l.regions

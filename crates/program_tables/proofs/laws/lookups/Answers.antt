@@ -1,9 +1,0 @@
-use Rattle.program_tables.proofs.Lookups.{entries_are_held, leaves_are_held_by_none, thunks_are_held_by_none}
-use Rattle.program_tables.proofs.laws.lookups.Goals as goal
-
-pub returns : goal.returns
-returns c = record {
-  entries = entries_are_held;
-  leaves = leaves_are_held_by_none;
-  thunks = thunks_are_held_by_none;
-}

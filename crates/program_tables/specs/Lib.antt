@@ -1,4 +1,0 @@
-pub mod Placed
-pub mod Ranges
-pub mod Entries
-pub mod Laws

@@ -1,4 +1,0 @@
-pub mod Times
-pub mod Operators
-pub mod Expressions
-pub mod Statements

@@ -1,9 +1,0 @@
-//! The law of the weight of a text's program.
-
-ghost use Rattle.resolved_weights.specs.Laws.{WeightIsBounded};
-
-/// Where each node adds at most so much, a text's program weighs at most that for each of its
-/// nodes.
-pub fn laws()
-    ensures bounded { WeightIsBounded }
-{}

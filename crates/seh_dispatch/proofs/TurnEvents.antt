@@ -1,0 +1,41 @@
+-- Events before those of a turn.
+use Rattle.std.proofs.Common.{◌≡◌, Some, None, [], ◌∷◌, refl, ap, ◌∙◌}
+use Rattle.seh_num.specs.declared.event.Event.{Event}
+use Rattle.flat_memory.specs.Memory.{Memory}
+use Rattle.x64_machine.specs.declared.cpu.Cpu.{Cpu}
+use Rattle.host_model.specs.Turns.{Turn, Continues, Ends, with_event}
+use Rattle.seh_dispatch.specs.declared.outcome.TurnOutcome as code
+use Rattle.seh_dispatch.specs.declared.outcome.Led.{Led}
+use Rattle.seh_dispatch.specs.declared.outcome.Made.{Made}
+use Rattle.seh_dispatch.specs.Outcomes.{led, turn_of, led_turn, made_turn, silent, all_silent}
+
+led_none : (t : Turn) → led [] t ≡ t
+led_none (Continues s es) = refl
+led_none (Ends es end) = refl
+
+led_one : (e : Event) (t : Turn) → led (e ∷ []) t ≡ with_event e t
+led_one e (Continues s es) = refl
+led_one e (Ends es end) = refl
+
+pub led_silent : (c : Cpu) (m : Memory) (x : Led) (o : code.TurnOutcome) (t : Turn) → x ≡ silent o
+    → turn_of c m o ≡ t → led_turn c m x ≡ t
+led_silent c m x o t e f = ap (led_turn c m) e ∙ led_none (turn_of c m o) ∙ f
+
+pub led_told : (c : Cpu) (m : Memory) (o : code.TurnOutcome) (e : Event) (t : Turn)
+    → turn_of c m o ≡ t → led_turn c m (record { first = Some e; outcome = o }) ≡ with_event e t
+led_told c m o e t f = led_one e (turn_of c m o) ∙ ap (with_event e) f
+
+pub made_silent : (c : Cpu) (m : Memory) (x : Made) (o : code.TurnOutcome) (t : Turn)
+    → x ≡ all_silent o → turn_of c m o ≡ t → made_turn c m x ≡ t
+made_silent c m x o t e f = ap (made_turn c m) e ∙ led_none (led_turn c m (silent o))
+    ∙ led_none (turn_of c m o) ∙ f
+
+pub made_later : (c : Cpu) (m : Memory) (x : Led) (t : Turn) → led_turn c m x ≡ t
+    → made_turn c m (record { first = None; rest = x }) ≡ t
+made_later c m x t f = led_none (led_turn c m x) ∙ f
+
+pub made_told : (c : Cpu) (m : Memory) (x : Led) (e : Event) (t : Turn) → led_turn c m x ≡ t
+    → made_turn c m (record { first = Some e; rest = x }) ≡ with_event e t
+made_told c m x e t f = led_one e (led_turn c m x) ∙ ap (with_event e) f
+
+pub ruleset leading = (led_silent, led_told, made_silent, made_later, made_told)

@@ -1,0 +1,12 @@
+use Rattle.std.proofs.Common.{◌≡◌, drop, []}
+use Rattle.eh_tables.specs.Tables.{entries_of}
+use Rattle.host_model.specs.Funclets.{of_entries}
+use Rattle.seh_dispatch.specs.FuncletLists.{AreAscending, funclets_of}
+use Rattle.seh_dispatch.proofs.gathering.gather.Given as goal
+
+abbrev pub invariant-loop-index : goal.invariant-loop-index
+invariant-loop-index l = record {
+  ascending : AreAscending 0 (funclets_of l.gathered.entries);
+  same : of_entries (drop l.index (entries_of l.tables)) (funclets_of l.gathered.entries)
+      ≡ of_entries (entries_of l.tables) [];
+}

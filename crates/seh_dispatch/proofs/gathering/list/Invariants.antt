@@ -1,0 +1,7 @@
+use Rattle.std.proofs.Common.{◌≡◌, ◌++◌}
+use Rattle.seh_dispatch.specs.FuncletLists.{funclets_of}
+use Rattle.seh_dispatch.proofs.gathering.list.Given as goal
+
+abbrev pub invariant-loop-address : goal.invariant-loop-address
+invariant-loop-address l = l.funclets.items ++ funclets_of l.address-iterator
+    ≡ funclets_of l.gathered.entries

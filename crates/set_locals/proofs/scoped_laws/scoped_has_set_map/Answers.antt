@@ -1,5 +1,0 @@
-use Rattle.set_locals.proofs.Programs as lemma
-use Rattle.set_locals.proofs.scoped_laws.scoped_has_set_map.Goals as goal
-
-pub returns : goal.returns
-returns c = record { recorded = lemma.scoped_has_set_map }

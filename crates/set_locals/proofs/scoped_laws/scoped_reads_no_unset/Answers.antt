@@ -1,5 +1,0 @@
-use Rattle.set_locals.proofs.Programs as lemma
-use Rattle.set_locals.proofs.scoped_laws.scoped_reads_no_unset.Goals as goal
-
-pub returns : goal.returns
-returns c = record { reads = lemma.scoped_reads_no_unset }

@@ -1,0 +1,236 @@
+-- Each step keeps what the machine comes to.
+use Rattle.std.proofs.Common.{◌≡◌, ℕ, zero, suc, ◌+◌, ◌-◌, List, [], ◌∷◌, ◌++◌, length, take, refl}
+use Rattle.std.proofs.Common.{sym, ap, ◌∙◌, arith, Option, Some, None}
+use Rattle.std.specs.Prelude.{slice_get}
+use Rattle.std.proofs.lemmas.List.{append_assoc, append-nil, reverse-append, length-append}
+use Rattle.std.proofs.Math.Seq.{take-append_seam}
+use Rattle.c_operations.specs.declared.built_in.BuiltIn.{BuiltIn}
+use Rattle.c_operations.specs.declared.built_in.BuiltIn.TheVariants.{Put, Protect, RaiseException}
+use Rattle.c_operations.specs.declared.operation.Operation.{Operation}
+use Rattle.c_operations.specs.Performed as performing
+use Rattle.c_operations.specs.Performed.{performed}
+use Rattle.c_checked.specs.Program.{Program, Function}
+use Rattle.c_checked.specs.Expression as nodes
+use Rattle.c_checked.specs.Expression.{Node, Lvalue, Local, Global, Indirection, Element, Arguments}
+use Rattle.c_checked.specs.Expression.{Done, Next as Another}
+use Rattle.c_checked.specs.Statement as statements
+use Rattle.c_checked.specs.Statement.{Filter, Statements, Empty, Then as Followed, Declared}
+use Rattle.source_meaning.specs.declared.ended.Ended.TheVariants.{Undefined}
+use Rattle.source_meaning.specs.Source.{is_reserved}
+use Rattle.source_meaning.specs.State.{End, Gives, deeper, with_value, and_then}
+use Rattle.source_meaning.specs.Tasks as tasks
+use Rattle.source_meaning.specs.Tasks.{Handler, Task, Does, counted}
+use Rattle.source_meaning.specs.Expressions.{tried, locate, read, write, each, all, ended_call, enter}
+use Rattle.source_meaning.specs.Expressions.{call_built_in, node}
+use Rattle.source_meaning.specs.Statements.{declare, declare_each, statement}
+use Rattle.source_meaning.specs.Meaning.{perform, does}
+use Rattle.source_meaning.proofs.RemainingSteps.{does_is}
+use Rattle.source_machine.specs.Frames as frames
+use Rattle.source_machine.specs.Frames.{Place, context_at, Callee, Next, Over, Give, Start, Begin}
+use Rattle.source_machine.specs.Plans.{node_plan, find_plan, pass_plan, proceed_plan, declare_plan}
+use Rattle.source_machine.specs.Machine.{Machine, follow, started, fetched, put, operated, entered}
+use Rattle.source_machine.specs.Machine.{built_in, called, declared, with_local, handler_at}
+use Rattle.source_machine.specs.Machine.{guarded, without_last, done, is_deep}
+use Rattle.source_machine.specs.FrameMeanings.{call, through, through_all, reaches}
+use Rattle.source_machine.specs.StepLaws.{KeepsMeaning}
+use Rattle.source_machine.proofs.FrameKeeping.{comes, from, over_keeps, deep_keeps, evaluated_keeps}
+use Rattle.source_machine.proofs.FrameKeeping.{given_keeps}
+use Rattle.source_machine.proofs.TaskKeeping.{begun_keeps, searched_keeps}
+
+module _ (program : Program) (d : Does) where
+  node_keeps : (m : Machine) (n : Node) (p : Place)
+      → comes program d (follow m (node_plan n p))
+      ≡ from program d m (node program d n (context_at m.handlers p) m.state)
+  unfolding with_value
+  node_keeps m (nodes.Constant z n) p = refl
+  node_keeps m (nodes.Read l) p = refl
+  node_keeps m (nodes.AddressOf l) p = refl
+  node_keeps m (nodes.Assign l e) p = refl
+  node_keeps m (nodes.CompoundAssign l before o e after) p = refl
+  node_keeps m (nodes.Increment k l before o n after) p = refl
+  node_keeps m (nodes.Unary o e) p = refl
+  node_keeps m (nodes.Binary o e f) p = refl
+  node_keeps m (nodes.PointerDifference size e f) p = refl
+  node_keeps m (nodes.Not e) p = refl
+  node_keeps m (nodes.And e f) p = refl
+  node_keeps m (nodes.Or e f) p = refl
+  node_keeps m (nodes.Conditional c e f) p = refl
+  node_keeps m (nodes.Comma e f) p = refl
+  node_keeps m (nodes.Call f es) p = refl
+  node_keeps m (nodes.CallBuiltIn k es) p = refl
+  node_keeps m nodes.ExceptionCode p = refl
+  node_keeps m (nodes.Information f) p = refl
+  node_keeps m nodes.AbnormalTermination p = refl
+
+  find_keeps : (m : Machine) (l : Lvalue) (p : Place)
+      → comes program d (follow m (find_plan l p))
+      ≡ from program d m (locate d l (context_at m.handlers p) m.state)
+  unfolding with_value
+  find_keeps m (Local x) p = refl
+  find_keeps m (Global access a) p = refl
+  find_keeps m (Indirection access e) p = refl
+  find_keeps m (Element access e i) p = refl
+
+  fetch_keeps : (m : Machine) (l : Lvalue) (a : ℕ) (p : Place)
+      → comes program d (fetched m l a p) ≡ from program d m
+      (read program d l a (context_at m.handlers p) m.state)
+  unfolding with_value
+  fetch_keeps m (Local x) a p = refl
+  fetch_keeps m (Global access _) a p = refl
+  fetch_keeps m (Indirection access _) a p = refl
+  fetch_keeps m (Element access _ _) a p = refl
+
+  put_keeps : (m : Machine) (l : Lvalue) (a v : ℕ) (p : Place)
+      → comes program d (put m l a v p) ≡ from program d m
+      (write program d l a v (context_at m.handlers p) m.state)
+  put_keeps m (Local x) a v p = refl
+  put_keeps m (Global access _) a v p = refl
+  put_keeps m (Indirection access _) a v p = refl
+  put_keeps m (Element access _ _) a v p = refl
+
+  operated_keeps : (m : Machine) (o : Operation) (a b : ℕ) (p : Place)
+      (x : performing.OperationResult)
+      → comes program d (operated m o a b p x)
+      ≡ from program d m (tried d o a b (context_at m.handlers p) m.state x)
+  unfolding and_then
+  operated_keeps m o a b p (performing.Gives v memory) = refl
+  operated_keeps m o a b p (performing.Raises code access) = refl
+  operated_keeps m o a b p (performing.Undefined a') = over_keeps program d m (Some (Undefined a'))
+
+  pass_keeps : (m : Machine) (callee : Callee) (vs : List ℕ) (es : Arguments) (p : Place)
+      → comes program d (follow m (pass_plan callee vs es p))
+      ≡ from program d m (each d es (context_at m.handlers p) m.state
+      (λ ws st. call program d callee (vs ++ ws) m.handlers p st))
+  unfolding with_value
+  pass_keeps m callee vs Done p =
+      ap (λ ws. from program d m (call program d callee ws m.handlers p m.state))
+      (sym (append-nil vs))
+  pass_keeps m callee vs (Another e es) p = λ i.
+      from program d m
+      (with_value (d (tasks.Eval e) (context_at m.handlers p) m.state)
+      (λ v st. each d es (context_at m.handlers p) st
+      (λ ws st. call program d callee (append_assoc vs (v ∷ []) ws i) m.handlers p st)))
+
+  entered_keeps : (m : Machine) (f : Option Function) (vs : List ℕ) (p : Place)
+      → comes program d (entered m f vs) ≡ from program d m
+      (enter d f vs (context_at m.handlers p) m.state)
+  unfolding deeper ended_call
+  entered_keeps m None vs p = refl
+  entered_keeps m (Some f) vs p = deep_keeps program d (is_deep m.state 1) m _ _ refl
+
+  built_in_keeps : (m : Machine) (k : BuiltIn) (vs : List ℕ) (p : Place)
+      → comes program d (built_in m k vs p) ≡ from program d m
+      (call_built_in d k vs (context_at m.handlers p) m.state)
+  unfolding and_then
+  built_in_keeps m Put vs p = refl
+  built_in_keeps m Protect vs p = refl
+  built_in_keeps m RaiseException vs p = refl
+
+  called_keeps : (m : Machine) (callee : Callee) (vs : List ℕ) (p : Place)
+      → comes program d (called program m callee vs p)
+      ≡ from program d m (call program d callee vs m.handlers p m.state)
+  called_keeps m (frames.Defined f) vs p = entered_keeps m (slice_get program.functions f) vs p
+  called_keeps m (frames.BuiltInOf k) vs p = built_in_keeps m k vs p
+
+  proceed_keeps : (m : Machine) (ss : Statements) (p : Place)
+      → comes program d (follow m (proceed_plan ss p))
+      ≡ from program d m (all d ss (context_at m.handlers p) m.state)
+  unfolding and_then
+  proceed_keeps m Empty p = refl
+  proceed_keeps m (Followed s ss) p = refl
+
+  declare_keeps : (m : Machine) (ds : List Declared) (p : Place)
+      → comes program d (follow m (declare_plan ds p))
+      ≡ from program d m (declare_each d ds (context_at m.handlers p) m.state)
+  unfolding and_then
+  declare_keeps m [] p = refl
+  declare_keeps m (e ∷ es) p = refl
+
+  declared_keeps : (m : Machine) (e : Declared) (p : Place)
+      → comes program d (declared m e p) ≡ from program d m
+      (declare d e (context_at m.handlers p) m.state)
+  declared_keeps m e p =
+      evaluated_keeps program d (with_local m p e.local 0) (frames.Initialises e.local p) e.value p
+      _ 0 refl
+
+  -- ---- a `__try` with an `__except`
+
+  without_added : (hs : List Handler) (h : Handler) → without_last (hs ++ h ∷ []) ≡ hs
+  without_added hs h =
+      let one : length (hs ++ h ∷ []) ≡ length hs + 1 = length-append hs (h ∷ []) in
+      let less : length (hs ++ h ∷ []) - 1 ≡ length hs = omega arith in
+      ap (λ n. take n (hs ++ h ∷ [])) less ∙ take-append_seam hs (h ∷ [])
+
+  guarded_keeps : (m : Machine) (body : Statements) (filter : Filter) (block : Statements)
+      (p : Place)
+      → comes program d (guarded m body filter block p)
+      ≡ from program d m (statement d (statements.TryExcept body filter block)
+      (context_at m.handlers p) m.state)
+  guarded_keeps m body filter block p =
+      let h = handler_at filter p in
+      ap (λ hs. through_all program d hs m.stack
+      (through program d hs (frames.Lands m.state.held block p)
+      (d (tasks.TryBody body) (context_at (m.handlers ++ h ∷ []) p) m.state)))
+      (without_added m.handlers h)
+      ∙ ap (λ hs. from program d m (through program d m.handlers (frames.Lands m.state.held block p)
+      (d (tasks.TryBody body)
+      (record {
+        handlers = hs;
+        activation = p.activation;
+        exception = p.exception;
+        abnormal =
+            p.abnormal;
+      }) m.state)))
+      (reverse-append m.handlers (h ∷ []))
+
+  -- ---- any step but a task's
+
+  started_keeps : ((task : Task) (p : Place) (m : Machine)
+      → d task (context_at m.handlers p) m.state
+      ≡ counted m.state (λ st. perform program d task (context_at m.handlers p) st))
+      → (m : Machine) (task : Task) (p : Place)
+      → comes program d (started m task p m.state.steps_left)
+      ≡ from program d m (d task (context_at m.handlers p) m.state)
+  unfolding counted
+  started_keeps is m task p = by_left m.state.steps_left ∙ sym (ap (from program d m) (is task p m))
+    where
+      by_left : (n : ℕ) → comes program d (started m task p n)
+          ≡ from program d m
+          (elim n [
+            | zero ↦ Gives (End None) m.state
+            | suc n ↦
+                perform program d task (context_at m.handlers p) (record m.state { steps_left = n })
+          ])
+      by_left zero = over_keeps program d m None
+      by_left (suc n) = refl
+
+  done_keeps : ((task : Task) (p : Place) (m : Machine)
+      → d task (context_at m.handlers p) m.state
+      ≡ counted m.state (λ st. perform program d task (context_at m.handlers p) st))
+      → (m : Machine) (next : Next) → comes program d (done program m next)
+      ≡ reaches program d m.handlers m.stack m.state next
+  done_keeps is m (Over how) = refl
+  done_keeps is m (Give how) = given_keeps program d m how m.stack
+  done_keeps is m (Start task p) = started_keeps is m task p
+  done_keeps is m (Begin task p) = begun_keeps program d m task p
+  done_keeps is m (frames.Evaluate n p) = node_keeps m n p
+  done_keeps is m (frames.Find l p) = find_keeps m l p
+  done_keeps is m (frames.Fetch l a p) = fetch_keeps m l a p
+  done_keeps is m (frames.Put l a v p) = put_keeps m l a v p
+  done_keeps is m (frames.Operate o a b p) =
+      operated_keeps m o a b p (performed (is_reserved program.globals) o a b m.state.memory)
+  done_keeps is m (frames.Pass callee vs es p) = pass_keeps m callee vs es p
+  done_keeps is m (frames.Call callee vs p) = called_keeps m callee vs p
+  done_keeps is m (frames.Proceed ss p) = proceed_keeps m ss p
+  done_keeps is m (frames.DeclareEach ds p) = declare_keeps m ds p
+  done_keeps is m (frames.DeclareName e p) = declared_keeps m e p
+  done_keeps is m (frames.SetLocal x v p) = refl
+  done_keeps is m (frames.Guard body filter block p) = guarded_keeps m body filter block p
+  done_keeps is m (frames.Answer v) = refl
+  done_keeps is m frames.LetGo = refl
+  done_keeps is m (frames.Search level exc p) = searched_keeps program d m level exc p
+
+pub keeps_meaning : KeepsMeaning
+keeps_meaning program m =
+    done_keeps program (does program) (λ task p m. does_is program task (context_at m.handlers p)
+    m.state) m m.next

@@ -1,0 +1,183 @@
+-- What is done next doesn't look at how many steps are left, unless it begins a task.
+use Rattle.std.proofs.Common.{◌≡◌, ℕ, zero, suc, List, [], ◌∷◌, length, refl, Option, Some, None}
+use Rattle.std.specs.Prelude.{Bool, true, false, nat_eq, slice_get}
+use Rattle.c_operations.specs.declared.built_in.BuiltIn.{BuiltIn}
+use Rattle.c_operations.specs.declared.built_in.BuiltIn.TheVariants.{Put, Protect, RaiseException}
+use Rattle.c_operations.specs.declared.operation.Operation.{Operation}
+use Rattle.c_operations.specs.Performed as performing
+use Rattle.c_operations.specs.Performed.{performed}
+use Rattle.c_checked.specs.Program.{Program, Function}
+use Rattle.c_checked.specs.Expression.{Lvalue, Local, Global, Indirection, Element}
+use Rattle.c_checked.specs.Statement.{Filter, Always, Funclet, Statements}
+use Rattle.source_meaning.specs.Source.{is_reserved}
+use Rattle.source_meaning.specs.State.{Exception, Result, Value, Normal, Returned, Continued, LeftTry, Target, End}
+use Rattle.source_meaning.specs.Tasks as tasks
+use Rattle.source_meaning.specs.Tasks.{Handler, Task}
+use Rattle.source_machine.specs.Frames as frames
+use Rattle.source_machine.specs.Frames.{Place, Callee, ContinuationFrame, Operand, Assignment, InStatement, Sequel, Body, EndsCall, Lands, Finishes, Next, Over, Give, Start, Begin, Plan, Then, Push}
+use Rattle.source_machine.specs.Plans.{operand_plan, assignment_plan, in_statement_plan, sequel_plan, body_plan}
+use Rattle.source_machine.specs.Machine.{Machine, follow, unless_deep, begun, fetched, put, operated, entered, built_in, called, asked_by, asked, searched, target_landed, landed, finished, left_call, after_value, after_normal, after_body, resumed, given, outside, done, is_deep, with_local}
+
+-- a machine that has so many steps left
+abbrev pub with_left : ℕ → Machine → Machine
+with_left l m = record m { state = record m.state { steps_left = l } }
+
+module _ (l : ℕ) where
+  follows : (m : Machine) (plan : Plan) → follow (with_left l m) plan ≡ with_left l (follow m plan)
+  follows m (Then next) = refl
+  follows m (Push f next) = refl
+
+  unless : (b : Bool) (m other : Machine) → unless_deep b (with_left l m) (with_left l other)
+      ≡ with_left l (unless_deep b m other)
+  unless true m other = refl
+  unless false m other = refl
+
+  value : (m : Machine) (plan : ℕ → Plan) (how : Result)
+      → after_value (with_left l m) plan how ≡ with_left l (after_value m plan how)
+  value m plan (Value v) = follows m (plan v)
+  value m plan how = refl
+
+  normal : (m : Machine) (plan : Plan) (how : Result)
+      → after_normal (with_left l m) plan how ≡ with_left l (after_normal m plan how)
+  normal m plan Normal = follows m plan
+  normal m plan how = refl
+
+  body : (m : Machine) (plan : Plan) (how : Result)
+      → after_body (with_left l m) plan how ≡ with_left l (after_body m plan how)
+  body m plan Normal = follows m plan
+  body m plan Continued = follows m plan
+  body m plan how = refl
+
+  call : (m : Machine) (n : ℕ) (how : Result)
+      → left_call (with_left l m) n how ≡ with_left l (left_call m n how)
+  call m n (End e) = refl
+  call m n Normal = refl
+  call m n (Returned v) = refl
+  call m n how = refl
+
+  target : (b : Bool) (m : Machine) (held : ℕ) (block : Statements) (p : Place) (to : ℕ)
+      (exc : Exception)
+      → target_landed (with_left l m) b held block p to exc
+      ≡ with_left l (target_landed m b held block p to exc)
+  target true m held block p to exc = refl
+  target false m held block p to exc = refl
+
+  land : (m : Machine) (held : ℕ) (block : Statements) (p : Place) (how : Result)
+      → landed (with_left l m) held block p how ≡ with_left l (landed m held block p how)
+  land m held block p LeftTry = refl
+  land m held block p (Target to exc) = target (nat_eq to (length m.handlers)) m held block p to exc
+  land m held block p how = refl
+
+  finish : (m : Machine) (k : ℕ) (last : Statements) (p : Place) (how : Result)
+      → finished (with_left l m) k last p how ≡ with_left l (finished m k last p how)
+  finish m k last p (End e) = refl
+  finish m k last p Normal = refl
+  finish m k last p LeftTry = refl
+  finish m k last p how = refl
+
+  resume : (m : Machine) (f : ContinuationFrame) (how : Result)
+      → resumed (with_left l m) f how ≡ with_left l (resumed m f how)
+  resume m (Operand f) how = value m (operand_plan f) how
+  resume m (Assignment f) how = value m (assignment_plan f) how
+  resume m (InStatement f) how = value m (in_statement_plan f) how
+  resume m (Sequel f) how = normal m (sequel_plan f) how
+  resume m (Body f) how = body m (body_plan f) how
+  resume m (EndsCall n) how = call m n how
+  resume m (Lands held block p) how = land m held block p how
+  resume m (Finishes k last p) how = finish m k last p how
+
+  give : (m : Machine) (how : Result) (fs : List ContinuationFrame)
+      → given (with_left l m) how fs ≡ with_left l (given m how fs)
+  give m how [] = refl
+  give m how (f ∷ fs) = resume (record m { handlers = outside f m.handlers; stack = fs }) f how
+
+  begin : (m : Machine) (task : Task) (p : Place)
+      → begun (with_left l m) task p ≡ with_left l (begun m task p)
+  begin m (tasks.Eval e) p = follows m _
+  begin m (tasks.Locate at) p = refl
+  begin m (tasks.Run s) p = follows m _
+  begin m (tasks.ForIteration c next s) p = follows m _
+  begin m (tasks.DoIteration s c) p = refl
+  begin m (tasks.TryBody ss) p = refl
+  begin m (tasks.Raise exc) p = refl
+  begin m (tasks.RunFilter k e h exc) p = unless (is_deep m.state 2) m _
+  begin m (tasks.RunFinally k last flag) p = unless (is_deep m.state 2) m _
+  begin m (tasks.Retry o a b) p = refl
+
+  fetch : (m : Machine) (at : Lvalue) (a : ℕ) (p : Place)
+      → fetched (with_left l m) at a p ≡ with_left l (fetched m at a p)
+  fetch m (Local x) a p = refl
+  fetch m (Global access _) a p = refl
+  fetch m (Indirection access _) a p = refl
+  fetch m (Element access _ _) a p = refl
+
+  puts : (m : Machine) (at : Lvalue) (a v : ℕ) (p : Place)
+      → put (with_left l m) at a v p ≡ with_left l (put m at a v p)
+  puts m (Local x) a v p = refl
+  puts m (Global access _) a v p = refl
+  puts m (Indirection access _) a v p = refl
+  puts m (Element access _ _) a v p = refl
+
+  operate : (m : Machine) (o : Operation) (a b : ℕ) (p : Place) (x : performing.OperationResult)
+      → operated (with_left l m) o a b p x ≡ with_left l (operated m o a b p x)
+  operate m o a b p (performing.Gives v memory) = refl
+  operate m o a b p (performing.Raises code access) = refl
+  operate m o a b p (performing.Undefined a') = refl
+
+  enter : (m : Machine) (f : Option Function) (vs : List ℕ)
+      → entered (with_left l m) f vs ≡ with_left l (entered m f vs)
+  enter m None vs = refl
+  enter m (Some f) vs = unless (is_deep m.state 1) m _
+
+  built : (m : Machine) (k : BuiltIn) (vs : List ℕ) (p : Place)
+      → built_in (with_left l m) k vs p ≡ with_left l (built_in m k vs p)
+  built m Put vs p = refl
+  built m Protect vs p = refl
+  built m RaiseException vs p = refl
+
+  calls : (program : Program) (m : Machine) (callee : Callee) (vs : List ℕ) (p : Place)
+      → called program (with_left l m) callee vs p ≡ with_left l (called program m callee vs p)
+  calls program m (frames.Defined f) vs p = enter m (slice_get program.functions f) vs
+  calls program m (frames.BuiltInOf k) vs p = built m k vs p
+
+  ask_by : (m : Machine) (f : Filter) (h : Handler) (level : ℕ) (exc : Exception) (p : Place)
+      → asked_by (with_left l m) f h level exc p ≡ with_left l (asked_by m f h level exc p)
+  ask_by m Always h level exc p = refl
+  ask_by m (Funclet k e) h level exc p = refl
+
+  ask : (m : Machine) (o : Option Handler) (level : ℕ) (exc : Exception) (p : Place)
+      → asked (with_left l m) o level exc p ≡ with_left l (asked m o level exc p)
+  ask m None level exc p = refl
+  ask m (Some h) level exc p = ask_by m h.filter h level exc p
+
+  searches : (m : Machine) (level : ℕ) (exc : Exception) (p : Place)
+      → searched (with_left l m) level exc p ≡ with_left l (searched m level exc p)
+  searches m zero exc p = refl
+  searches m (suc level) exc p = ask m (slice_get m.handlers level) level exc p
+
+  -- what begins a task is left out
+  abbrev pub IsAlike : Program → Machine → Next → Type 0
+  IsAlike program m (Start task p) = Unit {0}
+  IsAlike program m next = done program (with_left l m) next ≡ with_left l (done program m next)
+
+  pub alike : (program : Program) (m : Machine) (next : Next) → IsAlike program m next
+  alike program m (Over how) = refl
+  alike program m (Give how) = give m how m.stack
+  alike program m (Start task p) = tt
+  alike program m (Begin task p) = begin m task p
+  alike program m (frames.Evaluate n p) = follows m _
+  alike program m (frames.Find at p) = follows m _
+  alike program m (frames.Fetch at a p) = fetch m at a p
+  alike program m (frames.Put at a v p) = puts m at a v p
+  alike program m (frames.Operate o a b p) = operate m o a b p
+      (performed (is_reserved program.globals) o a b m.state.memory)
+  alike program m (frames.Pass callee vs es p) = follows m _
+  alike program m (frames.Call callee vs p) = calls program m callee vs p
+  alike program m (frames.Proceed ss p) = follows m _
+  alike program m (frames.DeclareEach ds p) = follows m _
+  alike program m (frames.DeclareName d p) = follows (with_local m p d.local 0) _
+  alike program m (frames.SetLocal x v p) = refl
+  alike program m (frames.Guard ss f block p) = refl
+  alike program m (frames.Answer v) = refl
+  alike program m frames.LetGo = refl
+  alike program m (frames.Search level exc p) = searches m level exc p

@@ -1,0 +1,150 @@
+-- A relation between what two meanings come to, from states that differ in the steps that are left,
+-- and how it goes through what is done with an outcome.
+use Rattle.std.proofs.Common.{◌≡◌, ℕ, ◌+◌, List, [], ◌∷◌, ◌++◌, Some, None, refl}
+use Rattle.std.specs.Prelude.{Bool, true, false, nat_lt, nat_eq, take}
+use Rattle.seh_num.specs.declared.event.Event.{Event}
+use Rattle.source_meaning.specs.declared.ended.Ended.TheVariants.{Deep}
+use Rattle.source_meaning.specs.State.{Exception, State, Result, Value, Normal, Returned, Broke, Continued}
+use Rattle.source_meaning.specs.State.{LeftTry, Target, End, Outcome, Gives, choose, depth, deeper}
+use Rattle.source_meaning.specs.State.{with_value, and_then}
+use Rattle.source_meaning.specs.Expressions.{ended_call}
+use Rattle.source_meaning.specs.Statements.{in_loop, landing, finally_after}
+
+abbrev pub with_left : ℕ → State → State
+with_left l st = record st { steps_left = l }
+
+-- `near` says which numbers of steps two states may have left, and `out` what is known of two
+-- outcomes where the second began with these events; the flag says how much is claimed, so that a
+-- relation can claim less where the first outcome came to nothing
+pub record Relation : Type 1 where
+  pub near : Bool → ℕ → ℕ → Type 0
+  pub out : Bool → List Event → Outcome → Outcome → Type 0
+  pub gives : (a : Bool) (how : Result) (st : State) (l : ℕ) → near a st.steps_left l
+      → out a st.events (Gives how st) (Gives how (with_left l st))
+  pub later : (a : Bool) (es : List Event) (e : Event) (o o' : Outcome) → out a (es ++ e ∷ []) o o'
+      → out a es o o'
+  -- what is done with an outcome, where nothing is done once no step is left
+  pub through :
+      (c c' : Outcome → Outcome) → ((st : State) → c (Gives (End None) st) ≡ Gives (End None) st)
+      → ((a : Bool) (how : Result) (st : State) (l : ℕ) → near a st.steps_left l
+      → out a st.events (c (Gives how st)) (c' (Gives how (with_left l st))))
+      → (a : Bool) (es : List Event) (o o' : Outcome) → out a es o o' → out a es (c o) (c' o')
+
+module _ (R : Relation) where
+  abbrev pub Go : (State → Outcome) → (State → Outcome) → Type 0
+  Go k k' =
+      (a : Bool) (st : State) (l : ℕ) → R.near a st.steps_left l
+      → R.out a st.events (k st) (k' (with_left l st))
+
+  abbrev pub GoWith : (A : Type 0) → (A → State → Outcome) → (A → State → Outcome) → Type 0
+  GoWith A k k' = (v : A) → Go (k v) (k' v)
+
+  pub give : (how : Result) → Go (λ st. Gives how st) (λ st. Gives how st)
+  give how a st l n = R.gives a how st l n
+
+  value_cases : (k k' : ℕ → State → Outcome) → GoWith ℕ k k'
+      → (a : Bool) (how : Result) (st : State) (l : ℕ) → R.near a st.steps_left l
+      → R.out a st.events (with_value (Gives how st) k) (with_value (Gives how (with_left l st)) k')
+  unfolding with_value
+  value_cases k k' h a (Value v) st l n = h v a st l n
+  value_cases k k' h a how st l n = give how a st l n
+
+  pub value_go : (k k' : ℕ → State → Outcome) → GoWith ℕ k k'
+      → (a : Bool) (es : List Event) (o o' : Outcome) → R.out a es o o'
+      → R.out a es (with_value o k) (with_value o' k')
+  unfolding with_value
+  value_go k k' h =
+      R.through (λ o. with_value o k) (λ o. with_value o k') (λ st. refl) (value_cases k k' h)
+
+  then_cases : (k k' : State → Outcome) → Go k k' → (a : Bool) (how : Result) (st : State) (l : ℕ)
+      → R.near a st.steps_left l → R.out a st.events (and_then (Gives how st) k)
+      (and_then (Gives how (with_left l st)) k')
+  unfolding and_then
+  then_cases k k' h a Normal st l n = h a st l n
+  then_cases k k' h a how st l n = give how a st l n
+
+  pub then_go : (k k' : State → Outcome) → Go k k' → (a : Bool) (es : List Event) (o o' : Outcome)
+      → R.out a es o o' → R.out a es (and_then o k) (and_then o' k')
+  unfolding and_then
+  then_go k k' h =
+      R.through (λ o. and_then o k) (λ o. and_then o k') (λ st. refl) (then_cases k k' h)
+
+  loop_cases : (k k' : State → Outcome) → Go k k' → (a : Bool) (how : Result) (st : State) (l : ℕ)
+      → R.near a st.steps_left l → R.out a st.events (in_loop (Gives how st) k)
+      (in_loop (Gives how (with_left l st)) k')
+  unfolding in_loop
+  loop_cases k k' h a Normal st l n = h a st l n
+  loop_cases k k' h a Continued st l n = h a st l n
+  loop_cases k k' h a Broke st l n = give Normal a st l n
+  loop_cases k k' h a how st l n = give how a st l n
+
+  pub loop_go : (k k' : State → Outcome) → Go k k' → (a : Bool) (es : List Event) (o o' : Outcome)
+      → R.out a es o o' → R.out a es (in_loop o k) (in_loop o' k')
+  unfolding in_loop
+  loop_go k k' h = R.through (λ o. in_loop o k) (λ o. in_loop o k') (λ st. refl) (loop_cases k k' h)
+
+  pub choice_go : (c : Bool) (k k' m m' : State → Outcome) → Go k k' → Go m m'
+      → Go (choose c k m) (choose c k' m')
+  unfolding choose
+  choice_go true k k' m m' h i a st l n = h a st l n
+  choice_go false k k' m m' h i a st l n = i a st l n
+
+  pub deeper_go : (d : ℕ) (k k' : State → Outcome) → Go k k'
+      → Go (λ st. deeper d st k) (λ st. deeper d st k')
+  unfolding deeper
+  deeper_go d k k' h a st l n =
+      choice_go (nat_lt 1000 (depth st + d)) _ _ _ _ (give (End (Some (Deep 1001)))) h a st l n
+
+  landing_cases : (level held : ℕ) (k k' : Exception → State → Outcome) → GoWith Exception k k'
+      → (a : Bool) (how : Result) (st : State) (l : ℕ) → R.near a st.steps_left l
+      → R.out a st.events (landing level held (Gives how st) k)
+      (landing level held (Gives how (with_left l st)) k')
+  unfolding landing
+  landing_cases level held k k' h a LeftTry st l n = give Normal a st l n
+  landing_cases level held k k' h a (Target to exc) st l n =
+      choice_go (nat_eq to level) _ _ _ _ (λ a st l n. R.later a _ _ _ _ (h exc a _ l n))
+      (give (Target to exc)) a st l n
+  landing_cases level held k k' h a how st l n = give how a st l n
+
+  pub landing_go : (level held : ℕ) (k k' : Exception → State → Outcome) → GoWith Exception k k'
+      → (a : Bool) (es : List Event) (o o' : Outcome) → R.out a es o o'
+      → R.out a es (landing level held o k) (landing level held o' k')
+  unfolding landing
+  landing_go level held k k' h =
+      R.through (λ o. landing level held o k) (λ o. landing level held o k') (λ st. refl)
+      (landing_cases level held k k' h)
+
+  finally_cases : (k k' : Bool → State → Outcome) → GoWith Bool k k'
+      → (a : Bool) (how : Result) (st : State) (l : ℕ) → R.near a st.steps_left l
+      → R.out a st.events (finally_after (Gives how st) k)
+      (finally_after (Gives how (with_left l st)) k')
+  unfolding finally_after
+  finally_cases k k' h a (End e) st l n = give (End e) a st l n
+  finally_cases k k' h a Normal st l n = h false a st l n
+  finally_cases k k' h a LeftTry st l n = h false a st l n
+  finally_cases k k' h a how st l n =
+      then_go (λ st. Gives how st) (λ st. Gives how st) (give how) a _ _ _ (h true a st l n)
+
+  pub finally_go : (k k' : Bool → State → Outcome) → GoWith Bool k k'
+      → (a : Bool) (es : List Event) (o o' : Outcome) → R.out a es o o'
+      → R.out a es (finally_after o k) (finally_after o' k')
+  unfolding finally_after
+  finally_go k k' h =
+      R.through (λ o. finally_after o k) (λ o. finally_after o k') (λ st. refl)
+      (finally_cases k k' h)
+
+  ended_cases : (d : ℕ) (a : Bool) (how : Result) (st : State) (l : ℕ) → R.near a st.steps_left l
+      → R.out a st.events (ended_call d (Gives how st)) (ended_call d (Gives how (with_left l st)))
+  unfolding ended_call
+  ended_cases d a (End e) st l n = give (End e) a st l n
+  ended_cases d a Normal st l n = give (Value 0) a (record st { frames = take d st.frames }) l n
+  ended_cases d a (Returned v) st l n =
+      give (Value v) a (record st { frames = take d st.frames }) l n
+  ended_cases d a (Target to exc) st l n =
+      give (Target to exc) a (record st { frames = take d st.frames; held = st.held + 1 }) l n
+  ended_cases d a how st l n = give how a (record st { frames = take d st.frames }) l n
+
+  pub ended_go : (d : ℕ) (a : Bool) (es : List Event) (o o' : Outcome) → R.out a es o o'
+      → R.out a es (ended_call d o) (ended_call d o')
+  unfolding ended_call
+  ended_go d = R.through (ended_call d) (ended_call d) (λ st. refl) (ended_cases d)

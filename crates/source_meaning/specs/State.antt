@@ -1,0 +1,90 @@
+-- The states that a program goes through, and what a part of it comes to.
+use Rattle.std.specs.Prelude.{ℕ, ◌+◌, ◌-◌, Bool, true, false, nat_lt, List, [], ◌∷◌, ◌++◌, length}
+use Rattle.std.specs.Prelude.{slice_index, slice_set, slice_get, Option, Some, None}
+use Rattle.seh_num.specs.declared.event.Event.{Event}
+use Rattle.flat_memory.specs.Memory.{Memory}
+use Rattle.source_meaning.specs.declared.ended.Ended.{Ended}
+use Rattle.source_meaning.specs.declared.ended.Ended.TheVariants.{Deep}
+use Rattle.source_meaning.specs.declared.depth.TheConstants.{DEEPEST, TOO_DEEP}
+
+-- an exception: its code, whether it is noncontinuable, and for a refused access whether it was a
+-- write, and the address
+pub record Exception : Type 0 where
+  pub code : ℕ
+  pub flag : Bool
+  pub access : Option (Bool × ℕ)
+
+-- the steps that are left; memory; the live activations' locals, outermost first; what is held of
+-- the depth beside them: 2 for each filter and `__finally` block that runs, or that a target has
+-- left, and 1 for each activation that a target has left, until the target lands; the events so far
+pub record State : Type 0 where
+  pub steps_left : ℕ
+  pub memory : Memory
+  pub frames : List (List ℕ)
+  pub held : ℕ
+  pub events : List Event
+
+-- what a part of a program comes to; a target names its handler by the number of handlers outside
+-- its `__try`; an end is none where no step was left
+pub data Result : Type 0 where
+  Value : ℕ → Result
+  Normal : Result
+  Returned : ℕ → Result
+  Broke : Result
+  Continued : Result
+  LeftTry : Result
+  Target : ℕ → Exception → Result
+  End : Option Ended → Result
+
+pub data Outcome : Type 0 where
+  Gives : Result → State → Outcome
+
+abbrev pub how_of : Outcome → Result
+how_of (Gives how st) = how
+
+abbrev pub state_of : Outcome → State
+state_of (Gives how st) = st
+
+abbrev pub frame_of : State → ℕ → List ℕ
+frame_of st k = elim (slice_get st.frames k) [ Some frame ↦ frame | None ↦ [] ]
+
+abbrev pub local_of : State → ℕ → ℕ → ℕ
+local_of st k x = slice_index (frame_of st k) x
+
+abbrev pub set_local : State → ℕ → ℕ → ℕ → State
+set_local st k x v = record st { frames = slice_set st.frames k (slice_set (frame_of st k) x v) }
+
+abbrev pub set_memory : State → Memory → State
+set_memory st memory = record st { memory = memory }
+
+abbrev pub emit : Event → State → State
+emit e st = record st { events = st.events ++ e ∷ [] }
+
+abbrev pub hold : State → State
+hold st = record st { held = st.held + 2 }
+
+abbrev pub let_go : State → State
+let_go st = record st { held = st.held - 2 }
+
+abbrev pub depth : State → ℕ
+depth st = length st.frames + st.held
+
+-- continues in one of two ways
+unfoldable pub choose : Bool → (State → Outcome) → (State → Outcome) → State → Outcome
+choose true a b st = a st
+choose false a b st = b st
+
+-- continues unless the depth would rise above the greatest
+unfoldable pub deeper : ℕ → State → (State → Outcome) → Outcome
+deeper n st go =
+    choose (nat_lt DEEPEST (depth st + n)) (λ st. Gives (End (Some (Deep TOO_DEEP))) st) go st
+
+-- continues with a value; any other result stays
+unfoldable pub with_value : Outcome → (ℕ → State → Outcome) → Outcome
+with_value (Gives (Value v) st) go = go v st
+with_value o go = o
+
+-- continues after a normal end; any other result stays
+unfoldable pub and_then : Outcome → (State → Outcome) → Outcome
+and_then (Gives Normal st) go = go st
+and_then o go = o

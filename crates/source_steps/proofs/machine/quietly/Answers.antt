@@ -1,8 +1,0 @@
-use Rattle.std.proofs.Common.{subst, sym, ◌∙◌, IfOk}
-use Rattle.source_steps.specs.Machines.{machine_of, Moved}
-use Rattle.source_steps.proofs.machine.quietly.Goals as goal
-
-pub returns-in-Ok : goal.returns-in-Ok
-returns-in-Ok c = λ m m' change moved x es.
-    subst (λ r. IfOk r (Moved m m' change)) c.in-Ok.is moved x es
-    ∙ (λ i. machine_of m' (sym c.quiet.ensures.next i) (sym (c.quiet.ensures.shown es) i))

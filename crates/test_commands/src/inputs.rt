@@ -1,0 +1,181 @@
+//! The inputs that rows name, and tables of such rows.
+//!
+//! A row is `WORDS | INPUT | WANTED`. An input is `text` with a text of C, `compiled` with a text,
+//! for the image of it, `bytes` with bytes, `code` with the bytes of the code of an image of one
+//! section, or the name of an image. After it come changes, each after ` @ `: `cut` with the length
+//! to which it is cut, or a place `PART+DISTANCE`, the distance in decimal, and the bytes that are
+//! put there. A word of bytes is two digits, `TIMES*BYTE`, or a name after `'`; what comes after any
+//! other word on a line isn't read.
+
+use crate::calls::{answers, compiled};
+use std::alloc::{AllocError, Global};
+use std::process::Abort;
+use test_tables::calls::store_and_collision;
+use test_tables::forged::{
+    HARMS_KIND, HARMS_MARK, HARMS_ROW, HARMS_SAVED_STATE, PUSHES_AT_ADDRESS_8, RAISES_AT_THE_GUARD,
+    RETURNS_AS_FILTER, RETURNS_AS_FINALLY, UNWINDS_TO_NO_FRAME, plain, raising,
+};
+use test_tables::handled::{continued_access, filter_and_finally, raise_in_finally};
+use test_tables::one_section::{ENDLESS, FOURTEEN, OPTIONAL, PLAIN, SIGNATURE, TABLE, image};
+use test_tables::tables::put;
+
+/// An image of three unwind infos, which are at 0x3000, each of eight bytes, and after them, at
+/// 0x3018, a function table that counts the first two of three entries.
+const TABLES: &str = r"
+'MZ 58*00 40 00 00 00 'PE 00 00
+64 86 01 00 12*00 90 00 23 00 // Machine, NumberOfSections, SizeOfOptionalHeader
+0B 02 22*00 00 00 00 40 01 00 00 00 24*00 00 40 00 00 48*00 // Magic, ImageBase, SizeOfImage
+04 00 00 00 24*00 18 30 00 00 18 00 00 00 // NumberOfRvaAndSizes, the exception directory
+'.xdata 00 00 00 10 00 00 00 30 00 00 3C 00 00 00 10 01 00 00 12*00 40 00 00 40
+01 7*00 01 7*00 01 7*00
+00 20 00 00 1F 20 00 00 00 30 00 00
+20 20 00 00 3F 20 00 00 08 30 00 00
+40 20 00 00 5F 20 00 00 10 30 00 00
+";
+
+/// An image of one library and five imports: the descriptors are at 0x1000, the lookup table at
+/// 0x1040, the slots at 0x1080, the names at 0x10B0 and the code at 0x1128, which puts what is in
+/// each of the five slots by a call through the last one, and returns 7.
+const IMPORTING: &str = r"
+'MZ 58*00 40 00 00 00 'PE 00 00
+64 86 01 00 12*00 90 00 23 00 // Machine, NumberOfSections, SizeOfOptionalHeader
+0B 02 14*00 28 11 00 00 4*00 00 00 00 40 01 00 00 00 24*00 00 20 00 00 48*00 // entry, base, size
+04 00 00 00 8*00 00 10 00 00 28 00 00 00 16*00 // NumberOfRvaAndSizes, the import directory
+'.text 00 00 00 00 04 00 00 00 10 00 00 00 04 00 00 10 01 00 00 12*00 20 00 00 60
+40 10 00 00 12*00 80 10 00 00 44*00 // the lookup table, no name, the slots
+B0 10 6*00 C8 10 6*00 E0 10 6*00 F8 10 6*00 10 11 6*00 8*00 64*00
+00 00 'RaiseException 8*00
+00 00 '__C_specific_handler 2*00
+00 00 '_local_unwind 9*00
+00 00 'protect 15*00
+00 00 'put 19*00
+48 83 EC 28 // sub rsp, 40
+48 8B 0D 4D FF FF FF FF 15 67 FF FF FF // mov rcx, [slot 0]; call [slot 4]
+48 8B 0D 48 FF FF FF FF 15 5A FF FF FF // mov rcx, [slot 1]; call [slot 4]
+48 8B 0D 43 FF FF FF FF 15 4D FF FF FF // mov rcx, [slot 2]; call [slot 4]
+48 8B 0D 3E FF FF FF FF 15 40 FF FF FF // mov rcx, [slot 3]; call [slot 4]
+48 8B 0D 39 FF FF FF FF 15 33 FF FF FF // mov rcx, [slot 4]; call [slot 4]
+B8 07 00 00 00 48 83 C4 28 C3 649*00 // mov eax, 7; add rsp, 40; ret
+";
+
+/// Adds what a word spells. The answer is whether it spells anything.
+fn push_word(rt: &impl Abort, out: &mut Vec<u8>, word: &str) -> bool {
+    if let Some(name) = word.strip_prefix('\'') {
+        out.extend_from_slice(name.as_bytes()).expect(rt, "memory");
+        return true;
+    }
+    let (times, byte) = word.split_once('*').unwrap_or(("1", word));
+    match (times.parse::<usize>(), u8::from_str_radix(byte, 16)) {
+        (Ok(times), Ok(byte)) => {
+            let length = out.len().saturating_add(times);
+            out.resize(length, byte).expect(rt, "memory");
+            true
+        }
+        _ => false,
+    }
+}
+
+/// The bytes that the lines of a text spell, each up to the first word that spells nothing.
+fn spelled(rt: &impl Abort, alloc: Global, text: &str) -> Vec<u8> {
+    let mut bytes = Vec::new(alloc);
+    for line in text.lines() {
+        for word in line.split_ascii_whitespace() {
+            if !push_word(rt, &mut bytes, word) {
+                break;
+            }
+        }
+    }
+    bytes
+}
+
+/// The image of this name whose code harms the records of the dispatcher.
+fn forged(alloc: Global, name: &str) -> Result<Vec<u8>, AllocError> {
+    match name {
+        "harms_kind" => raising(alloc, HARMS_KIND),
+        "harms_mark" => raising(alloc, HARMS_MARK),
+        "harms_row" => raising(alloc, HARMS_ROW),
+        "harms_saved_state" => raising(alloc, HARMS_SAVED_STATE),
+        "returns_as_filter" => plain(alloc, RETURNS_AS_FILTER),
+        "returns_as_finally" => plain(alloc, RETURNS_AS_FINALLY),
+        "unwinds_to_no_frame" => plain(alloc, UNWINDS_TO_NO_FRAME),
+        "raises_at_the_guard" => plain(alloc, RAISES_AT_THE_GUARD),
+        "pushes_at_address_8" => plain(alloc, PUSHES_AT_ADDRESS_8),
+        _ => image(alloc, PLAIN, PUSHES_AT_ADDRESS_8),
+    }
+}
+
+/// The image of this name.
+fn named(alloc: Global, name: &str) -> Result<Vec<u8>, AllocError> {
+    match name {
+        "fourteen" => image(alloc, PLAIN, &FOURTEEN),
+        "endless" => image(alloc, PLAIN, &ENDLESS),
+        "filter_and_finally" => filter_and_finally(alloc),
+        "raise_in_finally" => raise_in_finally(alloc),
+        "continued_access" => continued_access(alloc),
+        "store_and_collision" => store_and_collision(alloc),
+        _ => forged(alloc, name),
+    }
+}
+
+/// An input without changes.
+fn unchanged(rt: &impl Abort, alloc: Global, input: &str) -> Vec<u8> {
+    let (kind, rest) = input.split_once(' ').unwrap_or((input, ""));
+    match kind {
+        "text" => rest.as_bytes().to_vec(alloc).expect(rt, "memory"),
+        "compiled" => compiled(rt, alloc, rest),
+        "bytes" => spelled(rt, alloc, rest),
+        "tables" => spelled(rt, alloc, TABLES),
+        "importing" => spelled(rt, alloc, IMPORTING),
+        "code" => image(alloc, PLAIN, &spelled(rt, alloc, rest)).expect(rt, "memory"),
+        _ => named(alloc, kind).expect(rt, "memory"),
+    }
+}
+
+/// The offset in the file that a word `PART+DISTANCE` names.
+fn offset_of(word: &str) -> Option<usize> {
+    let (part, distance) = word.split_once('+')?;
+    let start = match part {
+        "file" => 0,
+        "signature" => SIGNATURE,
+        "optional" => OPTIONAL,
+        "sections" => TABLE,
+        _ => return None,
+    };
+    start.checked_add(distance.parse().ok()?)
+}
+
+/// Makes a change.
+fn change(rt: &impl Abort, alloc: Global, bytes: &mut Vec<u8>, change: &str) {
+    let (place, rest) = change.split_once(' ').unwrap_or((change, ""));
+    match offset_of(place) {
+        Some(at) => put(bytes, at, &spelled(rt, alloc, rest)),
+        None => bytes.truncate(rest.parse().unwrap_or(usize::MAX)),
+    }
+}
+
+/// The input that a row names.
+pub fn input_of(rt: &impl Abort, alloc: Global, input: &str) -> Vec<u8> {
+    let mut parts = input.split(" @ ");
+    let mut bytes = unchanged(rt, alloc, parts.next().unwrap_or(""));
+    for part in parts {
+        change(rt, alloc, &mut bytes, part);
+    }
+    bytes
+}
+
+/// What a row has: the words, the input and what is wanted.
+pub fn columns_of(row: &str) -> Option<(&str, &str, &str)> {
+    let (words, rest) = row.split_once(" | ")?;
+    let (input, wanted) = rest.rsplit_once(" | ")?;
+    Some((words, input, wanted))
+}
+
+/// Compares what the words of each row of a table answer for its input with what is wanted. The
+/// table is one text, with a row in each line after its first.
+pub fn all_answer(rt: &impl Abort, alloc: Global, table: &str) {
+    for row in table.lines().skip(1) {
+        let (words, input, wanted) = columns_of(row).expect(rt, row);
+        let bytes = input_of(rt, alloc, input);
+        answers(rt, alloc, words, &bytes, wanted);
+    }
+}

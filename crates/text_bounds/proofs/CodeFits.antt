@@ -1,0 +1,229 @@
+-- The linear code of an accepted text within the limits can be linked.
+use Rattle.std.proofs.Common.{◌*◌, ◌≡◌, ℕ, ◌+◌, ◌-◌, ◌≤◌, List, [], ◌∷◌, length, map, Option, Some, None, refl, arith}
+use Rattle.std.specs.List.{AllByRecursion}
+use Rattle.std.proofs.lemmas.Bool.{leb-true}
+use Rattle.c_operations.specs.declared.field.Field.{Field}
+use Rattle.c_operations.specs.declared.field.Field.TheVariants as fields
+use Rattle.c_checked.specs.Program.{Program, Function}
+use Rattle.c_checked.specs.Sound as sound
+use Rattle.c_checked.specs.Sound.{IsSound}
+use Rattle.c_checked.specs.Statement.{Filter, Always, Funclet, Statement, Declare, Block, Evaluate, If, IfElse, For, DoWhile, Return, Break, Continue, Leave, TryExcept, TryFinally, Statements, Empty, Then}
+use Rattle.c_lex.proofs.Covering.{few_tokens}
+use Rattle.c_syntax.proofs.NodesOfPrograms.{program as program_nodes}
+use Rattle.c_resolved.specs.Program.{resolve}
+use Rattle.c_resolved.proofs.SoundPrograms.{accepted_is_sound}
+use Rattle.linear_code.specs.declared.slot.Slot.{Slot}
+use Rattle.linear_code.specs.declared.slot.Slot.TheVariants.{Local, Temporary}
+use Rattle.linear_code.specs.declared.instruction.Instruction.{Instruction}
+use Rattle.linear_code.specs.declared.instruction.Instruction.TheVariants as instructions
+use Rattle.linear_code.specs.declared.program.FuncletKind.{FuncletKind}
+use Rattle.linear_code.specs.declared.program.FuncletKind.TheVariants as kinds
+use Rattle.linear_code.specs.Program.{LinearBody, LinearFunction, LinearFunclet, LinearProgram}
+use Rattle.seh_ir.specs.declared.funclets.Owner.{Owner}
+use Rattle.lowering_expressions.specs.declared.scope.Names.{Names}
+use Rattle.lowering_expressions.specs.Scope.{except_names, filter_names, finally_names}
+use Rattle.seh_ir.specs.Slots.{slot_temporaries, instruction_temporaries, temporaries_in}
+use Rattle.seh_ir.specs.Funclets.{filter_funclets, finally_funclet, in_funclet, statement_funclets, statements_funclets}
+use Rattle.seh_ir.specs.Lowered.{scope_of, all_locals, lowered_function, lowered_funclets, all_funclets, lowered}
+use Rattle.lowering_follows.proofs.SoundExpressions.{both_left, both_right}
+use Rattle.lowering_invariants.specs.Slots as small
+use Rattle.lowering_invariants.specs.Slots.{IsAmong, IsField, IsPlain, IsSmallBody, HasFlag, IsSmallFunclet, IsSmallFunction}
+use Rattle.lowering_invariants.proofs.PlainExpressions.{all_append}
+use Rattle.text_bounds.proofs.StatementNesting.{accepted_is_small}
+use Rattle.x64_emit.specs.Near.{IsFieldNear}
+use Rattle.image_link.specs.Routines as links
+use Rattle.image_link.specs.Fits.{FitsSlot, FitsInstruction, FitsBody, FitsFunction, FitsKind, FitsFunclet, tables_room, function_bodies, funclet_bodies, text_room, program_tables_room, other_room}
+use Rattle.text_bounds.proofs.ProgramRooms.{lowered_is_bounded}
+use Rattle.text_bounds.specs.BoundLaws.{AcceptedFits, TextsFit}
+use Rattle.text_bounds.proofs.CodeIsBounded.{code_is_bounded}
+use Rattle.host_layout.specs.declared.limit.TheConstants.{MOST_IMAGE}
+
+-- ---- bodies have the temporaries that their code uses
+
+abbrev IsCounted : LinearBody → Type 0
+IsCounted b = b.temporaries ≡ temporaries_in b.code
+
+abbrev FunctionIsCounted : LinearFunction → Type 0
+FunctionIsCounted f = IsCounted f.body
+
+abbrev FuncletIsCounted : LinearFunclet → Type 0
+FuncletIsCounted f = IsCounted f.body
+
+filters_counted : (owner : Owner) (names : Names) (f : Filter)
+    → AllByRecursion FuncletIsCounted (filter_funclets owner names f)
+filters_counted owner names Always = tt
+filters_counted owner names (Funclet k e) = (refl, tt)
+
+mutual
+  statement_counted : (owner : Owner) (names : Names) (s : Statement)
+      → AllByRecursion FuncletIsCounted (statement_funclets owner names s)
+  statement_counted owner names (Declare d) = tt
+  statement_counted owner names (Block ss) = statements_counted owner names ss
+  statement_counted owner names (Evaluate e) = tt
+  statement_counted owner names (If c s) = statement_counted owner names s
+  statement_counted owner names (IfElse c s t) = all_append FuncletIsCounted _ _
+      (statement_counted owner names s) (statement_counted owner names t)
+  statement_counted owner names (For ds first c next s) = statement_counted owner names s
+  statement_counted owner names (DoWhile s c) = statement_counted owner names s
+  statement_counted owner names (Return e) = tt
+  statement_counted owner names Break = tt
+  statement_counted owner names Continue = tt
+  statement_counted owner names Leave = tt
+  statement_counted owner names (TryExcept body filter block) =
+      all_append FuncletIsCounted _ _ (statements_counted owner names body)
+      (all_append FuncletIsCounted _ _ (filters_counted owner (filter_names names) filter)
+      (statements_counted owner (except_names names) block))
+  statement_counted owner names (TryFinally body k last) =
+      all_append FuncletIsCounted (statements_funclets owner names body)
+      (finally_funclet owner names last ∷ statements_funclets (in_funclet (k - 1) owner)
+      (finally_names names) last)
+      (statements_counted owner names body) (
+        refl,
+        statements_counted (in_funclet (k - 1) owner) (finally_names names) last,
+      )
+
+  statements_counted : (owner : Owner) (names : Names) (ss : Statements)
+      → AllByRecursion FuncletIsCounted (statements_funclets owner names ss)
+  statements_counted owner names Empty = tt
+  statements_counted owner names (Then s ss) = all_append FuncletIsCounted _ _
+      (statement_counted owner names s) (statements_counted owner names ss)
+
+functions_counted : (fs : List Function) → AllByRecursion FunctionIsCounted
+    (map lowered_function fs)
+functions_counted [] = tt
+functions_counted (f ∷ fs) = (refl, functions_counted fs)
+
+funclets_counted : (number : ℕ) (fs : List Function)
+    → AllByRecursion FuncletIsCounted (all_funclets number fs)
+funclets_counted number [] = tt
+funclets_counted number (f ∷ fs) =
+    all_append FuncletIsCounted (lowered_funclets number f) (all_funclets (number + 1) fs)
+    (statements_counted (record { function = number; locals = all_locals f; parent = None })
+    (scope_of f).names f.body) (funclets_counted (number + 1) fs)
+
+-- ---- instructions
+
+slot_fits : (b : LinearBody) (x : Slot) → IsAmong b.locals x → slot_temporaries x ≤ b.temporaries
+    → FitsSlot b x
+slot_fits b (Local i) h le = h
+slot_fits b (Temporary i) h le = omega arith
+
+field_fits : (f : Field) → IsField f → IsFieldNear f
+field_fits (fields.ExceptionInformation k) h = h
+field_fits fields.ExceptionCode h = tt
+field_fits fields.ExceptionFlags h = tt
+field_fits fields.NumberParameters h = tt
+
+instruction_fits : (b : LinearBody) (i : Instruction) → IsPlain b.locals i
+    → instruction_temporaries i ≤ b.temporaries → FitsInstruction b i
+instruction_fits b (instructions.Compute to o first second) h le = (
+  slot_fits b to h.0 (omega arith),
+  slot_fits b first h.1 (omega arith),
+  slot_fits b second h.2 (omega arith),
+)
+instruction_fits b (instructions.Information to field) h
+    le = (slot_fits b to h.0 le, field_fits field h.1)
+instruction_fits b (instructions.Landing to) h le = slot_fits b to h le
+instruction_fits b (instructions.Jump label) h le = tt
+instruction_fits b (instructions.JumpIfZero slot label) h le = slot_fits b slot h le
+instruction_fits b (instructions.Call f first count) h le = (omega arith, h)
+instruction_fits b (instructions.CallBuiltIn f first) h le = omega arith
+instruction_fits b (instructions.CallFinally k) h le = tt
+instruction_fits b (instructions.LocalUnwind label) h le = tt
+instruction_fits b instructions.Separator h le = tt
+instruction_fits b (instructions.Return from) h le = slot_fits b from h le
+
+code_fits : (b : LinearBody) (is : List Instruction) → AllByRecursion (IsPlain b.locals) is
+    → temporaries_in is ≤ b.temporaries → AllByRecursion (FitsInstruction b) is
+code_fits b [] h le = tt
+code_fits b (i ∷ is) h le = (
+  instruction_fits b i h.0 (omega arith),
+  code_fits b is h.1 (omega arith),
+)
+
+-- ---- bodies
+
+body_fits : (b : LinearBody) → IsSmallBody b → IsCounted b → 16 * length b.regions ≤ MOST_IMAGE
+    → FitsBody b
+body_fits b s c few =
+    let p = s.passed in
+    let t = s.temporaries in
+    let l = s.locals in
+    record { words = omega arith; code = code_fits b b.code s.code (omega arith); regions = few }
+
+functions_fit : (fs : List LinearFunction) → AllByRecursion IsSmallFunction fs
+    → AllByRecursion FunctionIsCounted fs → tables_room (function_bodies fs) ≤ MOST_IMAGE
+    → AllByRecursion FitsFunction fs
+functions_fit [] s c few = tt
+functions_fit (f ∷ fs) s c few = (
+  record {
+    parameters = s.0.parameters;
+    body = body_fits f.body s.0.body c.0 (omega arith);
+  },
+  functions_fit fs s.1 c.1 (omega arith),
+)
+
+kind_fits : (b : LinearBody) (k : FuncletKind) → HasFlag b k → FitsKind b k
+kind_fits b kinds.Filter h = tt
+kind_fits b (kinds.Finally flag) h = h
+
+parent_fits : (p : LinearProgram) (o : Option ℕ) → small.HasParent p o → links.HasParent p o
+parent_fits p None h = tt
+parent_fits p (Some index) h = h
+
+funclets_fit : (p : LinearProgram) (fs : List LinearFunclet) → AllByRecursion (IsSmallFunclet p) fs
+    → AllByRecursion FuncletIsCounted fs → tables_room (funclet_bodies fs) ≤ MOST_IMAGE
+    → AllByRecursion (FitsFunclet p) fs
+funclets_fit p [] s c few = tt
+funclets_fit p (f ∷ fs) s c few = (
+  record {
+    kind = kind_fits f.body f.kind s.0.kind;
+    function = s.0.function;
+    parent = parent_fits p f.parent s.0.parent;
+    body = body_fits f.body s.0.body c.0 (omega arith);
+  },
+  funclets_fit p fs s.1 c.1 (omega arith),
+)
+
+-- ---- programs
+
+-- how many functions, and how many filters and `__finally` blocks
+record IsCountedProgram (program : Program) : Type 0 where
+  functions : length program.functions ≤ 4096
+  funclets : length (sound.all_funclets program.functions) ≤ 16384
+
+sound_counts : (program : Program) → IsSound program → IsCountedProgram program
+sound_counts program h =
+    let a = both_left _ _ h in
+    record {
+      functions = leb-true (length program.functions) 4096 (both_right _ _ (both_left _ _ a));
+      funclets = leb-true (length (sound.all_funclets program.functions)) 16384 (both_right _ _ a);
+    }
+
+pub accepted_fits : AcceptedFits
+accepted_fits text xs within accepted few =
+    let program = (resolve text xs).program in
+    let p = lowered program in
+    let s = accepted_is_small text xs within accepted in
+    let n = sound_counts program (accepted_is_sound text xs within accepted) in
+    let f = n.functions in
+    let g = n.funclets in
+    let b = lowered_is_bounded program in
+    let c = code_is_bounded text xs in
+    let all : text_room p + program_tables_room p + other_room ≤ MOST_IMAGE = omega arith in
+    let globals = s.globals in
+    record {
+      globals = omega arith;
+      main = s.main;
+      functions = functions_fit p.functions s.functions (functions_counted program.functions)
+          (omega arith);
+      funclets = funclets_fit p p.funclets s.funclets (funclets_counted 0 program.functions)
+          (omega arith);
+      small = all;
+    }
+
+pub texts_fit : TextsFit
+texts_fit text tokens xs lexed derives within accepted short =
+    let a = few_tokens text tokens lexed in
+    let b = program_nodes text xs tokens derives in
+    accepted_fits text xs within accepted (omega arith)

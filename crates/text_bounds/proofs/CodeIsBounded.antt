@@ -1,0 +1,161 @@
+-- The code of a text takes at most 220 bytes for each of its nodes.
+use Rattle.std.proofs.Common.{◌+◌, ◌≤◌, refl, arith}
+use Rattle.std.specs.Prelude.{Bool, true, false, if◌then◌else◌, Option, Some, None}
+use Rattle.seh_num.specs.declared.width.Width.{Width}
+use Rattle.seh_num.specs.declared.width.Width.TheVariants.{W8, W16, W32, W64}
+use Rattle.c_operations.specs.declared.operation.Signedness.{Signedness}
+use Rattle.c_checked.specs.Expression as nodes
+use Rattle.c_checked.specs.Expression.{Expression, Lvalue}
+use Rattle.c_checked.specs.declared.expression.Conversion.{Conversion}
+use Rattle.c_checked.specs.declared.expression.Conversion.TheVariants.{Kept, Extend, Scale}
+use Rattle.c_syntax.specs.declared.expression.CType.{CType}
+use Rattle.c_resolved.specs.Types.{same_type, to_width, conversion, width_of, sort_of}
+use Rattle.text_bounds.specs.Weights.{Weights, optional, NodesAdd, StatementsAdd}
+use Rattle.text_bounds.proofs.StatementWeights.{weight_is_bounded}
+use Rattle.text_bounds.specs.Rooms.{conversion_room, expression_room, read_room, write_room, locate_room, node_room, arguments_room, discarded_room, condition_room, initialiser_room, returned_room, all_declared_room, statement_room, statements_room, functions_room}
+use Rattle.text_bounds.specs.BoundLaws.{CodeIsBounded}
+
+abbrev rooms : Weights
+rooms = record {
+  conversion = conversion_room;
+  expression = expression_room;
+  node = node_room;
+  arguments = arguments_room;
+  declared = all_declared_room;
+  statement = statement_room;
+  statements = statements_room;
+  functions = functions_room;
+  each = 220;
+  converted = 105;
+  retyped = 35;
+}
+
+-- ---- conversions
+
+conversion_most : (c : Conversion) → conversion_room c ≤ 105
+conversion_most Kept = omega arith
+conversion_most (Extend s from size) = omega arith
+conversion_most (Scale s from by) = omega arith
+
+to_width_small : (from : Width) (s : Signedness) (to : Width) (t : Signedness)
+    → conversion_room (to_width from s to t) ≤ 35
+to_width_small W8 s W8 t = omega arith
+to_width_small W8 s W16 t = omega arith
+to_width_small W8 s W32 t = omega arith
+to_width_small W8 s W64 t = omega arith
+to_width_small W16 s W8 t = omega arith
+to_width_small W16 s W16 t = omega arith
+to_width_small W16 s W32 t = omega arith
+to_width_small W16 s W64 t = omega arith
+to_width_small W32 s W8 t = omega arith
+to_width_small W32 s W16 t = omega arith
+to_width_small W32 s W32 t = omega arith
+to_width_small W32 s W64 t = omega arith
+to_width_small W64 s W8 t = omega arith
+to_width_small W64 s W16 t = omega arith
+to_width_small W64 s W32 t = omega arith
+to_width_small W64 s W64 t = omega arith
+
+kept_if : (b : Bool) (c : Conversion) → conversion_room c ≤ 35
+    → conversion_room (if b then Kept else c) ≤ 35
+kept_if true c h = omega arith
+kept_if false c h = h
+
+conversion_small : (from to : CType) → conversion_room (conversion from to) ≤ 35
+conversion_small from to = kept_if (same_type from to)
+    (to_width (width_of from) (sort_of from) (width_of to) (sort_of to))
+    (to_width_small (width_of from) (sort_of from) (width_of to) (sort_of to))
+
+-- ---- places
+
+write_small : (p : Lvalue) → write_room p ≤ 43
+write_small (nodes.Local x) = omega arith
+write_small (nodes.Global access a) = omega arith
+write_small (nodes.Indirection access e) = omega arith
+write_small (nodes.Element access e i) = omega arith
+
+address_small : (p : Lvalue) → node_room (nodes.AddressOf p) ≤ locate_room p + read_room p
+address_small (nodes.Local x) = omega arith
+address_small (nodes.Global access a) = omega arith
+address_small (nodes.Indirection access e) = omega arith
+address_small (nodes.Element access e i) = omega arith
+
+-- ---- values, with what comes after them
+
+value_discarded : (o : Option nodes.Expression) → discarded_room o ≤ optional rooms o + 1
+value_discarded None = omega arith
+value_discarded (Some e) = omega arith
+
+value_condition : (o : Option nodes.Expression) → condition_room o ≤ optional rooms o + 18
+value_condition None = omega arith
+value_condition (Some e) = omega arith
+
+value_initialiser : (o : Option nodes.Expression) → initialiser_room o ≤ optional rooms o + 44
+value_initialiser None = omega arith
+value_initialiser (Some e) = omega arith
+
+value_returned : (o : Option nodes.Expression) → returned_room o ≤ optional rooms o + 35
+value_returned None = omega arith
+value_returned (Some e) = omega arith
+
+-- ---- nodes and statements
+
+nodes_add : NodesAdd rooms
+nodes_add = record {
+  value = λ n c. refl;
+  any_conversion = conversion_most;
+  no_conversion = omega arith;
+  of_types = conversion_small;
+  constant = λ z n. omega arith;
+  of_local = λ x. omega arith;
+  of_global = λ access a. omega arith;
+  indirection = λ access e. omega arith;
+  element = λ access e i. omega arith;
+  address = λ p. let a = address_small p in omega arith;
+  assignment = λ p e. let w = write_small p in omega arith;
+  compound_assignment = λ p before o e after small small'. let w = write_small p in omega arith;
+  increment = λ m p o n after small. let w = write_small p in omega arith;
+  unary = λ o e. omega arith;
+  binary = λ o e f. omega arith;
+  difference = λ n e f. omega arith;
+  negation = λ e. omega arith;
+  conjunction = λ e f. omega arith;
+  disjunction = λ m n. omega arith;
+  conditional = λ c e f. omega arith;
+  comma = λ e f. omega arith;
+  call = λ f es. omega arith;
+  built_in_call = λ k es. omega arith;
+  exception_code = omega arith;
+  information = λ f. omega arith;
+  abnormal_termination = omega arith;
+  no_argument = refl;
+  argument = λ e es. refl;
+}
+
+statements_add : StatementsAdd rooms
+statements_add = record {
+  declaration = λ d. let v = value_initialiser d.value in omega arith;
+  block = λ ss. omega arith;
+  evaluation = λ e. let v = value_discarded e in omega arith;
+  if_alone = λ c s. omega arith;
+  if_else = λ c s t. omega arith;
+  for_loop = λ ds first c next s. let u = value_discarded first in let v = value_condition c in
+      let w = value_discarded next in omega arith;
+  do_loop = λ s c. omega arith;
+  returning = λ e. let v = value_returned e in omega arith;
+  breaking = omega arith;
+  continuing = omega arith;
+  leaving = omega arith;
+  accepting = λ body block. omega arith;
+  filtering = λ body k e block. omega arith;
+  finishing = λ body k last. omega arith;
+  no_statement = refl;
+  sequence = λ s ss. refl;
+  no_declared = refl;
+  several_declared = λ d ds. refl;
+  no_function = refl;
+  several_functions = λ f fs. omega arith;
+}
+
+pub code_is_bounded : CodeIsBounded
+code_is_bounded = weight_is_bounded rooms nodes_add statements_add

@@ -1,0 +1,54 @@
+-- The code and the tables of a program take no more than the room of its functions.
+use Rattle.std.proofs.Common.{◌≡◌, ℕ, ◌+◌, ◌*◌, ◌≤◌, List, [], ◌∷◌, length, map, None, refl, arith, length-append}
+use Rattle.c_checked.specs.Program.{Function}
+use Rattle.c_checked.specs.Sound as sound
+use Rattle.c_checked.specs.Sound.{funclets}
+use Rattle.linear_code.specs.declared.slot.Slot.TheVariants.{Temporary}
+use Rattle.linear_code.specs.declared.instruction.Instruction.TheVariants.{Return}
+use Rattle.linear_code.specs.Program.{LinearFunclet}
+use Rattle.seh_ir.specs.declared.funclets.Owner.{Owner}
+use Rattle.lowering_expressions.specs.Expressions.{constant}
+use Rattle.seh_ir.specs.Statements.{statements_code}
+use Rattle.seh_ir.specs.Lowered.{all_locals, scope_of, lowered_function, lowered_funclets, all_funclets}
+use Rattle.lowering_follows.proofs.FuncletNumbers.{statements_count}
+use Rattle.image_link.specs.Fits.{room, tables_room, function_bodies, funclet_bodies}
+use Rattle.text_bounds.specs.Rooms.{functions_room}
+use Rattle.text_bounds.specs.RoomLaws.{LoweredIsBounded}
+use Rattle.text_bounds.proofs.ExpressionRooms.{room_append}
+use Rattle.text_bounds.proofs.StatementRooms.{funclets_room, funclets_append, statements_bound}
+
+-- ---- bodies of functions and of funclets
+
+funclet_rooms : (fs : List LinearFunclet) → room (funclet_bodies fs)
+    + tables_room (funclet_bodies fs) ≡ funclets_room fs + 544 * length fs
+funclet_rooms [] = refl
+funclet_rooms (f ∷ fs) = let r = funclet_rooms fs in omega arith
+
+functions_bound : (number : ℕ) (fs : List Function)
+    → room (function_bodies (map lowered_function fs))
+    + tables_room (function_bodies (map lowered_function fs))
+    + funclets_room (all_funclets number fs) + 544 * length (all_funclets number fs)
+    ≤ functions_room fs + 544 * (length fs + length (sound.all_funclets fs))
+functions_bound number [] = omega arith
+functions_bound number (f ∷ fs) =
+    let owner : Owner = record { function = number; locals = all_locals f; parent = None } in
+    let names = (scope_of f).names in
+    let own = lowered_funclets number f in
+    let more = all_funclets (number + 1) fs in
+    let r = functions_bound (number + 1) fs in
+    let b = statements_bound (scope_of f) 0 0 owner names f.body in
+    let c = statements_count owner names f.body in
+    omega (
+      arith,
+      room_append (statements_code (scope_of f) f.body 0)
+          (constant 0 0 ∷ Return (Temporary 0) ∷ []),
+      funclets_append own more,
+      length-append own more,
+      length-append (funclets f.body) (sound.all_funclets fs),
+    )
+
+pub lowered_is_bounded : LoweredIsBounded
+lowered_is_bounded program =
+    let a = functions_bound 0 program.functions in
+    let b = funclet_rooms (all_funclets 0 program.functions) in
+    omega arith

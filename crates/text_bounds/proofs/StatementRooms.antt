@@ -1,0 +1,255 @@
+-- The code of statements, of the filters and `__finally` blocks in them, and their scope records
+-- take no more than their room.
+use Rattle.std.proofs.Common.{◌≡◌, ℕ, ◌+◌, ◌-◌, ◌*◌, ◌≤◌, List, [], ◌∷◌, ◌++◌, length, Option, Some, None, sym, arith, zero-add, length-append}
+use Rattle.c_checked.specs.Expression.{Expression}
+use Rattle.c_checked.specs.Statement as statements
+use Rattle.c_checked.specs.Statement.{Declared, Filter, Always, Funclet, Statement, Declare, Block, Evaluate, If, IfElse, For, DoWhile, Break, Continue, Leave, TryExcept, TryFinally, Statements, Empty, Then}
+use Rattle.linear_code.specs.declared.slot.Slot.TheVariants.{Local, Temporary}
+use Rattle.linear_code.specs.declared.instruction.Instruction.TheVariants as instructions
+use Rattle.linear_code.specs.declared.program.RegionKind.TheVariants as kinds
+use Rattle.linear_code.specs.Program.{LinearBody, LinearFunclet}
+use Rattle.seh_ir.specs.declared.funclets.Owner.{Owner}
+use Rattle.lowering_expressions.specs.declared.scope.Names.{Names}
+use Rattle.lowering_expressions.specs.declared.scope.LoweringContext.{LoweringContext}
+use Rattle.lowering_expressions.specs.declared.scope.Way.{Way}
+use Rattle.lowering_expressions.specs.declared.scope.Way.TheVariants.{Nowhere, Jumps, Unwinds}
+use Rattle.lowering_sizes.specs.Sizes.{expression_size, discarded_size, condition_size, declared_size, all_declared_size, statement_size, statements_size}
+use Rattle.lowering_expressions.specs.Scope.{except_names, filter_names, finally_names, finally_scope, in_loop, in_try, in_except, in_guarded}
+use Rattle.lowering_expressions.specs.Expressions.{copy, expression_code}
+use Rattle.seh_ir.specs.Statements.{jump_code, return_code, leave_code, discarded_code, returned_code, condition_code, initialiser_code, declared_code, all_declared_code, landed, repeated, statement_code, statements_code}
+use Rattle.seh_ir.specs.Regions.{region, except_kind, statement_regions, statements_regions}
+use Rattle.seh_ir.specs.Funclets.{filter_funclets, finally_funclet, in_funclet, statement_funclets, statements_funclets}
+use Rattle.x64_emit.specs.Rooms.{instruction_room, code_room}
+use Rattle.text_bounds.specs.Rooms.{discarded_room, condition_room, initialiser_room, declared_room, all_declared_room, returned_room, filter_room, statement_room, statements_room}
+use Rattle.text_bounds.proofs.ExpressionRooms.{room_append, expression_bound}
+
+-- ---- funclets: their code and their scope records
+
+abbrev pub body_room : LinearBody → ℕ
+body_room b = code_room b.code + 16 * length b.regions
+
+abbrev pub funclets_room : List LinearFunclet → ℕ
+funclets_room [] = 0
+funclets_room (f ∷ fs) = body_room f.body + funclets_room fs
+
+pub funclets_append : (fs gs : List LinearFunclet)
+    → funclets_room (fs ++ gs) ≡ funclets_room fs + funclets_room gs
+funclets_append [] gs = sym (zero-add (funclets_room gs))
+funclets_append (f ∷ fs) gs = let r = funclets_append fs gs in omega arith
+
+-- ---- ways out, and expressions
+
+jumped : (w : Way) → code_room (jump_code w) ≤ 16
+jumped Nowhere = omega arith
+jumped (Jumps label) = omega arith
+jumped (Unwinds label) = omega arith
+
+returned_by : (w : Way) → code_room (return_code w) ≤ 17
+returned_by Nowhere = omega arith
+returned_by (Jumps label) = omega arith
+returned_by (Unwinds label) = omega arith
+
+left_by : (o : Option ℕ) → instruction_room (leave_code o) ≤ 5
+left_by None = omega arith
+left_by (Some label) = omega arith
+
+discarded : (names : Names) (e : Option Expression) (at : ℕ)
+    → code_room (discarded_code names e at) ≤ discarded_room e
+discarded names None at = omega arith
+discarded names (Some e) at = let a = expression_bound names e 0 at in
+    omega (arith, room_append (expression_code names e 0 at) (instructions.Separator ∷ []))
+
+returned : (names : Names) (e : Option Expression) (at : ℕ)
+    → code_room (returned_code names e at) ≤ returned_room e
+returned names None at = omega arith
+returned names (Some e) at = expression_bound names e 0 at
+
+tested : (names : Names) (e : Option Expression) (label at : ℕ)
+    → code_room (condition_code names e label at) ≤ condition_room e
+tested names None label at = omega arith
+tested names (Some e) label at = let a = expression_bound names e 0 at in
+    omega (
+      arith,
+      room_append (expression_code names e 0 at)
+          (instructions.JumpIfZero (Temporary 0) label ∷ []),
+    )
+
+initialised : (names : Names) (x : ℕ) (e : Option Expression) (at : ℕ)
+    → code_room (initialiser_code names x e at) ≤ initialiser_room e
+initialised names x None at = omega arith
+initialised names x (Some e) at = let a = expression_bound names e 0 at in
+    omega (
+      arith,
+      room_append (expression_code names e 0 at)
+          (copy (Local x) (Temporary 0) ∷ instructions.Separator ∷ []),
+    )
+
+declared_bound : (names : Names) (d : Declared) (at : ℕ)
+    → code_room (declared_code names d at) ≤ declared_room d
+declared_bound names d at = let a = initialised names d.local d.value (at + 1) in omega arith
+
+all_declared : (names : Names) (ds : List Declared) (at : ℕ)
+    → code_room (all_declared_code names ds at) ≤ all_declared_room ds
+all_declared names [] at = omega arith
+all_declared names (d ∷ ds) at =
+    let a = declared_bound names d at in
+    let b = all_declared names ds (at + declared_size d) in
+    omega (
+      arith,
+      room_append (declared_code names d at)
+          (all_declared_code names ds (at + declared_size d)),
+    )
+
+filtered : (owner : Owner) (names : Names) (f : Filter)
+    → funclets_room (filter_funclets owner names f) ≤ filter_room f
+filtered owner names Always = omega arith
+filtered owner names (Funclet k e) = let a = expression_bound names e 0 0 in
+    omega (
+      arith,
+      room_append (expression_code names e 0 0)
+          (instructions.Return (Temporary 0) ∷ []),
+    )
+
+-- ---- statements: the code is placed at one instruction, and the regions at another
+
+abbrev Bound : LoweringContext → ℕ → ℕ → Owner → Names → Statement → Type 0
+Bound scope at from owner names s = code_room (statement_code scope s at)
+    + 16 * length (statement_regions s from) + funclets_room (statement_funclets owner names s)
+    ≤ statement_room s
+
+abbrev Bounds : LoweringContext → ℕ → ℕ → Owner → Names → Statements → Type 0
+Bounds scope at from owner names ss = code_room (statements_code scope ss at)
+    + 16 * length (statements_regions ss from) + funclets_room (statements_funclets owner names ss)
+    ≤ statements_room ss
+
+mutual
+  statement_bound : (scope : LoweringContext) (at from : ℕ) (owner : Owner) (names : Names)
+      (s : Statement) → Bound scope at from owner names s
+  statement_bound scope at from owner names (Declare d) = let a = declared_bound scope.names d at in
+      omega arith
+  statement_bound scope at from owner names (Block ss) = statements_bound scope at from owner names
+      ss
+  statement_bound scope at from owner names (Evaluate e) = let a = discarded scope.names e at in
+      omega arith
+  statement_bound scope at from owner names (If c s) =
+      let then = at + expression_size c + 1 in
+      let a = expression_bound scope.names c 0 at in
+      let b = statement_bound scope then (from + expression_size c + 1) owner names s in
+      omega (
+        arith,
+        room_append (expression_code scope.names c 0 at)
+            (instructions.JumpIfZero (Temporary 0) (then + statement_size s)
+            ∷ statement_code scope s then),
+      )
+  statement_bound scope at from owner names (IfElse c s t) =
+      let then = at + expression_size c + 1 in
+      let otherwise = then + statement_size s + 1 in
+      let then' = from + expression_size c + 1 in
+      let otherwise' = then' + statement_size s + 1 in
+      let a = expression_bound scope.names c 0 at in
+      let b = statement_bound scope then then' owner names s in
+      let d = statement_bound scope otherwise otherwise' owner names t in
+      let last = instructions.Jump (otherwise + statement_size t)
+      ∷ statement_code scope t otherwise in
+      omega (
+        arith,
+        room_append (expression_code scope.names c 0 at)
+            (instructions.JumpIfZero (Temporary 0) otherwise ∷ (statement_code scope s then ++ last)),
+        room_append (statement_code scope s then) last,
+        length-append (statement_regions s then') (statement_regions t otherwise'),
+        funclets_append (statement_funclets owner names s) (statement_funclets owner names t),
+      )
+  statement_bound scope at from owner names (For ds first c next s) =
+      let begin = at + all_declared_size ds in
+      let iteration = begin + discarded_size first in
+      let body = iteration + condition_size c in
+      let again = body + statement_size s in
+      let end = again + 1 + discarded_size next + 1 in
+      let a = all_declared scope.names ds at in
+      let b = discarded scope.names first begin in
+      let d = tested scope.names c end iteration in
+      let e = statement_bound (in_loop end again scope) body
+      (from + all_declared_size ds + discarded_size first + condition_size c) owner names s in
+      let f = discarded scope.names next (again + 1) in
+      let step = discarded_code scope.names next (again + 1) in
+      let last = instructions.Separator ∷ (step ++ instructions.Jump iteration ∷ []) in
+      let inner = statement_code (in_loop end again scope) s body ++ last in
+      let test = condition_code scope.names c end iteration in
+      omega (
+        arith,
+        room_append (all_declared_code scope.names ds at)
+            (discarded_code scope.names first begin ++ (test ++ inner)),
+        room_append (discarded_code scope.names first begin) (test ++ inner),
+        room_append test inner,
+        room_append (statement_code (in_loop end again scope) s body) last,
+        room_append step (instructions.Jump iteration ∷ []),
+      )
+  statement_bound scope at from owner names (DoWhile s c) =
+      let again = at + statement_size s in
+      let end = again + 1 + expression_size c + 2 in
+      let a = statement_bound (in_loop end again scope) at from owner names s in
+      let b = expression_bound scope.names c 0 (again + 1) in
+      omega (
+        arith,
+        room_append (statement_code (in_loop end again scope) s at)
+            (instructions.Separator ∷ (expression_code scope.names c 0 (again + 1) ++ repeated end at)),
+        room_append (expression_code scope.names c 0 (again + 1)) (repeated end at),
+      )
+  statement_bound scope at from owner names (statements.Return e) =
+      let a = returned scope.names e at in
+      let b = returned_by scope.exit in
+      omega (arith, room_append (returned_code scope.names e at) (return_code scope.exit))
+  statement_bound scope at from owner names Break = let a = jumped scope.loop_end in omega arith
+  statement_bound scope at from owner names Continue = let a = jumped scope.loop_next in omega arith
+  statement_bound scope at from owner names Leave = let a = left_by scope.leave in omega arith
+  statement_bound scope at from owner names (TryExcept body filter block) =
+      let target = at + statements_size body + 1 in
+      let end = target + 1 + statements_size block in
+      let target' = from + statements_size body + 1 in
+      let own = region from target' (except_kind filter target') in
+      let a = statements_bound (in_try end scope) at from owner names body in
+      let b = statements_bound (in_except scope) (target + 1) (target' + 1) owner
+      (except_names names) block in
+      let d = filtered owner (filter_names names) filter in
+      let inner = filter_funclets owner (filter_names names) filter in
+      let last = statements_funclets owner (except_names names) block in
+      omega (
+        arith,
+        room_append (statements_code (in_try end scope) body at)
+            (landed end scope.names.free ++ statements_code (in_except scope) block (target + 1)),
+        length-append (statements_regions body from) (own ∷ statements_regions block (target' + 1)),
+        funclets_append (statements_funclets owner names body) (inner ++ last),
+        funclets_append inner last,
+      )
+  statement_bound scope at from owner names (TryFinally body k last) =
+      let guarded = in_guarded (at + statements_size body) scope in
+      let inner = finally_scope names in
+      let owner' = in_funclet (k - 1) owner in
+      let names' = finally_names names in
+      let a = statements_bound guarded at from owner names body in
+      let b = statements_bound inner 0 0 owner' names' last in
+      omega (
+        arith,
+        room_append (statements_code guarded body at)
+            (instructions.Separator ∷ instructions.CallFinally (k - 1) ∷ instructions.Separator ∷ []),
+        length-append (statements_regions body from)
+            (region from (from + statements_size body + 1) (kinds.Finally (k - 1)) ∷ []),
+        funclets_append (statements_funclets owner names body)
+            (finally_funclet owner names last ∷ statements_funclets owner' names' last),
+        room_append (statements_code inner last 0) (instructions.Return (Local names.free) ∷ []),
+      )
+
+  pub statements_bound : (scope : LoweringContext) (at from : ℕ) (owner : Owner) (names : Names)
+      (ss : Statements) → Bounds scope at from owner names ss
+  statements_bound scope at from owner names Empty = omega arith
+  statements_bound scope at from owner names (Then s ss) =
+      let a = statement_bound scope at from owner names s in
+      let b = statements_bound scope (at + statement_size s) (from + statement_size s) owner names
+      ss in
+      omega (
+        arith,
+        room_append (statement_code scope s at)
+            (statements_code scope ss (at + statement_size s)),
+        length-append (statement_regions s from) (statements_regions ss (from + statement_size s)),
+        funclets_append (statement_funclets owner names s) (statements_funclets owner names ss),
+      )

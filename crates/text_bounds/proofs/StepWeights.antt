@@ -1,0 +1,93 @@
+-- The program of a text begins at most three steps for each node without a turn.
+use Rattle.std.proofs.Common.{◌≡◌, ℕ, ◌*◌, ◌≤◌, refl, arith}
+use Rattle.std.specs.Prelude.{List, Option, Some, None}
+use Rattle.c_checked.specs.Expression.{Expression}
+use Rattle.c_syntax.specs.Program.{ExternalDeclaration}
+use Rattle.c_syntax.specs.Nodes.{nodes_of}
+use Rattle.c_resolved.specs.Program.{resolve}
+use Rattle.text_bounds.specs.Weights.{Weights, optional, NodesAdd, StatementsAdd}
+use Rattle.text_bounds.proofs.StatementWeights.{weight_is_bounded}
+use Rattle.lowering_follows.specs.Weights.{expression_weight, node_weight, arguments_weight, optional_weight, all_declared_weight, statement_weight, statements_weight}
+use Rattle.lowering_follows.specs.StepsPerTurn.{weight_of}
+
+-- each expression begins a step of its own, with its conversion
+abbrev weights : Weights
+weights = record {
+  conversion = λ c. 1;
+  expression = expression_weight;
+  node = node_weight;
+  arguments = arguments_weight;
+  declared = all_declared_weight;
+  statement = statement_weight;
+  statements = statements_weight;
+  functions = weight_of;
+  each = 3;
+  converted = 1;
+  retyped = 1;
+}
+
+-- the same weight, in either spelling
+optional_is : (e : Option Expression) → optional_weight e ≡ optional weights e
+optional_is None = refl
+optional_is (Some e) = refl
+
+nodes_add : NodesAdd weights
+nodes_add = record {
+  value = λ n c. omega arith;
+  any_conversion = λ c. omega arith;
+  no_conversion = omega arith;
+  of_types = λ from to. omega arith;
+  constant = λ z n. omega arith;
+  of_local = λ x. omega arith;
+  of_global = λ access a. omega arith;
+  indirection = λ access e. omega arith;
+  element = λ access e i. omega arith;
+  address = λ p. omega arith;
+  assignment = λ p e. omega arith;
+  compound_assignment = λ p before o e after small small'. omega arith;
+  increment = λ m p o n after small. omega arith;
+  unary = λ o e. omega arith;
+  binary = λ o e f. omega arith;
+  difference = λ n e f. omega arith;
+  negation = λ e. omega arith;
+  conjunction = λ e f. omega arith;
+  disjunction = λ m n. omega arith;
+  conditional = λ c e f. omega arith;
+  comma = λ e f. omega arith;
+  call = λ f es. omega arith;
+  built_in_call = λ k es. omega arith;
+  exception_code = omega arith;
+  information = λ f. omega arith;
+  abnormal_termination = omega arith;
+  no_argument = refl;
+  argument = λ e es. refl;
+}
+
+statements_add : StatementsAdd weights
+statements_add = record {
+  declaration = λ d. let e = optional_is d.value in omega arith;
+  block = λ ss. omega arith;
+  evaluation = λ e. let f = optional_is e in omega arith;
+  if_alone = λ c s. omega arith;
+  if_else = λ c s t. omega arith;
+  for_loop = λ ds first c next s. let e = optional_is first in let f = optional_is c in
+      let g = optional_is next in omega arith;
+  do_loop = λ s c. omega arith;
+  returning = λ e. let f = optional_is e in omega arith;
+  breaking = omega arith;
+  continuing = omega arith;
+  leaving = omega arith;
+  accepting = λ body block. omega arith;
+  filtering = λ body k e block. omega arith;
+  finishing = λ body k last. omega arith;
+  no_statement = refl;
+  sequence = λ s ss. refl;
+  no_declared = refl;
+  several_declared = λ d ds. refl;
+  no_function = refl;
+  several_functions = λ f fs. omega arith;
+}
+
+pub resolved_weight : (text : List ℕ) (xs : List ExternalDeclaration)
+    → weight_of (resolve text xs).program.functions ≤ 3 * nodes_of xs
+resolved_weight = weight_is_bounded weights nodes_add statements_add

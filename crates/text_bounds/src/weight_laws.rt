@@ -1,0 +1,9 @@
+//! The law of the weight of a text's program.
+
+ghost use Rattle.text_bounds.specs.WeightLaws.{WeightIsBounded};
+
+/// Where each node adds at most so much, a text's program weighs at most that for each of its
+/// nodes.
+pub fn laws()
+    ensures bounded { WeightIsBounded }
+{}

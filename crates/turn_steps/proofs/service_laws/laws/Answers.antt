@@ -1,9 +1,0 @@
-use Rattle.turn_steps.proofs.ServiceSteps as lemma
-use Rattle.turn_steps.proofs.service_laws.laws.Goals as goal
-
-pub returns : goal.returns
-returns c = record {
-  information = lemma.information_is_matched;
-  puts = lemma.puts_are_matched;
-  protects = lemma.protects_are_matched;
-}

@@ -1,5 +1,0 @@
-use Rattle.unset_locals.proofs.Alike as lemma
-use Rattle.unset_locals.proofs.laws.calls_are_alike.Goals as goal
-
-pub returns : goal.returns
-returns c = record { alike = lemma.calls_are_alike }

@@ -1,5 +1,0 @@
-use Rattle.unset_locals.proofs.Alike as lemma
-use Rattle.unset_locals.proofs.laws.steps_are_alike.Goals as goal
-
-pub returns : goal.returns
-returns c = record { alike = lemma.steps_are_alike }

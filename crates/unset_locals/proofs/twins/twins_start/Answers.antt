@@ -1,5 +1,0 @@
-use Rattle.unset_locals.proofs.Together as lemma
-use Rattle.unset_locals.proofs.twins.twins_start.Goals as goal
-
-pub returns : goal.returns
-returns c = record { twins = lemma.twins_start }

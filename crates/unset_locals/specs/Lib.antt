@@ -1,5 +1,0 @@
-pub mod Marks
-pub mod Alike
-pub mod Reads
-pub mod Laws
-pub mod Twins

@@ -1,7 +1,0 @@
-use Rattle.std.proofs.Common.{◌≡◌, ◌++◌, take}
-use Rattle.template_code.specs.Bytes.{spelled}
-use Rattle.x64_code.proofs.entry.put_all.Given as goal
-
-abbrev pub invariant-loop-instr : goal.invariant-loop-instr
-invariant-loop-instr l = l.code.items ≡ l.initial.code.items
-    ++ spelled (take l.instr-index l.instrs)

@@ -1,0 +1,15 @@
+use Rattle.std.proofs.Common.{◌≡◌, ◌++◌, ◌+◌, length, drop}
+use Rattle.template_code.specs.Template.{body_size}
+use Rattle.x64_emit.specs.Rooms.{code_room}
+use Rattle.x64_emit.specs.Bodies.{label_list}
+use Rattle.x64_emit.proofs.body.labels_of.Given as goal
+use Rattle.x64_emit.specs.Near.{IsNear}
+
+abbrev pub invariant-loop-instruction : goal.invariant-loop-instruction
+invariant-loop-instruction l = record {
+  starts : l.starts.items ++ label_list l.layout (l.start + length l.scratch.items)
+      (drop l.instruction-index l.body) ≡ label_list l.layout l.start l.body;
+  end : length l.scratch.items + body_size l.layout (drop l.instruction-index l.body)
+      ≡ body_size l.layout l.body;
+  room : IsNear (l.start + length l.scratch.items + code_room (drop l.instruction-index l.body));
+}

@@ -1,0 +1,42 @@
+-- Where everything is that code refers to.
+use Rattle.std.specs.Prelude.{ℕ, List, get_or}
+use Rattle.c_operations.specs.declared.built_in.BuiltIn.{BuiltIn}
+use Rattle.c_operations.specs.declared.built_in.BuiltIn.TheVariants.{Put, Protect, RaiseException}
+use Rattle.template_code.specs.Template.{Links}
+use Rattle.x64_emit.specs.declared.links.Thunks.{Thunks}
+use Rattle.x64_emit.specs.Near.{IsNear, AreNear}
+
+pub record Addresses : Type 0 where
+  pub labels : List ℕ
+  pub end : ℕ
+  pub functions : List ℕ
+  pub funclets : List ℕ
+  pub thunks : Thunks
+
+pub record AreAddressesNear (a : Addresses) : Type 0 where
+  pub labels : AreNear a.labels
+  pub end : IsNear a.end
+  pub functions : AreNear a.functions
+  pub funclets : AreNear a.funclets
+  pub put : IsNear a.thunks.put
+  pub protect : IsNear a.thunks.protect
+  pub raise_exception : IsNear a.thunks.raise_exception
+  pub local_unwind : IsNear a.thunks.local_unwind
+
+abbrev pub address_or : List ℕ → ℕ → ℕ → ℕ
+address_or addresses index other = get_or addresses index other
+
+abbrev pub thunk_of : Thunks → BuiltIn → ℕ
+thunk_of t Put = t.put
+thunk_of t Protect = t.protect
+thunk_of t RaiseException = t.raise_exception
+
+-- labels past the last instruction are the body's end
+abbrev pub links_of : Addresses → Links
+links_of a = record {
+  label = λ l. address_or a.labels l a.end;
+  function = λ f. address_or a.functions f 0;
+  known = thunk_of a.thunks;
+  funclet = λ f. address_or a.funclets f 0;
+  local_unwind = a.thunks.local_unwind;
+}

@@ -1,0 +1,191 @@
+//! What comes before a body: its frame, and its parameters or what a funclet is called with.
+
+ghost use Rattle.std.specs.Prelude.{◌≡◌, ◌+◌, ◌++◌, ◌<◌, ◌≤◌, ◌^◌, [], ◌∷◌, OnOk};
+ghost use Rattle.std.specs.List.{AllByRecursion};
+ghost use Rattle.x64_encode.specs.Chosen.{IsEncodable};
+ghost use Rattle.frame_rules.specs.Bytes.{prologue_code};
+ghost use Rattle.frame_layout.specs.Layout.{plan_of};
+ghost use Rattle.linear_code.specs.declared.slot.Slot.TheVariants as slots;
+ghost use Rattle.x64_emit.specs.Entries as entries;
+ghost use Rattle.x64_emit.specs.Near.{IsNear, IsSlotNear, AreParametersNear, IsFrameNear, ArePointersNear};
+ghost use Rattle.template_code.specs.Calls as spec;
+ghost use Rattle.template_code.specs.Jumps.{distance};
+ghost use Rattle.template_code.specs.Operations as operations;
+ghost use Rattle.template_code.specs.Slots as places;
+ghost use Rattle.template_code.specs.Bytes.{spelled, thunk};
+ghost use Rattle.x64_emit.specs.Appending.{Appended};
+ghost use Rattle.template_code.specs.Probing.{check_stack};
+
+use crate::calls::distance;
+use crate::put::{above, arithmetic, copy, load, put, store};
+use crate::slots::put_keep;
+use frame_layout::{FrameLayout, prologue};
+use linear_code::slot::Slot;
+use seh_num::width::Width;
+use std::alloc::AllocError;
+use template_code::layout::Layout;
+use x64_instr::instruction::{Instr, Operation, Target};
+use x64_instr::operand::{Base, MemRef, Operand, RegisterOrMemory};
+use x64_instr::register::Reg;
+
+/// The bytes of the thunk of a service.
+pub const THUNK_SIZE: u32 = 6;
+
+/// The bytes of `__chkstk`.
+pub const CHECK_STACK_SIZE: u32 = 21;
+
+/// How far after a prologue's first byte the call of `__chkstk` ends, where there is one.
+const PROBE_END: u64 = 10;
+
+/// Adds a thunk that begins at an address: a jump through the slot of a service.
+pub fn put_thunk(code: &mut Vec<u8>, at: u64, slot: u64) -> Result<(), AllocError>
+    requires at { IsNear at }
+    requires slot { IsNear slot }
+    ensures { OnOk result (Appended code.old (thunk (distance (at + 6) slot) ∷ []) code.new) }
+{
+    let slot = MemRef {
+        base: Base::Rip,
+        index: None,
+        displacement: distance(at + u64::from(THUNK_SIZE), slot),
+    };
+    put(
+        code,
+        &Instr::Jump(Target::Indirect(RegisterOrMemory::Memory(slot))),
+    )
+}
+
+/// TEST of the byte at an address, which touches its page.
+fn touch(at: MemRef) -> Instr
+    ensures { result ≡ Instr.Test Width.W8 (RegisterOrMemory.Memory at) (Operand.Register Reg.Rax) }
+{
+    Instr::Test {
+        width: Width::W8,
+        first: RegisterOrMemory::Memory(at),
+        second: Operand::Register(Reg::Rax),
+    }
+}
+
+/// Adds `__chkstk`, which touches each page of a frame of at most 8,192 bytes, whose size is in
+/// RAX.
+pub fn put_check_stack(code: &mut Vec<u8>) -> Result<(), AllocError>
+    ensures { OnOk result (code.new.items ≡ code.old.items ++ spelled check_stack) }
+{
+    put(code, &touch(above(Reg::Rsp, 0_u64.wrapping_sub(4088))))?;
+    let caller = Instr::LoadAddress {
+        width: Width::W64,
+        to: Reg::R11,
+        from: above(Reg::Rsp, 8),
+    };
+    put(code, &caller)?;
+    put(
+        code,
+        &arithmetic(Operation::Sub, Width::W64, Reg::R11, Reg::Rax),
+    )?;
+    put(code, &touch(above(Reg::R11, 0)))?;
+    put(code, &Instr::Return)
+}
+
+/// Adds the bytes of instructions.
+fn put_all(code: &mut Vec<u8>, instrs: &[Instr]) -> Result<(), AllocError>
+    requires { AllByRecursion IsEncodable instrs.now }
+    ensures { OnOk result (code.new.items ≡ code.old.items ++ spelled instrs.now) }
+{
+    for instr in instrs {
+        put(code, instr)?;
+    }
+    Ok(())
+}
+
+/// Adds the prologue of a frame, for code that begins at an address.
+pub fn put_prologue(
+    code: &mut Vec<u8>,
+    frame: &FrameLayout,
+    at: u64,
+    check_stack: u64,
+) -> Result<(), AllocError>
+    requires some { 0 < frame.now.size }
+    requires small { frame.now.size < 2 ^ 31 }
+    requires at { IsNear at }
+    requires check_stack { IsNear check_stack }
+    ensures { OnOk result
+        (Appended code.old
+        (prologue_code (plan_of frame.now (distance (at + 10) check_stack))) code.new) }
+{
+    let instrs = prologue(frame, distance(at + PROBE_END, check_stack));
+    put_all(code, instrs.as_slice())
+}
+
+/// The register of a parameter, one of the first four.
+fn parameter_register(index: u64) -> Reg
+    ensures { result ≡ spec.parameter_register index }
+{
+    match index {
+        0 => Reg::Rcx,
+        1 => Reg::Rdx,
+        2 => Reg::R8,
+        _ => Reg::R9,
+    }
+}
+
+/// Adds what brings a parameter to the local of its number.
+fn put_parameter(code: &mut Vec<u8>, layout: &Layout, index: u64) -> Result<(), AllocError>
+    requires { AreParametersNear layout.now (index + 1) }
+    ensures { OnOk result (Appended code.old (spec.parameter_code layout.now index) code.new) }
+{
+    let local = layout.locals + 8 * index;
+    if index < 4 {
+        put(code, &store(Reg::Rsp, local, parameter_register(index)))
+    } else {
+        put(
+            code,
+            &load(Reg::Rax, Reg::Rsp, layout.frame + (8 + 8 * index)),
+        )?;
+        put(code, &store(Reg::Rsp, local, Reg::Rax))
+    }
+}
+
+/// Adds what brings the parameters of a function to its locals.
+pub fn put_parameters(code: &mut Vec<u8>, layout: &Layout, count: u64) -> Result<(), AllocError>
+    requires { AreParametersNear layout.now count }
+    ensures { OnOk result (Appended code.old (spec.parameters_code layout.now 0 count) code.new) }
+{
+    for index in 0..count {
+        put_parameter(code, layout, index)?;
+    }
+    Ok(())
+}
+
+/// Adds what keeps the base of a function's frame, by the frame in RDX in which the funclet's
+/// region is: the function's own, or that of another funclet, which keeps the base at `parent`.
+pub fn put_keep_base(code: &mut Vec<u8>, parent: Option<u64>, base: u64) -> Result<(), AllocError>
+    requires { entries.IsKeptNear parent base }
+    ensures { OnOk result (Appended code.old (entries.keep_base parent base) code.new) }
+{
+    match parent {
+        None => put(code, &store(Reg::Rsp, base, Reg::Rdx)),
+        Some(parent) => {
+            put(code, &load(Reg::Rax, Reg::Rdx, parent))?;
+            put(code, &store(Reg::Rsp, base, Reg::Rax))
+        }
+    }
+}
+
+/// Adds what keeps the address of a filter's EXCEPTION_POINTERS.
+pub fn put_keep_pointers(code: &mut Vec<u8>, layout: &Layout) -> Result<(), AllocError>
+    requires { ArePointersNear layout.now }
+    ensures { OnOk result
+        (Appended code.old (spec.keep_register Reg.Rcx layout.now.pointers ∷ []) code.new) }
+{
+    put(code, &store(Reg::Rsp, layout.pointers, Reg::Rcx))
+}
+
+/// Adds what brings the flag of a `__finally` block, in ECX, to a local.
+pub fn put_keep_flag(code: &mut Vec<u8>, layout: &Layout, flag: u64) -> Result<(), AllocError>
+    requires { IsSlotNear layout.now (slots.Local flag) }
+    ensures { OnOk result
+        (Appended code.old (operations.move Width.W32 Reg.Rax Reg.Rcx
+        ∷ places.keep layout.now (slots.Local flag)) code.new) }
+{
+    put(code, &copy(Width::W32, Reg::Rax, Reg::Rcx))?;
+    put_keep(code, layout, Slot::Local(flag))
+}

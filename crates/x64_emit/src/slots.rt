@@ -1,0 +1,77 @@
+//! Slots, fetched and kept.
+
+ghost use Rattle.std.specs.Prelude.{OnOk};
+ghost use Rattle.x64_emit.specs.Near.{IsSlotNear};
+ghost use Rattle.x64_emit.specs.Appending.{Appended};
+ghost use Rattle.template_code.specs.Slots as spec;
+
+use crate::operations::{put_before, put_work};
+use crate::put::{load, put, store};
+use c_operations::operation::Operation;
+use linear_code::slot::Slot;
+use std::alloc::AllocError;
+use template_code::layout::Layout;
+use x64_instr::register::Reg;
+
+/// Adds what brings a slot to a register.
+pub fn put_fetch(code: &mut Vec<u8>, layout: &Layout, to: Reg, slot: Slot) -> Result<(), AllocError>
+    requires { IsSlotNear layout.now slot }
+    ensures { OnOk result (Appended code.old (spec.fetch layout.now to slot) code.new) }
+{
+    match slot {
+        Slot::Temporary(i) => put(code, &load(to, Reg::Rsp, layout.temporaries + 8 * i)),
+        Slot::Local(i) => {
+            let displacement = layout.locals + 8 * i;
+            match layout.base {
+                None => put(code, &load(to, Reg::Rsp, displacement)),
+                Some(base) => {
+                    put(code, &load(to, Reg::Rsp, base))?;
+                    put(code, &load(to, to, displacement))
+                }
+            }
+        }
+    }
+}
+
+/// Adds what brings RAX to a slot. RCX is used on the way to the locals of a function from a filter
+/// or a `__finally` block.
+pub fn put_keep(code: &mut Vec<u8>, layout: &Layout, slot: Slot) -> Result<(), AllocError>
+    requires { IsSlotNear layout.now slot }
+    ensures { OnOk result (Appended code.old (spec.keep layout.now slot) code.new) }
+{
+    match slot {
+        Slot::Temporary(i) => put(code, &store(Reg::Rsp, layout.temporaries + 8 * i, Reg::Rax)),
+        Slot::Local(i) => {
+            let displacement = layout.locals + 8 * i;
+            match layout.base {
+                None => put(code, &store(Reg::Rsp, displacement, Reg::Rax)),
+                Some(base) => {
+                    put(code, &load(Reg::Rcx, Reg::Rsp, base))?;
+                    put(code, &store(Reg::Rcx, displacement, Reg::Rax))
+                }
+            }
+        }
+    }
+}
+
+/// Adds an operation on two slots, whose result goes to a slot.
+pub fn put_compute(
+    code: &mut Vec<u8>,
+    layout: &Layout,
+    to: Slot,
+    operation: Operation,
+    first: Slot,
+    second: Slot,
+) -> Result<(), AllocError>
+    requires to { IsSlotNear layout.now to }
+    requires first { IsSlotNear layout.now first }
+    requires second { IsSlotNear layout.now second }
+    ensures { OnOk result
+        (Appended code.old (spec.compute_code layout.now to operation first second) code.new) }
+{
+    put_fetch(code, layout, Reg::Rax, first)?;
+    put_fetch(code, layout, Reg::Rcx, second)?;
+    put_before(code, operation)?;
+    put_work(code, operation)?;
+    put_keep(code, layout, to)
+}
