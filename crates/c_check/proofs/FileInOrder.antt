@@ -1,8 +1,6 @@
 -- Declarations of the file, one after another.
-use Rattle.std.proofs.Common.{◌≡◌, ℕ, ◌+◌, ◌<◌, ◌≤◌, List, [], ◌++◌, map, length, drop, get_or, append-nil, sym, ap, ◌∙◌, subst}
+use Rattle.std.proofs.Common.{◌≡◌, ℕ, ◌+◌, List, [], ◌++◌, map, drop, append-nil, sym, ap, ◌∙◌}
 use Rattle.std.specs.Prelude.{None, not}
-use Rattle.std.proofs.lemmas.List.{drop_all}
-use Rattle.c_checked.proofs.Items.{next_of}
 use Rattle.c_expressions.proofs.Kept.{kept_more}
 use Rattle.c_expressions.specs.Kept.{least_of, kept}
 use Rattle.c_expressions.specs.Views.{block_of}
@@ -11,7 +9,7 @@ use Rattle.c_locals.specs.declared.globals.File.{File as File'}
 use Rattle.c_locals.specs.Files.{IsFile}
 use Rattle.c_resolved.specs.declared.fault.Fault.TheVariants.{Duplicate}
 use Rattle.c_resolved.specs.Expressions.{UserFunction}
-use Rattle.c_resolved.specs.Program.{File, parameter_types, named, with_external_declaration, file_of}
+use Rattle.c_resolved.specs.Program.{File, parameter_types, named, file_of}
 use Rattle.c_resolved.specs.Scopes.{spelled}
 use Rattle.c_resolved.specs.Statements.{is_taken, with_name, unless_holds}
 use Rattle.c_syntax.specs.declared.declaration.ExternalDeclaration.{ExternalDeclaration as ExternalDeclaration'}
@@ -47,19 +45,3 @@ function_named text t n ps f f' names bytes functions faults d h =
 abbrev pub StillFile : List ℕ → List ExternalDeclaration' → ℕ → File → File' → Type 0
 StillFile text list i all f = (k : File) × IsFile f k
     × (all ≡ file_of text (map external_declaration (drop i list)) k)
-
-pub file_on : (text : List ℕ) (list : List ExternalDeclaration') (i : ℕ) (x : ExternalDeclaration')
-    (all : File) (f f' : File') → i < length list → x ≡ get_or list i x
-    → ((d : File) → IsFile f d → IsFile f' (with_external_declaration text (external_declaration x)
-    d)) → StillFile text list i all f → StillFile text list (i + 1) all f'
-file_on text list i x all f f' lt is one h = (
-  with_external_declaration text (external_declaration x) h.0,
-  one h.0 h.1,
-  h.2
-      ∙ ap (λ l. file_of text (map external_declaration l) h.0) (next_of list i x lt is),
-)
-
-pub file_end : (text : List ℕ) (list : List ExternalDeclaration') (i : ℕ) (all : File) (f : File')
-    → length list ≤ i → StillFile text list i all f → IsFile f all
-file_end text list i all f past h = subst (IsFile f)
-    (sym (h.2 ∙ ap (λ l. file_of text (map external_declaration l) h.0) (drop_all i list past))) h.1

@@ -1,6 +1,6 @@
 -- Functions, one after another.
-use Rattle.std.proofs.Common.{◌≡◌, ℕ, ◌+◌, ◌<◌, ◌≤◌, List, [], ◌∷◌, ◌++◌, map, length, drop, get_or, append-nil, append_assoc, Option, refl, sym, ap, ◌∙◌, subst}
-use Rattle.std.proofs.lemmas.List.{drop_all, map-append}
+use Rattle.std.proofs.Common.{◌≡◌, ℕ, ◌+◌, ◌<◌, List, [], ◌∷◌, ◌++◌, map, length, drop, get_or, append-nil, append_assoc, Option, refl, sym, ap, ◌∙◌, subst}
+use Rattle.std.proofs.lemmas.List.{map-append}
 use Rattle.std.specs.Borrow.{Bor}
 use Rattle.c_checked.proofs.Items.{next_of}
 use Rattle.c_check.specs.declared.functions.Progress.{Progress}
@@ -146,22 +146,3 @@ functions_on text file list i x first p p' lt is one h =
           ∙ ap (λ l. kept (least_of p.worst) (functions_of text file (map external_declaration l)
           p.number).faults) (sym next) ∙ h.faults;
     }
-
-pub functions_done : (text : List ℕ) (file : Scope) (list : List ExternalDeclaration') (i : ℕ)
-    (first : Option FaultAt) (p : Progress) → length list ≤ i
-    → StillFunctions text file list i first p
-    → map function p.done.items ≡ (functions_of text file (map external_declaration list) 1).done
-functions_done text file list i first p past h =
-    sym (append-nil (map function p.done.items))
-    ∙ ap (λ l. map function p.done.items ++
-    (functions_of text file (map external_declaration l) p.number).done)
-    (sym (drop_all i list past)) ∙ h.done
-
-pub functions_faults : (text : List ℕ) (file : Scope) (list : List ExternalDeclaration') (i : ℕ)
-    (first : Option FaultAt) (p : Progress) → length list ≤ i
-    → StillFunctions text file list i first p
-    → least_of p.worst ≡ kept first (functions_of text file (map external_declaration list)
-    1).faults
-functions_faults text file list i first p past h = ap
-    (λ l. kept (least_of p.worst) (functions_of text file (map external_declaration l)
-    p.number).faults) (sym (drop_all i list past)) ∙ h.faults

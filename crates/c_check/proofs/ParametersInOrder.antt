@@ -1,19 +1,16 @@
 -- Parameters, one after another.
-use Rattle.std.proofs.Common.{◌≡◌, ℕ, ◌+◌, ◌<◌, ◌≤◌, Bool, true, false, cond, List, [], ◌∷◌, ◌++◌, map, length, drop, get_or, add-one, append-nil, append_assoc, Option, Some, refl, sym, ap, ◌∙◌}
+use Rattle.std.proofs.Common.{◌≡◌, ℕ, ◌+◌, ◌<◌, Bool, true, false, cond, List, [], ◌∷◌, ◌++◌, map, length, drop, get_or, add-one, Option, Some, refl, sym, ap, ◌∙◌}
 use Rattle.std.specs.Prelude.{not}
 use Rattle.std.proofs.Math.Seq.{drop-cons}
-use Rattle.std.proofs.lemmas.List.{drop_all}
-use Rattle.c_checked.proofs.Items.{next_of}
-use Rattle.c_check.specs.Parameters.{sizes_of, faults_of_parameter}
+use Rattle.c_check.specs.Parameters.{faults_of_parameter}
 use Rattle.c_expressions.proofs.Kept.{kept_append}
 use Rattle.c_expressions.specs.Kept.{kept}
-use Rattle.c_operations.specs.declared.operation.Size.{Size}
 use Rattle.c_resolved.specs.declared.fault.Fault.TheVariants.{Duplicate, TypeClash}
 use Rattle.c_resolved.specs.Expressions.{Entity, LocalVariable, FaultAt}
 use Rattle.c_resolved.specs.Program.{with_parameters, parameter_faults}
 use Rattle.c_resolved.specs.Scopes.{Scope, spelled, same_bytes, meaning_in, built_ins}
 use Rattle.c_resolved.specs.Statements.{is_some, is_taken, with_name, unless_holds}
-use Rattle.c_resolved.specs.Types.{is_scalar, size_of}
+use Rattle.c_resolved.specs.Types.{is_scalar}
 use Rattle.c_syntax.specs.declared.declaration.Parameter.{Parameter}
 
 -- ---- whether a name is taken says its scope's names alone
@@ -108,28 +105,4 @@ pub record AreParameters (text : List ℕ) (list : List Parameter) (block : Scop
   pub names : block ≡ with_parameters text list [] 0
   pub faults : w ≡ kept first (parameter_faults text list [])
 
-pub parameters_end : (text : List ℕ) (list : List Parameter) (i : ℕ) (block : Scope)
-    (first w : Option FaultAt) → length list ≤ i → StillParameters text list i block first w
-    → AreParameters text list block first w
-parameters_end text list i block first w past h =
-    let none = drop_all i list past in
-    record {
-      names = ap (λ l. with_parameters text l block i) (sym none) ∙ h.names;
-      faults = ap (λ l. kept w (parameter_faults text l block)) (sym none) ∙ h.faults;
-    }
-
 -- ---- sizes
-
-pub sizes_on : (list : List Parameter) (i : ℕ) (p : Parameter) (sizes sizes' : List Size)
-    → i < length list → p ≡ get_or list i p → sizes' ≡ sizes ++ size_of p.of ∷ []
-    → sizes ++ sizes_of (drop i list) ≡ sizes_of list
-    → sizes' ++ sizes_of (drop (i + 1) list) ≡ sizes_of list
-sizes_on list i p sizes sizes' lt is e h =
-    let rest = sizes_of (drop (i + 1) list) in
-    ap (λ k. k ++ rest) e ∙ append_assoc sizes (size_of p.of ∷ []) rest
-    ∙ ap (λ l. sizes ++ sizes_of l) (sym (next_of list i p lt is)) ∙ h
-
-pub sizes_end : (list : List Parameter) (i : ℕ) (sizes : List Size) → length list ≤ i
-    → sizes ++ sizes_of (drop i list) ≡ sizes_of list → sizes ≡ sizes_of list
-sizes_end list i sizes past h = sym (append-nil sizes)
-    ∙ ap (λ l. sizes ++ sizes_of l) (sym (drop_all i list past)) ∙ h

@@ -84,10 +84,6 @@ two f g = by (is_earlier g f) (is_earlier f g) refl refl
     by false true e h = refl
     by false false e h = ap (λ x. Some x) (same f g h e)
 
--- of three, the third before neither
-abbrev after_first : Bool → Bool → Bool → FaultAt → FaultAt → FaultAt → Option FaultAt
-after_first first second third h f g = cond first (of_two third f g) (cond second (Some g) (Some h))
-
 kept_after : (first : Bool) (h f g : FaultAt)
     → kept_one (cond first (Some f) (Some h)) g
     ≡ cond first (of_two (is_earlier g f) f g) (of_two (is_earlier g h) h g)

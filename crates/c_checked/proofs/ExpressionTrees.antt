@@ -1,11 +1,7 @@
 -- The code's trees as those of the meaning, one equation for each kind.
 use Rattle.std.proofs.Common.{◌≡◌, ℕ, sym, ap, ◌∙◌}
-use Rattle.std.specs.Prelude.{map}
-use Rattle.c_operations.specs.declared.built_in.BuiltIn.{BuiltIn}
-use Rattle.c_operations.specs.declared.field.Field.{Field}
 use Rattle.c_operations.specs.declared.operation.Operation.{Operation}
 use Rattle.c_operations.specs.declared.operation.Pure.{Pure}
-use Rattle.c_operations.specs.declared.operation.Size.{Size}
 use Rattle.c_checked.specs.declared.expression.Access.{Access}
 use Rattle.c_checked.specs.declared.expression.Conversion.{Conversion}
 use Rattle.c_checked.specs.declared.expression.Fixity.{Fixity}
@@ -18,7 +14,7 @@ use Rattle.c_checked.specs.declared.expression.Lvalue.TheOpen as opened
 use Rattle.c_checked.specs.declared.expression.Lvalue.TheFolds.{fold-Expr, fold-roll-Lvalue}
 use Rattle.c_checked.specs.declared.expression.Lvalue.TheFolds.{fold-roll-Node, fold_out-Expr}
 use Rattle.c_checked.specs.Expression as trees
-use Rattle.c_checked.specs.Expression.{lvalue, node, expression, arguments, lvalue_layer}
+use Rattle.c_checked.specs.Expression.{lvalue, node, expression, lvalue_layer}
 use Rattle.c_checked.specs.Expression.{node_layer, expression_layer}
 
 expression_is : (e : Expr) → fold-Expr trees.Lvalue trees.Node trees.Expression lvalue_layer
@@ -58,21 +54,6 @@ element_is access e f =
     ∙ (λ i. trees.Element access (expression_is e.value i) (expression_is f.value i))
 
 -- ---- nodes
-
-pub constant_is : (z : Size) (n : ℕ) → node (nodes.Constant z n) ≡ trees.Constant z n
-constant_is z n =
-    ap node (sym (nodes.rolls-Constant z n)) ∙ fold-roll-Node trees.Lvalue trees.Node
-    trees.Expression lvalue_layer node_layer expression_layer (opened.Constant z n)
-
-pub read_is : (l : Lvalue) → node (nodes.Read l) ≡ trees.Read (lvalue l)
-read_is l =
-    ap node (sym (nodes.rolls-Read l)) ∙ fold-roll-Node trees.Lvalue trees.Node trees.Expression
-    lvalue_layer node_layer expression_layer (opened.Read l)
-
-pub address_of_is : (l : Lvalue) → node (nodes.AddressOf l) ≡ trees.AddressOf (lvalue l)
-address_of_is l =
-    ap node (sym (nodes.rolls-AddressOf l)) ∙ fold-roll-Node trees.Lvalue trees.Node
-    trees.Expression lvalue_layer node_layer expression_layer (opened.AddressOf l)
 
 pub assign_is : (l : Lvalue) (e : _) → node (nodes.Assign l e)
     ≡ trees.Assign (lvalue l) (expression e.value)
@@ -119,11 +100,6 @@ difference_is n e f =
     expression_layer (opened.PointerDifference n e f)
     ∙ (λ i. trees.PointerDifference n (expression_is e.value i) (expression_is f.value i))
 
-pub not_is : (e : _) → node (nodes.Not e) ≡ trees.Not (expression e.value)
-not_is e =
-    ap node (sym (nodes.rolls-Not e)) ∙ fold-roll-Node trees.Lvalue trees.Node trees.Expression
-    lvalue_layer node_layer expression_layer (opened.Not e) ∙ ap trees.Not (expression_is e.value)
-
 pub and_is : (e : _) (f : _) → node (nodes.And e f)
     ≡ trees.And (expression e.value) (expression f.value)
 and_is e f =
@@ -153,34 +129,3 @@ comma_is e f =
     ap node (sym (nodes.rolls-Comma e f)) ∙ fold-roll-Node trees.Lvalue trees.Node trees.Expression
     lvalue_layer node_layer expression_layer (opened.Comma e f)
     ∙ (λ i. trees.Comma (expression_is e.value i) (expression_is f.value i))
-
-pub call_is : (f : ℕ) (es : _) → node (nodes.Call f es)
-    ≡ trees.Call f (arguments (map expression es.items))
-call_is f es =
-    ap node (sym (nodes.rolls-Call f es)) ∙ fold-roll-Node trees.Lvalue trees.Node trees.Expression
-    lvalue_layer node_layer expression_layer (opened.Call f es)
-    ∙ (λ i. trees.Call f (arguments (map (λ (e : Expr). expression_is e i) es.items)))
-
-pub call_built_in_is : (k : BuiltIn) (es : _) → node (nodes.CallBuiltIn k es)
-    ≡ trees.CallBuiltIn k (arguments (map expression es.items))
-call_built_in_is k es =
-    ap node (sym (nodes.rolls-CallBuiltIn k es))
-    ∙ fold-roll-Node trees.Lvalue trees.Node trees.Expression lvalue_layer node_layer
-    expression_layer (opened.CallBuiltIn k es)
-    ∙ (λ i. trees.CallBuiltIn k (arguments (map (λ (e : Expr). expression_is e i) es.items)))
-
-pub exception_code_is : node nodes.ExceptionCode ≡ trees.ExceptionCode
-exception_code_is =
-    ap node (sym nodes.rolls-ExceptionCode) ∙ fold-roll-Node trees.Lvalue trees.Node
-    trees.Expression lvalue_layer node_layer expression_layer opened.ExceptionCode
-
-pub information_is : (f : Field) → node (nodes.Information f) ≡ trees.Information f
-information_is f =
-    ap node (sym (nodes.rolls-Information f)) ∙ fold-roll-Node trees.Lvalue trees.Node
-    trees.Expression lvalue_layer node_layer expression_layer (opened.Information f)
-
-pub abnormal_is : node nodes.AbnormalTermination ≡ trees.AbnormalTermination
-abnormal_is =
-    ap node (sym nodes.rolls-AbnormalTermination)
-    ∙ fold-roll-Node trees.Lvalue trees.Node trees.Expression lvalue_layer node_layer
-    expression_layer opened.AbnormalTermination

@@ -67,7 +67,3 @@ kept_least fs = kept_merged None fs ∙ none_first (least fs)
 pub nothing_kept : (fs : List FaultAt) → kept None fs ≡ None → fs ≡ []
 nothing_kept [] e = refl
 nothing_kept (f ∷ fs) e = absurd (let h = sym (kept_least (f ∷ fs)) ∙ e in cc)
-
--- a list after what is kept of another is kept as both
-pub kept_joined : (w : Option FaultAt) (fs : List FaultAt) → kept w fs ≡ merged w (kept None fs)
-kept_joined w fs = kept_merged w fs ∙ ap (merged w) (sym (kept_least fs))

@@ -1,8 +1,6 @@
 -- Arguments, one before the others.
 use Rattle.std.proofs.Common.{◌≡◌, ℕ, true, false, cond, map, List, [], ◌∷◌, ◌++◌, Option, Some, None, refl, sym, ap, ◌∙◌}
-use Rattle.c_checked.specs.Expression as nodes
 use Rattle.c_expressions.proofs.Kept.{kept_append}
-use Rattle.c_expressions.specs.Calls.{put_before}
 use Rattle.c_expressions.specs.Kept.{kept}
 use Rattle.c_expressions.specs.declared.wanted.Wanted.TheVariants as wants
 use Rattle.c_expressions.specs.Views.{wanted}
@@ -11,15 +9,6 @@ use Rattle.c_resolved.specs.Expressions.{FaultAt, Passed, Wanted, OfType, fault_
 use Rattle.c_resolved.specs.Operators.{TypedNode}
 use Rattle.c_resolved.specs.Program.{parameter_types}
 use Rattle.c_syntax.specs.declared.declaration.Parameter.{Parameter}
-
-pub put_is : (fs : List FaultAt) (e : nodes.Expression) (rest : Passed)
-    → put_before (Some e) rest.found ≡ (before fs e rest).found
-put_is fs e rest = by rest.found
-  where
-    by : (o : Option nodes.Arguments) → put_before (Some e) o
-        ≡ elim o [ Some es ↦ Some (nodes.Next e es) | None ↦ None ]
-    by None = refl
-    by (Some es) = refl
 
 -- what is kept of an argument's faults and then of the others' is kept of both
 pub both_kept : (first w : Option FaultAt) (fs more : List FaultAt) → w ≡ kept first fs
@@ -58,13 +47,6 @@ unfit_kept first old new w at fs a rest e p q =
     clash_kept first old new fs (fault_at at TypeClash) rest.faults p q
     ∙ sym (ap (λ b. kept first (cond b (before fs (passed w a) rest)
     (spoiled (fs ++ fault_at at TypeClash) rest)).faults) e)
-
-pub fits_put : (w : Wanted) (at : ℕ) (fs : List FaultAt) (a : TypedNode) (rest : Passed)
-    → fits w a ≡ true → put_before (Some (passed w a)) rest.found
-    ≡ (pass w at fs (Some a) rest).found
-fits_put w at fs a rest e = put_is fs (passed w a) rest
-    ∙ sym (ap (λ b. (cond b (before fs (passed w a) rest)
-    (spoiled (fs ++ fault_at at TypeClash) rest)).found) e)
 
 -- ---- what arguments of a function have to be
 

@@ -1,10 +1,10 @@
 -- What readers take from the front.
-use Rattle.std.proofs.Common.{◌≡◌, ◌≤◌, ◌<◌, ◌-◌, ℕ, Bool, true, false, cond, List, [], ◌∷◌, ◌++◌}
+use Rattle.std.proofs.Common.{◌≡◌, ◌≤◌, ◌-◌, ℕ, Bool, true, false, cond, List, [], ◌∷◌, ◌++◌}
 use Rattle.std.proofs.Common.{length, take, drop, get_or, refl, sym, ap, ◌∙◌, arith, Option}
 use Rattle.std.proofs.Common.{length-append}
 use Rattle.std.proofs.Math.Seq.{take-length}
 use Rattle.c_lex.specs.Longest.{more, span}
-use Rattle.c_lex.specs.Readers.{one, two, three, either}
+use Rattle.c_lex.specs.Readers.{one, two, either}
 
 -- ---- texts as patterns of slices have them
 
@@ -17,17 +17,6 @@ pub rest_of_two : (a b : ℕ) (bs : List ℕ)
 rest_of_two a b bs = let p : length (a ∷ b ∷ bs) - 2 ≡ length bs = omega arith in
     ap (λ n. take n bs) p ∙ take-length bs
 
-pub rest_of_three : (a b c : ℕ) (bs : List ℕ)
-    → take (length (a ∷ b ∷ c ∷ bs) - 3) (drop 3 (a ∷ b ∷ c ∷ bs)) ≡ bs
-rest_of_three a b c bs = let p : length (a ∷ b ∷ c ∷ bs) - 3 ≡ length bs = omega arith in
-    ap (λ n. take n bs) p ∙ take-length bs
-
-pub at_one : {A : Type 0} (of : List ℕ → Option A) (x : A) (text : List ℕ) → 1 ≤ length text
-    → one of x text ≡ either (of (get_or text 0 0 ∷ [])) (take (length text - 1) (drop 1 text))
-    (x, text)
-at_one of x [] h = absurd (omega arith)
-at_one of x (a ∷ bs) h = ap (λ r. either (of (a ∷ [])) r (x, a ∷ bs)) (sym (rest_of a bs))
-
 pub at_two : {A : Type 0} (of : List ℕ → Option A) (x : A) (text : List ℕ) → 2 ≤ length text
     → two of x text ≡ either (of (get_or text 0 0 ∷ get_or text 1 0 ∷ []))
     (take (length text - 2) (drop 2 text)) (one of x text)
@@ -35,29 +24,6 @@ at_two of x [] h = absurd (omega arith)
 at_two of x (a ∷ []) h = absurd (omega arith)
 at_two of x (a ∷ (b ∷ bs)) h = ap (λ r. either (of (a ∷ b ∷ [])) r (one of x (a ∷ b ∷ bs)))
     (sym (rest_of_two a b bs))
-
-pub at_three : {A : Type 0} (of : List ℕ → Option A) (x : A) (text : List ℕ) → 3 ≤ length text
-    → three of x text ≡ either (of (get_or text 0 0 ∷ get_or text 1 0 ∷ get_or text 2 0 ∷ []))
-    (take (length text - 3) (drop 3 text)) (two of x text)
-at_three of x [] h = absurd (omega arith)
-at_three of x (a ∷ []) h = absurd (omega arith)
-at_three of x (a ∷ (b ∷ [])) h = absurd (omega arith)
-at_three of x (a ∷ (b ∷ (c ∷ bs))) h =
-    ap (λ r. either (of (a ∷ b ∷ c ∷ [])) r (two of x (a ∷ b ∷ c ∷ bs)))
-    (sym (rest_of_three a b c bs))
-
-pub below_two : {A : Type 0} (of : List ℕ → Option A) (x : A) (text : List ℕ) → length text < 2
-    → two of x text ≡ one of x text
-below_two of x [] h = refl
-below_two of x (a ∷ []) h = refl
-below_two of x (a ∷ (b ∷ bs)) h = absurd (omega arith)
-
-pub below_three : {A : Type 0} (of : List ℕ → Option A) (x : A) (text : List ℕ) → length text < 3
-    → three of x text ≡ two of x text
-below_three of x [] h = refl
-below_three of x (a ∷ []) h = refl
-below_three of x (a ∷ (b ∷ [])) h = refl
-below_three of x (a ∷ (b ∷ (c ∷ bs))) h = absurd (omega arith)
 
 -- ---- spans
 

@@ -12,7 +12,7 @@ use Rattle.c_lex.specs.Integers.{hexadecimal, after_zero}
 use Rattle.c_lex.specs.IntegerReaders as readers
 use Rattle.c_lex.specs.IntegerReaders.{digits}
 use Rattle.c_lex.specs.Characters.{is_plain, escaped, char, is_hexadecimal, quoted}
-use Rattle.c_lex.specs.CharacterReaders.{closed, two_digits, escape, character, whole}
+use Rattle.c_lex.specs.CharacterReaders.{closed, two_digits, character, whole}
 use Rattle.c_lex.specs.CharacterReaders as char_readers
 
 -- ---- literals
@@ -121,10 +121,6 @@ at_end (Some n) q = by_bool (nat_eq q 39) (λ e. rw e refl) (λ e. rw e refl)
 no_more : (o : Option ℕ) (q c : ℕ) (bs : List ℕ) → whole (closed o (q ∷ c ∷ bs)) ≡ None
 no_more None q c bs = refl
 no_more (Some n) q c bs = by_bool (nat_eq q 39) (λ e. rw e refl) (λ e. rw e refl)
-
--- after a backslash
-escape_at : (x : ℕ) (bs : List ℕ) → nat_eq x 120 ≡ false → escape (x ∷ bs) ≡ closed (escaped x) bs
-escape_at x bs e = rw e refl
 
 -- what begins with no backslash has one byte before the quote
 plain_more : (s q c : ℕ) (bs : List ℕ) → nat_eq s 92 ≡ false

@@ -5,10 +5,10 @@ use Rattle.std.specs.Prelude.{Err}
 use Rattle.std.proofs.lemmas.List.{append-nil}
 use Rattle.seh_num.specs.declared.event.Event.{Event}
 use Rattle.c_checked.specs.Program.{Program}
-use Rattle.source_meaning.specs.State.{Result, Outcome, how_of, state_of}
+use Rattle.source_meaning.specs.State.{Result, Outcome, state_of}
 use Rattle.source_meaning.specs.Meaning.{does}
 use Rattle.source_meaning.specs.Laws.{IsPrefixOf}
-use Rattle.source_machine.specs.Frames.{Next, Over}
+use Rattle.source_machine.specs.Frames.{Next}
 use Rattle.source_machine.specs.Machine.{Machine}
 use Rattle.source_machine.specs.FrameMeanings.{comes_to}
 use Rattle.source_machine.specs.StepLaws.{is_over, distance}
@@ -17,7 +17,7 @@ use Rattle.source_machine.proofs.StepDistance.{decreases}
 use Rattle.source_machine.proofs.WholeRuns.{shows_before}
 use Rattle.source_steps.specs.declared.machine.Machine.{Machine as Machine'}
 use Rattle.source_steps.specs.Machines.{machine_of}
-use Rattle.c_meaning.specs.Runs.{Turned, Ran, ShownPart}
+use Rattle.c_meaning.specs.Runs.{Turned, ShownPart}
 
 -- a fact holds where there is an error
 pub on_err : {A E P : Type 0} (r : Result' A E) → P → OnErr r P
@@ -64,18 +64,6 @@ module _ {X : Type 0} (took : X → List Event → X → Type 0) (program : Prog
   nearer m next y m' next' y' going t =
       subst (λ (n : ℕ). n < distance (machine_of m next [])) (ap distance (t.stepped []))
       (decreases program (machine_of m next []) going)
-
-  pub at_last : (from : Machine) (x : X) (m : Machine') (next : Next) (y : X) (how : Result)
-      → next ≡ Over how → Reached from x m next y → Ran took program from how x y
-  at_last from x m next y how e r =
-      let same : comes from ≡ comes (machine_of m (Over how) r.shown) =
-      sym r.comes_same ∙ ap (λ n. comes (machine_of m n r.shown)) e in
-      record {
-        shown = r.shown;
-        took_shown = r.took_shown;
-        how_is = ap how_of same;
-        all = ap (λ o. (state_of o).events) same;
-      }
 
   pub at_most : ((x y z : X) (es fs : List Event) → took x es y → took y fs z → took x (es ++ fs) z)
       → (from : Machine) (x : X) (m : Machine') (next : Next) (y y' : X) → Reached from x m next y

@@ -6,9 +6,9 @@ use Rattle.c_lex.specs.declared.token.Kind.TheVariants as kinds
 use Rattle.c_lex.specs.declared.token.Token.{Token}
 use Rattle.c_syntax.specs.declared.declaration.Parameter.{Parameter}
 use Rattle.c_syntax.specs.Faults.{Wraps}
-use Rattle.c_syntax.specs.Limits.{every_limit, FunctionWithinFirst}
+use Rattle.c_syntax.specs.Limits.{FunctionWithinFirst}
 use Rattle.c_syntax.specs.Programs.{AreParameters}
-use Rattle.c_syntax.specs.Statement.{Statements, Empty}
+use Rattle.c_syntax.specs.Statement.{Empty}
 use Rattle.c_syntax.specs.Statements.{AreBlockItems}
 use Rattle.c_syntax.specs.Tokens.{token, HasPunctuator}
 use Rattle.c_syntax.proofs.Failing.{append_append, alike_same}
@@ -17,7 +17,7 @@ use Rattle.c_syntax.proofs.Fronts.{has_same}
 use Rattle.c_syntax.proofs.Files.{parameters}
 use Rattle.c_parse_stmt.specs.declared.left.Left.{Left}
 use Rattle.c_parse_stmt.specs.Parts.{NoPunctuator, APunctuator}
-use Rattle.c_parse_stmt.specs.Within.{AllTaken, NoBlockItems, HasBlockItems}
+use Rattle.c_parse_stmt.specs.Within.{NoBlockItems, HasBlockItems}
 use Rattle.c_parse.specs.Parts.{NoParameters, HasParameters, IsTail, NoTail, HasTail}
 use Rattle.c_parse.proofs.Refusing.{punctuator, has_it, following}
 
@@ -155,15 +155,4 @@ in_body text left ts b c found l is few o =
               numbered = v.funclets;
             };
           };
-    }
-
-pub whole : (text : List ℕ) (left after : Left) (ps : List Parameter) (body : Statements)
-    → left.locals ≡ 256 → length ps ≤ 8 → AllTaken text 65 left after body
-    → FunctionWithinFirst every_limit ps body
-whole text left after ps body l few t =
-    let a = t.locals in record {
-      statements = λ one. t.statements;
-      expressions = λ one. t.expressions;
-      locals = λ two. omega arith;
-      parameters = λ three. few;
     }

@@ -9,7 +9,7 @@ use Rattle.c_syntax.specs.declared.expression.Base.{Base}
 use Rattle.c_syntax.specs.declared.expression.CType.{CType}
 use Rattle.c_syntax.specs.declared.expression.Identifier.{Identifier}
 use Rattle.c_syntax.specs.Faults.{SameFirst, place, Failed, Wraps}
-use Rattle.c_syntax.specs.Limits.{end_of_globals, funclets_of_all, every_limit, FunctionWithinFirst}
+use Rattle.c_syntax.specs.Limits.{end_of_globals, funclets_of_all}
 use Rattle.c_syntax.specs.Program.{Global, Globals, Function}
 use Rattle.c_syntax.specs.Programs.{AreGlobals, AreParameters, IsExternalDeclaration}
 use Rattle.c_syntax.specs.Statement.{Statements, Empty}
@@ -21,7 +21,7 @@ use Rattle.c_syntax.proofs.Fronts.{has_same, name_same, base_once, stars_once}
 use Rattle.c_syntax.proofs.Declarations.{name_star}
 use Rattle.c_syntax.proofs.Files.{globals_type, apart}
 use Rattle.c_parse.specs.declared.counts.Counts.{Counts}
-use Rattle.c_parse.specs.Counts.{Taken, NoExternalDeclaration, HasExternalDeclaration}
+use Rattle.c_parse.specs.Counts.{NoExternalDeclaration, HasExternalDeclaration}
 use Rattle.c_parse.specs.Parts.{NoGlobals, HasGlobals, IsTail, NoTail, HasTail, IsDeclarationHead}
 use Rattle.c_parse.proofs.Refusing.{punctuator, name, has_it, following, Lacks}
 use Rattle.c_parse.proofs.Placing.{no_elements}
@@ -225,15 +225,6 @@ in_tail text counts base n called ts d rest inner w h o z =
           };
     }
 
-pub function_taken : (text : List ℕ) (counts after : Counts) (type : CType) (called : Identifier)
-    (ps : List Parameter) (body : Statements) → after.functions + 1 ≡ counts.functions
-    → after.bytes ≡ counts.bytes → counts.bytes ≤ 1048576 → FunctionWithinFirst every_limit ps body
-    → after.funclets + length (funclets_of_all text body) ≡ counts.funclets
-    → Taken text counts after (Function type called ps body)
-function_taken text counts after type called ps body f b low w n =
-    let a = length-append (funclets_of_all text body) [] in
-    record { each = (w, tt); functions = f; bytes = b; low = omega arith; funclets = omega arith }
-
 -- ---- globals
 
 no_globals : (counts : Counts) (k : ℕ) (text : List ℕ) (base : Base) (n : ℕ) (called : Identifier)
@@ -378,10 +369,3 @@ as_globals text counts base n called ts d rest w h l kind at f =
                 o.has);
           };
     }
-
-pub globals_taken : (text : List ℕ) (counts after : Counts) (base : Base) (gs : List Global)
-    → after.functions ≡ counts.functions → after.bytes ≡ end_of_globals base gs counts.bytes
-    → after.bytes ≤ 1048576 → after.funclets ≡ counts.funclets
-    → Taken text counts after (Globals base gs)
-globals_taken text counts after base gs f b low n =
-    record { each = tt; functions = omega arith; bytes = b; low = low; funclets = omega arith }

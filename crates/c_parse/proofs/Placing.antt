@@ -1,17 +1,12 @@
 -- Where globals lie.
 use Rattle.std.proofs.Common.{◌≡◌, ◌≤◌, ◌<◌, ◌+◌, ◌-◌, ◌*◌, ◌/◌, ℕ, zero, suc, List, [], ◌∷◌, Some}
 use Rattle.std.proofs.Common.{refl, ap, subst, arith}
-use Rattle.std.proofs.Math.Nat.{mul-div-le, mul-le-mul_left, lt-div-mul-add, lt-mul-div-succ}
+use Rattle.std.proofs.Math.Nat.{mul-le-mul_left, lt-div-mul-add, lt-mul-div-succ}
 use Rattle.c_syntax.specs.declared.expression.Base.{Base}
 use Rattle.c_syntax.specs.declared.expression.Base.TheVariants as bases
 use Rattle.c_syntax.specs.Limits.{size, aligned, end_of_globals}
 use Rattle.c_syntax.specs.Program.{Global}
 use Rattle.c_parse.specs.Parts.{end_of}
-
--- a pointer has 8 bytes
-pub size_of_pointer : (base : Base) (n : ℕ) → (n ≡ 0 → ⊥) → 8 ≡ size base n
-size_of_pointer base zero h = absurd (h refl)
-size_of_pointer base (suc n) h = refl
 
 -- alignment by division
 pub aligned_by : (at n : ℕ) → (n ≡ 0 → ⊥) → (at + (n - 1)) / n * n ≡ aligned at n
@@ -23,13 +18,6 @@ pub aligned_up : (at n : ℕ) → at ≤ aligned at n
 aligned_up at zero = omega arith
 aligned_up at (suc n) =
     let a : at + n < (at + n) / suc n * suc n + suc n = lt-div-mul-add (omega arith) in
-    omega arith
-
-pub fits : (start size count : ℕ) → start ≤ 1048576 → count ≤ (1048576 - start) / size
-    → start + size * count ≤ 1048576
-fits start size count s h =
-    let a = mul-le-mul_left size h in
-    let b = mul-div-le (1048576 - start) size in
     omega arith
 
 pub too_far : (start size count : ℕ) → 0 < size → start ≤ 1048576 → (1048576 - start) / size < count

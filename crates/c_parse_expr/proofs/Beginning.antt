@@ -368,13 +368,6 @@ no_room_there l s at text ts rest p h o =
       has = has_shortest l 0 s o at h.0 text' p;
     })
 
--- only what it leaves after: `(`
-pub only_parenthesis : (s : Punctuator) → BeginsOperand s → increment_of s ≡ None
-    → unary_of s ≡ None → s ≡ punctuators.OpenParenthesis
-only_parenthesis s (Parenthesis e) a b = e
-only_parenthesis s (Steps op e) a b = let q = sym a ∙ e in absurd cc
-only_parenthesis s (Operates op e) a b = let q = sym b ∙ e in absurd cc
-
 -- ---- whether an expression begins with a token
 
 pub name_begins : (start end : ℕ) (rest : List Token) → CanBeginExpression (token kinds.Identifier start end ∷ rest)

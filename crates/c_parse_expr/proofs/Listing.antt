@@ -13,10 +13,6 @@ use Rattle.c_parse_expr.specs.Readings.{NoExpression, NoArguments, AreMoreExpres
 
 -- ---- one more argument
 
-pub one_listed : (text : List ℕ) (e : Expression) (ts rest : List Token)
-    → Derives text assignment e ts rest → AreListed text (e ∷ []) ts rest
-one_listed text e ts rest d = record { after_first = rest; first = d; others = refl }
-
 more_after : (text : List ℕ) (es : List Expression) (e : Expression) (ts rest b end : List Token)
     → AreMoreExpressions text es ts rest → HasPunctuator punctuators.Comma rest b
     → Derives text assignment e b end → AreMoreExpressions text (es ++ e ∷ []) ts end

@@ -273,11 +273,6 @@ right_after text (infixes.Assign op) at e ts rest h
 right_after text infixes.Comma at e ts rest h
     s = record { operation = refl; place = refl; following = record { derives = h; stops = s } }
 
-pub right_over : (op : Infix') (at : ℕ) (e : Expression) → over (with op at e) ≡ height e
-right_over (infixes.Binary op) at e = refl
-right_over (infixes.Assign op) at e = refl
-right_over infixes.Comma at e = refl
-
 -- ---- steps by their punctuators
 
 pub is_step : (text : List ℕ) (e : Expression) (o : Operation) (punctuator' : Punctuator) (at : ℕ)

@@ -236,9 +236,6 @@ For2 = Both (UpTo punctuators.Semicolon None) For3
 abbrev pub For1 : List ℕ → List Token → List Token → Type 0
 For1 = Both (λ t. IsForInitialiser t (Evaluating None)) For2
 
-abbrev pub For0 : List ℕ → List Token → List Token → Type 0
-For0 = Both (Sig punctuators.OpenParenthesis) For1
-
 abbrev pub for3 : List Token
 for3 = punctuator punctuators.CloseParenthesis ∷ semicolon
 

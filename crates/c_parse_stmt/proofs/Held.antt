@@ -7,7 +7,7 @@ use Rattle.c_syntax.specs.declared.expression.Base.{Base}
 use Rattle.c_syntax.specs.declared.statement.Stmt.{Stmt}
 use Rattle.c_syntax.specs.Faults.{Alike, Able, Wraps}
 use Rattle.c_syntax.specs.Follow.{Closed}
-use Rattle.c_syntax.specs.Limits.{height_of_locals, one_over_locals, statements_over, over_block_item, locals, numbered}
+use Rattle.c_syntax.specs.Limits.{statements_over, over_block_item, locals, numbered}
 use Rattle.c_syntax.specs.Statement.{Local, Statement, Declare, Block, For, Statements, Empty, Then, statement, statements}
 use Rattle.c_syntax.specs.Statements.{is_declaration, IsDeclaration, IsBlockItem, AreBlockItems}
 use Rattle.c_syntax.specs.Tokens.{HasPunctuator}
@@ -44,29 +44,6 @@ kind s = counts refl (λ n. refl)
 
 both : (b : Bool) → b ≡ false → b ≡ true → ⊥
 both b f t = let e = sym f ∙ t in cc
-
--- a statement's reading is an item's
-pub counted : (text : List ℕ) (room less : ℕ) (left after : Left) (s : Statement)
-    (ts rest : List Token) → less + 1 ≡ room → IsStatementWithin text less left after s ts rest
-    → ReadsBlockItem text room left after s ts rest
-counted text room less left after s ts rest n r = by (kind s)
-  where
-    by : Kind s → ReadsBlockItem text room left after s ts rest
-    by (declares b ls e) = absurd (both (is_declaration s) r.statement (ap is_declaration e))
-    by (counts d o) =
-        let t = r.taken in
-        let a = t.statements in
-        let q = o (statements_over s) in
-        record {
-          is = r.is;
-          closed = r.closed;
-          taken = record {
-            statements = omega arith;
-            expressions = t.expressions;
-            locals = t.locals;
-            funclets = t.funclets;
-          };
-        }
 
 no_counted : (limits : ℕ) (text : List ℕ) (room less : ℕ) (left : Left) (ts : List Token)
     → less + 1 ≡ room → NoBase ts → NoStatement less left limits text ts
@@ -116,17 +93,6 @@ statement_item room less left text ts m b = record {
         locals = has.within.locals;
         funclets = has.within.funclets;
       };
-    }
-
-pub declared : (text : List ℕ) (room : ℕ) (left after : Left) (b : Base) (ls : List Local)
-    (ts rest : List Token) → IsDeclaration text b ls ts rest → height_of_locals ls ≤ 64
-    → one_over_locals ls ≤ room → after.locals + length ls ≡ left.locals
-    → after.funclets ≡ left.funclets → ReadsBlockItem text room left after (Declare b ls) ts rest
-declared text room left after b ls ts rest is low over n
-    f = record {
-      is = is;
-      closed = λ t. absurd cc;
-      taken = record { statements = over; expressions = low; locals = n; funclets = omega arith };
     }
 
 class_one : (s : Statement) → item_class s ≡ 1 → (b : Base) × (ls : List Local) × (s ≡ Declare b ls)

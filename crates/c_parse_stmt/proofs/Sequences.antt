@@ -91,13 +91,6 @@ moves_so R S text ts rest f m = record {
   again = λ text' other h. f text' (m.front ++ other) other (m.again text' other h);
 }
 
--- nothing is before
-abbrev pub Same : Relation
-Same text ts rest = ts ≡ rest
-
-pub same_moves : (text : List ℕ) (ts : List Token) → Moves Same text ts ts
-same_moves text ts = record { front = []; split = refl; again = λ text' other h. refl }
-
 -- ---- a phrase after another
 
 pub able_now : (Has : Family) (n : ℕ) (text : List ℕ) (ts : List Token) → Has n text ts

@@ -9,17 +9,17 @@ use Rattle.c_lex.specs.declared.punctuator.Punctuator.TheVariants as punctuators
 use Rattle.c_lex.specs.declared.token.Token.{Token}
 use Rattle.c_syntax.specs.Expression.{Expression, height}
 use Rattle.c_syntax.specs.Follow.{punctuator_follows, NoElse, Closed}
-use Rattle.c_syntax.specs.Limits.{height_of, one_over, statements_over, locals, numbered}
+use Rattle.c_syntax.specs.Limits.{statements_over, locals, numbered}
 use Rattle.c_syntax.specs.Operators.{comma}
-use Rattle.c_syntax.specs.Statement.{Statement, Declare, Block, Evaluate, If, IfElse, While, DoWhile, For, Return, Break, Continue, Leave, TryExcept, TryFinally, Statements}
-use Rattle.c_syntax.specs.Statements.{IsUpTo, IsCondition, dangles, IsBlockItem, AreBlockItems}
+use Rattle.c_syntax.specs.Statement.{Statement, Declare, Block, Evaluate, If, IfElse, While, DoWhile, For, Return, Break, Continue, Leave, TryExcept, TryFinally}
+use Rattle.c_syntax.specs.Statements.{IsUpTo, IsCondition, dangles, IsBlockItem}
 use Rattle.c_syntax.specs.Tokens.{IsKeyword, HasPunctuator, HasKeyword}
 use Rattle.c_syntax.proofs.Fronts.{punctuator_class}
 use Rattle.c_syntax.proofs.Declarations.{condition, optional}
 use Rattle.c_syntax.proofs.Blocks.{word, absent, one_statement}
 use Rattle.c_parse_stmt.specs.declared.left.Left.{Left}
 use Rattle.c_parse_stmt.specs.Parts.{NoCondition, NoneUpTo}
-use Rattle.c_parse_stmt.specs.Within.{AllTaken, NoBlockItems, Within, IsStatementWithin, NoStatement, NoEvaluation, AfterKeyword}
+use Rattle.c_parse_stmt.specs.Within.{NoBlockItems, Within, IsStatementWithin, NoStatement, NoEvaluation, AfterKeyword}
 use Rattle.c_parse_stmt.proofs.Tails.{AfterIf, AfterIfElse, after_if, after_return, after_break, after_continue, after_leave, after_brace}
 
 abbrev pub Fits : ℕ → List ℕ → ℕ → Left → Statement → Type 0
@@ -209,41 +209,9 @@ pub up_to : (text : List ℕ) (s : Punctuator) (e f : Option Expression) (ts us 
 up_to text s e f ts us r q p l c h g = (optional text s e f ts us h.0 g.0 r q p l c h.1 g.1 h.2
     g.2).1
 
-pub evaluated : (text : List ℕ) (room : ℕ) (left : Left) (e : Option Expression)
-    (ts rest : List Token) → IsUpTo text punctuators.Semicolon e ts rest → height_of e ≤ 64
-    → one_over e ≤ room → IsStatementWithin text room left left (Evaluate e) ts rest
-evaluated text room left e ts rest is low over =
-    record {
-      is = is;
-      statement = refl;
-      closed = λ i. absurd cc;
-      taken = record {
-        statements = over;
-        expressions = low;
-        locals = omega arith;
-        funclets = omega arith;
-      };
-    }
-
 pub no_evaluation : (limits : ℕ) (text : List ℕ) (room : ℕ) (left : Left) (ts : List Token)
     → NoneUpTo punctuators.Semicolon room limits text ts → NoEvaluation room left limits text ts
 no_evaluation limits text room left ts none e end h w = none e end h w.expressions w.statements
-
-pub returned : (text : List ℕ) (room at : ℕ) (left : Left) (e : Option Expression)
-    (a rest : List Token) → IsUpTo text punctuators.Semicolon e a rest → height_of e ≤ 64
-    → one_over e ≤ room → AfterKeyword keywords.Return at a
-    (λ ts. IsStatementWithin text room left left (Return at e) ts rest)
-returned text room at left e a rest is low over ts k = record {
-  is = (a, k, is);
-  statement = refl;
-  closed = λ i. absurd cc;
-  taken = record {
-    statements = over;
-    expressions = low;
-    locals = omega arith;
-    funclets = omega arith;
-  };
-}
 
 pub no_return : (limits : ℕ) (text : List ℕ) (room at : ℕ) (left : Left) (a : List Token)
     → NoneUpTo punctuators.Semicolon room limits text a
@@ -252,51 +220,6 @@ no_return limits text room at left a none ts k s end h d c w =
     let t = after_return text at s ts a end k h in
     let v = fits limits text room left s (Return at t.0) t.1 w in
     none t.0 end t.2 v.expressions v.statements
-
-pub broken : (text : List ℕ) (room at : ℕ) (left : Left) (ts a rest : List Token)
-    → IsKeyword keywords.Break at ts a → HasPunctuator punctuators.Semicolon a rest
-    → IsStatementWithin text room left left (Break at) ts rest
-broken text room at left ts a rest k h = record {
-  is = (a, k, h);
-  statement = refl;
-  closed = λ i. absurd cc;
-  taken = record {
-    statements = omega arith;
-    expressions = omega arith;
-    locals = omega arith;
-    funclets = omega arith;
-  };
-}
-
-pub continued : (text : List ℕ) (room at : ℕ) (left : Left) (ts a rest : List Token)
-    → IsKeyword keywords.Continue at ts a → HasPunctuator punctuators.Semicolon a rest
-    → IsStatementWithin text room left left (Continue at) ts rest
-continued text room at left ts a rest k h = record {
-  is = (a, k, h);
-  statement = refl;
-  closed = λ i. absurd cc;
-  taken = record {
-    statements = omega arith;
-    expressions = omega arith;
-    locals = omega arith;
-    funclets = omega arith;
-  };
-}
-
-pub left_by : (text : List ℕ) (room at : ℕ) (left : Left) (ts a rest : List Token)
-    → IsKeyword keywords.Leave at ts a → HasPunctuator punctuators.Semicolon a rest
-    → IsStatementWithin text room left left (Leave at) ts rest
-left_by text room at left ts a rest k h = record {
-  is = (a, k, h);
-  statement = refl;
-  closed = λ i. absurd cc;
-  taken = record {
-    statements = omega arith;
-    expressions = omega arith;
-    locals = omega arith;
-    funclets = omega arith;
-  };
-}
 
 pub no_break : (limits : ℕ) (text : List ℕ) (room at : ℕ) (left : Left) (ts a : List Token)
     → IsKeyword keywords.Break at ts a → Lacks punctuators.Semicolon a
@@ -317,22 +240,6 @@ no_leave limits text room at left ts a k none s end h d c w = none end
     (after_leave text at s ts a end k h)
 
 -- ---- blocks
-
-pub block_found : (text : List ℕ) (room : ℕ) (left after : Left) (ss : Statements)
-    (ts a rest : List Token) → HasPunctuator punctuators.OpenBrace ts a
-    → AreBlockItems text ss a rest → AllTaken text room left after ss
-    → IsStatementWithin text room left after (Block ss) ts rest
-block_found text room left after ss ts a rest o is t = record {
-  is = record { after_brace = a; brace = o; items = is };
-  statement = refl;
-  closed = λ i. absurd cc;
-  taken = record {
-    statements = t.statements;
-    expressions = t.expressions;
-    locals = t.locals;
-    funclets = t.funclets;
-  };
-}
 
 pub no_block : (limits : ℕ) (text : List ℕ) (room : ℕ) (left : Left) (ts a : List Token)
     → HasPunctuator punctuators.OpenBrace ts a → NoBlockItems room left limits text a
@@ -405,10 +312,6 @@ plain_by keywords.While i w d f t r b c l = w refl
 plain_by keywords.Try i w d f t r b c l = t refl
 plain_by keywords.Leave i w d f t r b c l = l refl
 plain_by k i w d f t r b c l = tt
-
-pub front_of : (k j : Keyword) (at : ℕ) (ts rest : List Token) → k ≡ j → IsKeyword k at ts rest
-    → IsKeyword j at ts rest
-front_of k j at ts rest e h = subst (λ (x : Keyword). IsKeyword x at ts rest) e h
 
 abbrev pub left_of : ℕ → ℕ → Left
 left_of locals funclets = record { locals = locals; funclets = funclets }

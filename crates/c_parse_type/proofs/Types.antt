@@ -32,10 +32,6 @@ following k (ks ∷ more) ts mid rest h (inr g) = inr (following k more ts mid r
 abbrev maybe_int : List (List Keyword)
 maybe_int = [] ∷ (keywords.Int ∷ []) ∷ []
 
-abbrev maybe_long : List (List Keyword)
-maybe_long = [] ∷ (keywords.Int ∷ []) ∷ (keywords.Long ∷ []) ∷ (keywords.Long ∷ keywords.Int ∷ [])
-    ∷ []
-
 int_read : (o : Option (Keyword × List Token)) (ts : List Token) → after_keyword ts ≡ o
     → IsOneOf maybe_int ts (int_or o ts)
 int_read (Some (keywords.Int, rest)) ts e =

@@ -18,9 +18,6 @@ use Rattle.c_parse_type.specs.Bases.{base_or, base}
 
 -- ---- fronts
 
-abbrev read_keyword : Keyword → List Token → Option (Keyword × List Token)
-read_keyword k ts = Some (k, ts)
-
 pub keyword_at : (k : Keyword) (ts rest : List Token) → HasKeyword k ts rest
     → after_keyword ts ≡ Some (k, rest)
 keyword_at k ts rest h = ap after_keyword h.1.1
@@ -37,9 +34,6 @@ pub keyword_is : (ts rest : List Token) (k : Keyword) → after_keyword ts ≡ S
     → HasKeyword k ts rest
 keyword_is [] rest k e = absurd cc
 keyword_is (t ∷ ts) rest k e = of_kind t.kind t.start t.end ts rest k e
-
-abbrev read_punctuator : Punctuator → ℕ → List Token → Option (Punctuator × ℕ × List Token)
-read_punctuator s at ts = Some (s, at, ts)
 
 pub punctuator_at : (s : Punctuator) (at : ℕ) (ts rest : List Token) → IsPunctuator s at ts rest
     → after_punctuator ts ≡ Some (s, at, rest)

@@ -1,6 +1,6 @@
 -- The statements of a block, one after another.
-use Rattle.std.proofs.Common.{◌≡◌, ℕ, ◌+◌, ◌<◌, ◌≤◌, List, [], ◌∷◌, ◌++◌, map, length, drop, get_or, refl, sym, ap, subst, ◌∙◌, append_assoc}
-use Rattle.std.proofs.lemmas.List.{append-nil, drop_all, map-append}
+use Rattle.std.proofs.Common.{◌≡◌, ℕ, ◌+◌, ◌<◌, List, [], ◌∷◌, ◌++◌, map, length, drop, get_or, sym, ap, subst, ◌∙◌, append_assoc}
+use Rattle.std.proofs.lemmas.List.{map-append}
 use Rattle.std.specs.Borrow.{Bor}
 use Rattle.c_checked.proofs.Items.{next_of}
 use Rattle.c_checked.specs.declared.statement.Stmt.{Stmt as Checked}
@@ -32,10 +32,6 @@ pub record Going (a : Environment) (left : List Stmt) (es : Entries) (start walk
   pub block : (resolved_from a left (block_of es) (numbering walk)).block ≡ whole.block
   pub faults : kept (least_of walk.worst) (resolved_from a left (block_of es)
       (numbering walk)).faults ≡ kept (least_of start.worst) whole.faults
-
-pub starts : (a : Environment) (list : List Stmt) (es : Entries) (start : Walk)
-    → Going a list es start start [] (resolved_from a list (block_of es) (numbering start))
-starts a list es start = record { done = refl; counts = refl; block = refl; faults = refl }
 
 step : (a : Environment) (s : Stmt) (left : List Stmt) (es es' : Entries) (start w w' : Walk)
     (made more : List Checked) (whole : ResolvedStatements)
@@ -75,21 +71,3 @@ goes a list i s es es' start w w' made made' more whole lt is e m g =
     subst (λ k. Going a (drop (i + 1) list) es' start w' k whole) (sym e)
     (step a s (drop (i + 1) list) es es' start w w' made more whole m
     (subst (λ k. Going a k es start w made whole) (next_of list i s lt is) g))
-
-finished : (a : Environment) (es : Entries) (start w : Walk) (made : List Checked)
-    (whole : ResolvedStatements)
-    → Going a [] es start w made whole → Resolves es start w (map checked.statement made) whole
-finished a es start w made whole g = record {
-  done = sym (append-nil (map checked.statement made))
-      ∙ g.done;
-  counts = g.counts;
-  block = g.block;
-  faults = g.faults;
-}
-
-pub ends : (a : Environment) (list : List Stmt) (i : ℕ) (es : Entries) (start w : Walk)
-    (made : List Checked) (whole : ResolvedStatements)
-    → length list ≤ i → Going a (drop i list) es start w made whole
-    → Resolves es start w (map checked.statement made) whole
-ends a list i es start w made whole past g = finished a es start w made whole
-    (subst (λ k. Going a k es start w made whole) (drop_all i list past) g)

@@ -6,11 +6,6 @@ use Rattle.c_syntax.specs.Faults.{Family, Alike, SameFirst, Able, Onward, Failed
 
 -- ---- lists and their first tokens
 
-pub alike_front : (text other : List ℕ) (xs ys : List Token) → Alike text other (xs ++ ys)
-    → Alike text other xs
-alike_front text other [] ys h = tt
-alike_front text other (x ∷ xs) ys h = (h.0, alike_front text other xs ys h.1)
-
 pub alike_back : (text other : List ℕ) (xs ys : List Token) → Alike text other (xs ++ ys)
     → Alike text other ys
 alike_back text other [] ys h = h

@@ -21,17 +21,13 @@ use Rattle.c_syntax.specs.Tokens.{token, IsKind, IsIdentifier, HasPunctuator, Ha
 use Rattle.c_syntax.specs.Types.{spellings, AreKeywords, IsBase}
 use Rattle.c_syntax.proofs.Blocks.{begins}
 use Rattle.c_syntax.proofs.Failing.{first_keeps}
-use Rattle.c_syntax.proofs.Fronts.{keyword_class, front, NoType, Typed, Begun, pick, sound}
+use Rattle.c_syntax.proofs.Fronts.{keyword_class, Typed, Begun, pick, sound}
 
 -- ---- the same first token
 
 pub first_back : (ts other : List Token) → SameFirst ts other → SameFirst other ts
 first_back [] other s = subst (λ z. SameFirst z []) (sym s) refl
 first_back (t ∷ ts) other s = subst (λ z. SameFirst z (t ∷ ts)) (sym s.1) (ts, refl)
-
-pub first_through : (xs ys zs : List Token) → SameFirst xs ys → SameFirst ys zs → SameFirst xs zs
-first_through [] ys zs s q = subst (λ z. SameFirst z zs) s q
-first_through (t ∷ xs) ys zs s q = subst (λ z. SameFirst z zs) s.1 q
 
 -- a token at the front of the others is at the front of these
 pub first_token : (t : Token) (end ts other : List Token) → SameFirst ts other → other ≡ t ∷ end
@@ -47,9 +43,6 @@ same_by f h (t ∷ ts) other s = ap f s.1 ∙ h t ts s.0
 
 pub same_follows : (ts other : List Token) → SameFirst ts other → follows other ≡ follows ts
 same_follows ts other s = same_by follows (λ t xs ys. refl) ts other s
-
-pub same_front : (ts other : List Token) → SameFirst ts other → front other ≡ front ts
-same_front ts other s = same_by front (λ t xs ys. refl) ts other s
 
 pub same_begins : (ts other : List Token) → SameFirst ts other → begins other ≡ begins ts
 same_begins ts other s = same_by begins (λ t xs ys. refl) ts other s
@@ -124,9 +117,6 @@ pub closed : (z : Statement) (ts other : List Token) → SameFirst ts other → 
 closed z ts other s none = λ d. no_else ts other s (none d)
 
 -- ---- types
-
-pub no_type : (ts other : List Token) → SameFirst ts other → NoType ts → NoType other
-no_type ts other s none = λ e. none (sym (same_front ts other s) ∙ e)
 
 -- each keyword of a type is a base alone
 pub alone : (k : Keyword) (ts rest : List Token) → keyword_class k ≡ 7 → HasKeyword k ts rest

@@ -29,7 +29,6 @@ use Rattle.c_syntax.specs.Operators.{postfix, unary, cast, logical_or, condition
 use Rattle.c_syntax.specs.Operators.{comma, level, binary_punctuator, unary_punctuator}
 use Rattle.c_syntax.specs.Operators.{increment_punctuator, assignment_punctuator}
 use Rattle.c_syntax.specs.Phrases.{IsEnclosed}
-use Rattle.c_syntax.specs.Steps.{Step, At, After, With, Choose, Set, And, Tail}
 use Rattle.c_syntax.specs.Tokens.{token, IsKind, IsPunctuator, IsIdentifier, HasPunctuator}
 use Rattle.c_syntax.specs.Tokens.{HasKeyword, HasWord}
 use Rattle.c_syntax.specs.Types.{spellings, AreKeywords, IsOneOf, IsBase, AreStars, IsType}
@@ -377,31 +376,6 @@ mutual
 pub derives : (l : ℕ) (e : Expression) (text : List ℕ) (ts rest : List Token)
     → Derives text l e ts rest → Moves (λ t. Derives t l e) text ts rest
 derives l e text ts rest h = of_level l e h.fits (expression e text ts rest h.spells)
-
-pub tail : (s : Step) (text : List ℕ) (ts rest : List Token) → Tail text s ts rest
-    → Moves (λ t. Tail t s) text ts rest
-tail (At at i) text ts rest h =
-    enclosed punctuators.CloseBracket
-    (punctuator punctuators.OpenBracket at text ts h.after_opening h.opening)
-    (expression i text h.after_opening h.after_inner h.inner) h.closing
-tail (After op at) text ts rest h = punctuator (increment_punctuator op) at text ts rest h
-tail (With at op f) text ts rest h =
-    applied (punctuator (binary_punctuator op) at text ts h.after_operator h.operator)
-    (tighter_than (level op) f h.operand.fits
-    (expression f text h.after_operator rest h.operand.spells))
-tail (Choose at f i) text ts rest h =
-    applied
-    (enclosed punctuators.Colon
-    (punctuator punctuators.Question at text ts h.operator.after_opening h.operator.opening)
-    (expression f text h.operator.after_opening h.operator.after_inner h.operator.inner)
-    h.operator.closing)
-    (derives conditional i text h.after_operator rest h.operand)
-tail (Set at op f) text ts rest h =
-    applied (punctuator (assignment_punctuator op) at text ts h.after_operator h.operator)
-    (derives assignment f text h.after_operator rest h.operand)
-tail (And at f) text ts rest h =
-    applied (punctuator punctuators.Comma at text ts h.after_operator h.operator)
-    (derives assignment f text h.after_operator rest h.operand)
 
 -- ---- filters
 

@@ -1,7 +1,7 @@
 -- ExternalDeclaration declarations are before any other rest too, and in any text that spells
 -- their names alike; programs are joined, and moved to such a text.
 use Rattle.std.proofs.Common.{◌≡◌, ℕ, Bool, true, false, List, [], ◌∷◌, ◌++◌, Option, Some, None}
-use Rattle.std.proofs.Common.{refl, sym, ap, ◌∙◌, subst, append_assoc, inl, inr}
+use Rattle.std.proofs.Common.{refl, ap, ◌∙◌, inl, inr}
 use Rattle.c_lex.specs.declared.keyword.Keyword.TheVariants as keywords
 use Rattle.c_lex.specs.declared.punctuator.Punctuator.TheVariants as punctuators
 use Rattle.c_lex.specs.declared.token.Token.{Token}
@@ -16,8 +16,7 @@ use Rattle.c_syntax.specs.Program.{Initialiser, Single, Several, Global, Externa
 use Rattle.c_syntax.specs.Program.{Globals, Function}
 use Rattle.c_syntax.specs.Programs.{IsLiteral, IsConstant, AreConstants, IsInitialiser, IsLength}
 use Rattle.c_syntax.specs.Programs.{IsGlobal, AreGlobals, IsParameter, AreParameters}
-use Rattle.c_syntax.specs.Programs.{IsExternalDeclaration, IsProgram}
-use Rattle.c_syntax.proofs.Failing.{alike_same}
+use Rattle.c_syntax.specs.Programs.{IsExternalDeclaration}
 use Rattle.c_syntax.proofs.Moves.{enclosed, Moves, map, both, nothing, alike_after, kind}
 use Rattle.c_syntax.proofs.Moves.{punctuator, has_punctuator, has_keyword, name, base, stars, type}
 use Rattle.c_syntax.proofs.MovesPhrases.{separated}
@@ -173,36 +172,3 @@ pub funclets_in : (x : ExternalDeclaration) (text text' : List ℕ) (ts rest : L
 funclets_in x text text' ts rest h a = funclets_before x [] text text' ts rest h a refl
 
 -- ---- programs
-
-pub program : (xs : List ExternalDeclaration) (text text' : List ℕ) (ts : List Token)
-    → IsProgram text xs ts → Alike text text' ts → IsProgram text' xs ts
-program [] text text' ts h a = h
-program (x ∷ xs) text text' ts h a =
-    let m = external_declaration x text ts h.0 h.1 in (
-      h.0,
-      subst (λ z. IsExternalDeclaration text' x z h.0) (sym m.split) (m.again text' h.0 a),
-      program xs text text' h.0 h.2 (alike_after text' m a),
-    )
-
-pub funclets_in_program : (xs : List ExternalDeclaration) (text text' : List ℕ) (ts : List Token)
-    → IsProgram text xs ts → Alike text text' ts
-    → limits.funclets_in text' xs ≡ limits.funclets_in text xs
-funclets_in_program [] text text' ts h a = refl
-funclets_in_program (x ∷ xs) text text' ts h a =
-    funclets_before x xs text text' ts h.0 h.1 a
-    (funclets_in_program xs text text' h.0 h.2
-    (alike_after text' (external_declaration x text ts h.0 h.1) a))
-
--- a program after another
-pub programs_joined : (xs ys : List ExternalDeclaration) (text : List ℕ) (ts us : List Token)
-    → IsProgram text xs ts → IsProgram text ys us → IsProgram text (xs ++ ys) (ts ++ us)
-programs_joined [] ys text ts us h g = subst (λ z. IsProgram text ys (z ++ us)) (sym h) g
-programs_joined (x ∷ xs) ys text ts us h g =
-    let m = external_declaration x text ts h.0 h.1 in
-    let e : m.front ++ (h.0 ++ us) ≡ ts ++ us = sym (append_assoc m.front h.0 us)
-    ∙ ap (λ z. z ++ us) (sym m.split) in (
-      h.0 ++ us,
-      subst (λ z. IsExternalDeclaration text x z (h.0 ++ us)) e
-          (m.again text (h.0 ++ us) (alike_same text ts)),
-      programs_joined xs ys text h.0 us h.2 g,
-    )

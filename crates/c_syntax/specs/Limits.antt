@@ -71,10 +71,6 @@ abbrev pub one_over_locals : List Local → ℕ
 one_over_locals [] = 0
 one_over_locals (l ∷ ls) = max (one_over l.initialiser) (one_over_locals ls)
 
-abbrev pub one_over_for_initialiser : ForInitialiser → ℕ
-one_over_for_initialiser (Declaring base ls) = one_over_locals ls
-one_over_for_initialiser (Evaluating e) = one_over e
-
 -- How many statements at most are around a part, and around what is in a block. A declaration is
 -- no statement, nor are the blocks of a `__try` statement.
 abbrev mutual

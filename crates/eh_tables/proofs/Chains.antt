@@ -22,11 +22,6 @@ pub chain_ends : (n : ℕ) (image : Image) (index : ℕ) (xs : List Info)
 chain_ends zero image index xs = ap (λ (t : List Info). Ok t) (append-nil xs)
 chain_ends (suc n) image index xs = ap (λ (t : List Info). Ok t) (append-nil xs)
 
-pub chain_is_long : (n : ℕ) (image : Image) (index : ℕ) (xs : List Info) (r : RuntimeFunction)
-    → n ≡ 0 → onto xs (parents n image index (Some r)) ≡ Err (refusals.ChainLong index)
-chain_is_long zero image index xs r e = refl
-chain_is_long (suc n) image index xs r e = absurd (omega arith)
-
 pub chain_stops : (n : ℕ) (image : Image) (index : ℕ) (xs : List Info) (r : RuntimeFunction)
     (e : TableErr) → 0 < n → info image index r.unwind_info ≡ Err e
     → onto xs (parents n image index (Some r)) ≡ Err e

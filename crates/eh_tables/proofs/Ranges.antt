@@ -1,15 +1,14 @@
 -- One entry of a function table.
 use Rattle.std.proofs.Common.{◌≡◌, ℕ, zero, suc, ◌+◌, ◌*◌, ◌/◌, ◌≤◌, ◌<◌, Ok, Err, List, ◌∷◌, length, drop, get_or, drop-cons, refl, sym, ap, ◌∙◌, arith}
-use Rattle.std.proofs.lemmas.List.{drop_all, drop-drop}
+use Rattle.std.proofs.lemmas.List.{drop-drop}
 use Rattle.byteorder.specs.Endian.{little_number}
 use Rattle.pe_image.specs.Field.{field}
 use Rattle.pe_image.specs.Image.{Image}
 use Rattle.eh_tables.specs.declared.range.RuntimeFunction.{RuntimeFunction}
-use Rattle.eh_tables.specs.declared.refusal.TableErr.{TableErr}
 use Rattle.seh_num.specs.Answers.{◌>>=◌, prepend}
 use Rattle.eh_tables.specs.Answer.{Table}
 use Rattle.eh_tables.specs.Infos.{range_at}
-use Rattle.eh_tables.specs.Tables.{Entry, Tables, entry, ranges, ranges_in, no_range, end_before, entries, all_entries, passed, checked, or_none, TablesAreWhole, directory, tables}
+use Rattle.eh_tables.specs.Tables.{Entry, entry, ranges, ranges_in, no_range, end_before, entries, passed}
 
 -- ---- the directory
 
@@ -42,20 +41,9 @@ range_is (suc n) (suc k) xs lt =
 -- ---- one entry more is read
 
 module _ (image : Image) (index : ℕ) (rs : List RuntimeFunction) where
-  from : ℕ → Table (List Entry)
-  from k = entries image k (end_before rs k) (drop k rs)
-
   here : index < length rs → drop index rs ≡ get_or rs index no_range ∷ drop (index + 1) rs
   here lt = let e : suc index ≡ index + 1 = omega arith in drop-cons rs index no_range lt
       ∙ ap (λ n. get_or rs index no_range ∷ drop n rs) e
-
-  pub stops : (e : TableErr) → index < length rs
-      → entry image index (end_before rs index) (get_or rs index no_range) ≡ Err e
-      → passed (entries image index (end_before rs index) (drop index rs)) ≡ Err e
-  stops e lt is =
-      ap (λ t. passed (entries image index (end_before rs index) t)) (here lt)
-      ∙ ap (λ (t : Table Entry). passed (t >>= λ x. prepend x
-      (entries image (index + 1) (get_or rs index no_range).end (drop (index + 1) rs)))) is
 
   passed_more : (x : Entry) (r : Table (List Entry)) → passed (prepend x r) ≡ passed r
   passed_more x (Ok xs) = refl
@@ -79,30 +67,4 @@ module _ (image : Image) (index : ℕ) (rs : List RuntimeFunction) where
       (drop (index + 1) rs)))) is)
       ∙ sym (ap (λ t. passed (entries image index (end_before rs index) t)) (here lt))
 
-  pub is_over : length rs ≤ index → passed (entries image index (end_before rs index)
-      (drop index rs)) ≡ Ok tt
-  is_over le = ap (λ t. passed (entries image index (end_before rs index) t)) (drop_all index rs le)
-
 -- ---- all entries
-
-all_passed : (r : Table (List Entry)) → passed r ≡ Ok tt → r ≡ Ok (or_none r)
-all_passed (Ok es) h = refl
-all_passed (Err e) h = cc
-
-first_refused : (r : Table (List Entry)) (e : TableErr) → passed r ≡ Err e → r ≡ Err e
-first_refused (Ok es) e h = cc
-first_refused (Err f) e h = let g : f ≡ e = cc in ap (λ (x : TableErr). Err x) g
-
-pub is_whole : (t : Tables) → Ok tt ≡ checked t → TablesAreWhole t
-is_whole t h = record { whole = all_passed (all_entries t) (sym h) }
-
-pub refused_directory : (image : Image) (e : TableErr) → directory image ≡ Err e
-    → tables image ≡ Err e
-refused_directory image e is = ap (λ (t : Table (List RuntimeFunction)). t >>= entries image 0 0) is
-
-pub refused_entry : (t : Tables) (image : Image) (e : TableErr) → t.image ≡ image
-    → directory image ≡ Ok t.ranges → Err e ≡ checked t → tables image ≡ Err e
-refused_entry t image e same is h =
-    ap (λ (r : Table (List RuntimeFunction)). r >>= entries image 0 0) is
-    ∙ ap (λ (i : Image). entries i 0 0 t.ranges) (sym same)
-    ∙ first_refused (all_entries t) e (sym h)

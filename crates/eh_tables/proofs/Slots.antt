@@ -1,10 +1,9 @@
 -- One code of a list of slots.
-use Rattle.std.proofs.Common.{◌≡◌, ◌≢◌, ℕ, zero, suc, ◌+◌, ◌-◌, ◌*◌, ◌/◌, ◌%◌, ◌≤◌, Bool, true, false, Some, None, Err, List, [], ◌∷◌, length, take, drop, get_or, length-drop, refl, sym, ap, ◌∙◌, arith}
+use Rattle.std.proofs.Common.{◌≡◌, ◌≢◌, ℕ, zero, suc, ◌+◌, ◌-◌, ◌*◌, ◌/◌, ◌%◌, ◌≤◌, Bool, false, Some, List, [], ◌∷◌, length, take, drop, get_or, length-drop, refl, sym, ap, ◌∙◌, arith}
 use Rattle.std.specs.Prelude.{nat_lt}
 use Rattle.std.proofs.lemmas.List.{take_all}
 use Rattle.eh_tables.specs.declared.code.UnwindOperation.{UnwindOperation}
 use Rattle.eh_tables.specs.declared.code.UnwindCode.{UnwindCode}
-use Rattle.eh_tables.specs.declared.refusal.TableErr.TheVariants as refusals
 use Rattle.eh_tables.specs.Answer.{Table}
 use Rattle.eh_tables.specs.Codes.{operation, code_before, codes, code_checked, in_order, checked}
 
@@ -68,20 +67,6 @@ module _ (index : ℕ) (framed : Bool) (slot last k : ℕ) (xs : List ℕ) (le :
       (Later index framed slot xs) (operation framed (get_or xs 1 0 % 16) (get_or xs 1 0 / 16)
       (take (length xs - 2) (drop 2 xs)))
   here = ap (λ n. checked index framed slot last n xs) none ∙ code_at index framed slot last xs le
-
-  pub unknown : operation framed (get_or xs 1 0 % 16) (get_or xs 1 0 / 16)
-      (take (length xs - 2) (drop 2 xs)) ≡ None
-      → checked index framed slot last k xs ≡ Err (refusals.Op index slot)
-  unknown is = here ∙ ap (code_checked index slot last (get_or xs 0 0) (Later index framed slot xs))
-      is
-
-  pub out_of_order : (x : UnwindOperation × ℕ)
-      → operation framed (get_or xs 1 0 % 16) (get_or xs 1 0 / 16)
-      (take (length xs - 2) (drop 2 xs)) ≡ Some x → nat_lt last (get_or xs 0 0) ≡ true
-      → checked index framed slot last k xs ≡ Err (refusals.CodeOrder index slot)
-  out_of_order x is above = here ∙ ap (code_checked index slot last (get_or xs 0 0)
-      (Later index framed slot xs)) is ∙ ap (in_order index slot (Later index framed slot xs x.1))
-      above
 
   pub code_passed : (x : UnwindOperation × ℕ)
       → operation framed (get_or xs 1 0 % 16) (get_or xs 1 0 / 16)

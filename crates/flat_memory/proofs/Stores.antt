@@ -109,9 +109,6 @@ with_number-more byte n m at v e lt small = (λ i a. with_number-suc byte m at v
 
 -- ---- the laws
 
-apart_later : (a at n : ℕ) → IsApart a at (suc n) → IsApart a (next at) n
-apart_later a at n h i lt e = h (suc i) (omega arith) (omega arith)
-
 reached : (at a : ℕ) → at < 2 ^ 64 → a < 2 ^ 64 → a ≡ (at + distance at a) % 2 ^ 64
 reached at a lt la = omega arith
 

@@ -18,7 +18,7 @@ use Rattle.virtual_unwind.specs.Contexts.{is_nonvolatile}
 use Rattle.virtual_unwind.specs.Undone.{operations}
 use Rattle.virtual_unwind.specs.Tail.{FetchedInstr}
 use Rattle.virtual_unwind.specs.CallerOf.{sets_frame}
-use Rattle.frame_rules.specs.Codes.{are_apart, allocation, pushed, is_saved, may_save, is_allowed, are_allowed, are_pushes, is_allocated, is_framed, is_ordered}
+use Rattle.frame_rules.specs.Codes.{are_apart, allocation, pushed, is_saved, may_save, is_allowed, are_allowed, are_pushes, is_allocated, is_ordered}
 use Rattle.frame_rules.specs.Prologue.{bytes, does, is_step, allocates, codes_onto, are_sized, IsPrologueStep, ArePrologueSteps}
 use Rattle.frame_rules.specs.Plan.{Saved, FramePlan, IsPlan, IsSpelling, saves_then, frame_then, allocation_then, operations_of, stack_place, allocating, instructions_of, spelled_by, all_encodable, turned, step_of, steps_of, prologue}
 use Rattle.x64_encode.specs.Chosen.{is_encodable, is_signed}
@@ -45,13 +45,6 @@ ordered_allocation : (b : Bool) (n : ℕ) (rs : List ℕ)
 ordered_allocation true n rs = pushed_pushes rs
 ordered_allocation false n [] = refl
 ordered_allocation false n (r ∷ rs) = pushed_pushes rs
-
-ordered_frame : (f b : Bool) (n : ℕ) (rs : List ℕ)
-    → is_framed (frame_then f (allocation_then b n (pushed rs))) ≡ true
-ordered_frame true b n rs = ordered_allocation b n rs
-ordered_frame false true n rs = pushed_pushes rs
-ordered_frame false false n [] = refl
-ordered_frame false false n (r ∷ rs) = pushed_pushes rs
 
 ordered_saves : (ss : List Saved) (f b : Bool) (n : ℕ) (rs : List ℕ)
     → is_ordered (saves_then ss (frame_then f (allocation_then b n (pushed rs)))) ≡ true

@@ -25,7 +25,7 @@ use Rattle.eh_tables.specs.declared.code.UnwindOperation.TheVariants.{Push, Allo
 use Rattle.virtual_unwind.specs.Contexts.{is_nonvolatile}
 use Rattle.virtual_unwind.specs.CallerOf.{sets_frame}
 use Rattle.frame_rules.specs.Codes.{depth, allocation, may_save, are_allowed, is_saved, are_apart, are_pushes}
-use Rattle.frame_rules.specs.Frame.{Stack, Framed, Others, HoldsFrame}
+use Rattle.frame_rules.specs.Frame.{Stack, Framed, HoldsFrame}
 use Rattle.x64_instr.proofs.RegisterNumbers.{number_small}
 use Rattle.frame_rules.specs.Prologue.{is_stack, is_stack_base}
 use Rattle.frame_rules.specs.States.{registers, IsEntry}
@@ -113,12 +113,6 @@ push_effect s a v at q top lt may val =
       };
       memory = s.memory;
     }) at v may
-
--- the other registers, where one was set
-pub others_set : (old now after : ℕ → ℕ) (k : ℕ) (ops : List UnwindOperation)
-    → ((q : ℕ) → q ≢ k → after q ≡ now q) → ((q : ℕ) → is_nonvolatile q ≡ true → q ≢ 4
-    → is_saved q ops ≡ false → q ≢ k) → Others old now ops → Others old after ops
-others_set old now after k ops same ne o q nv four s = same q (ne q nv four s) ∙ o q nv four s
 
 pub pushed_step : (f offset back n a : ℕ) (e s u : State) (ops : List UnwindOperation) (q : Reg)
     → IsEntry n e → depth (Push (number q) ∷ ops) ≤ n → may_save (number q) ops ≡ true

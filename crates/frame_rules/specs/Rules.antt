@@ -23,9 +23,6 @@ pub record FramedFunction : Type 0 where
 abbrev pub ops : FramedFunction → List UnwindOperation
 ops f = operations f.info.codes
 
-abbrev pub size : FramedFunction → ℕ
-size f = bytes (items f.steps) + bytes f.rest
-
 pub record IsRight (f : FramedFunction) : Type 0 where
   pub offset : f.info.frame_offset < 2 ^ 16
   pub codes : f.info.codes ≡ codes_onto [] f.steps

@@ -5,7 +5,7 @@ use Rattle.eh_tables.specs.declared.range.RuntimeFunction.{RuntimeFunction}
 use Rattle.pe_image.specs.Numbers.{u32}
 use Rattle.eh_tables.specs.Written.{table_bytes}
 use Rattle.frame_layout.specs.declared.frame.FrameLayout.{FrameLayout}
-use Rattle.template_code.specs.Bytes.{spelled, size, sizes, thunk}
+use Rattle.template_code.specs.Bytes.{spelled, size, sizes}
 use Rattle.template_code.specs.Template.{code_from}
 use Rattle.template_code.proofs.Sizes.{sizes_append, sizes_spelled, body_sizes}
 use Rattle.x64_encode.specs.Chosen.{modrm}
@@ -67,10 +67,6 @@ drop_near (suc n) [] near = tt
 drop_near (suc n) (x ∷ xs) near = drop_near n xs near.1
 
 -- ---- the text
-
-thunk_size : (away : ℕ) → size (thunk away) ≡ 6
-unfolding size modrm
-thunk_size away = refl
 
 front_size : (text rdata : ℕ) → sizes (front_code text rdata) ≡ 51
 unfolding size modrm

@@ -22,7 +22,7 @@ use Rattle.linear_code.specs.declared.instruction.Instruction.TheVariants as ins
 use Rattle.linear_code.specs.Program.{LinearProgram}
 use Rattle.linear_machine.specs.Frames.{Configuration}
 use Rattle.template_code.specs.Bytes.{size, sizes, spelled}
-use Rattle.template_code.specs.Template.{template, template_size}
+use Rattle.template_code.specs.Template.{template_size}
 use Rattle.template_code.proofs.Sizes.{sizes_append, template_sizes}
 use Rattle.x64_templates.specs.Runs.{HasCode}
 use Rattle.x64_templates.proofs.PlacedCode.{outside_page, bytes_split, spells, reads}
@@ -113,10 +113,6 @@ module _ (t : Functions) (fs : List Funclet) (program : LinearProgram) (p : Imag
     (e : step u ≡ Ok v) where
   abbrev r : IsResumed t fs program p q c.frame.body w.code c.frame.next u.cpu.rip
   r = w.resumed
-
-  abbrev all : List Instr
-  all = template (links_of p q c.frame.body) (p.layout c.frame.body)
-      (p.address c.frame.body c.frame.next) r.instruction
 
   code_here : HasCode u.memory u.cpu.rip (r.item ∷ r.left)
   code_here =

@@ -364,9 +364,6 @@ module _ (program : LinearProgram) (c : HasWholeImage program) (name : BodyName)
 
     module _ (has : HasProgram t (funclets_of program) program (plan_of program) (sites_of program)
         m) where
-      low_here : (rva : ℕ) → template_at x label ≤ rva → x.begin ≤ rva
-      low_here rva le = omega arith
-
       ends_are_at : (n k rva : ℕ) → n ≡ suc k → rva ≡ template_at x label + sizes fetching
           → IsExecutableAt m (image_base + rva) (spelled (epilogue n ++ th.after))
           → IsExecutableAt m (image_base + rva) (chosen (give_back n))

@@ -306,11 +306,6 @@ module _ (program : LinearProgram) (f g : Next)
   act_keeps (instructions.Return from) c = keeps_some c.events (read c from) _ _ λ v. end_body_keeps
       c.frame.body v c
 
-reflexive : (a : Seen) → More a a
-reflexive (Running es) = ([], sym (append-nil es))
-reflexive (Finished e es) = refl
-reflexive (Stuck es) = refl
-
 module _ (program : LinearProgram) where
   turn_keeps : (n m : ℕ) → ((c : Configuration)
       → Keeps c.events (exec program n c) (exec program m c)) → (c : Configuration)

@@ -1,6 +1,6 @@
 -- What a search comes to over what waits, and where an unwinding stops.
 use Rattle.std.proofs.Common.{◌≡◌, ◌⊎◌, inl, inr, ℕ, suc, ◌<◌, ◌≤◌, List, [], ◌∷◌, ◌++◌, length, refl, ap, sym, ◌∙◌, subst, arith, append_assoc}
-use Rattle.std.proofs.lemmas.Bool.{eq-eqb, ne_eqb, lt-ltb, le-ltb, le-leb, lt-leb, and_from, and_left, and_right, or_left, or_right, or_from}
+use Rattle.std.proofs.lemmas.Bool.{eq-eqb, ne_eqb, lt-ltb, le-ltb, le-leb, lt-leb, and_from, and_left, and_right, or_right, or_from}
 use Rattle.std.specs.Prelude.{true, false, ◌||◌, nat_eq, nat_le, nat_lt, Option, Some, None}
 use Rattle.linear_code.specs.declared.program.Region.{Region}
 use Rattle.linear_code.specs.declared.program.RegionKind.{RegionKind}
@@ -177,13 +177,6 @@ further target r depth block le (inr p) =
 abbrev pub FindsRegions : ℕ → List Region → Type 0
 FindsRegions label [] = Unit {0}
 FindsRegions label (r ∷ regions) = (holds label r || leads_to r.kind label) ≡ true
-
-pub finds_around : (regions : List Region) (lo hi label : ℕ) → Around regions lo hi → lo ≤ label
-    → label ≤ hi → FindsRegions label regions
-finds_around [] lo hi label h a b = tt
-finds_around (r ∷ regions) lo hi label h a b =
-    let x = h.0 in
-    or_left (holds label r) (leads_to r.kind label) (holds_yes r label (omega arith) (omega arith))
 
 -- of a `__try` with an `__except`
 abbrev pub IsExcept : RegionKind → ℕ → Type 0

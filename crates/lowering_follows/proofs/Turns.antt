@@ -61,11 +61,6 @@ top_put ts us v =
     ∙ written_by (nat_le (length ts) (length (ts ++ us))) (ts ++ v ∷ [])
     (le-leb (length ts) (length (ts ++ us)) fits)
 
-pub next_put : (ts : List ℕ) (x : ℕ) (us : List ℕ) (v : ℕ)
-    → with_temporary ((ts ++ x ∷ []) ++ us) (length ts + 1) v ≡ Some ((ts ++ x ∷ []) ++ v ∷ [])
-next_put ts x us v = ap (λ k. with_temporary ((ts ++ x ∷ []) ++ us) k v) (sym (length_push ts x))
-    ∙ top_put (ts ++ x ∷ []) us v
-
 -- one temporary is changed
 pub changing : (ts : List ℕ) (x : ℕ) → Operands (ts ++ x ∷ []) (length ts) (length ts) (length ts) x
     x (λ v. ts ++ v ∷ [])

@@ -1,6 +1,6 @@
 -- The code of an expression ends with its value in one more temporary, and its jumps lead to places
 -- that hold as many as they leave.
-use Rattle.std.proofs.Common.{◌≡◌, ℕ, suc, ◌+◌, ◌-◌, List, [], ◌∷◌, ◌++◌, refl, sym, ap, ◌∙◌, arith}
+use Rattle.std.proofs.Common.{◌≡◌, ℕ, ◌+◌, ◌-◌, List, [], ◌∷◌, ◌++◌, refl, sym, ap, ◌∙◌, arith}
 use Rattle.std.specs.Prelude.{Option, Some, None}
 use Rattle.c_operations.specs.declared.operation.Pure.{Pure}
 use Rattle.c_operations.specs.declared.operation.Pure.TheVariants as pures
@@ -15,7 +15,7 @@ use Rattle.lowering_expressions.specs.declared.scope.ExceptionSource.{ExceptionS
 use Rattle.lowering_expressions.specs.declared.scope.ExceptionSource.TheVariants.{NoException, OfFilter, KeptIn}
 use Rattle.lowering_expressions.specs.declared.scope.Names.{Names}
 use Rattle.lowering_sizes.specs.Sizes.{address_count, locate_size, read_size, conversion_size, expression_size}
-use Rattle.lowering_expressions.specs.Expressions.{constant, combine, conversion_code, unary_code, choice_code, code_code, abnormal_code, read_code, write_code, address_code, argument_count, expression_code, locate_code, arguments_code, node_code}
+use Rattle.lowering_expressions.specs.Expressions.{constant, combine, conversion_code, unary_code, choice_code, code_code, abnormal_code, read_code, write_code, address_code, expression_code, locate_code, arguments_code, node_code}
 use Rattle.lowering_expressions.proofs.Codes.{expression_length, locate_length, conversion_length, read_length}
 use Rattle.lowering_invariants.specs.Depths.{after}
 use Rattle.lowering_invariants.proofs.Scans.{past, past_to, past_both, Scans, scan_start, scan_moved, scan_front, scan_back, scan_end, Leads, AllLead, lead_both, lead_moved}
@@ -132,14 +132,6 @@ module _ (names : Names) where
     node_past nodes.ExceptionCode d at = code_past names.exception d d
     node_past (nodes.Information f) d at = refl
     node_past nodes.AbnormalTermination d at = flag_past names.abnormal d d
-
-  arguments_past : (es : Arguments) (d at : ℕ)
-      → past (arguments_code names es d at) d ≡ d + argument_count es
-  arguments_past Done d at = omega arith
-  arguments_past (Next e es) d at =
-      let r = arguments_past es (d + 1) (at + expression_size e) in
-      past_both (expression_code names e d at) _ d (d + 1) (d + suc (argument_count es))
-      (expression_past e d at) (omega arith)
 
 -- ---- jumps
 

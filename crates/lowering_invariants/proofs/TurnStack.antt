@@ -35,11 +35,11 @@ use Rattle.linear_machine.specs.Instructions.{is_constant, operand, written, com
 use Rattle.linear_machine.specs.Run.{instruction_in, instruction_at, start}
 use Rattle.lowering_follows.proofs.SoundExpressions.{both_left}
 use Rattle.lowering_invariants.proofs.PlainExpressions.{all_append}
-use Rattle.lowering_invariants.specs.Turns.{IsTurn, IsReached}
+use Rattle.lowering_invariants.specs.Turns.{IsTurn}
 use Rattle.lowering_invariants.specs.Bodies.{IsFinallyKind, IsFuncletOf, IsLanding, IsKindOf, IsRegionOf, IsInstructionOf, AreBodies}
 use Rattle.lowering_invariants.specs.Waiting.{MayWait, Handles, IsHandler, LandsAt, IsTarget, IsAbove, IsRaisedIn, AreLeft, AreHandlers, AreWaiting, LandsWell, IsStacked}
 use Rattle.lowering_invariants.proofs.Ready.{last_are}
-use Rattle.lowering_invariants.proofs.Moves.{Turn, Halts, Moves, pick_turn, some_turn, deeper_turn, kept, kept_by_all}
+use Rattle.lowering_invariants.proofs.Moves.{Turn, Halts, Moves, pick_turn, some_turn, deeper_turn, kept}
 
 -- ---- lists
 
@@ -473,6 +473,3 @@ module _ (program : LinearProgram) (bodies : AreBodies program) where
 
   pub starts_stacked : (arg : ℤ) (main : LinearFunction) → Ok (start program arg main)
   starts_stacked arg main = record { above = refl; below = tt; landed = tt }
-
-  pub reached_is_stacked : (c : Configuration) → IsReached program c → Ok c
-  reached_is_stacked c r = kept_by_all Ok program stays_stacked r.turns (start program r.argument r.main) c r.comes (starts_stacked r.argument r.main)

@@ -16,7 +16,7 @@ use Rattle.lowering_expressions.specs.declared.scope.ExceptionSource.{ExceptionS
 use Rattle.lowering_expressions.specs.declared.scope.ExceptionSource.TheVariants.{NoException, OfFilter, KeptIn}
 use Rattle.lowering_expressions.specs.declared.scope.Names.{Names}
 use Rattle.lowering_sizes.specs.Sizes.{address_count, locate_size, read_size, conversion_size, expression_size, arguments_size, node_size}
-use Rattle.lowering_expressions.specs.Expressions.{conversion_code, unary_code, choice_code, code_code, abnormal_code, read_code, write_code, address_code, expression_code, locate_code, arguments_code, node_code}
+use Rattle.lowering_expressions.specs.Expressions.{conversion_code, unary_code, choice_code, code_code, abnormal_code, read_code, write_code, expression_code, locate_code, arguments_code, node_code}
 use Rattle.lowering_invariants.proofs.PlainExpressions.{all_append}
 use Rattle.c_checked.specs.LocalScopes.{SeenNames, IsPart, expression_within, node_within, lvalue_within, arguments_within}
 use Rattle.c_checked.proofs.ScopeTests.{both_left, both_right}
@@ -86,13 +86,6 @@ module _ (locals : ℕ) (names : Names) (before seen : SeenNames)
   write_fine (Global access a) address from to w = ((tt, tt), tt)
   write_fine (Indirection access e) address from to w = ((tt, tt), tt)
   write_fine (Element access e i) address from to w = ((tt, tt), tt)
-
-  address_fine : (p : Lvalue) (d : ℕ) (located : List Instruction) → All located
-      → All (address_code p d located)
-  address_fine (nodes.Local x) d located h = ((tt, tt), tt)
-  address_fine (Global access a) d located h = h
-  address_fine (Indirection access e) d located h = h
-  address_fine (Element access e i) d located h = h
 
   code_fine : (s : ExceptionSource) (d : ℕ) → CodeIn seen s → One (code_code s d)
   code_fine NoException d h = (tt, tt)

@@ -239,11 +239,6 @@ holds_of globals m source y n sp k acts h count bytes may agrees =
 
 -- ---- the numbers
 
-index_is : (vs : List ℕ) (i v : ℕ) → slice_get vs i ≡ Some v → slice_index vs i ≡ v
-index_is [] i v e = cc
-index_is (x ∷ vs) zero v e = cc
-index_is (x ∷ vs) (suc i) v e = index_is vs i v e
-
 got : (vs : List ℕ) (i : ℕ) → i < length vs → slice_get vs i ≡ Some (slice_index vs i)
 got [] i lt = absurd (omega arith)
 got (x ∷ vs) zero lt = refl

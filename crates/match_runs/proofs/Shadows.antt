@@ -180,6 +180,3 @@ module _ (t : Functions) (fs : List Funclet) where
   keep_first n s u e keeps rest = λ v f. subst
       (λ (x : State). KeepsShadow t fs s x × AllKeep t fs n x) (same_state u v (sym e ∙ f))
       (keeps, rest)
-
-  pub keep_one : (s u : State) → step s ≡ Ok u → KeepsShadow t fs s u → AllKeep t fs 1 s
-  keep_one s u e keeps = keep_first 0 s u e keeps tt

@@ -49,13 +49,6 @@ context_after c (Leaf back) = after_leaf c back
 context_after c (Searching r) = context_of r.saved
 context_after c (Unwinding r) = r.walk
 
--- the row from which the frame after an item is asked
-abbrev pub row_after : StackItem → ℕ
-row_after (Framed f) = 0
-row_after (Leaf back) = 0
-row_after (Searching r) = 0
-row_after (Unwinding r) = r.row
-
 -- what the walk finds of a frame
 abbrev pub caller_frame : Context → StackFrame → CallerFrame
 caller_frame c f = record { frame = rsp c; context = after_frame c f; asked = Some f.entry.info }

@@ -70,14 +70,6 @@ module _ (t : Functions) (fs : List Funclet) (program : LinearProgram) (p : Imag
       code = program_kept t fs program p q m m' keeps_code h.code;
     }
 
--- one after another
-pub untouched_then : (a b c : Memory) → IsUntouched a b → IsUntouched b c → IsUntouched a c
-untouched_then a b c f g = record {
-  protection = g.protection ∙ f.protection;
-  code = λ x e. g.code x (ap (λ (k : ℕ → Protection). (k x).execute) f.protection ∙ e) ∙ f.code x e;
-  outside = λ x o. g.outside x o ∙ f.outside x o;
-}
-
 -- a record is placed below the list
 pub placing : (m : Memory) (at : ℕ) (r : DispatchRecord) (above : ℕ) → IsData m
     → RecordHasRoom m at r above → above ≤ STACK_END → IsUntouched m (placed m at r)

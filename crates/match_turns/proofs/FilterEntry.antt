@@ -1,6 +1,6 @@
 -- A filter begins: it keeps the base and the address of its EXCEPTION_POINTERS, and its first
 -- instruction follows.
-use Rattle.std.proofs.Common.{◌≡◌, ℕ, ◌+◌, ◌%◌, ◌^◌, ◌<◌, ◌≤◌, false, Option, Some, None, Ok, List, [], ◌∷◌, ◌++◌, length, refl, sym, ap, subst, ◌∙◌, arith, inl, length-append}
+use Rattle.std.proofs.Common.{◌≡◌, ℕ, ◌+◌, ◌%◌, ◌^◌, ◌<◌, ◌≤◌, false, Some, Ok, List, [], ◌∷◌, ◌++◌, length, refl, sym, ap, subst, ◌∙◌, arith, inl, length-append}
 use Rattle.std.proofs.lemmas.List.{append-nil}
 use Rattle.std.specs.Prelude.{nat_lt, slice_get}
 use Rattle.std.proofs.lemmas.Option.{slice_get_within}
@@ -80,10 +80,6 @@ module _ (t : Functions) (fs : List Funclet) (program : LinearProgram) (p : Imag
       → by_parent f.function f.parent ≡ name
   parent_is name other k f there e = same_name (by_parent f.function f.parent) name
       (sym (ap parent_body there) ∙ e)
-
-  same_parents : (function : ℕ) (o : Option ℕ) → by_parent function o ≡ parent_of function o
-  same_parents function None = refl
-  same_parents function (Some j) = refl
 
   module _ (s : State) (k argument : ℕ) (handler : Handler) (rest : List Handler)
       (exception : Exception) (resumption : Resumption) (c : Configuration) (acts : List Activation)

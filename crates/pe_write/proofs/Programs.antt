@@ -248,11 +248,6 @@ pub text_fits : (p : ImageContents) (s : Sizes) (n : ℕ) → CanBeImage p → s
 text_fits p s n is e1 e2 = let e = is.end in let h = is.entry in
     let at : n ≡ text_at (sizes_of p) = e2 ∙ ap text_at e1 in omega arith
 
-pub pdata_fits : (p : ImageContents) (s : Sizes) (n : ℕ) → CanBeImage p → s ≡ sizes_of p
-    → n ≡ pdata_at s → n < 2 ^ 32
-pdata_fits p s n is e1 e2 = let e = is.end in let at : n ≡ pdata_at (sizes_of p) = e2
-    ∙ ap pdata_at e1 in omega arith
-
 abbrev pub with_places : ℕ → List SectionParts → ℕ → ℕ → ℕ → ImageParts
 with_places entry ss rdata pdata size = record {
   entry = entry;

@@ -1,6 +1,5 @@
 -- The image of a text, by the program that the text is.
-use Rattle.std.proofs.Common.{◌≡◌, ◌≤◌, ◌<◌, ◌∙◌, ℕ, List, length, sym, ap, subst, arith}
-use Rattle.std.specs.List.{AllByRecursion}
+use Rattle.std.proofs.Common.{◌≤◌, ℕ, List, length, sym, subst, arith}
 use Rattle.image_runs.proofs.TextImages.{realise, nothing_more}
 use Rattle.image_runs.proofs.FrameCallers.{lowered_finds_callers}
 use Rattle.image_runs.proofs.ShadowWalks.{accepted_walk_the_shadow}
@@ -14,12 +13,8 @@ use Rattle.c_syntax.specs.Program.{ExternalDeclaration}
 use Rattle.c_text.specs.Texts.{IsAccepted, IsCheckedAs}
 use Rattle.text_bounds.proofs.CodeFits.{texts_fit}
 use Rattle.image_runs.specs.ImageMeaning.{IsImageOf}
-use Rattle.linear_code.specs.Program.{LinearProgram}
 use Rattle.image_tables.proofs.RegionRanges.{lowered_has_regions}
 use Rattle.image_tables.proofs.TryRows.{lowered_is_shaped}
-use Rattle.pe_image.specs.Reading.{IsImage}
-use Rattle.pe_write.specs.Program.{parts_of, image_of}
-use Rattle.pe_write.specs.Written.{written}
 use Rattle.image_link.specs.Fits.{FitsProgram}
 use Rattle.image_link.specs.Linked.{linked}
 use Rattle.image_tables.proofs.Table.{tables_are_read}
@@ -27,15 +22,6 @@ use Rattle.seh.specs.Images.{IsCompiled}
 use Rattle.seh_ir.specs.Lowered.{lowered}
 
 -- ---- by linear code
-
-pub of_linear : (program : Program) (p : LinearProgram) (image : List ℕ) → p ≡ lowered program
-    → AllByRecursion (λ b. b < 256) image → image ≡ written (parts_of (linked p))
-    → IsImage image (image_of (linked p)) → IsImageOf image program
-of_linear program p image e octets bytes read = record {
-  octets = octets;
-  written = bytes ∙ ap (λ (q : LinearProgram). written (parts_of (linked q))) e;
-  read = subst (λ (q : LinearProgram). IsImage image (image_of (linked q))) e read;
-}
 
 -- ---- of accepted texts
 

@@ -7,9 +7,6 @@ use Rattle.seh_io.specs.Text.{hexadecimal}
 
 -- ---- base 10
 
-pub decimal_below : (k n : ℕ) → 0 < k → n < 10 ^ k → n < 2 ^ 64 → length (decimal n) ≤ k
-decimal_below k n p h b = length-decimal-le k n p h b
-
 pub decimal_fits : (n : ℕ) → n < 2 ^ 64 → length (decimal n) ≤ 20
 decimal_fits n h = length-decimal-le 20 n (omega arith) (omega arith) h
 

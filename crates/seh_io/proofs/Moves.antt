@@ -7,9 +7,6 @@ use Rattle.std.proofs.Math.Seq.{take-add, take-append_seam}
 use Rattle.seh_io.specs.Streams.{Lost, Grew}
 use Rattle.seh_io.specs.Successive.{grew_more}
 
-pub lost_nothing : (a : Option (List ℕ)) → Lost a [] a
-lost_nothing a all known = (all, refl, known)
-
 pub lost_more : (a b c : Option (List ℕ)) (xs ys : List ℕ) → Lost a xs b → Lost b ys c
     → Lost a (xs ++ ys) c
 lost_more a b c xs ys p q all known =

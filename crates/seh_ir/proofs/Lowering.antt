@@ -1,19 +1,19 @@
 -- Regions, funclets and functions, one after another.
-use Rattle.std.proofs.Common.{◌≡◌, ℕ, zero, suc, ◌+◌, ◌<◌, ◌≤◌, List, [], ◌∷◌, ◌++◌, length, map, take, get_or, refl, sym, ap, ◌∙◌, arith, append_assoc}
-use Rattle.std.proofs.lemmas.List.{append-nil, take_all}
+use Rattle.std.proofs.Common.{◌≡◌, ℕ, zero, suc, ◌+◌, ◌<◌, List, [], ◌∷◌, ◌++◌, length, map, take, get_or, refl, sym, ap, ◌∙◌, arith, append_assoc}
+use Rattle.std.proofs.lemmas.List.{append-nil}
 use Rattle.c_checked.specs.declared.statement.Stmt.{Stmt}
 use Rattle.c_checked.specs.declared.function.Function.{Function}
 use Rattle.c_checked.specs.Statement.{statement, statements}
-use Rattle.c_checked.specs.Program.{function, program_of}
+use Rattle.c_checked.specs.Program.{function}
 use Rattle.linear_code.specs.declared.program.Region.{Region}
 use Rattle.linear_code.specs.declared.program.IrFunction.{IrFunction}
-use Rattle.linear_code.specs.Program.{LinearFunction, LinearFunclet, LinearProgram, linear_function}
+use Rattle.linear_code.specs.Program.{LinearFunction, LinearFunclet, linear_function}
 use Rattle.lowering_expressions.specs.declared.scope.Names.{Names}
 use Rattle.seh_ir.specs.declared.funclets.Owner.{Owner}
 use Rattle.lowering_sizes.specs.Sizes.{statement_size, statements_size}
 use Rattle.seh_ir.specs.Regions.{statement_regions, statements_regions}
 use Rattle.seh_ir.specs.Funclets.{statement_funclets, statements_funclets}
-use Rattle.seh_ir.specs.Lowered.{lowered_function, lowered_funclets, all_funclets, lowered}
+use Rattle.seh_ir.specs.Lowered.{lowered_function, lowered_funclets, all_funclets}
 
 more_sizes : (items : List Stmt) (i : ℕ) (x : Stmt) → i < length items
     → statements_size (statements (map statement (take (suc i) items)))
@@ -164,17 +164,3 @@ mapped xs ys x e = ap (λ zs. map linear_function zs) e ∙ mapped_last xs x
         → map linear_function (zs ++ z ∷ []) ≡ map linear_function zs ++ linear_function z ∷ []
     mapped_last [] z = refl
     mapped_last (y ∷ zs) z = ap (λ t. linear_function y ∷ t) (mapped_last zs z)
-
-pub whole_is : (items : List Function) (i main : ℕ) (globals copied : List ℕ)
-    (functions : List LinearFunction) (funclets : List LinearFunclet) (p : LinearProgram)
-    → length items ≤ i → functions ≡ map lowered_function (map function (take i items))
-    → funclets ≡ all_funclets 0 (map function (take i items)) → copied ≡ globals
-    → p ≡ record { globals = copied; main = main; functions = functions; funclets = funclets }
-    → p ≡ lowered (program_of items main globals)
-whole_is items i main globals copied functions funclets p le f k g is =
-    let t = take_all i items le in
-    let f' : functions ≡ map lowered_function (map function items) = f
-    ∙ ap (λ xs. map lowered_function (map function xs)) t in
-    let k' : funclets ≡ all_funclets 0 (map function items) = k
-    ∙ ap (λ xs. all_funclets 0 (map function xs)) t in
-    is ∙ (λ j. record { globals = g j; main = main; functions = f' j; funclets = k' j })

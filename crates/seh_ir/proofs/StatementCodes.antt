@@ -171,13 +171,6 @@ after_statement : (scope : LoweringContext) (s : Statement) (old mid new : List 
 after_statement scope s old mid new more h k = after (statement_code scope s (length old))
     (statement_size s) old mid new more (statement_length scope s (length old)) h k
 
-after_statements : (scope : LoweringContext) (ss : Statements) (old mid new : List Instruction)
-    (more : ℕ → List Instruction) → mid ≡ old ++ statements_code scope ss (length old)
-    → new ≡ mid ++ more (length mid) → new ≡ old
-    ++ (statements_code scope ss (length old) ++ more (length old + statements_size ss))
-after_statements scope ss old mid new more h k = after (statements_code scope ss (length old))
-    (statements_size ss) old mid new more (statements_length scope ss (length old)) h k
-
 -- ---- statements
 
 abbrev Run : LoweringContext → Statement → List Instruction → List Instruction → Type 0

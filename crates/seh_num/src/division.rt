@@ -19,7 +19,7 @@ pub enum DivFault {
 pub fn is_signed(w: Width, z: i128) -> bool
     ensures { result ≡ is_signed w z }
 {
-    let half = w.limit() / 2;
+    let half = u128::from(w.half());
     if z < 0 {
         z.unsigned_abs() <= half
     } else {

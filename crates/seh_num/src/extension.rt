@@ -22,7 +22,25 @@ pub fn zero_extend(w: Width, v: u64) -> u64
     ensures value { result ≡ low w v }
     ensures fits { result < limit w }
 {
-    (u128::from(v) % w.limit()) as u64
+    match w {
+        Width::W8 => v % (1 << 8),
+        Width::W16 => v % (1 << 16),
+        Width::W32 => v % (1 << 32),
+        Width::W64 => v,
+    }
+}
+
+/// The low bits of a number of 128 bits.
+pub fn truncate(w: Width, v: u128) -> u64
+    ensures value { result ≡ low w v }
+    ensures fits { result < limit w }
+{
+    match w {
+        Width::W8 => (v % (1 << 8)) as u64,
+        Width::W16 => (v % (1 << 16)) as u64,
+        Width::W32 => (v % (1 << 32)) as u64,
+        Width::W64 => (v % (1 << 64)) as u64,
+    }
 }
 
 /// `v` modulo 2 to the width: the bits that are left of a whole number where it is stored.
@@ -31,6 +49,5 @@ pub fn wrap(w: Width, v: i128) -> u64
     ensures fits { result < limit w }
     ensures congruent { IsCongruent w v result }
 {
-    let kept = v.cast_unsigned() % w.limit();
-    kept as u64
+    truncate(w, v.cast_unsigned())
 }

@@ -1,5 +1,5 @@
 ghost use Rattle.std.specs.Prelude.{◌≡◌, ◌≤◌};
-ghost use Rattle.seh_num.specs.Widths.{bytes_of, limit};
+ghost use Rattle.seh_num.specs.Widths.{bytes_of, half, limit};
 
 /// How wide a number is: a byte, a word, a doubleword or a quadword (Intel manual, volume 1,
 /// "Fundamental Data Types").
@@ -38,6 +38,18 @@ impl Width {
             Width::W16 => 1 << 16,
             Width::W32 => 1 << 32,
             Width::W64 => 1 << 64,
+        }
+    }
+
+    /// One more than the largest signed number of this width.
+    pub fn half(self) -> u64
+        ensures { result ≡ half self }
+    {
+        match self {
+            Width::W8 => 1 << 7,
+            Width::W16 => 1 << 15,
+            Width::W32 => 1 << 31,
+            Width::W64 => 1 << 63,
         }
     }
 }

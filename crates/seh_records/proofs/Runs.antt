@@ -80,19 +80,6 @@ no-words may n at e = let f : 8 * n ≡ 0 = omega arith in ap (λ i. first_refus
 
 pub ruleset refused_steps = (words-more, words-refused, no-words)
 
--- words one after another
-pub with_words-append : (byte : ℕ → ℕ) (at : ℕ) (xs ys : List ℕ) → at < 2 ^ 64
-    → with_words byte at (xs ++ ys) ≡ with_words (with_words byte at xs)
-    ((at + 8 * length xs) % 2 ^ 64) ys
-unfolding with_words
-with_words-append byte at [] ys lt = let e : (at + 8 * 0) % 2 ^ 64 ≡ at = omega arith in
-    ap (λ a. with_words byte a ys) (sym e)
-with_words-append byte at (x ∷ xs) ys lt =
-    let e : ((at + 8) % 2 ^ 64 + 8 * length xs) % 2 ^ 64
-    ≡ (at + 8 * length (x ∷ xs)) % 2 ^ 64 = omega arith in
-    with_words-append (with_number byte 8 at x) ((at + 8) % 2 ^ 64) xs ys (omega arith)
-    ∙ ap (λ a. with_words (with_words (with_number byte 8 at x) ((at + 8) % 2 ^ 64) xs) a ys) e
-
 pub with_words-more : (byte : ℕ → ℕ) (at i : ℕ) (ws : List ℕ) → i < length ws
     → with_words (with_number byte 8 at (get_or ws i 0)) ((at + 8) % 2 ^ 64) (drop (i + 1) ws)
     ≡ with_words byte at (drop i ws)

@@ -30,7 +30,7 @@ use Rattle.source_machine.specs.Plans.{chosen, node_plan, expression_plan, find_
 use Rattle.source_machine.specs.Plans.{operand_plan, assignment_plan, evaluated, branch}
 use Rattle.source_machine.specs.Plans.{answer_plan, in_statement_plan, sequel_plan, body_plan}
 use Rattle.source_machine.specs.Plans.{proceed_plan, declare_plan, statement_plan}
-use Rattle.source_machine.specs.Machine.{Machine, follow, over, unless_deep, started, begun}
+use Rattle.source_machine.specs.Machine.{Machine, follow, unless_deep, started, begun}
 use Rattle.source_machine.specs.Machine.{fetched, put, operated, entered, built_in, called}
 use Rattle.source_machine.specs.Machine.{declared, asked_by, asked, searched, target_landed, landed}
 use Rattle.source_machine.specs.Machine.{finished, left_call, after_value, after_normal, after_body}
@@ -51,9 +51,6 @@ followed : (m : Machine) (plan : Plan) (b : ℕ) → plan_worth plan < b
 unfolding plan_worth
 followed m (Then next) b lt = omega arith
 followed m (Push f next) b lt = omega arith
-
-ended : (m : Machine) (how : Result) (b : ℕ) → 0 < b → distance (over m how) < at_worth m b
-ended m how b lt = omega arith
 
 deeper : (c : Bool) (m other : Machine) (b : ℕ) → 0 < b → distance other < at_worth m b
     → distance (unless_deep c m other) < at_worth m b

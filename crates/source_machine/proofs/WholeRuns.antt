@@ -50,11 +50,6 @@ shows_before program m = within program (suc (distance m)) m (omega arith)
 
 -- ---- many steps
 
-pub one_step_more : (program : Program) (k : ℕ) (m : Machine)
-    → after program (suc k) m ≡ step program (after program k m)
-one_step_more program zero m = refl
-one_step_more program (suc k) m = one_step_more program k (step program m)
-
 -- wherever a run has come, it comes to the same
 pub all_keep : (program : Program) (k : ℕ) (m : Machine)
     → comes_to program (does program) (after program k m) ≡ comes_to program (does program) m

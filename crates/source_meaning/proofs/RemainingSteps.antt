@@ -112,12 +112,6 @@ within_same program (suc n) (suc m) (suc b) p q task context st low =
     counted_same b st _ _ low (perform_same b program (within program n) (within program m)
     (within_same program n m b (omega arith) (omega arith)) task context)
 
-pub within_is : (program : Program) (n m : ℕ) (task : Task) (context : Context) (st : State)
-    → st.steps_left ≤ n → st.steps_left ≤ m → within program n task context st
-    ≡ within program m task context st
-within_is program n m task context st p q =
-    (within_same program n m st.steps_left p q task context st (le_refl_of st.steps_left)).eq
-
 within_does : (program : Program) (n : ℕ) → SameDoes n (within program n) (does program)
 within_does program n task context st low =
     fewer st.steps_left n _ _ low (within_same program n st.steps_left st.steps_left low

@@ -25,10 +25,6 @@ always_zero true c = refl
 always_zero false true = refl
 always_zero false false = refl
 
-and_false : (b : Bool) → (b && false) ≡ false
-and_false true = refl
-and_false false = refl
-
 below : (xs : List ℕ) (at a z : ℕ) → a < at → cond (nat_le at a && nat_lt a (at + length xs))
     (slice_index xs (a - at)) z ≡ z
 below xs at a z lt =

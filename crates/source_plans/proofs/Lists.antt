@@ -1,18 +1,13 @@
 -- What is in a list from an index on.
-use Rattle.std.proofs.Common.{◌≡◌, ℕ, ◌+◌, ◌<◌, ◌≤◌, List, [], ◌∷◌, length, map, refl, sym, ap}
+use Rattle.std.proofs.Common.{◌≡◌, ℕ, ◌+◌, ◌<◌, ◌≤◌, List, [], length, map, refl, sym, ap}
 use Rattle.std.proofs.Common.{◌∙◌, arith, inl, inr}
 use Rattle.std.specs.Prelude.{get_or, option_map}
 use Rattle.std.proofs.lemmas.Option.{slice_get_cases, slice_get_past, slice_get_read}
 use Rattle.std.proofs.Math.ListN.{drop_of_length-le}
 use Rattle.c_checked.proofs.Items.{next_of}
-use Rattle.c_checked.specs.declared.expression.Expr.{Expr}
-use Rattle.c_checked.specs.declared.statement.Declared.{Declared}
 use Rattle.c_checked.specs.declared.statement.Stmt.{Stmt}
-use Rattle.c_checked.specs.Expression.{Done, Next, expression, arguments}
 use Rattle.c_checked.specs.Statement.{Empty, Then, Block, statement, statements}
-use Rattle.c_checked.specs.Statement.{declared}
-use Rattle.source_plans.specs.Views.{some_statement, statement_at, statements_from, declared_from}
-use Rattle.source_plans.specs.Views.{arguments_from}
+use Rattle.source_plans.specs.Views.{some_statement, statement_at, statements_from}
 
 -- ---- statements
 
@@ -32,21 +27,7 @@ statements_next ss i lt =
 
 -- ---- declared names
 
-pub declared_past : (ds : List Declared) (i : ℕ) → length ds ≤ i → declared_from ds i ≡ []
-declared_past ds i le = ap (λ xs. map declared xs) (drop_of_length-le ds le)
-
-pub declared_next : (ds : List Declared) (i : ℕ) (d : Declared) → i < length ds → d ≡ get_or ds i d
-    → declared_from ds i ≡ declared d ∷ declared_from ds (i + 1)
-declared_next ds i d lt e = ap (λ xs. map declared xs) (next_of ds i d lt e)
-
 -- ---- arguments
-
-pub arguments_past : (es : List Expr) (i : ℕ) → length es ≤ i → arguments_from es i ≡ Done
-arguments_past es i le = ap (λ xs. arguments (map expression xs)) (drop_of_length-le es le)
-
-pub arguments_next : (es : List Expr) (i : ℕ) (e : Expr) → i < length es → e ≡ get_or es i e
-    → arguments_from es i ≡ Next (expression e) (arguments_from es (i + 1))
-arguments_next es i e lt h = ap (λ xs. arguments (map expression xs)) (next_of es i e lt h)
 
 -- ---- a statement by its index
 

@@ -1,5 +1,5 @@
 -- How many instructions a template has.
-use Rattle.std.proofs.Common.{ℕ, zero, suc, ◌+◌, ◌-◌, ◌*◌, ◌≤◌, List, [], ◌∷◌, ◌++◌, length, Option, Some, None, arith, length-append}
+use Rattle.std.proofs.Common.{ℕ, ◌+◌, ◌-◌, ◌*◌, ◌≤◌, List, [], ◌∷◌, ◌++◌, length, Option, Some, None, arith, length-append}
 use Rattle.seh_num.specs.declared.width.Width.{Width}
 use Rattle.seh_num.specs.declared.width.Width.TheVariants.{W8, W16, W32, W64}
 use Rattle.x64_instr.specs.declared.register.Reg.{Reg}
@@ -25,9 +25,6 @@ use Rattle.template_code.specs.declared.layout.Layout.{Layout}
 use Rattle.template_code.specs.Bytes.{size, sizes}
 use Rattle.template_code.specs.Operations.{compare, extended, pure_code, before, work}
 use Rattle.template_code.specs.Slots.{local_at, fetch_local, keep_local, fetch, keep, operands_code, finish_code, compute_code}
-use Rattle.template_code.specs.Jumps.{compare_zero, jump_equal, test_code}
-use Rattle.template_code.specs.Calls.{call_code, passing_code, epilogue}
-use Rattle.template_code.specs.Template.{Links, nowhere, template, template_size}
 
 fetch_local_length : (o : Option ℕ) (r : Reg) (d : ℕ) → length (fetch_local o r d) ≤ 2
 fetch_local_length None r d = omega arith
@@ -110,56 +107,12 @@ compute_length y to o first second =
       length-append (work o) (keep y to),
     )
 
-epilogue_length : (n : ℕ) → length (epilogue n) ≤ 2
-epilogue_length zero = omega arith
-epilogue_length (suc n) = omega arith
-
-passing_length : (y : Layout) (first i n : ℕ) → length (passing_code y first i n) ≤ 2 * n
-passing_length y first i zero = omega arith
-passing_length y first i (suc n) = let r = passing_length y first (i + 1) n in omega arith
-
 -- a call passes at most eight arguments
 abbrev pub PassesFew : Instruction → Type 0
 PassesFew (instructions.Call function first count) = count ≤ 8
 PassesFew i = Unit {0}
 
-pub template_length : (k : Links) (y : Layout) (at : ℕ) (i : Instruction) → PassesFew i
-    → length (template k y at i) ≤ 15
-template_length k y at (instructions.Compute to o first second) few = let l = compute_length y to o
-    first second in omega arith
-template_length k y at (instructions.Information to field) few = let l = keep_length y to in
-    omega arith
-template_length k y at (instructions.Landing to) few = let l = keep_length y to in omega arith
-template_length k y at (instructions.Jump label) few = omega arith
-template_length k y at (instructions.JumpIfZero slot label) few = let l = fetch_length y Rax slot in
-    omega (
-      arith,
-      length-append (fetch y Rax slot)
-          (compare_zero ∷ jump_equal (at + sizes (test_code y slot) + 6) (k.label label) ∷ []),
-    )
-template_length k y at (instructions.Call function first count) few =
-    let l = passing_length y first 4 (count - 4) in
-    omega (
-      arith,
-      length-append (passing_code y first 4 (count - 4))
-          (call_code y (Temporary first) first (at + sizes (passing_code y first 4 (count - 4)))
-          (k.function function)),
-    )
-template_length k y at (instructions.CallBuiltIn function first) few = omega arith
-template_length k y at (instructions.CallFinally funclet) few = omega arith
-template_length k y at (instructions.LocalUnwind label) few = omega arith
-template_length k y at instructions.Separator few = omega arith
-template_length k y at (instructions.Return from) few =
-    let l = fetch_length y Rax from in
-    let e = epilogue_length y.frame in
-    omega (arith, length-append (fetch y Rax from) (epilogue y.frame))
-
 pub sizes_small : (is : List Instr) → sizes is ≤ 15 * length is
 unfolding size
 sizes_small [] = omega arith
 sizes_small (i ∷ is) = let r = sizes_small is in let l = longest i in omega arith
-
-pub template_small : (y : Layout) (i : Instruction) → PassesFew i → template_size y i ≤ 225
-unfolding template_size
-template_small y i few = let l = template_length nowhere y 0 i few in
-    omega (arith, sizes_small (template nowhere y 0 i))

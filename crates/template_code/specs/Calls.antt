@@ -157,10 +157,3 @@ keep_base b = keep_register Rdx b ∷ []
 
 abbrev pub keep_parents_base : ℕ → ℕ → List Instr
 keep_parents_base parent b = fetched Rax Rdx parent ∷ keep_register Rax b ∷ []
-
-abbrev pub filter_entry : Layout → ℕ → List Instr
-filter_entry y b = enter_code y.frame ++ (keep_base b ++ (keep_register Rcx y.pointers ∷ []))
-
--- the flag of a `__finally` block is ECX, which goes to a local of the activation
-abbrev pub finally_entry : Layout → ℕ → Slot → List Instr
-finally_entry y b flag = enter_code y.frame ++ (keep_base b ++ (move W32 Rax Rcx ∷ keep y flag))

@@ -24,7 +24,7 @@ use Rattle.c_operations.specs.declared.operation.Operation.TheVariants as operat
 use Rattle.c_operations.specs.declared.operation.Pure.TheVariants as pures
 use Rattle.x64_instr.specs.declared.register.Reg.TheVariants.{Rax, Rsp}
 use Rattle.template_code.proofs.Sizes.{sizes_spelled, template_sizes, short}
-use Rattle.template_code.proofs.Lengths.{sizes_small, fetch_length, PassesFew, template_small}
+use Rattle.template_code.proofs.Lengths.{sizes_small, fetch_length, PassesFew}
 
 pub on_ok : {A E : Type 0} (P Q : Type 0) (r : Result A E) → (P → Q) → OnOk r P → OnOk r Q
 on_ok P Q (Ok x) f p = f p
@@ -78,11 +78,6 @@ pub passing_next : (y : Layout) (first i count : ℕ) → i < count
 passing_next y first i count lt = ap (passing_code y first i)
     (let z : count - i ≡ suc (count - (i + 1)) = omega arith in z)
 
-pub passing_last : (y : Layout) (first i count : ℕ) → count ≤ i
-    → passing_code y first i (count - i) ≡ []
-passing_last y first i count le = ap (passing_code y first i)
-    (let z : count - i ≡ 0 = omega arith in z)
-
 passing_sizes : (y : Layout) (first i n : ℕ) → sizes (passing_code y first i n) ≤ 30 * n
 passing_sizes y first i zero = omega arith
 passing_sizes y first i (suc n) = let r = passing_sizes y first (i + 1) n in
@@ -104,9 +99,6 @@ pub parameters_next : (y : Layout) (i count : ℕ) → i < count
 parameters_next y i count lt = ap (parameters_code y i)
     (let z : count - i ≡ suc (count - (i + 1)) = omega arith in z)
 
-pub parameters_last : (y : Layout) (i count : ℕ) → count ≤ i → parameters_code y i (count - i) ≡ []
-parameters_last y i count le = ap (parameters_code y i) (let z : count - i ≡ 0 = omega arith in z)
-
 -- ---- bodies
 
 passes_few : (y : Layout) (i : Instruction) → IsInstructionNear y i → PassesFew i
@@ -121,10 +113,6 @@ passes_few y (instructions.CallFinally funclet) near = tt
 passes_few y (instructions.LocalUnwind label) near = tt
 passes_few y instructions.Separator near = tt
 passes_few y (instructions.Return from) near = tt
-
-pub instruction_small : (y : Layout) (i : Instruction) → IsInstructionNear y i
-    → template_size y i ≤ 225
-instruction_small y i near = template_small y i (passes_few y i near)
 
 -- no template takes more than its room
 pub instruction_in_room : (y : Layout) (i : Instruction) → IsInstructionNear y i

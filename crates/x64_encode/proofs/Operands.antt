@@ -130,12 +130,6 @@ extended_low W64 W64 v le c = elim c [
       extended_large (limit W64) (limit W64) (half W64) v (v % limit W64) (omega arith) (omega arith)
 ]
 
-bytes_limit : (w : Width) → 256 ^ bytes_of w ≡ limit w
-bytes_limit W8 = refl
-bytes_limit W16 = refl
-bytes_limit W32 = refl
-bytes_limit W64 = refl
-
 low_small : (w : Width) (v : ℕ) → low w v < 256 ^ bytes_of w
 low_small W8 v = omega arith
 low_small W16 v = omega arith

@@ -1,3 +1,4 @@
 pub mod Signed
 pub mod Numbers
 pub mod Differences
+pub mod Storing

@@ -330,6 +330,11 @@ abbrev pub cpu_of : Answer State → Answer Cpu
 cpu_of (Ok s) = Ok s.cpu
 cpu_of (Err e) = Err e
 
+-- whether the instruction was run
+abbrev pub done_of : Answer State → Answer (Unit {0})
+done_of (Ok s) = Ok tt
+done_of (Err e) = Err e
+
 abbrev pub memory_after : Memory → Answer State → Memory
 memory_after m (Ok s) = s.memory
 memory_after m (Err e) = m

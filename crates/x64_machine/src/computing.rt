@@ -4,11 +4,11 @@ ghost use Rattle.std.specs.Prelude.{◌≡◌, ◌<◌};
 ghost use Rattle.seh_num.specs.Widths.{limit};
 ghost use Rattle.x64_instr.specs.Families.{IsComputation};
 ghost use Rattle.x64_machine.specs.Effect as spec;
-ghost use Rattle.x64_machine.specs.Effect.{IsCpuOf, LeavesMemory};
+ghost use Rattle.x64_machine.specs.Effect.{LeavesMemory, cpu_after, done_of};
 
 use crate::cpu::{Cpu, Flags};
 use crate::multiplying::multiply_or_divide;
-use crate::operands::{may_change, operand, read, write};
+use crate::operands::{may_change, operand, read, write_both};
 use crate::outcome::Stop;
 use crate::shifts::{count_of, shift, shift_flags};
 use crate::words::{add, invert, logical, subtract};
@@ -33,45 +33,48 @@ fn computed(operation: Operation, width: Width, first: u64, second: u64) -> (u64
 }
 
 fn change<S: AddressSpace>(
-    mut cpu: Cpu,
+    cpu: &mut Cpu,
     space: &mut S,
     operation: Operation,
     width: Width,
     to: &RegisterOrMemory,
     from: &Operand,
-) -> Result<Cpu, Stop>
-    ensures answer { IsCpuOf result
-        (spec.change (spec.state cpu (S.memory space.old)) operation width to.now from.now) }
+) -> Result<(), Stop>
+    ensures answer { result ≡ done_of
+        (spec.change (spec.state cpu.old (S.memory space.old)) operation width to.now from.now) }
+    ensures cpu { cpu.new ≡ cpu_after cpu.old
+        (spec.change (spec.state cpu.old (S.memory space.old)) operation width to.now from.now) }
     ensures memory { LeavesMemory (S.memory space.old) (S.memory space.new)
-        (spec.change (spec.state cpu (S.memory space.old)) operation width to.now from.now) }
+        (spec.change (spec.state cpu.old (S.memory space.old)) operation width to.now from.now) }
 {
-    let second = operand(&cpu, space, width, from)?;
-    may_change(&cpu, space, width, to)?;
-    let first = read(&cpu, space, width, to)?;
+    let second = operand(cpu, space, width, from)?;
+    may_change(cpu, space, width, to)?;
+    let first = read(cpu, space, width, to)?;
     let (value, flags) = computed(operation, width, first, second);
-    cpu.flags = flags;
-    write(cpu, space, width, to, value)
+    write_both(cpu, space, width, to, value, flags)
 }
 
 /// The flags alone.
 fn compare<S: AddressSpace>(
-    mut cpu: Cpu,
+    cpu: &mut Cpu,
     space: &S,
     operation: Operation,
     width: Width,
     first: &RegisterOrMemory,
     second: &Operand,
-) -> Result<Cpu, Stop>
-    ensures answer { IsCpuOf result
-        (spec.compare (spec.state cpu (S.memory space.now)) operation width first.now second.now) }
+) -> Result<(), Stop>
+    ensures answer { result ≡ done_of
+        (spec.compare (spec.state cpu.old (S.memory space.now)) operation width first.now second.now) }
+    ensures cpu { cpu.new ≡ cpu_after cpu.old
+        (spec.compare (spec.state cpu.old (S.memory space.now)) operation width first.now second.now) }
     ensures memory { LeavesMemory (S.memory space.now) (S.memory space.now)
-        (spec.compare (spec.state cpu (S.memory space.now)) operation width first.now second.now) }
+        (spec.compare (spec.state cpu.old (S.memory space.now)) operation width first.now second.now) }
 {
-    let second = operand(&cpu, space, width, second)?;
-    let first = read(&cpu, space, width, first)?;
+    let second = operand(cpu, space, width, second)?;
+    let first = read(cpu, space, width, first)?;
     let (_, flags) = computed(operation, width, first, second);
     cpu.flags = flags;
-    Ok(cpu)
+    Ok(())
 }
 
 fn is_compare(operation: Operation) -> bool
@@ -84,17 +87,19 @@ fn is_compare(operation: Operation) -> bool
 }
 
 fn arithmetic<S: AddressSpace>(
-    cpu: Cpu,
+    cpu: &mut Cpu,
     space: &mut S,
     operation: Operation,
     width: Width,
     to: &RegisterOrMemory,
     from: &Operand,
-) -> Result<Cpu, Stop>
-    ensures answer { IsCpuOf result
-        (spec.arithmetic (spec.state cpu (S.memory space.old)) operation width to.now from.now) }
+) -> Result<(), Stop>
+    ensures answer { result ≡ done_of
+        (spec.arithmetic (spec.state cpu.old (S.memory space.old)) operation width to.now from.now) }
+    ensures cpu { cpu.new ≡ cpu_after cpu.old
+        (spec.arithmetic (spec.state cpu.old (S.memory space.old)) operation width to.now from.now) }
     ensures memory { LeavesMemory (S.memory space.old) (S.memory space.new)
-        (spec.arithmetic (spec.state cpu (S.memory space.old)) operation width to.now from.now) }
+        (spec.arithmetic (spec.state cpu.old (S.memory space.old)) operation width to.now from.now) }
 {
     if is_compare(operation) {
         compare(cpu, space, operation, width, to, from)
@@ -114,22 +119,23 @@ fn unary_of(operation: Unary, width: Width, value: u64, flags: Flags) -> (u64, F
 }
 
 fn unary<S: AddressSpace>(
-    mut cpu: Cpu,
+    cpu: &mut Cpu,
     space: &mut S,
     operation: Unary,
     width: Width,
     to: &RegisterOrMemory,
-) -> Result<Cpu, Stop>
-    ensures answer { IsCpuOf result
-        (spec.unary (spec.state cpu (S.memory space.old)) operation width to.now) }
+) -> Result<(), Stop>
+    ensures answer { result ≡ done_of
+        (spec.unary (spec.state cpu.old (S.memory space.old)) operation width to.now) }
+    ensures cpu { cpu.new ≡ cpu_after cpu.old
+        (spec.unary (spec.state cpu.old (S.memory space.old)) operation width to.now) }
     ensures memory { LeavesMemory (S.memory space.old) (S.memory space.new)
-        (spec.unary (spec.state cpu (S.memory space.old)) operation width to.now) }
+        (spec.unary (spec.state cpu.old (S.memory space.old)) operation width to.now) }
 {
-    may_change(&cpu, space, width, to)?;
-    let old = read(&cpu, space, width, to)?;
+    may_change(cpu, space, width, to)?;
+    let old = read(cpu, space, width, to)?;
     let (value, flags) = unary_of(operation, width, old, cpu.flags);
-    cpu.flags = flags;
-    write(cpu, space, width, to, value)
+    write_both(cpu, space, width, to, value, flags)
 }
 
 fn amount(cpu: &Cpu, count: Count) -> u64
@@ -142,53 +148,60 @@ fn amount(cpu: &Cpu, count: Count) -> u64
 }
 
 fn shift_by<S: AddressSpace>(
-    mut cpu: Cpu,
+    cpu: &mut Cpu,
     space: &mut S,
     direction: Direction,
     width: Width,
     to: &RegisterOrMemory,
     count: u64,
-) -> Result<Cpu, Stop>
+) -> Result<(), Stop>
     requires { count < 64 }
-    ensures answer { IsCpuOf result
-        (spec.shift_by (spec.state cpu (S.memory space.old)) direction width to.now count) }
+    ensures answer { result ≡ done_of
+        (spec.shift_by (spec.state cpu.old (S.memory space.old)) direction width to.now count) }
+    ensures cpu { cpu.new ≡ cpu_after cpu.old
+        (spec.shift_by (spec.state cpu.old (S.memory space.old)) direction width to.now count) }
     ensures memory { LeavesMemory (S.memory space.old) (S.memory space.new)
-        (spec.shift_by (spec.state cpu (S.memory space.old)) direction width to.now count) }
+        (spec.shift_by (spec.state cpu.old (S.memory space.old)) direction width to.now count) }
 {
-    may_change(&cpu, space, width, to)?;
-    let old = read(&cpu, space, width, to)?;
+    may_change(cpu, space, width, to)?;
+    let old = read(cpu, space, width, to)?;
     let value = shift(direction, width, old, count);
-    cpu.flags = shift_flags(direction, width, old, count, cpu.flags);
-    write(cpu, space, width, to, value)
+    let flags = shift_flags(direction, width, old, count, cpu.flags);
+    write_both(cpu, space, width, to, value, flags)
 }
 
 fn shift_by_count<S: AddressSpace>(
-    cpu: Cpu,
+    cpu: &mut Cpu,
     space: &mut S,
     direction: Direction,
     width: Width,
     to: &RegisterOrMemory,
     by: Count,
-) -> Result<Cpu, Stop>
-    ensures answer { IsCpuOf result
-        (spec.shift (spec.state cpu (S.memory space.old)) direction width to.now by) }
+) -> Result<(), Stop>
+    ensures answer { result ≡ done_of
+        (spec.shift (spec.state cpu.old (S.memory space.old)) direction width to.now by) }
+    ensures cpu { cpu.new ≡ cpu_after cpu.old
+        (spec.shift (spec.state cpu.old (S.memory space.old)) direction width to.now by) }
     ensures memory { LeavesMemory (S.memory space.old) (S.memory space.new)
-        (spec.shift (spec.state cpu (S.memory space.old)) direction width to.now by) }
+        (spec.shift (spec.state cpu.old (S.memory space.old)) direction width to.now by) }
 {
-    let count = count_of(width, amount(&cpu, by));
+    let count = count_of(width, amount(cpu, by));
     shift_by(cpu, space, direction, width, to, count)
 }
 
 /// What an instruction does that computes with the value of a place.
 pub(crate) fn computation_effect<S: AddressSpace>(
-    cpu: Cpu,
+    cpu: &mut Cpu,
     space: &mut S,
     instr: &Instr,
-) -> Result<Cpu, Stop>
+) -> Result<(), Stop>
     requires { IsComputation instr.now }
-    ensures answer { IsCpuOf result (spec.effect (spec.state cpu (S.memory space.old)) instr.now) }
+    ensures answer { result ≡ done_of
+        (spec.effect (spec.state cpu.old (S.memory space.old)) instr.now) }
+    ensures cpu { cpu.new ≡ cpu_after cpu.old
+        (spec.effect (spec.state cpu.old (S.memory space.old)) instr.now) }
     ensures memory { LeavesMemory (S.memory space.old) (S.memory space.new)
-        (spec.effect (spec.state cpu (S.memory space.old)) instr.now) }
+        (spec.effect (spec.state cpu.old (S.memory space.old)) instr.now) }
 {
     match instr {
         Instr::Arithmetic {

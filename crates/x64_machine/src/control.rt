@@ -4,7 +4,7 @@
 ghost use Rattle.std.specs.Prelude.{◌≡◌};
 ghost use Rattle.x64_instr.specs.Families.{IsTransfer};
 ghost use Rattle.x64_machine.specs.Effect as spec;
-ghost use Rattle.x64_machine.specs.Effect.{IsCpuOf, LeavesMemory};
+ghost use Rattle.x64_machine.specs.Effect.{LeavesMemory, cpu_after, done_of};
 
 use crate::cpu::{Cpu, Flags};
 use crate::operands::{load, read, store};
@@ -14,14 +14,19 @@ use x64_instr::instruction::{Condition, Instr, Target};
 use x64_instr::register::Reg;
 use x64_memory::space::AddressSpace;
 
-pub(crate) fn push<S: AddressSpace>(mut cpu: Cpu, space: &mut S, value: u64) -> Result<Cpu, Stop>
-    ensures answer { IsCpuOf result (spec.push (spec.state cpu (S.memory space.old)) value) }
+#[tactic(auto, using(crate::proofs::Storing::storing))]
+pub(crate) fn push<S: AddressSpace>(cpu: &mut Cpu, space: &mut S, value: u64) -> Result<(), Stop>
+    ensures answer { result ≡ done_of
+        (spec.push (spec.state cpu.old (S.memory space.old)) value) }
+    ensures cpu { cpu.new ≡ cpu_after cpu.old
+        (spec.push (spec.state cpu.old (S.memory space.old)) value) }
     ensures memory { LeavesMemory (S.memory space.old) (S.memory space.new)
-        (spec.push (spec.state cpu (S.memory space.old)) value) }
+        (spec.push (spec.state cpu.old (S.memory space.old)) value) }
 {
     let at = cpu.register(Reg::Rsp).wrapping_sub(8);
+    store(space, at, Width::W64, value)?;
     cpu.set_register(Width::W64, Reg::Rsp, at);
-    store(cpu, space, at, Width::W64, value)
+    Ok(())
 }
 
 /// The number at RSP, and the registers with RSP risen by 8.
@@ -49,21 +54,23 @@ pub(crate) fn target_of<S: AddressSpace>(cpu: &Cpu, space: &S, to: &Target) -> R
     }
 }
 
-pub(crate) fn jump<S: AddressSpace>(mut cpu: Cpu, space: &S, to: &Target) -> Result<Cpu, Stop>
-    ensures { IsCpuOf result (spec.jump (spec.state cpu (S.memory space.now)) to.now) }
+pub(crate) fn jump<S: AddressSpace>(cpu: &mut Cpu, space: &S, to: &Target) -> Result<(), Stop>
+    ensures answer { result ≡ done_of
+        (spec.jump (spec.state cpu.old (S.memory space.now)) to.now) }
+    ensures cpu { cpu.new ≡ cpu_after cpu.old
+        (spec.jump (spec.state cpu.old (S.memory space.now)) to.now) }
 {
-    let target = target_of(&cpu, space, to)?;
+    let target = target_of(cpu, space, to)?;
     cpu.rip = target;
-    Ok(cpu)
+    Ok(())
 }
 
-pub(crate) fn jump_if(mut cpu: Cpu, condition: Condition, displacement: u64) -> Cpu
-    ensures { result ≡ spec.jumped cpu condition displacement }
+pub(crate) fn jump_if(cpu: &mut Cpu, condition: Condition, displacement: u64)
+    ensures { cpu.new ≡ spec.jumped cpu.old condition displacement }
 {
     if cpu.flags.holds(condition) {
-        cpu.rip = relative(&cpu, displacement);
+        cpu.rip = relative(cpu, displacement);
     }
-    cpu
 }
 
 pub(crate) fn condition_byte(flags: Flags, condition: Condition) -> u64
@@ -72,33 +79,42 @@ pub(crate) fn condition_byte(flags: Flags, condition: Condition) -> u64
     if flags.holds(condition) { 1 } else { 0 }
 }
 
-pub(crate) fn call<S: AddressSpace>(cpu: Cpu, space: &mut S, to: &Target) -> Result<Cpu, Stop>
-    ensures answer { IsCpuOf result (spec.call (spec.state cpu (S.memory space.old)) to.now) }
+pub(crate) fn call<S: AddressSpace>(cpu: &mut Cpu, space: &mut S, to: &Target) -> Result<(), Stop>
+    ensures answer { result ≡ done_of
+        (spec.call (spec.state cpu.old (S.memory space.old)) to.now) }
+    ensures cpu { cpu.new ≡ cpu_after cpu.old
+        (spec.call (spec.state cpu.old (S.memory space.old)) to.now) }
     ensures memory { LeavesMemory (S.memory space.old) (S.memory space.new)
-        (spec.call (spec.state cpu (S.memory space.old)) to.now) }
+        (spec.call (spec.state cpu.old (S.memory space.old)) to.now) }
 {
-    let target = target_of(&cpu, space, to)?;
-    let mut after = push(cpu, space, cpu.rip)?;
-    after.rip = target;
-    Ok(after)
+    let target = target_of(cpu, space, to)?;
+    push(cpu, space, cpu.rip)?;
+    cpu.rip = target;
+    Ok(())
 }
 
 /// What an instruction does that jumps, or takes the stack's top.
 pub(crate) fn transfer_effect<S: AddressSpace>(
-    cpu: Cpu,
+    cpu: &mut Cpu,
     space: &mut S,
     instr: &Instr,
-) -> Result<Cpu, Stop>
+) -> Result<(), Stop>
     requires { IsTransfer instr.now }
-    ensures answer { IsCpuOf result (spec.effect (spec.state cpu (S.memory space.old)) instr.now) }
+    ensures answer { result ≡ done_of
+        (spec.effect (spec.state cpu.old (S.memory space.old)) instr.now) }
+    ensures cpu { cpu.new ≡ cpu_after cpu.old
+        (spec.effect (spec.state cpu.old (S.memory space.old)) instr.now) }
     ensures memory { LeavesMemory (S.memory space.old) (S.memory space.new)
-        (spec.effect (spec.state cpu (S.memory space.old)) instr.now) }
+        (spec.effect (spec.state cpu.old (S.memory space.old)) instr.now) }
 {
     match instr {
         Instr::JumpIf {
             condition,
             displacement,
-        } => Ok(jump_if(cpu, *condition, *displacement)),
+        } => {
+            jump_if(cpu, *condition, *displacement);
+            Ok(())
+        }
         Instr::Jump(to) => jump(cpu, space, to),
         Instr::Call(to) => call(cpu, space, to),
         Instr::Push(from) => {
@@ -106,14 +122,18 @@ pub(crate) fn transfer_effect<S: AddressSpace>(
             push(cpu, space, value)
         }
         Instr::Pop(to) => {
-            let (value, mut after) = pop(cpu, space)?;
-            after.set_register(Width::W64, *to, value);
-            Ok(after)
+            let at = cpu.register(Reg::Rsp);
+            let value = load(space, at, Width::W64)?;
+            cpu.set_register(Width::W64, Reg::Rsp, at.wrapping_add(8));
+            cpu.set_register(Width::W64, *to, value);
+            Ok(())
         }
         Instr::Return => {
-            let (value, mut after) = pop(cpu, space)?;
-            after.rip = value;
-            Ok(after)
+            let at = cpu.register(Reg::Rsp);
+            let value = load(space, at, Width::W64)?;
+            cpu.set_register(Width::W64, Reg::Rsp, at.wrapping_add(8));
+            cpu.rip = value;
+            Ok(())
         }
         _ => unreachable!(),
     }

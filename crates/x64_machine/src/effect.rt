@@ -1,7 +1,8 @@
 //! What one instruction does.
 
+ghost use Rattle.std.specs.Prelude.{◌≡◌};
 ghost use Rattle.x64_machine.specs.Effect as spec;
-ghost use Rattle.x64_machine.specs.Effect.{IsCpuOf, LeavesMemory};
+ghost use Rattle.x64_machine.specs.Effect.{LeavesMemory, cpu_after, done_of};
 
 use crate::computing::computation_effect;
 use crate::control::transfer_effect;
@@ -12,10 +13,17 @@ use x64_instr::instruction::Instr;
 use x64_memory::space::AddressSpace;
 
 /// What an instruction does, where RIP is that of the next one. INT3 and UD2 can't be run.
-pub(crate) fn effect<S: AddressSpace>(cpu: Cpu, space: &mut S, instr: &Instr) -> Result<Cpu, Stop>
-    ensures answer { IsCpuOf result (spec.effect (spec.state cpu (S.memory space.old)) instr.now) }
+pub(crate) fn effect<S: AddressSpace>(
+    cpu: &mut Cpu,
+    space: &mut S,
+    instr: &Instr,
+) -> Result<(), Stop>
+    ensures answer { result ≡ done_of
+        (spec.effect (spec.state cpu.old (S.memory space.old)) instr.now) }
+    ensures cpu { cpu.new ≡ cpu_after cpu.old
+        (spec.effect (spec.state cpu.old (S.memory space.old)) instr.now) }
     ensures memory { LeavesMemory (S.memory space.old) (S.memory space.new)
-        (spec.effect (spec.state cpu (S.memory space.old)) instr.now) }
+        (spec.effect (spec.state cpu.old (S.memory space.old)) instr.now) }
 {
     match instr {
         Instr::Move { .. }
@@ -36,7 +44,7 @@ pub(crate) fn effect<S: AddressSpace>(cpu: Cpu, space: &mut S, instr: &Instr) ->
         | Instr::Push(_)
         | Instr::Pop(_)
         | Instr::Return => transfer_effect(cpu, space, instr),
-        Instr::NoOperation => Ok(cpu),
+        Instr::NoOperation => Ok(()),
         Instr::Breakpoint | Instr::Undefined => Err(Stop::Illegal),
     }
 }

@@ -3,7 +3,7 @@
 ghost use Rattle.std.specs.Prelude.{◌≡◌};
 ghost use Rattle.x64_instr.specs.Families.{IsMove};
 ghost use Rattle.x64_machine.specs.Effect as spec;
-ghost use Rattle.x64_machine.specs.Effect.{IsCpuOf, LeavesMemory};
+ghost use Rattle.x64_machine.specs.Effect.{LeavesMemory, cpu_after, done_of};
 
 use crate::control::condition_byte;
 use crate::cpu::Cpu;
@@ -20,7 +20,7 @@ fn sign_of_rax(width: Width, cpu: &Cpu) -> u64
     ensures { result ≡ spec.sign_of_rax width cpu.now }
 {
     let low = zero_extend(width, cpu.register(Reg::Rax));
-    if u128::from(low) < width.limit() / 2 {
+    if low < width.half() {
         0
     } else {
         (width.limit() - 1) as u64
@@ -38,18 +38,21 @@ fn widened(extension: Extension, width: Width, narrow: Width, value: u64) -> u64
 
 /// What an instruction does that puts a value into a place.
 pub(crate) fn move_effect<S: AddressSpace>(
-    mut cpu: Cpu,
+    cpu: &mut Cpu,
     space: &mut S,
     instr: &Instr,
-) -> Result<Cpu, Stop>
+) -> Result<(), Stop>
     requires { IsMove instr.now }
-    ensures answer { IsCpuOf result (spec.effect (spec.state cpu (S.memory space.old)) instr.now) }
+    ensures answer { result ≡ done_of
+        (spec.effect (spec.state cpu.old (S.memory space.old)) instr.now) }
+    ensures cpu { cpu.new ≡ cpu_after cpu.old
+        (spec.effect (spec.state cpu.old (S.memory space.old)) instr.now) }
     ensures memory { LeavesMemory (S.memory space.old) (S.memory space.new)
-        (spec.effect (spec.state cpu (S.memory space.old)) instr.now) }
+        (spec.effect (spec.state cpu.old (S.memory space.old)) instr.now) }
 {
     match instr {
         Instr::Move { width, to, from } => {
-            let value = operand(&cpu, space, *width, from)?;
+            let value = operand(cpu, space, *width, from)?;
             write(cpu, space, *width, to, value)
         }
         Instr::Extend {
@@ -59,19 +62,19 @@ pub(crate) fn move_effect<S: AddressSpace>(
             narrow,
             from,
         } => {
-            let value = read(&cpu, space, *narrow, from)?;
+            let value = read(cpu, space, *narrow, from)?;
             cpu.set_register(*width, *to, widened(*extension, *width, *narrow, value));
-            Ok(cpu)
+            Ok(())
         }
         Instr::LoadAddress { width, to, from } => {
             let address = cpu.address(from);
             cpu.set_register(*width, *to, address);
-            Ok(cpu)
+            Ok(())
         }
         Instr::ExtendRax { width } => {
-            let sign = sign_of_rax(*width, &cpu);
+            let sign = sign_of_rax(*width, cpu);
             cpu.set_register(*width, Reg::Rdx, sign);
-            Ok(cpu)
+            Ok(())
         }
         Instr::Set { condition, to } => {
             let value = condition_byte(cpu.flags, *condition);

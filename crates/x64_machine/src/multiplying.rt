@@ -3,7 +3,7 @@
 ghost use Rattle.std.specs.Prelude.{◌≡◌};
 ghost use Rattle.x64_instr.specs.Families.{IsMultiplyOrDivide};
 ghost use Rattle.x64_machine.specs.Effect as spec;
-ghost use Rattle.x64_machine.specs.Effect.{IsCpuOf, LeavesMemory};
+ghost use Rattle.x64_machine.specs.Effect.{LeavesMemory, cpu_after, done_of};
 
 use crate::cpu::Cpu;
 use crate::dividing::{divide, join};
@@ -20,39 +20,43 @@ use x64_instr::register::Reg;
 use x64_memory::space::AddressSpace;
 
 fn product<S: AddressSpace>(
-    mut cpu: Cpu,
+    cpu: &mut Cpu,
     space: &S,
     width: Width,
     to: Reg,
     from: &RegisterOrMemory,
-) -> Result<Cpu, Stop>
-    ensures { IsCpuOf result
-        (spec.multiply (spec.state cpu (S.memory space.now)) width to from.now) }
+) -> Result<(), Stop>
+    ensures answer { result ≡ done_of
+        (spec.multiply (spec.state cpu.old (S.memory space.now)) width to from.now) }
+    ensures cpu { cpu.new ≡ cpu_after cpu.old
+        (spec.multiply (spec.state cpu.old (S.memory space.now)) width to from.now) }
 {
-    let second = read(&cpu, space, width, from)?;
+    let second = read(cpu, space, width, from)?;
     let first = zero_extend(width, cpu.register(to));
     let (value, flags) = multiply(width, first, second, cpu.flags);
     cpu.set_register(width, to, value);
     cpu.flags = flags;
-    Ok(cpu)
+    Ok(())
 }
 
 fn product_by<S: AddressSpace>(
-    mut cpu: Cpu,
+    cpu: &mut Cpu,
     space: &S,
     width: Width,
     to: Reg,
     from: &RegisterOrMemory,
     by: u64,
-) -> Result<Cpu, Stop>
-    ensures { IsCpuOf result
-        (spec.multiply_by (spec.state cpu (S.memory space.now)) width to from.now by) }
+) -> Result<(), Stop>
+    ensures answer { result ≡ done_of
+        (spec.multiply_by (spec.state cpu.old (S.memory space.now)) width to from.now by) }
+    ensures cpu { cpu.new ≡ cpu_after cpu.old
+        (spec.multiply_by (spec.state cpu.old (S.memory space.now)) width to from.now by) }
 {
-    let first = read(&cpu, space, width, from)?;
+    let first = read(cpu, space, width, from)?;
     let (value, flags) = multiply(width, first, zero_extend(width, by), cpu.flags);
     cpu.set_register(width, to, value);
     cpu.flags = flags;
-    Ok(cpu)
+    Ok(())
 }
 
 fn division_stop(fault: DivFault) -> Stop
@@ -66,23 +70,25 @@ fn division_stop(fault: DivFault) -> Stop
 }
 
 fn quotient<S: AddressSpace>(
-    mut cpu: Cpu,
+    cpu: &mut Cpu,
     space: &S,
     division: Division,
     width: Width,
     by: &RegisterOrMemory,
-) -> Result<Cpu, Stop>
-    ensures { IsCpuOf result
-        (spec.divide (spec.state cpu (S.memory space.now)) division width by.now) }
+) -> Result<(), Stop>
+    ensures answer { result ≡ done_of
+        (spec.divide (spec.state cpu.old (S.memory space.now)) division width by.now) }
+    ensures cpu { cpu.new ≡ cpu_after cpu.old
+        (spec.divide (spec.state cpu.old (S.memory space.now)) division width by.now) }
 {
-    let divisor = read(&cpu, space, width, by)?;
+    let divisor = read(cpu, space, width, by)?;
     let high = zero_extend(width, cpu.register(Reg::Rdx));
     let low = zero_extend(width, cpu.register(Reg::Rax));
     match divide(division, width, join(width, high, low), divisor) {
         Ok((quotient, remainder)) => {
             cpu.set_register(width, Reg::Rax, quotient);
             cpu.set_register(width, Reg::Rdx, remainder);
-            Ok(cpu)
+            Ok(())
         }
         Err(fault) => Err(division_stop(fault)),
     }
@@ -90,14 +96,17 @@ fn quotient<S: AddressSpace>(
 
 /// What an instruction does that multiplies or divides.
 pub(crate) fn multiply_or_divide<S: AddressSpace>(
-    cpu: Cpu,
+    cpu: &mut Cpu,
     space: &S,
     instr: &Instr,
-) -> Result<Cpu, Stop>
+) -> Result<(), Stop>
     requires { IsMultiplyOrDivide instr.now }
-    ensures answer { IsCpuOf result (spec.effect (spec.state cpu (S.memory space.now)) instr.now) }
+    ensures answer { result ≡ done_of
+        (spec.effect (spec.state cpu.old (S.memory space.now)) instr.now) }
+    ensures cpu { cpu.new ≡ cpu_after cpu.old
+        (spec.effect (spec.state cpu.old (S.memory space.now)) instr.now) }
     ensures memory { LeavesMemory (S.memory space.now) (S.memory space.now)
-        (spec.effect (spec.state cpu (S.memory space.now)) instr.now) }
+        (spec.effect (spec.state cpu.old (S.memory space.now)) instr.now) }
 {
     match instr {
         Instr::Multiply { width, to, from } => product(cpu, space, *width, *to, from),

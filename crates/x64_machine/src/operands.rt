@@ -2,10 +2,11 @@
 
 ghost use Rattle.std.specs.Prelude.{◌≡◌, ◌<◌, ℕ, IfOk};
 ghost use Rattle.seh_num.specs.Widths.{limit};
+ghost use Rattle.flat_memory.specs.Memory.{stored, after_store};
 ghost use Rattle.x64_machine.specs.Effect as spec;
-ghost use Rattle.x64_machine.specs.Effect.{IsCpuOf, LeavesMemory};
+ghost use Rattle.x64_machine.specs.Effect.{LeavesMemory, cpu_after, done_of};
 
-use crate::cpu::Cpu;
+use crate::cpu::{Cpu, Flags};
 use crate::outcome::Stop;
 use crate::words::merge;
 use flat_memory::access::RefusedAccess;
@@ -84,19 +85,16 @@ pub(crate) fn load<S: AddressSpace>(space: &S, at: u64, width: Width) -> Result<
 }
 
 pub(crate) fn store<S: AddressSpace>(
-    cpu: Cpu,
     space: &mut S,
     at: u64,
     width: Width,
     value: u64,
-) -> Result<Cpu, Stop>
-    ensures answer { IsCpuOf result
-        (spec.store (spec.state cpu (S.memory space.old)) at width value) }
-    ensures memory { LeavesMemory (S.memory space.old) (S.memory space.new)
-        (spec.store (spec.state cpu (S.memory space.old)) at width value) }
+) -> Result<(), Stop>
+    ensures answer { result ≡ spec.granted (stored (S.memory space.old) at width) }
+    ensures after { S.memory space.new ≡ after_store (S.memory space.old) at width value }
 {
     match space.store(at, width, value) {
-        Ok(()) => Ok(cpu),
+        Ok(()) => Ok(()),
         Err(access) => Err(refusal(access)),
     }
 }
@@ -132,26 +130,56 @@ pub(crate) fn operand<S: AddressSpace>(
     }
 }
 
+#[tactic(auto, using(crate::proofs::Storing::storing))]
 pub(crate) fn write<S: AddressSpace>(
-    mut cpu: Cpu,
+    cpu: &mut Cpu,
     space: &mut S,
     width: Width,
     to: &RegisterOrMemory,
     value: u64,
-) -> Result<Cpu, Stop>
-    ensures answer { IsCpuOf result
-        (spec.write (spec.state cpu (S.memory space.old)) width to.now value) }
+) -> Result<(), Stop>
+    ensures answer { result ≡ done_of
+        (spec.write (spec.state cpu.old (S.memory space.old)) width to.now value) }
+    ensures cpu { cpu.new ≡ cpu_after cpu.old
+        (spec.write (spec.state cpu.old (S.memory space.old)) width to.now value) }
     ensures memory { LeavesMemory (S.memory space.old) (S.memory space.new)
-        (spec.write (spec.state cpu (S.memory space.old)) width to.now value) }
+        (spec.write (spec.state cpu.old (S.memory space.old)) width to.now value) }
 {
     match to {
         RegisterOrMemory::Register(register) => {
             cpu.set_register(width, *register, value);
-            Ok(cpu)
+            Ok(())
         }
         RegisterOrMemory::Memory(place) => {
             let at = cpu.address(place);
-            store(cpu, space, at, width, value)
+            store(space, at, width, value)
+        }
+    }
+}
+
+/// A result and its flags; neither where the place can't be written.
+pub(crate) fn write_both<S: AddressSpace>(
+    cpu: &mut Cpu,
+    space: &mut S,
+    width: Width,
+    to: &RegisterOrMemory,
+    value: u64,
+    flags: Flags,
+) -> Result<(), Stop>
+    ensures answer { result ≡ done_of (spec.write
+        (spec.with_flags (spec.state cpu.old (S.memory space.old)) flags) width to.now value) }
+    ensures cpu { cpu.new ≡ cpu_after cpu.old (spec.write
+        (spec.with_flags (spec.state cpu.old (S.memory space.old)) flags) width to.now value) }
+    ensures memory { LeavesMemory (S.memory space.old) (S.memory space.new) (spec.write
+        (spec.with_flags (spec.state cpu.old (S.memory space.old)) flags) width to.now value) }
+{
+    let before = cpu.flags;
+    cpu.flags = flags;
+    match write(cpu, space, width, to, value) {
+        Ok(()) => Ok(()),
+        Err(stop) => {
+            cpu.flags = before;
+            Err(stop)
         }
     }
 }

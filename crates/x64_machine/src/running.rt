@@ -48,7 +48,10 @@ pub fn execute<S: AddressSpace>(
 {
     let mut next = cpu;
     next.rip = cpu.rip.wrapping_add(len as u64);
-    effect(next, space, instr)
+    match effect(&mut next, space, instr) {
+        Ok(()) => Ok(next),
+        Err(stop) => Err(stop),
+    }
 }
 
 /// One step of the processor. In the host's page no instruction is fetched: the step says that the
@@ -71,11 +74,13 @@ pub fn step<S: AddressSpace>(cpu: &mut Cpu, space: &mut S) -> StepOutcome
     let Some((instr, len)) = decode(&bytes[..count]) else {
         return StepOutcome::Illegal;
     };
-    match execute(*cpu, space, &instr, len) {
-        Ok(after) => {
-            *cpu = after;
-            StepOutcome::Next
+    let at = cpu.rip;
+    cpu.rip = at.wrapping_add(len as u64);
+    match effect(cpu, space, &instr) {
+        Ok(()) => StepOutcome::Next,
+        Err(stop) => {
+            cpu.rip = at;
+            refused(stop)
         }
-        Err(stop) => refused(stop),
     }
 }

@@ -4,6 +4,7 @@ ghost use Rattle.std.specs.Prelude.{◌≡◌, ◌<◌, ◌≤◌, ◌*◌, ◌^
 ghost use Rattle.x64_machine.specs.Shifts as spec;
 
 use crate::cpu::Flags;
+use seh_num::extension::truncate;
 use seh_num::width::Width;
 use x64_instr::instruction::Direction;
 
@@ -43,13 +44,13 @@ pub fn shift(direction: Direction, width: Width, value: u64, count: u64) -> u64
     let limit = width.limit();
     let kept = u128::from(value) / power(count);
     match direction {
-        Direction::Left => (raised(value, count) % limit) as u64,
+        Direction::Left => truncate(width, raised(value, count)),
         Direction::Right => kept as u64,
         Direction::ArithmeticRight => {
-            if u128::from(value) < limit / 2 {
+            if value < width.half() {
                 kept as u64
             } else {
-                ((kept + (limit - limit / power(count))) % limit) as u64
+                truncate(width, kept + (limit - limit / power(count)))
             }
         }
     }
@@ -75,10 +76,12 @@ pub(crate) fn differ(first: bool, second: bool) -> bool
 fn overflow_of(direction: Direction, width: Width, value: u64) -> bool
     ensures { result ≡ spec.overflow_of direction width value }
 {
-    let value = u128::from(value);
-    let half = width.limit() / 2;
+    let half = width.half();
     match direction {
-        Direction::Left => differ(half <= value * 2 % width.limit(), half <= value),
+        Direction::Left => differ(
+            half <= truncate(width, u128::from(value) * 2),
+            half <= value,
+        ),
         Direction::Right => half <= value,
         Direction::ArithmeticRight => false,
     }
@@ -107,7 +110,7 @@ pub fn shift_flags(
     Flags {
         carry: last_out(direction, width, value, count),
         zero: moved == 0,
-        sign: u128::from(moved) >= width.limit() / 2,
+        sign: moved >= width.half(),
         overflow,
     }
 }

@@ -7,7 +7,7 @@ ghost use Rattle.x64_machine.specs.Words as spec;
 
 use crate::cpu::Flags;
 use seh_num::division::is_signed;
-use seh_num::extension::{sign_extend, zero_extend};
+use seh_num::extension::{sign_extend, truncate, zero_extend};
 use seh_num::width::Width;
 
 /// The flags of a result: ZF and SF by it, the others as given.
@@ -17,7 +17,7 @@ pub fn flags_of(width: Width, result_value: u64, carry: bool, overflow: bool) ->
     Flags {
         carry,
         zero: result_value == 0,
-        sign: u128::from(result_value) >= width.limit() / 2,
+        sign: result_value >= width.half(),
         overflow,
     }
 }
@@ -46,7 +46,7 @@ pub fn add(width: Width, first: u64, second: u64) -> (u64, Flags)
     ensures { result ≡ spec.added width first second }
 {
     let whole = u128::from(first) + u128::from(second);
-    let sum = (whole % width.limit()) as u64;
+    let sum = truncate(width, whole);
     let fits = sum_fits(width, sign_extend(width, first), sign_extend(width, second));
     let flags = flags_of(width, sum, whole >= width.limit(), !fits);
     (sum, flags)
@@ -59,7 +59,7 @@ pub fn subtract(width: Width, first: u64, second: u64) -> (u64, Flags)
     ensures { result ≡ spec.subtracted width first second }
 {
     let whole = u128::from(first) + (width.limit() - u128::from(second));
-    let difference = (whole % width.limit()) as u64;
+    let difference = truncate(width, whole);
     let fits = difference_fits(width, sign_extend(width, first), sign_extend(width, second));
     let flags = flags_of(width, difference, first < second, !fits);
     (difference, flags)
@@ -71,7 +71,7 @@ pub fn subtract(width: Width, first: u64, second: u64) -> (u64, Flags)
 pub fn multiply(width: Width, first: u64, second: u64, flags: Flags) -> (u64, Flags)
     ensures { result ≡ spec.multiplied width first second flags }
 {
-    let low = (u128::from(first) * u128::from(second)) % width.limit();
+    let low = truncate(width, u128::from(first) * u128::from(second));
     let fits = product_fits(width, sign_extend(width, first), sign_extend(width, second));
     let flags = Flags {
         carry: !fits,
@@ -79,7 +79,7 @@ pub fn multiply(width: Width, first: u64, second: u64, flags: Flags) -> (u64, Fl
         zero: flags.zero,
         sign: flags.sign,
     };
-    (low as u64, flags)
+    (low, flags)
 }
 
 /// A result with its flags, of an operation on each bit: neither carry nor overflow (Intel manual,

@@ -269,6 +269,28 @@ ends_rise low from (s ∷ ss) ordered zero (suc j) d le lt = lies_above s.end (f
 ends_rise low from (s ∷ ss) ordered (suc i) (suc j) d le lt = ends_rise s.end
     (from + (s.end - s.first)) ss ordered.1 i j d (omega arith) (omega arith)
 
+-- a later stretch begins with no lower page
+first_above : (low from : ℕ) (ss : List Stretch) (k : ℕ) (d : Stretch) → AreOrdered low from ss
+    → k < length ss → low ≤ (get_or ss k d).first
+first_above low from [] k d ordered lt = absurd (omega arith)
+first_above low from (s ∷ ss) zero d ordered lt = ordered.0.order
+first_above low from (s ∷ ss) (suc k) d ordered lt =
+    let order = ordered.0.order in
+    let grows = ordered.0.grows in
+    let above = first_above s.end (from + (s.end - s.first)) ss k d ordered.1 (omega arith) in
+    omega arith
+
+-- the stretch that has a page, wherever it stands among the others
+pub found_at : (low from : ℕ) (ss : List Stretch) (k j : ℕ) (d : Stretch) → AreOrdered low from ss
+    → j < length ss → (get_or ss j d).first ≤ k → k < (get_or ss j d).end
+    → index_of ss k ≡ Some ((get_or ss j d).index + (k - (get_or ss j d).first))
+found_at low from [] k j d ordered lt le out = absurd (omega arith)
+found_at low from (t ∷ ts) k zero d ordered lt le out = index_here t ts k le out
+found_at low from (t ∷ ts) k (suc j) d ordered lt le out =
+    let above = first_above t.end (from + (t.end - t.first)) ts j d ordered.1 (omega arith) in
+    index_past t ts k (past t k (omega arith))
+    ∙ found_at t.end (from + (t.end - t.first)) ts k j d ordered.1 (omega arith) le out
+
 -- no stretch has a page at which all of them have ended
 pub all_ended : (ss : List Stretch) (k : ℕ) →
     ((m : ℕ) (d : Stretch) → m < length ss → (get_or ss m d).end ≤ k) → index_of ss k ≡ None

@@ -1,5 +1,5 @@
 -- One page of a map of pages changed, and what lies in one.
-use Rattle.std.proofs.Common.{◌≡◌, ◌≢◌, ℕ, ◌+◌, ◌-◌, ◌/◌, ◌%◌, ◌^◌, ◌<◌, ◌≤◌, true, false, cond, eqb, ◌||◌, List, [], length, drop, get_or, Option, Some, None, is_some, refl, sym, ap, ◌∙◌, arith, inl, inr, eq-eqb, subst, length-drop, suc, set, get_or-set_same, get_or-set_other, ◌⊎◌}
+use Rattle.std.proofs.Common.{◌≡◌, ◌≢◌, ℕ, ◌+◌, ◌-◌, ◌/◌, ◌%◌, ◌^◌, ◌<◌, ◌≤◌, true, false, cond, eqb, List, [], length, drop, get_or, Option, Some, None, is_some, refl, sym, ap, ◌∙◌, arith, inl, inr, eq-eqb, subst, length-drop, suc, set, get_or-set_same, get_or-set_other, ◌⊎◌}
 use Rattle.std.proofs.Math.Nat.{pow-suc, div-div-eq-div-mul}
 use Rattle.std.proofs.lemmas.Bool.{cases_eq, cases_lt, ne_eqb, lt-ltb, le-ltb, le-leb, lt-leb}
 use Rattle.std.proofs.lemmas.List.{get_or-drop}
@@ -10,7 +10,7 @@ use Rattle.flat_memory.specs.declared.protection.Rights.{Rights}
 use Rattle.flat_memory.specs.Protections.{is_writable}
 use Rattle.flat_memory.proofs.Stores.{among, beyond, outside}
 use Rattle.x64_memory.specs.declared.page.Page.{Page}
-use Rattle.x64_memory.specs.Pages.{page_mode, page_byte, paged, page_with_number, IsRestOfPage, HasArena, has_page, with_page}
+use Rattle.x64_memory.specs.Pages.{page_mode, page_byte, paged, page_with_number, IsRestOfPage, has_page, with_page}
 
 module _ (old new : ℕ → Option Page) (k : ℕ) (p : Page)
     (has : (q : ℕ) → new q ≡ cond (eqb q k) (Some p) (old q)) where
@@ -45,12 +45,6 @@ module _ (old new : ℕ → Option Page) (k : ℕ) (p : Page)
   unfolding paged
   page_changed = λ i. record { protection = λ a. modes a i; byte = λ a. bytes a i }
 
-  pub has_changed : (a : ℕ) → has_page new a ≡ (eqb (a / 4096) k || has_page old a)
-  has_changed a = elim (cases_eq (a / 4096) k) [
-    | inl e ↦ ap is_some (at_page (a / 4096) e)
-        ∙ sym (ap (λ b. b || has_page old a) (eq-eqb (a / 4096) k e))
-    | inr n ↦ ap is_some (off_page (a / 4096) n)
-        ∙ sym (ap (λ b. b || has_page old a) (ne_eqb (a / 4096) k n))
   ]
 
   pub has_kept : (o : Page) → old k ≡ Some o → (a : ℕ) → has_page new a ≡ has_page old a
@@ -59,10 +53,6 @@ module _ (old new : ℕ → Option Page) (k : ℕ) (p : Page)
     | inr n ↦ ap is_some (off_page (a / 4096) n)
   ]
 
-  pub arena_kept : HasArena old → HasArena new
-  arena_kept h q low high = elim (cases_eq q k) [
-    | inl e ↦ ap is_some (at_page q e)
-    | inr n ↦ ap is_some (off_page q n) ∙ h q low high
   ]
 
 -- ---- a number put into a page

@@ -1,5 +1,5 @@
 -- Accesses inside the rest of a page.
-use Rattle.std.proofs.Common.{Result, Ok, Err, ◌≡◌, ℕ, zero, suc, ◌+◌, ◌*◌, ◌%◌, ◌^◌, ◌<◌, ◌≤◌, Bool, true, false, Option, Some, None, refl, sym, ap, ◌∙◌, arith, List, ◌∷◌, ◌++◌, length, take, drop, get_or, drop-cons}
+use Rattle.std.proofs.Common.{Ok, Err, ◌≡◌, ℕ, zero, suc, ◌+◌, ◌*◌, ◌%◌, ◌^◌, ◌<◌, ◌≤◌, Bool, true, false, Option, Some, None, refl, sym, ap, ◌∙◌, arith, List, ◌∷◌, ◌++◌, length, take, drop, get_or, drop-cons}
 use Rattle.seh_num.specs.declared.width.Width.{Width}
 use Rattle.seh_num.specs.declared.width.Width.TheVariants.{W8, W16, W32, W64}
 use Rattle.seh_num.specs.Widths.{bytes_of}
@@ -8,7 +8,7 @@ use Rattle.byteorder.specs.Endian.{little_from, little_number}
 use Rattle.flat_memory.specs.declared.protection.Protection.{Protection}
 use Rattle.flat_memory.specs.Memory.{Memory, next, executable, may_read, may_write, first_refused, number_at, access, refused, loaded, stored}
 use Rattle.flat_memory.specs.Protections.{is_readable, is_writable}
-use Rattle.x64_memory.specs.Pages.{IsRestOfPage, or_number, number_or_refused}
+use Rattle.x64_memory.specs.Pages.{IsRestOfPage}
 
 -- the number in some bytes, from the i-th on
 number_from : (byte : ℕ → ℕ) (xs : List ℕ) (at i n : ℕ)
@@ -125,25 +125,6 @@ load_all m at w protection bytes s le e =
     ap (λ v. Ok v) (sym (number_of_stretch m at protection bytes (bytes_of w) s le))
     ∙ sym (ap (λ o. access false o (number_at m.byte (bytes_of w) at))
     (readable_stretch m at protection bytes (bytes_of w) s le e))
-
-spread : (o : Option ℕ) (v : ℕ) (r : Result ℕ ℕ) → r ≡ or_number o v → (a : ℕ) → r ≡ Err a
-    → Err (refused false a) ≡ access false o v
-spread None v r e a f = absurd cc
-spread (Some b) v r e a f = let same : a ≡ b = cc in ap (λ x. Err (refused false x)) same
-
-pub load_refused : (m : Memory) (at : ℕ) (w : Width) (a : ℕ)
-    → Err a ≡ number_or_refused m (bytes_of w) at → Err (refused false a) ≡ loaded m at w
-load_refused m at w a e = spread (first_refused (may_read m) (bytes_of w) at)
-    (number_at m.byte (bytes_of w) at) (Err a) e a refl
-
-spread_ok : (o : Option ℕ) (v u : ℕ) → Ok u ≡ or_number o v → Ok u ≡ access false o v
-spread_ok None v u e = ap Ok cc
-spread_ok (Some b) v u e = absurd cc
-
-pub load_spread : (m : Memory) (at : ℕ) (w : Width) (u : ℕ)
-    → Ok u ≡ number_or_refused m (bytes_of w) at → Ok u ≡ loaded m at w
-load_spread m at w u e = spread_ok (first_refused (may_read m) (bytes_of w) at)
-    (number_at m.byte (bytes_of w) at) u e
 
 pub store_all : (m : Memory) (at : ℕ) (w : Width) (protection : Protection) (bytes : List ℕ)
     → IsRestOfPage m at protection bytes → bytes_of w ≤ length bytes

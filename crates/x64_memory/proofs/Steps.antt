@@ -37,11 +37,6 @@ unfolding number_at
 number_at-more byte zero at lt = absurd (omega arith)
 number_at-more byte (suc n) at lt = let h : suc n - 1 ≡ n = omega arith in rw h refl
 
-pub number_at-zero : (byte : ℕ → ℕ) (n at : ℕ) → n ≡ 0 → number_at byte n at ≡ 0
-unfolding number_at
-number_at-zero byte zero at e = refl
-number_at-zero byte (suc n) at e = absurd (omega arith)
-
 -- a digit before n - 1 others
 pub digit_more : (n b v : ℕ) → 0 < n → b < 256 → v < 256 ^ (n - 1) → b + 256 * v < 256 ^ n
 digit_more zero b v lt small h = absurd (omega arith)

@@ -12,17 +12,18 @@ use crate::space::AddressSpace;
 use crate::stretch::{self, Stretch};
 use flat_memory::access::RefusedAccess;
 use flat_memory::protection::{Protection, Rights, UNMAPPED};
-use host_layout::range::{ARENA_END, ARENA_START, PAGE};
+use host_layout::range::{ARENA_END, ARENA_START, PAGE, STACK_START};
 use seh_num::size::LONGEST_INSTRUCTION;
 use seh_num::width::Width;
 use std::alloc::{AllocError, Global};
 
 /// Memory in a table of stretches of pages, which holds those of the arena. A page is found by
-/// halves among the stretches, and by its place in its stretch.
+/// halves among the stretches, but first in the stack's, and by its place in its stretch.
 #[derive(Drop)]
 pub struct PageMap {
     stretches: Vec<Stretch>,
     pages: Vec<Page>,
+    likely: usize,
     ghost ordered: { AreOrdered 0 0 stretches.items } by { AreOrdered-prop 0 0 stretches.items },
     ghost count: { length pages.items ≡ count_from 0 stretches.items },
     ghost arena: { HasArena (page_numbered stretches.items pages.items) },
@@ -50,6 +51,16 @@ fn count_of_pages(regions: &[Region]) -> usize {
         );
     }
     count
+}
+
+/// Which region is the stack, if one is.
+fn place_of_stack(regions: &[Region]) -> usize {
+    for i in 0..regions.len() {
+        if regions[i].start == STACK_START {
+            return i;
+        }
+    }
+    0
 }
 
 /// Puts pages of zeros after others.
@@ -112,7 +123,11 @@ impl PageMap {
         for region in regions {
             map_region(&mut stretches, &mut pages, region)?;
         }
-        Ok(PageMap { stretches, pages })
+        Ok(PageMap {
+            stretches,
+            pages,
+            likely: place_of_stack(regions),
+        })
     }
 
     /// Where the page of an address is kept.
@@ -120,7 +135,7 @@ impl PageMap {
         ensures value { result ≡ index_of self.now.stretches.items (at / PAGE) }
         ensures within { IfSome result (λ i. i < length self.now.pages.items) }
     {
-        stretch::index_of(&self.stretches, at / PAGE)
+        stretch::likely_index_of(&self.stretches, self.likely, at / PAGE)
     }
 
     /// Puts bytes into one page, whatever its protection.
@@ -179,6 +194,25 @@ impl Paged for PageMap {
                 width.bytes() as usize,
                 value,
             );
+        }
+    }
+
+    fn put_if(&mut self, at: u64, width: Width, value: u64) -> bool {
+        match self.index(at) {
+            None => false,
+            Some(index) => {
+                let from = (at % PAGE) as usize;
+                let count = width.bytes() as usize;
+                let kept = &self.pages[index];
+                let rest = &kept.bytes[from..];
+                let writable = kept.protection.rights.is_writable();
+                if !writable || rest.len() < count {
+                    return false;
+                }
+                let page = &mut self.pages[index];
+                put_number(&mut page.bytes, from, count, value);
+                true
+            }
         }
     }
 }

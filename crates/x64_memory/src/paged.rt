@@ -1,7 +1,7 @@
 //! Accesses to memory that is kept in pages: a page is looked up once for an access that lies in
 //! it.
 
-ghost use Rattle.std.specs.Prelude.{◌≡◌, ◌+◌, ◌*◌, ◌%◌, ◌≤◌, ◌^◌, ◌<◌, ℕ, true, None, IfOk, length, take, slice_index};
+ghost use Rattle.std.specs.Prelude.{◌≡◌, ◌+◌, ◌*◌, ◌%◌, ◌≤◌, ◌^◌, ◌<◌, ℕ, true, false, None, Ok, IfOk, length, take, slice_index};
 ghost use Rattle.seh_num.specs.Widths.{bytes_of, limit};
 ghost use Rattle.flat_memory.specs.Memory.{Memory, with_bytes, with_number, loaded, stored, after_store, may_write, may_read, first_refused, number_at, refused, executable};
 ghost use Rattle.byteorder.specs.Endian.{little_number};
@@ -29,6 +29,14 @@ pub trait Paged {
         requires may { may_write (memory self.old) at ≡ true }
         ensures { memory self.new ≡ with_bytes (memory self.old)
             (with_number (memory self.old).byte (bytes_of width) at value) };
+
+    /// Puts the low bytes of a number at an address if they lie in one page that may be written.
+    /// Else it answers false, and changes nothing.
+    fn put_if(&mut self, at: u64, width: Width, value: u64) -> bool
+        ensures granted { result ≡ true → stored (memory self.old) at width ≡ Ok tt }
+        ensures put { result ≡ true
+            → memory self.new ≡ after_store (memory self.old) at width value }
+        ensures kept { result ≡ false → memory self.new ≡ memory self.old };
 }
 
 fn refusal(write: bool, address: u64) -> RefusedAccess
@@ -169,12 +177,11 @@ pub fn store<P: Paged>(
     ensures answer { result ≡ stored (P.memory space.old) at width }
     ensures after { P.memory space.new ≡ after_store (P.memory space.old) at width value }
 {
-    may_store(space, at, width)?;
-    if at % PAGE + width.bytes() <= PAGE {
-        space.put(at, width, value);
-    } else {
-        spread_store(space, at, width.bytes(), value);
+    if space.put_if(at, width, value) {
+        return Ok(());
     }
+    may_store(space, at, width)?;
+    spread_store(space, at, width.bytes(), value);
     Ok(())
 }
 

@@ -47,3 +47,21 @@ pub fn index_of(stretches: &[Stretch], number: u64) -> Option<usize>
     }
     Some(stretch.index + (number - stretch.first) as usize)
 }
+
+/// Where the page of a number is kept, as `index_of` says; the stretch that likely has it is asked
+/// first.
+pub fn likely_index_of(stretches: &[Stretch], likely: usize, number: u64) -> Option<usize>
+    requires ordered { AreOrdered 0 0 stretches.now }
+    requires room { count_from 0 stretches.now < 2 ^ 64 }
+    ensures value { result ≡ spec.index_of stretches.now number }
+    ensures within { IfSome result (λ i. i < count_from 0 stretches.now) }
+{
+    if likely >= stretches.len() {
+        return index_of(stretches, number);
+    }
+    let stretch = stretches[likely];
+    if number < stretch.first || stretch.end <= number {
+        return index_of(stretches, number);
+    }
+    Some(stretch.index + (number - stretch.first) as usize)
+}

@@ -377,20 +377,3 @@ pub record Seen (s : State) : Type 0 where
   pub view : MachineView
   pub is : s ≡ machine view s.cpu.rip s.cpu.flags
   pub others : length view.rest ≡ 13
-
-seen_by : (l : List ℕ) (s : State) → s.cpu.registers ≡ l → length l ≡ 16 → Seen s
-seen_by [] s e n = absurd (omega arith)
-seen_by (a ∷ []) s e n = absurd (omega arith)
-seen_by (a ∷ b ∷ []) s e n = absurd (omega arith)
-seen_by (a ∷ b ∷ c ∷ rest) s e n = record {
-  view = record { rax = a; rcx = b; rdx = c; rest = rest; memory = s.memory };
-  is = ap (λ (r : List ℕ). let t : State = record {
-    cpu =
-        record { registers = r; rip = s.cpu.rip; flags = s.cpu.flags };
-    memory = s.memory;
-  } in t) e;
-  others = omega arith;
-}
-
-pub every_state : (s : State) → length s.cpu.registers ≡ 16 → Seen s
-every_state s n = seen_by s.cpu.registers s refl n

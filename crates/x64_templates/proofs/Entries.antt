@@ -14,7 +14,6 @@ use Rattle.x64_templates.specs.Straight.{MachineView}
 use Rattle.x64_templates.specs.Frames.{slot_at, InTemporaries, InLocals, MemoryKeepsBase, KeepsReserved, Agrees, HoldsBody, IsBytes}
 use Rattle.x64_templates.specs.CallStates.{pushed, HasBelow, HasBack}
 use Rattle.x64_templates.proofs.Accesses.{digits}
-use Rattle.x64_templates.proofs.Returns.{Outlasts}
 use Rattle.x64_templates.specs.EntryStates.{body_in_memory}
 
 -- ---- numbers in memory
@@ -55,14 +54,6 @@ pub beside : (m : Memory) (sp back a : ℕ) → 8 ≤ sp → sp < 2 ^ 63 → (a 
     → with_number m.byte 8 (sp - 8) back a ≡ m.byte a
 beside m sp back a le high out = untouched m.byte 8 (sp - 8) back a
     (λ i lt e. absurd (elim out [ inl l ↦ omega arith | inr r ↦ omega arith ])) (omega arith)
-
-pub pushed_outlasts : (reserved : ℕ → Bool) (v : MachineView) (sp back : ℕ) → HasBelow v.memory sp 8
-    → Outlasts reserved sp v.memory (pushed v sp back).memory
-pushed_outlasts reserved v sp back below = record {
-  byte = λ a own up. beside v.memory sp back a
-      below.enough below.high (inr up);
-  protection = λ a own. refl;
-}
 
 free_beside : (reserved : ℕ → Bool) (sp a : ℕ) → ((x : ℕ) → sp ≤ x + 8 → x < sp → reserved x ≡ true)
     → reserved a ≡ false → (a + 8 < sp) ⊎ (sp ≤ a)

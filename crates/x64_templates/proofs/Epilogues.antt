@@ -1,12 +1,8 @@
 -- No template but that of a return has an instruction that could be in an epilogue, and sizes of
 -- slots are fixed where they are 128 bytes or more above their base.
-use Rattle.std.proofs.Common.{◌≡◌, ℕ, zero, suc, ◌+◌, ◌-◌, ◌^◌, ◌<◌, ◌≤◌, Bool, true, false, ltb, leb, List, [], ◌∷◌, ◌++◌, refl, ap, ◌∙◌, arith}
-use Rattle.std.specs.Prelude.{◌&&◌, ◌||◌}
-use Rattle.std.proofs.lemmas.Bool.{lt-leb, le-ltb}
-use Rattle.seh_num.specs.declared.width.Width.TheVariants.{W8, W64}
-use Rattle.x64_instr.specs.declared.register.Reg.TheVariants.{Rax, Rsp}
+use Rattle.std.proofs.Common.{◌≡◌, ℕ, zero, suc, ◌+◌, ◌-◌, true, false, List, [], ◌∷◌, ◌++◌, refl, arith}
+use Rattle.x64_instr.specs.declared.register.Reg.TheVariants.{Rax}
 use Rattle.x64_instr.specs.declared.instruction.Instr.{Instr}
-use Rattle.x64_encode.specs.Chosen.{is_signed, modrm}
 use Rattle.linear_code.specs.declared.slot.Slot.{Slot}
 use Rattle.linear_code.specs.declared.slot.Slot.TheVariants.{Temporary}
 use Rattle.c_operations.specs.declared.field.Field.{Field}
@@ -17,8 +13,8 @@ use Rattle.linear_code.specs.BodyState.{Counts}
 use Rattle.linear_code.specs.Meaning.{IsSlot, HasSlots}
 use Rattle.template_code.specs.declared.layout.Layout.{Layout}
 use Rattle.x64_templates.specs.Straight.{begins_epilogue}
-use Rattle.template_code.specs.Bytes.{size, sizes}
-use Rattle.template_code.specs.Slots.{fetched, put_back, fetch, keep, operands_code, finish_code}
+use Rattle.template_code.specs.Bytes.{sizes}
+use Rattle.template_code.specs.Slots.{fetch, keep, operands_code, finish_code}
 use Rattle.template_code.specs.Jumps.{compare_zero, jump_equal, test_code}
 use Rattle.template_code.specs.Calls.{begin_call, call_code, passing_code, field_load}
 use Rattle.template_code.specs.Template.{Links, template}
@@ -94,19 +90,3 @@ template_no_epilogue k y n sp base at instructions.Separator room has plain = (r
 template_no_epilogue k y n sp base at (instructions.Return from) room has plain = absurd (plain tt)
 
 -- ---- sizes
-
--- no displacement of a byte
-far : (d : ℕ) → 128 ≤ d → d < 2 ^ 31 → is_signed W8 W64 d ≡ false
-far d le lt =
-    let e : ltb d 128 ≡ false = le-ltb d 128 le in
-    let f : leb (2 ^ 64 - 128) d ≡ false = lt-leb (2 ^ 64 - 128) d (omega arith) in
-    ap (λ (b : Bool). b || (leb (2 ^ 64 - 128) d && ltb d (2 ^ 64))) e
-    ∙ ap (λ (b : Bool). b && ltb d (2 ^ 64)) f
-
-pub fetched_size : (d : ℕ) → 128 ≤ d → d < 2 ^ 31 → size (fetched Rax Rsp d) ≡ 8
-unfolding size modrm
-fetched_size d le lt = let e = far d le lt in rw e refl
-
-pub put_back_size : (d : ℕ) → 128 ≤ d → d < 2 ^ 31 → size (put_back Rsp d) ≡ 8
-unfolding size modrm
-put_back_size d le lt = let e = far d le lt in rw e refl

@@ -1,5 +1,5 @@
 -- A filter or a `__finally` block begins.
-use Rattle.std.proofs.Common.{◌≡◌, ℕ, ◌+◌, ◌-◌, ◌%◌, ◌^◌, ◌<◌, true, List, [], ◌∷◌, ◌++◌, length, Some, Ok, refl, ap, subst, arith}
+use Rattle.std.proofs.Common.{◌≡◌, ℕ, ◌+◌, ◌-◌, ◌%◌, ◌^◌, ◌<◌, true, List, [], ◌∷◌, ◌++◌, length, Ok, refl, ap, subst, arith}
 use Rattle.seh_num.specs.declared.width.Width.TheVariants.{W32}
 use Rattle.seh_num.specs.Widths.{low}
 use Rattle.flat_memory.specs.Memory.{may_write}
@@ -13,8 +13,7 @@ use Rattle.x64_templates.specs.Straight.{MachineView, machine}
 use Rattle.template_code.specs.Bytes.{sizes}
 use Rattle.template_code.specs.Operations.{move}
 use Rattle.template_code.specs.Slots.{keep}
-use Rattle.x64_templates.specs.Frames.{MemoryKeepsBase}
-use Rattle.template_code.specs.Calls.{enter_code, keep_register, keep_base, keep_parents_base}
+use Rattle.template_code.specs.Calls.{enter_code, keep_register, keep_base}
 use Rattle.x64_templates.specs.CallStates.{sp_of, moved}
 use Rattle.x64_templates.specs.Runs.{HasCode, FramePlace, Roomy, FrameHolds, IsThere, ReachesBody, Enters}
 use Rattle.x64_templates.proofs.Straight.{executes_one}
@@ -24,7 +23,7 @@ use Rattle.x64_templates.proofs.Encoded.{near}
 use Rattle.x64_templates.proofs.Computes.{Reached, code_split, runs_view, leads_kept}
 use Rattle.x64_templates.proofs.Returns.{sp_moved, enter_run}
 use Rattle.x64_templates.proofs.Parameters.{kept_at, keeps_register}
-use Rattle.x64_templates.proofs.Funclets.{HasCell, base_kept, parents_base_kept}
+use Rattle.x64_templates.proofs.Funclets.{HasCell, base_kept}
 
 -- RSP has fallen, and the base is kept
 pub record FuncletEntered (turns : ℕ) (v w : MachineView) (rip at : ℕ) (f : Flags) : Type 0 where
@@ -58,45 +57,6 @@ funclet_enters v sp frame b base rip f n at high lf lb is small cell code =
       comes = subst (λ a. Enters 2 (machine v rip f) (machine u a r.left))
           place (enters_then 1 1 (machine v rip f) (machine w there e.flags)
           (machine u (there + sizes (keep_base b)) r.left) first r.comes);
-    }
-
--- inside another block, which keeps the base so far above its own RSP
-abbrev pub nested_funclet_entry : ℕ → ℕ → ℕ → List Instr
-nested_funclet_entry frame parent b = enter_code frame ++ keep_parents_base parent b
-
-pub nested_funclet_enters : (v : MachineView) (sp frame b base parent_sp parent rip : ℕ) (f : Flags)
-    → length v.rest ≡ 13 → sp_of v ≡ sp + frame → sp + frame < 2 ^ 63 → frame < 2 ^ 31 → b < 2 ^ 31
-    → parent < 2 ^ 31 → v.rdx ≡ parent_sp → MemoryKeepsBase (Some parent) parent_sp base v.memory
-    → parent_sp + (parent + 8) < 2 ^ 63 → base < 2 ^ 64 → HasCell v.memory (sp + b)
-    → HasCode v.memory rip (nested_funclet_entry frame parent b)
-    → FuncletEntered 3 v (kept_at (put true (moved v sp) base) (sp + b) base) rip
-    (rip + sizes (nested_funclet_entry frame parent b)) f
-nested_funclet_enters v sp frame b base parent_sp parent rip f n at high lf lb lp is keeps ph small
-    cell code =
-    let enter = enter_code frame in
-    let rest = keep_parents_base parent b in
-    let parts = code_split v.memory rip enter rest code in
-    let e = enter_run v (sp + frame) frame rip f at (omega arith) (omega arith) lf parts.0 in
-    let back : sp + frame - frame ≡ sp = omega arith in
-    let w = moved v sp in
-    let there = rip + sizes enter in
-    let first = subst (λ s. Enters 1 (machine v rip f) (machine (moved v s) there e.flags)) back
-    e.comes in
-    let u = kept_at (put true w base) (sp + b) base in
-    let r = runs_view rest w u there e.flags (
-      near parent lp,
-      refl,
-      refl,
-      (near b lb, refl, refl, tt),
-    ) parts.1 (parents_base_kept w sp b base parent_sp parent
-    (sp_moved v sp n) is keeps ph small cell) in
-    let place : there + sizes rest ≡ rip + sizes (nested_funclet_entry frame parent b) = omega
-    (arith, sizes_append enter rest) in
-    record {
-      flags = r.left;
-      comes = subst (λ a. Enters 3 (machine v rip f) (machine u a r.left))
-          place (enters_then 1 2 (machine v rip f) (machine w there e.flags)
-          (machine u (there + sizes rest) r.left) first r.comes);
     }
 
 -- a filter keeps RCX, the address of its EXCEPTION_POINTERS

@@ -36,9 +36,6 @@ pub load_any : (m : Memory) (at : ℕ) (w : Width) → first_refused (may_read m
 load_any m at w h = ap (λ (o : Option ℕ). granted
     (access false o (number_at m.byte (bytes_of w) at))) h
 
-plain : (a d : ℕ) → a + d < 2 ^ 64 → (a + 0 + d) % 2 ^ 64 ≡ a + d
-plain a d lt = omega arith
-
 loads_long : (from : ℕ) (v : MachineView) (at x : ℕ) (i : Instr)
     → ((rip : ℕ) (f : Flags) → effect (machine v rip f) i
     ≡ (load v.memory from W64 >>= λ y. Ok (machine (put true v (low W64 y)) rip f))) → from ≡ at

@@ -15,9 +15,7 @@ use Rattle.x64_machine.specs.Words.{subtracted}
 use Rattle.x64_machine.specs.Effect.{State, effect}
 use Rattle.x64_templates.proofs.PlacedCode.{bytes_split, reaches_then}
 use Rattle.linear_code.specs.declared.slot.Slot.{Slot}
-use Rattle.linear_code.specs.declared.instruction.Instruction.TheVariants as instructions
 use Rattle.linear_code.specs.BodyState.{BodyState}
-use Rattle.linear_code.specs.Meaning.{InstructionEffect, Next, JumpsTo, step}
 use Rattle.x64_templates.specs.Straight.{takes_frame, MachineView, machine}
 use Rattle.template_code.specs.Bytes.{size, sizes}
 use Rattle.template_code.specs.Slots.{fetch}
@@ -178,30 +176,3 @@ jump_if_zero_comes p slot v rip to f b z e room is at near h code =
     (machine w there g) (machine w (cond z to (there + 6)) g) r.comes
     (subst (λ a. Reaches 1 (machine w (rip + sizes first) r.left) (machine w a g)) mid t) c)
     refl refl h)
-
--- what a jump that depends on a slot comes to, by what it means
-abbrev pub Branched : FramePlace → Slot → ℕ → ℕ → MachineView → ℕ → Flags → InstructionEffect
-    → Type 0
-Branched p slot there to v rip f (JumpsTo b label) = ReachesBody p
-    (length (jump_if_zero_code p.layout slot rip to)) (machine v rip f) to v.rest b
-Branched p slot there to v rip f (Next b) = ReachesBody p
-    (length (jump_if_zero_code p.layout slot rip to)) (machine v rip f) there v.rest b
-Branched p slot there to v rip f _ = Unit {0}
-
-branch_by : (p : FramePlace) (slot : Slot) (label : ℕ) (v : MachineView) (rip to : ℕ) (f : Flags)
-    (b : BodyState) (z : Bool) → ReachesBody p (length (jump_if_zero_code p.layout slot rip to))
-    (machine v rip f) (cond z to (rip + sizes (test_code p.layout slot) + 6)) v.rest b
-    → Branched p slot (rip + sizes (test_code p.layout slot) + 6) to v rip f
-    (cond z (JumpsTo b label) (Next b))
-branch_by p slot label v rip to f b true g = g
-branch_by p slot label v rip to f b false g = g
-
-pub jump_if_zero_run : (p : FramePlace) (slot : Slot) (label : ℕ) (v : MachineView) (rip to : ℕ)
-    (f : Flags) (b : BodyState) → Roomy p → IsThere p slot → sp_of v ≡ p.sp
-    → IsNear (rip + sizes (test_code p.layout slot) + 6) to → FrameHolds p v.memory b
-    → HasCode v.memory rip (jump_if_zero_code p.layout slot rip to)
-    → Branched p slot (rip + sizes (test_code p.layout slot) + 6) to v rip f
-    (step p.reserved (instructions.JumpIfZero slot label) b)
-jump_if_zero_run p slot label v rip to f b room is at near h code = branch_by p slot label v rip to
-    f b (eqb (b.slots slot) 0) (jump_if_zero_comes p slot v rip to f b (eqb (b.slots slot) 0) refl
-    room is at near h code)

@@ -30,10 +30,8 @@ pub mod Retries
 pub mod Epilogues
 pub mod Probing
 pub mod LargeEntries
-pub mod LargeFunctions
 pub mod FuncletEntries
 pub mod FilterEntries
-pub mod FinallyEntries
 pub mod Services
 pub mod Passing
 mod Witnesses

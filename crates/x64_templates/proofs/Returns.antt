@@ -1,11 +1,9 @@
 -- A body is entered and left, and its caller's slots outlast a call.
-use Rattle.std.proofs.Common.{◌≡◌, ℕ, zero, suc, ◌+◌, ◌-◌, ◌%◌, ◌^◌, ◌<◌, ◌≤◌, Bool, true, List, [], ◌∷◌, length, Option, Some, None, Ok, refl, sym, ap, subst, ◌∙◌, arith, get_or-set_same, length-append}
+use Rattle.std.proofs.Common.{◌≡◌, ℕ, zero, suc, ◌+◌, ◌-◌, ◌%◌, ◌^◌, ◌<◌, ◌≤◌, Bool, true, List, [], ◌∷◌, length, Ok, refl, sym, ap, subst, ◌∙◌, arith, get_or-set_same, length-append}
 use Rattle.std.proofs.lemmas.List.{set-set}
 use Rattle.seh_num.specs.declared.width.Width.TheVariants.{W64}
 use Rattle.seh_num.specs.Widths.{low}
-use Rattle.flat_memory.specs.declared.protection.Protection.{Protection}
-use Rattle.flat_memory.specs.Protections.{is_writable}
-use Rattle.flat_memory.specs.Memory.{Memory, may_read, may_write}
+use Rattle.flat_memory.specs.Memory.{Memory, may_read}
 use Rattle.x64_instr.specs.declared.register.Reg.TheVariants.{Rax, Rsp}
 use Rattle.x64_instr.specs.declared.operand.RegisterOrMemory.TheVariants as places
 use Rattle.x64_instr.specs.declared.operand.Operand.TheVariants as operands
@@ -15,20 +13,19 @@ use Rattle.x64_machine.specs.declared.cpu.Flags.{Flags}
 use Rattle.x64_machine.specs.Words.{added, subtracted}
 use Rattle.seh_num.specs.Answers.{◌>>=◌}
 use Rattle.x64_machine.specs.Effect.{State, Answer, with_rip, load, effect}
-use Rattle.x64_templates.proofs.PlacedCode.{all_may, same_number, load_at, reaches_then}
+use Rattle.x64_templates.proofs.PlacedCode.{all_may, load_at, reaches_then}
 use Rattle.linear_code.specs.declared.slot.Slot.{Slot}
-use Rattle.linear_code.specs.declared.slot.Slot.TheVariants.{Local, Temporary}
 use Rattle.linear_code.specs.BodyState.{BodyState, Counts, with_slot}
 use Rattle.template_code.specs.declared.layout.Layout.{Layout}
 use Rattle.x64_templates.specs.Straight.{MachineView, machine}
 use Rattle.template_code.specs.Bytes.{size, sizes}
 use Rattle.template_code.specs.Slots.{fetch, keep}
-use Rattle.x64_templates.specs.Frames.{slot_at, HasBase, SlotsHaveRoom, MemoryKeepsBase, KeepsReserved, Agrees, HoldsBody}
+use Rattle.x64_templates.specs.Frames.{SlotsHaveRoom}
 use Rattle.template_code.specs.Calls.{enter_code, epilogue, return_code}
 use Rattle.x64_templates.specs.CallStates.{sp_of, HasBack, moved}
 use Rattle.x64_templates.specs.Runs.{Enters, Reaches, HasCode, FramePlace, Roomy, FrameHolds, IsThere, ReachesBody}
 use Rattle.x64_templates.proofs.Straight.{executes_nothing}
-use Rattle.x64_templates.proofs.Cells.{put, slot_high, slot_bytes, fetch_does}
+use Rattle.x64_templates.proofs.Cells.{put, fetch_does}
 use Rattle.x64_templates.proofs.Encoded.{fetch_fine, near}
 use Rattle.x64_templates.proofs.Computes.{code_split, runs_view, leads_kept}
 use Rattle.x64_templates.proofs.Jumps.{one_reaches, one_enters}
@@ -36,50 +33,12 @@ use Rattle.x64_templates.specs.Returned.{Returned}
 
 -- ---- what lies above RSP, but for the source's memory, outlasts whatever runs below
 
-mode_write : (m m' : Memory) (a : ℕ) → m'.protection a ≡ m.protection a
-    → may_write m' a ≡ may_write m a
-mode_write m m' a e = ap (λ (x : Protection). is_writable x.rights) e
-
 pub record Outlasts (reserved : ℕ → Bool) (sp : ℕ) (m m' : Memory) : Type 0 where
   pub byte : (a : ℕ) → reserved a ≡ true → sp ≤ a → m'.byte a ≡ m.byte a
   pub protection : (a : ℕ) → reserved a ≡ true → m'.protection a ≡ m.protection a
 
 module _ (y : Layout) (n : Counts) (reserved : ℕ → Bool) (sp base : ℕ)
     (room : SlotsHaveRoom y n sp base) where
-  base_above : (o : Option ℕ) → HasBase y o sp base → sp ≤ base + y.locals
-  base_above None has = let e : base ≡ sp = has in omega arith
-  base_above (Some b) has = let a = has.1 in omega arith
-
-  slot_above : (x : Slot) → sp ≤ slot_at y sp base x
-  slot_above (Temporary i) = omega arith
-  slot_above (Local i) = let a = base_above y.base room.kept_base in omega arith
-
-  base_through : (m m' : Memory) (o : Option ℕ) → Outlasts reserved sp m m' → HasBase y o sp base
-      → KeepsReserved o sp reserved → MemoryKeepsBase o sp base m → MemoryKeepsBase o sp base m'
-  base_through m m' None out has own keeps = tt
-  base_through m m' (Some k) out has own keeps =
-      let a = has.0 in let t = room.temporaries in let hi = room.high in (
-        same_number m'.byte m.byte 8 (sp + k) (omega arith)
-            (λ x p q. out.byte x (own x p (omega arith)) (omega arith))
-            ∙ keeps.0,
-        λ x p q. mode_write m m' x (out.protection x (own x p q)) ∙ keeps.1 x p q,
-      )
-
-  pub holds_through : (m m' source : Memory) (b : BodyState) → Outlasts reserved sp m m'
-      → Agrees reserved m' source → HoldsBody y n reserved sp base m b
-      → HoldsBody y n reserved sp base m' (record { slots = b.slots; memory = source })
-  holds_through m m' source b out agrees h = record {
-    slot = λ z iz. let up = slot_above z in same_number m'.byte m.byte 8 (slot_at y sp base z)
-        (slot_high y n reserved sp base room z iz)
-        (λ a p q. out.byte a (h.own a (slot_bytes y n reserved sp base room z a iz p q))
-        (omega arith)) ∙ h.slot z iz;
-    small = h.small;
-    kept_base = base_through m m' y.base out room.kept_base h.own_base h.kept_base;
-    writable = λ a is. mode_write m m' a (out.protection a (h.own a is)) ∙ h.writable a is;
-    own = h.own;
-    own_base = h.own_base;
-    source = agrees;
-  }
 
 -- ---- after a call: RAX goes to its slot
 

@@ -46,11 +46,6 @@ pub record IsFunctionFrame (p : FramePlace) : Type 0 where
   pub temporaries : p.layout.temporaries + 8 * p.counts.temporaries ≤ p.layout.frame
   pub locals : p.layout.locals + 8 * p.counts.locals ≤ p.layout.frame
 
--- the locals of one body and the temporaries of another
-abbrev pub joined : (Slot → ℕ) → (Slot → ℕ) → Slot → ℕ
-joined locals temporaries (Local i) = locals (Local i)
-joined locals temporaries (Temporary i) = temporaries (Temporary i)
-
 -- the body whose slots hold what memory has at their places
 abbrev pub body_in_memory : Layout → ℕ → ℕ → Memory → Memory → BodyState
 body_in_memory y sp base m source =
