@@ -45,14 +45,10 @@ module _ (old new : ℕ → Option Page) (k : ℕ) (p : Page)
   unfolding paged
   page_changed = λ i. record { protection = λ a. modes a i; byte = λ a. bytes a i }
 
-  ]
-
   pub has_kept : (o : Page) → old k ≡ Some o → (a : ℕ) → has_page new a ≡ has_page old a
   has_kept o had a = elim (cases_eq (a / 4096) k) [
     | inl e ↦ ap is_some (at_page (a / 4096) e) ∙ sym (ap is_some (ap old e ∙ had))
     | inr n ↦ ap is_some (off_page (a / 4096) n)
-  ]
-
   ]
 
 -- ---- a number put into a page

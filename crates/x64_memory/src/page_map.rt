@@ -8,7 +8,7 @@ ghost use Rattle.x64_memory.specs.Stretches.{AreOrdered, AreOrdered-prop, count_
 use crate::page::Page;
 use crate::paged::{self, Paged};
 use crate::region::Region;
-use crate::space::AddressSpace;
+use crate::space::{AddressSpace, CodeSpace, ReadSpace};
 use crate::stretch::{self, Stretch};
 use flat_memory::access::RefusedAccess;
 use flat_memory::protection::{Protection, Rights, UNMAPPED};
@@ -217,23 +217,27 @@ impl Paged for PageMap {
     }
 }
 
-impl AddressSpace for PageMap {
+impl CodeSpace for PageMap {
     ghost memory = { λ s. paged (page_numbered s.stretches.items s.pages.items) };
 
+    fn fetch(&self, at: u64, into: &mut [u8; LONGEST_INSTRUCTION]) -> usize {
+        paged::fetch(self, at, into)
+    }
+}
+
+impl ReadSpace for PageMap {
     fn load(&self, at: u64, width: Width) -> Result<u64, RefusedAccess> {
         paged::load(self, at, width)
     }
+}
 
+impl AddressSpace for PageMap {
     fn may_store(&self, at: u64, width: Width) -> Result<(), RefusedAccess> {
         paged::may_store(self, at, width)
     }
 
     fn store(&mut self, at: u64, width: Width, value: u64) -> Result<(), RefusedAccess> {
         paged::store(self, at, width, value)
-    }
-
-    fn fetch(&self, at: u64, into: &mut [u8; LONGEST_INSTRUCTION]) -> usize {
-        paged::fetch(self, at, into)
     }
 
     fn protect(&mut self, at: u64, protection: i32) -> bool {

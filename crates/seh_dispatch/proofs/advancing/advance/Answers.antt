@@ -11,17 +11,17 @@ use Rattle.seh_dispatch.proofs.advancing.advance.Goals as goal
 
 pub returns-in-Ends-clause-host : goal.returns-in-Ends-clause-host
 returns-in-Ends-clause-host g c =
-    let s = state c.args.cpu.now (g.S.AddressSpace.memory c.args.space.now) in
+    let s = state c.args.cpu.now (g.S.CodeSpace.memory c.args.space.now) in
     sym (ap after (ends_turn (functions_of c.args.tables.now) c.args.funclets.now s
-    c.make-made.new.cpu (g.S.AddressSpace.memory c.make-made.new.space) c.make-made.result
+    c.make-made.new.cpu (g.S.CodeSpace.memory c.make-made.new.space) c.make-made.result
     c.in-Ends.end c.make-made.ensures c.in-Ends.is))
 
 pub returns-in-Ends-clause-shown : goal.returns-in-Ends-clause-shown
 returns-in-Ends-clause-shown g c =
-    let s = state c.args.cpu.now (g.S.AddressSpace.memory c.args.space.now) in
+    let s = state c.args.cpu.now (g.S.CodeSpace.memory c.args.space.now) in
     let made = c.make-made.result in
     let turned = ends_turn (functions_of c.args.tables.now) c.args.funclets.now s
-    c.make-made.new.cpu (g.S.AddressSpace.memory c.make-made.new.space) made c.in-Ends.end
+    c.make-made.new.cpu (g.S.CodeSpace.memory c.make-made.new.space) made c.in-Ends.end
     c.make-made.ensures c.in-Ends.is in
     subst (λ es. g.V.Events.took c.args.to.now es c.tell-2.new.to)
     (ap (λ es. listed made.first ++ es) (sym (append-nil (listed made.rest.first)))
@@ -31,9 +31,9 @@ returns-in-Ends-clause-shown g c =
 
 pub returns-in-Continues-clause-host : goal.returns-in-Continues-clause-host
 returns-in-Continues-clause-host g c =
-    let s = state c.args.cpu.now (g.S.AddressSpace.memory c.args.space.now) in
+    let s = state c.args.cpu.now (g.S.CodeSpace.memory c.args.space.now) in
     let cpu = c.make-made.new.cpu in
-    let m = g.S.AddressSpace.memory c.make-made.new.space in
+    let m = g.S.CodeSpace.memory c.make-made.new.space in
     ap (left cpu m) c.over.ensures
     ∙ left_over cpu m
     ∙ sym (ap after (goes_turn (functions_of c.args.tables.now) c.args.funclets.now s cpu m
@@ -41,7 +41,7 @@ returns-in-Continues-clause-host g c =
 
 pub returns-in-Continues-clause-shown : goal.returns-in-Continues-clause-shown
 returns-in-Continues-clause-shown g c =
-    let s = state c.args.cpu.now (g.S.AddressSpace.memory c.args.space.now) in
+    let s = state c.args.cpu.now (g.S.CodeSpace.memory c.args.space.now) in
     let cpu = c.make-made.new.cpu in
     let made = c.make-made.result in
     let fs = c.args.funclets.now in
@@ -50,7 +50,7 @@ returns-in-Continues-clause-shown g c =
     let event = listed c.in-Continues.event in
     let more = g.met.V.Events.more in
     let turned = goes_turn (functions_of c.args.tables.now) fs s cpu
-    (g.S.AddressSpace.memory c.make-made.new.space) made c.in-Continues.event c.make-made.ensures
+    (g.S.CodeSpace.memory c.make-made.new.space) made c.in-Continues.event c.make-made.ensures
     c.in-Continues.is in
     let arrived = c.arrival-arrived.ensures ∙ ap (λ (b : ℕ). arrivals cpu (distance b cpu.rip) 1 fs)
     c.base.ensures in

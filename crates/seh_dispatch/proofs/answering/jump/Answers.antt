@@ -9,6 +9,6 @@ pub returns-else-row-eq0 : goal.returns-else-row-eq0
 returns-else-row-eq0 g c =
     let t = functions_of c.args.tables.now in
     c.accept.ensures ∙ sym (jumping_to t (state c.args.cpu.now
-    (g.S.AddressSpace.memory c.args.space.now)) c.args.at c.args.dispatch.now c.in-Some.row
+    (g.S.CodeSpace.memory c.args.space.now)) c.args.at c.args.dispatch.now c.in-Some.row
     (asked_row t c.args.dispatch.now) c.base.result c.in-Some.ensures c.if-row-eq0.false
     c.base.ensures)

@@ -9,10 +9,10 @@ use Rattle.seh_dispatch.proofs.answering.search_again.Goals as goal
 pub returns-in-Ok : goal.returns-in-Ok
 returns-in-Ok g c =
     let t = functions_of c.args.tables.now in
-    let m = g.S.AddressSpace.memory c.args.space.now in
+    let m = g.S.CodeSpace.memory c.args.space.now in
     let a = c.again-new.result in
     c.search_on.ensures
-    ∙ sym (rewritten c.args.cpu.now m (g.S.AddressSpace.memory c.rewrite.new.space) c.args.at a
+    ∙ sym (rewritten c.args.cpu.now m (g.S.CodeSpace.memory c.rewrite.new.space) c.args.at a
     (λ u. searches_on t u c.args.at a) c.in-Ok.ensures.answer c.in-Ok.ensures.after)
     ∙ ap (λ (r : DispatchRecord). after_placing (state c.args.cpu.now m) c.args.at r
     (λ u. searches_on t u c.args.at r)) c.again-new.ensures

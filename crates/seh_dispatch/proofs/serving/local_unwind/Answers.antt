@@ -10,7 +10,7 @@ pub returns-in-Some : goal.returns-in-Some
 returns-in-Some g c =
     let t = functions_of c.args.tables.now in
     let cpu = c.args.cpu.now in
-    let m = g.S.AddressSpace.memory c.args.space.now in
+    let m = g.S.CodeSpace.memory c.args.space.now in
     let s = state cpu m in
     c.unwind_locally.ensures
     ∙ ap (λ (f : ℕ). unwound_locally t s f c.register-target.result c.in-Some.after)

@@ -8,10 +8,10 @@ use Rattle.seh_dispatch.proofs.serving.make.Goals as goal
 pub returns-in-Fault : goal.returns-in-Fault
 returns-in-Fault g c =
     let t = functions_of c.args.tables.now in
-    let m = g.S.AddressSpace.memory c.args.space.now in
-    made_later c.raised-rest.new.cpu (g.S.AddressSpace.memory c.raised-rest.new.space)
+    let m = g.S.CodeSpace.memory c.args.space.now in
+    made_later c.raised-rest.new.cpu (g.S.CodeSpace.memory c.raised-rest.new.space)
     c.raised-rest.result _
     (c.raised-rest.ensures ∙ fault_turned t c.args.cpu.now c.step.new.cpu m
-    (g.S.AddressSpace.memory c.step.new.space) c.in-Fault.code c.in-Fault.access
+    (g.S.CodeSpace.memory c.step.new.space) c.in-Fault.code c.in-Fault.access
     (step (state c.args.cpu.now m)) c.in-Fault.ensures.answer c.step.ensures.cpu
     c.step.ensures.memory)

@@ -6,7 +6,7 @@ use Rattle.seh_records.proofs.fetching.words.Goals as goal
 
 pub loop-i-preserved : goal.loop-i-preserved
 loop-i-preserved g c =
-    let m = g.S.AddressSpace.memory c.args.space.now in
+    let m = g.S.CodeSpace.memory c.args.space.now in
     let n = length c.args.into.now in
     let i = c.loop-i.i in
     let here = c.loop-i.here in
@@ -26,7 +26,7 @@ loop-i-preserved g c =
 
 pub returns : goal.returns
 returns g c =
-    let m = g.S.AddressSpace.memory c.args.space.now in
+    let m = g.S.CodeSpace.memory c.args.space.now in
     let n = length c.args.into.now in
     let all : take c.loop-i.i c.loop-i.into ≡ c.loop-i.into = take_all c.loop-i.i c.loop-i.into
     (omega arith) in

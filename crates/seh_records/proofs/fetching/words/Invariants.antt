@@ -4,7 +4,7 @@ use Rattle.seh_records.proofs.fetching.words.Given as goal
 
 abbrev pub invariant-loop-i : goal.invariant-loop-i
 invariant-loop-i g l =
-    let m = g.S.AddressSpace.memory l.space in
+    let m = g.S.CodeSpace.memory l.space in
     let n = length l.fn.into in
     record {
       same : length l.into ≡ n;

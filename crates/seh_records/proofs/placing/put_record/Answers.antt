@@ -11,14 +11,14 @@ pub put_words-requires : goal.put_words-requires
 put_words-requires g c =
     let n : length c.deref.result.now ≡ 192 = omega
     (arith, ap length c.deref.ensures.0, c.words_of.ensures.len) in
-    ap (λ n. first_refused (may_write (g.S.AddressSpace.memory c.args.space.now)) (8 * n)
-    ((c.args.at + 32) % 2 ^ 64)) n ∙ writable_words (g.S.AddressSpace.memory c.args.space.now)
+    ap (λ n. first_refused (may_write (g.S.CodeSpace.memory c.args.space.now)) (8 * n)
+    ((c.args.at + 32) % 2 ^ 64)) n ∙ writable_words (g.S.CodeSpace.memory c.args.space.now)
     c.args.at (omega arith) c.requires
 
 pub returns : goal.returns
 unfolding placed
 returns g c =
-    let m = g.S.AddressSpace.memory c.args.space.now in
+    let m = g.S.CodeSpace.memory c.args.space.now in
     let e : c.deref.result.now ≡ spec.words c.args.at c.args.dispatch.now = cc in
     let n : 192 ≡ length (spec.words c.args.at c.args.dispatch.now) = omega
     (arith, ap length c.words_of.ensures.value, c.words_of.ensures.len) in

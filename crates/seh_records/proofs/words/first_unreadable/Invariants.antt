@@ -4,5 +4,5 @@ use Rattle.seh_records.proofs.words.first_unreadable.Given as goal
 
 abbrev pub invariant-loop-i : goal.invariant-loop-i
 invariant-loop-i g l =
-    let may = may_read (g.S.AddressSpace.memory l.space) in
+    let may = may_read (g.S.CodeSpace.memory l.space) in
     first_refused may (8 * (l.count - l._i)) l.here ≡ first_refused may (8 * l.count) l.at

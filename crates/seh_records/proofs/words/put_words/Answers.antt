@@ -8,8 +8,8 @@ use Rattle.seh_records.proofs.words.put_words.Goals as goal
 
 pub loop-word-preserved : goal.loop-word-preserved
 loop-word-preserved g c =
-    let m = g.S.AddressSpace.memory c.loop-word.space in
-    let new = g.S.AddressSpace.memory c.store.new.self in
+    let m = g.S.CodeSpace.memory c.loop-word.space in
+    let new = g.S.CodeSpace.memory c.store.new.self in
     let i = c.loop-word.word-index in
     let here = c.loop-word.here in
     let left = length c.args.words.now - (i + 1) in
@@ -31,8 +31,8 @@ loop-word-preserved g c =
 
 pub returns : goal.returns
 returns g c =
-    let m = g.S.AddressSpace.memory c.loop-word.space in
-    let old = g.S.AddressSpace.memory c.args.space.now in
+    let m = g.S.CodeSpace.memory c.loop-word.space in
+    let old = g.S.CodeSpace.memory c.args.space.now in
     let b : m.byte ≡ with_words old.byte c.args.at c.args.words.now = sym
     (with_words-none m.byte c.loop-word.here c.loop-word.word-index c.args.words.now
     (omega arith)) ∙ c.loop-word.invariant.bytes in

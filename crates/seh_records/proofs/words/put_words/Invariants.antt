@@ -5,8 +5,8 @@ use Rattle.seh_records.proofs.words.put_words.Given as goal
 
 abbrev pub invariant-loop-word : goal.invariant-loop-word
 invariant-loop-word g l =
-    let m = g.S.AddressSpace.memory l.space in
-    let old = g.S.AddressSpace.memory l.fn.space in
+    let m = g.S.CodeSpace.memory l.space in
+    let old = g.S.CodeSpace.memory l.fn.space in
     record {
       modes : m.protection ≡ old.protection;
       may : first_refused (may_write m) (8 * (length l.words - l.word-index)) l.here ≡ None;

@@ -9,14 +9,14 @@ use Rattle.virtual_unwind.proofs.tail.epilogue.Goals as goal
 pub returns-in-None : goal.returns-in-None
 unfolding tail_at
 returns-in-None g c =
-    let m = g.S.AddressSpace.memory c.args.space.now in
+    let m = g.S.CodeSpace.memory c.args.space.now in
     sym (none-here m c.loop-i.answer (0xFFFF_FFFF_FFFF_FFFF - c.loop-i._i) c.args.register
     c.loop-i.here c.loop-i.first (sym c.in-None.ensures)) ∙ c.loop-i.invariant
 
 pub returns-then-is_last : goal.returns-then-is_last
 unfolding tail_at
 returns-then-is_last g c =
-    let m = g.S.AddressSpace.memory c.args.space.now in
+    let m = g.S.CodeSpace.memory c.args.space.now in
     let e : part c.args.register c.loop-i.first m c.loop-i.here
     ≡ Some (c.in-Some.instr, c.in-Some.len, true) = sym c.in-Some.ensures
     ∙ ap (λ (b : Bool). Some (c.in-Some.instr, c.in-Some.len, b)) c.if-is_last.true in
@@ -27,7 +27,7 @@ returns-then-is_last g c =
 
 pub loop-i-preserved : goal.loop-i-preserved
 loop-i-preserved g c =
-    let m = g.S.AddressSpace.memory c.args.space.now in
+    let m = g.S.CodeSpace.memory c.args.space.now in
     let j = 0xFFFF_FFFF_FFFF_FFFF - (c.loop-i._i + 1) in
     let e : part c.args.register c.loop-i.first m c.loop-i.here
     ≡ Some (c.in-Some.instr, c.in-Some.len, false) = sym c.in-Some.ensures
@@ -41,6 +41,6 @@ loop-i-preserved g c =
 pub returns : goal.returns
 unfolding tail_at
 returns g c =
-    let m = g.S.AddressSpace.memory c.args.space.now in
+    let m = g.S.CodeSpace.memory c.args.space.now in
     sym (no-fuel m c.loop-i.answer (0xFFFF_FFFF_FFFF_FFFF - c.loop-i._i) c.args.register
     c.loop-i.here c.loop-i.first (omega arith)) ∙ c.loop-i.invariant

@@ -5,7 +5,7 @@ use Rattle.virtual_unwind.proofs.undo.undone.Given as goal
 
 abbrev pub invariant-loop-code : goal.invariant-loop-code
 invariant-loop-code g l =
-    let m = g.S.AddressSpace.memory l.space in
+    let m = g.S.CodeSpace.memory l.space in
     record {
       can : (goal.iterator-loop-code g).can_next l.code-iterator;
       ends : (goal.iterator-loop-code g).is_finite l.code-iterator;
