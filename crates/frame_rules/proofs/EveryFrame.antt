@@ -110,7 +110,7 @@ module _ (f : FramedFunction) (e : State) (right : IsRight f) (entry : IsEntry (
 
     -- ---- past it
 
-    past : (s : State) (d : ℕ) (o : Option (List Instr)) → f.info.prologue_size ≤ d
+    pub past : (s : State) (d : ℕ) (o : Option (List Instr)) → f.info.prologue_size ≤ d
         → tail_at fr s.memory s.cpu.rip ≡ o → FindsContext
         (past_prologue s.memory f.info [] (context_of s.cpu) o) (left_to old back) (registers s 4)
         → FindsContext (in_entry s.memory f.info [] (context_of s.cpu) d) (left_to old back)
@@ -123,7 +123,7 @@ module _ (f : FramedFunction) (e : State) (right : IsRight f) (entry : IsEntry (
         (sym t) h)
 
     -- all codes undone
-    whole : (s : State) → HoldsFrame fr off s.memory old back (registers s) (ops f) (ops f)
+    pub whole : (s : State) → HoldsFrame fr off s.memory old back (registers s) (ops f) (ops f)
         → FindsContext (past_prologue s.memory f.info [] (context_of s.cpu) None) (left_to old back)
         (registers s 4)
     whole s h = based f.info old back s (ops f) (has_frame f.info) (Some f.info) right.offset
@@ -144,7 +144,7 @@ module _ (f : FramedFunction) (e : State) (right : IsRight f) (entry : IsEntry (
         (let z : begin + bytes (items f.steps) + bytes done
         ≡ begin + (f.info.prologue_size + bytes done) = omega arith in z) b
 
-    no_tail_at : (s : State) (to : ℕ) (x : FetchedInstr) (xs : List FetchedInstr)
+    pub no_tail_at : (s : State) (to : ℕ) (x : FetchedInstr) (xs : List FetchedInstr)
         → HasItems s.memory s.cpu.rip (x ∷ xs) to → role_of fr x.plain x.instr ≡ Other
         → tail_at fr s.memory s.cpu.rip ≡ None
     unfolding tail_at
@@ -189,7 +189,7 @@ module _ (f : FramedFunction) (e : State) (right : IsRight f) (entry : IsEntry (
         (framed_context fr off (registers s 4) s (ops f) right.allowed h.holds.framed)
         (others_context old s (pushed (pushes (ops f))) o) p) (omega arith)
 
-    by_mode : (s : State) (d to : ℕ) (m : Mode) (ys : List FetchedInstr) → ys ≢ []
+    pub by_mode : (s : State) (d to : ℕ) (m : Mode) (ys : List FetchedInstr) → ys ≢ []
         → f.info.prologue_size ≤ d → to < 2 ^ 63 → HasItems s.memory s.cpu.rip ys to
         → is_body (following fr off (ops f) ys m) ≡ true → Has fr off old back (ops f) s m
         → FindsContext (in_entry s.memory f.info [] (context_of s.cpu) d) (left_to old back)

@@ -1,4 +1,4 @@
-//! The trailing parts of a legal epilogue.
+//! The trailing parts of a legal epilogue (Microsoft x64 ABI, "Prolog and epilog").
 
 ghost use Rattle.std.specs.Prelude.{◌≡◌, Ok, slice_index};
 ghost use Rattle.seh_num.specs.Answers as answers;
@@ -16,7 +16,7 @@ use x64_instr::instruction::{Instr, Operation, Target};
 use x64_instr::operand::{Base, Index, Operand, RegisterOrMemory};
 use x64_instr::register::Reg;
 use x64_machine::context::Context;
-use x64_memory::space::AddressSpace;
+use x64_memory::space::{CodeSpace, ReadSpace};
 
 /// What an instruction is to an epilogue.
 #[derive(Clone, Copy, Debug, PartialEq, Eq)]
@@ -47,7 +47,10 @@ fn modrm(bytes: &[u8]) -> u8
     }
 }
 
-fn is_plain(bytes: &[u8], len: usize, instr: &Instr) -> bool
+/// Whether an instruction, which is the first `len` of these bytes, is spelled as an epilogue may
+/// end: `jmp` through memory with 00 in the mod field of its ModRM byte, or one byte, as `ret` with
+/// no prefix (Microsoft x64 ABI, "Prolog and epilog").
+pub fn is_plain(bytes: &[u8], len: usize, instr: &Instr) -> bool
     ensures { result ≡ spec.is_plain bytes.now len instr.now }
 {
     match instr {
@@ -83,7 +86,11 @@ fn ending(is: bool) -> Role
     if is { Role::Ends } else { Role::Other }
 }
 
-fn role_of(register: u8, plain: bool, instr: &Instr) -> Role
+/// What an instruction is to an epilogue (Microsoft x64 ABI, "Prolog and epilog"): `add
+/// rsp,constant` and `lea rsp,[frame register + constant]` open it, pops of 8 bytes restore, `ret`
+/// and `jmp` through memory end it, where `plain` says that they are spelled so. `register` is the
+/// number of the frame register, 0 where there is none.
+pub fn role_of(register: u8, plain: bool, instr: &Instr) -> Role
     ensures { result ≡ spec.role_of register plain instr.now }
 {
     match instr {
@@ -129,8 +136,12 @@ fn part_of(
     }
 }
 
+/// The part of an epilogue at an address, as the machine fetches it: its instruction, its length in
+/// bytes, and whether it ends the epilogue. None where no instruction is there, or one that belongs
+/// to no epilogue, or a rise of RSP that isn't `first`. `register` is the number of the frame
+/// register, 0 where there is none.
 #[tactic(auto, unfolding(crate::specs::Tail::fetched_at))]
-fn part<S: AddressSpace>(
+pub fn part<S: CodeSpace>(
     space: &S,
     register: u8,
     first: bool,
@@ -169,11 +180,7 @@ fn constant(operand: Operand) -> u64
     }
 }
 
-fn left_by<S: AddressSpace>(
-    space: &S,
-    instr: &Instr,
-    context: &Context,
-) -> Result<Context, UnwindErr>
+fn left_by<S: ReadSpace>(space: &S, instr: &Instr, context: &Context) -> Result<Context, UnwindErr>
     ensures { result ≡ spec.left_by (S.memory space.now) instr.now context.now }
 {
     match instr {
@@ -190,7 +197,7 @@ fn left_by<S: AddressSpace>(
     }
 }
 
-fn then_left_by<S: AddressSpace>(
+fn then_left_by<S: ReadSpace>(
     space: &S,
     instr: &Instr,
     answer: Result<Context, UnwindErr>,
@@ -205,7 +212,7 @@ fn then_left_by<S: AddressSpace>(
 
 /// What the rest of an epilogue makes of a context, where one begins at an address.
 #[tactic(auto, unfolding(crate::specs::Tail::tail_at))]
-pub fn epilogue<S: AddressSpace>(
+pub fn epilogue<S: ReadSpace>(
     space: &S,
     register: u8,
     at: u64,

@@ -10,7 +10,7 @@ use crate::refusal::UnwindErr;
 use crate::word::word;
 use eh_tables::{Codes, Info, UnwindOperation};
 use x64_machine::context::Context;
-use x64_memory::space::AddressSpace;
+use x64_memory::space::ReadSpace;
 
 /// A context on the way, and whether RIP is the caller's already.
 #[derive(Clone, Copy, Debug, PartialEq, Eq)]
@@ -29,7 +29,7 @@ pub fn below_frame(info: &Info, context: &Context) -> u64
 }
 
 /// One code undone.
-fn undone_one<S: AddressSpace>(
+fn undone_one<S: ReadSpace>(
     space: &S,
     base: u64,
     info: &Info,
@@ -71,7 +71,7 @@ fn undone_one<S: AddressSpace>(
 }
 
 /// Codes undone, the first one first.
-pub fn undone<S: AddressSpace>(
+pub fn undone<S: ReadSpace>(
     space: &S,
     base: u64,
     info: &Info,
@@ -89,7 +89,7 @@ pub fn undone<S: AddressSpace>(
 }
 
 /// The codes undone of the instructions that have been run at a distance from the begin.
-pub fn undone_by<S: AddressSpace>(
+pub fn undone_by<S: ReadSpace>(
     space: &S,
     base: u64,
     info: &Info,
@@ -146,7 +146,7 @@ pub fn sets_frame_by(distance: u64, codes: Codes) -> bool
 }
 
 /// The parents' codes whole, from the same base.
-pub fn all_undone<S: AddressSpace>(
+pub fn all_undone<S: ReadSpace>(
     space: &S,
     base: u64,
     parents: &[Info],

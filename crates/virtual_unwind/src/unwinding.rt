@@ -1,7 +1,7 @@
 //! The caller of a frame.
 
 ghost use Rattle.std.specs.Prelude.{◌≡◌, option_map};
-ghost use Rattle.eh_tables.specs.Tables.{TablesAreWhole};
+ghost use Rattle.eh_tables.specs.Tables.{TablesAreWhole, entries_of};
 ghost use Rattle.virtual_unwind.specs.CallerOf as spec;
 ghost use Rattle.virtual_unwind.specs.Shown.{shown, raised_caller};
 ghost use Rattle.virtual_unwind.specs.Undone as undone;
@@ -15,9 +15,9 @@ use crate::undo::{Undo, all_undone, below_frame, sets_frame_by, undone, undone_b
 use crate::word::pop;
 use eh_tables::{Entry, Info, Tables};
 use x64_machine::context::Context;
-use x64_memory::space::AddressSpace;
+use x64_memory::space::ReadSpace;
 
-fn returned<S: AddressSpace>(space: &S, undo: Undo) -> Result<Context, UnwindErr>
+fn returned<S: ReadSpace>(space: &S, undo: Undo) -> Result<Context, UnwindErr>
     ensures { result ≡ undone.returned (S.memory space.now) (undo_of undo) }
 {
     if undo.is_returned {
@@ -37,7 +37,7 @@ fn base_if(info: &Info, context: &Context, is_set: bool) -> u64
     }
 }
 
-fn unwound<S: AddressSpace>(
+fn unwound<S: ReadSpace>(
     space: &S,
     base: u64,
     info: &Info,
@@ -56,7 +56,7 @@ fn unwound<S: AddressSpace>(
     returned(space, all)
 }
 
-fn unwound_by<S: AddressSpace>(
+fn unwound_by<S: ReadSpace>(
     space: &S,
     base: u64,
     info: &Info,
@@ -76,7 +76,7 @@ fn unwound_by<S: AddressSpace>(
     returned(space, all)
 }
 
-fn leaf<S: AddressSpace>(space: &S, context: &Context) -> Result<Caller, UnwindErr>
+fn leaf<S: ReadSpace>(space: &S, context: &Context) -> Result<Caller, UnwindErr>
     ensures { result ≡ shown (spec.leaf (S.memory space.now) context.now) }
 {
     match pop(space, context) {
@@ -90,7 +90,7 @@ fn leaf<S: AddressSpace>(space: &S, context: &Context) -> Result<Caller, UnwindE
     }
 }
 
-fn in_prologue<S: AddressSpace>(
+fn in_prologue<S: ReadSpace>(
     space: &S,
     info: &Info,
     parents: &[Info],
@@ -113,7 +113,7 @@ fn in_prologue<S: AddressSpace>(
     }
 }
 
-fn in_body<S: AddressSpace>(
+fn in_body<S: ReadSpace>(
     space: &S,
     info: &Info,
     parents: &[Info],
@@ -134,7 +134,7 @@ fn in_body<S: AddressSpace>(
 }
 
 #[tactic(auto, using(crate::proofs::Past::in_tail, crate::proofs::Past::no_tail))]
-fn past_prologue<S: AddressSpace>(
+fn past_prologue<S: ReadSpace>(
     space: &S,
     info: &Info,
     parents: &[Info],
@@ -154,7 +154,7 @@ fn past_prologue<S: AddressSpace>(
     }
 }
 
-fn in_entry<S: AddressSpace>(
+fn in_entry<S: ReadSpace>(
     space: &S,
     info: &Info,
     parents: &[Info],
@@ -171,7 +171,7 @@ fn in_entry<S: AddressSpace>(
     }
 }
 
-fn of_entry<S: AddressSpace>(
+fn of_entry<S: ReadSpace>(
     space: &S,
     entry: Option<&Entry>,
     rva: u64,
@@ -201,11 +201,28 @@ fn rising(context: &Context, answer: Result<Caller, UnwindErr>) -> Result<Caller
     }
 }
 
-/// The caller of the frame of a context. `Unreadable` is answered exactly where a word of the stack
-/// that is needed may not be read, with the first one's address; else `Backward` exactly where RSP
-/// wouldn't rise.
-#[tactic(auto, using(crate::proofs::Past::risen_shown), unfolding(crate::specs::CallerOf::caller_of, crate::specs::CallerOf::caller_in))]
-pub fn caller<S: AddressSpace>(
+/// The caller of the frame of a context, in an image that lies at `base`. `Unreadable` is answered
+/// exactly where a word of the stack that is needed may not be read, with the first one's address;
+/// else `Backward` exactly where RSP wouldn't rise.
+#[tactic(auto, using(crate::proofs::Past::risen_shown), unfolding(crate::specs::CallerOf::caller_in))]
+pub fn caller_at<S: ReadSpace>(
+    tables: &Tables,
+    base: u64,
+    space: &S,
+    context: &Context,
+) -> Result<Caller, UnwindErr>
+    requires { TablesAreWhole tables.now }
+    ensures { result ≡ shown (spec.caller_in
+        (record { base = base; entries = entries_of tables.now }) (S.memory space.now) context.now) }
+{
+    let rva = context.rip.wrapping_sub(base);
+    let entry = tables.lookup(rva);
+    rising(context, of_entry(space, entry.as_ref(), rva, context))
+}
+
+/// The same, in an image that lies at its own base.
+#[tactic(auto, unfolding(crate::specs::CallerOf::caller_of))]
+pub fn caller<S: ReadSpace>(
     tables: &Tables,
     space: &S,
     context: &Context,
@@ -213,7 +230,5 @@ pub fn caller<S: AddressSpace>(
     requires { TablesAreWhole tables.now }
     ensures { result ≡ shown (spec.caller_of tables.now (S.memory space.now) context.now) }
 {
-    let rva = context.rip.wrapping_sub(tables.base());
-    let entry = tables.lookup(rva);
-    rising(context, of_entry(space, entry.as_ref(), rva, context))
+    caller_at(tables, tables.base(), space, context)
 }

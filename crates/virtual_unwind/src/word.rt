@@ -7,10 +7,10 @@ use crate::kept::{rsp, rsp_raised};
 use crate::refusal::UnwindErr;
 use seh_num::width::Width;
 use x64_machine::context::Context;
-use x64_memory::space::AddressSpace;
+use x64_memory::space::ReadSpace;
 
 /// A word of the stack.
-pub fn word<S: AddressSpace>(space: &S, at: u64) -> Result<u64, UnwindErr>
+pub fn word<S: ReadSpace>(space: &S, at: u64) -> Result<u64, UnwindErr>
     ensures { result ≡ spec.word (S.memory space.now) at }
 {
     match space.load(at, Width::W64) {
@@ -20,7 +20,7 @@ pub fn word<S: AddressSpace>(space: &S, at: u64) -> Result<u64, UnwindErr>
 }
 
 /// The return address popped.
-pub fn pop<S: AddressSpace>(space: &S, context: &Context) -> Result<Context, UnwindErr>
+pub fn pop<S: ReadSpace>(space: &S, context: &Context) -> Result<Context, UnwindErr>
     ensures { result ≡ spec.popped (S.memory space.now) context.now }
 {
     let mut after = *context;
