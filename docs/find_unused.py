@@ -11,7 +11,7 @@ import sys
 
 TOP = os.path.dirname(os.path.dirname(os.path.abspath(__file__)))
 OWN_SAKE = re.compile(
-    r"crates/worked_programs/|/(More|Source|Linear|Calm)?Rows\.antt$|/(Worked|Shown)\w*\.antt$"
+    r"crates/worked_programs/|/(More|Source|Linear|Calm)?Rows\.antt$|/(Worked|Shown|Example|Witnesses)\w*\.antt$"
 )
 USE = re.compile(
     r"\s*(pub )?(?:ghost )?use (Rattle\.[^\s{;]+?)(?:\.\{(.*?)\}| as (\w+))?;?\s*$"
