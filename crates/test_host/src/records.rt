@@ -14,7 +14,7 @@ use x64_machine::context::Context;
 use x64_machine::cpu::{Cpu, Flags};
 use x64_memory::page_map::PageMap;
 use x64_memory::region::Region;
-use x64_memory::space::AddressSpace;
+use x64_memory::space::{AddressSpace, ReadSpace};
 
 /// The arena, and two pages of the stack.
 const REGIONS: [Region; 2] = [

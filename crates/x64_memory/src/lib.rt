@@ -1,7 +1,7 @@
-//! The machine's memory: the trait that the machine asks of it, and memory in a table of pages.
+//! The machine's memory: the traits of what is asked of it, and memory in a table of pages.
 //!
 //! Proved: loading, storing, fetching and protecting are those of the definition of memory (crate
-//! flat_memory), with their refusals and addresses. Begin with `space`, the trait, then `paged`.
+//! flat_memory), with their refusals and addresses. Begin with `space`, the traits, then `paged`.
 #![tactic(auto)]
 
 pub mod page;
