@@ -10,11 +10,11 @@ ghost use Rattle.seh_dispatch.specs.FuncletLists.{AreAscending, listed};
 ghost use Rattle.seh_dispatch.specs.TurnEnds.{left};
 ghost use Rattle.seh_dispatch.specs.TurnEnds.{over_cpu};
 
+use crate::arrival::arrival;
 use crate::outcome::TurnOutcome;
 use crate::serving::make;
 use eh_tables::Tables;
 use host_model::funclet::Funclet;
-use seh_dispatch::arrival::arrival;
 use seh_io::receiver::Events;
 use seh_num::end::RunEnd;
 use seh_num::event::Event;

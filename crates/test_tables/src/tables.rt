@@ -1,7 +1,7 @@
 //! Images of two sections, unwind infos and a function table, whose bytes are given.
 
+use crate::words::number_of;
 use std::alloc::{AllocError, Global};
-use test_tables::words::number_of;
 
 /// Overwrites bytes from a place on.
 pub fn put(out: &mut Vec<u8>, at: usize, bytes: &[u8]) {
