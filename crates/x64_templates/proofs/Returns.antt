@@ -15,12 +15,10 @@ use Rattle.seh_num.specs.Answers.{◌>>=◌}
 use Rattle.x64_machine.specs.Effect.{State, Answer, with_rip, load, effect}
 use Rattle.x64_templates.proofs.PlacedCode.{all_may, load_at, reaches_then}
 use Rattle.linear_code.specs.declared.slot.Slot.{Slot}
-use Rattle.linear_code.specs.BodyState.{BodyState, Counts, with_slot}
-use Rattle.template_code.specs.declared.layout.Layout.{Layout}
+use Rattle.linear_code.specs.BodyState.{BodyState, with_slot}
 use Rattle.x64_templates.specs.Straight.{MachineView, machine}
 use Rattle.template_code.specs.Bytes.{size, sizes}
 use Rattle.template_code.specs.Slots.{fetch, keep}
-use Rattle.x64_templates.specs.Frames.{SlotsHaveRoom}
 use Rattle.template_code.specs.Calls.{enter_code, epilogue, return_code}
 use Rattle.x64_templates.specs.CallStates.{sp_of, HasBack, moved}
 use Rattle.x64_templates.specs.Runs.{Enters, Reaches, HasCode, FramePlace, Roomy, FrameHolds, IsThere, ReachesBody}
@@ -36,9 +34,6 @@ use Rattle.x64_templates.specs.Returned.{Returned}
 pub record Outlasts (reserved : ℕ → Bool) (sp : ℕ) (m m' : Memory) : Type 0 where
   pub byte : (a : ℕ) → reserved a ≡ true → sp ≤ a → m'.byte a ≡ m.byte a
   pub protection : (a : ℕ) → reserved a ≡ true → m'.protection a ≡ m.protection a
-
-module _ (y : Layout) (n : Counts) (reserved : ℕ → Bool) (sp base : ℕ)
-    (room : SlotsHaveRoom y n sp base) where
 
 -- ---- after a call: RAX goes to its slot
 
