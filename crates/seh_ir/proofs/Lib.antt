@@ -6,3 +6,4 @@ pub mod EveryStatement
 pub mod AnyStatement
 pub mod EveryInstruction
 pub mod EveryFunclet
+pub mod FuncletCounts
