@@ -1,21 +1,21 @@
 -- The function of each funclet has a region, and the locals that the funclet works on.
-use Rattle.std.proofs.Common.{◌≡◌, ℕ, zero, suc, ◌+◌, ◌-◌, ◌<◌, List, [], ◌∷◌, ◌++◌, length, map, None, Some, refl, ap, ◌∙◌, arith, length-append}
+use Rattle.std.proofs.Common.{◌≡◌, ℕ, zero, suc, ◌+◌, ◌-◌, ◌<◌, List, [], ◌∷◌, length, map, None, Some, refl, ap, ◌∙◌, arith, length-append}
 use Rattle.std.specs.List.{AllByRecursion}
 use Rattle.std.specs.Prelude.{slice_get}
 use Rattle.c_checked.specs.Program.{Function, Program}
-use Rattle.c_checked.specs.Statement.{Filter, Always, Funclet, Statement, Declare, Block, Evaluate, If, IfElse, For, DoWhile, Return, Break, Continue, Leave, TryExcept, TryFinally, Statements, Empty, Then}
+use Rattle.c_checked.specs.Statement.{Statement, Declare, Block, Evaluate, If, IfElse, For, DoWhile, Return, Break, Continue, Leave, TryExcept, TryFinally, Statements, Empty, Then}
 use Rattle.linear_code.specs.declared.program.RegionKind.TheVariants as kinds
 use Rattle.linear_code.specs.Program.{LinearFunction, LinearFunclet}
-use Rattle.lowering_sizes.specs.Sizes.{expression_size, discarded_size, condition_size, all_declared_size, statement_size, statements_size}
+use Rattle.lowering_sizes.specs.Sizes.{expression_size, discarded_size, condition_size, all_declared_size, statement_size, statements_size, statements_notes}
 use Rattle.seh_ir.specs.declared.funclets.Owner.{Owner}
 use Rattle.lowering_expressions.specs.declared.scope.Names.{Names}
-use Rattle.lowering_expressions.specs.Scope.{except_names, filter_names, finally_names}
 use Rattle.seh_ir.specs.Regions.{except_kind, region, statement_regions, statements_regions}
-use Rattle.seh_ir.specs.Funclets.{filter_funclets, in_funclet, statement_funclets, statements_funclets}
+use Rattle.seh_ir.specs.Funclets.{statement_funclets, statements_funclets}
 use Rattle.seh_ir.specs.Lowered.{all_locals, scope_of, lowered_function, lowered_funclets, all_funclets, lowered}
 use Rattle.lowering_follows.proofs.Segments.{IsSegmentAt, whole_is_at}
 use Rattle.lowering_invariants.proofs.PlainExpressions.{all_append}
 use Rattle.lowering_invariants.proofs.TurnStack.{all_at}
+use Rattle.seh_ir.proofs.EveryFunclet.{HoldsOfFunclets, funclets_known}
 
 -- ---- the function and the locals of a funclet
 
@@ -28,51 +28,15 @@ record Owns (k n : ℕ) (owner : Owner) : Type 0 where
   locals : owner.locals ≡ n
 
 module _ (number count : ℕ) where
-  abbrev All : List LinearFunclet → Type 0
-  All fs = AllByRecursion (IsOf number count) fs
-
-  both : (a b : List LinearFunclet) → All a → All b → All (a ++ b)
-  both a b h k = all_append (IsOf number count) a b h k
-
-  of_filter : (owner : Owner) (names : Names) → Owns number count owner → (f : Filter)
-      → All (filter_funclets owner names f)
-  of_filter owner names o Always = tt
-  of_filter owner names o (Funclet k e) = (record { function = o.function; locals = o.locals }, tt)
-
-  mutual
-    of_statement : (s : Statement) (owner : Owner) (names : Names) → Owns number count owner
-        → All (statement_funclets owner names s)
-    of_statement (Declare d) owner names o = tt
-    of_statement (Block ss) owner names o = of_statements ss owner names o
-    of_statement (Evaluate e) owner names o = tt
-    of_statement (If c s) owner names o = of_statement s owner names o
-    of_statement (IfElse c s t) owner names o = both (statement_funclets owner names s)
-        (statement_funclets owner names t) (of_statement s owner names o)
-        (of_statement t owner names o)
-    of_statement (For ds first c next s) owner names o = of_statement s owner names o
-    of_statement (DoWhile s c) owner names o = of_statement s owner names o
-    of_statement (Return e) owner names o = tt
-    of_statement Break owner names o = tt
-    of_statement Continue owner names o = tt
-    of_statement Leave owner names o = tt
-    of_statement (TryExcept body filter block) owner names o =
-        both (statements_funclets owner names body) _ (of_statements body owner names o)
-        (both (filter_funclets owner (filter_names names) filter) _
-        (of_filter owner (filter_names names) o filter)
-        (of_statements block owner (except_names names) o))
-    of_statement (TryFinally body k last) owner names o =
-        both (statements_funclets owner names body) _ (of_statements body owner names o) (
-          record { function = o.function; locals = o.locals },
-          of_statements last (in_funclet (k - 1) owner) (finally_names names)
-              (record { function = o.function; locals = o.locals }),
-        )
-
-    of_statements : (ss : Statements) (owner : Owner) (names : Names) → Owns number count owner
-        → All (statements_funclets owner names ss)
-    of_statements Empty owner names o = tt
-    of_statements (Then s ss) owner names o = both (statement_funclets owner names s)
-        (statements_funclets owner names ss) (of_statement s owner names o)
-        (of_statements ss owner names o)
+  owned_by : HoldsOfFunclets (IsOf number count) (Owns number count) (λ k. Unit {0})
+      (λ names m. Unit {0}) (λ e. Unit {0}) (λ e. Unit {0}) (λ x. Unit {0})
+  owned_by = record {
+    in_except = λ names m k le n. tt;
+    in_finally = λ names m k le n. tt;
+    in_block = λ owner k o t. record { function = o.function; locals = o.locals };
+    of_filter = λ owner names m e o n h. record { function = o.function; locals = o.locals };
+    of_block = λ owner names m last o le n h. record { function = o.function; locals = o.locals };
+  }
 
 -- ---- without a region there is no funclet
 
@@ -165,9 +129,10 @@ module _ (all : List LinearFunction) where
           (scope_of fn).names 0 e)
       by (suc n) e =
           each_owned number (lowered_function fn) there (omega arith) (lowered_funclets number fn)
-          (of_statements number (all_locals fn) fn.body
-          (record { function = number; locals = all_locals fn; parent = None })
-          (scope_of fn).names (record { function = refl; locals = refl }))
+          (funclets_known (IsOf number (all_locals fn)) (Owns number (all_locals fn))
+          (λ names m. Unit {0}) (owned_by number (all_locals fn)) fn.body
+          (record { function = number; locals = all_locals fn; parent = None }) (scope_of fn).names
+          (statements_notes fn.body) (omega arith) (record { function = refl; locals = refl }) tt)
 
   owned : (fs : List Function) (number : ℕ) → IsSegmentAt all number (map lowered_function fs)
       → AllByRecursion (IsOwned all) (all_funclets number fs)

@@ -5,8 +5,9 @@ use Rattle.c_checked.specs.Program.{Program}
 use Rattle.c_checked.specs.Sound.{count_up, IsSound}
 use Rattle.c_checked.specs.Sound as sound
 use Rattle.seh_ir.specs.Lowered.{lowered}
+use Rattle.seh_ir.proofs.FuncletCounts.{functions_count}
 use Rattle.image_tables.specs.RegionRows.{named, regions}
-use Rattle.image_tables.proofs.FuncletNumbers.{sum_of, sum_from_one, sums_agree, counts, functions_count}
+use Rattle.image_tables.proofs.FuncletNumbers.{sum_of, sum_from_one, sums_agree, counts}
 use Rattle.image_states.specs.Compiled.{IsMember}
 
 abbrev is : ℕ → ℕ → ℕ

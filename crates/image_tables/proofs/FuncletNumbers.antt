@@ -1,5 +1,5 @@
 -- The filters and `__finally` blocks of a sound program are numbered, so that each is named once.
-use Rattle.std.proofs.Common.{◌≡◌, ◌≢◌, ℕ, ◌+◌, ◌-◌, ◌<◌, ◌≤◌, ◌==◌, Bool, true, false, cond, ltb, List, [], ◌∷◌, ◌++◌, length, None, refl, sym, ap, ◌∙◌, arith, inl, inr, length-append, append_assoc}
+use Rattle.std.proofs.Common.{◌≡◌, ℕ, ◌≢◌, ◌+◌, ◌-◌, ◌<◌, ◌≤◌, ◌==◌, Bool, true, false, cond, ltb, List, [], ◌∷◌, ◌++◌, length, refl, sym, ap, ◌∙◌, arith, inl, inr, append_assoc}
 use Rattle.std.specs.Prelude.{◌&&◌, nat_le, slice_get}
 use Rattle.std.specs.List.{AllByRecursion}
 use Rattle.std.proofs.lemmas.Bool.{and_parts, ne_eqb, eq-eqb, eqb-true, ltb-true, lt-ltb, cases_eq}
@@ -11,12 +11,9 @@ use Rattle.c_checked.specs.Sound as sound
 use Rattle.linear_code.specs.declared.program.Region.{Region}
 use Rattle.linear_code.specs.declared.program.RegionKind.{RegionKind}
 use Rattle.linear_code.specs.declared.program.RegionKind.TheVariants as kinds
-use Rattle.lowering_expressions.specs.declared.scope.Names.{Names}
-use Rattle.seh_ir.specs.declared.funclets.Owner.{Owner}
-use Rattle.lowering_expressions.specs.Scope.{except_names, filter_names, finally_names}
-use Rattle.seh_ir.specs.Funclets.{filter_funclets, finally_funclet, in_funclet, statement_funclets, statements_funclets}
-use Rattle.seh_ir.specs.Lowered.{all_locals, scope_of, lowered_funclets, all_funclets, lowered}
+use Rattle.seh_ir.specs.Lowered.{all_funclets, lowered}
 use Rattle.image_tables.specs.RegionRows.{AreDifferent, funclet_in, named, regions}
+use Rattle.seh_ir.proofs.FuncletCounts.{functions_count}
 use Rattle.image_tables.specs.Tries.{Try, Accepts, Asks, Finishes, with_filter, tries_in, tries, tries_of, all_tries}
 use Rattle.image_tables.specs.RegionLaws.{LoweredNamesFunclets}
 use Rattle.image_tables.proofs.RegionSums.{weight, total, try_total, program_total}
@@ -72,85 +69,6 @@ functions_numbers : (fs : List Function) → numbers (tries_of fs) ≡ sound.all
 functions_numbers [] = refl
 functions_numbers (f ∷ fs) = numbers_both (tries f.body) (tries_of fs)
     ∙ (λ i. statements_numbers f.body i ++ functions_numbers fs i)
-
--- ---- as many funclets as numbers
-
-filter_count : (owner : Owner) (names : Names) (f : Filter)
-    → length (filter_funclets owner names f) ≡ length (filter_funclet f)
-filter_count owner names Always = refl
-filter_count owner names (Funclet k e) = refl
-
-mutual
-  statement_count : (owner : Owner) (names : Names) (s : Statement)
-      → length (statement_funclets owner names s) ≡ length (funclets_in s)
-  statement_count owner names (Declare d) = refl
-  statement_count owner names (Block ss) = statements_count owner names ss
-  statement_count owner names (Evaluate e) = refl
-  statement_count owner names (If c s) = statement_count owner names s
-  statement_count owner names (IfElse c s t) =
-      let x = statement_count owner names s in
-      let y = statement_count owner names t in
-      omega (
-        arith,
-        length-append (statement_funclets owner names s)
-            (statement_funclets owner names t),
-        length-append (funclets_in s) (funclets_in t),
-      )
-  statement_count owner names (For ds first c next s) = statement_count owner names s
-  statement_count owner names (DoWhile s c) = statement_count owner names s
-  statement_count owner names (Return e) = refl
-  statement_count owner names Break = refl
-  statement_count owner names Continue = refl
-  statement_count owner names Leave = refl
-  statement_count owner names (TryExcept body filter block) =
-      let x = statements_count owner names body in
-      let y = statements_count owner (except_names names) block in
-      let z = filter_count owner (filter_names names) filter in
-      let a = filter_funclets owner (filter_names names) filter in
-      let b = statements_funclets owner (except_names names) block in
-      omega (
-        arith,
-        length-append (statements_funclets owner names body) (a ++ b),
-        length-append a b,
-        length-append (funclets body ++ filter_funclet filter) (funclets block),
-        length-append (funclets body) (filter_funclet filter),
-      )
-  statement_count owner names (TryFinally body k last) =
-      let x = statements_count owner names body in
-      let y = statements_count (in_funclet (k - 1) owner) (finally_names names) last in
-      let b = finally_funclet owner names last
-      ∷ statements_funclets (in_funclet (k - 1) owner) (finally_names names) last in
-      omega (
-        arith,
-        length-append (statements_funclets owner names body) b,
-        length-append (funclets body) (k ∷ funclets last),
-      )
-
-  statements_count : (owner : Owner) (names : Names) (ss : Statements)
-      → length (statements_funclets owner names ss) ≡ length (funclets ss)
-  statements_count owner names Empty = refl
-  statements_count owner names (Then s ss) =
-      let x = statement_count owner names s in
-      let y = statements_count owner names ss in
-      omega (
-        arith,
-        length-append (statement_funclets owner names s)
-            (statements_funclets owner names ss),
-        length-append (funclets_in s) (funclets ss),
-      )
-
-pub functions_count : (number : ℕ) (fs : List Function)
-    → length (all_funclets number fs) ≡ length (sound.all_funclets fs)
-functions_count number [] = refl
-functions_count number (f ∷ fs) =
-    let owner : Owner = record { function = number; locals = all_locals f; parent = None } in
-    let x = statements_count owner (scope_of f).names f.body in
-    let y = functions_count (number + 1) fs in
-    omega (
-      arith,
-      length-append (lowered_funclets number f) (all_funclets (number + 1) fs),
-      length-append (funclets f.body) (sound.all_funclets fs),
-    )
 
 -- ---- sums over numbers
 

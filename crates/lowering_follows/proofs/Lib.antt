@@ -32,3 +32,4 @@ pub mod Segments
 pub mod FuncletNumbers
 pub mod StatementPlaces
 pub mod ProgramLowering
+pub mod SoundStatements

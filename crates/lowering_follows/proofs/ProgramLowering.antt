@@ -1,12 +1,12 @@
 -- The linear code of a sound program is linked, and follows the program.
-use Rattle.std.proofs.Common.{◌≡◌, inr, ℕ, zero, suc, ◌+◌, ◌≤◌, List, [], ◌∷◌, ◌++◌, length, refl, ap, subst, ◌∙◌, arith, length-append}
+use Rattle.std.proofs.Common.{◌≡◌, ℕ, inr, zero, suc, ◌+◌, ◌≤◌, List, [], ◌∷◌, length, refl, ap, subst, ◌∙◌, arith, length-append}
 use Rattle.std.proofs.lemmas.Option.{slice_get-map}
-use Rattle.std.specs.Prelude.{true, false, ◌||◌, slice_get, option_map, Option, Some, None}
+use Rattle.std.specs.Prelude.{true, ◌||◌, slice_get, option_map, Option, Some, None}
 use Rattle.c_operations.specs.declared.operation.Size.{Size}
 use Rattle.c_operations.specs.declared.operation.Size.TheVariants.{Int, Long}
 use Rattle.c_checked.specs.Program.{Program, Function}
 use Rattle.c_checked.specs.Sound as sound
-use Rattle.c_checked.specs.Sound.{Inside, are_sizes, some_sizes, funclets, count_up, function_sound, functions_sound, main_sound}
+use Rattle.c_checked.specs.Sound.{are_sizes, some_sizes, funclets, count_up, function_sound, functions_sound, main_sound}
 use Rattle.linear_code.specs.declared.slot.Slot.TheVariants.{Temporary}
 use Rattle.linear_code.specs.declared.instruction.Instruction.TheVariants as instructions
 use Rattle.linear_machine.specs.Frames.{FunctionBody, function_body, body_of}
@@ -25,9 +25,11 @@ use Rattle.lowering_follows.specs.StepsPerTurn.{weight_of, steps_per_turn_of}
 use Rattle.lowering_follows.specs.LoweringLaws.{LoweredIsLinked, LoweredFollows, LoweredShowsNoMore}
 use Rattle.lowering_follows.proofs.SoundExpressions.{both_left, both_right}
 use Rattle.lowering_follows.proofs.Segments.{IsSegmentAt, front, back, whole_is_at}
-use Rattle.lowering_follows.proofs.FuncletNumbers.{count_front, count_back, statements_count}
+use Rattle.seh_ir.proofs.FuncletCounts.{statements_count}
+use Rattle.lowering_follows.proofs.FuncletNumbers.{count_front, count_back}
 use Rattle.lowering_follows.proofs.Regions.{all_outside}
 use Rattle.lowering_follows.proofs.StatementPlaces.{Alike, code_is_at, whole_cover, bare, place_all}
+use Rattle.lowering_follows.proofs.SoundStatements.{inside_function, knows_function}
 
 the_same : {X : Type 0} (x y : X) → Some x ≡ Some y → x ≡ y
 the_same x y e = ap (λ o. elim o [ None ↦ x | Some z ↦ z ]) e
@@ -88,29 +90,10 @@ module _ (program : Program) where
       (count_back (j + 1) (j + length own + 1) (funclets f.body) (sound.all_funclets fs)
       (omega arith) n) k fn e
 
-  abbrev inside : Function → Inside
-  inside fn = record {
-    scope = record {
-      functions = program.functions;
-      sizes = fn.parameters ++ fn.locals;
-      code = false;
-      information = false;
-      abnormal = false;
-    };
-    returns = fn.returns;
-    loop = false;
-    body = false;
-    function = true;
-  }
-
   whole_alike : (fn : Function) → Alike program (lowered program) (steps_per_turn_of program)
-      (weight_of program.functions) (own_locals fn) (inside fn) (scope_of fn)
+      (weight_of program.functions) (own_locals fn) (inside_function program fn) (scope_of fn)
   whole_alike fn = record {
-    knows = record {
-      functions = refl;
-      sizes = length-append fn.parameters fn.locals;
-      information = refl;
-    };
+    knows = knows_function program fn;
     exits = λ h. tt;
     ends = λ h. absurd (cc);
     again = λ h. absurd (cc);
@@ -140,7 +123,7 @@ module _ (program : Program) where
         parameters = refl;
         locals = refl;
         placed = place_all program linear rate most (own_locals fn) quick fn.body (FunctionBody k)
-            lb home (inside fn) (scope_of fn) (whole_alike fn) g.owner [] 0 g.begin
+            lb home (inside_function program fn) (scope_of fn) (whole_alike fn) g.owner [] 0 g.begin
             (both_left _ _ (both_left _ _ g.sound)) light
             (front lb.code 0 code ends whole) (λ q lo hi. cover q lo (omega arith)) g.is_there
             g.numbered;

@@ -37,7 +37,8 @@ use Rattle.lowering_follows.specs.StatementPlaces.{IsWay, IsPlace, OptionalFits,
 use Rattle.lowering_follows.specs.Weights.{filter_weight, statement_weight, statements_weight}
 use Rattle.lowering_follows.proofs.Segments.{IsSegmentAt, front, back, with_next, whole_is_at}
 use Rattle.lowering_follows.proofs.SoundExpressions.{both_left, both_right, Knows, expression_fits}
-use Rattle.lowering_follows.proofs.FuncletNumbers.{count_front, count_back, counted, filter_count, statement_count, statements_count}
+use Rattle.seh_ir.proofs.FuncletCounts.{filter_count, statement_count, statements_count}
+use Rattle.lowering_follows.proofs.FuncletNumbers.{count_front, count_back, counted}
 use Rattle.lowering_follows.proofs.Regions.{held, own_out, own_in, left_only, right_only, held_append, outside, all_outside}
 
 unwound_way : (w : Way) → IsWay w → IsWay (unwound w)

@@ -1,12 +1,12 @@
 -- What the bodies of a lowered program name is there.
-use Rattle.std.proofs.Common.{◌≡◌, ℕ, ◌+◌, ◌<◌, ◌≤◌, List, [], ◌∷◌, ◌++◌, length, map, refl, sym, ap, subst, ◌∙◌, arith, length-append}
+use Rattle.std.proofs.Common.{◌≡◌, ℕ, ◌+◌, ◌<◌, ◌≤◌, List, [], ◌∷◌, length, map, refl, sym, ap, subst, ◌∙◌, arith, length-append}
 use Rattle.std.proofs.lemmas.List.{length-map}
 use Rattle.std.proofs.lemmas.Option.{slice_get-map, slice_get_within}
 use Rattle.std.specs.List.{AllByRecursion}
-use Rattle.std.specs.Prelude.{true, false, slice_get, option_map, Option, Some, None}
+use Rattle.std.specs.Prelude.{true, slice_get, option_map, Option, Some, None}
 use Rattle.c_checked.specs.Program.{Program, Function}
 use Rattle.c_checked.specs.Sound as sound
-use Rattle.c_checked.specs.Sound.{Inside, IsSound, funclets, count_up, function_sound, functions_sound}
+use Rattle.c_checked.specs.Sound.{IsSound, funclets, count_up, function_sound, functions_sound}
 use Rattle.linear_code.specs.declared.slot.Slot.TheVariants.{Temporary}
 use Rattle.linear_code.specs.declared.instruction.Instruction.TheVariants as instructions
 use Rattle.linear_code.specs.Program.{LinearBody, LinearFunction, LinearFunclet}
@@ -17,15 +17,17 @@ use Rattle.lowering_expressions.specs.Expressions.{constant}
 use Rattle.seh_ir.specs.Statements.{statements_code}
 use Rattle.seh_ir.specs.Lowered.{own_locals, all_locals, scope_of, lowered_function, lowered_funclets, all_funclets, lowered}
 use Rattle.lowering_follows.specs.Fits.{IsCalled}
-use Rattle.lowering_follows.proofs.FuncletNumbers.{count_front, count_back, statements_count}
+use Rattle.seh_ir.proofs.FuncletCounts.{statements_count}
+use Rattle.lowering_follows.proofs.FuncletNumbers.{count_front, count_back}
 use Rattle.lowering_follows.proofs.Segments.{IsSegmentAt, front, back, whole_is_at}
-use Rattle.lowering_follows.proofs.SoundExpressions.{both_left, both_right, Knows}
+use Rattle.lowering_follows.proofs.SoundExpressions.{both_left, both_right}
 use Rattle.lowering_follows.proofs.ProgramLowering.{lowered_is_linked}
 use Rattle.lowering_invariants.specs.Bodies.{IsCallee, IsBodyOf, AreBodies}
 use Rattle.lowering_invariants.specs.TypeLaws.{LoweredIsWhole}
 use Rattle.lowering_invariants.proofs.Calls.{append}
 use Rattle.lowering_invariants.proofs.TurnStack.{same_it, all_at}
 use Rattle.lowering_invariants.proofs.Wholes.{Fine, all_are_at}
+use Rattle.lowering_follows.proofs.SoundStatements.{inside_function, knows_function}
 
 module _ (program : Program) where
   callee : (f count : ℕ) → IsCalled program f count → IsCallee (lowered program) f count
@@ -34,28 +36,6 @@ module _ (program : Program) where
     there = slice_get-map lowered_function program.functions f
         ∙ ap (option_map lowered_function) c.there;
     takes = c.takes;
-  }
-
-  abbrev inside : Function → Inside
-  inside fn = record {
-    scope = record {
-      functions = program.functions;
-      sizes = fn.parameters ++ fn.locals;
-      code = false;
-      information = false;
-      abnormal = false;
-    };
-    returns = fn.returns;
-    loop = false;
-    body = false;
-    function = true;
-  }
-
-  knows : (fn : Function) → Knows program (own_locals fn) false (inside fn).scope
-  knows fn = record {
-    functions = refl;
-    sizes = length-append fn.parameters fn.locals;
-    information = refl;
   }
 
   -- the body of the function of a number, and that of a funclet
@@ -78,7 +58,7 @@ module _ (program : Program) where
       let code = statements_code (scope_of fn) fn.body 0 in
       let ends = constant 0 0 ∷ instructions.Return (Temporary 0) ∷ [] in
       let x = all_are_at program linear callee (own_locals fn) fn.body (FunctionBody number) body
-      (ap function_body there) (inside fn) (knows fn) (scope_of fn) owner
+      (ap function_body there) (inside_function program fn) (knows_function program fn) (scope_of fn) owner
       (record { parent = refl; function = refl }) 0 j
       (both_left _ _ (both_left _ _ ok)) (front body.code 0 code ends (whole_is_at body.code)) f
       c in

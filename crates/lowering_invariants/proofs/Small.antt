@@ -1,5 +1,5 @@
 -- The linear code of a sound program that is nested within the limits is small.
-use Rattle.std.proofs.Common.{◌≡◌, ℕ, zero, suc, ◌+◌, ◌≤◌, ◌<◌, List, [], ◌∷◌, ◌++◌, length, map, refl, ap, subst, arith, length-append}
+use Rattle.std.proofs.Common.{◌≡◌, ℕ, zero, suc, ◌+◌, ◌-◌, ◌≤◌, ◌<◌, List, [], ◌∷◌, ◌++◌, length, map, refl, ap, subst, arith}
 use Rattle.std.proofs.lemmas.Bool.{leb-true}
 use Rattle.std.proofs.lemmas.List.{length-map}
 use Rattle.std.proofs.lemmas.Option.{slice_get_within}
@@ -7,23 +7,25 @@ use Rattle.std.specs.List.{AllByRecursion}
 use Rattle.std.specs.Prelude.{true, false, slice_get, Option, Some, None}
 use Rattle.c_checked.specs.Program.{Program, Function}
 use Rattle.c_checked.specs.Sound as sound
-use Rattle.c_checked.specs.Sound.{Inside, funclets, count_up, function_sound, functions_sound, main_sound}
+use Rattle.c_checked.specs.Sound.{funclets, function_sound, functions_sound, main_sound}
 use Rattle.linear_code.specs.declared.slot.Slot.TheVariants.{Temporary}
 use Rattle.linear_code.specs.declared.instruction.Instruction.TheVariants as instructions
-use Rattle.seh_ir.specs.declared.funclets.Owner.{Owner}
 use Rattle.lowering_expressions.specs.Expressions.{constant}
 use Rattle.seh_ir.specs.Statements.{statements_code}
 use Rattle.seh_ir.specs.Regions.{statements_regions}
 use Rattle.seh_ir.specs.Lowered.{own_locals, all_locals, scope_of, lowered_function, lowered_funclets, all_funclets, lowered}
-use Rattle.lowering_follows.proofs.FuncletNumbers.{count_front, count_back, statements_count}
-use Rattle.lowering_follows.proofs.Segments.{IsSegmentAt, front, back, whole_is_at}
-use Rattle.lowering_follows.proofs.SoundExpressions.{both_left, both_right, Knows}
-use Rattle.lowering_invariants.specs.Nesting.{IsShallow, AreShallow}
+use Rattle.lowering_follows.proofs.SoundExpressions.{both_left, both_right}
+use Rattle.lowering_invariants.specs.Nesting.{expression_nesting, expression_reads, IsShallow, AreShallow}
 use Rattle.lowering_invariants.specs.Slots.{IsSmallFunction, IsSmallFunclet}
 use Rattle.lowering_invariants.specs.BoundLaws.{LoweredIsSmall}
 use Rattle.lowering_invariants.proofs.PlainExpressions.{NamesAmong, append, constant_good, all_append}
-use Rattle.lowering_invariants.proofs.PlainStatements.{small_body, statements_good, all_funclets_small}
+use Rattle.lowering_invariants.proofs.PlainStatements.{small_body, statements_good, statements_within, numbers_within, Value, Named, Fitting, funclets_small, Within}
 use Rattle.seh_num.specs.declared.limit.TheConstants.{MOST_GLOBALS}
+use Rattle.seh_ir.proofs.StatementParts.{StatementsHave}
+use Rattle.seh_ir.proofs.EveryFunclet.{all_front, all_back, all_funclets_every}
+use Rattle.seh_ir.proofs.FuncletCounts.{functions_count}
+use Rattle.lowering_follows.proofs.SoundStatements.{inside_function, knows_function, statements_sound_have}
+use Rattle.lowering_sizes.specs.Sizes.{statements_notes}
 
 the_same : {X : Type 0} (x y : X) → Some x ≡ Some y → x ≡ y
 the_same x y e = ap (λ o. elim o [ None ↦ x | Some z ↦ z ]) e
@@ -44,54 +46,59 @@ module _ (program : Program) (h : functions_sound program.functions program.func
   few : (k : ℕ) (fn : Function) → slice_get program.functions k ≡ Some fn → length fn.parameters ≤ 8
   few k fn e = few_parameters program.functions program.functions h k fn e
 
-  abbrev inside : Function → Inside
-  inside fn = record {
-    scope = record {
-      functions = program.functions;
-      sizes = fn.parameters ++ fn.locals;
-      code = false;
-      information = false;
-      abnormal = false;
-    };
-    returns = fn.returns;
-    loop = false;
-    body = false;
-    function = true;
-  }
+  -- the expressions of a sound function that is nested within the limits
+  values_fit : (fn : Function) → function_sound program.functions fn ≡ true → IsShallow fn
+      → StatementsHave (Value program 456 (own_locals fn) false)
+      (Value program 456 (own_locals fn) true) (λ x. x < own_locals fn) fn.body
+  values_fit fn ok shallow =
+      let own = own_locals fn in
+      statements_sound_have program own (Within expression_nesting expression_reads 64 15)
+      (Within expression_nesting expression_reads 64 15) (Value program 456 own false)
+      (Value program 456 own true) (λ x. x < own)
+      (λ e h f. (let le = h.0 in (f, omega arith, h.1)))
+      (λ e h f. (let le = h.0 in (f, omega arith, h.1))) (λ x lt. lt) fn.body
+      (inside_function program fn) (knows_function program fn) (both_left _ _ (both_left _ _ ok))
+      (statements_within expression_nesting expression_reads 64 15 fn.body shallow.expressions
+      shallow.parameters)
 
-  knows : (fn : Function) → Knows program (own_locals fn) false (inside fn).scope
-  knows fn = record {
-    functions = refl;
-    sizes = length-append fn.parameters fn.locals;
-    information = refl;
-  }
+  -- a function has few parameters and locals, and few of both with its codes and flags
+  record IsNarrow (fn : Function) : Type 0 where
+    parameters : length fn.parameters ≤ 8
+    wide : own_locals fn ≤ all_locals fn
+    room : all_locals fn ≤ 540
+    named : NamesAmong (all_locals fn) (scope_of fn).names
+    free : (scope_of fn).names.free + statements_notes fn.body ≤ all_locals fn
 
-  among : (fn : Function) → NamesAmong (all_locals fn) (scope_of fn).names
-  among fn = record { source = tt; flag = tt }
+  narrow : (fn : Function) → function_sound program.functions fn ≡ true → IsShallow fn → IsNarrow fn
+  narrow fn ok shallow =
+      let noted = shallow.blocks in
+      let ps : length fn.parameters ≤ 8 = leb-true (length fn.parameters) 8
+      (both_right _ _ (both_left _ _ ok)) in
+      let ls : length fn.locals ≤ 256 = leb-true (length fn.locals) 256 (both_right _ _ ok) in
+      record {
+        parameters = ps;
+        wide = omega arith;
+        room = omega arith;
+        named = record { source = tt; flag = tt };
+        free = omega arith;
+      }
 
   function_small : (fn : Function) → function_sound program.functions fn ≡ true → IsShallow fn
       → IsSmallFunction (lowered_function fn)
   function_small fn ok shallow =
       let n = all_locals fn in
-      let nested = shallow.expressions in
-      let noted = shallow.blocks in
-      let ps : length fn.parameters ≤ 8 = leb-true (length fn.parameters) 8
-      (both_right _ _ (both_left _ _ ok)) in
-      let ls : length fn.locals ≤ 256 = leb-true (length fn.locals) 256 (both_right _ _ ok) in
-      let wide : own_locals fn ≤ n = omega arith in
-      let most : 456 ≤ 456 = omega arith in
-      let room : n ≤ 540 = omega arith in
+      let own = own_locals fn in
+      let w = narrow fn ok shallow in
       let code = statements_code (scope_of fn) fn.body 0 in
       let ends = constant 0 0 ∷ instructions.Return (Temporary 0) ∷ [] in
-      let good = append 456 n code ends (statements_good program (lowered program) 456 n
-      (own_locals fn) wide (omega arith) few fn.body (inside fn) (knows fn) (scope_of fn)
-      (among fn) 0 (both_left _ _ (both_left _ _ ok)) (omega arith) (omega arith)
-      shallow.parameters)
+      let good = append 456 n code ends (statements_good program 456 n own w.wide (omega arith) few
+      fn.body (scope_of fn) (statements_notes fn.body) (omega arith) (w.named, w.free)
+      (values_fit fn ok shallow))
       (constant_good 456 n 0 0 (omega arith), ((omega arith, omega arith, tt), tt)) in
       record {
-        parameters = ps;
-        body = small_body program (lowered program) 456 n (own_locals fn)
-            wide (omega arith) few most room (code ++ ends) (statements_regions fn.body 0) good;
+        parameters = w.parameters;
+        body = small_body 456 n (omega arith) w.room (code ++ ends) (statements_regions fn.body 0)
+            good;
       }
 
   functions_small : (fs : List Function) → functions_sound program.functions fs ≡ true
@@ -102,49 +109,39 @@ module _ (program : Program) (h : functions_sound program.functions program.func
     functions_small fs (both_right _ _ ok) shallow.1,
   )
 
-  own_small : (fn : Function) (number j : ℕ) → number < length program.functions
-      → function_sound program.functions fn ≡ true → IsShallow fn
-      → IsSegmentAt (lowered program).funclets j (lowered_funclets number fn)
-      → count_up (j + 1) (funclets fn.body) ≡ true
-      → AllByRecursion (IsSmallFunclet (lowered program)) (lowered_funclets number fn)
-  own_small fn number j lt ok shallow f c =
-      let n = all_locals fn in
-      let nested = shallow.expressions in
-      let noted = shallow.blocks in
-      let ps : length fn.parameters ≤ 8 = leb-true (length fn.parameters) 8
-      (both_right _ _ (both_left _ _ ok)) in
-      let ls : length fn.locals ≤ 256 = leb-true (length fn.locals) 256 (both_right _ _ ok) in
-      let wide : own_locals fn ≤ n = omega arith in
-      let most : 456 ≤ 456 = omega arith in
-      let room : n ≤ 540 = omega arith in
-      let l = length-map program.functions lowered_function in
-      let owner : Owner = record { function = number; locals = n; parent = None } in
-      all_funclets_small program (lowered program) 456 n (own_locals fn) wide (omega arith) few most
-      room fn.body (inside fn) (knows fn) owner
-      (record { function = omega arith; locals = refl; parent = tt }) (scope_of fn).names
-      (among fn) j (both_left _ _ (both_left _ _ ok)) (omega arith) (omega arith)
-      shallow.parameters f c
+  -- the number of a funclet that is the parent of some
+  abbrev IsThere : ℕ → Type 0
+  IsThere k = k - 1 < length (lowered program).funclets
 
-  funclets_small : (fs : List Function) (number j : ℕ)
+  own_small : (fn : Function) (number : ℕ) → number < length program.functions
+      → function_sound program.functions fn ≡ true → IsShallow fn
+      → AllByRecursion IsThere (funclets fn.body)
+      → AllByRecursion (IsSmallFunclet (lowered program)) (lowered_funclets number fn)
+  own_small fn number lt ok shallow c =
+      let n = all_locals fn in
+      let own = own_locals fn in
+      let w = narrow fn ok shallow in
+      let l = length-map program.functions lowered_function in
+      all_funclets_every (IsSmallFunclet (lowered program)) (Fitting (lowered program) n) IsThere
+      (Named n) (Value program 456 own false) (Value program 456 own true) (λ x. x < own)
+      (funclets_small program 456 n own w.wide (omega arith) few (lowered program) (omega arith)
+      w.room) fn.body (record { function = number; locals = n; parent = None }) (scope_of fn).names
+      (statements_notes fn.body) (omega arith)
+      (record { function = omega arith; locals = refl; parent = tt }) (w.named, w.free)
+      (values_fit fn ok shallow) c
+
+  all_funclets_small : (fs : List Function) (number : ℕ)
       → number + length fs ≤ length program.functions → functions_sound program.functions fs ≡ true
-      → AreShallow fs
-      → IsSegmentAt (lowered program).funclets j (all_funclets number fs)
-      → count_up (j + 1) (sound.all_funclets fs) ≡ true
+      → AreShallow fs → AllByRecursion IsThere (sound.all_funclets fs)
       → AllByRecursion (IsSmallFunclet (lowered program)) (all_funclets number fs)
-  funclets_small [] number j le ok shallow f c = tt
-  funclets_small (fn ∷ fs) number j le ok shallow f c =
-      let own = lowered_funclets number fn in
-      let rest = all_funclets (number + 1) fs in
-      let owner : Owner = record { function = number; locals = all_locals fn; parent = None } in
-      let count = statements_count owner (scope_of fn).names fn.body in
-      all_append (IsSmallFunclet (lowered program)) own rest
-      (own_small fn number j (omega arith) (both_left _ _ ok) shallow.0
-      (front (lowered program).funclets j own rest f)
-      (count_front (j + 1) (funclets fn.body) (sound.all_funclets fs) c))
-      (funclets_small fs (number + 1) (j + length own) (omega arith) (both_right _ _ ok) shallow.1
-      (back (lowered program).funclets j (j + length own) own rest refl f)
-      (count_back (j + 1) (j + length own + 1) (funclets fn.body) (sound.all_funclets fs)
-      (omega arith) c))
+  all_funclets_small [] number le ok shallow c = tt
+  all_funclets_small (fn ∷ fs) number le ok shallow c =
+      all_append (IsSmallFunclet (lowered program)) (lowered_funclets number fn)
+      (all_funclets (number + 1) fs)
+      (own_small fn number (omega arith) (both_left _ _ ok) shallow.0
+      (all_front IsThere (funclets fn.body) (sound.all_funclets fs) c))
+      (all_funclets_small fs (number + 1) (omega arith) (both_right _ _ ok) shallow.1
+      (all_back IsThere (funclets fn.body) (sound.all_funclets fs) c))
 
 pub lowered_is_small : LoweredIsSmall
 lowered_is_small program h shallow =
@@ -152,12 +149,15 @@ lowered_is_small program h shallow =
     let starts = both_left _ _ counts in
     let fine = both_left _ _ starts in
     let l = length-map program.functions lowered_function in
+    let n = functions_count 0 program.functions in
     let main = main_there program.functions program.main (slice_get program.functions program.main)
     refl (both_right _ _ starts) in
     record {
       globals = leb-true (length program.globals) MOST_GLOBALS (both_right _ _ h);
       main = omega arith;
       functions = functions_small program fine program.functions fine shallow;
-      funclets = funclets_small program fine program.functions 0 0 (omega arith) fine shallow
-          (whole_is_at (lowered program).funclets) (both_right _ _ counts);
+      funclets = all_funclets_small program fine program.functions 0 (omega arith) fine shallow
+          (numbers_within (sound.all_funclets program.functions) 0
+          (length (lowered program).funclets)
+          (both_right _ _ counts) (omega arith));
     }

@@ -34,7 +34,8 @@ use Rattle.seh_ir.specs.Funclets.{filter_funclets, finally_funclet, in_funclet, 
 use Rattle.lowering_expressions.proofs.Codes.{expression_length}
 use Rattle.seh_ir.proofs.StatementCodes.{discarded_length, condition_length, all_declared_length, statement_length, statements_length}
 use Rattle.lowering_follows.specs.Fits.{IsCalled}
-use Rattle.lowering_follows.proofs.FuncletNumbers.{count_front, count_back, counted, filter_count, statement_count, statements_count}
+use Rattle.seh_ir.proofs.FuncletCounts.{filter_count, statement_count, statements_count}
+use Rattle.lowering_follows.proofs.FuncletNumbers.{count_front, count_back, counted}
 use Rattle.lowering_follows.proofs.Segments.{IsSegmentAt, front, back, whole_is_at}
 use Rattle.lowering_follows.proofs.SoundExpressions.{both_left, both_right, Knows, expression_fits}
 use Rattle.lowering_invariants.proofs.PlainExpressions.{all_append}

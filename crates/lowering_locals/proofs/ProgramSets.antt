@@ -2,10 +2,10 @@
 use Rattle.std.proofs.Common.{◌≡◌, ℕ, zero, suc, ◌+◌, ◌<◌, ◌≤◌, List, [], ◌∷◌, ◌++◌, length, map, refl, sym, ap, subst, ◌∙◌, arith, length-append}
 use Rattle.std.proofs.lemmas.List.{length-map}
 use Rattle.std.proofs.lemmas.Option.{slice_get_within}
-use Rattle.std.specs.Prelude.{true, false, slice_get, replicate, get_or, Option, Some, None}
+use Rattle.std.specs.Prelude.{true, slice_get, replicate, get_or, Option, Some, None}
 use Rattle.c_checked.specs.Program.{Program, Function}
 use Rattle.c_checked.specs.Sound as sound
-use Rattle.c_checked.specs.Sound.{Inside, IsSound, funclets, function_sound, functions_sound}
+use Rattle.c_checked.specs.Sound.{IsSound, funclets, function_sound, functions_sound}
 use Rattle.linear_code.specs.declared.slot.Slot.TheVariants.{Temporary}
 use Rattle.linear_code.specs.declared.instruction.Instruction.TheVariants as instructions
 use Rattle.linear_code.specs.Program.{LinearProgram, LinearBody, LinearFunction, LinearFunclet}
@@ -18,7 +18,7 @@ use Rattle.lowering_expressions.specs.Expressions.{constant}
 use Rattle.seh_ir.specs.Statements.{statements_code}
 use Rattle.seh_ir.specs.Lowered.{own_locals, all_locals, scope_of, lowered_function, lowered_funclets, all_funclets, lowered}
 use Rattle.seh_ir.proofs.StatementCodes.{statements_length}
-use Rattle.lowering_follows.proofs.FuncletNumbers.{statements_count}
+use Rattle.seh_ir.proofs.FuncletCounts.{statements_count}
 use Rattle.lowering_follows.proofs.Segments.{IsSegmentAt, front, back, whole_is_at}
 use Rattle.lowering_invariants.proofs.TurnStack.{same_it}
 use Rattle.lowering_invariants.proofs.Lowered.{lowered_is_whole}
@@ -31,6 +31,7 @@ use Rattle.lowering_locals.specs.ScopedLaws.{ScopedHasSetMap, ScopedReadsNoUnset
 use Rattle.lowering_locals.proofs.StraightCode.{is_same, is_same_back, head_recorded, both_lead}
 use Rattle.lowering_locals.proofs.SetLists.{statements_long, statements_many, statements_first, begins}
 use Rattle.lowering_locals.proofs.SetParts.{IsFine, IsPlace, HasFunclets, has_front, has_back, whole_body, statements_are_set}
+use Rattle.lowering_follows.proofs.SoundStatements.{inside_function}
 
 get_is : {X : Type 0} (xs : List X) (k : ℕ) (x other : X) → slice_get xs k ≡ Some x
     → get_or xs k other ≡ x
@@ -67,21 +68,6 @@ module _ (program : Program) where
 
   abbrev Has : (j : ℕ) → List LinearFunclet → List (List SeenNames) → List ℕ → Type 0
   Has j fs ls ns = HasFunclets linear lists funclet_lists listed j fs ls ns
-
-  abbrev inside : Function → Inside
-  inside fn = record {
-    scope = record {
-      functions = program.functions;
-      sizes = fn.parameters ++ fn.locals;
-      code = false;
-      information = false;
-      abnormal = false;
-    };
-    returns = fn.returns;
-    loop = false;
-    body = false;
-    function = true;
-  }
 
   abbrev owner : ℕ → Function → Owner
   owner number fn = record { function = number; locals = all_locals fn; parent = None }
@@ -131,7 +117,7 @@ module _ (program : Program) where
         leave = tt;
       } in
       let x = statements_are_set linear lists funclet_lists listed fn.body name (owner number fn)
-      (inside fn) scope seen seen 0 j place (omega arith) (omega arith)
+      (inside_function program fn) scope seen seen 0 j place (omega arith) (omega arith)
       (both_left _ _ (both_left _ _ ok)) w front_part
       (subst (λ n. IsPart (sets name n) seen) same recorded_end) f in
       let next = within (sets name (size + 1)) seen (sets name size)

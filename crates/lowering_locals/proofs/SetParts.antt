@@ -31,7 +31,8 @@ use Rattle.seh_ir.specs.Funclets as funclets_of
 use Rattle.seh_ir.specs.Funclets.{filter_funclets, finally_funclet, in_funclet, statement_funclets, statements_funclets}
 use Rattle.lowering_expressions.proofs.Codes.{expression_length}
 use Rattle.seh_ir.proofs.StatementCodes.{statements_length}
-use Rattle.lowering_follows.proofs.FuncletNumbers.{count_front, count_back, counted, filter_count, statement_count, statements_count}
+use Rattle.seh_ir.proofs.FuncletCounts.{filter_count, statement_count, statements_count}
+use Rattle.lowering_follows.proofs.FuncletNumbers.{count_front, count_back, counted}
 use Rattle.lowering_follows.proofs.Segments.{IsSegmentAt, front, back, whole_is_at}
 use Rattle.lowering_invariants.proofs.PlainExpressions.{all_append}
 use Rattle.lowering_invariants.specs.Bodies.{function_of, owner_of}

@@ -1,5 +1,5 @@
 -- The linear code of an accepted text within the limits can be linked.
-use Rattle.std.proofs.Common.{◌*◌, ◌≡◌, ℕ, ◌+◌, ◌-◌, ◌≤◌, List, [], ◌∷◌, length, map, Option, Some, None, refl, arith}
+use Rattle.std.proofs.Common.{ℕ, ◌*◌, ◌≡◌, ◌+◌, ◌-◌, ◌≤◌, List, [], ◌∷◌, length, map, Option, Some, None, refl, arith}
 use Rattle.std.specs.List.{AllByRecursion}
 use Rattle.std.proofs.lemmas.Bool.{leb-true}
 use Rattle.c_operations.specs.declared.field.Field.{Field}
@@ -7,7 +7,6 @@ use Rattle.c_operations.specs.declared.field.Field.TheVariants as fields
 use Rattle.c_checked.specs.Program.{Program, Function}
 use Rattle.c_checked.specs.Sound as sound
 use Rattle.c_checked.specs.Sound.{IsSound}
-use Rattle.c_checked.specs.Statement.{Filter, Always, Funclet, Statement, Declare, Block, Evaluate, If, IfElse, For, DoWhile, Return, Break, Continue, Leave, TryExcept, TryFinally, Statements, Empty, Then}
 use Rattle.c_lex.proofs.Covering.{few_tokens}
 use Rattle.c_syntax.proofs.NodesOfPrograms.{program as program_nodes}
 use Rattle.c_resolved.specs.Program.{resolve}
@@ -19,16 +18,12 @@ use Rattle.linear_code.specs.declared.instruction.Instruction.TheVariants as ins
 use Rattle.linear_code.specs.declared.program.FuncletKind.{FuncletKind}
 use Rattle.linear_code.specs.declared.program.FuncletKind.TheVariants as kinds
 use Rattle.linear_code.specs.Program.{LinearBody, LinearFunction, LinearFunclet, LinearProgram}
-use Rattle.seh_ir.specs.declared.funclets.Owner.{Owner}
-use Rattle.lowering_expressions.specs.declared.scope.Names.{Names}
-use Rattle.lowering_expressions.specs.Scope.{except_names, filter_names, finally_names}
 use Rattle.seh_ir.specs.Slots.{slot_temporaries, instruction_temporaries, temporaries_in}
-use Rattle.seh_ir.specs.Funclets.{filter_funclets, finally_funclet, in_funclet, statement_funclets, statements_funclets}
-use Rattle.seh_ir.specs.Lowered.{scope_of, all_locals, lowered_function, lowered_funclets, all_funclets, lowered}
+use Rattle.seh_ir.specs.Lowered.{lowered_function, all_funclets, lowered}
+use Rattle.seh_ir.proofs.EveryFunclet.{funclets_any}
 use Rattle.lowering_follows.proofs.SoundExpressions.{both_left, both_right}
 use Rattle.lowering_invariants.specs.Slots as small
 use Rattle.lowering_invariants.specs.Slots.{IsAmong, IsField, IsPlain, IsSmallBody, HasFlag, IsSmallFunclet, IsSmallFunction}
-use Rattle.lowering_invariants.proofs.PlainExpressions.{all_append}
 use Rattle.text_bounds.proofs.StatementNesting.{accepted_is_small}
 use Rattle.x64_emit.specs.Near.{IsFieldNear}
 use Rattle.image_link.specs.Routines as links
@@ -49,45 +44,6 @@ FunctionIsCounted f = IsCounted f.body
 abbrev FuncletIsCounted : LinearFunclet → Type 0
 FuncletIsCounted f = IsCounted f.body
 
-filters_counted : (owner : Owner) (names : Names) (f : Filter)
-    → AllByRecursion FuncletIsCounted (filter_funclets owner names f)
-filters_counted owner names Always = tt
-filters_counted owner names (Funclet k e) = (refl, tt)
-
-mutual
-  statement_counted : (owner : Owner) (names : Names) (s : Statement)
-      → AllByRecursion FuncletIsCounted (statement_funclets owner names s)
-  statement_counted owner names (Declare d) = tt
-  statement_counted owner names (Block ss) = statements_counted owner names ss
-  statement_counted owner names (Evaluate e) = tt
-  statement_counted owner names (If c s) = statement_counted owner names s
-  statement_counted owner names (IfElse c s t) = all_append FuncletIsCounted _ _
-      (statement_counted owner names s) (statement_counted owner names t)
-  statement_counted owner names (For ds first c next s) = statement_counted owner names s
-  statement_counted owner names (DoWhile s c) = statement_counted owner names s
-  statement_counted owner names (Return e) = tt
-  statement_counted owner names Break = tt
-  statement_counted owner names Continue = tt
-  statement_counted owner names Leave = tt
-  statement_counted owner names (TryExcept body filter block) =
-      all_append FuncletIsCounted _ _ (statements_counted owner names body)
-      (all_append FuncletIsCounted _ _ (filters_counted owner (filter_names names) filter)
-      (statements_counted owner (except_names names) block))
-  statement_counted owner names (TryFinally body k last) =
-      all_append FuncletIsCounted (statements_funclets owner names body)
-      (finally_funclet owner names last ∷ statements_funclets (in_funclet (k - 1) owner)
-      (finally_names names) last)
-      (statements_counted owner names body) (
-        refl,
-        statements_counted (in_funclet (k - 1) owner) (finally_names names) last,
-      )
-
-  statements_counted : (owner : Owner) (names : Names) (ss : Statements)
-      → AllByRecursion FuncletIsCounted (statements_funclets owner names ss)
-  statements_counted owner names Empty = tt
-  statements_counted owner names (Then s ss) = all_append FuncletIsCounted _ _
-      (statement_counted owner names s) (statements_counted owner names ss)
-
 functions_counted : (fs : List Function) → AllByRecursion FunctionIsCounted
     (map lowered_function fs)
 functions_counted [] = tt
@@ -95,11 +51,7 @@ functions_counted (f ∷ fs) = (refl, functions_counted fs)
 
 funclets_counted : (number : ℕ) (fs : List Function)
     → AllByRecursion FuncletIsCounted (all_funclets number fs)
-funclets_counted number [] = tt
-funclets_counted number (f ∷ fs) =
-    all_append FuncletIsCounted (lowered_funclets number f) (all_funclets (number + 1) fs)
-    (statements_counted (record { function = number; locals = all_locals f; parent = None })
-    (scope_of f).names f.body) (funclets_counted (number + 1) fs)
+funclets_counted = funclets_any FuncletIsCounted (λ owner names e. refl) (λ owner names last. refl)
 
 -- ---- instructions
 

@@ -10,7 +10,7 @@ use Rattle.seh_ir.specs.declared.funclets.Owner.{Owner}
 use Rattle.lowering_expressions.specs.Expressions.{constant}
 use Rattle.seh_ir.specs.Statements.{statements_code}
 use Rattle.seh_ir.specs.Lowered.{all_locals, scope_of, lowered_function, lowered_funclets, all_funclets}
-use Rattle.lowering_follows.proofs.FuncletNumbers.{statements_count}
+use Rattle.seh_ir.proofs.FuncletCounts.{statements_count}
 use Rattle.image_link.specs.Fits.{room, tables_room, function_bodies, funclet_bodies}
 use Rattle.text_bounds.specs.Rooms.{functions_room}
 use Rattle.text_bounds.specs.RoomLaws.{LoweredIsBounded}

@@ -1,0 +1,454 @@
+-- What holds of each piece of which the code of statements is made holds of all of it.
+use Rattle.std.proofs.Common.{◌≡◌, ℕ, ◌+◌, ◌-◌, ◌≤◌, List, [], ◌∷◌, ◌++◌, length, Option, None, Some, sym, subst, arith, append_assoc, append-nil}
+use Rattle.c_operations.specs.declared.operation.Operation.TheVariants.{Pure}
+use Rattle.c_operations.specs.declared.operation.Pure.TheVariants.{Constant}
+use Rattle.c_checked.specs.Expression.{Expression}
+use Rattle.c_checked.specs.Statement as statements
+use Rattle.c_checked.specs.Statement.{Declared, Filter, Statement, Declare, Block, Evaluate, If, IfElse, For, DoWhile, Break, Continue, Leave, TryExcept, TryFinally, Statements, Empty, Then}
+use Rattle.linear_code.specs.declared.slot.Slot.TheVariants.{Local, Temporary}
+use Rattle.linear_code.specs.declared.instruction.Instruction.{Instruction}
+use Rattle.linear_code.specs.declared.instruction.Instruction.TheVariants.{Compute, Jump, JumpIfZero, LocalUnwind, Separator}
+use Rattle.linear_code.specs.declared.program.Region.{Region}
+use Rattle.linear_code.specs.declared.program.RegionKind.TheVariants as kinds
+use Rattle.lowering_expressions.specs.declared.scope.Names.{Names}
+use Rattle.lowering_expressions.specs.declared.scope.Way.{Way}
+use Rattle.lowering_expressions.specs.declared.scope.Way.TheVariants.{Nowhere, Jumps, Unwinds}
+use Rattle.lowering_expressions.specs.declared.scope.LoweringContext.{LoweringContext}
+use Rattle.lowering_expressions.specs.Scope.{except_names, unwound, in_loop, in_try, in_except, in_guarded}
+use Rattle.lowering_sizes.specs.Sizes.{expression_size, discarded_size, condition_size, declared_size, all_declared_size, statement_size, statements_size, statement_notes, statements_notes}
+use Rattle.lowering_expressions.specs.Expressions.{expression_code}
+use Rattle.seh_ir.specs.Statements.{jump_code, return_code, leave_code, discarded_code, returned_code, condition_code, initialiser_code, declared_code, all_declared_code, landed, repeated, finally_called, statement_code, statements_code}
+use Rattle.seh_ir.specs.Regions.{except_kind, region, statement_regions, statements_regions}
+use Rattle.seh_ir.proofs.StatementCodes.{discarded_length, condition_length, declared_length, all_declared_length, statement_length, statements_length}
+use Rattle.seh_ir.proofs.StatementParts.{OptionalHas, DeclaredHas, AllDeclaredHave, StatementHas, StatementsHave}
+
+-- ---- ways out
+
+-- what is known of the label of a way
+abbrev pub WayHas : (ℕ → Type 0) → Way → Type 0
+WayHas L Nowhere = Unit {0}
+WayHas L (Jumps label) = L label
+WayHas L (Unwinds label) = L label
+
+abbrev pub PlaceHas : (ℕ → Type 0) → Option ℕ → Type 0
+PlaceHas L None = Unit {0}
+PlaceHas L (Some label) = L label
+
+-- of the labels that statements leave to, and of that of the exit, where a value is held
+pub record WaysHave (L X : ℕ → Type 0) (scope : LoweringContext) : Type 0 where
+  pub exit : WayHas X scope.exit
+  pub loop_end : WayHas L scope.loop_end
+  pub loop_next : WayHas L scope.loop_next
+  pub leave : PlaceHas L scope.leave
+
+-- a way out of a guarded body has the same label
+pub unwound_has : (L : ℕ → Type 0) (w : Way) → WayHas L w → WayHas L (unwound w)
+unwound_has L Nowhere h = h
+unwound_has L (Jumps label) h = h
+unwound_has L (Unwinds label) h = h
+
+any_way : (w : Way) → WayHas (λ label. Unit {0}) w
+any_way Nowhere = tt
+any_way (Jumps label) = tt
+any_way (Unwinds label) = tt
+
+any_label : (w : Option ℕ) → PlaceHas (λ label. Unit {0}) w
+any_label None = tt
+any_label (Some label) = tt
+
+-- where nothing is asked of labels
+pub any_ways : (scope : LoweringContext) → WaysHave (λ label. Unit {0}) (λ label. Unit {0}) scope
+any_ways scope = record {
+  exit = any_way scope.exit;
+  loop_end = any_way scope.loop_end;
+  loop_next = any_way scope.loop_next;
+  leave = any_label scope.leave;
+}
+
+-- ---- what is asked
+
+-- all parts have it that hold as much at their ends as where they begin
+pub record IsNeutral (M : List Instruction → Type 0) : Type 0 where
+  pub separator : M (Separator ∷ [])
+  pub jump : (label : ℕ) → M (Jump label ∷ [])
+  pub landing : (end x : ℕ) → M (landed end x)
+  pub zeroed : (x : ℕ) → M (Compute (Local x) (Pure (Constant 0)) (Local x) (Local x) ∷ [])
+  pub discarded : (names : Names) (e : Option Expression) (at : ℕ) → M (discarded_code names e at)
+  pub condition : (names : Names) (e : Option Expression) (label at : ℕ)
+      → M (condition_code names e label at)
+  pub declared : (names : Names) (d : Declared) (at : ℕ) → M (declared_code names d at)
+  pub all_declared : (names : Names) (ds : List Declared) (at : ℕ)
+      → M (all_declared_code names ds at)
+  pub statement : (scope : LoweringContext) (s : Statement) (at : ℕ) → M (statement_code scope s at)
+  pub statements : (scope : LoweringContext) (ss : Statements) (at : ℕ)
+      → M (statements_code scope ss at)
+
+-- what is known of code in its place is known of its parts, and tells of the labels where a part
+-- begins or ends
+pub record IsPlaced (C : ℕ → List Instruction → Type 0) (M : List Instruction → Type 0)
+    (L : ℕ → Type 0) : Type 0 where
+  pub front : (at : ℕ) (xs ys : List Instruction) → C at (xs ++ ys) → C at xs
+  pub back : (at to : ℕ) (xs ys : List Instruction) → at + length xs ≡ to → M xs → C at (xs ++ ys)
+      → C to ys
+  pub begins : (at : ℕ) (xs : List Instruction) → C at xs → L at
+  pub ends : (at to : ℕ) (xs : List Instruction) → at + length xs ≡ to → M xs → C at xs → L to
+
+-- where nothing is asked of what is held, and nothing of places
+pub any_neutral : IsNeutral (λ xs. Unit {0})
+any_neutral = record {
+  separator = tt;
+  jump = λ label. tt;
+  landing = λ end x. tt;
+  zeroed = λ x. tt;
+  discarded = λ names e at. tt;
+  condition = λ names e label at. tt;
+  declared = λ names d at. tt;
+  all_declared = λ names ds at. tt;
+  statement = λ scope s at. tt;
+  statements = λ scope ss at. tt;
+}
+
+pub any_place : IsPlaced (λ at xs. Unit {0}) (λ xs. Unit {0}) (λ label. Unit {0})
+any_place = record {
+  front = λ at xs ys c. tt;
+  back = λ at to xs ys e m c. tt;
+  begins = λ at xs c. tt;
+  ends = λ at to xs e m c. tt;
+}
+
+-- names with room for so many notes have them in an `__except` block with one note less
+abbrev pub InExcept : (Names → ℕ → Type 0) → Type 0
+InExcept N = (names : Names) (m k : ℕ) → 1 + k ≤ m → N names m → N (except_names names) k
+
+-- it holds of each piece at its place, with its regions, of what pieces follow one another, and of
+-- nothing
+pub record HoldsOfPieces (P : ℕ → List Instruction → List Region → Type 0)
+    (C : ℕ → List Instruction → Type 0) (L X : ℕ → Type 0) (N : Names → ℕ → Type 0)
+    (E : Expression → Type 0) (D : ℕ → Type 0) : Type 0 where
+  pub none : (at : ℕ) → P at [] []
+  pub both : (at to : ℕ) (xs ys : List Instruction) (rs qs : List Region) → at + length xs ≡ to
+      → P at xs rs → P to ys qs → P at (xs ++ ys) (rs ++ qs)
+  pub of_separator : (at : ℕ) → P at (Separator ∷ []) []
+  pub of_jump : (at label : ℕ) → L label → P at (Jump label ∷ []) []
+  pub of_unwind : (at label : ℕ) → L label → P at (LocalUnwind label ∷ Separator ∷ []) []
+  pub of_landing : (names : Names) (m begin end at : ℕ) (f : Filter) → 1 ≤ m → N names m
+      → begin ≤ at
+      → L begin → L (at + 1) → L end
+      → P at (landed end names.free) (region begin (at + 1) (except_kind f (at + 1)) ∷ [])
+  pub of_finally : (k begin at : ℕ) → begin ≤ at → L begin → L (at + 1)
+      → P at (finally_called k) (region begin (at + 1) (kinds.Finally k) ∷ [])
+  pub of_zeroed : (x at : ℕ) → D x
+      → P at (Compute (Local x) (Pure (Constant 0)) (Local x) (Local x) ∷ []) []
+  pub of_discarded : (names : Names) (m : ℕ) (e : Expression) (at : ℕ) → N names m → E e
+      → C at (discarded_code names (Some e) at) → P at (discarded_code names (Some e) at) []
+  pub of_condition : (names : Names) (m : ℕ) (e : Expression) (label at : ℕ) → N names m → E e
+      → L label → C at (condition_code names (Some e) label at)
+      → P at (condition_code names (Some e) label at) []
+  pub of_initialiser : (names : Names) (m x : ℕ) (e : Expression) (at : ℕ) → N names m → D x → E e
+      → C at (initialiser_code names x (Some e) at) → P at (initialiser_code names x (Some e) at) []
+  pub of_repeated : (names : Names) (m : ℕ) (e : Expression) (end begin at : ℕ) → N names m → E e
+      → L end → L begin → C at (expression_code names e 0 at ++ repeated end begin)
+      → P at (expression_code names e 0 at ++ repeated end begin) []
+  pub of_return : (names : Names) (m : ℕ) (e : Option Expression) (exit : Way) (at : ℕ)
+      → N names m → OptionalHas E e → WayHas X exit
+      → C at (returned_code names e at ++ return_code exit)
+      → P at (returned_code names e at ++ return_code exit) []
+
+module _ (P : ℕ → List Instruction → List Region → Type 0) (C : ℕ → List Instruction → Type 0)
+    (M : List Instruction → Type 0) (L X : ℕ → Type 0) (N : Names → ℕ → Type 0)
+    (E F : Expression → Type 0) (D : ℕ → Type 0) (neutral : IsNeutral M) (placed : IsPlaced C M L)
+    (in_block : InExcept N) (holds : HoldsOfPieces P C L X N E D) where
+  -- an instruction, and what comes after it
+  next : (at : ℕ) (i : Instruction) (ys : List Instruction) (rs : List Region) → P at (i ∷ []) []
+      → P (at + 1) ys rs → P at (i ∷ ys) rs
+  next at i ys rs h k = holds.both at (at + 1) (i ∷ []) ys [] rs (omega arith) h k
+
+  -- what has regions, and what comes after it and has none
+  before_plain : (at to : ℕ) (xs ys : List Instruction) (rs : List Region) → at + length xs ≡ to
+      → P at xs rs → P to ys [] → P at (xs ++ ys) rs
+  before_plain at to xs ys rs e h k = subst (P at (xs ++ ys)) (append-nil rs)
+      (holds.both at to xs ys rs [] e h k)
+
+  next_placed : (at : ℕ) (i : Instruction) (ys : List Instruction) → M (i ∷ []) → C at (i ∷ ys)
+      → C (at + 1) ys
+  next_placed at i ys m c = placed.back at (at + 1) (i ∷ []) ys (omega arith) m c
+
+  -- ---- pieces
+
+  discarded_every : (names : Names) (m : ℕ) (e : Option Expression) (at : ℕ) → N names m
+      → OptionalHas E e → C at (discarded_code names e at) → P at (discarded_code names e at) []
+  discarded_every names m None at n h c = holds.none at
+  discarded_every names m (Some e) at n h c = holds.of_discarded names m e at n h c
+
+  condition_every : (names : Names) (m : ℕ) (e : Option Expression) (label at : ℕ) → N names m
+      → OptionalHas E e → L label → C at (condition_code names e label at)
+      → P at (condition_code names e label at) []
+  condition_every names m None label at n h l c = holds.none at
+  condition_every names m (Some e) label at n h l c = holds.of_condition names m e label at n h l c
+
+  initialiser_every : (names : Names) (m x : ℕ) (e : Option Expression) (at : ℕ) → N names m
+      → D x → OptionalHas E e → C at (initialiser_code names x e at)
+      → P at (initialiser_code names x e at) []
+  initialiser_every names m x None at n d h c = holds.none at
+  initialiser_every names m x (Some e) at n d h c = holds.of_initialiser names m x e at n d h c
+
+  declared_every : (names : Names) (m : ℕ) (d : Declared) (at : ℕ) → N names m
+      → DeclaredHas E D d → C at (declared_code names d at) → P at (declared_code names d at) []
+  declared_every names m d at n h c =
+      let x = d.local in
+      next at _ (initialiser_code names x d.value (at + 1)) [] (holds.of_zeroed x at h.0)
+      (initialiser_every names m x d.value (at + 1) n h.0 h.1
+      (next_placed at _ (initialiser_code names x d.value (at + 1)) (neutral.zeroed x) c))
+
+  all_declared_every : (names : Names) (m : ℕ) (ds : List Declared) (at : ℕ) → N names m
+      → AllDeclaredHave E D ds → C at (all_declared_code names ds at)
+      → P at (all_declared_code names ds at) []
+  all_declared_every names m [] at n h c = holds.none at
+  all_declared_every names m (d ∷ ds) at n h c =
+      let to = at + declared_size d in
+      let first = declared_code names d at in
+      let rest = all_declared_code names ds to in
+      let l = declared_length names d at in
+      holds.both at to first rest [] [] (omega arith)
+      (declared_every names m d at n h.0 (placed.front at first rest c))
+      (all_declared_every names m ds to n h.1
+      (placed.back at to first rest (omega arith) (neutral.declared names d at) c))
+
+  way_every : (w : Way) (at : ℕ) → WayHas L w → P at (jump_code w) []
+  way_every Nowhere at h = next at Separator (Separator ∷ []) [] (holds.of_separator at)
+      (holds.of_separator (at + 1))
+  way_every (Jumps label) at h = next at (Jump label) (Separator ∷ []) []
+      (holds.of_jump at label h) (holds.of_separator (at + 1))
+  way_every (Unwinds label) at h = holds.of_unwind at label h
+
+  leave_every : (w : Option ℕ) (at : ℕ) → PlaceHas L w → P at (leave_code w ∷ []) []
+  leave_every None at h = holds.of_separator at
+  leave_every (Some label) at h = holds.of_jump at label h
+
+  -- ---- a condition with a jump, and what comes after it
+
+  tested : (names : Names) (e : Expression) (label at : ℕ) (rest : List Instruction)
+      → C at (expression_code names e 0 at ++ JumpIfZero (Temporary 0) label ∷ rest)
+      → C at (condition_code names (Some e) label at ++ rest)
+  tested names e label at rest c =
+      subst (C at) (sym (append_assoc (expression_code names e 0 at)
+      (JumpIfZero (Temporary 0) label ∷ []) rest)) c
+
+  after_test : (names : Names) (e : Expression) (label at : ℕ) (rest : List Instruction)
+      → C at (expression_code names e 0 at ++ JumpIfZero (Temporary 0) label ∷ rest)
+      → C (at + expression_size e + 1) rest
+  after_test names e label at rest c =
+      let l = condition_length names (Some e) label at in
+      placed.back at (at + expression_size e + 1) (condition_code names (Some e) label at) rest
+      (omega arith) (neutral.condition names (Some e) label at) (tested names e label at rest c)
+
+  when : (names : Names) (m : ℕ) (e : Expression) (label at : ℕ) (rest : List Instruction)
+      (rs : List Region) → N names m → E e → L label
+      → C at (expression_code names e 0 at ++ JumpIfZero (Temporary 0) label ∷ rest)
+      → P (at + expression_size e + 1) rest rs
+      → P at (expression_code names e 0 at ++ JumpIfZero (Temporary 0) label ∷ rest) rs
+  when names m e label at rest rs n h l c p =
+      let test = condition_code names (Some e) label at in
+      let long = condition_length names (Some e) label at in
+      subst (λ xs. P at xs rs) (append_assoc (expression_code names e 0 at)
+      (JumpIfZero (Temporary 0) label ∷ []) rest)
+      (holds.both at (at + expression_size e + 1) test rest [] rs (omega arith)
+      (holds.of_condition names m e label at n h l
+      (placed.front at test rest (tested names e label at rest c))) p)
+
+  -- the label where a statement ends
+  ended : (s : Statement) (scope : LoweringContext) (at to : ℕ) → at + statement_size s ≡ to
+      → C at (statement_code scope s at) → L to
+  ended s scope at to e c =
+      let l = statement_length scope s at in
+      placed.ends at to (statement_code scope s at) (omega arith) (neutral.statement scope s at) c
+
+  -- ---- statements
+
+  mutual
+    -- it holds of the code of a statement
+    pub statement_every : (s : Statement) (scope : LoweringContext) (at m : ℕ)
+        → statement_notes s ≤ m → N scope.names m → WaysHave L X scope → StatementHas E F D s
+        → C at (statement_code scope s at)
+        → P at (statement_code scope s at) (statement_regions s at)
+    statement_every (Declare d) scope at m le n w h c = declared_every scope.names m d at n h c
+    statement_every (Block ss) scope at m le n w h c = statements_every ss scope at m le n w h c
+    statement_every (Evaluate e) scope at m le n w h c = discarded_every scope.names m e at n h c
+    statement_every (If e s) scope at m le n w h c =
+        let then = at + expression_size e + 1 in
+        let label = then + statement_size s in
+        let body = statement_code scope s then in
+        when scope.names m e label at body (statement_regions s then) n h.0
+        (ended (If e s) scope at label (omega arith) c) c
+        (statement_every s scope then m le n w h.1 (after_test scope.names e label at body c))
+    statement_every (IfElse e s t) scope at m le n w h c =
+        let then = at + expression_size e + 1 in
+        let skips = then + statement_size s in
+        let otherwise = skips + 1 in
+        let end = otherwise + statement_size t in
+        let yes = statement_code scope s then in
+        let no = statement_code scope t otherwise in
+        let l = statement_length scope s then in
+        let c1 = after_test scope.names e otherwise at (yes ++ Jump end ∷ no) c in
+        let c2 = placed.back then skips yes (Jump end ∷ no) (omega arith)
+        (neutral.statement scope s then) c1 in
+        let c3 = next_placed skips (Jump end) no (neutral.jump end) c2 in
+        let rs = statement_regions s then in
+        let qs = statement_regions t otherwise in
+        when scope.names m e otherwise at (yes ++ Jump end ∷ no) (rs ++ qs) n h.0
+        (placed.begins otherwise no c3) c
+        (holds.both then skips yes (Jump end ∷ no) rs qs (omega arith)
+        (statement_every s scope then m (omega arith) n w h.1
+        (placed.front then yes (Jump end ∷ no) c1))
+        (next skips (Jump end) no qs
+        (holds.of_jump skips end (ended (IfElse e s t) scope at end (omega arith) c))
+        (statement_every t scope otherwise m (omega arith) n w h.2 c3)))
+    statement_every (For ds first t next' s) scope at m le n w h c =
+        let names = scope.names in
+        let begin = at + all_declared_size ds in
+        let iteration = begin + discarded_size first in
+        let start = iteration + condition_size t in
+        let again = start + statement_size s in
+        let step = again + 1 + discarded_size next' in
+        let end = step + 1 in
+        let inner = in_loop end again scope in
+        let declares = all_declared_code names ds at in
+        let begins = discarded_code names first begin in
+        let tests = condition_code names t end iteration in
+        let body = statement_code inner s start in
+        let steps = discarded_code names next' (again + 1) in
+        let last = steps ++ Jump iteration ∷ [] in
+        let ld = all_declared_length names ds at in
+        let lf = discarded_length names first begin in
+        let lt = condition_length names t end iteration in
+        let ls = statement_length inner s start in
+        let ln = discarded_length names next' (again + 1) in
+        let c1 = placed.back at begin declares (begins ++ (tests ++ (body ++ (Separator ∷ last))))
+        (omega arith) (neutral.all_declared names ds at) c in
+        let c2 = placed.back begin iteration begins (tests ++ (body ++ (Separator ∷ last)))
+        (omega arith) (neutral.discarded names first begin) c1 in
+        let c3 = placed.back iteration start tests (body ++ (Separator ∷ last)) (omega arith)
+        (neutral.condition names t end iteration) c2 in
+        let c4 = placed.back start again body (Separator ∷ last) (omega arith)
+        (neutral.statement inner s start) c3 in
+        let c5 = next_placed again Separator last neutral.separator c4 in
+        let ended' = ended (For ds first t next' s) scope at end (omega arith) c in
+        let rs = statement_regions s start in
+        holds.both at begin declares _ [] rs (omega arith)
+        (all_declared_every names m ds at n h.0 (placed.front at declares _ c))
+        (holds.both begin iteration begins _ [] rs (omega arith)
+        (discarded_every names m first begin n h.1 (placed.front begin begins _ c1))
+        (holds.both iteration start tests _ [] rs (omega arith)
+        (condition_every names m t end iteration n h.2 ended' (placed.front iteration tests _ c2))
+        (before_plain start again body _ rs (omega arith)
+        (statement_every s inner start m le n
+        (record {
+          exit = w.exit;
+          loop_end = ended';
+          loop_next = placed.begins again _ c4;
+          leave = w.leave;
+        }) h.4 (placed.front start body _ c3))
+        (next again Separator last [] (holds.of_separator again)
+        (holds.both (again + 1) step steps _ [] [] (omega arith)
+        (discarded_every names m next' (again + 1) n h.3 (placed.front (again + 1) steps _ c5))
+        (holds.of_jump step iteration (placed.begins iteration _ c2)))))))
+    statement_every (DoWhile s e) scope at m le n w h c =
+        let again = at + statement_size s in
+        let end = again + 1 + expression_size e + 2 in
+        let inner = in_loop end again scope in
+        let body = statement_code inner s at in
+        let last = expression_code scope.names e 0 (again + 1) ++ repeated end at in
+        let l = statement_length inner s at in
+        let c1 = placed.back at again body (Separator ∷ last) (omega arith)
+        (neutral.statement inner s at) c in
+        let ended' = ended (DoWhile s e) scope at end (omega arith) c in
+        before_plain at again body (Separator ∷ last) (statement_regions s at) (omega arith)
+        (statement_every s inner at m le n
+        (record {
+          exit = w.exit;
+          loop_end = ended';
+          loop_next = placed.begins again (Separator ∷ last) c1;
+          leave = w.leave;
+        }) h.0 (placed.front at body (Separator ∷ last) c))
+        (next again Separator last [] (holds.of_separator again)
+        (holds.of_repeated scope.names m e end at (again + 1) n h.1 ended' (placed.begins at _ c)
+        (next_placed again Separator last neutral.separator c1)))
+    statement_every (statements.Return e) scope at m le n w h c = holds.of_return scope.names m e
+        scope.exit at n h w.exit c
+    statement_every Break scope at m le n w h c = way_every scope.loop_end at w.loop_end
+    statement_every Continue scope at m le n w h c = way_every scope.loop_next at w.loop_next
+    statement_every Leave scope at m le n w h c = leave_every scope.leave at w.leave
+    statement_every (TryExcept body filter block) scope at m le n w h c =
+        let names = scope.names in
+        let ends = at + statements_size body in
+        let target = ends + 1 in
+        let end = target + 1 + statements_size block in
+        let inner = in_try end scope in
+        let guarded = statements_code inner body at in
+        let jumps = landed end names.free in
+        let handles = statements_code (in_except scope) block (target + 1) in
+        let l = statements_length inner body at in
+        let c1 = placed.back at ends guarded (jumps ++ handles) (omega arith)
+        (neutral.statements inner body at) c in
+        let c2 = placed.back ends (target + 1) jumps handles (omega arith)
+        (neutral.landing end names.free) c1 in
+        let ended' = ended (TryExcept body filter block) scope at end (omega arith) c in
+        let own = region at target (except_kind filter target) in
+        let qs = statements_regions block (target + 1) in
+        holds.both at ends guarded (jumps ++ handles) (statements_regions body at) (own ∷ qs)
+        (omega arith)
+        (statements_every body inner at m (omega arith) n
+        (record {
+          exit = w.exit;
+          loop_end = w.loop_end;
+          loop_next = w.loop_next;
+          leave = ended';
+        }) h.0 (placed.front at guarded (jumps ++ handles) c))
+        (holds.both ends (target + 1) jumps handles (own ∷ []) qs (omega arith)
+        (holds.of_landing names m at end ends filter (omega arith) n (omega arith)
+        (placed.begins at _ c) (placed.begins target _ (next_placed ends (Jump end) _
+        (neutral.jump end) c1)) ended')
+        (statements_every block (in_except scope) (target + 1) (statements_notes block)
+        (omega arith) (in_block names m (statements_notes block) (omega arith) n)
+        (record {
+          exit = w.exit;
+          loop_end = w.loop_end;
+          loop_next = w.loop_next;
+          leave = w.leave;
+        }) h.2 c2))
+    statement_every (TryFinally body k last) scope at m le n w h c =
+        let ends = at + statements_size body in
+        let inner = in_guarded ends scope in
+        let guarded = statements_code inner body at in
+        let called = finally_called (k - 1) in
+        let l = statements_length inner body at in
+        let c1 = placed.back at ends guarded called (omega arith)
+        (neutral.statements inner body at) c in
+        holds.both at ends guarded called (statements_regions body at)
+        (region at (ends + 1) (kinds.Finally (k - 1)) ∷ []) (omega arith)
+        (statements_every body inner at m (omega arith) n
+        (record {
+          exit = unwound_has X scope.exit w.exit;
+          loop_end = unwound_has L scope.loop_end w.loop_end;
+          loop_next = unwound_has L scope.loop_next w.loop_next;
+          leave = placed.begins ends called c1;
+        }) h.0 (placed.front at guarded called c))
+        (holds.of_finally (k - 1) at ends (omega arith) (placed.begins at _ c)
+        (placed.begins (ends + 1) _ (next_placed ends Separator _ neutral.separator c1)))
+
+    -- it holds of the code of statements
+    pub statements_every : (ss : Statements) (scope : LoweringContext) (at m : ℕ)
+        → statements_notes ss ≤ m → N scope.names m → WaysHave L X scope → StatementsHave E F D ss
+        → C at (statements_code scope ss at)
+        → P at (statements_code scope ss at) (statements_regions ss at)
+    statements_every Empty scope at m le n w h c = holds.none at
+    statements_every (Then s ss) scope at m le n w h c =
+        let to = at + statement_size s in
+        let first = statement_code scope s at in
+        let rest = statements_code scope ss to in
+        let l = statement_length scope s at in
+        holds.both at to first rest (statement_regions s at) (statements_regions ss to)
+        (omega arith)
+        (statement_every s scope at m (omega arith) n w h.0 (placed.front at first rest c))
+        (statements_every ss scope to m (omega arith) n w h.1
+        (placed.back at to first rest (omega arith) (neutral.statement scope s at) c))
