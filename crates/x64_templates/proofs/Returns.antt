@@ -37,9 +37,6 @@ pub record Outlasts (reserved : ℕ → Bool) (sp : ℕ) (m m' : Memory) : Type 
   pub byte : (a : ℕ) → reserved a ≡ true → sp ≤ a → m'.byte a ≡ m.byte a
   pub protection : (a : ℕ) → reserved a ≡ true → m'.protection a ≡ m.protection a
 
-module _ (y : Layout) (n : Counts) (reserved : ℕ → Bool) (sp base : ℕ)
-    (room : SlotsHaveRoom y n sp base) where
-
 -- ---- after a call: RAX goes to its slot
 
 pub call_ends : (p : FramePlace) (to : Slot) (v : MachineView) (at : ℕ) (f : Flags) (b : BodyState)
