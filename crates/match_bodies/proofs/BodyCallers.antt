@@ -16,6 +16,7 @@ use Rattle.match_bodies.specs.Callers.{HasCaller, FindsReturn}
 use Rattle.match_bodies.specs.ProgramImages.{HasProgram, IsProgramImage}
 use Rattle.match_bodies.proofs.ReturnAddresses.{label_found}
 use Rattle.std.specs.Prelude.{ℕ}
+use Rattle.match_bodies.specs.Setting.{setting_of}
 
 -- a walk that comes to a frame gives its caller, and then what it gives from there
 pub gives_caller : (t : Functions) (m : Memory) (c caller : Context) (cs : List Context)
@@ -32,6 +33,6 @@ pub begin_finds : (t : Functions) (fs : List Funclet) (program : LinearProgram) 
     → FindsReturn t m (p.address name label) (p.layout name).frame
 begin_finds t fs program p q image m name b label there has lt = elim
     (slice_get_cases b.code label).1 [
-      | inl x ↦ label_found t fs program p q image name b there m has label x.0 x.2
+      | inl x ↦ label_found (setting_of t fs program p q image) name b there m has label x.0 x.2
       | inr x ↦ let le = x.0 in absurd (omega arith)
     ]

@@ -1,8 +1,6 @@
 -- Each step within a body is matched.
-use Rattle.std.proofs.Common.{◌≡◌, ℕ, zero, ◌<◌, ◌^◌, Bool, true, false, Option, Some, None, List, refl, sym, ap, ◌∙◌, arith}
+use Rattle.std.proofs.Common.{◌≡◌, ℕ, zero, ◌<◌, ◌^◌, Bool, true, false, Option, Some, None, refl, sym, ap, ◌∙◌, arith}
 use Rattle.x64_machine.specs.Effect.{State}
-use Rattle.virtual_unwind.specs.CallerOf.{Functions}
-use Rattle.host_model.specs.declared.funclet.Funclet.{Funclet}
 use Rattle.c_operations.specs.declared.operation.Operation.{Operation}
 use Rattle.c_operations.specs.Performed.{Gives, performed}
 use Rattle.source_meaning.specs.Source.{is_reserved}
@@ -15,15 +13,12 @@ use Rattle.linear_code.specs.Meaning.{IsSlot}
 use Rattle.linear_machine.specs.Frames.{Configuration}
 use Rattle.linear_machine.specs.Instructions.{is_constant, operand, act}
 use Rattle.linear_machine.specs.Run.{instruction_at, exec}
-use Rattle.match_stack.specs.ImagePlan.{ImagePlan}
 use Rattle.match_runs.specs.Ends.{HasRule}
 use Rattle.match_runs.specs.Matched.{Moves}
 use Rattle.lowering_invariants.specs.Ready as ready
 use Rattle.lowering_invariants.specs.Waiting.{LandsWell}
 use Rattle.lowering_invariants.specs.SmallNumbers.{IsSmallCode}
-use Rattle.match_bodies.specs.CodeSites.{Sites}
-use Rattle.match_bodies.specs.ProgramImages.{IsProgramImage}
-use Rattle.match_bodies.specs.Bodies.{turns_left, RepresentsAt}
+use Rattle.match_bodies.specs.Bodies.{turns_left}
 use Rattle.match_bodies.specs.BodyViews.{counts_of}
 use Rattle.match_bodies.specs.ConfigurationFacts.{IsWellMade, IsKnown}
 use Rattle.match_bodies.specs.StepLaws.{turns_per_step, Completes, IsWithinBody, StepsWithinBodiesAreMatched}
@@ -32,6 +27,7 @@ use Rattle.match_bodies.proofs.PlainSteps.{is_read, jump_step, separator_step, j
 use Rattle.match_bodies.proofs.ComputeStep.{same_constant, outcome_here, compute_step}
 use Rattle.match_bodies.proofs.LandingStep.{landing_step}
 use Rattle.match_bodies.proofs.StepNeeds.{counted_here, around_here, code_at, held_here, goes_inside, ready_here}
+use Rattle.match_bodies.specs.Setting.{Setting, setting_of, RepresentsAt}
 
 some_number : (x y : ℕ) → Some x ≡ Some y → x ≡ y
 some_number x y e = cc
@@ -55,9 +51,10 @@ lands_at program c i (Some v) h e f =
     e in
     absurd (let x : true ≡ false = ap is_landing same ∙ f in cc)
 
-module _ (t : Functions) (fs : List Funclet) (program : LinearProgram) (p : ImagePlan) (q : Sites)
-    (image : IsProgramImage t fs program p q) (made : IsWellMade program p) (s : State)
-    (c : Configuration) (b : RepresentsAt t fs program p q s c) (known : IsKnown program c) where
+module _ (setting : Setting) (made : IsWellMade setting.program setting.plan) (s : State)
+    (c : Configuration) (b : RepresentsAt setting s c) (known : IsKnown setting.program c) where
+  open setting use {functions as t, funclets as fs, program}
+
   free : (i : Instruction) → instruction_at program c ≡ Some i → is_landing i ≡ false
       → c.frame.landed ≡ None
   free i e f = lands_at program c i c.frame.landed known.stacked.landed e f
@@ -66,50 +63,39 @@ module _ (t : Functions) (fs : List Funclet) (program : LinearProgram) (p : Imag
   completes : (to : Slot) (o : Operation) (first second : Slot)
       → instruction_at program c ≡ Some (instructions.Compute to o first second)
       → (d : Completes program c o first second)
-      → outcome_here t fs program p q image made.room s c b
-      (counted_here t fs program p q image made c known)
-      (around_here t fs program p q image made s c b known) o first second
-      ≡ Gives d.value d.memory
+      → outcome_here setting made.room s c b (counted_here setting made c known)
+      (around_here setting made s c b known) o first second ≡ Gives d.value d.memory
   completes to o first second e d =
-      let there = has_slots t fs program p q image made.room s c b
-      (counted_here t fs program p q image made c known) (instructions.Compute to o first second)
-      (code_at t fs program p q image made s c b known (instructions.Compute to o first second)
-      e) in
-      let r = ready_here t fs program p q image made s c b known
+      let there = has_slots setting made.room s c b
+      (counted_here setting made c known) (instructions.Compute to o first second)
+      (code_at setting made s c b known (instructions.Compute to o first second) e) in
+      let r = ready_here setting made s c b known
       (instructions.Compute to o first second) e in
       by (is_constant o) refl there.1 there.2 r.0 r.1 d.reads_first d.reads_second
     where
       by : (constant : Bool) → is_constant o ≡ constant
-          → IsSlot (counts_of (code t fs program p q image made.room s c b
-          (counted_here t fs program p q image made c known))) first
-          → IsSlot (counts_of (code t fs program p q image made.room s c b
-          (counted_here t fs program p q image made c known))) second
+          → IsSlot (counts_of (code setting made.room s c b (counted_here setting made c known)))
+          first → IsSlot (counts_of (code setting made.room s c b
+          (counted_here setting made c known))) second
           → ready.IsRead constant (ready.held c) first → ready.IsRead constant (ready.held c) second
           → operand constant c first ≡ Some d.a → operand constant c second ≡ Some d.b
-          → outcome_here t fs program p q image made.room s c b
-          (counted_here t fs program p q image made c known)
-          (around_here t fs program p q image made s c b known) o first second
-          ≡ Gives d.value d.memory
+          → outcome_here setting made.room s c b (counted_here setting made c known)
+          (around_here setting made s c b known) o first second ≡ Gives d.value d.memory
       by true k f g hf hg rf rg =
           same_constant (is_reserved program.globals) o
-          ((slots t fs program p q image made.room s c b
-          (counted_here t fs program p q image made c known)).slots first)
-          ((slots t fs program p q image made.room s c b
-          (counted_here t fs program p q image made c known)).slots second) d.a d.b c.store.memory
-          k ∙ d.gives
+          ((slots setting made.room s c b (counted_here setting made c known)).slots first)
+          ((slots setting made.room s c b (counted_here setting made c known)).slots second) d.a d.b
+          c.store.memory k ∙ d.gives
       by false k f g hf hg rf rg =
-          let x = is_read t fs program p q image made.room s c b
-          (counted_here t fs program p q image made c known)
-          (around_here t fs program p q image made s c b known) first f hf in
-          let y = is_read t fs program p q image made.room s c b
-          (counted_here t fs program p q image made c known)
-          (around_here t fs program p q image made s c b known) second g hg in
+          let x = is_read setting made.room s c b
+          (counted_here setting made c known) (around_here setting made s c b known) first f hf in
+          let y = is_read setting made.room s c b
+          (counted_here setting made c known) (around_here setting made s c b known) second g hg in
           let a : x.value ≡ d.a = some_number x.value d.a (sym x.reads ∙ rf) in
           let e : y.value ≡ d.b = some_number y.value d.b (sym y.reads ∙ rg) in
           ap (λ z. performed (is_reserved program.globals) o z
-          ((slots t fs program p q image made.room s c b
-          (counted_here t fs program p q image made c known)).slots second) c.store.memory)
-          (x.same ∙ a)
+          ((slots setting made.room s c b (counted_here setting made c known)).slots second)
+          c.store.memory) (x.same ∙ a)
           ∙ ap (λ z. performed (is_reserved program.globals) o d.a z c.store.memory) (y.same ∙ e)
           ∙ d.gives
 
@@ -119,51 +105,44 @@ module _ (t : Functions) (fs : List Funclet) (program : LinearProgram) (p : Imag
 
   step : (i : Instruction) → instruction_at program c ≡ Some i → IsWithinBody program c i
       → HasRule (act program i (exec program zero) c)
-      → Moves t fs program turns_per_step turns_left (RepresentsAt t fs program p q) s c i
+      → Moves t fs program turns_per_step turns_left (RepresentsAt setting) s c i
   step (instructions.Compute to o first second) e h rule =
-      let r = ready_here t fs program p q image made s c b known
+      let r = ready_here setting made s c b known
       (instructions.Compute to o first second) e in
-      compute_step t fs program p q image made.room s c b
-      (counted_here t fs program p q image made c known)
-      (around_here t fs program p q image made s c b known) to o first second h.value h.memory
+      compute_step setting made.room s c b (counted_here setting made c known)
+      (around_here setting made s c b known) to o first second h.value h.memory
       (free (instructions.Compute to o first second) e refl)
-      (code_at t fs program p q image made s c b known (instructions.Compute to o first second) e)
-      (held_here t fs program p q image made s c b known) r.0 r.1 rule
-      (goes_inside t fs program p q image made s c b known (instructions.Compute to o first second)
-      e) (completes to o first second e h)
+      (code_at setting made s c b known (instructions.Compute to o first second) e)
+      (held_here setting made s c b known) r.0 r.1 rule
+      (goes_inside setting made s c b known (instructions.Compute to o first second) e) (completes
+      to o first second e h)
   step (instructions.Jump label) e h rule =
-      jump_step t fs program p q image made.room s c b
-      (counted_here t fs program p q image made c known)
-      (around_here t fs program p q image made s c b known) label
-      (free (instructions.Jump label) e refl)
-      (code_at t fs program p q image made s c b known (instructions.Jump label) e)
-      (held_here t fs program p q image made s c b known)
-      (goes_inside t fs program p q image made s c b known (instructions.Jump label) e)
+      jump_step setting made.room s c b (counted_here setting made c known)
+      (around_here setting made s c b known) label (free (instructions.Jump label) e refl)
+      (code_at setting made s c b known (instructions.Jump label) e)
+      (held_here setting made s c b known)
+      (goes_inside setting made s c b known (instructions.Jump label) e)
   step (instructions.JumpIfZero slot label) e h rule =
-      jump_if_zero_step t fs program p q image made.room s c b
-      (counted_here t fs program p q image made c known)
-      (around_here t fs program p q image made s c b known) slot label
+      jump_if_zero_step setting made.room s c b (counted_here setting made c known)
+      (around_here setting made s c b known) slot label
       (free (instructions.JumpIfZero slot label) e refl)
-      (code_at t fs program p q image made s c b known (instructions.JumpIfZero slot label) e)
-      (held_here t fs program p q image made s c b known)
-      (ready_here t fs program p q image made s c b known (instructions.JumpIfZero slot label) e)
-      (goes_inside t fs program p q image made s c b known (instructions.JumpIfZero slot label) e)
+      (code_at setting made s c b known (instructions.JumpIfZero slot label) e)
+      (held_here setting made s c b known)
+      (ready_here setting made s c b known (instructions.JumpIfZero slot label) e)
+      (goes_inside setting made s c b known (instructions.JumpIfZero slot label) e)
   step (instructions.Landing to) e h rule =
-      let r = ready_here t fs program p q image made s c b known (instructions.Landing to) e in
-      landing_step t fs program p q image made.room s c b
-      (counted_here t fs program p q image made c known)
-      (around_here t fs program p q image made s c b known) to r.0.0 r.0.1
+      let r = ready_here setting made s c b known (instructions.Landing to) e in
+      landing_step setting made.room s c b (counted_here setting made c known)
+      (around_here setting made s c b known) to r.0.0 r.0.1
       (small_code c.frame.landed r.0.0 r.0.1 known.small.items.0.landed)
-      (code_at t fs program p q image made s c b known (instructions.Landing to) e)
-      (held_here t fs program p q image made s c b known) r.1
-      (goes_inside t fs program p q image made s c b known (instructions.Landing to) e)
+      (code_at setting made s c b known (instructions.Landing to) e)
+      (held_here setting made s c b known) r.1
+      (goes_inside setting made s c b known (instructions.Landing to) e)
   step instructions.Separator e h rule =
-      separator_step t fs program p q image made.room s c b
-      (counted_here t fs program p q image made c known)
-      (around_here t fs program p q image made s c b known)
-      (free instructions.Separator e refl) (code_at t fs program p q image made s c b known
-      instructions.Separator e) (held_here t fs program p q image made s c b known)
-      (goes_inside t fs program p q image made s c b known instructions.Separator e)
+      separator_step setting made.room s c b (counted_here setting made c known)
+      (around_here setting made s c b known) (free instructions.Separator e refl)
+      (code_at setting made s c b known instructions.Separator e) (held_here setting made s c b
+      known) (goes_inside setting made s c b known instructions.Separator e)
   step (instructions.Information to field) e h rule = absurd h
   step (instructions.Call f first count) e h rule = absurd h
   step (instructions.CallBuiltIn f first) e h rule = absurd h
@@ -172,5 +151,6 @@ module _ (t : Functions) (fs : List Funclet) (program : LinearProgram) (p : Imag
   step (instructions.Return from) e h rule = absurd h
 
 pub within_body : StepsWithinBodiesAreMatched
-within_body t fs program p q image made s c i b known e h rule = step t fs program p q image made s
+within_body t fs program p q image made s c i b known e h rule = step (setting_of t fs program p q
+    image) made s
     c b known i e h rule

@@ -4,24 +4,20 @@ use Rattle.std.specs.Prelude.{◌⊎◌, slice_get, slice_index, drop, replicate
 use Rattle.host_layout.specs.declared.range.TheConstants.{STACK_START, STACK_END}
 use Rattle.x64_instr.specs.declared.register.Reg.TheVariants.{Rsp}
 use Rattle.x64_machine.specs.Effect.{State, register}
-use Rattle.virtual_unwind.specs.CallerOf.{Functions}
-use Rattle.host_model.specs.declared.funclet.Funclet.{Funclet}
-use Rattle.linear_code.specs.Program.{LinearProgram, LinearBody}
+use Rattle.linear_code.specs.Program.{LinearBody}
 use Rattle.linear_machine.specs.Frames as linear
 use Rattle.linear_machine.specs.Frames.{BodyName, FunctionBody, FuncletBody, body_of, Configuration}
 use Rattle.x64_templates.specs.Straight.{machine}
 use Rattle.match_stack.specs.WalkLaws.{context_below}
-use Rattle.match_stack.specs.ImagePlan.{ImagePlan}
 use Rattle.match_stack.specs.ItemMatches.{locals_of, activations_below, temporaries_end, HasActivation}
 use Rattle.match_stack.proofs.ListEnds.{in_stack}
-use Rattle.match_bodies.specs.CodeSites.{Sites}
 use Rattle.match_stack.specs.ListLaws.{IsLinkedStack}
 use Rattle.match_bodies.specs.Layouts.{IsFunctionLayout, IsLeafLayout, IsFuncletLayout, IsLayoutIf, IsLaidOut, IsFuncletPlan}
-use Rattle.match_bodies.specs.ProgramImages.{IsProgramImage}
-use Rattle.match_bodies.specs.Bodies.{slots_end, last_temporary, RepresentsAt}
+use Rattle.match_bodies.specs.Bodies.{slots_end, last_temporary}
 use Rattle.x64_templates.specs.Runs.{Roomy, FrameHolds}
 use Rattle.match_bodies.specs.BodyViews.{seen_by_templates, counts_of, frame_at, state_of, HasSlotsOf, HasView}
 use Rattle.match_bodies.proofs.SlotPlaces.{SlotsPlaced, function_placed, leaf_placed, funclet_placed, room_of, holds_of, local_is, temporary_is}
+use Rattle.match_bodies.specs.Setting.{Setting, RepresentsAt}
 
 -- a state is made of its registers
 pub registers_are : (rs : List ℕ) → length rs ≡ 16
@@ -40,14 +36,15 @@ is_machine s e = ap (λ rs. let u : State = record {
 } in u)
     (registers_are s.cpu.registers e)
 
-module _ (t : Functions) (fs : List Funclet) (program : LinearProgram) (p : ImagePlan) (q : Sites)
-    (image : IsProgramImage t fs program p q) where
+module _ (setting : Setting) where
+  open setting use {functions as t, funclets as fs, program, plan as p, image}
+
   -- the body that runs has as many locals in its activation as its code names
   abbrev pub IsCounted : Configuration → Type 0
   IsCounted c = (b : LinearBody) → body_of program c.frame.body ≡ Some b
       → length (linear.locals_of c.store c.frame.activation) ≡ b.locals
 
-  module _ (s : State) (c : Configuration) (b : RepresentsAt t fs program p q s c) (counted : IsCounted c)
+  module _ (s : State) (c : Configuration) (b : RepresentsAt setting s c) (counted : IsCounted c)
     where
       abbrev code : LinearBody
       code = b.body.slots.code

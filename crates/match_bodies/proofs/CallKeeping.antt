@@ -11,11 +11,9 @@ use Rattle.x64_instr.specs.declared.instruction.Target.TheVariants.{Indirect}
 use Rattle.x64_instr.specs.declared.instruction.Instr.{Instr}
 use Rattle.x64_machine.specs.declared.context.Context.{Context}
 use Rattle.x64_machine.specs.Effect.{State, register, with_rip}
-use Rattle.virtual_unwind.specs.CallerOf.{Functions}
 use Rattle.virtual_unwind.specs.Undone.{word}
-use Rattle.host_model.specs.declared.funclet.Funclet.{Funclet}
 use Rattle.linear_code.specs.declared.instruction.Instruction.{Instruction}
-use Rattle.linear_code.specs.Program.{LinearProgram, LinearBody}
+use Rattle.linear_code.specs.Program.{LinearBody}
 use Rattle.linear_machine.specs.Frames.{BodyName, body_of}
 use Rattle.template_code.specs.Bytes.{size, sizes, thunk}
 use Rattle.template_code.specs.Jumps.{IsNear, call}
@@ -27,11 +25,10 @@ use Rattle.x64_templates.proofs.PlacedCode.{thunk_encodable}
 use Rattle.x64_templates.proofs.Computes.{code_split}
 use Rattle.match_stack.specs.Stack.{StackItem, Framed, Leaf, ItemIsAt, OwnedBy, context_after}
 use Rattle.match_stack.specs.WalkLaws.{context_below}
-use Rattle.match_stack.specs.ImagePlan.{ImagePlan}
 use Rattle.match_runs.specs.Shadow.{is_call, KeepsShadow, AllKeep}
 use Rattle.match_runs.proofs.Shadows.{straight, keep_first}
-use Rattle.match_bodies.specs.CodeSites.{Sites, links_of}
-use Rattle.match_bodies.specs.ProgramImages.{frame_with, HasProgram, IsResumed, IsProgramImage}
+use Rattle.match_bodies.specs.CodeSites.{links_of}
+use Rattle.match_bodies.specs.ProgramImages.{frame_with}
 use Rattle.match_bodies.specs.Callers.{FindsReturn}
 use Rattle.match_bodies.proofs.InstructionEffects.{others_of, Calls, jumps}
 use Rattle.match_bodies.proofs.SilentTurns.{program_kept}
@@ -39,22 +36,23 @@ use Rattle.match_bodies.proofs.StackTop.{leaf_layout}
 use Rattle.match_bodies.proofs.RoutineWalks.{read_here, effect_here, StepsTo, steps_split, keeps_split, Beneath, beneath_stays, callers_above, AllPlain, Finds, Ran, ran}
 use Rattle.match_bodies.proofs.ShadowTurns.{gives_here, called, beneath_called, call_keeps_shadow, beneath_callee}
 use Rattle.match_bodies.proofs.ReturnAddresses.{resumed_found, within_found, template_there}
+use Rattle.match_bodies.specs.Setting.{Setting, HasProgram, IsResumed}
 
-module _ (t : Functions) (fs : List Funclet) (program : LinearProgram) (p : ImagePlan) (q : Sites)
-    (image : IsProgramImage t fs program p q) where
+module _ (setting : Setting) where
+  open setting use {functions as t, funclets as fs, program, plan as p, sites as q, image}
+
   module _ (name : BodyName) (b : LinearBody) (is : body_of program name ≡ Some b) (label : ℕ)
       (i : Instruction) (at : slice_get b.code label ≡ Some i) (goes : IsReturn i → ⊥)
       (before after : List Instr) (next to : ℕ)
       (parts : template (links_of p q name) (p.layout name) (p.address name label) i
       ≡ before ++ (call next to ∷ after))
       (next_is : p.address name label + sizes before + 5 ≡ next) (near : IsNear next to) (there : ℕ)
-      (resumed : IsResumed t fs program p q name b there next)
-      (enters : (m : Memory) → FindsReturn t m to 0)
+      (resumed : IsResumed setting name b there next) (enters : (m : Memory) → FindsReturn t m to 0)
       (s w : State) (top back : ℕ) (others : List ℕ) (list : List StackItem)
       (here : s.cpu.rip ≡ p.address name label)
       (beneath : Beneath t s top (top + 8) back others list)
       (below : register s.cpu Rsp + (p.layout name).frame ≡ top) (low : 8 ≤ register s.cpu Rsp)
-      (has : HasProgram t fs program p q s.memory)
+      (has : HasProgram setting s.memory)
       (plain : AllPlain (p.layout name).frame 8 before) (run : StepsTo (length before + 1) s w)
     where
       abbrev frame : ℕ
@@ -77,22 +75,21 @@ module _ (t : Functions) (fs : List Funclet) (program : LinearProgram) (p : Imag
               → FindsReturn t m (s.cpu.rip + sizes done) frame
           by [] e =
               subst (λ a. FindsReturn t m (a + sizes done) frame) (sym here)
-              (within_found t fs program p q image name b is m h label i at goes done after
-              (call next to) (parts ∙ ap (λ (xs : List Instr). xs ++ (call next to ∷ after))
+              (within_found setting name b is m h label i at goes done after (call next to)
+              (parts ∙ ap (λ (xs : List Instr). xs ++ (call next to ∷ after))
               (e ∙ append-nil done)))
           by (item ∷ left') e =
               subst (λ a. FindsReturn t m (a + sizes done) frame) (sym here)
-              (within_found t fs program p q image name b is m h label i at goes done
+              (within_found setting name b is m h label i at goes done
               (left' ++ (call next to ∷ after)) item
               (parts ∙ ap (λ (xs : List Instr). xs ++ (call next to ∷ after)) e
               ∙ append_assoc done (item ∷ left') (call next to ∷ after)))
 
-      codes : (m : Memory) → HasProgram t fs program p q m
-          → HasCode m (p.address name label) before
-          × HasCode m (p.address name label + sizes before) (call next to ∷ after)
+      codes : (m : Memory) → HasProgram setting m → HasCode m (p.address name label) before ×
+          HasCode m (p.address name label + sizes before) (call next to ∷ after)
       codes m h = code_split m (p.address name label) before (call next to ∷ after)
           (subst (HasCode m (p.address name label)) parts
-          (template_there t fs program p q image name b is m h label i at))
+          (template_there setting name b is m h label i at))
 
       first : Ran t fs program p q top (top + 8) back others list s u before
       first = ran t fs program p q top (top + 8) back others list before s u frame 8 halves.1 plain
@@ -131,7 +128,7 @@ module _ (t : Functions) (fs : List Funclet) (program : LinearProgram) (p : Imag
       still_beneath = beneath_called t fs top (top + 8) back others list u v st first.beneath (sp - 8)
           frame to sp_below up next there_is near after code_there
 
-      has_called : HasProgram t fs program p q v.memory
+      has_called : HasProgram setting v.memory
       has_called = program_kept t fs program p q u.memory v.memory
           (record { protection = st.protection; fixed = st.fixed }) first.has
 
@@ -139,15 +136,15 @@ module _ (t : Functions) (fs : List Funclet) (program : LinearProgram) (p : Imag
       call_found =
           let z : p.address name label + sizes before ≡ u.cpu.rip = omega (arith, first.rip) in
           subst (λ a. FindsReturn t u.memory a frame) z
-          (within_found t fs program p q image name b is u.memory first.has label i at goes before
-          after (call next to) parts)
+          (within_found setting name b is u.memory first.has label i at goes before after
+          (call next to) parts)
 
       keeps_called : KeepsShadow t fs u v
       keeps_called =
           call_keeps_shadow t fs top (top + 8) back others list u v st first.beneath (sp - 8) frame to
           sp_below up next there_is near after code_there
-          call_found (enters v.memory) (resumed_found t fs program p q image name b is v.memory
-          has_called there next resumed)
+          call_found (enters v.memory) (resumed_found setting name b is v.memory has_called there
+          next resumed)
 
       pub calls_keep : AllKeep t fs (length before + 1) s
       calls_keep = keeps_split t fs (length before) 1 s u halves.1 first.keeps
@@ -202,14 +199,14 @@ module _ (t : Functions) (fs : List Funclet) (program : LinearProgram) (p : Imag
         beneath_it : Beneath t x (sp - 8) limit next others (item ∷ list)
         rip : x.cpu.rip ≡ to
         stack : register x.cpu Rsp ≡ sp - 8
-        program_there : HasProgram t fs program p q x.memory
+        program_there : HasProgram setting x.memory
 
       pub record CalleeBegins (limit : ℕ) : Type 0 where
         pub item : StackItem
         pub beneath_it : Beneath t w (sp - 8) limit next others (item ∷ list)
         pub rip : w.cpu.rip ≡ to
         pub stack : register w.cpu Rsp ≡ sp - 8
-        pub program_there : HasProgram t fs program p q w.memory
+        pub program_there : HasProgram setting w.memory
 
       pub callee_begins : (limit : ℕ) → sp ≤ limit → limit ≤ top → CalleeBegins limit
       callee_begins limit le most =

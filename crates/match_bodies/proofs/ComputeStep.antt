@@ -4,8 +4,6 @@ use Rattle.std.specs.Prelude.{nat_le, slice_get, slice_set, if◌then◌else◌}
 use Rattle.std.proofs.lemmas.Bool.{leb-true, le-leb}
 use Rattle.flat_memory.specs.Memory.{Memory}
 use Rattle.x64_machine.specs.Effect.{State}
-use Rattle.virtual_unwind.specs.CallerOf.{Functions}
-use Rattle.host_model.specs.declared.funclet.Funclet.{Funclet}
 use Rattle.c_operations.specs.declared.operation.Operation.{Operation}
 use Rattle.c_operations.specs.declared.operation.Operation.TheVariants as operations
 use Rattle.c_operations.specs.declared.operation.Pure.TheVariants.{Constant}
@@ -16,7 +14,7 @@ use Rattle.linear_code.specs.declared.slot.Slot.TheVariants.{Local, Temporary}
 use Rattle.linear_code.specs.declared.instruction.Instruction.TheVariants as instructions
 use Rattle.linear_code.specs.BodyState.{BodyState, with_slot}
 use Rattle.linear_code.specs.Meaning.{IsSlot, kept}
-use Rattle.linear_code.specs.Program.{LinearProgram, LinearBody}
+use Rattle.linear_code.specs.Program.{LinearBody}
 use Rattle.linear_machine.specs.Frames as linear
 use Rattle.linear_machine.specs.Frames.{Configuration, Next, read, with_temporaries, forth, with_some}
 use Rattle.linear_machine.specs.Instructions.{is_constant, operand, written, computed, act}
@@ -31,14 +29,11 @@ use Rattle.template_code.specs.Template.{template_size}
 use Rattle.template_code.proofs.Lengths.{compute_length}
 use Rattle.x64_templates.specs.Runs.{Computed}
 use Rattle.x64_templates.proofs.Computes.{compute_run}
-use Rattle.match_stack.specs.ImagePlan.{ImagePlan}
 use Rattle.match_runs.specs.Ends.{HasRule}
 use Rattle.match_runs.specs.Matched.{Moves}
 use Rattle.lowering_invariants.specs.Room.{HaveRoom}
 use Rattle.lowering_invariants.specs.Ready as ready
-use Rattle.match_bodies.specs.CodeSites.{Sites}
-use Rattle.match_bodies.specs.ProgramImages.{IsProgramImage}
-use Rattle.match_bodies.specs.Bodies.{turns_left, RepresentsAt}
+use Rattle.match_bodies.specs.Bodies.{turns_left}
 use Rattle.match_bodies.specs.BodyViews.{counts_of}
 use Rattle.match_bodies.proofs.BodyViews.{IsCounted, count, room_here, holds_here, slots_here, locals_here}
 use Rattle.match_bodies.proofs.TemplateSlots.{Leaves}
@@ -46,6 +41,7 @@ use Rattle.match_bodies.proofs.TemplateRuns.{code, frame, slots, v, sp_is, has_s
 use Rattle.match_bodies.proofs.SlotWrites.{locals_after, temporaries_after, FitsAfter, local_after, temporary_after, locals_count_after, one_more}
 use Rattle.match_bodies.proofs.TemplateKeeping.{compute_keeps}
 use Rattle.match_bodies.proofs.PlainSteps.{at_other, same_store, GoesInside, from_here, label_small, is_read, moves_to}
+use Rattle.match_bodies.specs.Setting.{Setting, RepresentsAt}
 
 -- the size of its template, and that it isn't empty
 compute_size : (y : Layout) (to : Slot) (o : Operation) (first second : Slot)
@@ -87,16 +83,16 @@ pub same_constant : (reserved : ℕ → Bool) (o : Operation) (a b x y : ℕ) (m
 same_constant reserved (operations.Pure (Constant n)) a b x y m e = refl
 same_constant reserved o a b x y m e = absurd cc
 
-module _ (t : Functions) (fs : List Funclet) (program : LinearProgram) (p : ImagePlan) (q : Sites)
-    (image : IsProgramImage t fs program p q) (roomy : HaveRoom program) (s : State)
-    (c : Configuration) (b : RepresentsAt t fs program p q s c)
-    (counted : IsCounted t fs program p q image c)
-    (around : Surroundings t fs program p q image roomy s c b counted) where
+module _ (setting : Setting) (roomy : HaveRoom setting.program) (s : State)
+    (c : Configuration) (b : RepresentsAt setting s c) (counted : IsCounted setting c)
+    (around : Surroundings setting roomy s c b counted) where
+  open setting use {functions as t, funclets as fs, program, plan as p}
+
   abbrev body : LinearBody
-  body = code t fs program p q image roomy s c b counted
+  body = code setting roomy s c b counted
 
   abbrev now : BodyState
-  now = slots t fs program p q image roomy s c b counted
+  now = slots setting roomy s c b counted
 
   abbrev pub outcome_here : Operation → Slot → Slot → OperationResult
   outcome_here o first second = performed (is_reserved program.globals) o (now.slots first)
@@ -118,8 +114,8 @@ module _ (t : Functions) (fs : List Funclet) (program : LinearProgram) (p : Imag
       ∙ ap (computed program next to c) (same_constant (is_reserved program.globals) o 0 0
       (now.slots first) (now.slots second) c.store.memory e)
   operands_read to o first second false e f g hf hg next =
-      let x = is_read t fs program p q image roomy s c b counted around first f hf in
-      let y = is_read t fs program p q image roomy s c b counted around second g hg in
+      let x = is_read setting roomy s c b counted around first f hf in
+      let y = is_read setting roomy s c b counted around second g hg in
       ap (λ z. with_some c.events (operand z c first)
       (λ a. with_some c.events (operand z c second)
       (λ b. computed program next to c (performed (is_reserved program.globals) o a b
@@ -136,7 +132,7 @@ module _ (t : Functions) (fs : List Funclet) (program : LinearProgram) (p : Imag
 
   -- linear code with a number in a slot and another memory, at the next instruction
   abbrev pub stored : Slot → ℕ → Memory → Configuration
-  stored to v m = at_other t fs program p q image roomy c (c.frame.next + 1)
+  stored to v m = at_other setting roomy c (c.frame.next + 1)
       (locals_after (linear.locals_of c.store c.frame.activation) to v)
       (temporaries_after c.frame.temporaries to v) c.frame.landed m c.events
 
@@ -155,10 +151,10 @@ module _ (t : Functions) (fs : List Funclet) (program : LinearProgram) (p : Imag
       (locals_after (linear.locals_of c.store c.frame.activation) to value)
       (temporaries_after c.frame.temporaries to value)
   leaves_stored to value m held fits there =
-      let all = slots_here t fs program p q image s c b counted in
+      let all = slots_here setting s c b counted in
       let n : length (linear.locals_of c.store c.frame.activation)
-      ≡ body.locals = ap length (locals_here t fs program p q image s c b counted)
-      ∙ count t fs program p q image s c b counted in
+      ≡ body.locals = ap length (locals_here setting s c b counted)
+      ∙ count setting s c b counted in
       record {
         count = locals_count_after (linear.locals_of c.store c.frame.activation) to value ∙ n;
         locals = λ i lt. local_after now.slots (linear.locals_of c.store c.frame.activation) to
@@ -191,8 +187,7 @@ module _ (t : Functions) (fs : List Funclet) (program : LinearProgram) (p : Imag
       same_store_here : slice_set c.store.activations c.frame.activation
           (linear.locals_of c.store c.frame.activation) ≡ c.store.activations
       same_store_here = ap (slice_set c.store.activations c.frame.activation)
-          (locals_here t fs program p q image s c b counted)
-          ∙ same_store t fs program p q image roomy s c b counted around
+          (locals_here setting s c b counted) ∙ same_store setting roomy s c b counted around
 
   -- it isn't stuck, so that the slot is the next one at most
   pub fits_when_read : (to : Slot) (value : ℕ) (m : Memory)
@@ -217,13 +212,12 @@ module _ (t : Functions) (fs : List Funclet) (program : LinearProgram) (p : Imag
       → ready.IsRead (is_constant o) (length c.frame.temporaries) first
       → ready.IsRead (is_constant o) (length c.frame.temporaries) second
       → HasRule (act program (instructions.Compute to o first second) (exec program zero) c)
-      → GoesInside t fs program p q image roomy s c b counted around
-      (instructions.Compute to o first second)
+      → GoesInside setting roomy s c b counted around (instructions.Compute to o first second)
       → outcome_here o first second ≡ Gives value m
-      → Moves t fs program 16 turns_left (RepresentsAt t fs program p q) s c
+      → Moves t fs program 16 turns_left (RepresentsAt setting) s c
       (instructions.Compute to o first second)
   compute_step to o first second value m free e held hf hg rule inside gives =
-      let there = has_slots t fs program p q image roomy s c b counted
+      let there = has_slots setting roomy s c b counted
       (instructions.Compute to o first second) e in
       let reads = operands_read to o first second (is_constant o) refl there.1 there.2 hf hg in
       let fits = fits_when_read to value m (subst HasRule
@@ -232,38 +226,33 @@ module _ (t : Functions) (fs : List Funclet) (program : LinearProgram) (p : Imag
       ≡ next (stored to value m) = λ next. reads next ∙ ap (computed program next to c) gives
       ∙ writes to value m fits next in
       let lt = inside (stored to value m) acts body b.body.slots.body in
-      let at = next_address t fs program p q image roomy s c b counted
+      let at = next_address setting roomy s c b counted
       (instructions.Compute to o first second) e in
-      let small = label_small t fs program p q image roomy s c b counted around (c.frame.next + 1)
+      let small = label_small setting roomy s c b counted around (c.frame.next + 1)
       lt in
-      let run : Computed (frame t fs program p q image roomy s c b counted) to o first second
-      (v t fs program p q image roomy s c b counted) s.cpu.rip s.cpu.flags now
+      let run : Computed (frame setting roomy s c b counted) to o first second
+      (v setting roomy s c b counted) s.cpu.rip s.cpu.flags now
       (kept to now.slots (Gives value m)) =
-      subst (λ x. Computed (frame t fs program p q image roomy s c b counted) to o first second
-      (v t fs program p q image roomy s c b counted) s.cpu.rip s.cpu.flags now
-      (kept to now.slots x)) gives
-      (compute_run (frame t fs program p q image roomy s c b counted) to o first second
-      (v t fs program p q image roomy s c b counted) s.cpu.rip s.cpu.flags now
-      (room_here t fs program p q image s c b counted) there.0 there.1 there.2
-      (sp_is t fs program p q image roomy s c b counted)
-      (holds_here t fs program p q image s c b counted)
-      (template_here t fs program p q image roomy s c b counted
-      (instructions.Compute to o first second) e)) in
+      subst (λ x. Computed (frame setting roomy s c b counted) to o first second
+      (v setting roomy s c b counted) s.cpu.rip s.cpu.flags now (kept to now.slots x)) gives
+      (compute_run (frame setting roomy s c b counted) to o first second
+      (v setting roomy s c b counted) s.cpu.rip s.cpu.flags now (room_here setting s c b counted)
+      there.0 there.1 there.2 (sp_is setting roomy s c b counted) (holds_here setting s c b counted)
+      (template_here setting roomy s c b counted (instructions.Compute to o first second) e)) in
       let y = p.layout c.frame.body in
       let len = compute_length y to o first second in
       let more = one_more c.frame.temporaries to value fits in
-      moves_to t fs program p q image roomy s c b counted around
-      (instructions.Compute to o first second) (length (compute_code y to o first second))
-      (c.frame.next + 1) (s.cpu.rip + sizes (compute_code y to o first second))
+      moves_to setting roomy s c b counted around (instructions.Compute to o first second)
+      (length (compute_code y to o first second)) (c.frame.next + 1)
+      (s.cpu.rip + sizes (compute_code y to o first second))
       (record { slots = with_slot now.slots to value; memory = m })
       (locals_after (linear.locals_of c.store c.frame.activation) to value)
       (temporaries_after c.frame.temporaries to value) c.frame.landed
-      (from_here t fs program p q image roomy s c b counted around
-      (length (compute_code y to o first second))
+      (from_here setting roomy s c b counted around (length (compute_code y to o first second))
       (s.cpu.rip + sizes (compute_code y to o first second))
       (record { slots = with_slot now.slots to value; memory = m }) run)
       (let z = compute_size y to o first second in omega arith) lt
       (let z = compute_size y to o first second in omega arith)
       (leaves_stored to value m held fits there.0) free
-      (compute_keeps t fs program p q image roomy s c b counted around to o first second e value m
-      gives) acts (some_code y to o first second) (omega arith)
+      (compute_keeps setting roomy s c b counted around to o first second e value m gives) acts
+      (some_code y to o first second) (omega arith)

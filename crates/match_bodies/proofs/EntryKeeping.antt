@@ -28,6 +28,7 @@ use Rattle.match_bodies.proofs.RoutineWalks.{StepsTo, steps_split, keeps_split, 
 use Rattle.match_bodies.proofs.ReturnAddresses.{argument_found}
 use Rattle.match_bodies.proofs.FrameMaking.{making_steps, frame_there, made_by}
 use Rattle.template_code.specs.declared.layout.TheConstants.{LARGEST_FRAME}
+use Rattle.match_bodies.specs.Setting.{setting_of}
 
 -- ---- what entries and calls are made of
 
@@ -137,15 +138,16 @@ module _ (t : Functions) (fs : List Funclet) (program : LinearProgram) (p : Imag
         let making = making_steps (p.leaf name) frame in
         let h = steps_split making (length a) e w (subst (λ k. StepsTo k e w) count run) in
         let u = h.0 in
-        let m = made_by t fs program p q image name b is some top from back others list e u here
+        let m = made_by (setting_of t fs program p q image) name b is some top from back others list
+        e u here
         at_top beneath has (omega arith) (p.leaf name) refl most (omega arith) h.1 in
         let code = code_split u.memory (begin_of p q name + making_size p q name) a c
         (subst (HasCode u.memory (begin_of p q name + making_size p q name)) parts
-        (frame_there t fs program p q image name b is some u.memory m.has).1) in
+        (frame_there (setting_of t fs program p q image) name b is some u.memory m.has).1) in
         let finds : Finds t fs program p q top from back others list u.cpu.rip a frame = λ done left
         split mem k.
         subst (λ x. FindsReturn t mem (x + sizes done) frame) (sym m.rip)
-        (argument_found t fs program p q image name b is mem k some done (left ++ c)
+        (argument_found (setting_of t fs program p q image) name b is mem k some done (left ++ c)
         (parts ∙ ap (λ (xs : List Instr). xs ++ c) split ∙ append_assoc done left c)) in
         let r = ran t fs program p q top from back others list a u w frame extra h.2 plain
         (subst (λ x. HasCode u.memory x a) (sym m.rip) code.0) m.has m.beneath m.stack up finds in

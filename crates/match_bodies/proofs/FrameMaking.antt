@@ -12,10 +12,8 @@ use Rattle.x64_instr.specs.declared.instruction.Instr.{Instr}
 use Rattle.x64_instr.specs.declared.instruction.Instr.TheVariants as instrs
 use Rattle.x64_encode.specs.Chosen.{is_encodable, opcode_register}
 use Rattle.x64_machine.specs.Effect.{State, register, with_rip}
-use Rattle.virtual_unwind.specs.CallerOf.{Functions}
 use Rattle.virtual_unwind.specs.Undone.{word}
-use Rattle.host_model.specs.declared.funclet.Funclet.{Funclet}
-use Rattle.linear_code.specs.Program.{LinearProgram, LinearBody}
+use Rattle.linear_code.specs.Program.{LinearBody}
 use Rattle.linear_machine.specs.Frames.{BodyName, body_of}
 use Rattle.template_code.specs.Bytes.{size, sizes}
 use Rattle.template_code.specs.Jumps.{IsNear, call}
@@ -28,11 +26,9 @@ use Rattle.x64_templates.specs.Runs.{Steps, HasCode}
 use Rattle.x64_templates.proofs.Computes.{code_split}
 use Rattle.x64_templates.proofs.Encoded.{near}
 use Rattle.match_stack.specs.Stack.{StackItem}
-use Rattle.match_stack.specs.ImagePlan.{ImagePlan}
 use Rattle.match_runs.specs.Shadow.{is_call, KeepsShadow, AllKeep}
 use Rattle.match_runs.proofs.Shadows.{keep_first}
-use Rattle.match_bodies.specs.CodeSites.{Sites, links_of, begin_of, making, making_size, frame_code, arguments_code, entry_code}
-use Rattle.match_bodies.specs.ProgramImages.{HasProgram, IsProgramImage}
+use Rattle.match_bodies.specs.CodeSites.{links_of, begin_of, making, making_size, frame_code, arguments_code, entry_code}
 use Rattle.match_bodies.specs.Callers.{FindsReturn}
 use Rattle.match_bodies.proofs.StackTop.{leaf_layout}
 use Rattle.match_bodies.proofs.InstructionEffects.{is_probing, falls, falls_by_rax, puts_rax}
@@ -41,6 +37,7 @@ use Rattle.match_bodies.proofs.RoutineWalks.{read_here, effect_here, code_next, 
 use Rattle.match_bodies.proofs.ShadowTurns.{shifts, called, beneath_called, call_keeps_shadow, Probing, probes, probe_returns}
 use Rattle.match_bodies.proofs.ReturnAddresses.{argument_found}
 use Rattle.template_code.specs.declared.layout.TheConstants.{LARGEST_FRAME}
+use Rattle.match_bodies.specs.Setting.{Setting, HasProgram}
 
 -- so many instructions make a frame, those of `__chkstk` among them
 abbrev pub making_steps : Bool → ℕ → ℕ
@@ -55,8 +52,9 @@ return_size : size instrs.Return ≡ 1
 unfolding size
 return_size = refl
 
-module _ (t : Functions) (fs : List Funclet) (program : LinearProgram) (p : ImagePlan) (q : Sites)
-    (image : IsProgramImage t fs program p q) where
+module _ (setting : Setting) where
+  open setting use {functions as t, funclets as fs, program, plan as p, sites as q, image}
+
   module _ (name : BodyName) (b : LinearBody) (is : body_of program name ≡ Some b)
       (some : 0 < length b.code) where
     abbrev begin : ℕ
@@ -66,7 +64,7 @@ module _ (t : Functions) (fs : List Funclet) (program : LinearProgram) (p : Imag
     frame = (p.layout name).frame
 
     -- the code that makes it
-    pub frame_there : (m : Memory) → HasProgram t fs program p q m
+    pub frame_there : (m : Memory) → HasProgram setting m
         → HasCode m begin (frame_code frame begin q.check_stack (p.leaf name))
         × HasCode m (begin + making_size p q name) (arguments_code program p name)
     frame_there m has =
@@ -79,31 +77,30 @@ module _ (t : Functions) (fs : List Funclet) (program : LinearProgram) (p : Imag
     begin_found : (m : Memory) → FindsReturn t m begin 0
     begin_found m = (image.callers name b is).entries m (λ e. some)
 
-    kept : (s u : State) → Steps s u → HasProgram t fs program p q s.memory
-        → HasProgram t fs program p q u.memory
+    kept : (s u : State) → Steps s u → HasProgram setting s.memory → HasProgram setting u.memory
     kept s u st has = program_kept t fs program p q s.memory u.memory
         (record { protection = st.protection; fixed = st.fixed }) has
 
     -- where arguments are stored
-    ready_found : (m : Memory) → HasProgram t fs program p q m
+    ready_found : (m : Memory) → HasProgram setting m
         → FindsReturn t m (begin + making_size p q name) frame
     ready_found m has = let z : begin + making_size p q name + 0
         ≡ begin + making_size p q name = omega arith in
         subst (λ a. FindsReturn t m a frame) z
-        (argument_found t fs program p q image name b is m has some []
+        (argument_found setting name b is m has some []
         (arguments_code program p name) refl)
 
     module _ (top from back : ℕ) (others : List ℕ) (list : List StackItem) where
       pub record FrameMade (n : ℕ) (e u : State) : Type 0 where
         pub keeps : AllKeep t fs n e
         pub beneath : Beneath t u top from back others list
-        pub has : HasProgram t fs program p q u.memory
+        pub has : HasProgram setting u.memory
         pub rip : u.cpu.rip ≡ begin + making_size p q name
         pub stack : register u.cpu Rsp + frame ≡ top
 
       module _ (e u : State) (at_begin : e.cpu.rip ≡ begin) (at_top : register e.cpu Rsp ≡ top)
           (beneath : Beneath t e top from back others list)
-          (has : HasProgram t fs program p q e.memory) (room : frame ≤ top) where
+          (has : HasProgram setting e.memory) (room : frame ≤ top) where
         -- ---- a leaf function has none
 
         leaf_made : p.leaf name ≡ true → StepsTo 0 e u → FrameMade 0 e u
@@ -181,7 +178,7 @@ module _ (t : Functions) (fs : List Funclet) (program : LinearProgram) (p : Imag
           is_large = ap (frame_code frame begin q.check_stack) framed
               ∙ ap (making frame begin q.check_stack) (lt-leb frame 4096 large)
 
-          large_there : (m : Memory) → HasProgram t fs program p q m
+          large_there : (m : Memory) → HasProgram setting m
               → HasCode m begin (first ∷ second ∷ third ∷ [])
           large_there m h = subst (HasCode m begin) is_large (frame_there m h).0
 
@@ -202,7 +199,7 @@ module _ (t : Functions) (fs : List Funclet) (program : LinearProgram) (p : Imag
               → FindsReturn t m (q.check_stack + d) 0
           check_found m d lt = image.callers_outside.check_stack m d lt
 
-          third_there : (m : Memory) → HasProgram t fs program p q m → HasCode m next (third ∷ [])
+          third_there : (m : Memory) → HasProgram setting m → HasCode m next (third ∷ [])
           third_there m h =
               let two = code_split m begin (first ∷ second ∷ []) (third ∷ []) (large_there m h) in
               let z : begin + sizes (first ∷ second ∷ []) ≡ next = let a = move_size frame in
@@ -212,7 +209,7 @@ module _ (t : Functions) (fs : List Funclet) (program : LinearProgram) (p : Imag
           -- RSP falls
           last_made : (v w : State) → Beneath t v top from back others list → v.cpu.rip ≡ next
               → register v.cpu Rsp ≡ top → register v.cpu Rax ≡ frame → Steps v w
-              → HasProgram t fs program p q v.memory → FrameMade 1 v w
+              → HasProgram setting v.memory → FrameMade 1 v w
           last_made v w b' at at' rax st has' =
               let code = subst (λ a. HasCode v.memory a (third ∷ [])) (sym at)
               (third_there v.memory has') in
@@ -245,7 +242,7 @@ module _ (t : Functions) (fs : List Funclet) (program : LinearProgram) (p : Imag
             pub probing : Probing t fs top from back others list v next frame
             pub rip : v.cpu.rip ≡ q.check_stack + d
             pub code : HasCode v.memory v.cpu.rip left
-            pub program_there : HasProgram t fs program p q v.memory
+            pub program_there : HasProgram setting v.memory
             pub inside : d < sizes check_stack
 
           here_found : (v : State) (d : ℕ) (left : List Instr) → Checking v d left

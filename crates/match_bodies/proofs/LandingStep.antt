@@ -1,16 +1,14 @@
 -- The beginning of an `__except` block: the exception's code, which is in RAX, goes to a slot.
-use Rattle.std.proofs.Common.{◌≡◌, ℕ, ◌+◌, ◌^◌, ◌<◌, ◌≤◌, Option, Some, None, List, [], ◌∷◌, ◌++◌, length, take, refl, sym, ap, subst, ◌∙◌, arith}
+use Rattle.std.proofs.Common.{◌≡◌, ℕ, ◌+◌, ◌^◌, ◌<◌, ◌≤◌, Option, Some, None, [], ◌∷◌, ◌++◌, length, take, refl, sym, ap, subst, ◌∙◌, arith}
 use Rattle.std.specs.Prelude.{slice_get, slice_set, if◌then◌else◌}
 use Rattle.std.proofs.lemmas.Bool.{le-leb}
 use Rattle.x64_instr.specs.declared.register.Reg.TheVariants.{Rax}
 use Rattle.x64_machine.specs.Effect.{State, register}
-use Rattle.virtual_unwind.specs.CallerOf.{Functions}
-use Rattle.host_model.specs.declared.funclet.Funclet.{Funclet}
 use Rattle.linear_code.specs.declared.slot.Slot.{Slot}
 use Rattle.linear_code.specs.declared.slot.Slot.TheVariants.{Local, Temporary}
 use Rattle.linear_code.specs.declared.instruction.Instruction.TheVariants as instructions
 use Rattle.linear_code.specs.BodyState.{BodyState, with_slot}
-use Rattle.linear_code.specs.Program.{LinearProgram, LinearBody}
+use Rattle.linear_code.specs.Program.{LinearBody}
 use Rattle.linear_machine.specs.Frames as linear
 use Rattle.linear_machine.specs.Frames.{Configuration, Next, with_temporaries, forth, with_some}
 use Rattle.linear_machine.specs.Instructions.{written, not_landed, act}
@@ -22,19 +20,17 @@ use Rattle.template_code.proofs.Lengths.{keep_length}
 use Rattle.x64_templates.specs.Straight.{machine}
 use Rattle.x64_templates.specs.Runs.{ReachesBody}
 use Rattle.x64_templates.proofs.Returns.{call_ends}
-use Rattle.match_stack.specs.ImagePlan.{ImagePlan}
 use Rattle.match_runs.specs.Matched.{Moves}
 use Rattle.lowering_invariants.specs.Room.{HaveRoom}
 use Rattle.lowering_invariants.specs.Ready.{IsNextSlot}
-use Rattle.match_bodies.specs.CodeSites.{Sites}
-use Rattle.match_bodies.specs.ProgramImages.{IsProgramImage}
-use Rattle.match_bodies.specs.Bodies.{turns_left, RepresentsAt}
+use Rattle.match_bodies.specs.Bodies.{turns_left}
 use Rattle.match_bodies.proofs.BodyViews.{IsCounted, room_here, holds_here, locals_here}
 use Rattle.match_bodies.proofs.TemplateRuns.{code, frame, slots, v, sp_is, has_slots, template_here, next_address, Surroundings}
 use Rattle.match_bodies.proofs.SlotWrites.{locals_after, temporaries_after, FitsAfter, one_more}
 use Rattle.match_bodies.proofs.TemplateKeeping.{landing_keeps}
 use Rattle.match_bodies.proofs.PlainSteps.{at_other, same_store, GoesInside, from_here, label_small, moves_to}
 use Rattle.match_bodies.proofs.ComputeStep.{leaves_stored}
+use Rattle.match_bodies.specs.Setting.{Setting, RepresentsAt}
 
 landing_size : (y : Layout) (to : Slot) → template_size y (instructions.Landing to)
     ≡ sizes (keep y to)
@@ -49,19 +45,19 @@ some_keep y (Local i) = by y.base
     by None = omega arith
     by (Some k) = omega arith
 
-module _ (t : Functions) (fs : List Funclet) (program : LinearProgram) (p : ImagePlan) (q : Sites)
-    (image : IsProgramImage t fs program p q) (roomy : HaveRoom program) (s : State)
-    (c : Configuration) (b : RepresentsAt t fs program p q s c)
-    (counted : IsCounted t fs program p q image c)
-    (around : Surroundings t fs program p q image roomy s c b counted) where
+module _ (setting : Setting) (roomy : HaveRoom setting.program) (s : State)
+    (c : Configuration) (b : RepresentsAt setting s c) (counted : IsCounted setting c)
+    (around : Surroundings setting roomy s c b counted) where
+  open setting use {functions as t, funclets as fs, program, plan as p}
+
   abbrev body : LinearBody
-  body = code t fs program p q image roomy s c b counted
+  body = code setting roomy s c b counted
 
   abbrev now : BodyState
-  now = slots t fs program p q image roomy s c b counted
+  now = slots setting roomy s c b counted
 
   abbrev taken_over : Slot → ℕ → Configuration
-  taken_over to value = at_other t fs program p q image roomy c (c.frame.next + 1)
+  taken_over to value = at_other setting roomy c (c.frame.next + 1)
       (locals_after (linear.locals_of c.store c.frame.activation) to value)
       (temporaries_after c.frame.temporaries to value) None c.store.memory c.events
 
@@ -73,8 +69,7 @@ module _ (t : Functions) (fs : List Funclet) (program : LinearProgram) (p : Imag
   same : slice_set c.store.activations c.frame.activation
       (linear.locals_of c.store c.frame.activation) ≡ c.store.activations
   same = ap (slice_set c.store.activations c.frame.activation)
-      (locals_here t fs program p q image s c b counted)
-      ∙ same_store t fs program p q image roomy s c b counted around
+      (locals_here setting s c b counted) ∙ same_store setting roomy s c b counted around
 
   writes : (to : Slot) (value : ℕ) → FitsAfter c.frame.temporaries to → (next : Next)
       → written (not_landed c) to value next ≡ next (taken_over to value)
@@ -106,43 +101,39 @@ module _ (t : Functions) (fs : List Funclet) (program : LinearProgram) (p : Imag
   pub landing_step : (to : Slot) (value : ℕ) → c.frame.landed ≡ Some value → value < 2 ^ 64
       → slice_get body.code c.frame.next ≡ Some (instructions.Landing to)
       → length c.frame.temporaries ≤ body.temporaries → IsNextSlot (length c.frame.temporaries) to
-      → GoesInside t fs program p q image roomy s c b counted around (instructions.Landing to)
-      → Moves t fs program 16 turns_left (RepresentsAt t fs program p q) s c (instructions.Landing to)
+      → GoesInside setting roomy s c b counted around (instructions.Landing to)
+      → Moves t fs program 16 turns_left (RepresentsAt setting) s c (instructions.Landing to)
   landing_step to value landed small e held next inside =
-      let there = has_slots t fs program p q image roomy s c b counted (instructions.Landing to)
+      let there = has_slots setting roomy s c b counted (instructions.Landing to)
       e in
       let fits = fits_next to next in
       let acts = lands to value landed fits in
       let lt = inside (taken_over to value) acts body b.body.slots.body in
-      let at = next_address t fs program p q image roomy s c b counted (instructions.Landing to)
+      let at = next_address setting roomy s c b counted (instructions.Landing to)
       e in
-      let near = label_small t fs program p q image roomy s c b counted around (c.frame.next + 1)
+      let near = label_small setting roomy s c b counted around (c.frame.next + 1)
       lt in
       let y = p.layout c.frame.body in
       let rax : register s.cpu Rax ≡ value = b.landed value landed in
-      let run = call_ends (frame t fs program p q image roomy s c b counted) to
-      (v t fs program p q image roomy s c b counted) s.cpu.rip s.cpu.flags now
-      (room_here t fs program p q image s c b counted) there (omega arith)
-      (sp_is t fs program p q image roomy s c b counted)
-      (holds_here t fs program p q image s c b counted)
-      (template_here t fs program p q image roomy s c b counted (instructions.Landing to) e) in
+      let run = call_ends (frame setting roomy s c b counted) to
+      (v setting roomy s c b counted) s.cpu.rip s.cpu.flags now (room_here setting s c b counted)
+      there (omega arith) (sp_is setting roomy s c b counted) (holds_here setting s c b counted)
+      (template_here setting roomy s c b counted (instructions.Landing to) e) in
       let len = keep_length y to in
       let more = one_more c.frame.temporaries to value fits in
       let size = landing_size y to in
-      moves_to t fs program p q image roomy s c b counted around (instructions.Landing to)
-      (length (keep y to)) (c.frame.next + 1) (s.cpu.rip + sizes (keep y to))
+      moves_to setting roomy s c b counted around (instructions.Landing to) (length (keep y to))
+      (c.frame.next + 1) (s.cpu.rip + sizes (keep y to))
       (record { slots = with_slot now.slots to value; memory = c.store.memory })
       (locals_after (linear.locals_of c.store c.frame.activation) to value)
       (temporaries_after c.frame.temporaries to value) None
-      (from_here t fs program p q image roomy s c b counted around (length (keep y to))
+      (from_here setting roomy s c b counted around (length (keep y to))
       (s.cpu.rip + sizes (keep y to)) (record
       { slots = with_slot now.slots to value; memory = c.store.memory })
-      (subst (λ x. ReachesBody (frame t fs program p q image roomy s c b counted)
-      (length (keep y to)) (machine (v t fs program p q image roomy s c b counted) s.cpu.rip
-      s.cpu.flags) (s.cpu.rip + sizes (keep y to))
-      (v t fs program p q image roomy s c b counted).rest
+      (subst (λ x. ReachesBody (frame setting roomy s c b counted) (length (keep y to))
+      (machine (v setting roomy s c b counted) s.cpu.rip s.cpu.flags) (s.cpu.rip + sizes
+      (keep y to)) (v setting roomy s c b counted).rest
       (record { slots = with_slot now.slots to x; memory = c.store.memory })) rax run))
-      (omega arith) lt (omega arith) (leaves_stored t fs program p q image roomy s c b counted
-      around to value c.store.memory held fits there) refl
-      (landing_keeps t fs program p q image roomy s c b counted to e) acts (some_keep y to)
-      (omega arith)
+      (omega arith) lt (omega arith) (leaves_stored setting roomy s c b counted around to value
+      c.store.memory held fits there) refl (landing_keeps setting roomy s c b counted to e) acts
+      (some_keep y to) (omega arith)

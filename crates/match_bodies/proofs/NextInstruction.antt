@@ -7,18 +7,16 @@ use Rattle.flat_memory.specs.Memory.{Memory}
 use Rattle.x64_instr.specs.declared.register.Reg.TheVariants.{Rax, Rsp}
 use Rattle.x64_machine.specs.Effect.{State, register}
 use Rattle.virtual_unwind.specs.Undone.{Answer, word}
-use Rattle.virtual_unwind.specs.CallerOf.{Functions}
-use Rattle.host_model.specs.declared.funclet.Funclet.{Funclet}
 use Rattle.linear_code.specs.declared.slot.Slot.TheVariants.{Local, Temporary}
 use Rattle.linear_code.specs.BodyState.{BodyState}
-use Rattle.linear_code.specs.Program.{LinearProgram, LinearBody, LinearFunclet}
+use Rattle.linear_code.specs.Program.{LinearBody, LinearFunclet}
 use Rattle.linear_machine.specs.Frames.{BodyName, FunctionBody, FuncletBody, body_of, Frame, Item, Waits, Searches, Unwinds, Configuration}
 use Rattle.x64_machine.specs.declared.context.Context.{Context}
 use Rattle.template_code.specs.declared.layout.Layout.{Layout}
 use Rattle.x64_templates.specs.Runs.{FrameHolds}
 use Rattle.x64_machine.specs.Contexts.{context_of}
 use Rattle.linear_machine.specs.Regions.{holds, regions_of}
-use Rattle.match_stack.specs.ImagePlan.{ImagePlan, InCode}
+use Rattle.match_stack.specs.ImagePlan.{InCode}
 use Rattle.match_stack.specs.WalkLaws.{context_below}
 use Rattle.match_stack.specs.ItemMatches.{Activation, locals_of, activations_below, HoldsWords, IsActivation, HasActivation, HasPointers, FuncletIsAbove, IsAbove, BodyWaits, HasSpace, below_end, home_end}
 use Rattle.match_stack.specs.ListLaws.{IsLinkedStack}
@@ -27,9 +25,7 @@ use Rattle.match_stack.specs.StackRecords.{IsData, On}
 use Rattle.match_stack.specs.DispatchStates.{IsWellFormed}
 use Rattle.match_bodies.proofs.ProgramKeeping.{program_stays}
 use Rattle.match_bodies.specs.Layouts.{IsFunctionLayout, IsLayoutIf}
-use Rattle.match_bodies.specs.CodeSites.{Sites}
-use Rattle.match_bodies.specs.ProgramImages.{IsProgramImage}
-use Rattle.match_bodies.specs.Bodies.{slots_end, RepresentsAt}
+use Rattle.match_bodies.specs.Bodies.{slots_end}
 use Rattle.match_bodies.specs.BodyViews.{counts_of, frame_at}
 use Rattle.match_bodies.specs.SlotStores.{with_values, KeepsStackBut, OwnerHasFrame}
 use Rattle.match_bodies.proofs.HomeSpace.{CallerHasFrame, home_is_free}
@@ -41,8 +37,11 @@ use Rattle.match_bodies.proofs.ActivationKeeping.{first_changes, still_is, with_
 use Rattle.match_bodies.proofs.LocalStores.{activations_are_stored}
 use Rattle.match_bodies.proofs.TemplateChanges.{words_are, Changed, slot_word, word_beside, no_more_code, stays_data, stack_kept, stack_kept_but, stack_written, image_kept}
 use Rattle.match_bodies.proofs.TemplateSlots.{get_index, same_regions, Leaves}
+use Rattle.match_bodies.specs.Setting.{Setting, RepresentsAt}
 
-module _ (t : Functions) (fs : List Funclet) (program : LinearProgram) (p : ImagePlan) (q : Sites) (image : IsProgramImage t fs program p q) where
+module _ (setting : Setting) where
+  open setting use {functions as t, funclets as fs, program, plan as p, sites as q, image}
+
   -- linear code, further on in the body
   abbrev pub further : Configuration → List Activation → (label : ℕ) (values ts : List ℕ) (landed : Option ℕ) → Memory → List Event → Configuration
   further c acts label values ts landed source events = record {
@@ -52,7 +51,8 @@ module _ (t : Functions) (fs : List Funclet) (program : LinearProgram) (p : Imag
     events = events;
   }
 
-  module _ (s : State) (c : Configuration) (b : RepresentsAt t fs program p q s c) (counted : IsCounted t fs program p q image c) where
+  module _ (s : State) (c : Configuration) (b : RepresentsAt setting s c)
+      (counted : IsCounted setting c) where
     abbrev code : LinearBody
     code = b.body.slots.code
 
@@ -63,7 +63,7 @@ module _ (t : Functions) (fs : List Funclet) (program : LinearProgram) (p : Imag
     y = p.layout c.frame.body
 
     abbrev here : SlotsPlaced s.memory y code.temporaries sp c.frame.activation b.body.acts
-    here = placed t fs program p q image s c b counted
+    here = placed setting s c b counted
 
     -- what waits below doesn't depend on the instruction
     above_next : (items : List Item) (name : BodyName) (f : Frame) (label : ℕ) (landed : Option ℕ)
@@ -97,13 +97,13 @@ module _ (t : Functions) (fs : List Funclet) (program : LinearProgram) (p : Imag
       pub leaves : Leaves code d values ts
 
     cnt : length here.values ≡ code.locals
-    cnt = count t fs program p q image s c b counted
+    cnt = count setting s c b counted
 
     low : STACK_START + 196568 ≤ sp
-    low = sp_low t fs program p q image s c b counted
+    low = sp_low setting s c b counted
 
     top : sp + y.frame + 8 ≤ STACK_END
-    top = frame_top t fs program p q image s c b counted
+    top = frame_top setting s c b counted
 
     same_word : (x z : ℕ) → ◌≡◌ {A = Answer ℕ} (Ok x) (Ok z) → x ≡ z
     same_word x z e = cc
@@ -147,7 +147,7 @@ module _ (t : Functions) (fs : List Funclet) (program : LinearProgram) (p : Imag
 
       new_temporaries : HoldsWords u.memory (sp + y.temporaries) (sp + last_temporary y c.frame.body (p.leaf c.frame.body)) ts
       new_temporaries =
-          let room = last_room t fs program p q image s c b counted in
+          let room = last_room setting s c b counted in
           let few = r.leaves.few in
           words_are u.memory (sp + y.temporaries) (sp + last_temporary y c.frame.body (p.leaf c.frame.body)) ts (omega arith) new_temporary
 
@@ -196,14 +196,14 @@ module _ (t : Functions) (fs : List Funclet) (program : LinearProgram) (p : Imag
       abbrev Beside : ℕ → Type 0
       Beside offset = (a : ℕ) → sp + offset ≤ a → a < sp + offset + 8 → InTemporaries y (counts_of code) sp a ⊎ InLocals y (counts_of code) here.base a → ⊥
 
-      function_beside : AsFunction t fs program p q image s c b counted → Beside y.frame
+      function_beside : AsFunction setting s c b counted → Beside y.frame
       function_beside f a l h i =
           let base = function_base f.layout.none in
           let x = f.layout.temporaries in
           let z = f.layout.locals in
           elim i [ inl w ↦ (let g = w.1 in absurd (omega arith)) | inr w ↦ (let g = w.1 in absurd (omega arith)) ]
 
-      leaf_beside : AsLeaf t fs program p q image s c b counted → Beside y.frame
+      leaf_beside : AsLeaf setting s c b counted → Beside y.frame
       leaf_beside f a l h i =
           let base = function_base f.layout.none in
           let x = f.layout.temporaries in
@@ -211,7 +211,8 @@ module _ (t : Functions) (fs : List Funclet) (program : LinearProgram) (p : Imag
           let n = f.layout.frame in
           elim i [ inl w ↦ (let g = w.0 in absurd (omega arith)) | inr w ↦ (let g = w.0 in absurd (omega arith)) ]
 
-      funclet_beside : (f : AsFunclet t fs program p q image s c b counted) → (offset : ℕ) → (offset + 8 ≤ y.temporaries) ⊎ (y.frame ≡ offset) → Beside offset
+      funclet_beside : (f : AsFunclet setting s c b counted) → (offset : ℕ) →
+          (offset + 8 ≤ y.temporaries) ⊎ (y.frame ≡ offset) → Beside offset
       funclet_beside f offset o a l h i =
           let k = (funclet_base f.number y.frame f.activation).above_frame in
           let x = f.layout.temporaries in
@@ -223,11 +224,16 @@ module _ (t : Functions) (fs : List Funclet) (program : LinearProgram) (p : Imag
       -- the return address
       pub returns : word u.memory (sp + y.frame) ≡ Ok b.body.back
       returns = kept_word (sp + y.frame) b.body.back (let l = low in omega arith) (let h = top in omega arith)
-          (elim (kind t fs program p q image s c b counted) [ inl f ↦ function_beside f | inr (inl f) ↦ leaf_beside f | inr (inr f) ↦ funclet_beside f y.frame (inr refl) ])
+          (elim (kind setting s c b counted) [
+            | inl f ↦ function_beside f
+            | inr (inl f) ↦ leaf_beside
+                f
+            | inr (inr f) ↦ funclet_beside f y.frame (inr refl)
+          ])
           b.body.returns
 
       activation : HasActivation u.memory y sp (slots_end y (p.leaf c.frame.body)) c.frame.activation (with_values b.body.acts c.frame.activation values) c.frame.body
-      activation = elim (kind t fs program p q image s c b counted) [
+      activation = elim (kind setting s c b counted) [
         | inl f ↦ subst (λ l. HasActivation u.memory y sp (slots_end y l) c.frame.activation (with_values b.body.acts c.frame.activation values) c.frame.body) (sym f.framed)
             (subst (λ n. HasActivation u.memory y sp y.frame c.frame.activation (with_values b.body.acts c.frame.activation values) n) (sym f.name)
             (own_activation f.number y.frame b.body.acts refl f.activation (let n = r.leaves.count in let z = f.layout.locals in omega arith)))
@@ -258,16 +264,17 @@ module _ (t : Functions) (fs : List Funclet) (program : LinearProgram) (p : Imag
       pointers_in [] a h = tt
       pointers_in (Waits w ∷ below) a h = tt
       pointers_in (Unwinds rest target ∷ below) a h = tt
-      pointers_in (Searches exception resumption asked rest ∷ below) a h = elim (kind t fs program p q image s c b counted) [
-        | inl f ↦ absurd (subst (λ n. IsAbove t fs program p c.frame n (Searches exception resumption asked rest ∷ below)) f.name a)
-        | inr (inl f) ↦ absurd (subst (λ n. IsAbove t fs program p c.frame n (Searches exception resumption asked rest ∷ below)) f.name a)
-        | inr (inr f) ↦ (let l = low in let e = top in let z = h.room in let g = f.layout.pointers in let w = f.layout.kept in
-            record {
-              room = h.room;
-              kept = kept_word (sp + y.pointers) (sp + y.frame + 88)
-                  (omega arith) (omega arith) (funclet_beside f y.pointers (inl (omega arith))) h.kept;
-            })
-      ]
+      pointers_in (Searches exception resumption asked rest ∷ below) a h = elim
+          (kind setting s c b counted) [
+            | inl f ↦ absurd (subst (λ n. IsAbove t fs program p c.frame n (Searches exception resumption asked rest ∷ below)) f.name a)
+            | inr (inl f) ↦ absurd (subst (λ n. IsAbove t fs program p c.frame n (Searches exception resumption asked rest ∷ below)) f.name a)
+            | inr (inr f) ↦ (let l = low in let e = top in let z = h.room in let g = f.layout.pointers in let w = f.layout.kept in
+                record {
+                  room = h.room;
+                  kept = kept_word (sp + y.pointers) (sp + y.frame + 88)
+                      (omega arith) (omega arith) (funclet_beside f y.pointers (inl (omega arith))) h.kept;
+                })
+          ]
 
       -- ---- the list below
 
@@ -294,7 +301,7 @@ module _ (t : Functions) (fs : List Funclet) (program : LinearProgram) (p : Imag
         abbrev New : BodyName → Type 0
         New name = IsLinkedStack t fs program p u.memory above b.body.is c.below (activations_below name (with_values b.body.acts c.frame.activation values))
 
-        new_function : AsFunction t fs program p q image s c b counted → New c.frame.body
+        new_function : AsFunction setting s c b counted → New c.frame.body
         new_function f =
             let l = low in
             let x = f.layout.temporaries in
@@ -309,7 +316,7 @@ module _ (t : Functions) (fs : List Funclet) (program : LinearProgram) (p : Imag
             (omega arith)
             (subst (λ n. IsLinkedStack t fs program p s.memory above b.body.is c.below (activations_below n b.body.acts)) f.name old)))
 
-        new_leaf : (f : AsLeaf t fs program p q image s c b counted) → New c.frame.body
+        new_leaf : (f : AsLeaf setting s c b counted) → New c.frame.body
         new_leaf f =
             let l = low in
             let x = f.layout.temporaries in
@@ -334,7 +341,7 @@ module _ (t : Functions) (fs : List Funclet) (program : LinearProgram) (p : Imag
             (omega arith) b.body.is c.below (activations_below (FunctionBody f.number) b.body.acts) (caller f.leaf)
             (subst (λ n. IsLinkedStack t fs program p s.memory above b.body.is c.below (activations_below n b.body.acts)) f.name old)))
 
-        new_funclet : (f : AsFunclet t fs program p q image s c b counted) → New c.frame.body
+        new_funclet : (f : AsFunclet setting s c b counted) → New c.frame.body
         new_funclet f =
             let l = low in
             let x = f.layout.temporaries in
@@ -363,7 +370,12 @@ module _ (t : Functions) (fs : List Funclet) (program : LinearProgram) (p : Imag
             (new_locals (here.base + y.locals + 8 * length values) (omega arith)))
 
         pub new_list : New c.frame.body
-        new_list = elim (kind t fs program p q image s c b counted) [ inl f ↦ new_function f | inr (inl f) ↦ new_leaf f | inr (inr f) ↦ new_funclet f ]
+        new_list = elim (kind setting s c b counted) [
+          | inl f ↦ new_function f
+          | inr (inl f) ↦
+              new_leaf f
+          | inr (inr f) ↦ new_funclet f
+        ]
 
         pub new_on : On t fs program p u.memory above b.body.is c.below (activations_below c.frame.body (with_values b.body.acts c.frame.activation values))
         new_on = record { is_there = new_list; data_alone = data_stays }
@@ -408,7 +420,7 @@ module _ (t : Functions) (fs : List Funclet) (program : LinearProgram) (p : Imag
               b.body.slots.space);
         }
 
-        pub represents_next : RepresentsAt t fs program p q u next
+        pub represents_next : RepresentsAt setting u next
         represents_next = record {
           landed = result;
           rip = rip;

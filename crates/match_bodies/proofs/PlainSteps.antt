@@ -6,8 +6,6 @@ use Rattle.std.proofs.lemmas.Option.{slice_get_within}
 use Rattle.seh_num.specs.declared.event.Event.{Event}
 use Rattle.flat_memory.specs.Memory.{Memory}
 use Rattle.x64_machine.specs.Effect.{State}
-use Rattle.virtual_unwind.specs.CallerOf.{Functions}
-use Rattle.host_model.specs.declared.funclet.Funclet.{Funclet}
 use Rattle.linear_code.specs.declared.slot.Slot.{Slot}
 use Rattle.linear_code.specs.declared.slot.Slot.TheVariants.{Local, Temporary}
 use Rattle.linear_code.specs.declared.instruction.Instruction.{Instruction}
@@ -16,7 +14,7 @@ use Rattle.linear_code.specs.BodyState.{BodyState}
 use Rattle.linear_code.specs.Meaning as meanings
 use Rattle.linear_code.specs.Meaning.{JumpsTo, IsSlot}
 use Rattle.lowering_invariants.specs.Ready.{IsHeld}
-use Rattle.linear_code.specs.Program.{LinearProgram, LinearBody}
+use Rattle.linear_code.specs.Program.{LinearBody}
 use Rattle.linear_machine.specs.Frames.{body_of, Configuration, Next, local_of, read, at_label, forth, with_last, pick, with_some}
 use Rattle.linear_machine.specs.Instructions.{tested, act}
 use Rattle.template_code.specs.declared.layout.Layout.{Layout}
@@ -25,13 +23,11 @@ use Rattle.x64_templates.specs.InstructionRuns.{InstructionDone}
 use Rattle.x64_templates.specs.Runs.{ReachesBody}
 use Rattle.template_code.specs.Template.{template, template_size, body_size, offset_of}
 use Rattle.match_bodies.specs.BodyViews.{counts_of}
-use Rattle.match_stack.specs.ImagePlan.{ImagePlan}
 use Rattle.match_stack.specs.ItemMatches.{locals_of}
 use Rattle.match_runs.specs.Matched.{Moves}
 use Rattle.lowering_invariants.specs.Room.{HaveRoom}
-use Rattle.match_bodies.specs.CodeSites.{Sites, links_of}
-use Rattle.match_bodies.specs.ProgramImages.{IsProgramImage}
-use Rattle.match_bodies.specs.Bodies.{turns_left, RepresentsAt}
+use Rattle.match_bodies.specs.CodeSites.{links_of}
+use Rattle.match_bodies.specs.Bodies.{turns_left}
 use Rattle.match_bodies.specs.SlotStores.{with_values}
 use Rattle.match_bodies.proofs.ActivationPlaces.{locals_count}
 use Rattle.match_bodies.proofs.ActivationStores.{activated, same_activations}
@@ -40,6 +36,7 @@ use Rattle.match_bodies.proofs.TemplateSlots.{Leaves}
 use Rattle.match_bodies.proofs.TemplateRuns.{code, frame, slots, v, same_state, done, has_slots, next_address, Surroundings, to_label}
 use Rattle.match_bodies.proofs.TemplateShadows.{RunsKeep}
 use Rattle.match_bodies.proofs.TemplateKeeping.{separator_keeps, jump_keeps, jump_if_zero_keeps}
+use Rattle.match_bodies.specs.Setting.{Setting, RepresentsAt}
 
 -- an instruction of a body begins within it
 offset_most : (y : Layout) (body : List Instruction) (number : ℕ)
@@ -61,8 +58,9 @@ got_within [] i lt = absurd (omega arith)
 got_within (x ∷ vs) zero lt = refl
 got_within (x ∷ vs) (suc i) lt = got_within vs i (omega arith)
 
-module _ (t : Functions) (fs : List Funclet) (program : LinearProgram) (p : ImagePlan) (q : Sites)
-    (image : IsProgramImage t fs program p q) (roomy : HaveRoom program) where
+module _ (setting : Setting) (roomy : HaveRoom setting.program) where
+  open setting use {functions as t, funclets as fs, program, plan as p, sites as q, image}
+
   -- linear code at another instruction of the body that runs, with these numbers in its slots
   abbrev pub at_other : Configuration → (label : ℕ) (values ts : List ℕ) (landed : Option ℕ)
       → Memory → List Event → Configuration
@@ -77,33 +75,31 @@ module _ (t : Functions) (fs : List Funclet) (program : LinearProgram) (p : Imag
     events = events;
   }
 
-  module _ (s : State) (c : Configuration) (b : RepresentsAt t fs program p q s c)
-      (counted : IsCounted t fs program p q image c)
-      (around : Surroundings t fs program p q image roomy s c b counted) where
+  module _ (s : State) (c : Configuration) (b : RepresentsAt setting s c)
+      (counted : IsCounted setting c) (around : Surroundings setting roomy s c b counted) where
     abbrev body : LinearBody
-    body = code t fs program p q image roomy s c b counted
+    body = code setting roomy s c b counted
 
     abbrev pub values_here : List ℕ
-    values_here = (placed t fs program p q image s c b counted).values
+    values_here = (placed setting s c b counted).values
 
     is_there : c.frame.activation < length b.body.acts
     is_there = let n = slice_get_within (locals_of b.body.acts) c.frame.activation values_here
-        (placed t fs program p q image s c b counted).number in let k = locals_count b.body.acts in
+        (placed setting s c b counted).number in let k = locals_count b.body.acts in
         omega arith
 
     -- a turn of linear code that is a run of a template to an instruction of the body
     pub moves_to : (i : Instruction) (n label rip : ℕ) (d : BodyState) (values ts : List ℕ)
         (landed : Option ℕ)
-        → ReachesBody (frame t fs program p q image roomy s c b counted) n s rip
-        (v t fs program p q image roomy s c b counted).rest d → rip ≡ p.address c.frame.body label
+        → ReachesBody (frame setting roomy s c b counted) n s rip
+        (v setting roomy s c b counted).rest d → rip ≡ p.address c.frame.body label
         → label < length body.code → rip < 2 ^ 64 → Leaves body d values ts → landed ≡ None
-        → RunsKeep t fs program p q image s c b counted n s
-        → ((next : Next) → act program i next c
-        ≡ next (at_other c label values ts landed d.memory c.events)) → 1 ≤ n
+        → RunsKeep setting s c b counted n s → ((next : Next) → act program i next c ≡ next
+        (at_other c label values ts landed d.memory c.events)) → 1 ≤ n
         → n + 3 * length ts ≤ 16 + 3 * length c.frame.temporaries
-        → Moves t fs program 16 turns_left (RepresentsAt t fs program p q) s c i
+        → Moves t fs program 16 turns_left (RepresentsAt setting) s c i
     moves_to i n label rip d values ts landed r at lt small leaves free keep acts some few =
-        let m = to_label t fs program p q image roomy s c b counted around n label rip d values ts
+        let m = to_label setting roomy s c b counted around n label rip d values ts
         landed c.events r at lt small leaves free keep in
         let store : locals_of (with_values b.body.acts c.frame.activation values)
         ≡ slice_set c.store.activations c.frame.activation values =
@@ -124,7 +120,7 @@ module _ (t : Functions) (fs : List Funclet) (program : LinearProgram) (p : Imag
             below = c.below;
             store = record { memory = d.memory; activations = xs };
             events = c.events;
-          } in RepresentsAt t fs program p q m.0 o) store m.2;
+          } in RepresentsAt setting m.0 o) store m.2;
         }
 
     -- the same numbers in the locals
@@ -134,21 +130,19 @@ module _ (t : Functions) (fs : List Funclet) (program : LinearProgram) (p : Imag
         ap (λ xs. slice_set xs c.frame.activation values_here) b.body.store
         ∙ sym (activated b.body.acts c.frame.activation values_here is_there)
         ∙ same_activations b.body.acts c.frame.activation values_here is_there
-        (placed t fs program p q image s c b counted).number
-        ∙ sym b.body.store
+        (placed setting s c b counted).number ∙ sym b.body.store
 
     -- ---- jumps, and nothing
 
     -- the slots as they are
     pub all_as_they_are : length c.frame.temporaries ≤ body.temporaries
-        → Leaves body (slots t fs program p q image roomy s c b counted) values_here
-        c.frame.temporaries
+        → Leaves body (slots setting roomy s c b counted) values_here c.frame.temporaries
     all_as_they_are held =
-        let w = slots_here t fs program p q image s c b counted in
+        let w = slots_here setting s c b counted in
         record {
-          count = count t fs program p q image s c b counted;
+          count = count setting s c b counted;
           locals = λ i lt. w.locals i lt ∙ ap (λ xs. slice_index xs i)
-              (locals_here t fs program p q image s c b counted);
+              (locals_here setting s c b counted);
           few = held;
           temporaries = w.temporaries;
         }
@@ -160,16 +154,15 @@ module _ (t : Functions) (fs : List Funclet) (program : LinearProgram) (p : Imag
 
     -- a template's run begins in the state itself
     abbrev pub Reached : ℕ → ℕ → BodyState → Type 0
-    Reached n rip d = ReachesBody (frame t fs program p q image roomy s c b counted) n s rip
-        (v t fs program p q image roomy s c b counted).rest d
+    Reached n rip d = ReachesBody (frame setting roomy s c b counted) n s rip
+        (v setting roomy s c b counted).rest d
 
     pub from_here : (n rip : ℕ) (d : BodyState)
-        → ReachesBody (frame t fs program p q image roomy s c b counted) n
-        (machine (v t fs program p q image roomy s c b counted) s.cpu.rip s.cpu.flags) rip
-        (v t fs program p q image roomy s c b counted).rest d → Reached n rip d
-    from_here n rip d r = subst (λ x. ReachesBody (frame t fs program p q image roomy s c b counted)
-        n x rip (v t fs program p q image roomy s c b counted).rest d)
-        (sym (same_state t fs program p q image roomy s c b counted)) r
+        → ReachesBody (frame setting roomy s c b counted) n
+        (machine (v setting roomy s c b counted) s.cpu.rip s.cpu.flags) rip
+        (v setting roomy s c b counted).rest d → Reached n rip d
+    from_here n rip d r = subst (λ x. ReachesBody (frame setting roomy s c b counted) n x rip
+        (v setting roomy s c b counted).rest d) (sym (same_state setting roomy s c b counted)) r
 
     pub label_small : (label : ℕ) → label < length body.code → p.address c.frame.body label < 2 ^ 64
     label_small label lt =
@@ -183,18 +176,16 @@ module _ (t : Functions) (fs : List Funclet) (program : LinearProgram) (p : Imag
     pub jump_step : (label : ℕ) → c.frame.landed ≡ None
         → slice_get body.code c.frame.next ≡ Some (instructions.Jump label)
         → length c.frame.temporaries ≤ body.temporaries → GoesInside (instructions.Jump label)
-        → Moves t fs program 16 turns_left (RepresentsAt t fs program p q) s c (instructions.Jump label)
+        → Moves t fs program 16 turns_left (RepresentsAt setting) s c (instructions.Jump label)
     jump_step label free e held inside =
-        let r = done t fs program p q image roomy s c b counted (instructions.Jump label) e in
+        let r = done setting roomy s c b counted (instructions.Jump label) e in
         let most = r.most in
         let lt = inside (at_label label c) (λ next. refl) body b.body.slots.body in
         moves_to (instructions.Jump label) 1 label (p.address c.frame.body label)
-        (slots t fs program p q image roomy s c b counted) values_here c.frame.temporaries
-        c.frame.landed
+        (slots setting roomy s c b counted) values_here c.frame.temporaries c.frame.landed
         (from_here 1 (p.address c.frame.body label)
-        (slots t fs program p q image roomy s c b counted) r.follows) refl lt
-        (label_small label lt) (all_as_they_are held) free
-        (jump_keeps t fs program p q image roomy s c b counted label e)
+        (slots setting roomy s c b counted) r.follows) refl lt (label_small label lt)
+        (all_as_they_are held) free (jump_keeps setting roomy s c b counted label e)
         (λ next. ap (λ xs. let o : Configuration =
         record {
           frame = record c.frame { next = label };
@@ -207,7 +198,7 @@ module _ (t : Functions) (fs : List Funclet) (program : LinearProgram) (p : Imag
     -- ---- slots that are read
 
     abbrev pub slots_now : BodyState
-    slots_now = slots t fs program p q image roomy s c b counted
+    slots_now = slots setting roomy s c b counted
 
     pub record IsRead (slot : Slot) : Type 0 where
       pub value : ℕ
@@ -219,14 +210,14 @@ module _ (t : Functions) (fs : List Funclet) (program : LinearProgram) (p : Imag
     is_read (Local x) there h = record {
       value = local_of c.store c.frame.activation x;
       reads = refl;
-      same = (slots_here t fs program p q image s c b counted).locals x there;
+      same = (slots_here setting s c b counted).locals x there;
     }
     is_read (Temporary i) there h =
         let e = got_within c.frame.temporaries i h in
         record {
           value = slice_index c.frame.temporaries i;
           reads = e;
-          same = (slots_here t fs program p q image s c b counted).temporaries i
+          same = (slots_here setting s c b counted).temporaries i
               (slice_index c.frame.temporaries i) e;
         }
 
@@ -247,19 +238,19 @@ module _ (t : Functions) (fs : List Funclet) (program : LinearProgram) (p : Imag
     pub separator_step : c.frame.landed ≡ None
         → slice_get body.code c.frame.next ≡ Some instructions.Separator
         → length c.frame.temporaries ≤ body.temporaries → GoesInside instructions.Separator
-        → Moves t fs program 16 turns_left (RepresentsAt t fs program p q) s c instructions.Separator
+        → Moves t fs program 16 turns_left (RepresentsAt setting) s c instructions.Separator
     separator_step free e held inside =
-        let r = done t fs program p q image roomy s c b counted instructions.Separator e in
+        let r = done setting roomy s c b counted instructions.Separator e in
         let most = r.most in
         let lt = inside (forth (with_last [] c)) (λ next. refl) body b.body.slots.body in
-        let at = next_address t fs program p q image roomy s c b counted instructions.Separator e in
+        let at = next_address setting roomy s c b counted instructions.Separator e in
         let small = label_small (c.frame.next + 1) lt in
         moves_to instructions.Separator 1 (c.frame.next + 1)
         (s.cpu.rip + template_size (p.layout c.frame.body) instructions.Separator) slots_now
         values_here [] c.frame.landed
         (from_here 1 (s.cpu.rip + template_size (p.layout c.frame.body) instructions.Separator)
         slots_now r.follows) (sym at) lt (omega arith) (fewer [] held (omega arith) (λ i v g. cc))
-        free (separator_keeps t fs program p q image roomy s c b counted e)
+        free (separator_keeps setting roomy s c b counted e)
         (λ next. ap (λ xs. let o : Configuration =
         record {
           frame = record c.frame { next = c.frame.next + 1; temporaries = [] };
@@ -330,10 +321,10 @@ module _ (t : Functions) (fs : List Funclet) (program : LinearProgram) (p : Imag
         → rip ≡ p.address c.frame.body to → Reached n rip slots_now
         → length c.frame.temporaries ≤ body.temporaries
         → GoesInside (instructions.JumpIfZero slot label)
-        → RunsKeep t fs program p q image s c b counted n s
+        → RunsKeep setting s c b counted n s
         → ((next : Next) → act program (instructions.JumpIfZero slot label) next c
         ≡ next (tested_at slot to)) → 1 ≤ n → n ≤ 16
-        → Moves t fs program 16 turns_left (RepresentsAt t fs program p q) s c
+        → Moves t fs program 16 turns_left (RepresentsAt setting) s c
         (instructions.JumpIfZero slot label)
     to_tested slot label n rip to free at r held inside keep acts some most =
         let lt = inside (tested_at slot to) acts body b.body.slots.body in
@@ -353,27 +344,27 @@ module _ (t : Functions) (fs : List Funclet) (program : LinearProgram) (p : Imag
         → slice_get body.code c.frame.next ≡ Some (instructions.JumpIfZero slot label)
         → length c.frame.temporaries ≤ body.temporaries → IsHeld (length c.frame.temporaries) slot
         → GoesInside (instructions.JumpIfZero slot label)
-        → Moves t fs program 16 turns_left (RepresentsAt t fs program p q) s c
+        → Moves t fs program 16 turns_left (RepresentsAt setting) s c
         (instructions.JumpIfZero slot label)
     jump_if_zero_step slot label free e held there inside =
-        let r = is_read slot (has_slots t fs program p q image roomy s c b counted
+        let r = is_read slot (has_slots setting roomy s c b counted
         (instructions.JumpIfZero slot label) e) there in
         by_value r (nat_eq (slots_now.slots slot) 0) refl
-        (done t fs program p q image roomy s c b counted (instructions.JumpIfZero slot label) e)
+        (done setting roomy s c b counted (instructions.JumpIfZero slot label) e)
       where
         turns : ℕ
         turns = length (template (links_of p q c.frame.body) (p.layout c.frame.body) s.cpu.rip
             (instructions.JumpIfZero slot label))
 
-        keep : RunsKeep t fs program p q image s c b counted turns s
-        keep = jump_if_zero_keeps t fs program p q image roomy s c b counted slot label e
+        keep : RunsKeep setting s c b counted turns s
+        keep = jump_if_zero_keeps setting roomy s c b counted slot label e
 
         by_value : (r : IsRead slot) (z : Bool) → nat_eq (slots_now.slots slot) 0 ≡ z
-            → InstructionDone (frame t fs program p q image roomy s c b counted)
-            (links_of p q c.frame.body) (v t fs program p q image roomy s c b counted) s.cpu.rip
-            s.cpu.flags slots_now (instructions.JumpIfZero slot label)
+            → InstructionDone (frame setting roomy s c b counted) (links_of p q c.frame.body)
+            (v setting roomy s c b counted) s.cpu.rip s.cpu.flags slots_now
+            (instructions.JumpIfZero slot label)
             (cond z (JumpsTo slots_now label) (meanings.Next slots_now))
-            → Moves t fs program 16 turns_left (RepresentsAt t fs program p q) s c
+            → Moves t fs program 16 turns_left (RepresentsAt setting) s c
             (instructions.JumpIfZero slot label)
         by_value r true z d = to_tested slot label turns (p.address c.frame.body label) label free
             refl (from_here turns (p.address c.frame.body label) slots_now d.follows) held inside keep
@@ -381,8 +372,8 @@ module _ (t : Functions) (fs : List Funclet) (program : LinearProgram) (p : Imag
         by_value r false z d =
             to_tested slot label turns (s.cpu.rip
             + template_size (p.layout c.frame.body) (instructions.JumpIfZero slot label))
-            (c.frame.next + 1) free (sym (next_address t fs program p q image roomy s c b
-            counted (instructions.JumpIfZero slot label) e))
+            (c.frame.next + 1) free (sym (next_address setting roomy s c b counted
+            (instructions.JumpIfZero slot label) e))
             (from_here turns (s.cpu.rip + template_size (p.layout c.frame.body)
             (instructions.JumpIfZero slot label)) slots_now d.follows) held inside keep
             (continues slot label r.value r.reads (ap (λ x. nat_eq x 0) (sym r.same) ∙ z)) d.least

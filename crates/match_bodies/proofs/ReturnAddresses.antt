@@ -8,12 +8,10 @@ use Rattle.x64_instr.specs.declared.register.Reg.TheVariants.{Rax}
 use Rattle.x64_instr.specs.declared.instruction.Instr.{Instr}
 use Rattle.x64_machine.specs.declared.context.Context.{Context}
 use Rattle.virtual_unwind.specs.Contexts.{rsp}
-use Rattle.virtual_unwind.specs.CallerOf.{Functions}
 use Rattle.virtual_unwind.specs.Undone.{word}
-use Rattle.host_model.specs.declared.funclet.Funclet.{Funclet}
 use Rattle.linear_code.specs.declared.instruction.Instruction.{Instruction}
 use Rattle.linear_code.specs.declared.instruction.Instruction.TheVariants as instructions
-use Rattle.linear_code.specs.Program.{LinearProgram, LinearBody}
+use Rattle.linear_code.specs.Program.{LinearBody}
 use Rattle.linear_machine.specs.Frames.{BodyName, body_of}
 use Rattle.template_code.specs.Bytes.{sizes}
 use Rattle.template_code.specs.Slots.{fetch}
@@ -25,12 +23,12 @@ use Rattle.x64_templates.proofs.Computes.{code_split}
 use Rattle.x64_templates.proofs.Linked.{template_placed}
 use Rattle.match_stack.specs.Stack.{after_leaf}
 use Rattle.match_stack.proofs.ItemVisits.{frame_is_visited, leaf_is_visited}
-use Rattle.match_stack.specs.ImagePlan.{ImagePlan}
-use Rattle.match_bodies.specs.CodeSites.{Sites, links_of, begin_of, making_size, frame_code, arguments_code, entry_code}
-use Rattle.match_bodies.specs.ProgramImages.{frame_with, HasProgram, IsResumed, IsProgramImage}
+use Rattle.match_bodies.specs.CodeSites.{links_of, begin_of, making_size, frame_code, arguments_code, entry_code}
+use Rattle.match_bodies.specs.ProgramImages.{frame_with}
 use Rattle.match_bodies.specs.Callers.{caller_above, HasCaller, FindsReturn}
 use Rattle.match_bodies.proofs.StackTop.{leaf_layout}
 use Rattle.match_bodies.proofs.TemplateSizes.{template_some}
+use Rattle.match_bodies.specs.Setting.{Setting, HasProgram, IsResumed}
 
 record First (code : List Instr) : Type 0 where
   item : Instr
@@ -41,19 +39,20 @@ first_of : (code : List Instr) → 1 ≤ sizes code → First code
 first_of [] le = absurd (omega arith)
 first_of (i ∷ is) le = record { item = i; left = is; parts = refl }
 
-module _ (t : Functions) (fs : List Funclet) (program : LinearProgram) (p : ImagePlan) (q : Sites)
-    (image : IsProgramImage t fs program p q) where
+module _ (setting : Setting) where
+  open setting use {functions as t, funclets as fs, program, plan as p, sites as q, image}
+
   module _ (name : BodyName) (b : LinearBody) (is : body_of program name ≡ Some b) (m : Memory)
-      (has : HasProgram t fs program p q m) where
+      (has : HasProgram setting m) where
     -- where a body waits, or is within an instruction that isn't a return
-    pub resumed_found : (label rip : ℕ) → IsResumed t fs program p q name b label rip
+    pub resumed_found : (label rip : ℕ) → IsResumed setting name b label rip
         → FindsReturn t m rip (p.layout name).frame
     resumed_found label rip r c back at nine room w = by (p.leaf name) refl
       where
         y : ℕ
         y = (p.layout name).frame
 
-        here : IsResumed t fs program p q name b label c.rip
+        here : IsResumed setting name b label c.rip
         here = record {
           instruction = r.instruction;
           there = r.there;

@@ -8,12 +8,10 @@ use Rattle.x64_instr.specs.declared.register.Reg.TheVariants.{Rax, Rsp}
 use Rattle.x64_instr.specs.declared.instruction.Instr.{Instr}
 use Rattle.x64_instr.specs.declared.instruction.Instr.TheVariants as instrs
 use Rattle.x64_machine.specs.Effect.{State, register, with_rip}
-use Rattle.virtual_unwind.specs.CallerOf.{Functions}
-use Rattle.host_model.specs.declared.funclet.Funclet.{Funclet}
 use Rattle.linear_code.specs.declared.slot.Slot.{Slot}
 use Rattle.linear_code.specs.declared.slot.Slot.TheVariants.{Local, Temporary}
 use Rattle.linear_code.specs.declared.instruction.Instruction.TheVariants as instructions
-use Rattle.linear_code.specs.Program.{LinearProgram, LinearBody}
+use Rattle.linear_code.specs.Program.{LinearBody}
 use Rattle.linear_machine.specs.Frames.{BodyName, body_of}
 use Rattle.template_code.specs.declared.layout.Layout.{Layout}
 use Rattle.template_code.specs.Bytes.{size, sizes}
@@ -23,17 +21,16 @@ use Rattle.x64_templates.specs.Runs.{HasCode}
 use Rattle.x64_templates.proofs.Computes.{code_split}
 use Rattle.x64_templates.proofs.Encoded.{Fine, near}
 use Rattle.match_stack.specs.Stack.{StackItem}
-use Rattle.match_stack.specs.ImagePlan.{ImagePlan}
 use Rattle.match_runs.specs.Shadow.{is_call, AllKeep}
 use Rattle.match_runs.proofs.Shadows.{keep_first}
-use Rattle.match_bodies.specs.CodeSites.{Sites, give_back}
-use Rattle.match_bodies.specs.ProgramImages.{HasProgram, IsProgramImage}
+use Rattle.match_bodies.specs.CodeSites.{give_back}
 use Rattle.match_bodies.specs.Callers.{FindsReturn}
 use Rattle.match_bodies.proofs.InstructionEffects.{rises}
 use Rattle.match_bodies.proofs.SilentTurns.{program_kept}
 use Rattle.match_bodies.proofs.RoutineWalks.{read_here, effect_here, code_next, StepsTo, steps_split, keeps_split, Beneath, AllPlain, Finds, Ran, ran}
 use Rattle.match_bodies.proofs.ShadowTurns.{shifts, return_keeps_shadow}
 use Rattle.match_bodies.proofs.ReturnAddresses.{template_there}
+use Rattle.match_bodies.specs.Setting.{Setting, HasProgram}
 
 -- what a return fetches
 fetch_local_plain : (d e : ℕ) (o : Option ℕ) (k : ℕ) → Fine (fetch_local o Rax k)
@@ -46,15 +43,16 @@ pub fetch_plain : (d e : ℕ) (y : Layout) (x : Slot) → Fine (fetch y Rax x)
 fetch_plain d e y (Temporary i) f = ((f.0, inl refl), tt)
 fetch_plain d e y (Local i) f = fetch_local_plain d e y.base (local_at y i) f
 
-module _ (t : Functions) (fs : List Funclet) (program : LinearProgram) (p : ImagePlan) (q : Sites)
-    (image : IsProgramImage t fs program p q) where
+module _ (setting : Setting) where
+  open setting use {functions as t, funclets as fs, program, plan as p, sites as q, image}
+
   module _ (name : BodyName) (b : LinearBody) (is : body_of program name ≡ Some b) (label : ℕ)
       (from : Slot) (at : slice_get b.code label ≡ Some (instructions.Return from))
       (s w : State) (top back : ℕ) (others : List ℕ) (list : List StackItem)
       (here : s.cpu.rip ≡ p.address name label)
       (beneath : Beneath t s top (top + 8) back others list)
       (below : register s.cpu Rsp + (p.layout name).frame ≡ top)
-      (has : HasProgram t fs program p q s.memory) (small : (p.layout name).frame < 2 ^ 31)
+      (has : HasProgram setting s.memory) (small : (p.layout name).frame < 2 ^ 31)
       (plain : AllPlain (p.layout name).frame 8 (fetch (p.layout name) Rax from))
       (run : StepsTo (length (return_code (p.layout name) from)) s w) where
     abbrev y : Layout
@@ -70,11 +68,10 @@ module _ (t : Functions) (fs : List Funclet) (program : LinearProgram) (p : Imag
     abbrev u : State
     u = halves.0
 
-    codes : (m : Memory) → HasProgram t fs program p q m
-        → HasCode m (p.address name label) fetching
-        × HasCode m (p.address name label + sizes fetching) (epilogue y.frame)
+    codes : (m : Memory) → HasProgram setting m → HasCode m (p.address name label) fetching ×
+        HasCode m (p.address name label + sizes fetching) (epilogue y.frame)
     codes m h = code_split m (p.address name label) fetching (epilogue y.frame)
-        (template_there t fs program p q image name b is m h label (instructions.Return from) at)
+        (template_there setting name b is m h label (instructions.Return from) at)
 
     finds : Finds t fs program p q top (top + 8) back others list s.cpu.rip fetching y.frame
     finds done left split m h = subst (λ a. FindsReturn t m (a + sizes done) y.frame) (sym here)
@@ -121,7 +118,7 @@ module _ (t : Functions) (fs : List Funclet) (program : LinearProgram) (p : Imag
         (effect_here u v i (instrs.Return ∷ []) enc code st.steps) in
         let has' = program_kept t fs program p q u.memory v.memory
         (record { protection = st.protection; fixed = st.fixed }) first.has in
-        let found : (m : Memory) → HasProgram t fs program p q m → FindsReturn t m next 0 = λ m h.
+        let found : (m : Memory) → HasProgram setting m → FindsReturn t m next 0 = λ m h.
         (let f = (image.callers name b is).ends m label from n h at e in
         let same : p.address name label + sizes fetching + size (give_back y.frame)
         ≡ next = ap (λ k. p.address name label + sizes fetching + size (give_back k)) e

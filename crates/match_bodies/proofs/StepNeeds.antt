@@ -4,15 +4,12 @@ use Rattle.std.proofs.Common.{◌≡◌, ℕ, zero, suc, ◌+◌, ◌≤◌, Boo
 use Rattle.std.specs.Prelude.{slice_get}
 use Rattle.std.proofs.lemmas.Option.{slice_get_within}
 use Rattle.x64_machine.specs.Effect.{State}
-use Rattle.virtual_unwind.specs.CallerOf.{Functions}
-use Rattle.host_model.specs.declared.funclet.Funclet.{Funclet}
 use Rattle.linear_code.specs.declared.instruction.Instruction.{Instruction}
 use Rattle.linear_code.specs.declared.instruction.Instruction.TheVariants as instructions
 use Rattle.linear_code.specs.Program.{LinearProgram, LinearBody, LinearFunction}
 use Rattle.linear_machine.specs.Frames as linear
 use Rattle.linear_machine.specs.Frames.{BodyName, FunctionBody, FuncletBody, body_of, Frame, Item, Waits, Searches, Unwinds, Configuration}
 use Rattle.linear_machine.specs.Run.{instruction_in, instruction_at}
-use Rattle.match_stack.specs.ImagePlan.{ImagePlan}
 use Rattle.match_stack.specs.ItemMatches.{Activation, activations_below}
 use Rattle.lowering_invariants.specs.Bodies.{function_of, owner_of}
 use Rattle.lowering_invariants.specs.Waiting.{IsAt, IsCalledBy, IsAbove, AreWaiting}
@@ -20,9 +17,6 @@ use Rattle.lowering_invariants.specs.Activations.{with_own, owners_of, WorksOn, 
 use Rattle.lowering_invariants.specs.Depths.{depth_in, depth_at}
 use Rattle.lowering_invariants.specs.Ready.{IsReady}
 use Rattle.match_bodies.specs.Layouts.{IsFuncletPlan}
-use Rattle.match_bodies.specs.CodeSites.{Sites}
-use Rattle.match_bodies.specs.ProgramImages.{IsProgramImage}
-use Rattle.match_bodies.specs.Bodies.{RepresentsAt}
 use Rattle.match_bodies.specs.SlotStores.{OwnerHasFrame}
 use Rattle.match_bodies.specs.ConfigurationFacts.{IsWellMade, IsKnown}
 use Rattle.match_bodies.proofs.ActivationPlaces.{locals_count}
@@ -30,6 +24,7 @@ use Rattle.match_bodies.proofs.HomeSpace.{CallerHasFrame}
 use Rattle.match_bodies.proofs.BodyViews.{IsCounted}
 use Rattle.match_bodies.proofs.TemplateRuns.{code, Surroundings}
 use Rattle.match_bodies.proofs.PlainSteps.{GoesInside}
+use Rattle.match_bodies.specs.Setting.{Setting, RepresentsAt}
 
 -- ---- lists
 
@@ -101,8 +96,9 @@ module _ (program : LinearProgram) where
       → elim (slice_get store i) [ Some x ↦ x | None ↦ [] ] ≡ locals
   locals_are store i locals e = ap (λ x. elim x [ Some y ↦ y | None ↦ [] ]) e
 
-module _ (t : Functions) (fs : List Funclet) (program : LinearProgram) (p : ImagePlan) (q : Sites)
-    (image : IsProgramImage t fs program p q) (made : IsWellMade program p) where
+module _ (setting : Setting) (made : IsWellMade setting.program setting.plan) where
+  open setting use {functions as t, funclets as fs, program, plan as p, image}
+
   -- a body has as many locals as its function
   as_many : (name : BodyName) (b : LinearBody) (k : ℕ) (function : LinearFunction)
       → body_of program name ≡ Some b → owner_of program name ≡ Some k
@@ -121,7 +117,7 @@ module _ (t : Functions) (fs : List Funclet) (program : LinearProgram) (p : Imag
       plan.function_there)
       ∙ sym plan.same_locals
 
-  pub counted_here : (c : Configuration) → IsKnown program c → IsCounted t fs program p q image c
+  pub counted_here : (c : Configuration) → IsKnown program c → IsCounted setting c
   counted_here c known b there =
       let own = owner_here program c.frame.body c.frame c.below known.activations.working.0 in
       let stored = owned program (owners_of (Waits c.frame ∷ c.below)) c.store.activations
@@ -203,7 +199,7 @@ module _ (t : Functions) (fs : List Funclet) (program : LinearProgram) (p : Imag
           ≡ length acts = ap (λ x. length (activations_below x acts)) name in
           (λ e. ap p.leaf name ∙ plan.framed, again (same ∙ n) frames)
 
-  module _ (s : State) (c : Configuration) (b : RepresentsAt t fs program p q s c)
+  module _ (s : State) (c : Configuration) (b : RepresentsAt setting s c)
       (known : IsKnown program c) where
     owner_here_framed : (k : ℕ) → c.frame.body ≡ FuncletBody k
         → OwnerHasFrame t fs program p c.frame.activation c.below b.body.acts
@@ -225,7 +221,7 @@ module _ (t : Functions) (fs : List Funclet) (program : LinearProgram) (p : Imag
         (sym (some_is works.0 f (sym works.2 ∙ e)) ∙ sym function) ∙ plan.function_framed)
 
     -- all that the steps ask of what is around
-    pub around_here : Surroundings t fs program p q image made.room s c b (counted_here c known)
+    pub around_here : Surroundings setting made.room s c b (counted_here c known)
     around_here = record {
       caller = λ leaf. leaf_or_funclet c b.body.slots.code c.frame.body b.body.slots.body leaf
           known.stacked.above;
@@ -234,13 +230,12 @@ module _ (t : Functions) (fs : List Funclet) (program : LinearProgram) (p : Imag
 
     -- the instruction that the configuration is at is in the body's code
     pub code_at : (i : Instruction) → instruction_at program c ≡ Some i
-        → slice_get (code t fs program p q image made.room s c b (counted_here c known)).code
-        c.frame.next ≡ Some i
+        → slice_get (code setting made.room s c b (counted_here c known)).code c.frame.next ≡ Some i
     code_at i e = label_in (body_of program c.frame.body) b.body.slots.code c.frame.next i
         b.body.slots.body e
 
     pub held_here : length c.frame.temporaries
-        ≤ (code t fs program p q image made.room s c b (counted_here c known)).temporaries
+        ≤ (code setting made.room s c b (counted_here c known)).temporaries
     held_here =
         let d = made.room c.frame.body b.body.slots.code b.body.slots.body in
         let here : length c.frame.temporaries
@@ -250,7 +245,7 @@ module _ (t : Functions) (fs : List Funclet) (program : LinearProgram) (p : Imag
         omega arith
 
     pub goes_inside : (i : Instruction) → instruction_at program c ≡ Some i
-        → GoesInside t fs program p q image made.room s c b (counted_here c known) around_here i
+        → GoesInside setting made.room s c b (counted_here c known) around_here i
     goes_inside i e d goes o there =
         let g = known.next i d e goes in
         slice_get_within o.code d.frame.next g.instruction

@@ -5,8 +5,6 @@ use Rattle.flat_memory.specs.Memory.{Memory}
 use Rattle.x64_instr.specs.declared.register.Reg.TheVariants.{Rsp}
 use Rattle.x64_instr.specs.declared.instruction.Instr.{Instr}
 use Rattle.x64_machine.specs.Effect.{State, register}
-use Rattle.virtual_unwind.specs.CallerOf.{Functions}
-use Rattle.host_model.specs.declared.funclet.Funclet.{Funclet}
 use Rattle.c_operations.specs.declared.field.Field.{Field}
 use Rattle.c_operations.specs.declared.operation.Operation.{Operation}
 use Rattle.c_operations.specs.Performed.{Gives, performed}
@@ -15,7 +13,7 @@ use Rattle.linear_code.specs.declared.slot.Slot.{Slot}
 use Rattle.linear_code.specs.declared.slot.Slot.TheVariants.{Local, Temporary}
 use Rattle.linear_code.specs.declared.instruction.Instruction.{Instruction}
 use Rattle.linear_code.specs.declared.instruction.Instruction.TheVariants as instructions
-use Rattle.linear_code.specs.Program.{LinearProgram, LinearBody}
+use Rattle.linear_code.specs.Program.{LinearBody}
 use Rattle.linear_machine.specs.Frames.{Configuration}
 use Rattle.template_code.specs.declared.layout.Layout.{Layout}
 use Rattle.template_code.specs.Bytes.{size, sizes}
@@ -32,18 +30,16 @@ use Rattle.x64_templates.specs.Runs.{Reaches, FrameHolds, HasCode}
 use Rattle.x64_templates.proofs.Chains.{rest_of}
 use Rattle.x64_templates.proofs.Computes.{code_split, Begun, operands_run, Worked, work_run}
 use Rattle.x64_templates.proofs.Flows.{work_flow, separator_flow, jump_flow, keep_flow, operands_flow, information_flow, jump_if_zero_flow}
-use Rattle.match_stack.specs.ImagePlan.{ImagePlan}
 use Rattle.match_runs.specs.Shadow.{AllKeep}
 use Rattle.lowering_invariants.specs.Room.{HaveRoom}
-use Rattle.match_bodies.specs.CodeSites.{Sites, links_of}
-use Rattle.match_bodies.specs.ProgramImages.{IsProgramImage}
-use Rattle.match_bodies.specs.Bodies.{RepresentsAt}
+use Rattle.match_bodies.specs.CodeSites.{links_of}
 use Rattle.match_bodies.proofs.TemplatePieces.{piece_there}
 use Rattle.match_bodies.specs.BodyViews.{counts_of}
 use Rattle.match_bodies.proofs.BodyViews.{IsCounted, placed, room_here, holds_here}
 use Rattle.match_bodies.proofs.ChainKeeping.{Keeps, keeps_then, reaches_keeps}
 use Rattle.match_bodies.proofs.TemplateShadows.{kept_by_rest, Below, is_here, is_after, ran_same, RunsKeep, whole, IsPast, past_none, one_piece, piece_to, piece_then, near_here}
 use Rattle.match_bodies.proofs.TemplateRuns.{code, frame, slots, v, same_state, template_here, sp_is, has_slots, dropped, Surroundings}
+use Rattle.match_bodies.specs.Setting.{Setting, RepresentsAt}
 
 jump_size : (y : Layout) (at label : ℕ) → at + template_size y (instructions.Jump label) ≡ at + 5
 unfolding template_size size
@@ -60,12 +56,12 @@ keep_some y (Local i) = by y.base
 finish_some : (y : Layout) (o : Operation) (x : Slot) → 1 ≤ length (finish_code y o x)
 finish_some y o x = let k = keep_some y x in omega (arith, length-append (work o) (keep y x))
 
-module _ (t : Functions) (fs : List Funclet) (program : LinearProgram) (p : ImagePlan) (q : Sites)
-    (image : IsProgramImage t fs program p q) (roomy : HaveRoom program) (s : State)
-    (c : Configuration) (b : RepresentsAt t fs program p q s c)
-    (counted : IsCounted t fs program p q image c) where
+module _ (setting : Setting) (roomy : HaveRoom setting.program) (s : State)
+    (c : Configuration) (b : RepresentsAt setting s c) (counted : IsCounted setting c) where
+  open setting use {functions as t, funclets as fs, program, plan as p, sites as q}
+
   abbrev body : LinearBody
-  body = code t fs program p q image roomy s c b counted
+  body = code setting roomy s c b counted
 
   abbrev layout : Layout
   layout = p.layout c.frame.body
@@ -74,27 +70,26 @@ module _ (t : Functions) (fs : List Funclet) (program : LinearProgram) (p : Imag
   here = p.address c.frame.body c.frame.next
 
   abbrev Keeping : ℕ → State → Type 0
-  Keeping = RunsKeep t fs program p q image s c b counted
+  Keeping = RunsKeep setting s c b counted
 
   abbrev base : ℕ
-  base = (placed t fs program p q image s c b counted).base
+  base = (placed setting s c b counted).base
 
   pub separator_keeps : slice_get body.code c.frame.next ≡ Some instructions.Separator → Keeping 1 s
-  separator_keeps at = one_piece t fs program p q image s c b counted instructions.Separator at
-      (λ h. h) [] (whole t fs program p q image s c b counted instructions.Separator at (λ h. h)) s
-      refl separator_flow (past_none t fs program p q image s c b counted instructions.Separator at
-      (λ h. h))
+  separator_keeps at = one_piece setting s c b counted instructions.Separator at (λ h. h) []
+      (whole setting s c b counted instructions.Separator at (λ h. h)) s refl separator_flow
+      (past_none setting s c b counted instructions.Separator at (λ h. h))
 
   pub jump_keeps : (label : ℕ) → slice_get body.code c.frame.next ≡ Some (instructions.Jump label)
       → Keeping 1 s
   jump_keeps label at =
       let i = instructions.Jump label in
       let near = subst (λ a. IsNear a (p.address c.frame.body label)) (jump_size layout here label)
-      (near_here t fs program p q image s c b counted i at (λ h. h)) in
-      one_piece t fs program p q image s c b counted i at (λ h. h) []
-      (whole t fs program p q image s c b counted i at (λ h. h)) s refl
+      (near_here setting s c b counted i at (λ h. h)) in
+      one_piece setting s c b counted i at (λ h. h) []
+      (whole setting s c b counted i at (λ h. h)) s refl
       (jump_flow here (p.address c.frame.body label) near)
-      (past_none t fs program p q image s c b counted i at (λ h. h))
+      (past_none setting s c b counted i at (λ h. h))
 
   pub jump_if_zero_keeps : (slot : Slot) (label : ℕ)
       → slice_get body.code c.frame.next ≡ Some (instructions.JumpIfZero slot label)
@@ -103,47 +98,46 @@ module _ (t : Functions) (fs : List Funclet) (program : LinearProgram) (p : Imag
   jump_if_zero_keeps slot label at =
       let i = instructions.JumpIfZero slot label in
       let links = links_of p q c.frame.body in
-      let room = room_here t fs program p q image s c b counted in
-      let there = has_slots t fs program p q image roomy s c b counted i at in
+      let room = room_here setting s c b counted in
+      let there = has_slots setting roomy s c b counted i at in
       let e : sizes (test_code layout slot) + 6
       ≡ template_size layout i = sym (jump_if_zero_size layout slot here
       (p.address c.frame.body label)) ∙ template_sizes links layout here i in
       let z : here + template_size layout i ≡ here + sizes (test_code layout slot)
       + 6 = omega arith in
       let near = subst (λ a. IsNear a (p.address c.frame.body label)) z
-      (near_here t fs program p q image s c b counted i at (λ h. h)) in
+      (near_here setting s c b counted i at (λ h. h)) in
       subst (λ a. Keeping (length (template links layout a i)) s) (sym b.rip)
-      (one_piece t fs program p q image s c b counted i at (λ h. h) []
-      (whole t fs program p q image s c b counted i at (λ h. h)) s refl
+      (one_piece setting s c b counted i at (λ h. h) []
+      (whole setting s c b counted i at (λ h. h)) s refl
       (jump_if_zero_flow layout (counts_of body) (register s.cpu Rsp) base room slot here
       (p.address c.frame.body label) there near)
-      (past_none t fs program p q image s c b counted i at (λ h. h)))
+      (past_none setting s c b counted i at (λ h. h)))
 
   pub landing_keeps : (to : Slot) → slice_get body.code c.frame.next
       ≡ Some (instructions.Landing to) → Keeping (length (keep layout to)) s
   landing_keeps to at =
       let i = instructions.Landing to in
-      let room = room_here t fs program p q image s c b counted in
-      one_piece t fs program p q image s c b counted i at (λ h. h) [] (keep layout to) s refl
+      let room = room_here setting s c b counted in
+      one_piece setting s c b counted i at (λ h. h) [] (keep layout to) s refl
       (keep_flow layout (counts_of body) (register s.cpu Rsp) base room to
-      (has_slots t fs program p q image roomy s c b counted i at))
-      (past_none t fs program p q image s c b counted i at (λ h. h))
+      (has_slots setting roomy s c b counted i at)) (past_none setting s c b counted i at (λ h. h))
 
   pub information_keeps : (to : Slot) (field : Field)
       → slice_get body.code c.frame.next ≡ Some (instructions.Information to field) → IsField field
       → layout.pointers < 2 ^ 31 → Keeping (length (information_code layout to field)) s
   information_keeps to field at is small =
       let i = instructions.Information to field in
-      let room = room_here t fs program p q image s c b counted in
-      one_piece t fs program p q image s c b counted i at (λ h. h) []
+      let room = room_here setting s c b counted in
+      one_piece setting s c b counted i at (λ h. h) []
       (information_code layout to field) s refl
       (information_flow layout (counts_of body) (register s.cpu Rsp) base room to field
-      (has_slots t fs program p q image roomy s c b counted i at) is small)
-      (past_none t fs program p q image s c b counted i at (λ h. h))
+      (has_slots setting roomy s c b counted i at) is small)
+      (past_none setting s c b counted i at (λ h. h))
 
   -- ---- operations
 
-  module _ (around : Surroundings t fs program p q image roomy s c b counted) (to : Slot)
+  module _ (around : Surroundings setting roomy s c b counted) (to : Slot)
       (o : Operation) (first second : Slot) (at : slice_get body.code c.frame.next
       ≡ Some (instructions.Compute to o first second)) where
     abbrev here_now : Instruction
@@ -153,7 +147,7 @@ module _ (t : Functions) (fs : List Funclet) (program : LinearProgram) (p : Imag
     ops = operands_code layout o first second
 
     abbrev Past : List Instr → State → Type 0
-    Past = IsPast t fs program p q image s c b counted here_now at (λ h. h)
+    Past = IsPast setting s c b counted here_now at (λ h. h)
 
     -- from where the operands wait, on the source's memory
     module _ (x : State) (view : MachineView) (is : x ≡ machine view x.cpu.rip x.cpu.flags)
@@ -165,19 +159,16 @@ module _ (t : Functions) (fs : List Funclet) (program : LinearProgram) (p : Imag
       code_there : HasCode view.memory x.cpu.rip (work o)
       code_there =
           let has = subst (λ (k : Memory). HasCode k (here + sizes ops) (work o)) (sym same)
-          (piece_there t fs program p q image c.frame.body body c.frame.next here_now
-          b.body.slots.body at (λ h. h) ops (work o) (keep layout to) refl s.memory
-          b.memory.code) in
+          (piece_there setting c.frame.body body c.frame.next here_now b.body.slots.body at (λ h. h)
+          ops (work o) (keep layout to) refl s.memory b.memory.code) in
           subst (λ a. HasCode view.memory a (work o)) (sym past.rip) has
 
-      worked : Worked (frame t fs program p q image roomy s c b counted) o view x.cpu.rip
-          x.cpu.flags value source
-      worked = work_run (frame t fs program p q image roomy s c b counted) o view x.cpu.rip
-          x.cpu.flags (slots t fs program p q image roomy s c b counted) m n value source m_small
-          n_small waits
-          (subst (λ (k : Memory). FrameHolds (frame t fs program p q image roomy s c b counted) k
-          (slots t fs program p q image roomy s c b counted)) (sym same)
-          (holds_here t fs program p q image s c b counted)) code_there gives
+      worked : Worked (frame setting roomy s c b counted) o view x.cpu.rip x.cpu.flags value source
+      worked = work_run (frame setting roomy s c b counted) o view x.cpu.rip x.cpu.flags
+          (slots setting roomy s c b counted) m n value source m_small n_small waits
+          (subst (λ (k : Memory). FrameHolds (frame setting roomy s c b counted) k
+          (slots setting roomy s c b counted)) (sym same) (holds_here setting s c b counted))
+          code_there gives
 
       abbrev mid : State
       mid = machine (record {
@@ -198,55 +189,51 @@ module _ (t : Functions) (fs : List Funclet) (program : LinearProgram) (p : Imag
           let sp : register mid.cpu Rsp ≡ register s.cpu Rsp = ap
           (λ (xs : List ℕ). slice_index xs 1) rest ∙ dropped s.cpu.registers in
           let kept = keeps_then s x mid keeps (reaches_keeps (length (work o)) x mid comes) in
-          let ran = ran_same t fs program p q image s c b counted mid source kept
+          let ran = ran_same setting s c b counted mid source kept
           (λ a h. worked.result.own a h ∙ ap (λ (k : Memory). k.byte a) same)
           (λ h. worked.result.bytes (subst (λ (k : Memory). (a : ℕ) → k.byte a < 256) (sym same) h))
           worked.result.agrees sp in
           record {
             rip = omega (arith, sizes_append ops (work o));
             registers = kept_by_rest view.rest s.cpu.registers rest;
-            is_there = is_after t fs program p q image s c b counted mid _ _ [] ran around.caller
-                around.owner;
+            is_there = is_after setting s c b counted mid _ _ [] ran around.caller around.owner;
           }
 
       -- the rest of the template
       pub finish_keeps : Keeping (length (finish_code layout o to)) x
       finish_keeps u r ends =
-          let room = room_here t fs program p q image s c b counted in
-          let there = has_slots t fs program p q image roomy s c b counted here_now at in
-          let parts : whole t fs program p q image s c b counted here_now at (λ h. h)
+          let room = room_here setting s c b counted in
+          let there = has_slots setting roomy s c b counted here_now at in
+          let parts : whole setting s c b counted here_now at (λ h. h)
           ≡ (ops ++ work o) ++ keep layout to = sym
           (append_assoc ops (work o) (keep layout to)) in
           let rest = rest_of (length (work o)) (length (keep layout to))
           (length (finish_code layout o to)) x mid u (length-append (work o) (keep layout to))
           comes r in
-          piece_then t fs program p q image s c b counted here_now at (λ h. h) ops (work o)
-          (keep layout to) x mid refl (work_flow o) (keep_some layout to) past comes past_work
-          (one_piece t fs program p q image s c b counted here_now at (λ h. h) (ops ++ work o)
-          (keep layout to) mid parts (keep_flow layout (counts_of body) (register s.cpu Rsp) base
-          room to there.0) past_work u rest ends)
+          piece_then setting s c b counted here_now at (λ h. h) ops (work o) (keep layout to) x mid
+          refl (work_flow o) (keep_some layout to) past comes past_work
+          (one_piece setting s c b counted here_now at (λ h. h) (ops ++ work o) (keep layout to) mid
+          parts (keep_flow layout (counts_of body) (register s.cpu Rsp) base room to there.0)
+          past_work u rest ends)
 
     -- from where the instruction begins
-    abbrev begun : Begun (frame t fs program p q image roomy s c b counted) o first second
-        (v t fs program p q image roomy s c b counted) s.cpu.rip s.cpu.flags
-        (slots t fs program p q image roomy s c b counted)
+    abbrev begun : Begun (frame setting roomy s c b counted) o first second
+        (v setting roomy s c b counted) s.cpu.rip s.cpu.flags (slots setting roomy s c b counted)
     begun =
-        let there = has_slots t fs program p q image roomy s c b counted here_now at in
-        operands_run (frame t fs program p q image roomy s c b counted) o first second
-        (v t fs program p q image roomy s c b counted) s.cpu.rip s.cpu.flags
-        (slots t fs program p q image roomy s c b counted)
-        (room_here t fs program p q image s c b counted) there.1 there.2
-        (sp_is t fs program p q image roomy s c b counted)
-        (holds_here t fs program p q image s c b counted)
+        let there = has_slots setting roomy s c b counted here_now at in
+        operands_run (frame setting roomy s c b counted) o first second
+        (v setting roomy s c b counted) s.cpu.rip s.cpu.flags (slots setting roomy s c b counted)
+        (room_here setting s c b counted) there.1 there.2 (sp_is setting roomy s c b counted)
+        (holds_here setting s c b counted)
         (code_split s.memory s.cpu.rip ops (finish_code layout o to)
-        (template_here t fs program p q image roomy s c b counted here_now at)).0
+        (template_here setting roomy s c b counted here_now at)).0
 
     abbrev fetched : State
     fetched = machine begun.stopped (s.cpu.rip + sizes ops) begun.left
 
     comes_there : Reaches (length ops) s fetched
     comes_there = subst (λ (z : State). Reaches (length ops) z fetched)
-        (sym (same_state t fs program p q image roomy s c b counted)) begun.comes
+        (sym (same_state setting roomy s c b counted)) begun.comes
 
     past_operands : Past ops fetched
     past_operands =
@@ -254,41 +241,36 @@ module _ (t : Functions) (fs : List Funclet) (program : LinearProgram) (p : Imag
         record {
           rip = omega arith;
           registers = kept_by_rest begun.stopped.rest s.cpu.registers begun.rest;
-          is_there = subst (Below t fs program p q image s c b counted) (sym begun.memory)
-              (is_here t fs program p q image s c b counted);
+          is_there = subst (Below setting s c b counted) (sym begun.memory)
+              (is_here setting s c b counted);
         }
 
     -- up to where the operands wait
     pub operands_keep : (u : State) → Reaches (length ops) s u → Past ops u
         → AllKeep t fs (length ops) s
     operands_keep u r past =
-        let there = has_slots t fs program p q image roomy s c b counted here_now at in
-        piece_to t fs program p q image s c b counted here_now at (λ h. h) [] ops
-        (finish_code layout o to) s u refl
-        (operands_flow layout (counts_of body) (register s.cpu Rsp) base
-        (room_here t fs program p q image s c b counted) o first second there.1 there.2)
-        (finish_some layout o to) (past_none t fs program p q image s c b counted here_now at
-        (λ h. h)) r past
+        let there = has_slots setting roomy s c b counted here_now at in
+        piece_to setting s c b counted here_now at (λ h. h) [] ops (finish_code layout o to) s u
+        refl (operands_flow layout (counts_of body) (register s.cpu Rsp) base
+        (room_here setting s c b counted) o first second there.1 there.2) (finish_some layout o to)
+        (past_none setting s c b counted here_now at (λ h. h)) r past
 
     pub compute_keeps : (value : ℕ) (source : Memory)
         → performed (is_reserved program.globals) o
-        ((slots t fs program p q image roomy s c b counted).slots first)
-        ((slots t fs program p q image roomy s c b counted).slots second) c.store.memory
-        ≡ Gives value source
+        ((slots setting roomy s c b counted).slots first)
+        ((slots setting roomy s c b counted).slots second) c.store.memory ≡ Gives value source
         → Keeping (length (compute_code layout to o first second)) s
     compute_keeps value source gives u r ends =
-        let now = slots t fs program p q image roomy s c b counted in
-        let held = holds_here t fs program p q image s c b counted in
-        let there = has_slots t fs program p q image roomy s c b counted here_now at in
+        let now = slots setting roomy s c b counted in
+        let held = holds_here setting s c b counted in
+        let there = has_slots setting roomy s c b counted here_now at in
         let rest = rest_of (length ops) (length (finish_code layout o to))
         (length (compute_code layout to o first second)) s fetched u
         (length-append ops (finish_code layout o to)) comes_there r in
-        piece_then t fs program p q image s c b counted here_now at (λ h. h) [] ops
-        (finish_code layout o to) s fetched refl
-        (operands_flow layout (counts_of body) (register s.cpu Rsp) base
-        (room_here t fs program p q image s c b counted) o first second there.1 there.2)
-        (finish_some layout o to) (past_none t fs program p q image s c b counted here_now at
-        (λ h. h)) comes_there past_operands
+        piece_then setting s c b counted here_now at (λ h. h) [] ops (finish_code layout o to) s
+        fetched refl (operands_flow layout (counts_of body) (register s.cpu Rsp) base
+        (room_here setting s c b counted) o first second there.1 there.2) (finish_some layout o to)
+        (past_none setting s c b counted here_now at (λ h. h)) comes_there past_operands
         (finish_keeps fetched begun.stopped refl past_operands begun.rest begun.memory
         (reaches_keeps (length ops) s fetched comes_there) (now.slots first) (now.slots second)
         value source (held.small first there.1) (held.small second there.2) begun.waits gives u

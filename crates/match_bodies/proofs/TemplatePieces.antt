@@ -7,10 +7,8 @@ use Rattle.x64_instr.specs.declared.instruction.Instr.{Instr}
 use Rattle.x64_machine.specs.declared.context.Context.{Context}
 use Rattle.x64_machine.specs.Contexts.{kept_of}
 use Rattle.x64_machine.specs.Effect.{State, register}
-use Rattle.virtual_unwind.specs.CallerOf.{Functions}
-use Rattle.host_model.specs.declared.funclet.Funclet.{Funclet}
 use Rattle.linear_code.specs.declared.instruction.Instruction.{Instruction}
-use Rattle.linear_code.specs.Program.{LinearProgram, LinearBody}
+use Rattle.linear_code.specs.Program.{LinearBody}
 use Rattle.linear_machine.specs.Frames.{BodyName, body_of}
 use Rattle.template_code.specs.Bytes.{sizes}
 use Rattle.template_code.specs.Template.{template}
@@ -19,18 +17,17 @@ use Rattle.x64_templates.specs.Runs.{Reaches, HasCode}
 use Rattle.x64_templates.specs.Epilogues.{IsReturn}
 use Rattle.x64_templates.proofs.Computes.{code_split}
 use Rattle.x64_templates.proofs.Flows.{IsFlow}
-use Rattle.match_stack.specs.ImagePlan.{ImagePlan}
 use Rattle.match_runs.specs.Shadow.{AllKeep}
-use Rattle.match_bodies.specs.CodeSites.{Sites, links_of}
+use Rattle.match_bodies.specs.CodeSites.{links_of}
 use Rattle.match_bodies.specs.Callers.{FindsReturn}
-use Rattle.match_bodies.specs.ProgramImages.{HasProgram, IsProgramImage}
 use Rattle.match_bodies.proofs.ReturnAddresses.{within_found, template_there}
 use Rattle.match_bodies.proofs.FlowKeeping.{IsBelow, from_state, flow_keeps}
+use Rattle.match_bodies.specs.Setting.{Setting, HasProgram}
 
-module _ (t : Functions) (fs : List Funclet) (program : LinearProgram) (p : ImagePlan) (q : Sites)
-    (image : IsProgramImage t fs program p q) (name : BodyName) (b : LinearBody) (label : ℕ)
-    (i : Instruction)
-    (there : body_of program name ≡ Some b) (at : slice_get b.code label ≡ Some i) where
+module _ (setting : Setting) (name : BodyName) (b : LinearBody) (label : ℕ) (i : Instruction)
+    (there : body_of setting.program name ≡ Some b) (at : slice_get b.code label ≡ Some i) where
+  open setting use {functions as t, funclets as fs, program, plan as p, sites as q}
+
   abbrev code_of : List Instr
   code_of = template (links_of p q name) (p.layout name) (p.address name label) i
 
@@ -38,7 +35,7 @@ module _ (t : Functions) (fs : List Funclet) (program : LinearProgram) (p : Imag
       (parts : code_of ≡ before ++ (code ++ after)) where
     -- a walk finds the return address at each of its instructions
     pub piece_finds : (m : Memory) (a : ℕ) (done left : List Instr) (item : Instr)
-        → a ≡ p.address name label + sizes before → HasProgram t fs program p q m
+        → a ≡ p.address name label + sizes before → HasProgram setting m
         → code ≡ done ++ (item ∷ left) → FindsReturn t m (a + sizes done) (p.layout name).frame
     piece_finds m a done left item e has split =
         let all = parts ∙ ap (λ (xs : List Instr). before ++ (xs ++ after)) split
@@ -47,15 +44,15 @@ module _ (t : Functions) (fs : List Funclet) (program : LinearProgram) (p : Imag
         let here : p.address name label + sizes (before ++ done)
         ≡ a + sizes done = omega (arith, sizes_append before done) in
         subst (λ x. FindsReturn t m x (p.layout name).frame) here
-        (within_found t fs program p q image name b there m has label i at goes (before ++ done)
-        (left ++ after) item all)
+        (within_found setting name b there m has label i at goes (before ++ done) (left ++ after)
+        item all)
 
     -- and its code is there
-    pub piece_there : (m : Memory) → HasProgram t fs program p q m
+    pub piece_there : (m : Memory) → HasProgram setting m
         → HasCode m (p.address name label + sizes before) code
     piece_there m has =
         let all = subst (HasCode m (p.address name label)) parts
-        (template_there t fs program p q image name b there m has label i at) in
+        (template_there setting name b there m has label i at) in
         (code_split m (p.address name label + sizes before) code after
         (code_split m (p.address name label) before (code ++ after) all).1).0
 

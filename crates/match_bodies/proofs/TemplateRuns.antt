@@ -6,14 +6,13 @@ use Rattle.std.proofs.lemmas.Option.{slice_get_within, get_or_from_slice_get}
 use Rattle.seh_num.specs.declared.event.Event.{Event}
 use Rattle.x64_instr.specs.declared.register.Reg.TheVariants.{Rsp}
 use Rattle.x64_machine.specs.Effect.{State, register}
-use Rattle.virtual_unwind.specs.CallerOf.{Functions, distance}
-use Rattle.host_model.specs.declared.funclet.Funclet.{Funclet}
+use Rattle.virtual_unwind.specs.CallerOf.{distance}
 use Rattle.host_model.specs.Funclets.{arrivals}
 use Rattle.linear_code.specs.declared.instruction.Instruction.{Instruction}
 use Rattle.linear_code.specs.declared.instruction.Instruction.TheVariants as instructions
 use Rattle.linear_code.specs.BodyState.{BodyState}
 use Rattle.linear_code.specs.Meaning.{HasSlots, step}
-use Rattle.linear_code.specs.Program.{LinearProgram, LinearBody}
+use Rattle.linear_code.specs.Program.{LinearBody}
 use Rattle.linear_machine.specs.Frames.{BodyName, FuncletBody, Configuration}
 use Rattle.template_code.specs.declared.layout.Layout.{Layout}
 use Rattle.template_code.specs.Template.{template, template_size, code_from, offset_of}
@@ -25,12 +24,9 @@ use Rattle.x64_templates.proofs.Computes.{code_split}
 use Rattle.x64_templates.specs.InstructionRuns.{InstructionDone}
 use Rattle.x64_templates.proofs.InstructionRuns.{body_instruction_run}
 use Rattle.x64_templates.proofs.Linked.{template_placed}
-use Rattle.match_stack.specs.ImagePlan.{ImagePlan}
 use Rattle.match_runs.specs.Comes.{Comes}
 use Rattle.lowering_invariants.specs.Room.{HaveRoom}
-use Rattle.match_bodies.specs.CodeSites.{Sites, links_of, begin_of, entry_code}
-use Rattle.match_bodies.specs.ProgramImages.{IsProgramImage}
-use Rattle.match_bodies.specs.Bodies.{RepresentsAt}
+use Rattle.match_bodies.specs.CodeSites.{links_of, begin_of, entry_code}
 use Rattle.match_bodies.proofs.SilentTurns.{reaches_silently}
 use Rattle.match_bodies.specs.BodyViews.{seen_by_templates, counts_of, frame_at, state_of}
 use Rattle.match_bodies.specs.SlotStores.{OwnerHasFrame}
@@ -40,6 +36,7 @@ use Rattle.match_bodies.proofs.BodyViews.{IsCounted, is_machine, room_here, hold
 use Rattle.match_bodies.proofs.ChainKeeping.{reaches_keeps, stays_well_formed}
 use Rattle.match_bodies.proofs.TemplateSlots.{Leaves}
 use Rattle.match_bodies.proofs.NextInstruction.{further, Ran, represents_next}
+use Rattle.match_bodies.specs.Setting.{Setting, RepresentsAt}
 
 -- ---- registers
 
@@ -78,10 +75,11 @@ nothing (Some x) value e f = cc
 
 -- ---- the body's code
 
-module _ (t : Functions) (fs : List Funclet) (program : LinearProgram) (p : ImagePlan) (q : Sites)
-    (image : IsProgramImage t fs program p q) (roomy : HaveRoom program) where
-  module _ (s : State) (c : Configuration) (b : RepresentsAt t fs program p q s c)
-      (counted : IsCounted t fs program p q image c) where
+module _ (setting : Setting) (roomy : HaveRoom setting.program) where
+  open setting use {functions as t, funclets as fs, program, plan as p, sites as q, image}
+
+  module _ (s : State) (c : Configuration) (b : RepresentsAt setting s c)
+      (counted : IsCounted setting c) where
     abbrev pub code : LinearBody
     code = b.body.slots.code
 
@@ -95,7 +93,7 @@ module _ (t : Functions) (fs : List Funclet) (program : LinearProgram) (p : Imag
     v = seen_by_templates s
 
     abbrev pub base : ℕ
-    base = (placed t fs program p q image s c b counted).base
+    base = (placed setting s c b counted).base
 
     abbrev pub frame : FramePlace
     frame = frame_at program p name code (register s.cpu Rsp) base
@@ -173,10 +171,9 @@ module _ (t : Functions) (fs : List Funclet) (program : LinearProgram) (p : Imag
         (get_or code.code c.frame.next instructions.Separator)
         (step frame.reserved (get_or code.code c.frame.next instructions.Separator) slots)) at
         (body_instruction_run frame (links_of p q name) (p.address name 0) code.code c.frame.next v
-        s.cpu.flags slots (room_here t fs program p q image s c b counted) a.labels (omega arith)
-        (omega arith) g.1
+        s.cpu.flags slots (room_here setting s c b counted) a.labels (omega arith) (omega arith) g.1
         (subst (HasSlots (counts_of code)) (sym g.0) (has_slots i e)) sp_is
-        (holds_here t fs program p q image s c b counted) body_code))
+        (holds_here setting s c b counted) body_code))
 
     -- ---- a turn of linear code that stays in the body
 
@@ -201,16 +198,15 @@ module _ (t : Functions) (fs : List Funclet) (program : LinearProgram) (p : Imag
       pub to_label : (n label rip : ℕ) (d : BodyState) (values ts : List ℕ) (landed : Option ℕ)
           (events : List Event) → ReachesBody frame n s rip v.rest d → rip ≡ p.address name label
           → label < length code.code → rip < 2 ^ 64 → Leaves code d values ts → landed ≡ None
-          → RunsKeep t fs program p q image s c b counted n s
-          → (u : State) × (Comes t fs n s [] u)
-          × (RepresentsAt t fs program p q u (further t fs program p q image c b.body.acts label values ts
-          landed d.memory events))
+          → RunsKeep setting s c b counted n s → (u : State) × (Comes t fs n s [] u) ×
+          (RepresentsAt setting u (further setting c b.body.acts label values ts landed d.memory
+          events))
       to_label n label rip d values ts landed events r at lt small leaves free keep =
           let u : State = machine r.after rip r.flags in
           let keeps = reaches_keeps n s u r.comes in
           let sp : register u.cpu Rsp ≡ register s.cpu Rsp = ap (λ (xs : List ℕ). slice_index xs 1)
           r.rest ∙ dropped s.cpu.registers in
-          let ran : Ran t fs program p q image s c b counted u d values
+          let ran : Ran setting s c b counted u d values
           ts = record {
             changed = record { changes = r.changes; keeps = keeps };
             holds = r.holds;
@@ -218,13 +214,12 @@ module _ (t : Functions) (fs : List Funclet) (program : LinearProgram) (p : Imag
             leaves = leaves;
           } in
           let kept = kept_by_rest r.after.rest s.cpu.registers r.rest in
-          let ends = ends_at t fs program p q image s c b counted u label at lt kept
-          (is_after t fs program p q image s c b counted u d values ts ran around.caller
-          around.owner) in (
+          let ends = ends_at setting s c b counted u label at lt kept
+          (is_after setting s c b counted u d values ts ran around.caller around.owner) in (
             u,
             reaches_silently t fs program p q image n s u r.comes (keep u r.comes ends) b.memory.code
                 (silent_at label rip at lt small u refl),
-            represents_next t fs program p q image s c b counted u d values ts ran label landed events
-                at lt (stays_well_formed s u keeps small b.well_formed)
+            represents_next setting s c b counted u d values ts ran label landed events at lt
+                (stays_well_formed s u keeps small b.well_formed)
                 (λ value e. absurd (nothing landed value free e)) around.caller around.owner,
           )

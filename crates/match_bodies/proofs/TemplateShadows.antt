@@ -10,12 +10,10 @@ use Rattle.x64_instr.specs.declared.instruction.Instr.{Instr}
 use Rattle.x64_machine.specs.declared.context.Context.{Context}
 use Rattle.x64_machine.specs.Contexts.{kept_of}
 use Rattle.x64_machine.specs.Effect.{State, register}
-use Rattle.virtual_unwind.specs.CallerOf.{Functions}
-use Rattle.host_model.specs.declared.funclet.Funclet.{Funclet}
 use Rattle.linear_code.specs.declared.instruction.Instruction.{Instruction}
 use Rattle.linear_code.specs.declared.instruction.Instruction.TheVariants as instructions
 use Rattle.linear_code.specs.BodyState.{BodyState}
-use Rattle.linear_code.specs.Program.{LinearProgram, LinearBody}
+use Rattle.linear_code.specs.Program.{LinearBody}
 use Rattle.linear_machine.specs.Frames.{FuncletBody, Configuration}
 use Rattle.source_meaning.specs.Source.{is_reserved}
 use Rattle.template_code.specs.declared.layout.Layout.{Layout}
@@ -28,12 +26,9 @@ use Rattle.x64_templates.specs.Epilogues.{IsReturn}
 use Rattle.x64_templates.proofs.Bodies.{holds_same, changes_same}
 use Rattle.x64_templates.proofs.Flows.{IsFlow}
 use Rattle.x64_templates.proofs.InstructionRuns.{LabelsNear, body_most, labels_near}
-use Rattle.match_stack.specs.ImagePlan.{ImagePlan}
 use Rattle.match_runs.specs.Shadow.{WalkGives, AllKeep}
-use Rattle.match_bodies.specs.CodeSites.{Sites, links_of}
+use Rattle.match_bodies.specs.CodeSites.{links_of}
 use Rattle.match_bodies.specs.Callers.{FindsReturn}
-use Rattle.match_bodies.specs.ProgramImages.{IsProgramImage}
-use Rattle.match_bodies.specs.Bodies.{RepresentsAt}
 use Rattle.match_bodies.proofs.StackWalks.{callers, on_stack, keep_then}
 use Rattle.match_bodies.proofs.SilentTurns.{program_kept}
 use Rattle.match_bodies.proofs.BodyCallers.{begin_finds}
@@ -45,6 +40,7 @@ use Rattle.match_bodies.proofs.HomeSpace.{CallerHasFrame}
 use Rattle.match_bodies.proofs.ChainKeeping.{Keeps}
 use Rattle.match_bodies.proofs.BodyViews.{IsCounted, placed, count, frame_top, room_here, holds_here, slots_here, locals_here}
 use Rattle.match_bodies.proofs.NextInstruction.{Ran, returns, new_on}
+use Rattle.match_bodies.specs.Setting.{Setting, RepresentsAt}
 
 some_length : (code : List Instr) → 1 ≤ length code
     → (item : Instr) × (left : List Instr) × (code ≡ item ∷ left)
@@ -61,9 +57,10 @@ kept_dropped (a ∷ b ∷ c ∷ xs) = refl
 pub kept_by_rest : (rest xs : List ℕ) → rest ≡ drop 3 xs → kept_of (0 ∷ 0 ∷ 0 ∷ rest) ≡ kept_of xs
 kept_by_rest rest xs e = ap (λ (r : List ℕ). kept_of (0 ∷ 0 ∷ 0 ∷ r)) e ∙ kept_dropped xs
 
-module _ (t : Functions) (fs : List Funclet) (program : LinearProgram) (p : ImagePlan) (q : Sites)
-    (image : IsProgramImage t fs program p q) (s : State) (c : Configuration)
-    (b : RepresentsAt t fs program p q s c) (counted : IsCounted t fs program p q image c) where
+module _ (setting : Setting) (s : State) (c : Configuration)
+    (b : RepresentsAt setting s c) (counted : IsCounted setting c) where
+  open setting use {functions as t, funclets as fs, program, plan as p, sites as q, image}
+
   abbrev code_here : LinearBody
   code_here = b.body.slots.code
 
@@ -84,7 +81,7 @@ module _ (t : Functions) (fs : List Funclet) (program : LinearProgram) (p : Imag
   Below m = IsBelow t fs program p q m kept_here layout_here.frame b.body.back beyond_here
 
   enough : get_or kept_here 0 0 + layout_here.frame + 8 < 2 ^ 64
-  enough = let h = frame_top t fs program p q image s c b counted in omega arith
+  enough = let h = frame_top setting s c b counted in omega arith
 
   pub is_here : Below s.memory
   is_here = record {
@@ -96,7 +93,7 @@ module _ (t : Functions) (fs : List Funclet) (program : LinearProgram) (p : Imag
 
   -- after a run of a template
   pub is_after : (u : State) (d : BodyState) (values ts : List ℕ)
-      → Ran t fs program p q image s c b counted u d values ts
+      → Ran setting s c b counted u d values ts
       → (p.leaf c.frame.body ≡ true → CallerHasFrame p c.below)
       → ((k : ℕ) → c.frame.body ≡ FuncletBody k
       → OwnerHasFrame t fs program p c.frame.activation c.below b.body.acts) → Below u.memory
@@ -104,9 +101,9 @@ module _ (t : Functions) (fs : List Funclet) (program : LinearProgram) (p : Imag
     program_there = program_kept t fs program p q s.memory u.memory
         (record { protection = r.changed.keeps.protection; fixed = r.changed.keeps.fixed })
         b.memory.code;
-    returns = returns t fs program p q image s c b counted u d values ts r;
+    returns = returns setting s c b counted u d values ts r;
     beyond = on_stack t u.memory caller_here 0 b.body.is
-        (new_on t fs program p q image s c b counted u d values ts r caller owner (drop 1 kept_here)
+        (new_on setting s c b counted u d values ts r caller owner (drop 1 kept_here)
         refl).is_there.stack;
   }
 
@@ -115,17 +112,16 @@ module _ (t : Functions) (fs : List Funclet) (program : LinearProgram) (p : Imag
       → ((a : ℕ) → is_reserved program.globals a ≡ true → u.memory.byte a ≡ s.memory.byte a)
       → (IsBytes s.memory → IsBytes u.memory) → Agrees (is_reserved program.globals) u.memory source
       → register u.cpu Rsp ≡ register s.cpu Rsp
-      → Ran t fs program p q image s c b counted u
-      (record {
+      → Ran setting s c b counted u (record {
         slots = (state_of program p s c
-            (placed t fs program p q image s c b counted).base).slots;
+            (placed setting s c b counted).base).slots;
         memory = source;
       })
-      (placed t fs program p q image s c b counted).values []
+      (placed setting s c b counted).values []
   ran_same u source keeps own bytes agrees sp =
-      let base = (placed t fs program p q image s c b counted).base in
-      let room = room_here t fs program p q image s c b counted in
-      let w = slots_here t fs program p q image s c b counted in
+      let base = (placed setting s c b counted).base in
+      let room = room_here setting s c b counted in
+      let w = slots_here setting s c b counted in
       record {
         changed = record {
           changes = changes_same layout_here (counts_of code_here)
@@ -135,12 +131,12 @@ module _ (t : Functions) (fs : List Funclet) (program : LinearProgram) (p : Imag
         };
         holds = holds_same layout_here (counts_of code_here) (is_reserved program.globals)
             (register s.cpu Rsp) base room s.memory u.memory source (state_of program p s c base) own
-            keeps.protection agrees (holds_here t fs program p q image s c b counted);
+            keeps.protection agrees (holds_here setting s c b counted);
         stack = sp;
         leaves = record {
-          count = count t fs program p q image s c b counted;
+          count = count setting s c b counted;
           locals = λ i lt. w.locals i lt ∙ ap (λ xs. slice_index xs i)
-              (locals_here t fs program p q image s c b counted);
+              (locals_here setting s c b counted);
           few = omega arith;
           temporaries = λ i v e. cc;
         };
@@ -195,10 +191,9 @@ module _ (t : Functions) (fs : List Funclet) (program : LinearProgram) (p : Imag
     pub one_piece : (before code : List Instr) (x : State) → whole ≡ before ++ code → IsFlow code
         → IsPast before x → RunsKeep (length code) x
     one_piece before code x parts flow past u r ends =
-        piece_keeps t fs program p q image c.frame.body code_here c.frame.next i b.body.slots.body
-        at goes before code [] (parts ∙ ap (λ (xs : List Instr). before ++ xs)
-        (sym (append-nil code)))
-        x u kept_here b.body.back beyond_here flow r past.rip past.registers ends.registers enough
+        piece_keeps setting c.frame.body code_here c.frame.next i b.body.slots.body at goes before
+        code [] (parts ∙ ap (λ (xs : List Instr). before ++ xs) (sym (append-nil code))) x u
+        kept_here b.body.back beyond_here flow r past.rip past.registers ends.registers enough
         past.is_there ends.is_there ends.finds
 
     -- where another instruction of the template is left, the walk finds the return address
@@ -210,7 +205,7 @@ module _ (t : Functions) (fs : List Funclet) (program : LinearProgram) (p : Imag
         let none : begin + sizes [] ≡ begin = omega arith in
         let parts_after : whole ≡ before ++ (left ++ []) = parts
         ∙ ap (λ (xs : List Instr). before ++ xs) (sym (append-nil left)) in
-        let finds = piece_finds t fs program p q image c.frame.body code_here c.frame.next i
+        let finds = piece_finds setting c.frame.body code_here c.frame.next i
         b.body.slots.body at goes before left [] parts_after x.memory begin [] z.1 z.0 refl
         past.is_there.program_there z.2 in
         record {
@@ -227,9 +222,9 @@ module _ (t : Functions) (fs : List Funclet) (program : LinearProgram) (p : Imag
     piece_to before first second x mid parts flow some past comes there =
         let ends = past_ends (before ++ first) second mid
         (parts ∙ sym (append_assoc before first second)) some there in
-        piece_keeps t fs program p q image c.frame.body code_here c.frame.next i b.body.slots.body
-        at goes before first second parts x mid kept_here b.body.back beyond_here flow comes
-        past.rip past.registers ends.registers enough past.is_there ends.is_there ends.finds
+        piece_keeps setting c.frame.body code_here c.frame.next i b.body.slots.body at goes before
+        first second parts x mid kept_here b.body.back beyond_here flow comes past.rip
+        past.registers ends.registers enough past.is_there ends.is_there ends.finds
 
     -- and with them, where they do so too
     pub piece_then : (before first second : List Instr) (x mid : State)

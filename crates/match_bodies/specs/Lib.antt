@@ -3,6 +3,7 @@ pub mod Layouts
 pub mod Callers
 pub mod ProgramImages
 pub mod Bodies
+pub mod Setting
 pub mod BodyViews
 pub mod SlotStores
 pub mod ConfigurationFacts

@@ -1,5 +1,5 @@
 -- The rights of a page of the arena are set: the stack, the code and all bytes stay.
-use Rattle.std.proofs.Common.{◌≡◌, ℕ, ◌/◌, ◌<◌, ◌≤◌, Bool, true, false, cond, leb, ltb, ℤ, List, Option, Some, None, refl, sym, ap, ◌∙◌, arith, inl, inr}
+use Rattle.std.proofs.Common.{◌≡◌, ℕ, ◌/◌, ◌<◌, ◌≤◌, Bool, true, false, cond, leb, ltb, ℤ, Option, Some, None, refl, sym, ap, ◌∙◌, arith, inl, inr}
 use Rattle.std.specs.Prelude.{◌⊎◌, nat_eq}
 use Rattle.std.proofs.lemmas.Bool.{and_parts, and_from, leb-true, ltb-true, eqb-true, ne_eqb, le-leb, lt-ltb, cases_lt}
 use Rattle.host_layout.specs.declared.range.TheConstants.{ARENA_START, ARENA_END}
@@ -8,16 +8,11 @@ use Rattle.flat_memory.specs.declared.protection.Protection.{Protection}
 use Rattle.flat_memory.specs.declared.protection.Rights.{Rights}
 use Rattle.flat_memory.specs.Protections.{is_writable, rights_numbered}
 use Rattle.flat_memory.specs.Memory.{Memory, may_write, rights_asked, with_rights, protected}
-use Rattle.virtual_unwind.specs.CallerOf.{Functions}
-use Rattle.host_model.specs.declared.funclet.Funclet.{Funclet}
 use Rattle.source_meaning.specs.Source.{is_reserved}
-use Rattle.linear_code.specs.Program.{LinearProgram}
 use Rattle.x64_templates.specs.Frames.{Agrees}
-use Rattle.match_stack.specs.ImagePlan.{ImagePlan}
 use Rattle.match_stack.specs.ListLaws.{KeepsStack}
-use Rattle.match_bodies.specs.CodeSites.{Sites}
-use Rattle.match_bodies.specs.ProgramImages.{IsMachineMemory, IsProgramImage}
 use Rattle.match_bodies.proofs.ProgramKeeping.{program_stays}
+use Rattle.match_bodies.specs.Setting.{Setting, IsMachineMemory}
 
 -- what a change of rights leaves
 record KeepsRest (m m' : Memory) : Type 0 where
@@ -88,9 +83,10 @@ module _ (m : Memory) (at : ℕ) where
       by true e = of_rights (rights_numbered n) e
       by false e = nothing_set
 
-module _ (t : Functions) (fs : List Funclet) (program : LinearProgram) (p : ImagePlan) (q : Sites)
-    (image : IsProgramImage t fs program p q) (m source : Memory) (at : ℕ) (n : ℤ)
-    (h : IsMachineMemory t fs program p q m source) where
+module _ (setting : Setting) (m source : Memory) (at : ℕ) (n : ℤ)
+    (h : IsMachineMemory setting m source) where
+  open setting use {functions as t, funclets as fs, program, plan as p, sites as q, image}
+
   abbrev pub after : Memory
   after = protected m at n
 
@@ -119,7 +115,7 @@ module _ (t : Functions) (fs : List Funclet) (program : LinearProgram) (p : Imag
     guard = h.agrees.guard;
   }
 
-  pub arena_memory : IsMachineMemory t fs program p q after (protected source at n)
+  pub arena_memory : IsMachineMemory setting after (protected source at n)
   arena_memory = record {
     data_alone = record {
       bytes = λ a. (let e = same_byte a in let s = h.data_alone.bytes a in

@@ -1,26 +1,21 @@
 -- The same body in another memory, whose stack is the same from RSP up.
-use Rattle.std.proofs.Common.{◌≡◌, ℕ, ◌+◌, ◌≤◌, false, List, sym, ap, ◌∙◌, arith}
+use Rattle.std.proofs.Common.{◌≡◌, ℕ, ◌+◌, ◌≤◌, false, sym, ap, ◌∙◌, arith}
 use Rattle.host_layout.specs.declared.range.TheConstants.{STACK_START, STACK_END}
 use Rattle.flat_memory.specs.Memory.{Memory}
 use Rattle.x64_instr.specs.declared.register.Reg.TheVariants.{Rsp}
 use Rattle.x64_machine.specs.Contexts.{context_of}
 use Rattle.x64_machine.specs.Effect.{State, register}
-use Rattle.virtual_unwind.specs.CallerOf.{Functions}
-use Rattle.host_model.specs.declared.funclet.Funclet.{Funclet}
-use Rattle.linear_code.specs.Program.{LinearProgram}
 use Rattle.linear_machine.specs.Frames.{Configuration}
 use Rattle.match_stack.specs.WalkLaws.{context_below}
-use Rattle.match_stack.specs.ImagePlan.{ImagePlan}
 use Rattle.match_stack.specs.ItemMatches.{activations_below, temporaries_end, BodyWaits}
 use Rattle.match_stack.specs.ListLaws.{KeepsStack}
 use Rattle.match_stack.proofs.ListEnds.{end_within}
 use Rattle.match_stack.proofs.ListMemories.{ReadsSame, body_kept, pointers_kept}
 use Rattle.match_stack.proofs.ListKeeping.{reads_other, kept_by_other_memories}
-use Rattle.match_bodies.specs.CodeSites.{Sites}
-use Rattle.match_bodies.specs.ProgramImages.{IsMachineMemory, IsProgramImage}
-use Rattle.match_bodies.specs.Bodies.{slots_end, last_temporary, RepresentsAt}
+use Rattle.match_bodies.specs.Bodies.{slots_end, last_temporary}
 use Rattle.match_bodies.proofs.BodyViews.{IsCounted, sp_low, frame_top}
 use Rattle.match_bodies.proofs.StepNeeds.{some_is}
+use Rattle.match_bodies.specs.Setting.{Setting, IsMachineMemory, RepresentsAt}
 
 -- the stack from further up
 pub higher_stack : (m m' : Memory) (low high : ℕ) → low ≤ high → KeepsStack m m' low
@@ -32,12 +27,13 @@ higher_stack m m' low high le k = record {
   no_more_code = k.no_more_code;
 }
 
-module _ (t : Functions) (fs : List Funclet) (program : LinearProgram) (p : ImagePlan) (q : Sites)
-    (image : IsProgramImage t fs program p q) (s : State) (c : Configuration)
-    (b : RepresentsAt t fs program p q s c) (counted : IsCounted t fs program p q image c)
-    (framed : p.leaf c.frame.body ≡ false)
+module _ (setting : Setting) (s : State) (c : Configuration)
+    (b : RepresentsAt setting s c) (counted : IsCounted setting c)
+    (framed : setting.plan.leaf c.frame.body ≡ false)
     (m source : Memory) (keeps : KeepsStack s.memory m (register s.cpu Rsp))
-    (memory : IsMachineMemory t fs program p q m source) where
+    (memory : IsMachineMemory setting m source) where
+  open setting use {functions as t, funclets as fs, program, plan as p}
+
   abbrev pub elsewhere : State
   elsewhere = record { cpu = s.cpu; memory = m }
 
@@ -51,10 +47,10 @@ module _ (t : Functions) (fs : List Funclet) (program : LinearProgram) (p : Imag
   frame = (p.layout c.frame.body).frame
 
   low : STACK_START ≤ sp
-  low = let l = sp_low t fs program p q image s c b counted in omega arith
+  low = let l = sp_low setting s c b counted in omega arith
 
   top : sp + frame + 8 ≤ STACK_END
-  top = frame_top t fs program p q image s c b counted
+  top = frame_top setting s c b counted
 
   reads : ReadsSame s.memory m sp 0x70800000
   reads = reads_other s.memory m sp 0x70800000
@@ -91,7 +87,7 @@ module _ (t : Functions) (fs : List Funclet) (program : LinearProgram) (p : Imag
       (last_temporary (p.layout c.frame.body) c.frame.body (p.leaf c.frame.body)) c.frame
       b.body.acts reads (omega arith) (omega arith) b.body.slots
 
-  pub represents_elsewhere : RepresentsAt t fs program p q elsewhere source_elsewhere
+  pub represents_elsewhere : RepresentsAt setting elsewhere source_elsewhere
   represents_elsewhere =
       let l = low in
       let h = top in

@@ -1,16 +1,13 @@
 -- A body returns: RAX has the number of its slot, and RIP and RSP are those of its return address.
-use Rattle.std.proofs.Common.{◌≡◌, ℕ, zero, suc, ◌+◌, ◌≤◌, true, Option, Some, None, List, length, refl, sym, subst, ◌∙◌, arith, length-append}
+use Rattle.std.proofs.Common.{◌≡◌, ℕ, zero, suc, ◌+◌, ◌≤◌, true, Option, Some, None, length, refl, sym, subst, ◌∙◌, arith, length-append}
 use Rattle.std.specs.Prelude.{slice_get}
 use Rattle.std.proofs.lemmas.List.{length-drop}
 use Rattle.x64_instr.specs.declared.register.Reg.TheVariants.{Rax, Rsp}
 use Rattle.x64_machine.specs.Effect.{State, register}
-use Rattle.virtual_unwind.specs.CallerOf.{Functions}
-use Rattle.host_model.specs.declared.funclet.Funclet.{Funclet}
 use Rattle.linear_code.specs.declared.slot.Slot.{Slot}
 use Rattle.linear_code.specs.declared.slot.Slot.TheVariants.{Local, Temporary}
 use Rattle.linear_code.specs.declared.instruction.Instruction.TheVariants as instructions
 use Rattle.linear_code.specs.Meaning.{IsSlot}
-use Rattle.linear_code.specs.Program.{LinearProgram}
 use Rattle.linear_machine.specs.Frames.{Configuration, read}
 use Rattle.template_code.specs.declared.layout.Layout.{Layout}
 use Rattle.template_code.specs.Calls.{epilogue, return_code}
@@ -23,21 +20,18 @@ use Rattle.x64_templates.proofs.Entries.{number_small}
 use Rattle.x64_templates.proofs.Encoded.{fetch_fine}
 use Rattle.x64_templates.proofs.Returns.{sp_moved, return_run}
 use Rattle.lowering_invariants.specs.Room.{HaveRoom}
-use Rattle.match_stack.specs.ImagePlan.{ImagePlan}
 use Rattle.match_stack.specs.DispatchStates.{IsWellFormed}
-use Rattle.match_bodies.specs.CodeSites.{Sites}
 use Rattle.match_runs.specs.Shadow.{AllKeep}
-use Rattle.match_bodies.specs.Bodies.{RepresentsAt}
 use Rattle.match_bodies.proofs.InstructionEffects.{others_of}
 use Rattle.match_bodies.proofs.RoutineWalks.{reaches_steps}
 use Rattle.match_bodies.proofs.ReturnKeeping.{fetch_plain, returns_keep}
 use Rattle.match_turns.proofs.ReturnAddressPlace.{top_of, begins_beneath}
-use Rattle.match_bodies.specs.ProgramImages.{IsProgramImage}
 use Rattle.match_bodies.specs.BodyViews.{counts_of}
 use Rattle.match_bodies.proofs.StackWords.{may_read_written, word_is}
 use Rattle.match_bodies.proofs.ChainKeeping.{reaches_keeps, stays_well_formed}
 use Rattle.match_bodies.proofs.BodyViews.{IsCounted, sp_low, frame_top, room_here, holds_here, slots_here}
 use Rattle.match_bodies.proofs.TemplateRuns.{v, frame, slots, same_state, template_here, has_slots, sp_is, index_of}
+use Rattle.match_bodies.specs.Setting.{Setting, RepresentsAt}
 
 -- ---- how long a return takes
 
@@ -62,10 +56,11 @@ returns_soon y x =
     let c = (ends_soon y.frame).1 in
     (omega arith, omega arith)
 
-module _ (t : Functions) (fs : List Funclet) (program : LinearProgram) (p : ImagePlan) (q : Sites)
-    (image : IsProgramImage t fs program p q) (roomy : HaveRoom program) where
-  module _ (s : State) (c : Configuration) (b : RepresentsAt t fs program p q s c)
-      (counted : IsCounted t fs program p q image c) (from : Slot)
+module _ (setting : Setting) (roomy : HaveRoom setting.program) where
+  open setting use {functions as t, funclets as fs, plan as p}
+
+  module _ (s : State) (c : Configuration) (b : RepresentsAt setting s c)
+      (counted : IsCounted setting c) (from : Slot)
       (at : slice_get b.body.slots.code.code c.frame.next ≡ Some (instructions.Return from)) where
     abbrev pub layout : Layout
     layout = p.layout c.frame.body
@@ -80,12 +75,12 @@ module _ (t : Functions) (fs : List Funclet) (program : LinearProgram) (p : Imag
     n = length (return_code layout from)
 
     is_there : IsSlot (counts_of b.body.slots.code) from
-    is_there = has_slots t fs program p q image roomy s c b counted (instructions.Return from) at
+    is_there = has_slots setting roomy s c b counted (instructions.Return from) at
 
     pub has_back : HasBack s.memory (sp + layout.frame) back
     has_back =
-        let low = sp_low t fs program p q image s c b counted in
-        let top = frame_top t fs program p q image s c b counted in
+        let low = sp_low setting s c b counted in
+        let top = frame_top setting s c b counted in
         let r = word_is s.memory (sp + layout.frame) back b.body.returns in
         let small = number_small s.memory 8 (sp + layout.frame) b.memory.data_alone.bytes in
         record {
@@ -96,11 +91,11 @@ module _ (t : Functions) (fs : List Funclet) (program : LinearProgram) (p : Imag
         }
 
     abbrev view : MachineView
-    view = v t fs program p q image roomy s c b counted
+    view = v setting roomy s c b counted
 
     -- the number that is returned
     abbrev pub result : ℕ
-    result = (slots t fs program p q image roomy s c b counted).slots from
+    result = (slots setting roomy s c b counted).slots from
 
     pub result_is : (x : ℕ) → read c from ≡ Some x → result ≡ x
     result_is x reads = by from is_there reads
@@ -109,23 +104,20 @@ module _ (t : Functions) (fs : List Funclet) (program : LinearProgram) (p : Imag
         the_same a b e = cc
 
         by : (slot : Slot) → IsSlot (counts_of b.body.slots.code) slot → read c slot ≡ Some x
-            → (slots t fs program p q image roomy s c b counted).slots slot ≡ x
-        by (Local i) lt e = (slots_here t fs program p q image s c b counted).locals i lt
-            ∙ the_same _ x e
-        by (Temporary i) lt e = (slots_here t fs program p q image s c b counted).temporaries i x e
+            → (slots setting roomy s c b counted).slots slot ≡ x
+        by (Local i) lt e = (slots_here setting s c b counted).locals i lt ∙ the_same _ x e
+        by (Temporary i) lt e = (slots_here setting s c b counted).temporaries i x e
 
     -- the state after it
     pub run : Returned n view (sp + layout.frame + 8) back result s.cpu.rip s.cpu.flags
     run =
-        let top = frame_top t fs program p q image s c b counted in
-        let low = sp_low t fs program p q image s c b counted in
-        return_run (frame t fs program p q image roomy s c b counted) from view back s.cpu.rip
-        s.cpu.flags (slots t fs program p q image roomy s c b counted)
-        (room_here t fs program p q image s c b counted)
-        is_there (length-drop 3 s.cpu.registers ∙ (let z = b.well_formed.count in omega arith))
-        (sp_is t fs program p q image roomy s c b counted) (omega arith)
-        (holds_here t fs program p q image s c b counted) has_back
-        (template_here t fs program p q image roomy s c b counted (instructions.Return from) at)
+        let top = frame_top setting s c b counted in
+        let low = sp_low setting s c b counted in
+        return_run (frame setting roomy s c b counted) from view back s.cpu.rip s.cpu.flags
+        (slots setting roomy s c b counted) (room_here setting s c b counted) is_there
+        (length-drop 3 s.cpu.registers ∙ (let z = b.well_formed.count in omega arith))
+        (sp_is setting roomy s c b counted) (omega arith) (holds_here setting s c b counted)
+        has_back (template_here setting roomy s c b counted (instructions.Return from) at)
 
     abbrev after_view : MachineView
     after_view = record {
@@ -141,7 +133,7 @@ module _ (t : Functions) (fs : List Funclet) (program : LinearProgram) (p : Imag
 
     pub reaches : Reaches n s after
     reaches = subst (λ z. Reaches n z after) (sym
-        (same_state t fs program p q image roomy s c b counted)) run.comes
+        (same_state setting roomy s c b counted)) run.comes
 
     pub sp_after : register after.cpu Rsp ≡ sp + layout.frame + 8
     sp_after = sym (index_of (with_sp view.rest (sp + layout.frame + 8)) 1)
@@ -154,14 +146,12 @@ module _ (t : Functions) (fs : List Funclet) (program : LinearProgram) (p : Imag
     -- each of its turns keeps the shadow
     pub keeps : AllKeep t fs n s
     keeps =
-        let top = frame_top t fs program p q image s c b counted in
-        let low = sp_low t fs program p q image s c b counted in
-        let f = frame t fs program p q image roomy s c b counted in
-        returns_keep t fs program p q image c.frame.body b.body.slots.code b.body.slots.body
-        c.frame.next from at s after (top_of t fs program p q image s c b counted) b.body.back
-        (others_of s.cpu.registers) b.body.is b.rip
-        (begins_beneath t fs program p q image s c b counted) refl b.memory.code (omega arith)
+        let top = frame_top setting s c b counted in
+        let low = sp_low setting s c b counted in
+        let f = frame setting roomy s c b counted in
+        returns_keep setting c.frame.body b.body.slots.code b.body.slots.body c.frame.next from at s
+        after (top_of setting s c b counted) b.body.back (others_of s.cpu.registers) b.body.is b.rip
+        (begins_beneath setting s c b counted) refl b.memory.code (omega arith)
         (fetch_plain layout.frame 8 layout from
         (fetch_fine f.layout f.counts f.sp f.base true from
-        (room_here t fs program p q image s c b counted) is_there))
-        (reaches_steps n s after reaches)
+        (room_here setting s c b counted) is_there)) (reaches_steps n s after reaches)

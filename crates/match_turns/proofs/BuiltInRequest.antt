@@ -12,14 +12,12 @@ use Rattle.x64_instr.specs.declared.instruction.Instr.{Instr}
 use Rattle.x64_encode.specs.Chosen.{opcode_register}
 use Rattle.x64_machine.specs.declared.cpu.Cpu.{Cpu}
 use Rattle.x64_machine.specs.Effect.{State, register}
-use Rattle.virtual_unwind.specs.CallerOf.{Functions}
-use Rattle.host_model.specs.declared.funclet.Funclet.{Funclet}
 use Rattle.c_operations.specs.declared.built_in.BuiltIn.{BuiltIn}
 use Rattle.c_operations.specs.declared.built_in.BuiltIn.TheVariants.{Put, Protect, RaiseException}
 use Rattle.linear_code.specs.declared.slot.Slot.TheVariants.{Temporary}
 use Rattle.linear_code.specs.declared.instruction.Instruction.TheVariants as instructions
 use Rattle.linear_code.specs.BodyState.{BodyState}
-use Rattle.linear_code.specs.Program.{LinearProgram, LinearBody}
+use Rattle.linear_code.specs.Program.{LinearBody}
 use Rattle.linear_machine.specs.Frames.{Configuration}
 use Rattle.linear_machine.specs.Regions.{regions_of}
 use Rattle.linear_machine.specs.Frames.{body_of}
@@ -35,14 +33,12 @@ use Rattle.template_code.proofs.Sizes.{sizes_append, call_size, template_sizes}
 use Rattle.x64_templates.specs.Straight.{MachineView, machine}
 use Rattle.x64_templates.specs.CallStates.{pushed}
 use Rattle.x64_templates.specs.Runs.{Reaches, HasCode}
-use Rattle.match_stack.specs.ImagePlan.{ImagePlan}
 use Rattle.match_stack.specs.ListLaws.{KeepsAbove}
 use Rattle.match_stack.specs.DispatchStates.{IsWellFormed}
 use Rattle.match_stack.proofs.FuncletEntry.{set_small}
 use Rattle.match_runs.specs.Comes.{IsLive, Comes}
-use Rattle.match_bodies.specs.CodeSites.{Sites, links_of}
-use Rattle.match_bodies.specs.ProgramImages.{service_of, IsResumed, IsMachineMemory, IsProgramImage}
-use Rattle.match_bodies.specs.Bodies.{InBody, RepresentsAt}
+use Rattle.match_bodies.specs.CodeSites.{links_of}
+use Rattle.match_bodies.specs.ProgramImages.{service_of}
 use Rattle.match_bodies.proofs.TemplateSizes.{template_some}
 use Rattle.match_bodies.proofs.SilentTurns.{reaches_silently}
 use Rattle.match_bodies.specs.ConfigurationFacts.{IsWellMade, IsKnown}
@@ -59,6 +55,7 @@ use Rattle.match_turns.proofs.DispatchMemory.{memory_untouched}
 use Rattle.match_turns.proofs.ReturnAddressPush as pushing
 use Rattle.match_turns.proofs.HostPage.{host_silent}
 use Rattle.match_turns.proofs.BodySavedState.{first_words, in_body}
+use Rattle.match_bodies.specs.Setting.{Setting, InBody, IsMachineMemory, IsResumed, RepresentsAt}
 
 -- the services are in the host's page
 service_low : (f : BuiltIn) → (1 ≤ address_of (service_of f))
@@ -80,13 +77,14 @@ keep_some : (y : Layout) (first : ℕ) → 1 ≤ sizes (keep y (Temporary first)
 unfolding template_size
 keep_some y first = template_some y (instructions.Landing (Temporary first))
 
-module _ (t : Functions) (fs : List Funclet) (program : LinearProgram) (p : ImagePlan) (q : Sites)
-    (image : IsProgramImage t fs program p q) (made : IsWellMade program p) where
-  module _ (s : State) (c : Configuration) (b : RepresentsAt t fs program p q s c)
+module _ (setting : Setting) (made : IsWellMade setting.program setting.plan) where
+  open setting use {functions as t, funclets as fs, program, plan as p, sites as q, image}
+
+  module _ (s : State) (c : Configuration) (b : RepresentsAt setting s c)
       (known : IsKnown program c) (f : BuiltIn) (first : ℕ)
       (at : instruction_at program c ≡ Some (instructions.CallBuiltIn f first)) where
-    abbrev counted : IsCounted t fs program p q image c
-    counted = counted_here t fs program p q image made c known
+    abbrev counted : IsCounted setting c
+    counted = counted_here setting made c known
 
     abbrev body : LinearBody
     body = b.body.slots.code
@@ -108,23 +106,22 @@ module _ (t : Functions) (fs : List Funclet) (program : LinearProgram) (p : Imag
     service = address_of (service_of f)
 
     abbrev view : MachineView
-    view = v t fs program p q image made.room s c b counted
+    view = v setting made.room s c b counted
 
     abbrev pub numbers : BodyState
-    numbers = slots t fs program p q image made.room s c b counted
+    numbers = slots setting made.room s c b counted
 
     pub here : slice_get body.code c.frame.next ≡ Some (instructions.CallBuiltIn f first)
-    here = code_at t fs program p q image made s c b known (instructions.CallBuiltIn f first) at
+    here = code_at setting made s c b known (instructions.CallBuiltIn f first) at
 
     pub room : first + 4 ≤ body.temporaries
-    room = has_slots t fs program p q image made.room s c b counted
-        (instructions.CallBuiltIn f first) here
+    room = has_slots setting made.room s c b counted (instructions.CallBuiltIn f first) here
 
     low : STACK_START + 196568 ≤ sp
-    low = sp_low t fs program p q image s c b counted
+    low = sp_low setting s c b counted
 
     top : sp + y.frame + 8 ≤ STACK_END
-    top = frame_top t fs program p q image s c b counted
+    top = frame_top setting s c b counted
 
     -- ---- the return address
 
@@ -139,7 +136,7 @@ module _ (t : Functions) (fs : List Funclet) (program : LinearProgram) (p : Imag
 
     pub back_inside : (place ≤ back) × (back < p.address c.frame.body (c.frame.next + 1))
     back_inside =
-        let n = next_address t fs program p q image made.room s c b counted
+        let n = next_address setting made.room s c b counted
         (instructions.CallBuiltIn f first) here in
         let z = template_sizes (links_of p q c.frame.body) y place
         (instructions.CallBuiltIn f first) in
@@ -169,7 +166,7 @@ module _ (t : Functions) (fs : List Funclet) (program : LinearProgram) (p : Imag
         let z = (b.memory.code.thunks f).inside.high in
         (omega arith, omega arith, omega arith, omega arith)
 
-    resumed : IsResumed t fs program p q c.frame.body body c.frame.next back
+    resumed : IsResumed setting c.frame.body body c.frame.next back
     resumed = record {
       instruction = instructions.CallBuiltIn f first;
       there = here;
@@ -184,25 +181,21 @@ module _ (t : Functions) (fs : List Funclet) (program : LinearProgram) (p : Imag
     -- ---- the run to the service
 
     same : s ≡ machine view place s.cpu.flags
-    same = same_state t fs program p q image made.room s c b counted
-        ∙ ap (λ a. machine view a s.cpu.flags) b.rip
+    same = same_state setting made.room s c b counted ∙ ap (λ a. machine view a s.cpu.flags) b.rip
 
     code_here : HasCode s.memory place (template (links_of p q c.frame.body) y place
         (instructions.CallBuiltIn f first))
     code_here =
         subst (λ a. HasCode s.memory a (template (links_of p q c.frame.body) y a
         (instructions.CallBuiltIn f first))) b.rip
-        (template_here t fs program p q image made.room s c b counted
-        (instructions.CallBuiltIn f first) here)
+        (template_here setting made.room s c b counted (instructions.CallBuiltIn f first) here)
 
-    pub run : ServiceReached (frame t fs program p q image made.room s c b counted) first view place
-        service s.cpu.flags numbers
+    pub run : ServiceReached (frame setting made.room s c b counted) first view place service
+        s.cpu.flags numbers
     run =
-        service_reached (frame t fs program p q image made.room s c b counted) first view place
-        (q.thunk f) service s.cpu.flags numbers
-        (room_here t fs program p q image s c b counted) room
-        (sp_is t fs program p q image made.room s c b counted)
-        (holds_here t fs program p q image s c b counted)
+        service_reached (frame setting made.room s c b counted) first view place (q.thunk f) service
+        s.cpu.flags numbers (room_here setting s c b counted) room
+        (sp_is setting made.room s c b counted) (holds_here setting s c b counted)
         (let l = low in let h = top in pushing.below view sp back (omega arith) (omega arith)
         b.memory.data_alone b.memory.stack)
         near code_here (b.memory.code.thunks f).thunk
@@ -219,9 +212,9 @@ module _ (t : Functions) (fs : List Funclet) (program : LinearProgram) (p : Imag
 
     pub comes : Comes t fs 7 s [] state
     comes = reaches_silently t fs program p q image 7 s state reaches
-        (built_in_keeps t fs program p q image made.room s c b counted f first here state reaches refl
-        near) b.memory.code (host_silent t fs program p q image s.memory service state.cpu
-        b.memory.code (service_low f).1)
+        (built_in_keeps setting made.room s c b counted f first here state reaches refl near)
+        b.memory.code (host_silent setting s.memory service state.cpu b.memory.code
+        (service_low f).1)
 
     pub live : IsLive state
     live = service_live f
@@ -276,7 +269,7 @@ module _ (t : Functions) (fs : List Funclet) (program : LinearProgram) (p : Imag
 
     -- ---- memory, and the list
 
-    pub memory : IsMachineMemory t fs program p q state.memory c.store.memory
+    pub memory : IsMachineMemory setting state.memory c.store.memory
     memory =
         memory_untouched t fs program p q s.memory state.memory c.store.memory
         (pushing.pushed_untouched given sp back low_enough high_enough b.memory.data_alone
@@ -284,19 +277,18 @@ module _ (t : Functions) (fs : List Funclet) (program : LinearProgram) (p : Imag
         (pushing.pushed_data given sp back low_enough high_enough b.memory.data_alone
         b.memory.stack)
 
-    abbrev at_return : InBody t fs program p q (record { cpu = saved; memory = s.memory })
-        (waiting c first)
+    abbrev at_return : InBody setting (record { cpu = saved; memory = s.memory }) (waiting c first)
     at_return =
         in_body t fs program p q s c b saved c.frame.next (take first c.frame.temporaries) sp_saved
         (record { low = back_inside.0; high = back_inside.1 })
         (same_itself (regions_of (body_of program c.frame.body)) c.frame.next) back_small
         (first_words s.memory c.frame.temporaries first)
 
-    pub asks : Asks t fs program p q image state.cpu saved s.memory
+    pub asks : Asks setting state.cpu saved s.memory
         (pushing.bytes given sp back low_enough high_enough b.memory.data_alone b.memory.stack)
         (waiting c first) b.body.acts
     asks =
-        asks_host t fs program p q image state.cpu saved s.memory
+        asks_host setting state.cpu saved s.memory
         (pushing.bytes given sp back low_enough high_enough b.memory.data_alone b.memory.stack)
         (waiting c first) c.frame.next c.store.memory
         at_return resumed b.memory.code

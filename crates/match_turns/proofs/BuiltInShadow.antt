@@ -7,13 +7,10 @@ use Rattle.x64_instr.specs.declared.register.Reg.TheVariants.{Rsp}
 use Rattle.x64_instr.specs.declared.instruction.Instr.{Instr}
 use Rattle.x64_encode.specs.Chosen.{opcode_register}
 use Rattle.x64_machine.specs.Effect.{State, register}
-use Rattle.virtual_unwind.specs.CallerOf.{Functions}
-use Rattle.host_model.specs.declared.funclet.Funclet.{Funclet}
 use Rattle.c_operations.specs.declared.built_in.BuiltIn.{BuiltIn}
 use Rattle.c_operations.specs.declared.built_in.BuiltIn.TheVariants.{Put, Protect, RaiseException}
 use Rattle.linear_code.specs.declared.slot.Slot.TheVariants.{Temporary}
 use Rattle.linear_code.specs.declared.instruction.Instruction.TheVariants as instructions
-use Rattle.linear_code.specs.Program.{LinearProgram}
 use Rattle.linear_machine.specs.Frames.{Configuration}
 use Rattle.template_code.specs.declared.layout.Layout.{Layout}
 use Rattle.template_code.specs.Bytes.{size, sizes}
@@ -22,12 +19,9 @@ use Rattle.template_code.specs.Jumps.{IsNear, call}
 use Rattle.template_code.specs.Calls.{arguments_code, return_at, clear_result}
 use Rattle.template_code.proofs.Sizes.{sizes_append, call_size}
 use Rattle.x64_templates.specs.Runs.{Reaches}
-use Rattle.match_stack.specs.ImagePlan.{ImagePlan}
 use Rattle.match_runs.specs.Shadow.{AllKeep}
 use Rattle.lowering_invariants.specs.Room.{HaveRoom}
-use Rattle.match_bodies.specs.CodeSites.{Sites}
-use Rattle.match_bodies.specs.ProgramImages.{service_of, IsResumed, IsProgramImage}
-use Rattle.match_bodies.specs.Bodies.{RepresentsAt}
+use Rattle.match_bodies.specs.ProgramImages.{service_of}
 use Rattle.match_bodies.specs.Callers.{FindsReturn}
 use Rattle.match_bodies.proofs.InstructionEffects.{others_of}
 use Rattle.match_bodies.proofs.RoutineWalks.{StepsTo, reaches_steps, steps_split, keeps_split, AllPlain}
@@ -36,13 +30,15 @@ use Rattle.match_bodies.proofs.CallKeeping.{calls_keep, CalleeBegins, callee_beg
 use Rattle.match_bodies.proofs.BodyViews.{IsCounted, sp_low, room_here}
 use Rattle.match_bodies.proofs.TemplateRuns.{has_slots}
 use Rattle.match_turns.proofs.ReturnAddressPlace.{top_of, begins_beneath}
+use Rattle.match_bodies.specs.Setting.{Setting, IsResumed, RepresentsAt}
 
 clear_size : size clear_result ≡ 5
 unfolding size opcode_register
 clear_size = refl
 
-module _ (t : Functions) (fs : List Funclet) (program : LinearProgram) (p : ImagePlan) (q : Sites)
-    (image : IsProgramImage t fs program p q) (roomy : HaveRoom program) where
+module _ (setting : Setting) (roomy : HaveRoom setting.program) where
+  open setting use {functions as t, funclets as fs, plan as p, sites as q, image}
+
   service_found : (f : BuiltIn) (m : Memory) → FindsReturn t m (address_of (service_of f)) 0
   service_found Put m = image.callers_outside.services m (address_of (service_of Put)) (omega arith)
       (omega arith) (λ e. absurd (omega arith)) (λ e. absurd (omega arith))
@@ -52,8 +48,8 @@ module _ (t : Functions) (fs : List Funclet) (program : LinearProgram) (p : Imag
       (address_of (service_of RaiseException)) (omega arith) (omega arith)
       (λ e. absurd (omega arith)) (λ e. absurd (omega arith))
 
-  module _ (s : State) (c : Configuration) (b : RepresentsAt t fs program p q s c)
-      (counted : IsCounted t fs program p q image c) (f : BuiltIn) (first : ℕ)
+  module _ (s : State) (c : Configuration) (b : RepresentsAt setting s c)
+      (counted : IsCounted setting c) (f : BuiltIn) (first : ℕ)
       (at : slice_get b.body.slots.code.code c.frame.next ≡ Some (instructions.CallBuiltIn f first))
       (w : State) (run : Reaches 7 s w) (there : w.cpu.rip ≡ address_of (service_of f))
       (near : IsNear (return_at (p.layout c.frame.body) first
@@ -79,7 +75,7 @@ module _ (t : Functions) (fs : List Funclet) (program : LinearProgram) (p : Imag
     next_is : place + sizes before + 5 ≡ next
     next_is = let n = clear_size in omega arith
 
-    resumed : IsResumed t fs program p q c.frame.body b.body.slots.code c.frame.next next
+    resumed : IsResumed setting c.frame.body b.body.slots.code c.frame.next next
     resumed = record {
       instruction = instructions.CallBuiltIn f first;
       there = at;
@@ -94,8 +90,8 @@ module _ (t : Functions) (fs : List Funclet) (program : LinearProgram) (p : Imag
 
     plain : AllPlain y.frame 8 before
     plain =
-        let room = (room_here t fs program p q image s c b counted).temporaries in
-        let few = has_slots t fs program p q image roomy s c b counted
+        let room = (room_here setting s c b counted).temporaries in
+        let few = has_slots setting roomy s c b counted
         (instructions.CallBuiltIn f first) at in
         ((refl, inl refl), arguments_plain y.frame 8 y first (omega arith))
 
@@ -105,37 +101,31 @@ module _ (t : Functions) (fs : List Funclet) (program : LinearProgram) (p : Imag
     abbrev sp : ℕ
     sp = register s.cpu Rsp
 
-    called : CalleeBegins t fs program p q image c.frame.body b.body.slots.code b.body.slots.body
-        c.frame.next (instructions.CallBuiltIn f first) at (λ h. h) before after next (q.thunk f) refl
-        next_is near c.frame.next resumed (λ m. image.callers_outside.thunks m f)
-        s halves.0 (top_of t fs program p q image s c b counted) b.body.back
-        (others_of s.cpu.registers) b.body.is b.rip
-        (begins_beneath t fs program p q image s c b counted) refl
-        (let l = sp_low t fs program p q image s c b counted in omega arith) b.memory.code plain
-        halves.1 sp
+    called : CalleeBegins setting c.frame.body b.body.slots.code b.body.slots.body c.frame.next
+        (instructions.CallBuiltIn f first) at (λ h. h) before after next (q.thunk f) refl next_is
+        near c.frame.next resumed (λ m. image.callers_outside.thunks m f) s halves.0
+        (top_of setting s c b counted) b.body.back (others_of s.cpu.registers) b.body.is b.rip
+        (begins_beneath setting s c b counted) refl
+        (let l = sp_low setting s c b counted in omega arith) b.memory.code plain halves.1 sp
     called =
-        callee_begins t fs program p q image c.frame.body b.body.slots.code b.body.slots.body
-        c.frame.next (instructions.CallBuiltIn f first) at (λ h. h) before after next (q.thunk f)
-        refl next_is near c.frame.next resumed (λ m. image.callers_outside.thunks m f)
-        s halves.0 (top_of t fs program p q image s c b counted) b.body.back
-        (others_of s.cpu.registers) b.body.is b.rip
-        (begins_beneath t fs program p q image s c b counted) refl
-        (let l = sp_low t fs program p q image s c b counted in omega arith) b.memory.code plain
-        halves.1 sp
+        callee_begins setting c.frame.body b.body.slots.code b.body.slots.body c.frame.next
+        (instructions.CallBuiltIn f first) at (λ h. h) before after next (q.thunk f) refl next_is
+        near c.frame.next resumed (λ m. image.callers_outside.thunks m f) s halves.0
+        (top_of setting s c b counted) b.body.back (others_of s.cpu.registers) b.body.is b.rip
+        (begins_beneath setting s c b counted) refl
+        (let l = sp_low setting s c b counted in omega arith) b.memory.code plain halves.1 sp
         (omega arith) (omega arith)
 
     pub built_in_keeps : AllKeep t fs 7 s
     built_in_keeps =
         keeps_split t fs 6 1 s halves.0 halves.1
-        (calls_keep t fs program p q image c.frame.body b.body.slots.code b.body.slots.body
-        c.frame.next (instructions.CallBuiltIn f first) at (λ h. h) before after next (q.thunk f)
-        refl next_is near c.frame.next resumed (λ m. image.callers_outside.thunks m f)
-        s halves.0 (top_of t fs program p q image s c b counted) b.body.back
-        (others_of s.cpu.registers) b.body.is b.rip
-        (begins_beneath t fs program p q image s c b counted) refl
-        (let l = sp_low t fs program p q image s c b counted in omega arith) b.memory.code plain
-        halves.1)
-        (thunk_keeps t fs program p q image halves.0 w (sp - 8) sp next (others_of s.cpu.registers)
-        _ called.beneath_it called.stack (q.thunk f) (address_of (service_of f)) called.rip
+        (calls_keep setting c.frame.body b.body.slots.code b.body.slots.body c.frame.next
+        (instructions.CallBuiltIn f first) at (λ h. h) before after next (q.thunk f) refl next_is
+        near c.frame.next resumed (λ m. image.callers_outside.thunks m f) s halves.0
+        (top_of setting s c b counted) b.body.back (others_of s.cpu.registers) b.body.is b.rip
+        (begins_beneath setting s c b counted) refl
+        (let l = sp_low setting s c b counted in omega arith) b.memory.code plain halves.1)
+        (thunk_keeps setting halves.0 w (sp - 8) sp next (others_of s.cpu.registers) _
+        called.beneath_it called.stack (q.thunk f) (address_of (service_of f)) called.rip
         (called.program_there.thunks f).thunk halves.2 there
         (λ m. image.callers_outside.thunks m f) (service_found f))

@@ -1,7 +1,7 @@
 -- A caller passes its arguments and calls: at the callee's first byte they are in their registers
 -- and above its return address.
 use Rattle.std.proofs.Common.{◌≡◌, ℕ, ◌+◌, ◌-◌, ◌*◌, ◌<◌, ◌≤◌, true, false, Option, Some, None, List, length, set, refl, sym, ap, subst, ◌∙◌, arith, inl, inr, get_or-set_same, length-set}
-use Rattle.std.specs.Prelude.{◌⊎◌, slice_get}
+use Rattle.std.specs.Prelude.{◌⊎◌}
 use Rattle.std.proofs.lemmas.Bool.{cases_lt}
 use Rattle.std.proofs.lemmas.List.{length-drop}
 use Rattle.host_layout.specs.declared.range.TheConstants.{STACK_START, STACK_END}
@@ -12,15 +12,11 @@ use Rattle.x64_instr.specs.declared.register.Reg.TheVariants.{Rsp}
 use Rattle.x64_instr.specs.declared.instruction.Instr.{Instr}
 use Rattle.x64_machine.specs.declared.cpu.Flags.{Flags}
 use Rattle.x64_machine.specs.Effect.{State, register}
-use Rattle.virtual_unwind.specs.CallerOf.{Functions}
-use Rattle.host_model.specs.declared.funclet.Funclet.{Funclet}
 use Rattle.linear_code.specs.declared.slot.Slot.{Slot}
 use Rattle.linear_code.specs.declared.slot.Slot.TheVariants.{Local, Temporary}
 use Rattle.linear_code.specs.declared.instruction.Instruction.TheVariants as instructions
 use Rattle.linear_code.specs.Meaning.{IsSlot}
 use Rattle.linear_code.specs.BodyState.{BodyState}
-use Rattle.linear_code.specs.Program.{LinearProgram}
-use Rattle.linear_machine.specs.Frames.{Configuration}
 use Rattle.template_code.specs.declared.layout.Layout.{Layout}
 use Rattle.template_code.specs.Bytes.{sizes, spelled}
 use Rattle.template_code.specs.Slots.{keep}
@@ -37,339 +33,341 @@ use Rattle.x64_templates.proofs.Computes.{Reached, code_split, runs_view}
 use Rattle.x64_templates.proofs.Calls.{call_begins}
 use Rattle.x64_templates.proofs.Passing.{passed_in_registers}
 use Rattle.x64_templates.proofs.Entries.{beside, pushed_agrees, pushed_bytes}
-use Rattle.match_stack.specs.ImagePlan.{ImagePlan}
-use Rattle.lowering_invariants.specs.Room.{HaveRoom}
-use Rattle.match_bodies.specs.CodeSites.{Sites}
-use Rattle.match_bodies.specs.ProgramImages.{IsProgramImage}
-use Rattle.match_bodies.specs.Bodies.{RepresentsAt}
 use Rattle.match_bodies.specs.BodyViews.{counts_of}
 use Rattle.match_bodies.proofs.SlotPlaces.{KeepsSlot, stack_is_reserved}
-use Rattle.match_bodies.proofs.BodyViews.{IsCounted, AsFunction, AsFunclet, kind, placed, sp_low, frame_top, room_here, holds_here}
+use Rattle.match_bodies.proofs.BodyViews.{AsFunction, AsFunclet, kind, placed, sp_low, frame_top, room_here, holds_here}
 use Rattle.match_bodies.proofs.TemplateRuns.{v, base, frame, slots, same_state, template_here, has_slots, sp_is}
 use Rattle.match_turns.proofs.CallStackArguments.{HasOutgoing, AllPassed, passes, passing_fine}
 use Rattle.template_code.specs.declared.layout.TheConstants.{LARGEST_FRAME}
+use Rattle.match_turns.proofs.AtCall.{AtCall}
+use Rattle.match_bodies.specs.Setting.{Setting}
 
 same_slot : (x z : ℕ) → Some x ≡ Some z → x ≡ z
 same_slot x z e = cc
 
-module _ (t : Functions) (fs : List Funclet) (program : LinearProgram) (p : ImagePlan) (q : Sites)
-    (image : IsProgramImage t fs program p q) (roomy : HaveRoom program) where
-  module _ (s : State) (c : Configuration) (b : RepresentsAt t fs program p q s c)
-      (counted : IsCounted t fs program p q image c) (f first count : ℕ)
-      (at : slice_get b.body.slots.code.code c.frame.next ≡ Some (instructions.Call f first count))
-      (few : count ≤ 8) (few_passed : count ≤ 4 + b.body.slots.code.passed)
-      (framed : p.leaf c.frame.body ≡ false) where
-    abbrev pub layout : Layout
-    layout = p.layout c.frame.body
+module _ {setting : Setting} (at_call : AtCall setting) where
+  open setting use {program, plan as p, sites as q}
+  open at_call use {
+    roomy,
+    state as s,
+    configuration as c,
+    represents as b,
+    counted,
+    number as f,
+    first,
+    count,
+    at,
+    few_passed,
+    framed,
+  }
 
-    abbrev pub sp : ℕ
-    sp = register s.cpu Rsp
+  abbrev pub layout : Layout
+  layout = p.layout c.frame.body
 
-    abbrev pub room : ℕ
-    room = 32 + 8 * b.body.slots.code.passed
+  abbrev pub sp : ℕ
+  sp = register s.cpu Rsp
 
-    abbrev pub here : FramePlace
-    here = frame t fs program p q image roomy s c b counted
+  abbrev pub room : ℕ
+  room = 32 + 8 * b.body.slots.code.passed
 
-    abbrev pub view : MachineView
-    view = v t fs program p q image roomy s c b counted
+  abbrev pub here : FramePlace
+  here = frame setting roomy s c b counted
 
-    abbrev pub numbers : BodyState
-    numbers = slots t fs program p q image roomy s c b counted
+  abbrev pub view : MachineView
+  view = v setting roomy s c b counted
 
-    abbrev at_base : ℕ
-    at_base = base t fs program p q image roomy s c b counted
+  abbrev pub numbers : BodyState
+  numbers = slots setting roomy s c b counted
 
-    -- ---- the bottom of the frame
+  abbrev at_base : ℕ
+  at_base = base setting roomy s c b counted
 
-    pub record Bottom : Type 0 where
-      pub temporaries : room ≤ layout.temporaries
-      pub locals : sp + room ≤ at_base + layout.locals
-      pub base : (k : ℕ) → layout.base ≡ Some k → (room ≤ k) × (k + 16 ≤ LARGEST_FRAME)
-      pub size : layout.temporaries ≤ layout.frame
-      pub small : layout.frame + 8 ≤ LARGEST_FRAME
+  -- ---- the bottom of the frame
 
-    is_base : (o : Option ℕ) → layout.base ≡ o → o ≡ None → at_base ≡ sp
-    is_base None e n = subst (λ o. KeepsSlot s.memory layout o sp at_base) e
-        (placed t fs program p q image s c b counted).kept
-    is_base (Some k) e n = absurd (let z : ◌≡◌ {A = Option ℕ} (Some k) None = n in no z)
-      where
-        no : ◌≡◌ {A = Option ℕ} (Some k) None → ⊥
-        no e = cc
+  pub record Bottom : Type 0 where
+    pub temporaries : room ≤ layout.temporaries
+    pub locals : sp + room ≤ at_base + layout.locals
+    pub base : (k : ℕ) → layout.base ≡ Some k → (room ≤ k) × (k + 16 ≤ LARGEST_FRAME)
+    pub size : layout.temporaries ≤ layout.frame
+    pub small : layout.frame + 8 ≤ LARGEST_FRAME
 
-    function_bottom : AsFunction t fs program p q image s c b counted → Bottom
-    function_bottom g =
-        let a = g.layout.passed in
-        let l = g.layout.temporaries in
-        let m = g.layout.locals in
-        let z = g.layout.small in
-        let e = is_base None g.layout.none refl in
-        record {
-          temporaries = a;
-          locals = omega arith;
-          base = λ k i. absurd (no k (sym g.layout.none ∙ i));
-          size = omega arith;
-          small = z;
-        }
-      where
-        no : (k : ℕ) → ◌≡◌ {A = Option ℕ} None (Some k) → ⊥
-        no k e = cc
+  is_base : (o : Option ℕ) → layout.base ≡ o → o ≡ None → at_base ≡ sp
+  is_base None e n = subst (λ o. KeepsSlot s.memory layout o sp at_base) e
+      (placed setting s c b counted).kept
+  is_base (Some k) e n = absurd (let z : ◌≡◌ {A = Option ℕ} (Some k) None = n in no z)
+    where
+      no : ◌≡◌ {A = Option ℕ} (Some k) None → ⊥
+      no e = cc
 
-    funclet_base : (o : Option ℕ) (slot : ℕ) → layout.base ≡ o → o ≡ Some slot
-        → sp + layout.frame + 8 ≤ at_base
-    funclet_base None slot e n = absurd (no n)
-      where
-        no : ◌≡◌ {A = Option ℕ} None (Some slot) → ⊥
-        no e = cc
-    funclet_base (Some k) slot e n = (subst (λ o. KeepsSlot s.memory layout o sp at_base) e
-        (placed t fs program p q image s c b counted).kept).above_frame
+  function_bottom : AsFunction setting s c b counted → Bottom
+  function_bottom g =
+      let a = g.layout.passed in
+      let l = g.layout.temporaries in
+      let m = g.layout.locals in
+      let z = g.layout.small in
+      let e = is_base None g.layout.none refl in
+      record {
+        temporaries = a;
+        locals = omega arith;
+        base = λ k i. absurd (no k (sym g.layout.none ∙ i));
+        size = omega arith;
+        small = z;
+      }
+    where
+      no : (k : ℕ) → ◌≡◌ {A = Option ℕ} None (Some k) → ⊥
+      no k e = cc
 
-    funclet_bottom : AsFunclet t fs program p q image s c b counted → Bottom
-    funclet_bottom g =
-        let a = g.layout.passed in
-        let k = g.layout.kept in
-        let l = g.layout.temporaries in
-        let z = g.layout.small in
-        let up = funclet_base (Some g.layout.slot) g.layout.slot g.layout.base refl in
-        record {
-          temporaries = omega arith;
-          locals = omega arith;
-          base = λ i e. (let n = same_slot g.layout.slot i (sym g.layout.base ∙ e) in
-              (omega arith, omega arith));
-          size = omega arith;
-          small = omega arith;
-        }
+  funclet_base : (o : Option ℕ) (slot : ℕ) → layout.base ≡ o → o ≡ Some slot
+      → sp + layout.frame + 8 ≤ at_base
+  funclet_base None slot e n = absurd (no n)
+    where
+      no : ◌≡◌ {A = Option ℕ} None (Some slot) → ⊥
+      no e = cc
+  funclet_base (Some k) slot e n = (subst (λ o. KeepsSlot s.memory layout o sp at_base) e
+      (placed setting s c b counted).kept).above_frame
 
-    pub bottom : Bottom
-    bottom = elim (kind t fs program p q image s c b counted) [
-      | inl g ↦ function_bottom g
-      | inr (inl g) ↦ absurd (let z : true ≡ false = sym g.leaf ∙ framed in cc)
-      | inr (inr g) ↦ funclet_bottom g
-    ]
+  funclet_bottom : AsFunclet setting s c b counted → Bottom
+  funclet_bottom g =
+      let a = g.layout.passed in
+      let k = g.layout.kept in
+      let l = g.layout.temporaries in
+      let z = g.layout.small in
+      let up = funclet_base (Some g.layout.slot) g.layout.slot g.layout.base refl in
+      record {
+        temporaries = omega arith;
+        locals = omega arith;
+        base = λ i e. (let n = same_slot g.layout.slot i (sym g.layout.base ∙ e) in
+            (omega arith, omega arith));
+        size = omega arith;
+        small = omega arith;
+      }
 
-    -- all of it is in the stack
-    pub low : STACK_START + 196568 ≤ sp
-    low = sp_low t fs program p q image s c b counted
+  pub bottom : Bottom
+  bottom = elim (kind setting s c b counted) [
+    | inl g ↦ function_bottom g
+    | inr (inl g) ↦ absurd (let z : true ≡ false = sym g.leaf ∙ framed in cc)
+    | inr (inr g) ↦ funclet_bottom g
+  ]
 
-    pub top : sp + layout.frame + 8 ≤ STACK_END
-    top = frame_top t fs program p q image s c b counted
+  -- all of it is in the stack
+  pub low : STACK_START + 196568 ≤ sp
+  low = sp_low setting s c b counted
 
-    pub room_small : room + 8 ≤ LARGEST_FRAME
-    room_small = let g = bottom.temporaries in let h = bottom.size in let z = bottom.small in
-        omega arith
+  pub top : sp + layout.frame + 8 ≤ STACK_END
+  top = frame_top setting s c b counted
 
-    pub room_top : sp + room + 8 ≤ STACK_END
-    room_top = let g = bottom.temporaries in let h = bottom.size in let z = top in omega arith
+  pub room_small : room + 8 ≤ LARGEST_FRAME
+  room_small = let g = bottom.temporaries in let h = bottom.size in let z = bottom.small in
+      omega arith
 
-    outgoing : HasOutgoing here s.memory room
-    outgoing = record {
-      slots = above;
-      base = λ k e. (bottom.base k e).0;
-      writable = λ a l u. (let x = low in let z = room_top in
-          b.memory.stack a (omega arith) (omega arith));
-      own = λ a l u. (let x = low in let z = room_top in
-          stack_is_reserved program.globals a (omega arith) (omega arith));
-      near = (let z = room_small in omega arith);
-    }
-      where
-        above : (x : Slot) → IsSlot (counts_of b.body.slots.code) x
-            → sp + room ≤ slot_at layout sp at_base x
-        above (Temporary i) is = let g = bottom.temporaries in omega arith
-        above (Local i) is = let g = bottom.locals in omega arith
+  pub room_top : sp + room + 8 ≤ STACK_END
+  room_top = let g = bottom.temporaries in let h = bottom.size in let z = top in omega arith
 
-    -- ---- arguments from the fifth on
+  outgoing : HasOutgoing here s.memory room
+  outgoing = record {
+    slots = above;
+    base = λ k e. (bottom.base k e).0;
+    writable = λ a l u. (let x = low in let z = room_top in
+        b.memory.stack a (omega arith) (omega arith));
+    own = λ a l u. (let x = low in let z = room_top in
+        stack_is_reserved program.globals a (omega arith) (omega arith));
+    near = (let z = room_small in omega arith);
+  }
+    where
+      above : (x : Slot) → IsSlot (counts_of b.body.slots.code) x
+          → sp + room ≤ slot_at layout sp at_base x
+      above (Temporary i) is = let g = bottom.temporaries in omega arith
+      above (Local i) is = let g = bottom.locals in omega arith
 
-    pub has_room : (first + 4 ≤ b.body.slots.code.temporaries)
-        × (first + count ≤ b.body.slots.code.temporaries)
-    has_room = let h = has_slots t fs program p q image roomy s c b counted
-        (instructions.Call f first count) at in (h.0, h.1)
+  -- ---- arguments from the fifth on
 
-    enough : first + 4 + (count - 4) ≤ b.body.slots.code.temporaries
-    enough = let a = has_room.0 in let z = has_room.1 in omega arith
+  pub has_room : (first + 4 ≤ b.body.slots.code.temporaries) ×
+      (first + count ≤ b.body.slots.code.temporaries)
+  has_room = let h = has_slots setting roomy s c b counted (instructions.Call f first count) at
+      in (h.0, h.1)
 
-    within : 8 * (4 + (count - 4)) ≤ room
-    within = omega arith
+  enough : first + 4 + (count - 4) ≤ b.body.slots.code.temporaries
+  enough = let a = has_room.0 in let z = has_room.1 in omega arith
 
-    pub handed : AllPassed here (room_here t fs program p q image s c b counted) room first 4
-        (count - 4) view numbers
-    handed =
-        passes here (room_here t fs program p q image s c b counted) room first 4 (count - 4) view
-        numbers
-        (λ k e. (let z = (bottom.base k e).1 in let t' = top in omega arith)) enough within outgoing
-        (sp_is t fs program p q image roomy s c b counted)
-        (holds_here t fs program p q image s c b counted)
+  within : 8 * (4 + (count - 4)) ≤ room
+  within = omega (arith, few_passed)
 
-    abbrev pub passing : List Instr
-    passing = passing_code layout first 4 (count - 4)
+  pub handed : AllPassed here (room_here setting s c b counted) room first 4 (count - 4) view
+      numbers
+  handed =
+      passes here (room_here setting s c b counted) room first 4 (count - 4) view numbers
+      (λ k e. (let z = (bottom.base k e).1 in let t' = top in omega arith)) enough within outgoing
+      (sp_is setting roomy s c b counted) (holds_here setting s c b counted)
 
-    abbrev pub target : ℕ
-    target = q.function f
+  abbrev pub passing : List Instr
+  passing = passing_code layout first 4 (count - 4)
 
-    abbrev pub after_passing : MachineView
-    after_passing = record {
-      rax = handed.rax;
-      rcx = view.rcx;
-      rdx = view.rdx;
-      rest = view.rest;
-      memory = handed.memory;
-    }
+  abbrev pub target : ℕ
+  target = q.function f
 
-    abbrev there : ℕ
-    there = s.cpu.rip + sizes passing
+  abbrev pub after_passing : MachineView
+  after_passing = record {
+    rax = handed.rax;
+    rcx = view.rcx;
+    rdx = view.rdx;
+    rest = view.rest;
+    memory = handed.memory;
+  }
 
-    abbrev pub back : ℕ
-    back = return_at layout first there
+  abbrev there : ℕ
+  there = s.cpu.rip + sizes passing
 
-    -- with the first four arguments in registers
-    abbrev pub before : MachineView
-    before = with_four after_passing (numbers.slots (Temporary first))
-        (numbers.slots (Temporary (first + 1))) (numbers.slots (Temporary (first + 2)))
-        (numbers.slots (Temporary (first + 3)))
+  abbrev pub back : ℕ
+  back = return_at layout first there
 
-    -- the callee's view
-    abbrev pub called : MachineView
-    called = pushed (with_four after_passing (numbers.slots (Temporary first))
-        (numbers.slots (Temporary (first + 1))) (numbers.slots (Temporary (first + 2)))
-        (numbers.slots (Temporary (first + 3)))) sp back
+  -- with the first four arguments in registers
+  abbrev pub before : MachineView
+  before = with_four after_passing (numbers.slots (Temporary first))
+      (numbers.slots (Temporary (first + 1))) (numbers.slots (Temporary (first + 2)))
+      (numbers.slots (Temporary (first + 3)))
 
-    pub below_sp : HasBelow handed.memory sp 8
-    below_sp = record {
-      enough = (let x = low in omega arith);
-      high = (let x = top in omega arith);
-      writable = λ a l u. ap (λ (g : ℕ → Protection). is_writable (g a).rights) handed.protection
-          ∙ (let x = low in let z = top in b.memory.stack a (omega arith) (omega arith));
-    }
+  -- the callee's view
+  abbrev pub called : MachineView
+  called = pushed (with_four after_passing (numbers.slots (Temporary first))
+      (numbers.slots (Temporary (first + 1))) (numbers.slots (Temporary (first + 2)))
+      (numbers.slots (Temporary (first + 3)))) sp back
 
-    codes : HasCode s.memory s.cpu.rip passing
-        × HasCode s.memory there (begin_call layout first there target)
-    codes =
-        let whole = template_here t fs program p q image roomy s c b counted
-        (instructions.Call f first count) at in
-        let parts = code_split s.memory s.cpu.rip passing
-        (call_code layout (Temporary first) first there target) whole in (
-          parts.0,
-          (code_split s.memory there (begin_call layout first there target)
-              (keep layout (Temporary first)) parts.1).0,
-        )
+  pub below_sp : HasBelow handed.memory sp 8
+  below_sp = record {
+    enough = (let x = low in omega arith);
+    high = (let x = top in omega arith);
+    writable = λ a l u. ap (λ (g : ℕ → Protection). is_writable (g a).rights) handed.protection
+        ∙ (let x = low in let z = top in b.memory.stack a (omega arith) (omega arith));
+  }
 
-    -- the code of the call is while arguments are passed
-    kept_code : HasCode handed.memory there (begin_call layout first there target)
-    kept_code = record {
-      is_there = bytes_kept s.memory handed.memory there
-          (spelled (begin_call layout first there target))
-          (λ a fixed. handed.same a (outside a fixed)) handed.protection codes.1.is_there;
-      placed = codes.1.placed;
-    }
-      where
-        outside : (a : ℕ) → may_write s.memory a ≡ false
-            → (a < sp + 8 * 4) ⊎ (sp + 8 * (4 + (count - 4)) ≤ a)
-        outside a fixed = elim (cases_lt a (sp + 8 * 4)) [
-          | inl l ↦ inl l
-          | inr g ↦ elim (cases_lt a (sp + 8 * (4 + (count - 4)))) [
-            | inl l ↦ absurd (let x = low in let z = room_top in let w = within in
-                let e : true ≡ false = sym (b.memory.stack a (omega arith) (omega arith)) ∙ fixed in
-                cc)
-            | inr u ↦ inr u
-          ]
+  codes : HasCode s.memory s.cpu.rip passing × HasCode s.memory there
+      (begin_call layout first there target)
+  codes =
+      let whole = template_here setting roomy s c b counted
+      (instructions.Call f first count) at in
+      let parts = code_split s.memory s.cpu.rip passing
+      (call_code layout (Temporary first) first there target) whole in (
+        parts.0,
+        (code_split s.memory there (begin_call layout first there target)
+            (keep layout (Temporary first)) parts.1).0,
+      )
+
+  -- the code of the call is while arguments are passed
+  kept_code : HasCode handed.memory there (begin_call layout first there target)
+  kept_code = record {
+    is_there = bytes_kept s.memory handed.memory there
+        (spelled (begin_call layout first there target))
+        (λ a fixed. handed.same a (outside a fixed)) handed.protection codes.1.is_there;
+    placed = codes.1.placed;
+  }
+    where
+      outside : (a : ℕ) → may_write s.memory a ≡ false
+          → (a < sp + 8 * 4) ⊎ (sp + 8 * (4 + (count - 4)) ≤ a)
+      outside a fixed = elim (cases_lt a (sp + 8 * 4)) [
+        | inl l ↦ inl l
+        | inr g ↦ elim (cases_lt a (sp + 8 * (4 + (count - 4)))) [
+          | inl l ↦ absurd (let x = low in let z = room_top in let w = within in
+              let e : true ≡ false = sym (b.memory.stack a (omega arith) (omega arith)) ∙ fixed in
+              cc)
+          | inr u ↦ inr u
         ]
+      ]
 
-    module _ (near : IsNear back target) where
-      first_part : Reached (length passing) view after_passing s.cpu.rip (s.cpu.rip + sizes passing)
-          s.cpu.flags
-      first_part =
-          let z = room_small in
-          let w = within in
-          runs_view passing view after_passing s.cpu.rip s.cpu.flags
-          (passing_fine here (room_here t fs program p q image s c b counted) room first 4
-          (count - 4) enough (omega arith)) codes.0 handed.does
-
-      call_run : CallBegun here first after_passing there target first_part.left numbers
-      call_run =
-          call_begins here first after_passing there target first_part.left numbers
-          (room_here t fs program p q image s c b counted) has_room.0
-          (sp_is t fs program p q image roomy s c b counted) handed.holds below_sp near kept_code
-
-      pub flags_called : Flags
-      flags_called = call_run.flags
-
-      -- at the callee's first byte
-      abbrev pub at_callee : State
-      at_callee = machine called target flags_called
-
-      pub calls : Reaches (length passing + 5) s at_callee
-      unfolding flags_called
-      calls =
-          subst (λ x. Reaches (length passing + 5) x (machine called target call_run.flags))
-          (sym (same_state t fs program p q image roomy s c b counted))
-          (reaches_then (length passing) 5 (machine view s.cpu.rip s.cpu.flags)
-          (machine after_passing there first_part.left) (machine called target call_run.flags)
-          first_part.comes call_run.comes)
-
-    -- ---- what the callee finds
-
-    abbrev pub arguments : ℕ → ℕ
-    arguments i = numbers.slots (Temporary (first + i))
-
-    pub registers : length view.rest ≡ 13
-    registers = length-drop 3 s.cpu.registers ∙ (let k = b.well_formed.count in omega arith)
-
-    -- RSP there
-    pub called_count : length called.rest ≡ 13
-    called_count =
-        let x = numbers.slots (Temporary (first + 2)) in
-        let z = numbers.slots (Temporary (first + 3)) in
-        length-set (set (set view.rest 5 x) 6 z) 1 (sp - 8) ∙ length-set (set view.rest 5 x) 6 z
-        ∙ length-set view.rest 5 x ∙ registers
-
-    pub called_sp : sp_of called ≡ sp - 8
-    called_sp =
-        let x = numbers.slots (Temporary (first + 2)) in
-        let z = numbers.slots (Temporary (first + 3)) in
-        let n = length-set (set view.rest 5 x) 6 z in
-        let k = length-set view.rest 5 x in
-        let r = registers in
-        get_or-set_same (set (set view.rest 5 x) 6 z) 1 (sp - 8) 0 (omega arith)
-
-    pub in_registers : InRegisters called arguments
-    in_registers =
-        let r = passed_in_registers here first after_passing there numbers registers in
-        record { first = r.first; second = r.second; third = r.third; fourth = r.fourth }
-
-    -- memory above RSP, but for the home space and the places of further arguments
-    pub same_above : (a : ℕ) → sp ≤ a → (a < sp + 32) ⊎ (sp + room ≤ a)
-        → called.memory.byte a ≡ s.memory.byte a
-    same_above a l o =
-        let x = low in
-        let z = top in
+  module _ (near : IsNear back target) where
+    first_part : Reached (length passing) view after_passing s.cpu.rip (s.cpu.rip + sizes passing)
+        s.cpu.flags
+    first_part =
+        let z = room_small in
         let w = within in
-        beside handed.memory sp back a below_sp.enough below_sp.high (inr l)
-        ∙ handed.same a (elim o [ inl h ↦ inl (omega arith) | inr h ↦ inr (omega arith) ])
+        runs_view passing view after_passing s.cpu.rip s.cpu.flags
+        (passing_fine here (room_here setting s c b counted) room first 4 (count - 4) enough
+        (omega arith)) codes.0 handed.does
 
-    pub on_stack : (i : ℕ) → 4 ≤ i → i < count
-        → number_at called.memory.byte 8 (sp + 8 * i) ≡ arguments i
-    on_stack i l u =
-        let z = top in
-        let w = within in
-        let y = room_top in
-        same_number called.memory.byte handed.memory.byte 8 (sp + 8 * i) (omega arith)
-        (λ a g h. beside handed.memory sp back a below_sp.enough below_sp.high
-        (inr (omega arith)))
-        ∙ handed.number i l (omega arith)
+    call_run : CallBegun here first after_passing there target first_part.left numbers
+    call_run =
+        call_begins here first after_passing there target first_part.left numbers
+        (room_here setting s c b counted) has_room.0 (sp_is setting roomy s c b counted)
+        handed.holds below_sp near kept_code
 
-    pub called_bytes : IsBytes called.memory
-    called_bytes = pushed_bytes (with_four after_passing (numbers.slots (Temporary first))
-        (numbers.slots (Temporary (first + 1))) (numbers.slots (Temporary (first + 2)))
-        (numbers.slots (Temporary (first + 3)))) sp back (handed.bytes b.memory.data_alone.bytes)
+    pub flags_called : Flags
+    flags_called = call_run.flags
 
-    pub called_agrees : Agrees here.reserved called.memory c.store.memory
-    called_agrees =
-        let x = low in
-        let z = top in
-        pushed_agrees here.reserved (with_four after_passing (numbers.slots (Temporary first))
-        (numbers.slots (Temporary (first + 1))) (numbers.slots (Temporary (first + 2)))
-        (numbers.slots (Temporary (first + 3)))) c.store.memory sp back below_sp
-        (λ a l u. stack_is_reserved program.globals a (omega arith) (omega arith))
-        handed.holds.source
+    -- at the callee's first byte
+    abbrev pub at_callee : State
+    at_callee = machine called target flags_called
 
-    pub called_protection : called.memory.protection ≡ s.memory.protection
-    called_protection = handed.protection
+    pub calls : Reaches (length passing + 5) s at_callee
+    unfolding flags_called
+    calls =
+        subst (λ x. Reaches (length passing + 5) x (machine called target call_run.flags))
+        (sym (same_state setting roomy s c b counted))
+        (reaches_then (length passing) 5 (machine view s.cpu.rip s.cpu.flags)
+        (machine after_passing there first_part.left) (machine called target call_run.flags)
+        first_part.comes call_run.comes)
+
+  -- ---- what the callee finds
+
+  abbrev pub arguments : ℕ → ℕ
+  arguments i = numbers.slots (Temporary (first + i))
+
+  pub registers : length view.rest ≡ 13
+  registers = length-drop 3 s.cpu.registers ∙ (let k = b.well_formed.count in omega arith)
+
+  -- RSP there
+  pub called_count : length called.rest ≡ 13
+  called_count =
+      let x = numbers.slots (Temporary (first + 2)) in
+      let z = numbers.slots (Temporary (first + 3)) in
+      length-set (set (set view.rest 5 x) 6 z) 1 (sp - 8) ∙ length-set (set view.rest 5 x) 6 z
+      ∙ length-set view.rest 5 x ∙ registers
+
+  pub called_sp : sp_of called ≡ sp - 8
+  called_sp =
+      let x = numbers.slots (Temporary (first + 2)) in
+      let z = numbers.slots (Temporary (first + 3)) in
+      let n = length-set (set view.rest 5 x) 6 z in
+      let k = length-set view.rest 5 x in
+      let r = registers in
+      get_or-set_same (set (set view.rest 5 x) 6 z) 1 (sp - 8) 0 (omega arith)
+
+  pub in_registers : InRegisters called arguments
+  in_registers =
+      let r = passed_in_registers here first after_passing there numbers registers in
+      record { first = r.first; second = r.second; third = r.third; fourth = r.fourth }
+
+  -- memory above RSP, but for the home space and the places of further arguments
+  pub same_above : (a : ℕ) → sp ≤ a → (a < sp + 32) ⊎ (sp + room ≤ a)
+      → called.memory.byte a ≡ s.memory.byte a
+  same_above a l o =
+      let x = low in
+      let z = top in
+      let w = within in
+      beside handed.memory sp back a below_sp.enough below_sp.high (inr l)
+      ∙ handed.same a (elim o [ inl h ↦ inl (omega arith) | inr h ↦ inr (omega arith) ])
+
+  pub on_stack : (i : ℕ) → 4 ≤ i → i < count
+      → number_at called.memory.byte 8 (sp + 8 * i) ≡ arguments i
+  on_stack i l u =
+      let z = top in
+      let w = within in
+      let y = room_top in
+      same_number called.memory.byte handed.memory.byte 8 (sp + 8 * i) (omega arith)
+      (λ a g h. beside handed.memory sp back a below_sp.enough below_sp.high (inr (omega arith)))
+      ∙ handed.number i l (omega arith)
+
+  pub called_bytes : IsBytes called.memory
+  called_bytes = pushed_bytes (with_four after_passing (numbers.slots (Temporary first))
+      (numbers.slots (Temporary (first + 1))) (numbers.slots (Temporary (first + 2)))
+      (numbers.slots (Temporary (first + 3)))) sp back (handed.bytes b.memory.data_alone.bytes)
+
+  pub called_agrees : Agrees here.reserved called.memory c.store.memory
+  called_agrees =
+      let x = low in
+      let z = top in
+      pushed_agrees here.reserved (with_four after_passing (numbers.slots (Temporary first))
+      (numbers.slots (Temporary (first + 1))) (numbers.slots (Temporary (first + 2)))
+      (numbers.slots (Temporary (first + 3)))) c.store.memory sp back below_sp
+      (λ a l u. stack_is_reserved program.globals a (omega arith) (omega arith)) handed.holds.source
+
+  pub called_protection : called.memory.protection ≡ s.memory.protection
+  called_protection = handed.protection

@@ -1,6 +1,6 @@
 -- A call of a function: the callee's first instruction begins, with its arguments in its first
 -- locals and what the stack held in the others.
-use Rattle.std.proofs.Common.{◌≡◌, ◌≢◌, ℕ, zero, suc, ◌+◌, ◌-◌, ◌*◌, ◌^◌, ◌<◌, ◌≤◌, Bool, true, false, Some, None, Ok, List, [], ◌∷◌, ◌++◌, length, refl, sym, ap, subst, ◌∙◌, arith, inl, inr, length-append, append_assoc}
+use Rattle.std.proofs.Common.{◌≡◌, ℕ, zero, suc, ◌+◌, ◌-◌, ◌*◌, ◌^◌, ◌<◌, ◌≤◌, Bool, true, false, Some, None, Ok, List, [], ◌∷◌, ◌++◌, length, refl, sym, ap, subst, ◌∙◌, arith, inl, inr, length-append, append_assoc}
 use Rattle.std.specs.Prelude.{nat_lt, slice_get, drop, if◌then◌else◌}
 use Rattle.std.proofs.lemmas.Bool.{cases_lt, lt-ltb, eq-eqb}
 use Rattle.std.proofs.lemmas.Option.{slice_get_within}
@@ -11,9 +11,8 @@ use Rattle.flat_memory.specs.declared.protection.Protection.{Protection}
 use Rattle.x64_instr.specs.declared.register.Reg.TheVariants.{Rsp}
 use Rattle.x64_instr.specs.declared.instruction.Instr.{Instr}
 use Rattle.x64_machine.specs.Effect.{State, register}
-use Rattle.virtual_unwind.specs.CallerOf.{Functions, distance}
+use Rattle.virtual_unwind.specs.CallerOf.{distance}
 use Rattle.virtual_unwind.specs.Undone.{word}
-use Rattle.host_model.specs.declared.funclet.Funclet.{Funclet}
 use Rattle.host_model.specs.Funclets.{arrivals}
 use Rattle.linear_code.specs.declared.slot.Slot.TheVariants.{Temporary}
 use Rattle.linear_code.specs.declared.instruction.Instruction.TheVariants as instructions
@@ -30,24 +29,21 @@ use Rattle.template_code.proofs.Sizes.{sizes_append, call_size}
 use Rattle.x64_templates.proofs.PlacedCode.{same_number}
 use Rattle.x64_templates.proofs.Entries.{pushed_back}
 use Rattle.match_stack.specs.WalkLaws.{context_below}
-use Rattle.match_stack.specs.ImagePlan.{ImagePlan}
 use Rattle.match_stack.specs.ItemMatches.{home_end, HoldsWords, return_of, ReturnsTo}
 use Rattle.match_stack.specs.StackRecords.{On}
 use Rattle.match_runs.specs.Shadow.{AllKeep}
 use Rattle.match_runs.specs.Comes.{Comes}
 use Rattle.match_runs.proofs.Turns.{comes_then}
-use Rattle.lowering_invariants.specs.Room.{HaveRoom}
 use Rattle.lowering_invariants.specs.SmallNumbers.{AreSmall}
 use Rattle.match_bodies.specs.CodeSites as sites
-use Rattle.match_bodies.specs.CodeSites.{Sites, function_arguments}
+use Rattle.match_bodies.specs.CodeSites.{function_arguments}
 use Rattle.match_bodies.specs.Callers.{FindsReturn}
 use Rattle.match_bodies.proofs.InstructionEffects.{others_of}
 use Rattle.match_bodies.proofs.RoutineWalks.{StepsTo, reaches_steps, enters_steps, AllPlain}
 use Rattle.match_bodies.proofs.EntryKeeping.{plain_both, arguments_plain, passing_plain, parameters_plain, entry_ran}
 use Rattle.match_bodies.proofs.CallKeeping.{calls_keep, CalleeBegins, callee_begins as callee_entered}
 use Rattle.match_bodies.specs.Layouts.{IsLayoutIf}
-use Rattle.match_bodies.specs.ProgramImages.{IsMachineMemory, IsResumed, IsProgramImage}
-use Rattle.match_bodies.specs.Bodies.{turns_left, slots_end, RepresentsAt}
+use Rattle.match_bodies.specs.Bodies.{turns_left, slots_end}
 use Rattle.match_bodies.proofs.SilentTurns.{reaches_silently, enters_silently, program_reaches}
 use Rattle.match_bodies.specs.SlotStores.{KeepsStackBut}
 use Rattle.match_bodies.proofs.ActivationPlaces.{locals_count}
@@ -55,7 +51,7 @@ use Rattle.match_bodies.proofs.ProgramKeeping.{KeepsImage}
 use Rattle.match_bodies.proofs.MemoryKeeping.{memory_stays}
 use Rattle.match_bodies.proofs.ChainKeeping.{Keeps, keeps_then, enters_keeps, stays_well_formed}
 use Rattle.match_bodies.proofs.SlotPlaces.{stack_is_reserved}
-use Rattle.match_bodies.proofs.BodyViews.{IsCounted, room_here, slots_here}
+use Rattle.match_bodies.proofs.BodyViews.{room_here, slots_here}
 use Rattle.match_bodies.proofs.StackWords.{may_read_written, word_of}
 use Rattle.match_turns.specs.CallOutcome.{begun}
 use Rattle.match_turns.proofs.ReturnAddressPlace.{top_of, begins_beneath}
@@ -66,6 +62,8 @@ use Rattle.match_turns.proofs.FunctionParameters as entering
 use Rattle.match_turns.proofs.FunctionLocals.{words_at, words_count, words_small, arguments_then_words}
 use Rattle.match_turns.proofs.FunctionEntry as entries
 use Rattle.template_code.specs.declared.layout.TheConstants.{LARGEST_FRAME}
+use Rattle.match_turns.proofs.AtCall.{AtCall}
+use Rattle.match_bodies.specs.Setting.{Setting, IsMachineMemory, IsResumed, RepresentsAt}
 
 -- two turns for each argument that is passed on the stack
 passed_in : (y : Layout) (first i n : ℕ) → length (passing_code y first i n) ≡ 2 * n
@@ -98,400 +96,428 @@ call_acts program c f first count fn callee held next =
     deeper 1 c.frame.held c.store c.events
     (next (begin_function f function arguments c.frame.held (Waits (waiting c first).frame ∷ c.below) c.store c.events)))) callee
 
-module _ (t : Functions) (fs : List Funclet) (program : LinearProgram) (p : ImagePlan) (q : Sites)
-    (image : IsProgramImage t fs program p q) (roomy : HaveRoom program) where
-  module _ (s : State) (c : Configuration) (b : RepresentsAt t fs program p q s c) (counted : IsCounted t fs program p q image c) (f first count : ℕ)
-      (at : slice_get b.body.slots.code.code c.frame.next ≡ Some (instructions.Call f first count))
-      (few : count ≤ 8) (few_passed : count ≤ 4 + b.body.slots.code.passed)
-      (framed : p.leaf c.frame.body ≡ false)
-      (fn : LinearFunction) (callee : slice_get program.functions f ≡ Some fn) (parameters : fn.parameters ≡ count) (fits : count ≤ fn.body.locals)
-      (some : 0 < length fn.body.code) (held : length c.frame.temporaries ≡ first + count)
-      (apart : (k : ℕ) → k < length program.funclets → q.function f ≢ p.funclet k) where
-    abbrev caller : ℕ
-    caller = register s.cpu Rsp
-
-    abbrev layout : Layout
-    layout = p.layout (FunctionBody f)
-
-    abbrev o : LinearBody
-    o = fn.body
-
-    abbrev there : body_of program (FunctionBody f) ≡ Some o
-    there = entering.there t fs program p q image roomy s c b counted f first count at few few_passed framed fn callee parameters fits
-
-    abbrev inside : entering.InCallee t fs program p q image roomy s c b counted f first count at few few_passed framed fn callee parameters fits
-    inside = entries.entered t fs program p q image roomy s c b counted f first count at few few_passed framed fn callee parameters fits
-
-    abbrev pub after : State
-    after = inside.state
-
-    abbrev at_callee : State
-    at_callee = entering.at_callee t fs program p q image roomy s c b counted f first count at few few_passed framed fn callee parameters fits
-
-    abbrev called_in : ℕ
-    called_in = length (passing_code (p.layout c.frame.body) first 4 (count - 4)) + 5
-
-    low : STACK_START + 196568 ≤ caller
-    low = calling.low t fs program p q image roomy s c b counted f first count at few few_passed framed
-
-    top : caller + 40 ≤ STACK_END
-    top = let a = calling.room_top t fs program p q image roomy s c b counted f first count at few few_passed framed in omega arith
-
-    keeps : Keeps s after
-    keeps = keeps_then s at_callee after (entering.keeps t fs program p q image roomy s c b counted
-        f first count at few few_passed framed fn callee parameters fits)
-        (enters_keeps inside.turns at_callee after inside.comes)
-
-    -- ---- turns
-
-    pub turns : ℕ
-    turns = called_in + inside.turns
-
-    rip_small : after.cpu.rip < 2 ^ 64
-    rip_small = let a = image.addresses (FunctionBody f) o there in let h = a.inside.high in let r = inside.rip in omega arith
-
-    silent_called : arrivals at_callee.cpu (distance t.base at_callee.cpu.rip) 1 fs ≡ []
-    silent_called = let a = image.addresses (FunctionBody f) o there in let h = a.inside.high in
-        let r = a.first in image.funclets.none (q.function f) (omega arith) apart at_callee.cpu
-
-    silent_after : arrivals after.cpu (distance t.base after.cpu.rip) 1 fs ≡ []
-    silent_after = image.funclets.none after.cpu.rip rip_small
-        (λ k lt e. (image.addresses (FunctionBody f) o there).not_first 0 k some lt
-        (sym inside.rip ∙ e)) after.cpu
-
-    -- each of them keeps the shadow: those up to the call
-    abbrev y : Layout
-    y = p.layout c.frame.body
-
-    abbrev place : ℕ
-    place = p.address c.frame.body c.frame.next
-
-    abbrev passing : List Instr
-    passing = passing_code y first 4 (count - 4)
-
-    abbrev next : ℕ
-    next = return_at y first (place + sizes passing)
-
-    abbrev call_it : Instr
-    call_it = call next (q.function f)
-
-    abbrev before : List Instr
-    before = passing ++ arguments_code y first
-
-    abbrev rest : List Instr
-    rest = keep y (Temporary first)
-
-    abbrev whole : List Instr
-    whole = passing_call_code y first count place (q.function f)
-
-    parts : whole ≡ before ++ (call_it ∷ rest)
-    parts = ap (λ (xs : List Instr). passing ++ xs)
-        (append_assoc (arguments_code y first) (call_it ∷ []) rest)
-        ∙ sym (append_assoc passing (arguments_code y first) (call_it ∷ rest))
-
-    next_is : place + sizes before + 5 ≡ next
-    next_is = omega (arith, sizes_append passing (arguments_code y first))
-
-    resumed : IsResumed t fs program p q c.frame.body b.body.slots.code c.frame.next next
-    resumed = record {
-      instruction = instructions.Call f first count;
-      there = at;
-      continues = λ h. h;
-      done = before ++ (call_it ∷ []);
-      item = put_back Rsp (temporary_at y first);
-      left = [];
-      parts = parts ∙ sym (append_assoc before (call_it ∷ []) rest);
-      here = let n = next_is in let k = call_size next (q.function f) in omega (arith, sizes_append before (call_it ∷ []));
-    }
-
-    near_next : IsNear next (q.function f)
-    near_next = subst (λ r. IsNear (return_at y first (r + sizes passing)) (q.function f)) b.rip
-        (entering.near t fs program p q image roomy s c b counted f first count at few few_passed
-        framed fn callee parameters fits)
-
-    plain : AllPlain y.frame 8 before
-    plain =
-        let room = (room_here t fs program p q image s c b counted).temporaries in
-        let z = calling.bottom t fs program p q image roomy s c b counted f first count at few few_passed framed in
-        let z0 = z.temporaries in
-        let z1 = z.size in
-        let z2 = z.small in
-        let slots = calling.has_room t fs program p q image roomy s c b counted f first count at few few_passed framed in
-        let s0 = slots.0 in
-        let s1 = slots.1 in
-        plain_both y.frame 8 passing (arguments_code y first)
-        (passing_plain y.frame 8 y first 4 (count - 4) (omega arith) (omega arith) (omega arith))
-        (arguments_plain y.frame 8 y first (omega arith))
-
-    abbrev callee_found : (m : Memory) → FindsReturn t m (q.function f) 0
-    callee_found m = (image.callers (FunctionBody f) o there).entries m (λ e. some)
-
-    count_call : called_in ≡ length before + 1
-    count_call = omega (arith, length-append passing (arguments_code y first))
-
-    steps_there : StepsTo (length before + 1) s at_callee
-    steps_there = subst (λ n. StepsTo n s at_callee) count_call
-        (reaches_steps called_in s at_callee (entering.calls t fs program p q image roomy s c b
-        counted f first count at few few_passed framed fn callee parameters fits))
-
-    call_keeps : AllKeep t fs called_in s
-    call_keeps =
-        subst (λ n. AllKeep t fs n s) (sym count_call)
-        (calls_keep t fs program p q image c.frame.body b.body.slots.code b.body.slots.body
-        c.frame.next (instructions.Call f first count) at (λ h. h) before rest next (q.function f)
-        parts next_is near_next c.frame.next resumed callee_found
-        s at_callee (top_of t fs program p q image s c b counted) b.body.back
-        (others_of s.cpu.registers) b.body.is b.rip
-        (begins_beneath t fs program p q image s c b counted) refl (let l = low in omega arith)
-        b.memory.code plain steps_there)
-
-    -- and those of the callee's entry, which may store its arguments in the caller's home space
-    callee_there : CalleeBegins t fs program p q image c.frame.body b.body.slots.code
-        b.body.slots.body c.frame.next (instructions.Call f first count) at (λ h. h) before rest next
-        (q.function f) parts next_is near_next c.frame.next resumed callee_found
-        s at_callee (top_of t fs program p q image s c b counted) b.body.back
-        (others_of s.cpu.registers) b.body.is b.rip
-        (begins_beneath t fs program p q image s c b counted) refl (let l = low in omega arith)
-        b.memory.code plain steps_there (caller + 32)
-    callee_there =
-        let z = calling.bottom t fs program p q image roomy s c b counted f first count at few few_passed framed in
-        let z0 = z.temporaries in
-        let z1 = z.size in
-        callee_entered t fs program p q image c.frame.body b.body.slots.code b.body.slots.body
-        c.frame.next (instructions.Call f first count) at (λ h. h) before rest next (q.function f)
-        parts next_is near_next c.frame.next resumed callee_found
-        s at_callee (top_of t fs program p q image s c b counted) b.body.back
-        (others_of s.cpu.registers) b.body.is b.rip
-        (begins_beneath t fs program p q image s c b counted) refl (let l = low in omega arith)
-        b.memory.code plain steps_there (caller + 32)
-        (omega arith) (omega arith)
-
-    arguments_are : sites.arguments_code program p (FunctionBody f) ≡ parameters_code layout 0 count
-    arguments_are = ap (λ x. function_arguments layout x) callee ∙ ap (λ n. parameters_code layout 0 n) parameters
-
-    arguments_stored : (leaf : Bool) → IsLayoutIf program p layout o leaf
-        → AllPlain layout.frame 40 (parameters_code layout 0 count)
-        × (layout.frame + 8 ≤ LARGEST_FRAME)
-    arguments_stored true l =
-        let e = l.frame in
-        let a = l.locals in
-        let n = l.few in
-        (parameters_plain layout.frame 40 layout 0 count (omega arith) (omega arith) (λ j lt. inr (omega arith, omega arith)), omega arith)
-    arguments_stored false l =
-        let a = l.locals in
-        let z = l.small in
-        (parameters_plain layout.frame 40 layout 0 count (omega arith) (omega arith) (λ j lt. inl (omega arith)), l.small)
-
-    entry_keeps : AllKeep t fs inside.turns at_callee
-    entry_keeps =
-        let k = callee_there in
-        let stored = arguments_stored (p.leaf (FunctionBody f)) (image.laid_out (FunctionBody f) o there) in
-        let lo = low in
-        (entry_ran t fs program p q image (FunctionBody f) o there some (caller - 8) (caller + 32)
-        next (others_of s.cpu.registers) (k.item ∷ b.body.is) inside.turns at_callee after
-        (sites.arguments_code program p (FunctionBody f)) [] 40
-        (sym (append-nil (sites.arguments_code program p (FunctionBody f)))) inside.exact
-        (enters_steps inside.turns at_callee after inside.comes) k.rip k.stack k.beneath_it
-        k.program_there stored.1 (omega arith) (omega arith)
-        (subst (λ (xs : List Instr). AllPlain layout.frame 40 xs) (sym arguments_are) stored.0)).keeps
-
-    pub comes : Comes t fs turns s [] after
-    unfolding turns
-    comes =
-        comes_then t fs called_in inside.turns s at_callee after [] []
-        (reaches_silently t fs program p q image called_in s at_callee
-        (entering.calls t fs program p q image roomy s c b counted f first count at few few_passed
-        framed fn callee parameters fits) call_keeps b.memory.code silent_called)
-        (enters_silently t fs program p q image inside.turns at_callee after inside.comes entry_keeps
-        (program_reaches t fs program p q called_in s at_callee
-        (entering.calls t fs program p q image roomy s c b counted f first count at few few_passed
-        framed fn callee parameters fits) b.memory.code) silent_after)
-
-    pub some_turns : 1 ≤ turns
-    unfolding turns
-    some_turns = omega arith
-
-    -- ---- linear code
-
-    abbrev pub arguments : List ℕ
-    arguments = drop first c.frame.temporaries
-
-    pub counted_arguments : length arguments ≡ count
-    counted_arguments = length-drop first c.frame.temporaries ∙ (let h = held in omega arith)
-
-    -- the other locals
-    abbrev pub others : List ℕ
-    others = words_at after.memory (inside.sp + layout.locals + 8 * length arguments) (o.locals - count)
-
-    pub counted_others : length others ≡ o.locals - count
-    counted_others = words_count after.memory (inside.sp + layout.locals + 8 * length arguments) (o.locals - count)
-
-    pub small_others : AreSmall others
-    small_others = words_small after.memory (inside.sp + layout.locals + 8 * length arguments) (o.locals - count) inside.bytes
-
-    -- where the callee begins
-    abbrev pub callee_begins : Configuration
-    callee_begins = begun f (arguments ++ others) c.frame.held (Waits (waiting c first).frame ∷ c.below) c.store.memory c.store.activations c.events
-
-    pub soon : turns + turns_left callee_begins ≤ 16 + turns_left c
-    unfolding turns
-    soon =
-        let a = inside.soon in
-        let n = passed_in (p.layout c.frame.body) first 4 (count - 4) in
-        let h = held in
-        let w = length-take first c.frame.temporaries in
-        omega arith
-
-    -- ---- memory
-
-    protection_same : (a : ℕ) → after.memory.protection a ≡ s.memory.protection a
-    protection_same a = ap (λ (g : ℕ → Protection). g a) keeps.protection
-
-    abbrev room : ℕ
-    room = calling.room t fs program p q image roomy s c b counted f first count at few few_passed framed
-
-    stack_kept : KeepsStackBut s.memory after.memory caller caller (caller + room)
-    stack_kept = record {
-      bytes = λ a l u out. elim out [
-        | inl x ↦ absurd (omega arith)
-        | inr x ↦ (let z = low in inside.same a
-            (stack_is_reserved program.globals a (omega arith) u) (inr (inr (inr (omega arith))))
-            ∙ calling.same_above t fs program p q image roomy s c b counted f first count at few
-            few_passed framed a l (inr x))
-      ];
-      protection = λ a l u. protection_same a;
-      code = λ a e. (keeps.fixed a (fixed a e (may_write s.memory a) refl), protection_same a);
-      no_more_code = λ a e. ap (λ (g : Protection). g.execute) (protection_same a) ∙ e;
-    }
-      where
-        fixed : (a : ℕ) → (s.memory.protection a).execute ≡ true → (x : Bool) → may_write s.memory a ≡ x → may_write s.memory a ≡ false
-        fixed a e true w = let z : true ≡ false = sym e ∙ b.memory.data_alone.no_code a w in absurd cc
-        fixed a e false w = w
-
-    image_kept : KeepsImage program.globals s.memory after.memory
-    image_kept = record {
-      byte = λ a l u own. (let z = top in let w = calling.room_top t fs program p q image roomy s c
-          b counted f first count at few few_passed framed in
-          inside.same a own (inr (inl (omega arith)))
-          ∙ calling.same_above t fs program p q image roomy s c b counted f first count at few
-          few_passed framed a (omega arith) (inr (omega arith)));
-      protection = λ a l u own. protection_same a;
-    }
-
-    memory : IsMachineMemory t fs program p q after.memory c.store.memory
-    memory = memory_stays t fs program p q image s.memory after.memory c.store.memory c.store.memory
-        image_kept inside.bytes protection_same inside.agrees b.memory
-
-    -- ---- the frame
-
-    abbrev HasPlan : Bool → Type 0
-    HasPlan leaf = IsLayoutIf program p layout o leaf
-
-    planned : HasPlan (p.leaf (FunctionBody f))
-    planned = image.laid_out (FunctionBody f) o there
-
-    frame_small : (leaf : Bool) → HasPlan leaf → layout.frame + 8 ≤ LARGEST_FRAME
-    frame_small true l = let e = l.frame in omega arith
-    frame_small false l = l.small
-
-    slots_fit : (leaf : Bool) → HasPlan leaf → (layout.locals + 8 * o.locals ≤ slots_end layout leaf) × (inside.sp + slots_end layout leaf ≤ caller + 32)
-    slots_fit true l = let e = l.frame in let a = l.locals in let k = l.temporaries in let n = l.few in let z = inside.place in (omega arith, omega arith)
-    slots_fit false l = let a = l.locals in let z = inside.place in (omega arith, omega arith)
-
-    at_home : (leaf : Bool) → HasPlan leaf → leaf ≡ true → inside.sp + home_end ≤ STACK_END
-    at_home true l e = let k = l.frame in let z = inside.place in let w = top in omega arith
-    at_home false l e = absurd (let no : false ≡ true = e in cc)
-
-    sp_low : STACK_START ≤ inside.sp
-    sp_low = let z = low in let e = inside.place in let n = frame_small (p.leaf (FunctionBody f)) planned in omega arith
-
-    argument_there : (i v : ℕ) → slice_get arguments i ≡ Some v → number_at after.memory.byte 8 (inside.sp + layout.locals + 8 * i) ≡ v
-    argument_there i v e =
-        let lt = slice_get_within arguments i v e in
-        let n = counted_arguments in
-        let z : inside.sp + layout.locals + 8 * i ≡ inside.sp + (layout.locals + 8 * i) = omega arith in
-        ap (number_at after.memory.byte 8) z ∙ inside.locals i (omega arith)
-        ∙ (slots_here t fs program p q image s c b counted).temporaries (first + i) v
-        (sym (got_past c.frame.temporaries first i) ∙ e)
-
-    numbers : HoldsWords after.memory (inside.sp + layout.locals) (inside.sp + slots_end layout (p.leaf (FunctionBody f))) (arguments ++ others)
-    numbers =
-        let r = slots_fit (p.leaf (FunctionBody f)) planned in
-        let r0 = r.0 in
-        let r1 = r.1 in
-        let n = counted_arguments in
-        let z = top in
-        let lo = sp_low in
-        arguments_then_words after.memory (inside.sp + layout.locals)
-        (inside.sp + slots_end layout (p.leaf (FunctionBody f))) arguments (o.locals - count)
-        (omega arith) argument_there
-        (λ a v l u e. word_of after.memory a v (omega arith) (λ x g h. may_read_written after.memory x (memory.stack x (omega arith) (omega arith))) e)
-
-    -- ---- the return address
-
-    abbrev pub back : ℕ
-    back = awaiting.back t fs program p q image roomy s c b counted f first count at
-
-    back_same : calling.back t fs program p q image roomy s c b counted f first count at few few_passed framed ≡ back
-    back_same = ap (λ x. return_at (p.layout c.frame.body) first (x + sizes (passing_code (p.layout c.frame.body) first 4 (count - 4)))) b.rip
-
-    returns_to : ReturnsTo t fs program p (Waits (waiting c first).frame ∷ c.below) back
-    returns_to =
-        ap (λ o. return_of (p.layout c.frame.body) (p.address c.frame.body c.frame.next) (instruction_in o c.frame.next)) b.body.slots.body
-        ∙ ap (return_of (p.layout c.frame.body) (p.address c.frame.body c.frame.next)) at
-
-    returns : word after.memory (inside.sp + layout.frame) ≡ Ok back
-    returns =
-        let z = top in
-        let l = low in
-        let e = inside.place in
-        let n = awaiting.back_near t fs program p q image roomy s c b counted f first count at in
-        let h = n.1 in
-        let w : inside.sp + layout.frame ≡ caller - 8 = omega arith in
-        let same = back_same in
-        let pushed = (pushed_back (calling.before t fs program p q image roomy s c b counted f first
-        count at few few_passed framed) caller
-        (calling.back t fs program p q image roomy s c b counted f first count at few few_passed
-        framed) (calling.below_sp t fs program p q image roomy s c b counted f first count at few
-        few_passed framed) (omega arith)).number in
-        word_of after.memory (inside.sp + layout.frame) back (omega arith)
-        (λ x g h. may_read_written after.memory x (memory.stack x (omega arith) (omega arith)))
-        (ap (number_at after.memory.byte 8) w
-        ∙ same_number after.memory.byte (entering.called t fs program p q image roomy s c b counted
-        f first count at few few_passed framed fn callee parameters fits).memory.byte 8
-        (caller - 8) (omega arith) (λ a g h. inside.same a
-        (stack_is_reserved program.globals a (omega arith) (omega arith))
-        (inr (inr (inl (omega arith, omega arith)))))
-        ∙ pushed ∙ same)
-
-    -- ---- all of it
-
-    pub begins : nat_lt 1000 (length c.store.activations + c.frame.held + 1) ≡ false → RepresentsAt t fs program p q after callee_begins
-    begins shallow =
-        let waits = awaiting.awaits t fs program p q image roomy s c b counted f first count at
-        after.memory room (omega arith) framed stack_kept memory.data_alone in
-        let small = frame_small (p.leaf (FunctionBody f)) planned in
-        let e = inside.place in
-        let stack = inside.stack in
-        let space = b.body.slots.space.space in
-        let deep = b.body.slots.space.shallow in
-        let depth : length c.store.activations ≡ length b.body.acts = ap length b.body.store ∙ locals_count b.body.acts in
-        let limit = not_less 1000 (length c.store.activations + c.frame.held + 1) shallow in
-        let up : register after.cpu Rsp + layout.frame + 8 ≡ caller = omega arith in
-        let begins = function_begins t fs program p q image after c.store.memory f o there
-        (Waits (waiting c first).frame ∷ c.below) b.body.acts c.frame.held c.events
-        (arguments ++ others)
-        (stays_well_formed s after keeps rip_small b.well_formed) memory inside.rip some
-        (record { space = omega arith; shallow = omega arith }) tt
-        (λ leaf. subst (λ x. x + home_end ≤ STACK_END) (sym stack) (at_home (p.leaf (FunctionBody f)) planned leaf))
-        back returns_to (subst (λ x. word after.memory (x + layout.frame) ≡ Ok back) (sym stack) returns)
-        (subst (λ x. HoldsWords after.memory (x + layout.locals) (x + slots_end layout (p.leaf (FunctionBody f))) (arguments ++ others)) (sym stack) numbers)
-        waits.0 (λ more n. subst (λ x. On t fs program p after.memory (context_below back x more)
-        waits.0 (Waits (waiting c first).frame ∷ c.below) b.body.acts) (sym up)
-        (waits.1 more n)) in
-        subst (λ (xs : List (List ℕ)). RepresentsAt t fs program p q after
-        (begun f (arguments ++ others) c.frame.held (Waits (waiting c first).frame ∷ c.below)
-        c.store.memory xs c.events)) (sym b.body.store) begins
-      where
-        not_less : (n m : ℕ) → nat_lt n m ≡ false → m ≤ n
-        not_less n m e = elim (cases_lt n m) [ inl l ↦ absurd (let z : true ≡ false = sym (lt-ltb n m l) ∙ e in cc) | inr g ↦ g ]
+module _ {setting : Setting} (at_call : AtCall setting) where
+  open setting use {functions as t, funclets as fs, program, plan as p, sites as q, image}
+  open at_call use {
+    state as s,
+    configuration as c,
+    represents as b,
+    counted,
+    number as f,
+    first,
+    count,
+    at,
+    few,
+    few_passed,
+    framed,
+    function as fn,
+    found as callee,
+    parameters,
+    fits,
+    some,
+    held,
+    apart,
+  }
+
+  abbrev caller : ℕ
+  caller = register s.cpu Rsp
+
+  abbrev layout : Layout
+  layout = p.layout (FunctionBody f)
+
+  abbrev o : LinearBody
+  o = fn.body
+
+  abbrev there : body_of program (FunctionBody f) ≡ Some o
+  there = entering.there at_call
+
+  abbrev inside : entering.InCallee at_call
+  inside = entries.entered at_call
+
+  abbrev pub after : State
+  after = inside.state
+
+  abbrev at_callee : State
+  at_callee = entering.at_callee at_call
+
+  abbrev called_in : ℕ
+  called_in = length (passing_code (p.layout c.frame.body) first 4 (count - 4)) + 5
+
+  low : STACK_START + 196568 ≤ caller
+  low = calling.low at_call
+
+  top : caller + 40 ≤ STACK_END
+  top = let a = calling.room_top at_call in omega arith
+
+  keeps : Keeps s after
+  keeps = keeps_then s at_callee after (entering.keeps at_call)
+      (enters_keeps inside.turns at_callee after inside.comes)
+
+  -- ---- turns
+
+  pub turns : ℕ
+  turns = called_in + inside.turns
+
+  rip_small : after.cpu.rip < 2 ^ 64
+  rip_small = let a = image.addresses (FunctionBody f) o there in let h = a.inside.high in let r =
+      inside.rip in omega arith
+
+  silent_called : arrivals at_callee.cpu (distance t.base at_callee.cpu.rip) 1 fs ≡ []
+  silent_called = let a = image.addresses (FunctionBody f) o there in let h = a.inside.high in
+      let r = a.first in image.funclets.none (q.function f) (omega arith) apart at_callee.cpu
+
+  silent_after : arrivals after.cpu (distance t.base after.cpu.rip) 1 fs ≡ []
+  silent_after = image.funclets.none after.cpu.rip rip_small
+      (λ k lt e. (image.addresses (FunctionBody f) o there).not_first 0 k some lt
+      (sym inside.rip ∙ e)) after.cpu
+
+  -- each of them keeps the shadow: those up to the call
+  abbrev y : Layout
+  y = p.layout c.frame.body
+
+  abbrev place : ℕ
+  place = p.address c.frame.body c.frame.next
+
+  abbrev passing : List Instr
+  passing = passing_code y first 4 (count - 4)
+
+  abbrev next : ℕ
+  next = return_at y first (place + sizes passing)
+
+  abbrev call_it : Instr
+  call_it = call next (q.function f)
+
+  abbrev before : List Instr
+  before = passing ++ arguments_code y first
+
+  abbrev rest : List Instr
+  rest = keep y (Temporary first)
+
+  abbrev whole : List Instr
+  whole = passing_call_code y first count place (q.function f)
+
+  parts : whole ≡ before ++ (call_it ∷ rest)
+  parts = ap (λ (xs : List Instr). passing ++ xs)
+      (append_assoc (arguments_code y first) (call_it ∷ []) rest)
+      ∙ sym (append_assoc passing (arguments_code y first) (call_it ∷ rest))
+
+  next_is : place + sizes before + 5 ≡ next
+  next_is = omega (arith, sizes_append passing (arguments_code y first))
+
+  resumed : IsResumed setting c.frame.body b.body.slots.code c.frame.next next
+  resumed = record {
+    instruction = instructions.Call f first count;
+    there = at;
+    continues = λ h. h;
+    done = before ++ (call_it ∷ []);
+    item = put_back Rsp (temporary_at y first);
+    left = [];
+    parts = parts ∙ sym (append_assoc before (call_it ∷ []) rest);
+    here = let n = next_is in let k = call_size next (q.function f) in omega
+        (arith, sizes_append before (call_it ∷ []));
+  }
+
+  near_next : IsNear next (q.function f)
+  near_next = subst (λ r. IsNear (return_at y first (r + sizes passing)) (q.function f)) b.rip
+      (entering.near at_call)
+
+  plain : AllPlain y.frame 8 before
+  plain =
+      let h = few_passed in
+      let room = (room_here setting s c b counted).temporaries in
+      let z = calling.bottom at_call in
+      let z0 = z.temporaries in
+      let z1 = z.size in
+      let z2 = z.small in
+      let slots = calling.has_room at_call in
+      let s0 = slots.0 in
+      let s1 = slots.1 in
+      plain_both y.frame 8 passing (arguments_code y first)
+      (passing_plain y.frame 8 y first 4 (count - 4) (omega arith) (omega arith) (omega arith))
+      (arguments_plain y.frame 8 y first (omega arith))
+
+  abbrev callee_found : (m : Memory) → FindsReturn t m (q.function f) 0
+  callee_found m = (image.callers (FunctionBody f) o there).entries m (λ e. some)
+
+  count_call : called_in ≡ length before + 1
+  count_call = omega (arith, length-append passing (arguments_code y first))
+
+  steps_there : StepsTo (length before + 1) s at_callee
+  steps_there = subst (λ n. StepsTo n s at_callee) count_call
+      (reaches_steps called_in s at_callee (entering.calls at_call))
+
+  call_keeps : AllKeep t fs called_in s
+  call_keeps =
+      subst (λ n. AllKeep t fs n s) (sym count_call)
+      (calls_keep setting c.frame.body b.body.slots.code b.body.slots.body c.frame.next
+      (instructions.Call f first count) at (λ h. h) before rest next (q.function f) parts next_is
+      near_next c.frame.next resumed callee_found s at_callee (top_of setting s c b counted)
+      b.body.back (others_of s.cpu.registers) b.body.is b.rip (begins_beneath setting s c b counted)
+      refl (let l = low in omega arith) b.memory.code plain steps_there)
+
+  -- and those of the callee's entry, which may store its arguments in the caller's home space
+  callee_there : CalleeBegins setting c.frame.body b.body.slots.code b.body.slots.body c.frame.next
+      (instructions.Call f first count) at (λ h. h) before rest next (q.function f) parts next_is
+      near_next c.frame.next resumed callee_found s at_callee (top_of setting s c b counted)
+      b.body.back (others_of s.cpu.registers) b.body.is b.rip (begins_beneath setting s c b counted)
+      refl (let l = low in omega arith) b.memory.code plain steps_there (caller + 32)
+  callee_there =
+      let z = calling.bottom at_call in
+      let z0 = z.temporaries in
+      let z1 = z.size in
+      callee_entered setting c.frame.body b.body.slots.code b.body.slots.body c.frame.next
+      (instructions.Call f first count) at (λ h. h) before rest next (q.function f) parts next_is
+      near_next c.frame.next resumed callee_found s at_callee (top_of setting s c b counted)
+      b.body.back (others_of s.cpu.registers) b.body.is b.rip (begins_beneath setting s c b counted)
+      refl (let l = low in omega arith) b.memory.code plain steps_there (caller + 32) (omega arith)
+      (omega arith)
+
+  arguments_are : sites.arguments_code program p (FunctionBody f) ≡ parameters_code layout 0 count
+  arguments_are = ap (λ x. function_arguments layout x) callee ∙ ap (λ n. parameters_code layout 0
+      n) parameters
+
+  arguments_stored : (leaf : Bool) → IsLayoutIf program p layout o leaf
+      → AllPlain layout.frame 40 (parameters_code layout 0 count) ×
+      (layout.frame + 8 ≤ LARGEST_FRAME)
+  arguments_stored true l =
+      let h = fits in
+      let e = l.frame in
+      let a = l.locals in
+      let n = l.few in (
+        parameters_plain layout.frame 40 layout 0 count (omega arith) (omega arith)
+            (λ j lt. inr (omega arith, omega arith)),
+        omega arith,
+      )
+  arguments_stored false l =
+      let h = fits in
+      let a = l.locals in
+      let z = l.small in (
+        parameters_plain layout.frame 40 layout 0 count (omega arith) (omega arith)
+            (λ j lt. inl (omega arith)),
+        l.small,
+      )
+
+  entry_keeps : AllKeep t fs inside.turns at_callee
+  entry_keeps =
+      let k = callee_there in
+      let stored = arguments_stored (p.leaf (FunctionBody f)) (image.laid_out (FunctionBody f) o
+      there) in
+      let lo = low in
+      (entry_ran t fs program p q image (FunctionBody f) o there some (caller - 8) (caller + 32)
+      next (others_of s.cpu.registers) (k.item ∷ b.body.is) inside.turns at_callee after
+      (sites.arguments_code program p (FunctionBody f)) [] 40
+      (sym (append-nil (sites.arguments_code program p (FunctionBody f)))) inside.exact
+      (enters_steps inside.turns at_callee after inside.comes) k.rip k.stack k.beneath_it
+      k.program_there stored.1 (omega arith) (omega arith)
+      (subst (λ (xs : List Instr). AllPlain layout.frame 40 xs) (sym arguments_are) stored.0)).keeps
+
+  pub comes : Comes t fs turns s [] after
+  unfolding turns
+  comes =
+      comes_then t fs called_in inside.turns s at_callee after [] []
+      (reaches_silently t fs program p q image called_in s at_callee (entering.calls at_call)
+      call_keeps b.memory.code silent_called)
+      (enters_silently t fs program p q image inside.turns at_callee after inside.comes entry_keeps
+      (program_reaches t fs program p q called_in s at_callee (entering.calls at_call)
+      b.memory.code) silent_after)
+
+  pub some_turns : 1 ≤ turns
+  unfolding turns
+  some_turns = omega arith
+
+  -- ---- linear code
+
+  abbrev pub arguments : List ℕ
+  arguments = drop first c.frame.temporaries
+
+  pub counted_arguments : length arguments ≡ count
+  counted_arguments = length-drop first c.frame.temporaries ∙ (let h = held in omega arith)
+
+  -- the other locals
+  abbrev pub others : List ℕ
+  others = words_at after.memory (inside.sp + layout.locals + 8 * length arguments)
+      (o.locals - count)
+
+  pub counted_others : length others ≡ o.locals - count
+  counted_others = words_count after.memory (inside.sp + layout.locals + 8 * length arguments)
+      (o.locals - count)
+
+  pub small_others : AreSmall others
+  small_others = words_small after.memory (inside.sp + layout.locals + 8 * length arguments)
+      (o.locals - count) inside.bytes
+
+  -- where the callee begins
+  abbrev pub callee_begins : Configuration
+  callee_begins = begun f (arguments ++ others) c.frame.held (Waits (waiting c first).frame ∷
+      c.below) c.store.memory c.store.activations c.events
+
+  pub soon : turns + turns_left callee_begins ≤ 16 + turns_left c
+  unfolding turns
+  soon =
+      let a = inside.soon in
+      let m = few in
+      let n = passed_in (p.layout c.frame.body) first 4 (count - 4) in
+      let h = held in
+      let w = length-take first c.frame.temporaries in
+      omega arith
+
+  -- ---- memory
+
+  protection_same : (a : ℕ) → after.memory.protection a ≡ s.memory.protection a
+  protection_same a = ap (λ (g : ℕ → Protection). g a) keeps.protection
+
+  abbrev room : ℕ
+  room = calling.room at_call
+
+  stack_kept : KeepsStackBut s.memory after.memory caller caller (caller + room)
+  stack_kept = record {
+    bytes = λ a l u out. elim out [
+      | inl x ↦ absurd (omega arith)
+      | inr x ↦ (let z = low in inside.same a (stack_is_reserved program.globals a (omega arith) u)
+          (inr (inr (inr (omega arith)))) ∙ calling.same_above at_call a l (inr x))
+    ];
+    protection = λ a l u. protection_same a;
+    code = λ a e. (keeps.fixed a (fixed a e (may_write s.memory a) refl), protection_same a);
+    no_more_code = λ a e. ap (λ (g : Protection). g.execute) (protection_same a) ∙ e;
+  }
+    where
+      fixed : (a : ℕ) → (s.memory.protection a).execute ≡ true → (x : Bool) → may_write s.memory a ≡
+          x → may_write s.memory a ≡ false
+      fixed a e true w = let z : true ≡ false = sym e ∙ b.memory.data_alone.no_code a w in absurd cc
+      fixed a e false w = w
+
+  image_kept : KeepsImage program.globals s.memory after.memory
+  image_kept = record {
+    byte = λ a l u own. (let z = top in let w = calling.room_top at_call in
+        inside.same a own (inr (inl (omega arith))) ∙ calling.same_above at_call a (omega arith)
+        (inr (omega arith)));
+    protection = λ a l u own. protection_same a;
+  }
+
+  memory : IsMachineMemory setting after.memory c.store.memory
+  memory = memory_stays t fs program p q image s.memory after.memory c.store.memory c.store.memory
+      image_kept inside.bytes protection_same inside.agrees b.memory
+
+  -- ---- the frame
+
+  abbrev HasPlan : Bool → Type 0
+  HasPlan leaf = IsLayoutIf program p layout o leaf
+
+  planned : HasPlan (p.leaf (FunctionBody f))
+  planned = image.laid_out (FunctionBody f) o there
+
+  frame_small : (leaf : Bool) → HasPlan leaf → layout.frame + 8 ≤ LARGEST_FRAME
+  frame_small true l = let e = l.frame in omega arith
+  frame_small false l = l.small
+
+  slots_fit : (leaf : Bool) → HasPlan leaf → (layout.locals + 8 * o.locals ≤ slots_end layout leaf)
+      × (inside.sp + slots_end layout leaf ≤ caller + 32)
+  slots_fit true l = let e = l.frame in let a = l.locals in let k = l.temporaries in let n = l.few
+      in let z = inside.place in (omega arith, omega arith)
+  slots_fit false l = let a = l.locals in let z = inside.place in (omega arith, omega arith)
+
+  at_home : (leaf : Bool) → HasPlan leaf → leaf ≡ true → inside.sp + home_end ≤ STACK_END
+  at_home true l e = let k = l.frame in let z = inside.place in let w = top in omega arith
+  at_home false l e = absurd (let no : false ≡ true = e in cc)
+
+  sp_low : STACK_START ≤ inside.sp
+  sp_low = let z = low in let e = inside.place in let n = frame_small (p.leaf (FunctionBody f))
+      planned in omega arith
+
+  argument_there : (i v : ℕ) → slice_get arguments i ≡ Some v → number_at after.memory.byte 8
+      (inside.sp + layout.locals + 8 * i) ≡ v
+  argument_there i v e =
+      let lt = slice_get_within arguments i v e in
+      let n = counted_arguments in
+      let z : inside.sp + layout.locals + 8 * i ≡ inside.sp + (layout.locals + 8 * i) = omega arith
+      in
+      ap (number_at after.memory.byte 8) z ∙ inside.locals i (omega arith)
+      ∙ (slots_here setting s c b counted).temporaries (first + i) v
+      (sym (got_past c.frame.temporaries first i) ∙ e)
+
+  numbers : HoldsWords after.memory (inside.sp + layout.locals) (inside.sp + slots_end layout
+      (p.leaf (FunctionBody f))) (arguments ++ others)
+  numbers =
+      let r = slots_fit (p.leaf (FunctionBody f)) planned in
+      let r0 = r.0 in
+      let r1 = r.1 in
+      let n = counted_arguments in
+      let z = top in
+      let lo = sp_low in
+      let h = fits in
+      arguments_then_words after.memory (inside.sp + layout.locals)
+      (inside.sp + slots_end layout (p.leaf (FunctionBody f))) arguments (o.locals - count)
+      (omega arith) argument_there
+      (λ a v l u e. word_of after.memory a v (omega arith) (λ x g h. may_read_written after.memory x
+      (memory.stack x (omega arith) (omega arith))) e)
+
+  -- ---- the return address
+
+  abbrev pub back : ℕ
+  back = awaiting.back at_call
+
+  back_same : calling.back at_call ≡ back
+  back_same = ap (λ x. return_at (p.layout c.frame.body) first
+      (x + sizes (passing_code (p.layout c.frame.body) first 4 (count - 4)))) b.rip
+
+  returns_to : ReturnsTo t fs program p (Waits (waiting c first).frame ∷ c.below) back
+  returns_to =
+      ap (λ o. return_of (p.layout c.frame.body) (p.address c.frame.body c.frame.next)
+      (instruction_in o c.frame.next)) b.body.slots.body
+      ∙ ap (return_of (p.layout c.frame.body) (p.address c.frame.body c.frame.next)) at
+
+  returns : word after.memory (inside.sp + layout.frame) ≡ Ok back
+  returns =
+      let z = top in
+      let l = low in
+      let e = inside.place in
+      let n = awaiting.back_near at_call in
+      let h = n.1 in
+      let w : inside.sp + layout.frame ≡ caller - 8 = omega arith in
+      let same = back_same in
+      let pushed = (pushed_back (calling.before at_call) caller (calling.back at_call)
+      (calling.below_sp at_call) (omega arith)).number in
+      word_of after.memory (inside.sp + layout.frame) back (omega arith)
+      (λ x g h. may_read_written after.memory x (memory.stack x (omega arith) (omega arith)))
+      (ap (number_at after.memory.byte 8) w
+      ∙ same_number after.memory.byte (entering.called at_call).memory.byte 8 (caller - 8)
+      (omega arith)
+      (λ a g h. inside.same a (stack_is_reserved program.globals a (omega arith) (omega arith))
+      (inr (inr (inl (omega arith, omega arith))))) ∙ pushed ∙ same)
+
+  -- ---- all of it
+
+  pub begins : nat_lt 1000 (length c.store.activations + c.frame.held + 1) ≡ false → RepresentsAt
+      setting after callee_begins
+  begins shallow =
+      let waits = awaiting.awaits at_call
+      after.memory room (omega arith) framed stack_kept memory.data_alone in
+      let small = frame_small (p.leaf (FunctionBody f)) planned in
+      let e = inside.place in
+      let stack = inside.stack in
+      let space = b.body.slots.space.space in
+      let deep = b.body.slots.space.shallow in
+      let depth : length c.store.activations ≡ length b.body.acts = ap length b.body.store ∙
+      locals_count b.body.acts in
+      let limit = not_less 1000 (length c.store.activations + c.frame.held + 1) shallow in
+      let up : register after.cpu Rsp + layout.frame + 8 ≡ caller = omega arith in
+      let begins = function_begins t fs program p q image after c.store.memory f o there
+      (Waits (waiting c first).frame ∷ c.below) b.body.acts c.frame.held c.events
+      (arguments ++ others) (stays_well_formed s after keeps rip_small b.well_formed) memory
+      inside.rip some (record { space = omega arith; shallow = omega arith }) tt
+      (λ leaf. subst (λ x. x + home_end ≤ STACK_END) (sym stack) (at_home (p.leaf (FunctionBody f))
+      planned leaf))
+      back returns_to (subst (λ x. word after.memory (x + layout.frame) ≡ Ok back) (sym stack)
+      returns)
+      (subst (λ x. HoldsWords after.memory (x + layout.locals)
+      (x + slots_end layout (p.leaf (FunctionBody f))) (arguments ++ others)) (sym stack)
+      numbers)
+      waits.0 (λ more n. subst (λ x. On t fs program p after.memory (context_below back x more)
+      waits.0 (Waits (waiting c first).frame ∷ c.below) b.body.acts) (sym up) (waits.1 more n)) in
+      subst (λ (xs : List (List ℕ)). RepresentsAt setting after
+      (begun f (arguments ++ others) c.frame.held (Waits (waiting c first).frame ∷ c.below)
+      c.store.memory xs c.events)) (sym b.body.store) begins
+    where
+      not_less : (n m : ℕ) → nat_lt n m ≡ false → m ≤ n
+      not_less n m e = elim (cases_lt n m)
+          [ inl l ↦ absurd (let z : true ≡ false = sym (lt-ltb n m l) ∙ e in cc) | inr g ↦ g ]

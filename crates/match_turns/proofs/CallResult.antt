@@ -39,7 +39,6 @@ use Rattle.match_stack.specs.DispatchStates.{IsWellFormed}
 use Rattle.match_runs.specs.Shadow.{AllKeep}
 use Rattle.lowering_invariants.specs.Room.{HaveRoom}
 use Rattle.match_bodies.specs.CodeSites.{Sites, links_of}
-use Rattle.match_bodies.specs.ProgramImages.{IsMachineMemory, IsProgramImage}
 use Rattle.match_bodies.specs.Bodies.{RepresentsAt}
 use Rattle.match_bodies.proofs.TemplateSizes.{first_in_code}
 use Rattle.match_bodies.proofs.BodyResumption.{again, waits_in_body}
@@ -54,6 +53,7 @@ use Rattle.match_bodies.proofs.TemplateSlots.{Leaves}
 use Rattle.match_bodies.proofs.NextInstruction.{Ran, represents_next}
 use Rattle.match_bodies.proofs.TemplateShadows.{kept_by_rest, is_here, is_after, ends_at, RunsKeep, one_piece}
 use Rattle.match_bodies.proofs.TemplateRuns.{code, y, v, frame, slots, template_here, next_address, sp_is, silent_at, dropped, Surroundings}
+use Rattle.match_bodies.specs.Setting.{Setting, IsMachineMemory}
 
 -- an instruction of a body begins within it
 pub offset_most : (y : Layout) (body : List Instruction) (number : ℕ)
@@ -107,8 +107,9 @@ pub record Resumes (t : Functions) (fs : List Funclet) (program : LinearProgram)
   pub begins : RepresentsAt t fs program p q state c
   pub keeps : AllKeep t fs 1 u
 
-module _ (t : Functions) (fs : List Funclet) (program : LinearProgram) (p : ImagePlan) (q : Sites)
-    (image : IsProgramImage t fs program p q) (roomy : HaveRoom program) where
+module _ (setting : Setting) (roomy : HaveRoom setting.program) where
+  open setting use {functions as t, funclets as fs, program, plan as p, sites as q, image}
+
   -- what the frames below a body are like: a leaf's caller has one, and the function whose locals a
   -- funclet works on
   pub record IsSurrounded (name : BodyName) (activation : ℕ) (items : List Item) (depth : ℕ) : Type
@@ -129,7 +130,7 @@ module _ (t : Functions) (fs : List Funclet) (program : LinearProgram) (p : Imag
       (es : List Event) (above : Context) (is : List StackItem)
       (on : On t fs program p u.memory above is (Waits w ∷ items) acts)
       (sp : register u.cpu Rsp ≡ rsp above) (well_formed : IsWellFormed u)
-      (memory : IsMachineMemory t fs program p q u.memory source)
+      (memory : IsMachineMemory setting u.memory source)
       (o : LinearBody) (there : body_of program w.body ≡ Some o) (i : Instruction) (first : ℕ)
       (done : List Instr) (calls : slice_get o.code w.next ≡ Some i) (goes : IsReturn i → ⊥)
       (parts : template (links_of p q w.body) (p.layout w.body) (p.address w.body w.next) i
@@ -168,9 +169,9 @@ module _ (t : Functions) (fs : List Funclet) (program : LinearProgram) (p : Imag
           landed = λ code e. absurd (nothing w.landed code free e);
         }
 
-    module _ (counted : IsCounted t fs program p q image caller)
+    module _ (counted : IsCounted setting caller)
         (surrounded : IsSurrounded w.body w.activation items (length acts)) where
-      around : Surroundings t fs program p q image roomy earlier caller waits counted
+      around : Surroundings setting roomy earlier caller waits counted
       around = record {
         caller = surrounded.caller;
         owner = λ k e. surrounded.owner k e waits.body.acts
@@ -203,7 +204,7 @@ module _ (t : Functions) (fs : List Funclet) (program : LinearProgram) (p : Imag
       -- the code after the call
       keeps_code : HasCode u.memory u.cpu.rip (keep layout (Temporary first))
       keeps_code =
-          let whole = template_here t fs program p q image roomy earlier caller waits counted i
+          let whole = template_here setting roomy earlier caller waits counted i
           calls_here in
           let after = code_split u.memory place done (keep layout (Temporary first))
           (subst (HasCode u.memory place) parts whole) in
@@ -219,23 +220,23 @@ module _ (t : Functions) (fs : List Funclet) (program : LinearProgram) (p : Imag
       room_slots = subst (λ (b : LinearBody). first < b.temporaries) is_body fits
 
       -- RAX goes to its temporary
-      kept : ReachesBody (frame t fs program p q image roomy earlier caller waits counted) 1
+      kept : ReachesBody (frame setting roomy earlier caller waits counted) 1
           (machine (seen_by_templates u) u.cpu.rip u.cpu.flags)
           (u.cpu.rip + sizes (keep layout (Temporary first))) (seen_by_templates u).rest
           (record {
-            slots = with_slot (slots t fs program p q image roomy earlier caller waits
-                counted).slots (Temporary first) result;
+            slots = with_slot (slots setting roomy earlier caller waits counted).slots (Temporary
+                first) result;
             memory = source;
           })
       kept =
           let r = room_slots in
-          call_ends (frame t fs program p q image roomy earlier caller waits counted)
-          (Temporary first) (seen_by_templates u) u.cpu.rip u.cpu.flags
-          (slots t fs program p q image roomy earlier caller waits counted)
-          (room_here t fs program p q image earlier caller waits counted) (omega arith)
+          call_ends (frame setting roomy earlier caller waits counted) (Temporary first)
+          (seen_by_templates u) u.cpu.rip u.cpu.flags
+          (slots setting roomy earlier caller waits counted)
+          (room_here setting earlier caller waits counted) (omega arith)
           (result_small u.cpu.registers well_formed.count well_formed.small)
-          (sp_is t fs program p q image roomy earlier caller waits counted)
-          (holds_here t fs program p q image earlier caller waits counted) keeps_code
+          (sp_is setting roomy earlier caller waits counted)
+          (holds_here setting earlier caller waits counted) keeps_code
         where
           result_small : (rs : List ℕ) → length rs ≡ 16
               → ((i : ℕ) → i < length rs → slice_index rs i < 2 ^ 64) → slice_index rs 0 < 2 ^ 64
@@ -243,7 +244,7 @@ module _ (t : Functions) (fs : List Funclet) (program : LinearProgram) (p : Imag
 
       next_place : u.cpu.rip + sizes (keep layout (Temporary first)) ≡ p.address w.body (w.next + 1)
       next_place =
-          let n = next_address t fs program p q image roomy earlier caller waits counted i
+          let n = next_address setting roomy earlier caller waits counted i
           calls_here in
           let z = template_sizes (links_of p q w.body) layout place i in
           let e = ap sizes parts in
@@ -259,71 +260,66 @@ module _ (t : Functions) (fs : List Funclet) (program : LinearProgram) (p : Imag
           omega arith
 
       abbrev values_here : List ℕ
-      values_here = (placed t fs program p q image earlier caller waits counted).values
+      values_here = (placed setting earlier caller waits counted).values
 
-      as_they_were : Leaves body (slots t fs program p q image roomy earlier caller waits counted)
-          values_here w.temporaries
+      as_they_were : Leaves body (slots setting roomy earlier caller waits counted) values_here
+          w.temporaries
       as_they_were =
-          let s = slots_here t fs program p q image earlier caller waits counted in
+          let s = slots_here setting earlier caller waits counted in
           let r = room_slots in
           record {
-            count = count t fs program p q image earlier caller waits counted;
+            count = count setting earlier caller waits counted;
             locals = λ i lt. s.locals i lt ∙ ap (λ xs. slice_index xs i)
-                (locals_here t fs program p q image earlier caller waits counted);
+                (locals_here setting earlier caller waits counted);
             few = omega (arith, held);
             temporaries = s.temporaries;
           }
 
       leaves : Leaves body (record {
         slots = with_slot
-            (slots t fs program p q image roomy earlier caller waits counted).slots (Temporary first)
-            result;
+            (slots setting roomy earlier caller waits counted).slots (Temporary first) result;
         memory = source;
       }) values_here (w.temporaries ++ result ∷ [])
       leaves =
           let r = room_slots in
           subst (λ n. Leaves body (record {
             slots = with_slot
-                (slots t fs program p q image roomy earlier caller waits counted).slots (Temporary n)
-                result;
+                (slots setting roomy earlier caller waits counted).slots (Temporary n) result;
             memory = source;
           }) values_here (w.temporaries ++ result ∷ [])) held
-          (longer_leaves body (slots t fs program p q image roomy earlier caller waits counted)
-          values_here w.temporaries result as_they_were (omega (arith, held)))
+          (longer_leaves body (slots setting roomy earlier caller waits counted) values_here
+          w.temporaries result as_they_were (omega (arith, held)))
 
       same_locals : locals_of (with_values waits.body.acts w.activation values_here)
           ≡ locals_of acts
       same_locals =
           let n = slice_get_within (locals_of waits.body.acts) w.activation values_here
-          (placed t fs program p q image earlier caller waits counted).number in
+          (placed setting earlier caller waits counted).number in
           let k = locals_count waits.body.acts in
           same_activations waits.body.acts w.activation values_here (omega arith)
-          (placed t fs program p q image earlier caller waits counted).number
-          ∙ sym waits.body.store
+          (placed setting earlier caller waits counted).number ∙ sym waits.body.store
 
       -- the code that keeps the result keeps the shadow
-      keeps_shadow : RunsKeep t fs program p q image earlier caller waits counted 1 u
+      keeps_shadow : RunsKeep setting earlier caller waits counted 1 u
       keeps_shadow =
-          let room = room_here t fs program p q image earlier caller waits counted in
-          one_piece t fs program p q image earlier caller waits counted i calls_here goes done
+          let room = room_here setting earlier caller waits counted in
+          one_piece setting earlier caller waits counted i calls_here goes done
           (keep layout (Temporary first)) u parts
           (keep_flow layout (counts_of body) (register u.cpu Rsp)
-          (placed t fs program p q image earlier caller waits counted).base room (Temporary first)
-          room_slots)
+          (placed setting earlier caller waits counted).base room (Temporary first) room_slots)
           (record {
             rip = back;
             registers = refl;
-            is_there = is_here t fs program p q image earlier caller waits counted;
+            is_there = is_here setting earlier caller waits counted;
           })
 
       -- in one turn, which keeps the shadow, the next instruction begins
       pub resumes : Resumes t fs program p q u (answered w items source acts es result)
       resumes =
-          let r = subst (λ x. ReachesBody (frame t fs program p q image roomy earlier caller waits
-          counted) 1 x (u.cpu.rip + sizes (keep layout (Temporary first)))
-          (seen_by_templates u).rest (record {
-            slots = with_slot (slots t fs program p q image roomy earlier caller waits
-                counted).slots (Temporary first) result;
+          let r = subst (λ x. ReachesBody (frame setting roomy earlier caller waits counted) 1 x
+          (u.cpu.rip + sizes (keep layout (Temporary first))) (seen_by_templates u).rest (record {
+            slots = with_slot (slots setting roomy earlier caller waits counted).slots (Temporary
+                first) result;
             memory = source;
           })) (sym same_state) kept in
           let rip = u.cpu.rip + sizes (keep layout (Temporary first)) in
@@ -339,12 +335,11 @@ module _ (t : Functions) (fs : List Funclet) (program : LinearProgram) (p : Imag
           (λ (xs : List ℕ). slice_index xs 1) r.rest ∙ dropped u.cpu.registers in
           let d : BodyState = record {
             slots = with_slot
-                (slots t fs program p q image roomy earlier caller waits counted).slots
-                (Temporary first) result;
+                (slots setting roomy earlier caller waits counted).slots (Temporary first) result;
             memory = source;
           } in
           let ts = w.temporaries ++ result ∷ [] in
-          let ran : Ran t fs program p q image earlier caller waits counted z d values_here
+          let ran : Ran setting earlier caller waits counted z d values_here
           ts = record {
             changed = record { changes = r.changes; keeps = keeps };
             holds = r.holds;
@@ -354,19 +349,19 @@ module _ (t : Functions) (fs : List Funclet) (program : LinearProgram) (p : Imag
           let inside : w.next + 1 < length body.code = subst
           (λ (b : LinearBody). w.next + 1 < length b.code) is_body within in
           let small : rip < 2 ^ 64 = let n = next_small in omega (arith, next_place) in
-          let begins = represents_next t fs program p q image earlier caller waits counted z d
+          let begins = represents_next setting earlier caller waits counted z d
           values_here ts ran (w.next + 1) w.landed es next_place inside
           (stays_well_formed earlier z keeps small waits.well_formed)
           (λ code e. absurd (nothing w.landed code free e)) around.caller around.owner in
-          let ends = ends_at t fs program p q image earlier caller waits counted z (w.next + 1)
+          let ends = ends_at setting earlier caller waits counted z (w.next + 1)
           next_place inside (kept_by_rest r.after.rest u.cpu.registers r.rest)
-          (is_after t fs program p q image earlier caller waits counted z d values_here ts ran
-          around.caller around.owner) in
+          (is_after setting earlier caller waits counted z d values_here ts ran around.caller
+          around.owner) in
           record {
             state = z;
             reaches = r.comes;
-            silent = silent_at t fs program p q image roomy earlier caller waits counted (w.next + 1)
-                rip next_place inside small z refl;
+            silent = silent_at setting roomy earlier caller waits counted (w.next + 1) rip
+                next_place inside small z refl;
             begins = subst (λ (xs : List (List ℕ)).
                 let c : Configuration = record {
                   frame = again w (w.next + 1) ts w.landed;

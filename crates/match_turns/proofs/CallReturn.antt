@@ -9,12 +9,10 @@ use Rattle.x64_instr.specs.declared.instruction.Instr.{Instr}
 use Rattle.x64_machine.specs.declared.context.Context.{Context}
 use Rattle.x64_machine.specs.Effect.{State, register}
 use Rattle.virtual_unwind.specs.Contexts.{rsp}
-use Rattle.virtual_unwind.specs.CallerOf.{Functions}
-use Rattle.host_model.specs.declared.funclet.Funclet.{Funclet}
 use Rattle.linear_code.specs.declared.slot.Slot.TheVariants.{Temporary}
 use Rattle.linear_code.specs.declared.instruction.Instruction.TheVariants as instructions
 use Rattle.linear_code.specs.Meaning.{HasSlots}
-use Rattle.linear_code.specs.Program.{LinearProgram, LinearBody}
+use Rattle.linear_code.specs.Program.{LinearBody}
 use Rattle.linear_machine.specs.Frames.{body_of, Frame, Item, Waits}
 use Rattle.template_code.specs.declared.layout.Layout.{Layout}
 use Rattle.template_code.specs.Bytes.{sizes}
@@ -24,19 +22,17 @@ use Rattle.template_code.specs.Calls.{arguments_code, return_at, begin_call, pas
 use Rattle.template_code.specs.Template.{template_size}
 use Rattle.template_code.proofs.Sizes.{sizes_append, call_size, passing_call_size}
 use Rattle.match_stack.specs.Stack.{StackItem}
-use Rattle.match_stack.specs.ImagePlan.{ImagePlan}
 use Rattle.match_stack.specs.ItemMatches.{Activation}
 use Rattle.match_stack.specs.StackRecords.{On}
 use Rattle.match_stack.specs.HostUnwind.{on_top}
 use Rattle.match_stack.specs.DispatchStates.{IsWellFormed}
 use Rattle.lowering_invariants.specs.Room.{HaveRoom}
-use Rattle.match_bodies.specs.CodeSites.{Sites}
-use Rattle.match_bodies.specs.ProgramImages.{IsMachineMemory, IsProgramImage}
 use Rattle.match_bodies.specs.BodyViews.{counts_of}
 use Rattle.match_bodies.proofs.BodyViews.{IsCounted}
 use Rattle.match_bodies.proofs.TemplateRuns.{each}
 use Rattle.match_turns.proofs.CallResult.{IsSurrounded, answered}
 use Rattle.match_turns.proofs.CallResult as kept
+use Rattle.match_bodies.specs.Setting.{Setting, IsMachineMemory}
 
 -- where a call that passes arguments on the stack returns to
 abbrev pub returns_at : Layout → (first count at : ℕ) → ℕ
@@ -49,14 +45,15 @@ pub call_template : (y : Layout) (f first count : ℕ)
 unfolding template_size
 call_template y f first count = passing_call_size y first count 0 0
 
-module _ (t : Functions) (fs : List Funclet) (program : LinearProgram) (p : ImagePlan) (q : Sites)
-    (image : IsProgramImage t fs program p q) (roomy : HaveRoom program) where
+module _ (setting : Setting) (roomy : HaveRoom setting.program) where
+  open setting use {functions as t, funclets as fs, program, plan as p, sites as q}
+
   -- after the callee's return RSP is the caller's, and the list is there from there on
   module _ (u : State) (w : Frame) (items : List Item) (acts : List Activation) (source : Memory)
       (es : List Event) (above : Context) (is : List StackItem)
       (on : On t fs program p u.memory above is (Waits w ∷ items) acts)
       (sp : register u.cpu Rsp ≡ rsp above) (well_formed : IsWellFormed u)
-      (memory : IsMachineMemory t fs program p q u.memory source)
+      (memory : IsMachineMemory setting u.memory source)
       (o : LinearBody) (there : body_of program w.body ≡ Some o) (f first arguments : ℕ)
       (calls : slice_get o.code w.next ≡ Some (instructions.Call f first arguments))
       (within : w.next + 1 < length o.code)
@@ -89,13 +86,12 @@ module _ (t : Functions) (fs : List Funclet) (program : LinearProgram) (p : Imag
           )
 
       -- in one turn, which keeps the shadow, the next instruction begins
-      pub resumes : IsCounted t fs program p q image (on_top w items source acts es)
-          → IsSurrounded t fs program p q image roomy w.body w.activation items (length acts)
-          → kept.Resumes t fs program p q u (answered t fs program p q image roomy w items source acts
-          es (register u.cpu Rax))
+      pub resumes : IsCounted setting (on_top w items source acts es)
+          → IsSurrounded setting roomy w.body w.activation items (length acts)
+          → kept.Resumes t fs program p q u (answered setting roomy w items source acts es
+          (register u.cpu Rax))
       resumes counted surrounded =
-          kept.resumes t fs program p q image roomy u w items acts source es above is on sp well_formed
-          memory o there (instructions.Call f first arguments) first (passing ++ beginning) calls
-          (λ h. h)
+          kept.resumes setting roomy u w items acts source es above is on sp well_formed memory o
+          there (instructions.Call f first arguments) first (passing ++ beginning) calls (λ h. h)
           (sym (append_assoc passing beginning (keep layout (Temporary first)))) fits within held free
           back_is counted surrounded

@@ -3,18 +3,15 @@ use Rattle.std.proofs.Common.{◌≡◌, ℕ, ◌+◌, ◌-◌, ◌<◌, ◌≤�
 use Rattle.std.specs.Prelude.{◌⊎◌, nat_lt, slice_get, get_or, drop}
 use Rattle.std.proofs.lemmas.Option.{slice_get_within, slice_get-get_or}
 use Rattle.x64_machine.specs.Effect.{State}
-use Rattle.virtual_unwind.specs.CallerOf.{Functions}
-use Rattle.host_model.specs.declared.funclet.Funclet.{Funclet}
 use Rattle.source_meaning.specs.declared.ended.Ended.TheVariants.{Deep}
 use Rattle.linear_code.specs.declared.slot.Slot.{Slot}
 use Rattle.linear_code.specs.declared.slot.Slot.TheVariants.{Local, Temporary}
 use Rattle.linear_code.specs.declared.instruction.Instruction.{Instruction}
 use Rattle.linear_code.specs.declared.instruction.Instruction.TheVariants as instructions
-use Rattle.linear_code.specs.Program.{LinearProgram, LinearBody}
+use Rattle.linear_code.specs.Program.{LinearBody}
 use Rattle.linear_machine.specs.Frames.{FunctionBody, FuncletBody, body_of, function_body, Item, Waits, Searches, Unwinds, Frame, Configuration, Next, Finished, pick, read, local_of}
 use Rattle.linear_machine.specs.Instructions.{waiting, begin_function}
 use Rattle.linear_machine.specs.Run.{instruction_at}
-use Rattle.match_stack.specs.ImagePlan.{ImagePlan}
 use Rattle.match_stack.specs.ItemMatches.{Activation}
 use Rattle.match_runs.specs.Matched.{Fails, IsMatched}
 use Rattle.match_runs.proofs.Matches.{fails_at_once}
@@ -24,31 +21,32 @@ use Rattle.lowering_invariants.specs.Room.{PassesWell}
 use Rattle.lowering_invariants.specs.Waiting.{MayWait, IsCalledBy, IsAbove, AreWaiting}
 use Rattle.lowering_invariants.specs.Activations.{with_own, owners_of, WorksOn}
 use Rattle.match_bodies.specs.Layouts.{IsFuncletPlan}
-use Rattle.match_bodies.specs.CodeSites.{Sites}
-use Rattle.match_bodies.specs.ProgramImages.{IsProgramImage}
-use Rattle.match_bodies.specs.Bodies.{turns_left, RepresentsAt}
+use Rattle.match_bodies.specs.Bodies.{turns_left}
 use Rattle.match_bodies.specs.ConfigurationFacts.{IsWellMade, IsKnown, KnownNext}
 use Rattle.match_bodies.specs.StepLaws.{turns_per_step}
 use Rattle.match_bodies.specs.SlotStores.{OwnerHasFrame}
 use Rattle.match_bodies.proofs.ActivationPlaces.{locals_count}
 use Rattle.match_bodies.proofs.StepNeeds.{some_is, label_in, body_there, owned_count, leaf_or_funclet, owner_waits, counted_here, code_at, ready_here}
 use Rattle.match_bodies.proofs.TemplateRuns.{each}
-use Rattle.match_turns.specs.CallOutcome.{FunctionsApart, CallBegins}
+use Rattle.match_turns.specs.CallOutcome.{FunctionsApart}
 use Rattle.match_turns.specs.CallLaws.{ReturnsAreMatched, CallsBegin}
 use Rattle.match_turns.proofs.CallResult.{IsSurrounded}
 use Rattle.match_turns.proofs.FunctionReturn as returning
 use Rattle.match_turns.proofs.CallEntry.{call_acts}
 use Rattle.match_turns.proofs.CallEntry as called
+use Rattle.match_turns.proofs.AtCall.{AtCall}
+use Rattle.match_bodies.specs.Setting.{Setting, setting_of, RepresentsAt}
+use Rattle.match_turns.specs.SettingOutcome.{CallBegins}
 
-module _ (t : Functions) (fs : List Funclet) (program : LinearProgram) (p : ImagePlan) (q : Sites)
-    (image : IsProgramImage t fs program p q) (made : IsWellMade program p) where
+module _ (setting : Setting) (made : IsWellMade setting.program setting.plan) where
+  open setting use {functions as t, funclets as fs, program, plan as p, sites as q, image}
+
   -- what is around a body, by what is known where it runs
   pub surrounded : (d : Configuration) → IsKnown program d → (o : LinearBody)
       → body_of program d.frame.body ≡ Some o → (depth : ℕ) → depth ≡ length d.store.activations
-      → IsSurrounded t fs program p q image made.room d.frame.body d.frame.activation d.below depth
+      → IsSurrounded setting made.room d.frame.body d.frame.activation d.below depth
   surrounded d known o there depth same = record {
-    caller = λ leaf. leaf_or_funclet t fs program p q image made d o d.frame.body there leaf
-        known.stacked.above;
+    caller = λ leaf. leaf_or_funclet setting made d o d.frame.body there leaf known.stacked.above;
     owner = owner;
   }
     where
@@ -66,9 +64,8 @@ module _ (t : Functions) (fs : List Funclet) (program : LinearProgram) (p : Imag
           known.activations.stored in
           let names : length (with_own d.frame.body (owners_of d.below))
           ≡ length (owners_of d.below) = ap (λ x. length (with_own x (owners_of d.below))) name in
-          owner_waits t fs program p q image made d.frame.activation d.below acts
-          known.stacked.below (n ∙ same ∙ sym m ∙ names)
-          (λ f e. ap (λ x. p.leaf (FunctionBody x))
+          owner_waits setting made d.frame.activation d.below acts known.stacked.below
+          (n ∙ same ∙ sym m ∙ names) (λ f e. ap (λ x. p.leaf (FunctionBody x))
           (sym (some_is works.0 f (sym works.2 ∙ e)) ∙ sym function) ∙ plan.function_framed)
 
   -- ---- returns
@@ -81,20 +78,19 @@ module _ (t : Functions) (fs : List Funclet) (program : LinearProgram) (p : Imag
     slice_get-get_or c.frame.temporaries i 0 h,
   )
 
-  module _ (s : State) (c : Configuration) (f : ℕ) (from : Slot) (b : RepresentsAt t fs program p q s c)
+  module _ (s : State) (c : Configuration) (f : ℕ) (from : Slot) (b : RepresentsAt setting s c)
       (known : IsKnown program c) (function : c.frame.body ≡ FunctionBody f)
       (at : instruction_at program c ≡ Some (instructions.Return from))
       (after : KnownNext program c (instructions.Return from)) where
     abbrev Goal : Type 0
-    Goal = IsMatched t fs program turns_per_step turns_left (RepresentsAt t fs program p q) s c
+    Goal = IsMatched t fs program turns_per_step turns_left (RepresentsAt setting) s c
         (instructions.Return from)
 
     abbrev here : slice_get b.body.slots.code.code c.frame.next ≡ Some (instructions.Return from)
-    here = code_at t fs program p q image made s c b known (instructions.Return from) at
+    here = code_at setting made s c b known (instructions.Return from) at
 
     value : (x : ℕ) × (read c from ≡ Some x)
-    value = reads c from (ready_here t fs program p q image made s c b known
-        (instructions.Return from) at)
+    value = reads c from (ready_here setting made s c b known (instructions.Return from) at)
 
     called_by : IsCalledBy program f c.below
     called_by = subst (λ name. IsAbove program c.frame.exception c.frame.activation name c.below)
@@ -116,25 +112,25 @@ module _ (t : Functions) (fs : List Funclet) (program : LinearProgram) (p : Imag
         (instructions.Call f by.0 by.1) (sym waits.0.at ∙ by.2) in
         let held : length w.temporaries ≡ by.0 = subst
         (λ i. MayWait program i (length w.temporaries)) same waits.0.may in
-        let counted = counted_here t fs program p q image made c known in
-        let next_one = returning.next_one t fs program p q image made.room s c b counted f function
+        let counted = counted_here setting made c known in
+        let next_one = returning.next_one setting made.room s c b counted f function
         from here value.0 value.1 w items e body.0 body.1 f by.0 by.1 calls within held
         waits.0.landed in
-        let goes = returning.goes t fs program p q image made.room s c b counted f function from
+        let goes = returning.goes setting made.room s c b counted f function from
         here value.0 value.1 w items e body.0 body.1 f by.0 by.1 calls within held
         waits.0.landed in
         let known_next = after next_one goes in
-        let acts = returning.outer t fs program p q image made.room s c b counted f function from
+        let acts = returning.outer setting made.room s c b counted f function from
         here value.0 value.1 w items e body.0 body.1 f by.0 by.1 calls within held
         waits.0.landed in
-        inl (returning.moves t fs program p q image made.room s c b counted f function from here
-        value.0 value.1 w items e body.0 body.1 f by.0 by.1 calls within held waits.0.landed
-        (counted_here t fs program p q image made next_one known_next)
+        inl (returning.moves setting made.room s c b counted f function from here value.0 value.1 w
+        items e body.0 body.1 f by.0 by.1 calls within held waits.0.landed
+        (counted_here setting made next_one known_next)
         (surrounded next_one known_next body.0 body.1 (length acts) (sym (locals_count acts))))
 
     returned : (items : List Item) → c.below ≡ items → Goal
-    returned [] e = inr (inl (returning.exits t fs program p q image made.room s c b
-        (counted_here t fs program p q image made c known) f function from here value.0 value.1 e))
+    returned [] e = inr (inl (returning.exits setting made.room s c b
+        (counted_here setting made c known) f function from here value.0 value.1 e))
     returned (Waits w ∷ items) e = to_body w items e
     returned (Searches exception resumption asked rest ∷ items) e = absurd
         (subst (IsCalledBy program f) e called_by)
@@ -146,7 +142,7 @@ module _ (t : Functions) (fs : List Funclet) (program : LinearProgram) (p : Imag
   -- ---- calls
 
   module _ (apart : FunctionsApart program p q) (s : State) (c : Configuration) (f first count : ℕ)
-      (b : RepresentsAt t fs program p q s c) (known : IsKnown program c)
+      (b : RepresentsAt setting s c) (known : IsKnown program c)
       (at : instruction_at program c ≡ Some (instructions.Call f first count)) where
     abbrev i : Instruction
     i = instructions.Call f first count
@@ -155,7 +151,7 @@ module _ (t : Functions) (fs : List Funclet) (program : LinearProgram) (p : Imag
     body = b.body.slots.code
 
     abbrev call_here : slice_get body.code c.frame.next ≡ Some i
-    call_here = code_at t fs program p q image made s c b known i at
+    call_here = code_at setting made s c b known i at
 
     abbrev callee : IsCallee program f count
     callee = each (IsInstructionOf program c.frame.body) body.code c.frame.next i
@@ -174,7 +170,7 @@ module _ (t : Functions) (fs : List Funclet) (program : LinearProgram) (p : Imag
             b.body.slots.body e call_here in cc)
 
     held : length c.frame.temporaries ≡ first + count
-    held = (ready_here t fs program p q image made s c b known i at).0
+    held = (ready_here setting made s c b known i at).0
 
     fits : count ≤ callee.function.body.locals
     fits = let a = made.whole.parameters f callee.function callee.there in let e = callee.takes in
@@ -194,7 +190,7 @@ module _ (t : Functions) (fs : List Funclet) (program : LinearProgram) (p : Imag
         (next (begin_function f callee.function (drop first c.frame.temporaries) c.frame.held
         (Waits (waiting c first).frame ∷ c.below) c.store c.events))) e)
 
-    begins : deep ≡ false → CallBegins t fs program p q s c f first count
+    begins : deep ≡ false → CallBegins setting s c f first count
     unfolding pick
     begins e =
         let goes = λ (next : Next). call_acts program c f first count callee.function callee.there
@@ -208,59 +204,58 @@ module _ (t : Functions) (fs : List Funclet) (program : LinearProgram) (p : Imag
         let some = slice_get_within callee.function.body.code 0 first_one.instruction
         (label_in (body_of program (FunctionBody f)) callee.function.body 0 first_one.instruction
         (ap function_body callee.there) first_one.at) in
-        let counted = counted_here t fs program p q image made c known in
-        let lt = function_there in
+        let at_call : AtCall setting = record {
+          roomy = made.room;
+          state = s;
+          configuration = c;
+          represents = b;
+          counted = counted_here setting made c known;
+          number = f;
+          first = first;
+          count = count;
+          at = call_here;
+          few = passes.0;
+          few_passed = passes.1;
+          framed = framed;
+          function = callee.function;
+          found = callee.there;
+          parameters = sym callee.takes;
+          fits = fits;
+          some = some;
+          held = held;
+          apart = λ k inside. apart f k function_there inside;
+        } in
         record {
           function = callee.function;
           there = callee.there;
           arguments = drop first c.frame.temporaries;
-          given = called.counted_arguments t fs program p q image made.room s c b counted f first
-              count call_here passes.0 passes.1 framed callee.function callee.there (sym callee.takes)
-              fits some held (λ k inside. apart f k lt inside) ∙ callee.takes;
-          others = called.others t fs program p q image made.room s c b counted f first count
-              call_here passes.0 passes.1 framed callee.function callee.there (sym callee.takes) fits
-              some held (λ k inside. apart f k lt inside);
-          as_many = called.counted_others t fs program p q image made.room s c b counted f first
-              count call_here passes.0 passes.1 framed callee.function callee.there (sym callee.takes)
-              fits some held (λ k inside. apart f k lt inside)
+          given = called.counted_arguments at_call ∙ callee.takes;
+          others = called.others at_call;
+          as_many = called.counted_others at_call
               ∙ ap (λ n. callee.function.body.locals - n) callee.takes;
-          small = called.small_others t fs program p q image made.room s c b counted f first count
-              call_here passes.0 passes.1 framed callee.function callee.there (sym callee.takes) fits
-              some held (λ k inside. apart f k lt inside);
-          turns = called.turns t fs program p q image made.room s c b counted f first count
-              call_here passes.0 passes.1 framed callee.function callee.there (sym callee.takes) fits
-              some held (λ k inside. apart f k lt inside);
-          some = called.some_turns t fs program p q image made.room s c b counted f first count
-              call_here passes.0 passes.1 framed callee.function callee.there (sym callee.takes) fits
-              some held (λ k inside. apart f k lt inside);
-          few = called.soon t fs program p q image made.room s c b counted f first count call_here
-              passes.0 passes.1 framed callee.function callee.there (sym callee.takes) fits some held
-              (λ k inside. apart f k lt inside);
-          state = called.after t fs program p q image made.room s c b counted f first count
-              call_here passes.0 passes.1 framed callee.function callee.there (sym callee.takes) fits
-              some held (λ k inside. apart f k lt inside);
-          comes = called.comes t fs program p q image made.room s c b counted f first count
-              call_here passes.0 passes.1 framed callee.function callee.there (sym callee.takes) fits
-              some held (λ k inside. apart f k lt inside);
+          small = called.small_others at_call;
+          turns = called.turns at_call;
+          some = called.some_turns at_call;
+          few = called.soon at_call;
+          state = called.after at_call;
+          comes = called.comes at_call;
           acts = goes;
-          begins = called.begins t fs program p q image made.room s c b counted f first count
-              call_here passes.0 passes.1 framed callee.function callee.there (sym callee.takes) fits
-              some held (λ k inside. apart f k lt inside) e;
+          begins = called.begins at_call e;
         }
 
-    pub call_begins : CallBegins t fs program p q s c f first count
+    pub call_begins : CallBegins setting s c f first count
         ⊎ Fails t fs program turns_per_step turns_left s c i
     call_begins = by deep refl
       where
-        by : (x : Bool) → deep ≡ x → CallBegins t fs program p q s c f first count
+        by : (x : Bool) → deep ≡ x → CallBegins setting s c f first count
             ⊎ Fails t fs program turns_per_step turns_left s c i
         by true e = inr (too_deep e)
         by false e = inl (begins e)
 
 pub returns_are_matched : ReturnsAreMatched
-returns_are_matched t fs program p q image made s c f from b known function at after = matched t fs
-    program p q image made s c f from b known function at after
+returns_are_matched t fs program p q image made s c f from b known function at after = matched
+    (setting_of t fs program p q image) made s c f from b known function at after
 
 pub calls_begin : CallsBegin
-calls_begin t fs program p q image made apart s c f first count b known at = call_begins t fs
-    program p q image made apart s c f first count b known at
+calls_begin t fs program p q image made apart s c f first count b known at = call_begins
+    (setting_of t fs program p q image) made apart s c f first count b known at

@@ -9,12 +9,10 @@ use Rattle.x64_instr.specs.declared.register.Reg.TheVariants.{Rsp}
 use Rattle.x64_instr.specs.declared.instruction.Instr.{Instr}
 use Rattle.x64_machine.specs.Contexts.{context_of}
 use Rattle.x64_machine.specs.Effect.{State, register}
-use Rattle.virtual_unwind.specs.CallerOf.{Functions}
-use Rattle.host_model.specs.declared.funclet.Funclet.{Funclet}
 use Rattle.linear_code.specs.declared.slot.Slot.TheVariants.{Temporary}
 use Rattle.linear_code.specs.declared.instruction.Instruction.TheVariants as instructions
-use Rattle.linear_code.specs.Program.{LinearProgram, LinearBody, LinearFunclet}
-use Rattle.linear_machine.specs.Frames.{BodyName, FunctionBody, FuncletBody, body_of, Item, Waits, Searches, Unwinds, Configuration}
+use Rattle.linear_code.specs.Program.{LinearBody, LinearFunclet}
+use Rattle.linear_machine.specs.Frames.{BodyName, FunctionBody, FuncletBody, body_of, Item, Waits, Searches, Unwinds}
 use Rattle.linear_machine.specs.Instructions.{waiting}
 use Rattle.linear_machine.specs.Regions.{regions_of}
 use Rattle.template_code.specs.declared.layout.Layout.{Layout}
@@ -26,24 +24,21 @@ use Rattle.template_code.specs.Template.{template_size}
 use Rattle.template_code.proofs.Sizes.{sizes_append, call_size}
 use Rattle.match_stack.specs.Stack.{StackItem}
 use Rattle.match_stack.specs.WalkLaws.{context_below}
-use Rattle.match_stack.specs.ImagePlan.{ImagePlan}
 use Rattle.match_stack.specs.ItemMatches.{HoldsWords, IsAbove, FuncletIsAbove}
 use Rattle.match_stack.specs.ListLaws.{IsLinkedStack}
 use Rattle.match_stack.specs.StackRecords.{IsData, On}
-use Rattle.lowering_invariants.specs.Room.{HaveRoom}
-use Rattle.match_bodies.specs.CodeSites.{Sites}
-use Rattle.match_bodies.specs.ProgramImages.{IsResumed, IsProgramImage}
-use Rattle.match_bodies.specs.Bodies.{InBody, RepresentsAt}
 use Rattle.match_bodies.proofs.TemplateSizes.{template_some}
 use Rattle.match_bodies.proofs.StackContexts.{on_moved}
 use Rattle.match_bodies.proofs.StackTop.{body_on_top}
 use Rattle.match_bodies.specs.SlotStores.{KeepsStackBut}
-use Rattle.match_bodies.proofs.BodyViews.{IsCounted, sp_low}
+use Rattle.match_bodies.proofs.BodyViews.{sp_low}
 use Rattle.match_bodies.proofs.TemplateRuns.{next_address}
 use Rattle.match_turns.proofs.CallResult.{offset_most}
 use Rattle.match_turns.proofs.CallReturn.{returns_at, call_template}
 use Rattle.match_turns.proofs.FunctionFrame.{same_itself}
 use Rattle.match_bodies.proofs.ArgumentSpace.{outgoing_is_free}
+use Rattle.match_turns.proofs.AtCall.{AtCall}
+use Rattle.match_bodies.specs.Setting.{Setting, InBody, IsResumed}
 
 kept_some : (y : Layout) (first : ℕ) → 1 ≤ sizes (keep y (Temporary first))
 unfolding template_size
@@ -64,163 +59,171 @@ front m at end (v ∷ vs) zero h = fits (v ∷ vs) at h
     fits (w ∷ ws) a h = let r = fits ws (a + 8) h.1 in omega arith
 front m at end (v ∷ vs) (suc n) h = (h.0, front m (at + 8) end vs n h.1)
 
-module _ (t : Functions) (fs : List Funclet) (program : LinearProgram) (p : ImagePlan) (q : Sites)
-    (image : IsProgramImage t fs program p q) (roomy : HaveRoom program) where
-  module _ (s : State) (c : Configuration) (b : RepresentsAt t fs program p q s c)
-      (counted : IsCounted t fs program p q image c) (f first count : ℕ)
-      (at : slice_get b.body.slots.code.code c.frame.next ≡ Some (instructions.Call f first count))
+module _ {setting : Setting} (at_call : AtCall setting) where
+  open setting use {functions as t, funclets as fs, program, plan as p, sites as q, image}
+  open at_call use {
+    roomy,
+    state as s,
+    configuration as c,
+    represents as b,
+    counted,
+    number as f,
+    first,
+    count,
+    at,
+    few,
+    framed,
+  }
+
+  abbrev y : Layout
+  y = p.layout c.frame.body
+
+  abbrev sp : ℕ
+  sp = register s.cpu Rsp
+
+  abbrev place : ℕ
+  place = p.address c.frame.body c.frame.next
+
+  abbrev pub back : ℕ
+  back = returns_at y first count place
+
+  -- the caller's state once the callee has returned, but for its memory
+  abbrev pub later : State
+  later = record {
+    cpu = record { registers = s.cpu.registers; rip = back; flags = s.cpu.flags };
+    memory = s.memory;
+  }
+
+  abbrev called_at : ℕ
+  called_at = q.function f
+
+  abbrev passing : List Instr
+  passing = passing_code y first 4 (count - 4)
+
+  abbrev beginning : List Instr
+  beginning = begin_call y first (place + sizes passing) called_at
+
+  back_is : back ≡ place + sizes (passing ++ beginning)
+  back_is =
+      let five = call_size (return_at y first (place + sizes passing)) called_at in
+      omega (
+        arith,
+        sizes_append passing beginning,
+        sizes_append (arguments_code y first)
+            (call (return_at y first (place + sizes passing)) called_at ∷ []),
+      )
+
+  resumed : IsResumed setting c.frame.body b.body.slots.code c.frame.next back
+  resumed = record {
+    instruction = instructions.Call f first count;
+    there = at;
+    continues = λ r. absurd r;
+    done = passing ++ beginning;
+    item = put_back Rsp (temporary_at y first);
+    left = [];
+    parts = sym (append_assoc passing beginning (put_back Rsp (temporary_at y first) ∷ []));
+    here = back_is;
+  }
+
+  pub back_inside : (place ≤ back) × (back < p.address c.frame.body (c.frame.next + 1))
+  back_inside =
+      let n = next_address setting roomy s c b counted
+      (instructions.Call f first count) at in
+      let z = call_template y f first count in
+      let k = kept_some y first in
+      (omega arith, omega (arith, n, z, b.rip, k))
+
+  back_small : back < 2 ^ 64
+  back_small =
+      let a = image.addresses c.frame.body b.body.slots.code b.body.slots.body in
+      let high = a.inside.high in
+      let most = offset_most y b.body.slots.code.code (c.frame.next + 1) in
+      let e = a.labels (c.frame.next + 1) in
+      let r = back_inside.1 in
+      omega arith
+
+  pub back_near : (IMAGE_BASE < back) × (back < IMAGE_RANGE_END)
+  back_near =
+      let a = image.addresses c.frame.body b.body.slots.code b.body.slots.body in
+      let low = a.inside.low in
+      let high = a.inside.high in
+      let first = a.first in
+      let from = a.labels c.frame.next in
+      let most = offset_most y b.body.slots.code.code (c.frame.next + 1) in
+      let e = a.labels (c.frame.next + 1) in
+      let r = back_inside.1 in
+      let l = back_inside.0 in
+      (omega arith, omega arith)
+
+  above_waiting : (name : BodyName) (below : List Item) → IsAbove t fs program p c.frame name below
+      → IsAbove t fs program p (waiting c first).frame name below
+  above_waiting (FunctionBody n) below h = h
+  above_waiting (FuncletBody k) below h = by_funclet (slice_get program.funclets k) below h
     where
-      abbrev y : Layout
-      y = p.layout c.frame.body
+      by_funclet : (o : Option LinearFunclet) (items : List Item)
+          → FuncletIsAbove t fs program p k c.frame o items
+          → FuncletIsAbove t fs program p k (waiting c first).frame o items
+      by_funclet None items h = absurd h
+      by_funclet (Some g) [] h = absurd h
+      by_funclet (Some g) (Searches exception resumption asked rest ∷ []) h = absurd h
+      by_funclet (Some g) (Searches exception resumption asked rest ∷ Waits w ∷ below) h = h
+      by_funclet (Some g) (Searches exception resumption asked rest ∷ Searches a b c d ∷ below)
+          h =
+          absurd h
+      by_funclet (Some g) (Searches exception resumption asked rest ∷ Unwinds a b ∷ below) h =
+          absurd h
+      by_funclet (Some g) (Unwinds rest target ∷ []) h = absurd h
+      by_funclet (Some g) (Unwinds rest target ∷ Waits w ∷ below) h = h
+      by_funclet (Some g) (Unwinds rest target ∷ Searches a b c d ∷ below) h = absurd h
+      by_funclet (Some g) (Unwinds rest target ∷ Unwinds a b ∷ below) h = absurd h
+      by_funclet (Some g) (Waits w ∷ below) h = h
 
-      abbrev sp : ℕ
-      sp = register s.cpu Rsp
+  abbrev in_body : InBody setting later (waiting c first)
+  in_body = record {
+    acts = b.body.acts;
+    store = b.body.store;
+    slots = record {
+      code = b.body.slots.code;
+      body = b.body.slots.body;
+      label = c.frame.next;
+      instruction = record { low = back_inside.0; high = back_inside.1 };
+      same = same_itself (regions_of (body_of program c.frame.body)) c.frame.next;
+      small = back_small;
+      activation = b.body.slots.activation;
+      temporaries = front s.memory _ _ c.frame.temporaries first b.body.slots.temporaries;
+      space = b.body.slots.space;
+    };
+    pointers = b.body.pointers;
+    above = above_waiting c.frame.body c.below b.body.above;
+    home = b.body.home;
+    back = b.body.back;
+    returns_to = b.body.returns_to;
+    returns = b.body.returns;
+    is = b.body.is;
+    below = b.body.below;
+  }
 
-      abbrev place : ℕ
-      place = p.address c.frame.body c.frame.next
-
-      abbrev pub back : ℕ
-      back = returns_at y first count place
-
-      -- the caller's state once the callee has returned, but for its memory
-      abbrev pub later : State
-      later = record {
-        cpu = record { registers = s.cpu.registers; rip = back; flags = s.cpu.flags };
-        memory = s.memory;
-      }
-
-      abbrev called_at : ℕ
-      called_at = q.function f
-
-      abbrev passing : List Instr
-      passing = passing_code y first 4 (count - 4)
-
-      abbrev beginning : List Instr
-      beginning = begin_call y first (place + sizes passing) called_at
-
-      back_is : back ≡ place + sizes (passing ++ beginning)
-      back_is =
-          let five = call_size (return_at y first (place + sizes passing)) called_at in
-          omega (
-            arith,
-            sizes_append passing beginning,
-            sizes_append (arguments_code y first)
-                (call (return_at y first (place + sizes passing)) called_at ∷ []),
-          )
-
-      resumed : IsResumed t fs program p q c.frame.body b.body.slots.code c.frame.next back
-      resumed = record {
-        instruction = instructions.Call f first count;
-        there = at;
-        continues = λ r. absurd r;
-        done = passing ++ beginning;
-        item = put_back Rsp (temporary_at y first);
-        left = [];
-        parts = sym (append_assoc passing beginning (put_back Rsp (temporary_at y first) ∷ []));
-        here = back_is;
-      }
-
-      pub back_inside : (place ≤ back) × (back < p.address c.frame.body (c.frame.next + 1))
-      back_inside =
-          let n = next_address t fs program p q image roomy s c b counted
-          (instructions.Call f first count) at in
-          let z = call_template y f first count in
-          let k = kept_some y first in
-          (omega arith, omega (arith, n, z, b.rip, k))
-
-      back_small : back < 2 ^ 64
-      back_small =
-          let a = image.addresses c.frame.body b.body.slots.code b.body.slots.body in
-          let high = a.inside.high in
-          let most = offset_most y b.body.slots.code.code (c.frame.next + 1) in
-          let e = a.labels (c.frame.next + 1) in
-          let r = back_inside.1 in
-          omega arith
-
-      pub back_near : (IMAGE_BASE < back) × (back < IMAGE_RANGE_END)
-      back_near =
-          let a = image.addresses c.frame.body b.body.slots.code b.body.slots.body in
-          let low = a.inside.low in
-          let high = a.inside.high in
-          let first = a.first in
-          let from = a.labels c.frame.next in
-          let most = offset_most y b.body.slots.code.code (c.frame.next + 1) in
-          let e = a.labels (c.frame.next + 1) in
-          let r = back_inside.1 in
-          let l = back_inside.0 in
-          (omega arith, omega arith)
-
-      above_waiting : (name : BodyName) (below : List Item)
-          → IsAbove t fs program p c.frame name below
-          → IsAbove t fs program p (waiting c first).frame name below
-      above_waiting (FunctionBody n) below h = h
-      above_waiting (FuncletBody k) below h = by_funclet (slice_get program.funclets k) below h
-        where
-          by_funclet : (o : Option LinearFunclet) (items : List Item)
-              → FuncletIsAbove t fs program p k c.frame o items
-              → FuncletIsAbove t fs program p k (waiting c first).frame o items
-          by_funclet None items h = absurd h
-          by_funclet (Some g) [] h = absurd h
-          by_funclet (Some g) (Searches exception resumption asked rest ∷ []) h = absurd h
-          by_funclet (Some g) (Searches exception resumption asked rest ∷ Waits w ∷ below) h = h
-          by_funclet (Some g) (Searches exception resumption asked rest ∷ Searches a b c d ∷ below)
-              h =
-              absurd h
-          by_funclet (Some g) (Searches exception resumption asked rest ∷ Unwinds a b ∷ below) h =
-              absurd h
-          by_funclet (Some g) (Unwinds rest target ∷ []) h = absurd h
-          by_funclet (Some g) (Unwinds rest target ∷ Waits w ∷ below) h = h
-          by_funclet (Some g) (Unwinds rest target ∷ Searches a b c d ∷ below) h = absurd h
-          by_funclet (Some g) (Unwinds rest target ∷ Unwinds a b ∷ below) h = absurd h
-          by_funclet (Some g) (Waits w ∷ below) h = h
-
-      abbrev in_body : InBody t fs program p q later (waiting c first)
-      in_body = record {
-        acts = b.body.acts;
-        store = b.body.store;
-        slots = record {
-          code = b.body.slots.code;
-          body = b.body.slots.body;
-          label = c.frame.next;
-          instruction = record { low = back_inside.0; high = back_inside.1 };
-          same = same_itself (regions_of (body_of program c.frame.body)) c.frame.next;
-          small = back_small;
-          activation = b.body.slots.activation;
-          temporaries = front s.memory _ _ c.frame.temporaries first b.body.slots.temporaries;
-          space = b.body.slots.space;
-        };
-        pointers = b.body.pointers;
-        above = above_waiting c.frame.body c.below b.body.above;
-        home = b.body.home;
-        back = b.body.back;
-        returns_to = b.body.returns_to;
-        returns = b.body.returns;
-        is = b.body.is;
-        below = b.body.below;
-      }
-
-      -- the caller on top of what waits below it
-      pub awaits : (m : Memory) (room : ℕ) → room ≤ 32 + 8 * b.body.slots.code.passed
-          → p.leaf c.frame.body ≡ false → KeepsStackBut s.memory m sp sp (sp + room) → IsData m
-          → (is : List StackItem) × ((others : List ℕ) → length others ≡ 8
-          → On t fs program p m (context_below back sp others) is
-          (Waits (waiting c first).frame ∷ c.below) b.body.acts)
-      awaits m room few framed keeps data_alone =
-          let top = body_on_top t fs program p q image later (waiting c first) c.frame.next in_body
-          resumed b.memory.code in
-          let low = sp_low t fs program p q image s c b counted in
-          let is_there : IsLinkedStack t fs program p m (context_of later.cpu) top.is
-          (Waits (waiting c first).frame ∷ c.below) b.body.acts =
-          outgoing_is_free s.memory m t fs program p image.laid_out room (context_of later.cpu) keeps
-          (omega arith) top.is (waiting c first).frame c.below b.body.acts
-          (λ o e. subst (λ (x : LinearBody). room ≤ 32 + 8 * x.passed)
-          (same_body b.body.slots.code o (sym b.body.slots.body ∙ e)) few) framed top.on.is_there in (
-            top.is,
-            λ others n. on_moved t fs program p m (context_of later.cpu)
-                (context_below back sp others) top.is (Waits (waiting c first).frame ∷ c.below)
-                b.body.acts refl (omega (arith, n)) refl refl
-                (record { is_there = is_there; data_alone = data_alone }),
-          )
-        where
-          same_body : (x o : LinearBody) → Some x ≡ Some o → x ≡ o
-          same_body x o e = cc
+  -- the caller on top of what waits below it
+  pub awaits : (m : Memory) (room : ℕ) → room ≤ 32 + 8 * b.body.slots.code.passed
+      → p.leaf c.frame.body ≡ false → KeepsStackBut s.memory m sp sp (sp + room) → IsData m
+      → (is : List StackItem) × ((others : List ℕ) → length others ≡ 8
+      → On t fs program p m (context_below back sp others) is
+      (Waits (waiting c first).frame ∷ c.below) b.body.acts)
+  awaits m room few framed keeps data_alone =
+      let top = body_on_top t fs program p q image later (waiting c first) c.frame.next in_body
+      resumed b.memory.code in
+      let low = sp_low setting s c b counted in
+      let is_there : IsLinkedStack t fs program p m (context_of later.cpu) top.is
+      (Waits (waiting c first).frame ∷ c.below) b.body.acts =
+      outgoing_is_free s.memory m t fs program p image.laid_out room (context_of later.cpu) keeps
+      (omega arith) top.is (waiting c first).frame c.below b.body.acts
+      (λ o e. subst (λ (x : LinearBody). room ≤ 32 + 8 * x.passed)
+      (same_body b.body.slots.code o (sym b.body.slots.body ∙ e)) few) framed top.on.is_there in (
+        top.is,
+        λ others n. on_moved t fs program p m (context_of later.cpu) (context_below back sp others)
+            top.is (Waits (waiting c first).frame ∷ c.below) b.body.acts refl (omega (arith, n))
+            refl refl (record { is_there = is_there; data_alone = data_alone }),
+      )
+    where
+      same_body : (x o : LinearBody) → Some x ≡ Some o → x ≡ o
+      same_body x o e = cc

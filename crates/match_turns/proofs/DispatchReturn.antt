@@ -10,17 +10,15 @@ use Rattle.x64_machine.specs.declared.context.Context.{Context}
 use Rattle.x64_machine.specs.Contexts.{context_of}
 use Rattle.x64_machine.specs.Effect.{State, register}
 use Rattle.virtual_unwind.specs.Contexts.{rsp}
-use Rattle.virtual_unwind.specs.CallerOf.{Functions, distance}
+use Rattle.virtual_unwind.specs.CallerOf.{distance}
 use Rattle.seh_records.specs.declared.dispatch.DispatchRecord.{DispatchRecord}
 use Rattle.seh_records.specs.Record.{placed, fetched}
-use Rattle.host_model.specs.declared.funclet.Funclet.{Funclet}
 use Rattle.host_model.specs.Turns.{Turn, Continues, with_event}
 use Rattle.host_model.specs.Funclets.{arrivals, arrived}
 use Rattle.host_model.specs.Dispatch.{eax, again, accepted, restored, searches_on, unwinds_on, finally_returned, if_unwinding}
 use Rattle.source_meaning.specs.State.{Exception}
 use Rattle.source_meaning.specs.Raises.{noncontinuable, raise_event}
 use Rattle.linear_code.specs.declared.program.Region.{Region}
-use Rattle.linear_code.specs.Program.{LinearProgram}
 use Rattle.linear_machine.specs.Frames.{Handler, Target, Resumption, AfterCall, SameOperation, Waits, Unwinds, Item, Frame, Store, Seen, Next, Configuration}
 use Rattle.linear_machine.specs.Regions.{handlers}
 use Rattle.linear_machine.specs.Searching.{search, accept, resumed}
@@ -28,7 +26,6 @@ use Rattle.linear_machine.specs.Unwinding.{unwind}
 use Rattle.linear_machine.specs.Instructions.{end_finally}
 use Rattle.linear_machine.specs.Run.{exec}
 use Rattle.match_stack.specs.Stack.{StackItem, Unwinding}
-use Rattle.match_stack.specs.ImagePlan.{ImagePlan}
 use Rattle.match_stack.specs.ItemMatches.{Activation, locals_of}
 use Rattle.match_stack.proofs.ListEnds.{in_stack}
 use Rattle.match_stack.specs.StackRecords.{On, RecordHasRoom}
@@ -42,28 +39,28 @@ use Rattle.match_stack.proofs.FilterAnswers.{filter_returns}
 use Rattle.match_runs.specs.Ends.{HasRule}
 use Rattle.match_runs.specs.Shadow.{WalkGives}
 use Rattle.match_runs.proofs.Shadows.{none_below}
-use Rattle.match_bodies.specs.CodeSites.{Sites}
 use Rattle.match_bodies.specs.Callers.{callers}
 use Rattle.match_bodies.proofs.StackWalks.{on_stack, stack_rises}
-use Rattle.match_bodies.specs.ProgramImages.{IsMachineMemory, IsProgramImage}
 use Rattle.match_bodies.specs.Bodies.{held_below, turns_left}
 use Rattle.match_turns.specs.FuncletEntry.{FlagsFit}
-use Rattle.match_turns.specs.DispatchOutcome.{NoneLanded, Outcome, Shows}
-use Rattle.match_turns.specs.ExceptionContinuation.{Continuations}
+use Rattle.match_turns.specs.DispatchOutcome.{NoneLanded}
 use Rattle.match_turns.proofs.DispatchMemory.{memory_untouched, placing}
 use Rattle.match_turns.proofs.DispatchOutcomeSteps.{arrived_with, with_one, with_two, with_none, outcome_same, outcome_more}
 use Rattle.match_turns.proofs.UnwindTurn.{unwound}
 use Rattle.match_turns.proofs.SearchTurn.{searched, taken_over}
+use Rattle.match_bodies.specs.Setting.{Setting, IsMachineMemory}
+use Rattle.match_turns.specs.SettingOutcome.{Continuations, Outcome, Shows}
 
-module _ (t : Functions) (fs : List Funclet) (program : LinearProgram) (p : ImagePlan) (q : Sites)
-    (image : IsProgramImage t fs program p q) (fits : FlagsFit program) where
+module _ (setting : Setting) (fits : FlagsFit setting.program) where
+  open setting use {functions as t, funclets as fs, program, plan as p, sites as q, image}
+
   -- ---- a filter has answered
 
-  module _ (continues : Continuations t fs program p q) (s : State) (r : DispatchRecord)
+  module _ (continues : Continuations setting) (s : State) (r : DispatchRecord)
       (is : List StackItem) (acts : List Activation) (exception : Exception)
       (resumption : Resumption) (asked : Handler) (rest : List Handler) (c : Configuration)
       (answers : SearchIsAnswered t fs program p s r is acts exception resumption asked rest c)
-      (memory : IsMachineMemory t fs program p q s.memory c.store.memory)
+      (memory : IsMachineMemory setting s.memory c.store.memory)
       (store : c.store.activations ≡ locals_of acts) (free : c.frame.landed ≡ None) where
     abbrev event : Event
     event = events.Answer (signed W32 (eax s))
@@ -81,7 +78,7 @@ module _ (t : Functions) (fs : List Funclet) (program : LinearProgram) (p : Imag
     shadow = callers (context_of r.saved) is
 
     abbrev Answers : Type 0
-    Answers = Shows t fs program p q (arrived t fs (filter_turn t s)) (event ∷ []) seen c.events
+    Answers = Shows setting (arrived t fs (filter_turn t s)) (event ∷ []) seen c.events
         (turns_left c + 3) shadow
 
     onward : AnswersAs t fs program p s r is acts exception asked rest c'
@@ -92,8 +89,8 @@ module _ (t : Functions) (fs : List Funclet) (program : LinearProgram) (p : Imag
     resumes = answers.on.is_there.linked.0.resumes
 
     shows : (x : Turn) → filter_turn t s ≡ with_answer s x
-        → Outcome t fs program p q (arrived t fs x) seen (c.events ++ event ∷ []) (turns_left c + 3)
-        shadow → Answers
+        → Outcome setting (arrived t fs x) seen (c.events ++ event ∷ []) (turns_left c + 3) shadow
+        → Answers
     shows x e outcome = record {
       further = arrived t fs x;
       turns = ap (arrived t fs) e
@@ -111,8 +108,8 @@ module _ (t : Functions) (fs : List Funclet) (program : LinearProgram) (p : Imag
         (outcome_same t fs program p q (arrived t fs x) (arrived t fs x)
         (λ next. search program next rest exception resumption c') seen (c.events ++ event ∷ [])
         (turns_left c) shadow refl a.goes
-        (searched t fs program p q image fits s at r is acts exception rest c' onward.next memory
-        store resumption resumes (subst HasRule (a.goes (exec program zero)) rule))))
+        (searched setting fits s at r is acts exception rest c' onward.next memory store resumption
+        resumes (subst HasRule (a.goes (exec program zero)) rule))))
 
     asked_takes_over : AskedTakesOver t fs program p s r is exception resumption asked rest c
         → HasRule (seen (exec program zero)) → Answers
@@ -124,8 +121,8 @@ module _ (t : Functions) (fs : List Funclet) (program : LinearProgram) (p : Imag
         (outcome_same t fs program p q (arrived t fs x) (arrived t fs x)
         (λ next. accept program asked exception next c') seen (c.events ++ event ∷ [])
         (turns_left c) shadow refl a.goes
-        (taken_over t fs program p q image fits s at r is acts exception rest c' onward.next memory
-        store asked r.frame a.address a.frame_small a.address_small a.aimed
+        (taken_over setting fits s at r is acts exception rest c' onward.next memory store asked
+        r.frame a.address a.frame_small a.address_small a.aimed
         (subst HasRule (a.goes (exec program zero)) rule))))
 
     is_continued : ContinuesException t fs program p s r is acts exception resumption asked rest c
@@ -166,8 +163,8 @@ module _ (t : Functions) (fs : List Funclet) (program : LinearProgram) (p : Imag
     -- the exception in its place shows its own event too
     raised_anew : IsRaisedAnew t program s r exception resumption asked rest c
         → HasRule (seen (exec program zero))
-        → Shows t fs program p q (arrived t fs (filter_turn t s))
-        (event ∷ raise_event noncontinuable ∷ []) seen c.events (turns_left c + 3) shadow
+        → Shows setting (arrived t fs (filter_turn t s)) (event ∷ raise_event noncontinuable ∷ [])
+        seen c.events (turns_left c + 3) shadow
     raised_anew a rule =
         let e = raise_event noncontinuable in
         let c2 : Configuration = record {
@@ -200,23 +197,22 @@ module _ (t : Functions) (fs : List Funclet) (program : LinearProgram) (p : Imag
           turns = ap (arrived t fs) (a.turns ∙ ap (with_answer s) g.raises)
               ∙ arrived_with t fs event (with_event e x)
               ∙ ap (with_event event) (arrived_with t fs e x) ∙ with_two event e y;
-          outcome = subst (λ (es : List Event). Outcome t fs program p q y seen es
-              (turns_left c + 3) shadow) assoc
-              (outcome_more t fs program p q y seen ((c.events ++ event ∷ []) ++ e ∷ [])
+          outcome = subst (λ (es : List Event). Outcome setting y seen es (turns_left c + 3) shadow)
+              assoc (outcome_more t fs program p q y seen ((c.events ++ event ∷ []) ++ e ∷ [])
               (turns_left c) (turns_left c + 3) shadow (omega arith)
               (outcome_same t fs program p q y y
               (λ next. search program next (handlers program (Waits c.frame ∷ c.below) None)
               noncontinuable resumption c2) seen ((c.events ++ event ∷ []) ++ e ∷ [])
               (turns_left c) shadow refl a.goes
-              (searched t fs program p q image fits (placed_in s at anew) at anew is acts
-              noncontinuable (handlers program (Waits c.frame ∷ c.below) None) c2 g.anew memory'
-              store resumption resumes (subst HasRule (a.goes (exec program zero)) rule))));
+              (searched setting fits (placed_in s at anew) at anew is acts noncontinuable
+              (handlers program (Waits c.frame ∷ c.below) None) c2 g.anew memory' store resumption
+              resumes (subst HasRule (a.goes (exec program zero)) rule))));
         }
 
     -- whatever it answers
     pub record AnswerShows : Type 0 where
       pub before : List Event
-      pub shown : Shows t fs program p q (arrived t fs (filter_turn t s)) before seen c.events
+      pub shown : Shows setting (arrived t fs (filter_turn t s)) before seen c.events
           (turns_left c + 3) shadow
 
     pub filter_answered : HasRule (seen (exec program zero)) → AnswerShows
@@ -242,11 +238,11 @@ module _ (t : Functions) (fs : List Funclet) (program : LinearProgram) (p : Imag
       (below : List Item) (c : Configuration)
       → IsWellFormed s → On t fs program p s.memory (context_of s.cpu) (Unwinding r ∷ is)
       (Unwinds rest target ∷ Waits f ∷ below) acts
-      → IsMachineMemory t fs program p q s.memory c.store.memory
+      → IsMachineMemory setting s.memory c.store.memory
       → c.store.activations ≡ locals_of acts → c.below ≡ Unwinds rest target ∷ Waits f ∷ below
       → NoneLanded c.below
       → HasRule (end_finally program (exec program zero) c.below c.events c.store)
-      → Shows t fs program p q (arrived t fs (finally_returned t s (register s.cpu Rsp)
+      → Shows setting (arrived t fs (finally_returned t s (register s.cpu Rsp)
       (fetched s.memory (register s.cpu Rsp)))) []
       (λ next. end_finally program next c.below c.events c.store) c.events (turns_left c)
       (callers r.walk is)
@@ -279,12 +275,12 @@ module _ (t : Functions) (fs : List Funclet) (program : LinearProgram) (p : Imag
       (λ next. unwind program next w.target w.items w.left w.shown (store_of w.source w.acts))
       (λ next. end_finally program next c.below c.events c.store) c.events (turns_left c)
       (callers r.walk is) turns same
-      (unwound t fs program p q image fits w (turns_left c) few (λ e. subst NoneLanded under unlanded) s
-      at r is u memory (subst HasRule (same (exec program zero)) rule)) in
+      (unwound setting fits w (turns_left c) few (λ e. subst NoneLanded under unlanded) s at r is u
+      memory (subst HasRule (same (exec program zero)) rule)) in
       record {
         further = y;
         turns = with_none y;
-        outcome = subst (λ (es : List Event). Outcome t fs program p q y
+        outcome = subst (λ (es : List Event). Outcome setting y
             (λ next. end_finally program next c.below c.events c.store) es (turns_left c)
             (callers r.walk is)) (sym (append-nil c.events)) done;
       }

@@ -5,22 +5,18 @@ use Rattle.std.specs.Prelude.{◌==◌}
 use Rattle.x64_instr.specs.declared.register.Reg.TheVariants.{Rsp}
 use Rattle.x64_machine.specs.Contexts.{context_of}
 use Rattle.x64_machine.specs.Effect.{State, register}
-use Rattle.virtual_unwind.specs.CallerOf.{Functions}
 use Rattle.seh_records.specs.declared.dispatch.DispatchRecord.{DispatchRecord}
 use Rattle.seh_records.specs.Record.{fetched}
 use Rattle.seh_walk.specs.Walk.{filter_return, finally_return}
-use Rattle.host_model.specs.declared.funclet.Funclet.{Funclet}
 use Rattle.host_model.specs.Funclets.{arrived}
 use Rattle.host_model.specs.Dispatch.{finally_returned}
 use Rattle.source_meaning.specs.State.{Exception}
 use Rattle.linear_code.specs.declared.instruction.Instruction.{Instruction}
 use Rattle.linear_code.specs.declared.program.Region.{Region}
-use Rattle.linear_code.specs.Program.{LinearProgram}
 use Rattle.linear_machine.specs.Frames.{Frame, Handler, Target, Resumption, Item, Waits, Searches, Unwinds, Configuration, Next}
 use Rattle.linear_machine.specs.Instructions.{act, end_finally}
 use Rattle.linear_machine.specs.Run.{exec}
 use Rattle.match_stack.specs.Stack.{StackItem, Searching, Unwinding}
-use Rattle.match_stack.specs.ImagePlan.{ImagePlan}
 use Rattle.match_stack.specs.ItemMatches.{Activation, locals_of}
 use Rattle.match_stack.specs.StackRecords.{On}
 use Rattle.match_stack.specs.DispatchStates.{IsWellFormed}
@@ -29,23 +25,23 @@ use Rattle.match_stack.specs.FilterReturns.{filter_turn, linear_answer}
 use Rattle.match_runs.specs.Comes.{IsLive, Comes}
 use Rattle.match_runs.specs.Ends.{HasRule}
 use Rattle.match_runs.specs.Matched.{IsMatched}
-use Rattle.match_bodies.specs.CodeSites.{Sites}
 use Rattle.match_bodies.specs.Callers.{callers}
 use Rattle.match_bodies.proofs.StackWalks.{on_stack}
-use Rattle.match_bodies.specs.ProgramImages.{IsMachineMemory, IsProgramImage}
 use Rattle.match_bodies.specs.Bodies.{held_below, turns_left}
 use Rattle.match_bodies.specs.ConfigurationFacts.{KnownNext}
 use Rattle.match_turns.specs.FuncletEntry.{FlagsFit}
-use Rattle.match_turns.specs.DispatchOutcome.{NoneLanded, Represents}
-use Rattle.match_turns.specs.ExceptionContinuation.{Continuations}
+use Rattle.match_turns.specs.DispatchOutcome.{NoneLanded}
 use Rattle.match_turns.specs.TurnLaws.{waiting_below}
 use Rattle.match_turns.proofs.DispatchReturn.{filter_answered, finally_ended}
 use Rattle.match_turns.proofs.HostTurns.{filter_turns, finally_turns, filter_return_keeps, finally_return_keeps, matched_when_shown}
+use Rattle.match_bodies.specs.Setting.{Setting, IsMachineMemory}
+use Rattle.match_turns.specs.SettingOutcome.{Continuations, Represents}
 
-module _ (t : Functions) (fs : List Funclet) (program : LinearProgram) (p : ImagePlan) (q : Sites)
-    (image : IsProgramImage t fs program p q) (fits : FlagsFit program) where
+module _ (setting : Setting) (fits : FlagsFit setting.program) where
+  open setting use {functions as t, funclets as fs, program, plan as p, sites as q}
+
   -- in at most 6 turns the machine comes to the host's return address of filters
-  pub filter_step : (continues : Continuations t fs program p q) (k : ℕ) (s u : State)
+  pub filter_step : (continues : Continuations setting) (k : ℕ) (s u : State)
       (c : Configuration) (i : Instruction) (r : DispatchRecord) (is : List StackItem)
       (acts : List Activation)
       → (exception : Exception) (resumption : Resumption) (asked : Handler) (rest : List Handler)
@@ -54,18 +50,17 @@ module _ (t : Functions) (fs : List Funclet) (program : LinearProgram) (p : Imag
       → c.below ≡ Searches exception resumption asked rest ∷ Waits w ∷ below → NoneLanded c.below
       → SearchIsAnswered t fs program p u r is acts exception resumption asked rest
       (waiting_below c w below)
-      → IsMachineMemory t fs program p q u.memory c.store.memory
-      → c.store.activations ≡ locals_of acts
+      → IsMachineMemory setting u.memory c.store.memory → c.store.activations ≡ locals_of acts
       → ((next : Next) → act program i next c
       ≡ linear_answer program u exception resumption asked rest (waiting_below c w below) next)
       → HasRule (act program i (exec program zero) c)
       → KnownNext program c i
-      → IsMatched t fs program 16 turns_left (Represents t fs program p q) s c i
+      → IsMatched t fs program 16 turns_left (Represents setting) s c i
   filter_step continues k s u c i r is acts exception resumption asked rest w below silent few at
       under unlanded answers memory store goes rule known =
       let d = waiting_below c w below in
       let live : IsLive u = ap (λ a. a == 0) at in
-      let a = filter_answered t fs program p q image fits continues u r is acts exception resumption
+      let a = filter_answered setting fits continues u r is acts exception resumption
       asked rest d answers memory store (subst NoneLanded under unlanded).0
       (subst HasRule (goes (exec program zero)) rule) in
       let less : turns_left d ≤ turns_left c = (let z = ap held_below under in omega arith) in
@@ -85,16 +80,15 @@ module _ (t : Functions) (fs : List Funclet) (program : LinearProgram) (p : Imag
       → c.below ≡ Unwinds rest target ∷ Waits f ∷ below → NoneLanded c.below
       → IsWellFormed u → On t fs program p u.memory (context_of u.cpu) (Unwinding r ∷ is)
       (Unwinds rest target ∷ Waits f ∷ below) acts
-      → IsMachineMemory t fs program p q u.memory c.store.memory
-      → c.store.activations ≡ locals_of acts
+      → IsMachineMemory setting u.memory c.store.memory → c.store.activations ≡ locals_of acts
       → ((next : Next) → act program i next c ≡ end_finally program next c.below c.events c.store)
       → HasRule (act program i (exec program zero) c)
       → KnownNext program c i
-      → IsMatched t fs program 16 turns_left (Represents t fs program p q) s c i
+      → IsMatched t fs program 16 turns_left (Represents setting) s c i
   finally_step k s u c i r is acts rest target f below silent few at under unlanded well_formed on memory store
       goes rule known =
       let live : IsLive u = ap (λ a. a == 0) at in
-      let a = finally_ended t fs program p q image fits u r is acts rest target f below c well_formed on
+      let a = finally_ended setting fits u r is acts rest target f below c well_formed on
       memory store under unlanded (subst HasRule (goes (exec program zero)) rule) in
       matched_when_shown t fs program p q 16 k (turns_left c) s u c i
       (arrived t fs (finally_returned t u (register u.cpu Rsp)

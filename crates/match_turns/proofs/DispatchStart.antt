@@ -7,15 +7,12 @@ use Rattle.x64_machine.specs.declared.cpu.Cpu.{Cpu}
 use Rattle.x64_machine.specs.Contexts.{context_of}
 use Rattle.x64_machine.specs.Effect.{State}
 use Rattle.virtual_unwind.specs.Contexts.{rsp}
-use Rattle.virtual_unwind.specs.CallerOf.{Functions}
 use Rattle.seh_records.specs.declared.dispatch.Kind.TheVariants.{Search}
 use Rattle.seh_records.specs.Record.{placed}
-use Rattle.host_model.specs.declared.funclet.Funclet.{Funclet}
 use Rattle.host_model.specs.Funclets.{arrived}
 use Rattle.host_model.specs.Dispatch.{place_of, new_record, raised, to_target, unwound_locally, searches_on, unwinds_on}
 use Rattle.source_meaning.specs.State.{Exception}
 use Rattle.source_meaning.specs.Raises.{raise_event}
-use Rattle.linear_code.specs.Program.{LinearProgram}
 use Rattle.linear_machine.specs.Frames.{Target, Resumption, Waits, Store, Next, Configuration}
 use Rattle.linear_machine.specs.Regions.{handlers}
 use Rattle.linear_machine.specs.Searching.{raise}
@@ -23,7 +20,6 @@ use Rattle.linear_machine.specs.Unwinding.{unwind}
 use Rattle.linear_machine.specs.Instructions.{local_unwind}
 use Rattle.linear_machine.specs.Run.{exec}
 use Rattle.match_stack.specs.Stack.{StackItem}
-use Rattle.match_stack.specs.ImagePlan.{ImagePlan}
 use Rattle.match_stack.specs.ItemMatches.{Activation, locals_of, Aimed}
 use Rattle.match_stack.proofs.ListEnds.{in_stack}
 use Rattle.match_stack.specs.StackRecords.{RecordHasRoom}
@@ -31,16 +27,16 @@ use Rattle.match_stack.specs.HostUnwind.{store_of}
 use Rattle.match_stack.specs.DispatchSteps.{placed_in, from_body, AsksHost, IsException}
 use Rattle.match_stack.proofs.DispatchSteps.{raise_searches, local_unwind_unwinds}
 use Rattle.match_runs.specs.Ends.{HasRule}
-use Rattle.match_bodies.specs.CodeSites.{Sites}
 use Rattle.match_bodies.specs.Callers.{callers}
-use Rattle.match_bodies.specs.ProgramImages.{IsMachineMemory, IsProgramImage}
 use Rattle.match_bodies.specs.Bodies.{turns_left}
 use Rattle.match_turns.specs.FuncletEntry.{FlagsFit}
-use Rattle.match_turns.specs.DispatchOutcome.{NoneLanded, Outcome, Shows}
+use Rattle.match_turns.specs.DispatchOutcome.{NoneLanded}
 use Rattle.match_turns.proofs.DispatchMemory.{memory_untouched, placing}
 use Rattle.match_turns.proofs.DispatchOutcomeSteps.{arrived_with, with_one, with_none, outcome_same}
 use Rattle.match_turns.proofs.UnwindTurn.{unwound}
 use Rattle.match_turns.proofs.SearchTurn.{searched}
+use Rattle.match_bodies.specs.Setting.{Setting, IsMachineMemory}
+use Rattle.match_turns.specs.SettingOutcome.{Outcome, Shows}
 
 -- linear code that has shown an event more
 abbrev pub having_shown : Event → Configuration → Configuration
@@ -51,12 +47,13 @@ having_shown e c = record {
   events = c.events ++ e ∷ [];
 }
 
-module _ (t : Functions) (fs : List Funclet) (program : LinearProgram) (p : ImagePlan) (q : Sites)
-    (image : IsProgramImage t fs program p q) (fits : FlagsFit program) where
+module _ (setting : Setting) (fits : FlagsFit setting.program) where
+  open setting use {functions as t, funclets as fs, program, plan as p, sites as q}
+
   module _ (s : State) (saved : Cpu) (is : List StackItem) (acts : List Activation)
       (c : Configuration)
       (asks : AsksHost t fs program p s saved is (Waits c.frame ∷ c.below) acts)
-      (memory : IsMachineMemory t fs program p q s.memory c.store.memory)
+      (memory : IsMachineMemory setting s.memory c.store.memory)
       (store : c.store.activations ≡ locals_of acts) where
     top : rsp (context_of saved) ≤ 0x70800000
     top = in_stack t fs program p s.memory (context_of saved) is (Waits c.frame ∷ c.below) acts
@@ -67,7 +64,7 @@ module _ (t : Functions) (fs : List Funclet) (program : LinearProgram) (p : Imag
         (resumption : Resumption)
         → IsException code flags access exception → p.resumes resumption c.frame saved ≡ true
         → HasRule (raise program (exec program zero) exception resumption c)
-        → Shows t fs program p q (arrived t fs (raised t s code flags access saved))
+        → Shows setting (arrived t fs (raised t s code flags access saved))
         (raise_event exception ∷ []) (λ next. raise program next exception resumption c) c.events
         (turns_left c) (callers (context_of saved) is)
     raised_as code flags access exception resumption is_exception resumes rule =
@@ -94,7 +91,7 @@ module _ (t : Functions) (fs : List Funclet) (program : LinearProgram) (p : Imag
           turns = ap (arrived t fs) a.turns ∙ arrived_with t fs e
               (searches_on t (placed_in s at r) at r)
               ∙ with_one e (arrived t fs (searches_on t (placed_in s at r) at r));
-          outcome = searched t fs program p q image fits (placed_in s at r) at r is acts exception
+          outcome = searched setting fits (placed_in s at r) at r is acts exception
               (handlers program (Waits c.frame ∷ c.below) None) c' found memory' store resumption
               resumes rule;
         }
@@ -105,7 +102,7 @@ module _ (t : Functions) (fs : List Funclet) (program : LinearProgram) (p : Imag
         (Waits c.frame ∷ c.below)
         → HasRule (local_unwind program (exec program zero) label c)
         → NoneLanded (Waits c.frame ∷ c.below)
-        → Shows t fs program p q (arrived t fs (unwound_locally t s frame address saved)) []
+        → Shows setting (arrived t fs (unwound_locally t s frame address saved)) []
         (λ next. local_unwind program next label c) c.events (turns_left c)
         (callers (context_of saved) is)
     unwound_to frame address label frame_small address_small aimed rule unlanded =
@@ -144,12 +141,12 @@ module _ (t : Functions) (fs : List Funclet) (program : LinearProgram) (p : Imag
         (λ next. local_unwind program next label c) c.events (turns_left c)
         (callers (context_of saved) is)
         (ap (arrived t fs) a.turns) same
-        (unwound t fs program p q image fits w (turns_left c) (omega arith) (λ e. unlanded)
-        (placed_in s at r) at r is u memory' (subst HasRule (same (exec program zero)) rule)) in
+        (unwound setting fits w (turns_left c) (omega arith) (λ e. unlanded) (placed_in s at r) at r
+        is u memory' (subst HasRule (same (exec program zero)) rule)) in
         record {
           further = arrived t fs (unwound_locally t s frame address saved);
           turns = with_none (arrived t fs (unwound_locally t s frame address saved));
-          outcome = subst (λ (es : List Event). Outcome t fs program p q
+          outcome = subst (λ (es : List Event). Outcome setting
               (arrived t fs (unwound_locally t s frame address saved))
               (λ next. local_unwind program next label c) es (turns_left c)
               (callers (context_of saved) is)) (sym (append-nil c.events)) done;

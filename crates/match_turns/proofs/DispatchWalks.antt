@@ -13,20 +13,18 @@ use Rattle.x64_machine.specs.Contexts.{kept_of, context_of}
 use Rattle.x64_machine.specs.Effect.{State, register}
 use Rattle.virtual_unwind.specs.Contexts.{rsp}
 use Rattle.virtual_unwind.specs.Undone.{readable, word}
-use Rattle.virtual_unwind.specs.CallerOf.{Functions}
 use Rattle.seh_records.specs.declared.dispatch.DispatchRecord.{DispatchRecord}
 use Rattle.seh_walk.specs.Walk.{filter_return, finally_return, steps}
-use Rattle.host_model.specs.declared.funclet.Funclet.{Funclet}
 use Rattle.host_model.specs.Turns.{Turn}
 use Rattle.host_model.specs.Dispatch.{at_landing}
 use Rattle.host_model.specs.HostStep.{back}
 use Rattle.source_meaning.specs.State.{Exception}
-use Rattle.linear_code.specs.Program.{LinearProgram, LinearFunclet}
+use Rattle.linear_code.specs.Program.{LinearFunclet}
 use Rattle.linear_machine.specs.Frames.{BodyName, FuncletBody, funclet_body, Handler, Resumption, Item, Configuration}
 use Rattle.match_stack.specs.Stack.{StackItem, Framed, IsStack, after_frame}
 use Rattle.match_stack.specs.WalkLaws.{context_below}
 use Rattle.match_stack.specs.PlainWalks.{state}
-use Rattle.match_stack.specs.ImagePlan.{ImagePlan, parent_body, IsFunclet}
+use Rattle.match_stack.specs.ImagePlan.{parent_body, IsFunclet}
 use Rattle.match_stack.specs.ItemMatches.{Activation}
 use Rattle.match_stack.specs.DispatchStates.{Arrives}
 use Rattle.match_stack.specs.SearchOutcomes.{FilterBegins}
@@ -35,15 +33,14 @@ use Rattle.match_stack.specs.TurnLaws.{IsUnwinding}
 use Rattle.match_stack.proofs.FuncletEntry.{few_items}
 use Rattle.match_runs.specs.Shadow.{caller_at, drop_below, GivesCallers, WalkGives}
 use Rattle.match_runs.proofs.Shadows.{none_below}
-use Rattle.match_bodies.specs.CodeSites.{Sites}
 use Rattle.match_bodies.specs.Callers.{callers, caller_above, FindsReturn}
-use Rattle.match_bodies.specs.ProgramImages.{IsMachineMemory, IsProgramImage}
 use Rattle.match_bodies.proofs.BodyResumption.{frame_size}
 use Rattle.match_bodies.proofs.StackWalks.{on_stack}
 use Rattle.match_bodies.proofs.UnwindWalks.{block_callers, landing_callers}
 use Rattle.match_bodies.proofs.BodyCallers.{gives_caller, begin_finds}
 use Rattle.match_bodies.proofs.StackWords.{word_is}
-use Rattle.match_turns.specs.DispatchOutcome.{WalkContinues}
+use Rattle.match_bodies.specs.Setting.{Setting, IsMachineMemory}
+use Rattle.match_turns.specs.SettingOutcome.{WalkContinues}
 
 -- nine registers, one by one
 nine : (ks : List ℕ) → length ks ≡ 9
@@ -75,8 +72,9 @@ abbrev others_of : Cpu → List ℕ
 others_of c = register c Rbx ∷ register c Rbp ∷ register c Rsi ∷ register c Rdi ∷ register c R12
     ∷ register c R13 ∷ register c R14 ∷ register c R15 ∷ []
 
-module _ (t : Functions) (fs : List Funclet) (program : LinearProgram) (p : ImagePlan) (q : Sites)
-    (image : IsProgramImage t fs program p q) where
+module _ (setting : Setting) where
+  open setting use {functions as t, funclets as fs, program, plan as p, sites as q, image}
+
   -- ---- at a funclet's first byte
 
   funclet_finds : (m : Memory) (k : ℕ) (name : BodyName) → IsFunclet t fs program p name k
@@ -126,7 +124,7 @@ module _ (t : Functions) (fs : List Funclet) (program : LinearProgram) (p : Imag
       (exception : Exception) (resumption : Resumption) (is : List StackItem)
       (acts : List Activation) (c : Configuration)
       → (f : FilterBegins t fs program p s at r turn found exception resumption is acts c)
-      → WalkContinues t fs program p q (callers (context_of r.saved) is) f.state
+      → WalkContinues setting (callers (context_of r.saved) is) f.state
       (events.Filter (f.filter + 1) ∷ [])
   filter_walk s at r turn found exception resumption is acts c f =
       let cs = callers (context_of r.saved) is in
@@ -145,8 +143,7 @@ module _ (t : Functions) (fs : List Funclet) (program : LinearProgram) (p : Imag
 
     -- a `__finally` block, on those from its frame up
     pub block_walk : (b : BlockBegins t fs program p s r turn w)
-        → WalkContinues t fs program p q (callers r.walk is) b.state
-        (events.Finally (b.block + 1) true ∷ [])
+        → WalkContinues setting (callers r.walk is) b.state (events.Finally (b.block + 1) true ∷ [])
     block_walk b =
         let a = b.arrives in
         let cs = callers b.to b.inner in
@@ -166,8 +163,8 @@ module _ (t : Functions) (fs : List Funclet) (program : LinearProgram) (p : Imag
     -- ---- where an unwinding lands
 
     pub landing_walk : (l : LandsThere t fs program p s r turn w) (rax : ℕ)
-        → IsMachineMemory t fs program p q s.memory w.source
-        → WalkContinues t fs program p q (callers r.walk is) (at_landing s l.to rax r.target) []
+        → IsMachineMemory setting s.memory w.source
+        → WalkContinues setting (callers r.walk is) (at_landing s l.to rax r.target) []
     landing_walk l rax memory =
         let f = l.framed in
         let is_there = l.on.is_there.stack.0 in

@@ -4,39 +4,39 @@ use Rattle.std.specs.Prelude.{slice_get}
 use Rattle.x64_machine.specs.declared.cpu.Cpu.{Cpu}
 use Rattle.x64_machine.specs.Contexts.{context_of}
 use Rattle.x64_machine.specs.Effect.{State}
-use Rattle.virtual_unwind.specs.CallerOf.{Functions, distance}
-use Rattle.host_model.specs.declared.funclet.Funclet.{Funclet}
+use Rattle.virtual_unwind.specs.CallerOf.{distance}
 use Rattle.host_model.specs.Funclets.{arrivals}
 use Rattle.linear_code.specs.declared.slot.Slot.TheVariants.{Temporary}
 use Rattle.linear_code.specs.declared.instruction.Instruction.{Instruction}
 use Rattle.linear_code.specs.declared.instruction.Instruction.TheVariants as instructions
-use Rattle.linear_code.specs.Program.{LinearProgram, LinearBody}
+use Rattle.linear_code.specs.Program.{LinearBody}
 use Rattle.linear_machine.specs.Frames.{body_of, SameOperation, Waits, Configuration}
 use Rattle.match_stack.specs.Stack.{StackItem}
-use Rattle.match_stack.specs.ImagePlan.{ImagePlan, InCode}
+use Rattle.match_stack.specs.ImagePlan.{InCode}
 use Rattle.match_stack.specs.ItemMatches.{Activation, locals_of}
 use Rattle.match_stack.specs.StackRecords.{On}
 use Rattle.match_stack.specs.DispatchStates.{IsWellFormed}
-use Rattle.match_bodies.specs.CodeSites.{Sites}
-use Rattle.match_bodies.specs.ProgramImages.{WorksAgain, IsMachineMemory, IsProgramImage}
-use Rattle.match_bodies.specs.Bodies.{InBody}
+use Rattle.match_bodies.specs.ProgramImages.{WorksAgain}
 use Rattle.match_bodies.proofs.TemplateSizes.{address_next}
 use Rattle.match_bodies.proofs.BodyResumption.{waits_in_body, all_front}
 use Rattle.match_bodies.specs.ConfigurationFacts.{IsWellMade}
 use Rattle.match_bodies.proofs.TemplateRuns.{get_or_is}
 use Rattle.match_bodies.proofs.StepNeeds.{label_in, body_there}
-use Rattle.match_turns.specs.DispatchOutcome.{WorksOn}
 use Rattle.match_turns.proofs.OperationCode.{some_finish, whole_size, silent_within}
 use Rattle.template_code.specs.Template.{template_size}
+use Rattle.match_bodies.specs.Setting.{Setting, InBody, IsMachineMemory}
+use Rattle.match_turns.specs.SettingOutcome.{WorksOn}
 
-module _ (t : Functions) (fs : List Funclet) (program : LinearProgram) (p : ImagePlan) (q : Sites)
-    (image : IsProgramImage t fs program p q) (made : IsWellMade program p)
+module _ (setting : Setting) (made : IsWellMade setting.program setting.plan)
     (s : State) (saved : Cpu) (is : List StackItem) (acts : List Activation) (c : Configuration)
-    (on : On t fs program p s.memory (context_of saved) is (Waits c.frame ∷ c.below) acts)
+    (on : On setting.functions setting.funclets setting.program setting.plan s.memory
+    (context_of saved) is (Waits c.frame ∷ c.below) acts)
     (well_formed : IsWellFormed (record { cpu = saved; memory = s.memory }))
-    (resumes : p.resumes SameOperation c.frame saved ≡ true)
-    (memory : IsMachineMemory t fs program p q s.memory c.store.memory)
+    (resumes : setting.plan.resumes SameOperation c.frame saved ≡ true)
+    (memory : IsMachineMemory setting s.memory c.store.memory)
     (store : c.store.activations ≡ locals_of acts) where
+  open setting use {functions as t, funclets as fs, program, plan as p, sites as q, image}
+
   again : WorksAgain t fs program p q c.frame saved
   again = (image.resumptions SameOperation c.frame saved).said resumes
 
@@ -71,13 +71,13 @@ module _ (t : Functions) (fs : List Funclet) (program : LinearProgram) (p : Imag
   abbrev u : State
   u = record { cpu = saved; memory = s.memory }
 
-  in_body : InBody t fs program p q u c
+  in_body : InBody setting u c
   in_body =
-      subst (λ (xs : List (List ℕ)). InBody t fs program p q u
+      subst (λ (xs : List (List ℕ)). InBody setting u
       (record c { store = record { memory = c.store.memory; activations = xs } })) (sym store)
       (waits_in_body t fs program p q image u (context_of saved) is c.frame c.below acts
       c.frame.next c.frame.temporaries c.frame.landed c.store.memory c.events on refl inside
       well_formed.rip_small (all_front s.memory c.frame.temporaries))
 
-  pub works_on : WorksOn t fs program p q u c
+  pub works_on : WorksOn setting u c
   works_on = record { again = again; well_formed = well_formed; memory = memory; body = in_body }

@@ -9,9 +9,7 @@ use Rattle.x64_machine.specs.declared.outcome.Stop.TheVariants as stops
 use Rattle.x64_machine.specs.Contexts.{context_of}
 use Rattle.x64_machine.specs.Effect.{State, step}
 use Rattle.virtual_unwind.specs.Contexts.{rsp}
-use Rattle.virtual_unwind.specs.CallerOf.{Functions}
 use Rattle.seh_records.specs.Laws.{AllSmall}
-use Rattle.host_model.specs.declared.funclet.Funclet.{Funclet}
 use Rattle.host_model.specs.Funclets.{arrived}
 use Rattle.host_model.specs.Dispatch.{write_number, parameters, raised}
 use Rattle.c_operations.specs.Performed.{Raises}
@@ -24,14 +22,12 @@ use Rattle.linear_code.specs.declared.slot.Slot.TheVariants.{Temporary}
 use Rattle.linear_code.specs.declared.instruction.Instruction.{Instruction}
 use Rattle.linear_code.specs.declared.instruction.Instruction.TheVariants as instructions
 use Rattle.template_code.specs.declared.layout.Layout.{Layout}
-use Rattle.linear_code.specs.Program.{LinearProgram}
 use Rattle.linear_machine.specs.Frames.{SameOperation, Configuration, Next}
 use Rattle.linear_machine.specs.Searching.{raise}
 use Rattle.linear_machine.specs.Instructions.{act}
 use Rattle.linear_machine.specs.Run.{exec}
 use Rattle.template_code.specs.Slots.{operands_code, finish_code}
 use Rattle.x64_templates.specs.Runs.{Finished}
-use Rattle.match_stack.specs.ImagePlan.{ImagePlan}
 use Rattle.match_stack.specs.ListLaws.{KeepsAbove}
 use Rattle.lowering_invariants.specs.SmallNumbers.{IsSmallAccess}
 use Rattle.lowering_invariants.proofs.Results.{IsSmallOutcome, outcome_small}
@@ -42,14 +38,11 @@ use Rattle.match_runs.specs.Matched.{IsMatched}
 use Rattle.match_runs.proofs.Turns.{comes_nowhere}
 use Rattle.match_bodies.specs.Callers.{callers}
 use Rattle.match_bodies.proofs.StackWalks.{on_stack}
-use Rattle.match_bodies.specs.CodeSites.{Sites}
-use Rattle.match_bodies.specs.ProgramImages.{IsResumed, IsProgramImage}
 use Rattle.match_bodies.specs.Bodies.{turns_left}
 use Rattle.match_bodies.specs.ConfigurationFacts.{IsWellMade, IsKnown, KnownNext}
 use Rattle.match_bodies.specs.BodyViews.{seen_by_templates}
 use Rattle.match_bodies.proofs.BodyViews.{is_machine}
 use Rattle.match_turns.specs.FuncletEntry.{FlagsFit}
-use Rattle.match_turns.specs.DispatchOutcome.{WorksOn, Represents, Shows}
 use Rattle.match_turns.proofs.DispatchStart.{raised_as}
 use Rattle.match_turns.proofs.HostRequest.{Asks, asks_host}
 use Rattle.match_turns.proofs.HostTurns.{fault_turns, raised_keeps, matched_when_shown}
@@ -57,6 +50,8 @@ use Rattle.match_turns.specs.OperationOutcome.{ComesTo}
 use Rattle.match_turns.proofs.OperationMeaning.{acts_as}
 use Rattle.match_turns.proofs.OperationCode.{some_finish, is_some}
 use Rattle.match_turns.proofs.OperationInProgress.{there, frame_here, slots_now, first_small, second_small, code_here, outcome, made_here, same_outcome}
+use Rattle.match_bodies.specs.Setting.{Setting, IsResumed}
+use Rattle.match_turns.specs.SettingOutcome.{Represents, Shows, WorksOn}
 
 -- ---- what a fault raises
 
@@ -90,11 +85,12 @@ is_exception code access h = record {
   access_small = parameters_small access h.1;
 }
 
-module _ (t : Functions) (fs : List Funclet) (program : LinearProgram) (p : ImagePlan) (q : Sites)
-    (image : IsProgramImage t fs program p q) (made : IsWellMade program p)
-    (fits : FlagsFit program)
-    (s : State) (c : Configuration) (w : WorksOn t fs program p q s c) (known : IsKnown program c)
+module _ (setting : Setting) (made : IsWellMade setting.program setting.plan)
+    (fits : FlagsFit setting.program)
+    (s : State) (c : Configuration) (w : WorksOn setting s c) (known : IsKnown setting.program c)
   where
+    open setting use {functions as t, funclets as fs, program, plan as p, sites as q, image}
+
     abbrev to : Slot
     to = w.again.to
 
@@ -120,12 +116,12 @@ module _ (t : Functions) (fs : List Funclet) (program : LinearProgram) (p : Imag
     finish = finish_code y o to
 
     -- RIP is at a machine instruction of the body's instruction
-    resumed : IsResumed t fs program p q c.frame.body w.body.slots.code c.frame.next s.cpu.rip
+    resumed : IsResumed setting c.frame.body w.body.slots.code c.frame.next s.cpu.rip
     resumed =
         let x = is_some finish (some_finish y o to) in
         record {
           instruction = i;
-          there = there t fs program p q image made s c w known;
+          there = there setting made s c w known;
           continues = λ h. h;
           done = ops;
           item = x.item;
@@ -137,51 +133,49 @@ module _ (t : Functions) (fs : List Funclet) (program : LinearProgram) (p : Imag
     untouched : KeepsAbove s.memory s.memory.byte (rsp (context_of s.cpu))
     untouched = record { above = λ x le. refl; code = λ x e. refl }
 
-    asks : Asks t fs program p q image s.cpu s.cpu s.memory s.memory.byte c w.body.acts
-    asks = asks_host t fs program p q image s.cpu s.cpu s.memory s.memory.byte c c.frame.next
-        c.store.memory w.body resumed w.memory.code untouched w.memory w.well_formed w.well_formed
+    asks : Asks setting s.cpu s.cpu s.memory s.memory.byte c w.body.acts
+    asks = asks_host setting s.cpu s.cpu s.memory s.memory.byte c c.frame.next c.store.memory w.body
+        resumed w.memory.code untouched w.memory w.well_formed w.well_formed
 
     live : IsLive s
-    live = let l = (code_here t fs program p q image made s c w known).placed.low in
+    live = let l = (code_here setting made s c w known).placed.low in
         ne_eqb s.cpu.rip 0 (λ e. absurd (omega arith))
 
     module _ (code : Code) (access : Option (Bool × ℕ))
         (raises : ComesTo program c o first second (Raises code access)) where
-      is_raised : outcome t fs program p q image made s c w known ≡ Raises code access
-      is_raised = same_outcome t fs program p q image made s c w known (Raises code access) raises
+      is_raised : outcome setting made s c w known ≡ Raises code access
+      is_raised = same_outcome setting made s c w known (Raises code access) raises
 
       faults : step s ≡ Err (stops.Fault code access)
       faults =
           ap step (is_machine s w.well_formed.count)
-          ∙ subst (λ x. Finished (frame_here t fs program p q image made s c w known) o to
-          (seen_by_templates s) s.cpu.rip s.cpu.flags
-          (slots_now t fs program p q image made s c w known) x) is_raised
-          (made_here t fs program p q image made s c w known)
+          ∙ subst (λ x. Finished (frame_here setting made s c w known) o to (seen_by_templates s)
+          s.cpu.rip s.cpu.flags (slots_now setting made s c w known) x) is_raised
+          (made_here setting made s c w known)
 
       small : IsSmallOutcome (Raises code access)
       small =
           subst IsSmallOutcome is_raised
           (outcome_small (is_reserved program.globals) o _ _ c.store.memory
-          (first_small t fs program p q image made s c w known)
-          (second_small t fs program p q image made s c w known))
+          (first_small setting made s c w known) (second_small setting made s c w known))
 
       acts : (next : Next) → act program i next c
           ≡ raise program next (exception_of code access) SameOperation c
       acts = acts_as program c to o first second (Raises code access) raises
 
       shows : HasRule (act program i (exec program zero) c)
-          → Shows t fs program p q (arrived t fs (raised t s code 0 access s.cpu))
+          → Shows setting (arrived t fs (raised t s code 0 access s.cpu))
           (raise_event (exception_of code access) ∷ [])
           (λ next. raise program next (exception_of code access) SameOperation c) c.events
           (turns_left c) (callers (context_of s.cpu) asks.is)
       shows rule =
-          raised_as t fs program p q image fits s s.cpu asks.is w.body.acts c asks.asks w.memory
-          w.body.store code 0 access (exception_of code access) SameOperation
-          (is_exception code access small) ((image.resumptions SameOperation c.frame s.cpu).says
-          w.again) (subst HasRule (acts (exec program zero)) rule)
+          raised_as setting fits s s.cpu asks.is w.body.acts c asks.asks w.memory w.body.store code
+          0 access (exception_of code access) SameOperation (is_exception code access small)
+          ((image.resumptions SameOperation c.frame s.cpu).says w.again) (subst HasRule
+          (acts (exec program zero)) rule)
 
       pub raised_at_once : HasRule (act program i (exec program zero) c) → KnownNext program c i
-          → IsMatched t fs program 7 turns_left (Represents t fs program p q) s c i
+          → IsMatched t fs program 7 turns_left (Represents setting) s c i
       raised_at_once rule next =
           matched_when_shown t fs program p q 7 0 (turns_left c) s s c i
           (arrived t fs (raised t s code 0 access s.cpu))

@@ -39,8 +39,7 @@ use Rattle.match_stack.specs.DispatchStates.{IsWellFormed, Arrives}
 use Rattle.match_runs.specs.Shadow.{AllKeep}
 use Rattle.match_runs.specs.Comes.{LeadsTo}
 use Rattle.match_bodies.specs.CodeSites.{Sites, parent_base, keep_argument}
-use Rattle.match_bodies.specs.ProgramImages.{IsMachineMemory, IsProgramImage}
-use Rattle.match_bodies.specs.Bodies.{RepresentsAt}
+use Rattle.match_bodies.specs.ProgramImages.{IsProgramImage}
 use Rattle.match_bodies.proofs.SilentTurns.{enters_silently}
 use Rattle.match_bodies.proofs.RoutineWalks.{enters_steps}
 use Rattle.match_bodies.proofs.EntryKeeping.{plain_both, kept_plain}
@@ -54,6 +53,7 @@ use Rattle.match_turns.proofs.FuncletFrame.{ArrivesBelow, arrives_below, IsPlann
 use Rattle.match_turns.proofs.FuncletConfiguration.{IsFilterOfSome, filter_of_some, is_filter, parent_locals, leads_by}
 use Rattle.match_turns.proofs.DispatchSpace.{shallow_is, HasRecordSpace, search_space}
 use Rattle.match_turns.proofs.FuncletFirstTurns.{HasEntered, entered, first_small, silent_there}
+use Rattle.match_bodies.specs.Setting.{Setting, setting_of, IsMachineMemory, RepresentsAt}
 
 same_name : (a b : BodyName) → Some a ≡ Some b → a ≡ b
 same_name a b e = cc
@@ -71,8 +71,9 @@ pub cell_number : (v : MachineView) (at x : ℕ) → at + 8 < 2 ^ 63 → x < 2 ^
 cell_number v at x high lt = stored_is_loaded v.memory.byte 8 at x (omega arith) (omega arith)
     ∙ (let q : x % 256 ^ 8 ≡ x = omega arith in q)
 
-module _ (t : Functions) (fs : List Funclet) (program : LinearProgram) (p : ImagePlan) (q : Sites)
-    (image : IsProgramImage t fs program p q) where
+module _ (setting : Setting) where
+  open setting use {functions as t, funclets as fs, program, plan as p, sites as q, image}
+
   -- the parent of a funclet, by what is known of it
   pub parent_is : (name other : BodyName) (k : ℕ) (f : LinearFunclet)
       → slice_get program.funclets k ≡ Some f
@@ -86,7 +87,7 @@ module _ (t : Functions) (fs : List Funclet) (program : LinearProgram) (p : Imag
       (a : Arrives t fs program p s k handler.activation argument
       (Searches exception resumption handler rest ∷ Waits c.frame ∷ c.below) acts)
       (points : register s.cpu Rcx ≡ register s.cpu Rsp + 88) (asked : handler.filter ≡ Some k)
-      (memory : IsMachineMemory t fs program p q s.memory c.store.memory)
+      (memory : IsMachineMemory setting s.memory c.store.memory)
       (stored : c.store.activations ≡ locals_of acts)
       (shallow : nat_lt 1000 (length c.store.activations + c.frame.held + 2) ≡ false)
       (typed : IsKnown program (begin_filter k handler rest exception resumption c)) where
@@ -102,8 +103,8 @@ module _ (t : Functions) (fs : List Funclet) (program : LinearProgram) (p : Imag
     abbrev f : LinearFunclet
     f = known.funclet.funclet
 
-    abbrev l : IsPlanned t fs program p q image k
-    l = funclet_planned t fs program p q image k f known.funclet.there
+    abbrev l : IsPlanned setting k
+    l = funclet_planned setting k f known.funclet.there
 
     abbrev y : Layout
     y = p.layout (FuncletBody k)
@@ -119,8 +120,8 @@ module _ (t : Functions) (fs : List Funclet) (program : LinearProgram) (p : Imag
         known.funclet.owner
 
     leads : LeadsBy s.memory (parent_base p f.parent) (register s.cpu Rdx) a.reaches.base
-    leads = leads_by t fs program p q image s.memory f f.parent a.name (register s.cpu Rdx)
-        a.reaches.base parent owner a.reaches.leads
+    leads = leads_by setting s.memory f f.parent a.name (register s.cpu Rdx) a.reaches.base parent
+        owner a.reaches.leads
 
     depth_is : length c.store.activations ≡ length acts
     depth_is = ap length stored ∙ locals_count acts
@@ -137,9 +138,9 @@ module _ (t : Functions) (fs : List Funclet) (program : LinearProgram) (p : Imag
     record_space = search_space t fs program p s.memory (context_below a.back a.at []) a.is
         exception resumption handler rest c.frame c.below acts (a.on []).is_there.linked
 
-    abbrev e : HasEntered t fs program p q image s k l a.reaches.base
-    e = entered t fs program p q image s k argument handler.activation items acts l w c.store.memory
-        memory (length acts + c.frame.held) record_space.space few leads
+    abbrev e : HasEntered setting s k l a.reaches.base
+    e = entered setting s k argument handler.activation items acts l w c.store.memory memory
+        (length acts + c.frame.held) record_space.space few leads
 
     -- the address of the EXCEPTION_POINTERS
     abbrev x : ℕ
@@ -159,9 +160,8 @@ module _ (t : Functions) (fs : List Funclet) (program : LinearProgram) (p : Imag
         let g = fits in
         record {
           high = omega arith;
-          writable = λ b r z. stack_writable t fs program p q image
-              s.memory e.after.memory c.store.memory e.sp (e.sp + y.frame) e.within e.low (omega arith)
-              memory b (omega arith) (omega arith);
+          writable = λ b r z. stack_writable setting s.memory e.after.memory c.store.memory e.sp
+              (e.sp + y.frame) e.within e.low (omega arith) memory b (omega arith) (omega arith);
         }
 
     abbrev last : List Instr
@@ -190,7 +190,7 @@ module _ (t : Functions) (fs : List Funclet) (program : LinearProgram) (p : Imag
 
     well_formed_here : IsWellFormed u
     well_formed_here = stays_well_formed s u (enters_keeps (e.turns + 1) s u run)
-        (let z = rip_here in let r = first_small t fs program p q image k l in omega arith) a.well_formed
+        (let z = rip_here in let r = first_small setting k l in omega arith) a.well_formed
 
     beside : Within (e.sp + y.pointers) (e.sp + y.pointers + 8) e.after.memory u.memory
     beside = let h = cell.high in within_cell e.after (e.sp + y.pointers) (e.sp + y.pointers + 8)
@@ -218,12 +218,11 @@ module _ (t : Functions) (fs : List Funclet) (program : LinearProgram) (p : Imag
         let g = fits in
         let z = cell.high in
         let same : x ≡ e.sp + y.frame + 88 = points ∙ ap (λ n. n + 88) e.sp_is in
-        word_within t fs program p q image s.memory u.memory c.store.memory e.sp (e.sp + y.frame)
-        within_here e.low (omega arith) memory (e.sp + y.pointers) (e.sp + y.frame + 88)
-        (omega arith) (omega arith) (cell_number e.after (e.sp + y.pointers) x (omega arith)
-        x_small ∙ same)
+        word_within setting s.memory u.memory c.store.memory e.sp (e.sp + y.frame) within_here e.low
+        (omega arith) memory (e.sp + y.pointers) (e.sp + y.frame + 88) (omega arith) (omega arith)
+        (cell_number e.after (e.sp + y.pointers) x (omega arith) x_small ∙ same)
 
-    frame_here : HasFrame t fs program p q image s u k argument handler.activation items acts l w
+    frame_here : HasFrame setting s u k argument handler.activation items acts l w
     frame_here = record {
       stack = subst (λ r. register s.cpu Rsp ≡ r + y.frame) (sym stack_here) e.sp_is;
       low = subst (λ r. STACK_START ≤ r) (sym stack_here) e.low;
@@ -231,7 +230,7 @@ module _ (t : Functions) (fs : List Funclet) (program : LinearProgram) (p : Imag
       number = subst (λ r. number_at u.memory.byte 8 (r + l.plan.layout.slot) ≡ a.reaches.base)
           (sym stack_here) base_here;
       distance = subst (λ d. IsActivation acts handler.activation a.reaches.base d)
-          (parent_locals t fs program p q image k f f.parent a.name known.funclet.there parent owner)
+          (parent_locals setting k f f.parent a.name known.funclet.there parent owner)
           a.reaches.activation;
       rip = rip_here;
       well_formed = well_formed_here;
@@ -246,15 +245,14 @@ module _ (t : Functions) (fs : List Funclet) (program : LinearProgram) (p : Imag
         let m = few in
         record { space = omega arith; shallow = omega arith }
 
-    represents_here : RepresentsAt t fs program p q u (begin_filter k handler rest exception resumption c)
+    represents_here : RepresentsAt setting u (begin_filter k handler rest exception resumption c)
     represents_here =
         let h = e.top in
         let z = e.sp_is in
         let n = a.stack in
-        begins t fs program p q image s u k argument handler.activation items acts l w frame_here
-        exception (c.frame.held + 2) c.store
-        (begin_filter k handler rest exception resumption c).events memory stored (omega arith)
-        some
+        begins setting s u k argument handler.activation items acts l w frame_here exception
+        (c.frame.held + 2) c.store (begin_filter k handler rest exception resumption c).events
+        memory stored (omega arith) some
         (subst (λ r. HasSpace r below_end (length acts + (c.frame.held + 2))) (sym stack_here)
         space_here)
         (kind_is, (asked, refl))
@@ -271,30 +269,29 @@ module _ (t : Functions) (fs : List Funclet) (program : LinearProgram) (p : Imag
         let small = l.plan.layout.small in
         let low' : STACK_START ≤ register s.cpu Rsp = omega arith in
         let high' : w.at ≤ STACK_END = omega arith in
-        let base = base_code t fs program p q image s k handler.activation argument items acts l w
+        let base = base_code setting s k handler.activation argument items acts l w
         c.store.memory memory some low' high' (register s.cpu Rdx) a.reaches.base leads in
-        let whole = arguments_are t fs program p q image s k handler.activation argument items acts
+        let whole = arguments_are setting s k handler.activation argument items acts
         l w c.store.memory memory some low' high' (register s.cpu Rdx) a.reaches.base leads in
-        let plain = base_is_plain t fs program p q image s k handler.activation argument items acts
+        let plain = base_is_plain setting s k handler.activation argument items acts
         l w c.store.memory memory some low' high' (register s.cpu Rdx) a.reaches.base leads in
         let count : e.turns + 1 ≡ 1 + length (base ++ last) = omega
         (arith, e.exact, length-append base last) in
         let parts = whole ∙ ap (λ x. base ++ keep_argument y x) kind_is
         ∙ sym (append-nil (base ++ last)) in
-        (funclet_ran t fs program p q image s k handler.activation argument items acts l w
-        c.store.memory memory some low' high' (register s.cpu Rdx) a.reaches.base leads
-        (e.turns + 1) u (base ++ last) [] parts count (enters_steps (e.turns + 1) s u run)
-        (plain_both y.frame 8 base last plain
+        (funclet_ran setting s k handler.activation argument items acts l w c.store.memory memory
+        some low' high' (register s.cpu Rdx) a.reaches.base leads (e.turns + 1) u (base ++ last) []
+        parts count (enters_steps (e.turns + 1) s u run) (plain_both y.frame 8 base last plain
         (kept_plain y.frame 8 Rcx y.pointers (let g = fits in omega arith) (inl fits), tt))).keeps
 
-    pub filter_leads : LeadsTo t fs entry_turns (RepresentsAt t fs program p q) s
+    pub filter_leads : LeadsTo t fs entry_turns (RepresentsAt setting) s
         (begin_filter k handler rest exception resumption c)
     filter_leads = record {
       turns = e.turns + 1;
       few = (let z = e.few in omega arith);
       state = u;
       comes = enters_silently t fs program p q image (e.turns + 1) s u run keeps_shadow memory.code
-          (silent_there t fs program p q image k l u rip_here some);
+          (silent_there setting k l u rip_here some);
       is_there = represents_here;
     }
 
@@ -302,5 +299,6 @@ pub filters_begin : (t : Functions) (fs : List Funclet) (program : LinearProgram
     (q : Sites) → IsProgramImage t fs program p q → FiltersBegin t fs program p q
 filters_begin t fs program p q image s k argument handler rest exception resumption c acts a points
     asked memory stored shallow typed =
-    filter_leads t fs program p q image s k argument handler rest exception resumption c acts a
+    filter_leads (setting_of t fs program p q image) s k argument handler rest exception resumption
+    c acts a
     points asked memory stored shallow typed

@@ -1,16 +1,14 @@
 -- A filter reads a field of its exception.
-use Rattle.std.proofs.Common.{◌≡◌, ◌+◌, ◌<◌, ◌≤◌, List, length, Some, None, refl, ap, subst, arith}
+use Rattle.std.proofs.Common.{◌≡◌, ◌+◌, ◌<◌, ◌≤◌, length, Some, None, refl, ap, subst, arith}
 use Rattle.std.specs.Prelude.{slice_get}
 use Rattle.x64_machine.specs.Effect.{State}
-use Rattle.virtual_unwind.specs.CallerOf.{Functions}
-use Rattle.host_model.specs.declared.funclet.Funclet.{Funclet}
 use Rattle.c_operations.specs.declared.field.Field.{Field}
 use Rattle.source_meaning.specs.Expressions.{field_of}
 use Rattle.linear_code.specs.declared.slot.Slot.{Slot}
 use Rattle.linear_code.specs.declared.slot.Slot.TheVariants.{Local, Temporary}
 use Rattle.linear_code.specs.declared.instruction.Instruction.TheVariants as instructions
 use Rattle.linear_code.specs.BodyState.{BodyState, with_slot}
-use Rattle.linear_code.specs.Program.{LinearProgram, LinearBody}
+use Rattle.linear_code.specs.Program.{LinearBody}
 use Rattle.linear_machine.specs.Frames as linear
 use Rattle.linear_machine.specs.Frames.{FuncletBody, Configuration, Next}
 use Rattle.linear_machine.specs.Instructions.{act}
@@ -23,14 +21,11 @@ use Rattle.x64_templates.specs.Straight.{machine}
 use Rattle.x64_templates.specs.Runs.{ReachesBody}
 use Rattle.x64_templates.specs.Exceptions.{IsField}
 use Rattle.x64_templates.proofs.Information.{information_run}
-use Rattle.match_stack.specs.ImagePlan.{ImagePlan}
 use Rattle.match_runs.specs.Matched.{Moves}
 use Rattle.lowering_invariants.specs.Room.{HaveRoom}
 use Rattle.lowering_invariants.specs.Ready.{IsNextSlot}
 use Rattle.match_bodies.specs.Layouts.{IsFuncletPlan}
-use Rattle.match_bodies.specs.CodeSites.{Sites}
-use Rattle.match_bodies.specs.ProgramImages.{IsProgramImage}
-use Rattle.match_bodies.specs.Bodies.{turns_left, RepresentsAt}
+use Rattle.match_bodies.specs.Bodies.{turns_left}
 use Rattle.match_bodies.proofs.BodyViews.{IsCounted, room_here, holds_here}
 use Rattle.match_bodies.proofs.TemplateRuns.{code, frame, slots, v, sp_is, has_slots, template_here, next_address, Surroundings}
 use Rattle.match_bodies.proofs.SlotWrites.{locals_after, temporaries_after, FitsAfter, one_more}
@@ -39,22 +34,23 @@ use Rattle.match_bodies.proofs.PlainSteps.{GoesInside, from_here, label_small, m
 use Rattle.match_bodies.proofs.ComputeStep.{stored, writes, leaves_stored}
 use Rattle.match_turns.specs.FilterInformation.{IsFilterBody}
 use Rattle.match_turns.proofs.FilterRecord.{pointers_here, reads_exception}
+use Rattle.match_bodies.specs.Setting.{Setting, RepresentsAt}
 
 information_size : (y : Layout) (to : Slot) (field : Field)
     → template_size y (instructions.Information to field) ≡ sizes (information_code y to field)
 unfolding template_size
 information_size y to field = refl
 
-module _ (t : Functions) (fs : List Funclet) (program : LinearProgram) (p : ImagePlan) (q : Sites)
-    (image : IsProgramImage t fs program p q) (roomy : HaveRoom program) (s : State)
-    (c : Configuration) (b : RepresentsAt t fs program p q s c)
-    (counted : IsCounted t fs program p q image c)
-    (around : Surroundings t fs program p q image roomy s c b counted) where
+module _ (setting : Setting) (roomy : HaveRoom setting.program) (s : State)
+    (c : Configuration) (b : RepresentsAt setting s c) (counted : IsCounted setting c)
+    (around : Surroundings setting roomy s c b counted) where
+  open setting use {functions as t, funclets as fs, program, plan as p, sites as q, image}
+
   abbrev body : LinearBody
-  body = code t fs program p q image roomy s c b counted
+  body = code setting roomy s c b counted
 
   abbrev now : BodyState
-  now = slots t fs program p q image roomy s c b counted
+  now = slots setting roomy s c b counted
 
   fits_next : (to : Slot) → IsNextSlot (length c.frame.temporaries) to
       → FitsAfter c.frame.temporaries to
@@ -78,52 +74,50 @@ module _ (t : Functions) (fs : List Funclet) (program : LinearProgram) (p : Imag
       → slice_get body.code c.frame.next ≡ Some (instructions.Information to field)
       → length c.frame.temporaries ≤ body.temporaries → IsNextSlot (length c.frame.temporaries) to
       → IsFilterBody program c.frame.body → IsField field
-      → GoesInside t fs program p q image roomy s c b counted around
-      (instructions.Information to field) → Moves t fs program 16 turns_left
-      (RepresentsAt t fs program p q) s c (instructions.Information to field)
+      → GoesInside setting roomy s c b counted around (instructions.Information to field)
+      → Moves t fs program 16 turns_left (RepresentsAt setting) s c
+      (instructions.Information to field)
   information_step to field free e held next filter is inside =
       let y = p.layout c.frame.body in
       let value = field_of field c.frame.exception in
-      let there = has_slots t fs program p q image roomy s c b counted
+      let there = has_slots setting roomy s c b counted
       (instructions.Information to field) e in
       let fits = fits_next to next in
       let acts : (next : Next) → act program (instructions.Information to field) next c
-      ≡ next (stored t fs program p q image roomy s c b counted around to value c.store.memory) =
-      writes t fs program p q image roomy s c b counted around to value c.store.memory fits in
-      let lt = inside (stored t fs program p q image roomy s c b counted around to value
-      c.store.memory) acts body b.body.slots.body in
-      let at = next_address t fs program p q image roomy s c b counted
+      ≡ next (stored setting roomy s c b counted around to value c.store.memory) =
+      writes setting roomy s c b counted around to value c.store.memory fits in
+      let lt = inside (stored setting roomy s c b counted around to value c.store.memory) acts body
+      b.body.slots.body in
+      let at = next_address setting roomy s c b counted
       (instructions.Information to field) e in
-      let small = label_small t fs program p q image roomy s c b counted around (c.frame.next + 1)
+      let small = label_small setting roomy s c b counted around (c.frame.next + 1)
       lt in
       let reads = reads_exception t fs program p q s c b field filter is in
       let near = pointers_near filter in
-      let run = information_run (frame t fs program p q image roomy s c b counted) to field
-      (v t fs program p q image roomy s c b counted) s.cpu.rip s.cpu.flags now value
-      (room_here t fs program p q image s c b counted) there is (omega arith)
-      (sp_is t fs program p q image roomy s c b counted)
-      (holds_here t fs program p q image s c b counted)
-      reads.small reads.has (template_here t fs program p q image roomy s c b counted
-      (instructions.Information to field) e) in
+      let run = information_run (frame setting roomy s c b counted) to field
+      (v setting roomy s c b counted) s.cpu.rip s.cpu.flags now value
+      (room_here setting s c b counted) there is (omega arith) (sp_is setting roomy s c b counted)
+      (holds_here setting s c b counted) reads.small reads.has
+      (template_here setting roomy s c b counted (instructions.Information to field) e) in
       let len = keep_length y to in
       let more = one_more c.frame.temporaries to value fits in
       let size = information_size y to field in
-      moves_to t fs program p q image roomy s c b counted around (instructions.Information to field)
+      moves_to setting roomy s c b counted around (instructions.Information to field)
       (length (information_code y to field)) (c.frame.next + 1)
       (s.cpu.rip + sizes (information_code y to field))
       (record { slots = with_slot now.slots to value; memory = c.store.memory })
       (locals_after (linear.locals_of c.store c.frame.activation) to value)
       (temporaries_after c.frame.temporaries to value) c.frame.landed
-      (from_here t fs program p q image roomy s c b counted around
-      (length (information_code y to field)) (s.cpu.rip + sizes (information_code y to field))
-      (record { slots = with_slot now.slots to value; memory = c.store.memory })
-      (subst (λ x. ReachesBody (frame t fs program p q image roomy s c b counted)
-      (length (information_code y to field))
-      (machine (v t fs program p q image roomy s c b counted) s.cpu.rip s.cpu.flags)
+      (from_here setting roomy s c b counted around (length (information_code y to field))
       (s.cpu.rip + sizes (information_code y to field))
-      (v t fs program p q image roomy s c b counted).rest
+      (record { slots = with_slot now.slots to value; memory = c.store.memory })
+      (subst (λ x. ReachesBody (frame setting roomy s c b counted)
+      (length (information_code y to field))
+      (machine (v setting roomy s c b counted) s.cpu.rip s.cpu.flags)
+      (s.cpu.rip + sizes (information_code y to field))
+      (v setting roomy s c b counted).rest
       (record { slots = with_slot now.slots to x; memory = c.store.memory })) reads.fits run))
-      (omega arith) lt (omega arith) (leaves_stored t fs program p q image roomy s c b counted
-      around to value c.store.memory held fits there) free
-      (information_keeps t fs program p q image roomy s c b counted to field e is (omega arith))
-      acts (omega arith) (omega arith)
+      (omega arith) lt (omega arith) (leaves_stored setting roomy s c b counted around to value
+      c.store.memory held fits there) free
+      (information_keeps setting roomy s c b counted to field e is (omega arith)) acts (omega arith)
+      (omega arith)

@@ -9,14 +9,13 @@ use Rattle.x64_instr.specs.declared.register.Reg.TheVariants.{Rdx, Rsp}
 use Rattle.x64_instr.specs.declared.instruction.Instr.TheVariants as instrs
 use Rattle.x64_machine.specs.Contexts.{context_of}
 use Rattle.x64_machine.specs.Effect.{State, register}
-use Rattle.virtual_unwind.specs.CallerOf.{Functions, distance}
+use Rattle.virtual_unwind.specs.CallerOf.{distance}
 use Rattle.virtual_unwind.specs.Undone.{word}
-use Rattle.host_model.specs.declared.funclet.Funclet.{Funclet}
 use Rattle.host_model.specs.Funclets.{by_kind, arrivals}
 use Rattle.source_meaning.specs.Expressions.{of_test}
 use Rattle.linear_code.specs.declared.instruction.Instruction.TheVariants as instructions
 use Rattle.linear_code.specs.declared.program.FuncletKind.TheVariants as funclets
-use Rattle.linear_code.specs.Program.{LinearProgram, LinearBody}
+use Rattle.linear_code.specs.Program.{LinearBody}
 use Rattle.linear_machine.specs.Frames.{BodyName, FuncletBody, body_of, funclet_body, Waits, Configuration}
 use Rattle.linear_machine.specs.Run.{instruction_in}
 use Rattle.template_code.specs.declared.layout.Layout.{Layout}
@@ -29,7 +28,7 @@ use Rattle.x64_templates.specs.Runs.{Reaches}
 use Rattle.x64_templates.proofs.Unwinds.{with_two, FinallyCalled, finally_begins}
 use Rattle.x64_templates.proofs.Entries.{pushed_back}
 use Rattle.match_stack.specs.WalkLaws.{context_below}
-use Rattle.match_stack.specs.ImagePlan.{ImagePlan, InCode, by_parent, parent_body, IsFunclet}
+use Rattle.match_stack.specs.ImagePlan.{InCode, by_parent, parent_body, IsFunclet}
 use Rattle.match_stack.specs.ItemMatches as linked
 use Rattle.match_stack.specs.ItemMatches.{HasActivation, return_of, ReturnsTo}
 use Rattle.match_stack.specs.ListLaws.{KeepsAbove}
@@ -42,9 +41,8 @@ use Rattle.match_runs.specs.Comes.{Comes}
 use Rattle.lowering_invariants.specs.ReturnRegions.{AllReturnsStayInRegions}
 use Rattle.lowering_invariants.specs.Bodies.{IsFinallyKind, parent_of, IsFuncletOf}
 use Rattle.lowering_invariants.specs.Room.{HaveRoom}
-use Rattle.match_bodies.specs.CodeSites.{Sites}
-use Rattle.match_bodies.specs.Bodies.{slots_end, InBody, RepresentsAt}
-use Rattle.match_bodies.specs.ProgramImages.{IsMachineMemory, IsResumed, is_finally, IsProgramImage}
+use Rattle.match_bodies.specs.Bodies.{slots_end}
+use Rattle.match_bodies.specs.ProgramImages.{is_finally}
 use Rattle.match_bodies.proofs.TemplateSizes.{first_in_code}
 use Rattle.match_bodies.proofs.StackContexts.{on_moved}
 use Rattle.match_bodies.proofs.SilentTurns.{reaches_comes}
@@ -62,16 +60,18 @@ use Rattle.match_turns.proofs.FuncletFrame.{ArrivesBelow}
 use Rattle.match_turns.proofs.CallRegions.{apart_same}
 use Rattle.match_turns.proofs.DispatchMemory.{memory_untouched}
 use Rattle.match_turns.proofs.ReturnAddressPush as pushing
+use Rattle.match_bodies.specs.Setting.{Setting, InBody, IsMachineMemory, IsResumed, RepresentsAt}
 
 same_parents : (function : ℕ) (o : Option ℕ) → by_parent function o ≡ parent_of function o
 same_parents function None = refl
 same_parents function (Some j) = refl
 
-module _ (t : Functions) (fs : List Funclet) (program : LinearProgram) (p : ImagePlan) (q : Sites)
-    (image : IsProgramImage t fs program p q) (roomy : HaveRoom program)
-    (apart : AllReturnsStayInRegions program) where
-  module _ (s : State) (c : Configuration) (b : RepresentsAt t fs program p q s c)
-      (counted : IsCounted t fs program p q image c) (k flag : ℕ)
+module _ (setting : Setting) (roomy : HaveRoom setting.program)
+    (apart : AllReturnsStayInRegions setting.program) where
+  open setting use {functions as t, funclets as fs, program, plan as p, sites as q, image}
+
+  module _ (s : State) (c : Configuration) (b : RepresentsAt setting s c)
+      (counted : IsCounted setting c) (k flag : ℕ)
       (at : slice_get b.body.slots.code.code c.frame.next ≡ Some (instructions.CallFinally k))
       (separator : slice_get b.body.slots.code.code (c.frame.next + 1)
       ≡ Some instructions.Separator) (framed : p.leaf c.frame.body ≡ false)
@@ -93,19 +93,19 @@ module _ (t : Functions) (fs : List Funclet) (program : LinearProgram) (p : Imag
     back = s.cpu.rip + sizes finally_arguments + 5
 
     abbrev before : MachineView
-    before = with_two (v t fs program p q image roomy s c b counted) 0 sp
+    before = with_two (v setting roomy s c b counted) 0 sp
 
     low : STACK_START + 196568 ≤ sp
-    low = sp_low t fs program p q image s c b counted
+    low = sp_low setting s c b counted
 
     top : sp + y.frame + 8 ≤ STACK_END
-    top = frame_top t fs program p q image s c b counted
+    top = frame_top setting s c b counted
 
     -- ---- the return address is that of the next instruction
 
     back_is : back ≡ p.address name (c.frame.next + 1)
     back_is = ap (λ r. r + sizes finally_arguments + 5) b.rip
-        ∙ after_call t fs program p q image roomy apart name code c.frame.next k b.body.slots.body at
+        ∙ after_call setting roomy apart name code c.frame.next k b.body.slots.body at
 
     inside : c.frame.next + 1 < length code.code
     inside = (apart name code b.body.slots.body).within c.frame.next (instructions.CallFinally k) at
@@ -158,12 +158,11 @@ module _ (t : Functions) (fs : List Funclet) (program : LinearProgram) (p : Imag
     below_sp = pushing.below before sp back low_enough high_enough b.memory.data_alone
         b.memory.stack
 
-    pub run : FinallyCalled (v t fs program p q image roomy s c b counted) sp s.cpu.rip
-        (p.funclet k) s.cpu.flags
+    pub run : FinallyCalled (v setting roomy s c b counted) sp s.cpu.rip (p.funclet k) s.cpu.flags
     run =
-        finally_begins (v t fs program p q image roomy s c b counted) sp s.cpu.rip (p.funclet k)
-        s.cpu.flags (sp_is t fs program p q image roomy s c b counted) below_sp back_near
-        (template_here t fs program p q image roomy s c b counted (instructions.CallFinally k) at)
+        finally_begins (v setting roomy s c b counted) sp s.cpu.rip (p.funclet k) s.cpu.flags
+        (sp_is setting roomy s c b counted) below_sp back_near
+        (template_here setting roomy s c b counted (instructions.CallFinally k) at)
 
     -- at the block's first byte
     abbrev pub called : State
@@ -171,7 +170,7 @@ module _ (t : Functions) (fs : List Funclet) (program : LinearProgram) (p : Imag
 
     reaches : Reaches 3 s called
     reaches = subst (λ z. Reaches 3 z called)
-        (sym (same_state t fs program p q image roomy s c b counted)) run.comes
+        (sym (same_state setting roomy s c b counted)) run.comes
 
     shown : arrivals called.cpu (distance t.base called.cpu.rip) 1 fs
         ≡ events.Finally (k + 1) false ∷ []
@@ -185,7 +184,7 @@ module _ (t : Functions) (fs : List Funclet) (program : LinearProgram) (p : Imag
     back_next : back ≡ next
     back_next = ap (λ r. r + sizes finally_arguments + 5) b.rip
 
-    next_resumed : IsResumed t fs program p q name code (c.frame.next + 1) next
+    next_resumed : IsResumed setting name code (c.frame.next + 1) next
     next_resumed = record {
       instruction = instructions.Separator;
       there = separator;
@@ -200,15 +199,13 @@ module _ (t : Functions) (fs : List Funclet) (program : LinearProgram) (p : Imag
 
     keeps_shadow : AllKeep t fs 3 s
     keeps_shadow =
-        calls_keep t fs program p q image name code b.body.slots.body c.frame.next
-        (instructions.CallFinally k) at (λ h. h) finally_arguments [] next (p.funclet k) refl refl
+        calls_keep setting name code b.body.slots.body c.frame.next (instructions.CallFinally k) at
+        (λ h. h) finally_arguments [] next (p.funclet k) refl refl
         (subst (λ a. IsNear a (p.funclet k)) back_next back_near) (c.frame.next + 1) next_resumed
         (λ m. (image.callers (FuncletBody k) block.funclet.body target_there).entries m
         (λ e. absurd (let z : true ≡ false = sym e ∙ block_framed in cc)))
-        s called (top_of t fs program p q image s c b counted) b.body.back
-        (others_of s.cpu.registers) b.body.is b.rip
-        (begins_beneath t fs program p q image s c b counted) refl (let l = low in omega arith)
-        b.memory.code
+        s called (top_of setting s c b counted) b.body.back (others_of s.cpu.registers) b.body.is
+        b.rip (begins_beneath setting s c b counted) refl (let l = low in omega arith) b.memory.code
         ((refl, inl refl), ((refl, inl refl), tt)) (reaches_steps 3 s called reaches)
       where
         block_framed : p.leaf (FuncletBody k) ≡ false
@@ -218,7 +215,7 @@ module _ (t : Functions) (fs : List Funclet) (program : LinearProgram) (p : Imag
     comes = reaches_comes t fs program p q image 2 s called (events.Finally (k + 1) false ∷ [])
         reaches keeps_shadow b.memory.code shown
 
-    pub memory : IsMachineMemory t fs program p q called.memory c.store.memory
+    pub memory : IsMachineMemory setting called.memory c.store.memory
     memory =
         memory_untouched t fs program p q s.memory called.memory c.store.memory
         (pushing.pushed_untouched before sp back low_enough high_enough b.memory.data_alone
@@ -261,7 +258,7 @@ module _ (t : Functions) (fs : List Funclet) (program : LinearProgram) (p : Imag
       memory = s.memory;
     }
 
-    resumed : IsResumed t fs program p q name code (c.frame.next + 1) back
+    resumed : IsResumed setting name code (c.frame.next + 1) back
     resumed = record {
       instruction = instructions.Separator;
       there = separator;
@@ -274,7 +271,7 @@ module _ (t : Functions) (fs : List Funclet) (program : LinearProgram) (p : Imag
           ≡ p.address name (c.frame.next + 1) + 0 = omega arith in z);
     }
 
-    abbrev in_body : InBody t fs program p q later c
+    abbrev in_body : InBody setting later c
     in_body = record {
       acts = b.body.acts;
       store = b.body.store;

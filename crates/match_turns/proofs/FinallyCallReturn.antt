@@ -5,14 +5,13 @@ use Rattle.std.proofs.lemmas.List.{append-nil}
 use Rattle.x64_instr.specs.declared.register.Reg.TheVariants.{Rsp}
 use Rattle.x64_machine.specs.declared.context.Context.{Context}
 use Rattle.x64_machine.specs.Effect.{State, register}
-use Rattle.virtual_unwind.specs.CallerOf.{Functions, distance}
-use Rattle.host_model.specs.declared.funclet.Funclet.{Funclet}
+use Rattle.virtual_unwind.specs.CallerOf.{distance}
 use Rattle.host_model.specs.Funclets.{arrivals}
 use Rattle.linear_code.specs.declared.slot.Slot.{Slot}
 use Rattle.linear_code.specs.declared.instruction.Instruction.{Instruction}
 use Rattle.linear_code.specs.declared.instruction.Instruction.TheVariants as instructions
 use Rattle.linear_code.specs.declared.program.FuncletKind.TheVariants as funclets
-use Rattle.linear_code.specs.Program.{LinearProgram, LinearBody, LinearFunclet}
+use Rattle.linear_code.specs.Program.{LinearBody, LinearFunclet}
 use Rattle.linear_machine.specs.Frames.{BodyName, FuncletBody, body_of, Frame, Item, Waits, Configuration, Next, with_some, read, forth}
 use Rattle.linear_machine.specs.Run.{instruction_in}
 use Rattle.linear_machine.specs.Instructions.{end_finally, end_funclet, end_body, act}
@@ -27,20 +26,20 @@ use Rattle.x64_templates.specs.Runs.{Reaches}
 use Rattle.match_stack.specs.WalkLaws.{context_below}
 use Rattle.lowering_invariants.specs.ReturnRegions.{AllReturnsStayInRegions}
 use Rattle.lowering_invariants.specs.Room.{HaveRoom}
-use Rattle.match_stack.specs.ImagePlan.{ImagePlan, InCode}
+use Rattle.match_stack.specs.ImagePlan.{InCode}
 use Rattle.match_stack.specs.ItemMatches.{Activation, locals_of, activations_below, return_of, ReturnsTo}
 use Rattle.match_stack.specs.StackRecords.{On}
 use Rattle.match_stack.specs.DispatchStates.{IsWellFormed}
 use Rattle.match_runs.specs.Matched.{Moves}
-use Rattle.match_bodies.specs.CodeSites.{Sites, links_of}
-use Rattle.match_bodies.specs.Bodies.{held_below, turns_left, InBody, RepresentsAt}
-use Rattle.match_bodies.specs.ProgramImages.{IsProgramImage}
+use Rattle.match_bodies.specs.CodeSites.{links_of}
+use Rattle.match_bodies.specs.Bodies.{held_below, turns_left}
 use Rattle.match_bodies.proofs.SilentTurns.{reaches_silently}
 use Rattle.match_bodies.proofs.BodyResumption.{again, waits_in_body, all_front}
 use Rattle.match_bodies.proofs.BodyViews.{IsCounted}
 use Rattle.match_bodies.proofs.TemplateRuns.{get_or_is}
 use Rattle.match_turns.proofs.BodyReturn as leaving
 use Rattle.match_turns.proofs.BodyReturn.{returns_soon}
+use Rattle.match_bodies.specs.Setting.{Setting, InBody, RepresentsAt}
 
 -- an instruction of a body begins within it
 pub offset_most : (y : Layout) (body : List Instruction) (number : ℕ)
@@ -56,9 +55,10 @@ same_number a b e = cc
 not_landed : (landed : Option ℕ) (value : ℕ) → landed ≡ None → landed ≡ Some value → ⊥
 not_landed landed value e f = let z : ◌≡◌ {A = Option ℕ} None (Some value) = sym e ∙ f in cc
 
-module _ (t : Functions) (fs : List Funclet) (program : LinearProgram) (p : ImagePlan) (q : Sites)
-    (image : IsProgramImage t fs program p q) (roomy : HaveRoom program)
-    (apart : AllReturnsStayInRegions program) where
+module _ (setting : Setting) (roomy : HaveRoom setting.program)
+    (apart : AllReturnsStayInRegions setting.program) where
+  open setting use {functions as t, funclets as fs, program, plan as p, sites as q, image}
+
   -- where a call of a block returns to: the next instruction
   pub after_call : (name : BodyName) (o : LinearBody) (label k : ℕ) → body_of program name ≡ Some o
       → slice_get o.code label ≡ Some (instructions.CallFinally k)
@@ -89,9 +89,8 @@ module _ (t : Functions) (fs : List Funclet) (program : LinearProgram) (p : Imag
             ∷ []),
       )
 
-  module _ (s : State) (c : Configuration) (b : RepresentsAt t fs program p q s c)
-      (counted : IsCounted t fs program p q image c) (k : ℕ) (is : c.frame.body ≡ FuncletBody k)
-      (from : Slot)
+  module _ (s : State) (c : Configuration) (b : RepresentsAt setting s c)
+      (counted : IsCounted setting c) (k : ℕ) (is : c.frame.body ≡ FuncletBody k) (from : Slot)
       (at : slice_get b.body.slots.code.code c.frame.next ≡ Some (instructions.Return from)) (x : ℕ)
       (reads : read c from ≡ Some x)
       (g : LinearFunclet) (funclet : slice_get program.funclets k ≡ Some g) (flag : ℕ)
@@ -113,19 +112,19 @@ module _ (t : Functions) (fs : List Funclet) (program : LinearProgram) (p : Imag
     n = length (return_code layout from)
 
     abbrev pub after : State
-    after = leaving.after t fs program p q image roomy s c b counted from at
+    after = leaving.after setting roomy s c b counted from at
 
     has_back : HasBack s.memory (sp + layout.frame) back
-    has_back = leaving.has_back t fs program p q image roomy s c b counted from at
+    has_back = leaving.has_back setting roomy s c b counted from at
 
     reaches : Reaches n s after
-    reaches = leaving.reaches t fs program p q image roomy s c b counted from at
+    reaches = leaving.reaches setting roomy s c b counted from at
 
     sp_after : register after.cpu Rsp ≡ sp + layout.frame + 8
-    sp_after = leaving.sp_after t fs program p q image roomy s c b counted from at
+    sp_after = leaving.sp_after setting roomy s c b counted from at
 
     well_formed_after : IsWellFormed after
-    well_formed_after = leaving.well_formed_after t fs program p q image roomy s c b counted from at
+    well_formed_after = leaving.well_formed_after setting roomy s c b counted from at
 
     -- ---- the body that waits
 
@@ -176,7 +175,7 @@ module _ (t : Functions) (fs : List Funclet) (program : LinearProgram) (p : Imag
     abbrev pub next_one : Configuration
     next_one = forth (record { frame = w; below = items; store = c.store; events = c.events })
 
-    in_body : InBody t fs program p q after next_one
+    in_body : InBody setting after next_one
     in_body = subst (λ (xs : List (List ℕ)). let d : Configuration =
         record {
           frame = again w (w.next + 1) w.temporaries w.landed;
@@ -184,13 +183,12 @@ module _ (t : Functions) (fs : List Funclet) (program : LinearProgram) (p : Imag
           store = record { memory = c.store.memory; activations = xs };
           events = c.events;
         } in
-        InBody t fs program p q after d)
-        (ap locals_of outer_is ∙ sym b.body.store)
+        InBody setting after d) (ap locals_of outer_is ∙ sym b.body.store)
         (waits_in_body t fs program p q image after above b.body.is w items outer (w.next + 1)
         w.temporaries w.landed c.store.memory c.events on sp_after back_code has_back.small
         (all_front s.memory w.temporaries))
 
-    begins : RepresentsAt t fs program p q after next_one
+    begins : RepresentsAt setting after next_one
     begins = record {
       rip = back_is;
       well_formed = well_formed_after;
@@ -214,7 +212,7 @@ module _ (t : Functions) (fs : List Funclet) (program : LinearProgram) (p : Imag
         ∙ ap (λ z. end_funclet program next z x c) kind
         ∙ ap (λ ws. end_finally program next ws c.events c.store) below
 
-    pub return_of_block : Moves t fs program 16 turns_left (RepresentsAt t fs program p q) s c
+    pub return_of_block : Moves t fs program 16 turns_left (RepresentsAt setting) s c
         (instructions.Return from)
     return_of_block =
         let few = (returns_soon layout from).1 in
@@ -229,7 +227,7 @@ module _ (t : Functions) (fs : List Funclet) (program : LinearProgram) (p : Imag
           state = after;
           events = [];
           comes = reaches_silently t fs program p q image n s after reaches
-              (leaving.keeps t fs program p q image roomy s c b counted from at) b.memory.code silent;
+              (leaving.keeps setting roomy s c b counted from at) b.memory.code silent;
           acts = acts_as;
           shown = sym (append-nil c.events);
           is_there = begins;

@@ -1,28 +1,23 @@
 -- The call of a `__finally` block, by what is known of the configuration.
-use Rattle.std.proofs.Common.{◌≡◌, ℕ, ◌+◌, Bool, true, false, Some, List, [], ◌∷◌, ◌++◌, length, refl, ap, ◌∙◌, arith, inl, inr}
+use Rattle.std.proofs.Common.{◌≡◌, ℕ, ◌+◌, Bool, true, false, Some, [], ◌∷◌, ◌++◌, length, refl, ap, ◌∙◌, arith, inl, inr}
 use Rattle.std.specs.Prelude.{nat_lt, slice_get}
 use Rattle.seh_num.specs.declared.event.Event.TheVariants as events
 use Rattle.x64_machine.specs.Effect.{State}
-use Rattle.virtual_unwind.specs.CallerOf.{Functions}
-use Rattle.host_model.specs.declared.funclet.Funclet.{Funclet}
 use Rattle.source_meaning.specs.declared.ended.Ended.TheVariants.{Deep}
 use Rattle.linear_code.specs.declared.instruction.Instruction.{Instruction}
 use Rattle.linear_code.specs.declared.instruction.Instruction.TheVariants as instructions
 use Rattle.linear_code.specs.declared.program.FuncletKind.{FuncletKind}
 use Rattle.linear_code.specs.declared.program.FuncletKind.TheVariants as funclets
-use Rattle.linear_code.specs.Program.{LinearProgram, LinearBody}
+use Rattle.linear_code.specs.Program.{LinearBody}
 use Rattle.linear_machine.specs.Frames.{Waits, Configuration, Finished, Next, pick, with_some, deeper}
 use Rattle.linear_machine.specs.Instructions.{act}
 use Rattle.linear_machine.specs.Run.{instruction_at}
 use Rattle.linear_machine.specs.Unwinding.{flag_of, begin_finally}
-use Rattle.match_stack.specs.ImagePlan.{ImagePlan}
 use Rattle.match_runs.specs.Matched.{IsMatched}
 use Rattle.match_runs.specs.Comes.{LeadsTo}
 use Rattle.match_runs.proofs.Matches.{silently_after, fails_at_once}
 use Rattle.lowering_invariants.specs.Bodies.{IsFinallyKind, IsInstructionOf, IsFuncletOf}
-use Rattle.match_bodies.specs.CodeSites.{Sites}
-use Rattle.match_bodies.specs.Bodies.{turns_left, RepresentsAt}
-use Rattle.match_bodies.specs.ProgramImages.{IsProgramImage}
+use Rattle.match_bodies.specs.Bodies.{turns_left}
 use Rattle.match_bodies.specs.ConfigurationFacts.{IsWellMade, IsKnown, KnownNext}
 use Rattle.match_bodies.specs.StepLaws.{turns_per_step}
 use Rattle.match_bodies.proofs.ActivationPlaces.{locals_count}
@@ -33,6 +28,7 @@ use Rattle.match_turns.proofs.FinallyEntry.{block_leads}
 use Rattle.match_turns.proofs.DispatchSpace.{shallow_is}
 use Rattle.match_turns.specs.BlockLaws.{BlockCallsAreMatched}
 use Rattle.match_turns.proofs.FinallyCall as calling
+use Rattle.match_bodies.specs.Setting.{Setting, setting_of, RepresentsAt}
 
 -- a `__finally` block has a flag
 pub flag_there : (kind : FuncletKind) → IsFinallyKind kind
@@ -40,10 +36,11 @@ pub flag_there : (kind : FuncletKind) → IsFinallyKind kind
 flag_there funclets.Filter h = absurd h
 flag_there (funclets.Finally flag) h = (flag, refl)
 
-module _ (t : Functions) (fs : List Funclet) (program : LinearProgram) (p : ImagePlan) (q : Sites)
-    (image : IsProgramImage t fs program p q) (made : IsWellMade program p)
-    (fits : FlagsFit program) (separators : SeparatorsFollow program) where
-  module _ (s : State) (c : Configuration) (k : ℕ) (b : RepresentsAt t fs program p q s c)
+module _ (setting : Setting) (made : IsWellMade setting.program setting.plan)
+    (fits : FlagsFit setting.program) (separators : SeparatorsFollow setting.program) where
+  open setting use {functions as t, funclets as fs, program, plan as p}
+
+  module _ (s : State) (c : Configuration) (k : ℕ) (b : RepresentsAt setting s c)
       (known : IsKnown program c) (at : instruction_at program c
       ≡ Some (instructions.CallFinally k)) (after : KnownNext program c
       (instructions.CallFinally k)) where
@@ -54,7 +51,7 @@ module _ (t : Functions) (fs : List Funclet) (program : LinearProgram) (p : Imag
     body = b.body.slots.code
 
     abbrev here : slice_get body.code c.frame.next ≡ Some i
-    here = code_at t fs program p q image made s c b known i at
+    here = code_at setting made s c b known i at
 
     abbrev separator : slice_get body.code (c.frame.next + 1) ≡ Some instructions.Separator
     separator = separators c.frame.body body c.frame.next k b.body.slots.body here
@@ -89,7 +86,7 @@ module _ (t : Functions) (fs : List Funclet) (program : LinearProgram) (p : Imag
         (next (begin_finally k flag false c.frame.held (Waits c.frame ∷ c.below) c)))) flag_is
 
     abbrev Goal : Type 0
-    Goal = IsMatched t fs program turns_per_step turns_left (RepresentsAt t fs program p q) s c i
+    Goal = IsMatched t fs program turns_per_step turns_left (RepresentsAt setting) s c i
 
     abbrev deep : Bool
     deep = nat_lt 1000 (length c.store.activations + c.frame.held + 2)
@@ -102,26 +99,26 @@ module _ (t : Functions) (fs : List Funclet) (program : LinearProgram) (p : Imag
     moves : deep ≡ false → Goal
     unfolding pick
     moves e =
-        let counted = counted_here t fs program p q image made c known in
+        let counted = counted_here setting made c known in
         let goes = λ (next : Next). acts_as next
         ∙ ap (λ x. pick x (Finished (Deep 1001) c.events) (next next_one)) e in
         let depth : length c.store.activations ≡ length b.body.acts = ap length b.body.store
         ∙ locals_count b.body.acts in
         let few = shallow_is (length c.store.activations + c.frame.held + 2) e in
         let space = b.body.slots.space.space in
-        let place = calling.arrives_at t fs program p q image made.room made.apart s c b counted k
+        let place = calling.arrives_at setting made.room made.apart s c b counted k
         flagged.0 here separator framed block flagged.1 in
-        let u = calling.called t fs program p q image made.room made.apart s c b counted k flagged.0
+        let u = calling.called setting made.room made.apart s c b counted k flagged.0
         here separator framed block flagged.1 in
-        let leads : LeadsTo t fs entry_turns (RepresentsAt t fs program p q) u next_one =
-        block_leads t fs program p q image u k flagged.0 c.frame.activation c.frame.held false
+        let leads : LeadsTo t fs entry_turns (RepresentsAt setting) u next_one =
+        block_leads setting u k flagged.0 c.frame.activation c.frame.held false
         (Waits c.frame ∷ c.below) c.store (c.events ++ events.Finally (k + 1) false ∷ [])
         b.body.acts
-        (calling.arrives t fs program p q image made.room made.apart s c b counted k flagged.0 here
-        separator framed block flagged.1) c.frame.body block flag_is fits
-        (calling.memory t fs program p q image made.room made.apart s c b counted k flagged.0 here
-        separator framed block flagged.1) b.body.store (omega arith) (omega arith)
-        (λ m sp size. tt) (λ g kind. (flagged.0, kind)) (after next_one goes) in
+        (calling.arrives setting made.room made.apart s c b counted k flagged.0 here separator
+        framed block flagged.1) c.frame.body block flag_is fits
+        (calling.memory setting made.room made.apart s c b counted k flagged.0 here separator framed
+        block flagged.1) b.body.store (omega arith) (omega arith) (λ m sp size. tt)
+        (λ g kind. (flagged.0, kind)) (after next_one goes) in
         let most = leads.few in
         inl (record {
           turns = 3 + leads.turns;
@@ -132,8 +129,8 @@ module _ (t : Functions) (fs : List Funclet) (program : LinearProgram) (p : Imag
           events = events.Finally (k + 1) false ∷ [];
           comes = silently_after t fs 3 leads.turns s u leads.state
               (events.Finally (k + 1) false ∷ [])
-              (calling.comes t fs program p q image made.room made.apart s c b counted k flagged.0
-              here separator framed block flagged.1) leads.comes;
+              (calling.comes setting made.room made.apart s c b counted k flagged.0 here separator
+              framed block flagged.1) leads.comes;
           acts = goes;
           shown = refl;
           is_there = leads.is_there;
@@ -148,4 +145,4 @@ module _ (t : Functions) (fs : List Funclet) (program : LinearProgram) (p : Imag
 
 pub block_calls_are_matched : BlockCallsAreMatched
 block_calls_are_matched t fs program p q image made fits separators s c k b known at after = matched
-    t fs program p q image made fits separators s c k b known at after
+    (setting_of t fs program p q image) made fits separators s c k b known at after

@@ -12,14 +12,12 @@ use Rattle.flat_memory.specs.Memory.{Memory, number_at}
 use Rattle.x64_instr.specs.declared.register.Reg.TheVariants.{Rax, Rcx, Rdx, Rsp}
 use Rattle.x64_instr.specs.declared.instruction.Instr.{Instr}
 use Rattle.x64_machine.specs.Effect.{State, register}
-use Rattle.virtual_unwind.specs.CallerOf.{Functions}
-use Rattle.host_model.specs.declared.funclet.Funclet.{Funclet}
 use Rattle.source_meaning.specs.Expressions.{of_test, no_exception}
 use Rattle.linear_code.specs.declared.slot.Slot.TheVariants.{Local}
 use Rattle.linear_code.specs.declared.program.FuncletKind.{FuncletKind}
 use Rattle.linear_code.specs.declared.program.FuncletKind.TheVariants as funclets
 use Rattle.linear_code.specs.BodyState.{BodyState, with_slot}
-use Rattle.linear_code.specs.Program.{LinearProgram, LinearBody, LinearFunclet}
+use Rattle.linear_code.specs.Program.{LinearBody, LinearFunclet}
 use Rattle.linear_machine.specs.Frames as linear
 use Rattle.linear_machine.specs.Frames.{BodyName, FuncletBody, funclet_body, Item, Store, set_local, Configuration}
 use Rattle.linear_machine.specs.Unwinding.{flag_in, flag_of}
@@ -39,15 +37,13 @@ use Rattle.x64_templates.proofs.FuncletEntries.{flag_run}
 use Rattle.x64_templates.proofs.FilterEntries.{Within}
 use Rattle.lowering_invariants.specs.Bodies.{IsFinallyKind, parent_of, function_of, owner_of, IsFuncletOf}
 use Rattle.lowering_invariants.specs.Activations.{owners_of}
-use Rattle.match_stack.specs.ImagePlan.{ImagePlan, by_parent}
+use Rattle.match_stack.specs.ImagePlan.{by_parent}
 use Rattle.match_stack.specs.ItemMatches.{Activation, locals_of, IsActivation, HasSpace, below_end, record_room, HasPointers, FuncletIsAbove}
 use Rattle.match_stack.specs.DispatchStates.{IsWellFormed}
 use Rattle.match_runs.specs.Shadow.{is_call, KeepsShadow, AllKeep}
 use Rattle.match_runs.proofs.Shadows.{straight, keep_first}
 use Rattle.match_runs.specs.Comes.{LeadsTo}
-use Rattle.match_bodies.specs.CodeSites.{Sites, begin_of, making_size, parent_base, keep_argument, arguments_code}
-use Rattle.match_bodies.specs.ProgramImages.{HasProgram, IsMachineMemory, IsProgramImage}
-use Rattle.match_bodies.specs.Bodies.{RepresentsAt}
+use Rattle.match_bodies.specs.CodeSites.{begin_of, making_size, parent_base, keep_argument, arguments_code}
 use Rattle.match_bodies.specs.Callers.{FindsReturn}
 use Rattle.match_bodies.proofs.InstructionEffects.{others_of}
 use Rattle.match_bodies.proofs.SilentTurns.{program_kept, enters_silently}
@@ -76,6 +72,7 @@ use Rattle.match_turns.proofs.ReturnAddressPlace.{top_of, begins_beneath}
 use Rattle.match_turns.proofs.FuncletShadow.{base_code, arguments_are, base_is_plain, funclet_ran}
 use Rattle.match_turns.proofs.FilterEntry.{has_first, parent_is}
 use Rattle.template_code.specs.declared.layout.TheConstants.{LARGEST_FRAME}
+use Rattle.match_bodies.specs.Setting.{Setting, HasProgram, IsMachineMemory, RepresentsAt}
 
 same_number : (a b : ℕ) → Some a ≡ Some b → a ≡ b
 same_number a b e = cc
@@ -120,20 +117,24 @@ block_begins k flag activation held abnormal items store events = record {
   events = events;
 }
 
-module _ (t : Functions) (fs : List Funclet) (program : LinearProgram) (p : ImagePlan) (q : Sites) (image : IsProgramImage t fs program p q) where
+module _ (setting : Setting) where
+  open setting use {functions as t, funclets as fs, program, plan as p, sites as q, image}
+
   module _ (s : State) (k flag activation held : ℕ) (abnormal : Bool) (items : List Item) (store : Store) (events : List Event) (acts : List Activation)
       (a : ArrivesBelow t fs program p s k activation (of_test abnormal) items acts) (name : BodyName) (known : IsFuncletOf program name IsFinallyKind k)
       (flagged : flag_of (slice_get program.funclets k) ≡ Some flag) (fits : FlagsFit program)
-      (memory : IsMachineMemory t fs program p q s.memory store.memory) (stored : store.activations ≡ locals_of acts)
+      (memory : IsMachineMemory setting s.memory store.memory) (stored : store.activations ≡
+      locals_of acts)
       (space : STACK_END ≤ a.at + (below_end + record_room) + LARGEST_FRAME * (length acts + held)) (few : length acts + held + 2 ≤ 1000)
       (pointers : (m : Memory) (sp size : ℕ) → HasPointers t fs program p m (p.layout (FuncletBody k)) sp size items)
-      (above : (g : LinearFunclet) → g.kind ≡ funclets.Finally flag → FuncletIsAbove t fs program p k (first_frame t fs program p q image k activation no_exception (held + 2)) (Some g) items)
+      (above : (g : LinearFunclet) → g.kind ≡ funclets.Finally flag → FuncletIsAbove t fs program p
+      k (first_frame setting k activation no_exception (held + 2)) (Some g) items)
       (typed : IsKnown program (block_begins k flag activation held abnormal items store events)) where
     abbrev f : LinearFunclet
     f = known.funclet
 
-    abbrev l : IsPlanned t fs program p q image k
-    l = funclet_planned t fs program p q image k f known.there
+    abbrev l : IsPlanned setting k
+    l = funclet_planned setting k f known.there
 
     abbrev y : Layout
     y = p.layout (FuncletBody k)
@@ -142,13 +143,14 @@ module _ (t : Functions) (fs : List Funclet) (program : LinearProgram) (p : Imag
     kind_is = kind_of_flag f.kind flag (sym (ap flag_of known.there) ∙ flagged)
 
     parent : by_parent f.function f.parent ≡ a.name
-    parent = parent_is t fs program p q image a.name a.name k f known.there a.funclet.parent
+    parent = parent_is setting a.name a.name k f known.there a.funclet.parent
 
     owner : owner_of program (parent_of f.function f.parent) ≡ Some f.function
     owner = subst (λ n. owner_of program n ≡ Some f.function) (sym known.parent) known.owner
 
     leads : LeadsBy s.memory (parent_base p f.parent) (register s.cpu Rdx) a.reaches.base
-    leads = leads_by t fs program p q image s.memory f f.parent a.name (register s.cpu Rdx) a.reaches.base parent owner a.reaches.leads
+    leads = leads_by setting s.memory f f.parent a.name (register s.cpu Rdx) a.reaches.base parent
+        owner a.reaches.leads
 
     some : 0 < length f.body.code
     some = has_first program (FuncletBody k) f.body typed.continues.instruction (ap funclet_body known.there) typed.continues.at
@@ -156,8 +158,9 @@ module _ (t : Functions) (fs : List Funclet) (program : LinearProgram) (p : Imag
     flag_fits : flag < f.body.locals
     flag_fits = fits k flag f known.there flagged
 
-    abbrev e : HasEntered t fs program p q image s k l a.reaches.base
-    e = entered t fs program p q image s k (of_test abnormal) activation items acts l a store.memory memory (length acts + held) space few leads
+    abbrev e : HasEntered setting s k l a.reaches.base
+    e = entered setting s k (of_test abnormal) activation items acts l a store.memory memory
+        (length acts + held) space few leads
 
     -- ---- the frame is before the flag is stored: as at the first instruction
 
@@ -165,7 +168,8 @@ module _ (t : Functions) (fs : List Funclet) (program : LinearProgram) (p : Imag
     s1 = machine e.after (p.address (FuncletBody k) 0) e.flags
 
     abbrev c1 : Configuration
-    c1 = beginning t fs program p q image (first_frame t fs program p q image k activation no_exception (held + 2)) items store events
+    c1 = beginning setting (first_frame setting k activation no_exception (held + 2)) items store
+        events
 
     stack_1 : register s1.cpu Rsp ≡ e.sp
     stack_1 = e.stack
@@ -173,15 +177,22 @@ module _ (t : Functions) (fs : List Funclet) (program : LinearProgram) (p : Imag
     well_formed_1 : IsWellFormed s1
     well_formed_1 =
         let z = enters_keeps e.turns s (machine e.after e.rip e.flags) e.comes in
-        stays_well_formed s s1 (record { protection = z.protection; fixed = z.fixed; count = z.count; small = z.small }) (first_small t fs program p q image k l) a.well_formed
+        stays_well_formed s s1
+        (record {
+          protection = z.protection;
+          fixed = z.fixed;
+          count = z.count;
+          small = z.small;
+        }) (first_small setting k l) a.well_formed
 
-    frame_1 : HasFrame t fs program p q image s s1 k (of_test abnormal) activation items acts l a
+    frame_1 : HasFrame setting s s1 k (of_test abnormal) activation items acts l a
     frame_1 = record {
       stack = subst (λ r. register s.cpu Rsp ≡ r + y.frame) (sym stack_1) e.sp_is;
       low = subst (λ r. STACK_START ≤ r) (sym stack_1) e.low;
       within = subst (λ r. Within r (r + y.frame) s.memory s1.memory) (sym stack_1) e.within;
       number = subst (λ r. number_at s1.memory.byte 8 (r + l.plan.layout.slot) ≡ a.reaches.base) (sym stack_1) e.number;
-      distance = subst (λ d. IsActivation acts activation a.reaches.base d) (parent_locals t fs program p q image k f f.parent a.name known.there parent owner) a.reaches.activation;
+      distance = subst (λ d. IsActivation acts activation a.reaches.base d)
+          (parent_locals setting k f f.parent a.name known.there parent owner) a.reaches.activation;
       rip = refl;
       well_formed = well_formed_1;
     }
@@ -195,8 +206,10 @@ module _ (t : Functions) (fs : List Funclet) (program : LinearProgram) (p : Imag
         let h = few in
         record { space = omega arith; shallow = omega arith }
 
-    abbrev b1 : RepresentsAt t fs program p q s1 c1
-    b1 = begins t fs program p q image s s1 k (of_test abnormal) activation items acts l a frame_1 no_exception (held + 2) store events memory stored (let h = e.top in let z = e.sp_is in let w = a.stack in omega arith) some
+    abbrev b1 : RepresentsAt setting s1 c1
+    b1 = begins setting s s1 k (of_test abnormal) activation items acts l a frame_1 no_exception
+        (held + 2) store events memory stored (let h = e.top in let z = e.sp_is in let w = a.stack
+        in omega arith) some
         (subst (λ r. HasSpace r below_end (length acts + (held + 2))) (sym stack_1) space_1)
         (above f kind_is)
         (pointers s1.memory (register s1.cpu Rsp) y.frame)
@@ -212,25 +225,28 @@ module _ (t : Functions) (fs : List Funclet) (program : LinearProgram) (p : Imag
     function_is : f.function ≡ works.0
     function_is = same_number f.function works.0 (sym (ap function_of known.there) ∙ works.1)
 
-    counted : IsCounted t fs program p q image c1
+    counted : IsCounted setting c1
     counted b is =
         let h = has_locals in
         let lt = slice_get_within _ activation h.locals h.there in
         let n = set_count store.activations activation (slice_set (linear.locals_of store activation) flag (of_test abnormal)) in
         let same : h.locals ≡ slice_set (linear.locals_of store activation) flag (of_test abnormal) = same_list h.locals _ (sym h.there ∙ set_here store.activations activation (slice_set (linear.locals_of store activation) flag (of_test abnormal)) (omega arith)) in
-        sym (set_length (linear.locals_of store activation) flag (of_test abnormal)) ∙ sym (ap length same) ∙ locals_counted t fs program p q image k f works.0 h.locals known.there function_is h.of
+        sym (set_length (linear.locals_of store activation) flag (of_test abnormal)) ∙ sym
+        (ap length same) ∙ locals_counted setting k f works.0 h.locals known.there function_is
+        h.of
         ∙ ap (λ (z : LinearBody). z.locals) (same_body f.body b (sym (ap funclet_body known.there) ∙ is))
 
     framed_owner : OwnerHasFrame t fs program p activation items acts
-    framed_owner = owner_framed t fs program p q image activation items acts
+    framed_owner = owner_framed setting activation items acts
         (sym (ap length stored ∙ locals_count acts) ∙ sym (set_count store.activations activation (slice_set (linear.locals_of store activation) flag (of_test abnormal))) ∙ sym (as_many program (owners_of items) _ typed.activations.stored))
         typed.activations.working.1
-        (λ function z. subst (λ j. p.leaf (linear.FunctionBody j) ≡ false) (same_number works.0 function (sym works.2 ∙ z)) (no_leaf t fs program p q image k works.0 works.1).1)
+        (λ function z. subst (λ j. p.leaf (linear.FunctionBody j) ≡ false)
+        (same_number works.0 function (sym works.2 ∙ z)) (no_leaf setting k works.0 works.1).1)
 
     -- ---- the flag is stored
 
     abbrev here : SlotsPlaced s1.memory y f.body.temporaries (register s1.cpu Rsp) activation acts
-    here = placed t fs program p q image s1 c1 b1 counted
+    here = placed setting s1 c1 b1 counted
 
     abbrev fr : FramePlace
     fr = frame_at program p (FuncletBody k) f.body (register s1.cpu Rsp) here.base
@@ -245,7 +261,8 @@ module _ (t : Functions) (fs : List Funclet) (program : LinearProgram) (p : Imag
     code_here = subst (λ z. HasCode e.after.memory e.rip (keep_argument y z)) kind_is e.code
 
     abbrev r : ReachesBody fr (length last) (machine e.after e.rip e.flags) (e.rip + sizes last) e.after.rest (record { slots = with_slot old.slots (Local flag) (low W32 e.after.rcx); memory = old.memory })
-    r = flag_run fr (Local flag) e.after e.rip e.flags old (room_here t fs program p q image s1 c1 b1 counted) flag_fits (e.at ∙ sym stack_1) (holds_here t fs program p q image s1 c1 b1 counted) code_here
+    r = flag_run fr (Local flag) e.after e.rip e.flags old (room_here setting s1 c1 b1 counted)
+        flag_fits (e.at ∙ sym stack_1) (holds_here setting s1 c1 b1 counted) code_here
 
     abbrev u : State
     u = machine r.after (e.rip + sizes last) r.flags
@@ -264,16 +281,18 @@ module _ (t : Functions) (fs : List Funclet) (program : LinearProgram) (p : Imag
 
     leaves : Leaves f.body d values []
     leaves =
-        let n = count t fs program p q image s1 c1 b1 counted in
-        let w = slots_here t fs program p q image s1 c1 b1 counted in
+        let n = count setting s1 c1 b1 counted in
+        let w = slots_here setting s1 c1 b1 counted in
         record {
           count = set_length here.values flag stored_flag ∙ n;
-          locals = λ i lt. local_after old.slots here.values (Local flag) stored_flag i (omega arith) (w.locals i lt ∙ ap (λ xs. slice_index xs i) (locals_here t fs program p q image s1 c1 b1 counted));
+          locals = λ i lt. local_after old.slots here.values (Local flag) stored_flag i
+              (omega arith) (w.locals i lt ∙ ap (λ xs. slice_index xs i) (locals_here setting s1 c1
+              b1 counted));
           few = omega arith;
           temporaries = λ i v z. cc;
         }
 
-    ran_here : Ran t fs program p q image s1 c1 b1 counted u d values []
+    ran_here : Ran setting s1 c1 b1 counted u d values []
     ran_here =
         let z = reaches_keeps (length last) (machine e.after e.rip e.flags) u r.comes in
         record {
@@ -290,7 +309,8 @@ module _ (t : Functions) (fs : List Funclet) (program : LinearProgram) (p : Imag
     rip_here = subst (λ z. e.rip + sizes (keep_argument y z) ≡ p.address (FuncletBody k) 0) kind_is e.place
 
     well_formed_here : IsWellFormed u
-    well_formed_here = stays_well_formed s u (enters_keeps (e.turns + length last) s u run) (let z = rip_here in let w = first_small t fs program p q image k l in omega arith) a.well_formed
+    well_formed_here = stays_well_formed s u (enters_keeps (e.turns + length last) s u run)
+        (let z = rip_here in let w = first_small setting k l in omega arith) a.well_formed
 
     store_is : locals_of (with_values acts activation values) ≡ slice_set store.activations activation (slice_set (linear.locals_of store activation) flag (of_test abnormal))
     store_is =
@@ -299,17 +319,20 @@ module _ (t : Functions) (fs : List Funclet) (program : LinearProgram) (p : Imag
         activated acts activation values (omega arith)
         ∙ ap (λ xs. slice_set xs activation values) (sym stored)
         ∙ ap (λ w. slice_set store.activations activation (slice_set here.values flag w)) flag_is
-        ∙ ap (λ vs. slice_set store.activations activation (slice_set vs flag (of_test abnormal))) (sym (locals_here t fs program p q image s1 c1 b1 counted))
+        ∙ ap (λ vs. slice_set store.activations activation (slice_set vs flag (of_test abnormal)))
+        (sym (locals_here setting s1 c1 b1 counted))
 
-    represents_here : RepresentsAt t fs program p q u (block_begins k flag activation held abnormal items store events)
+    represents_here : RepresentsAt setting u (block_begins k flag activation held abnormal items
+        store events)
     represents_here =
         subst (λ (xs : List (List ℕ)). let o : Configuration = record {
           frame = record { body = FuncletBody k; next = 0; activation = activation; exception = no_exception; held = held + 2; temporaries = []; landed = None };
           below = items;
           store = record { memory = store.memory; activations = xs };
           events = events;
-        } in RepresentsAt t fs program p q u o) store_is
-        (represents_next t fs program p q image s1 c1 b1 counted u d values [] ran_here 0 None events rip_here some well_formed_here (λ x z. absurd (nothing_landed x z))
+        } in RepresentsAt setting u o) store_is
+        (represents_next setting s1 c1 b1 counted u d values [] ran_here 0 None events rip_here some
+        well_formed_here (λ x z. absurd (nothing_landed x z))
         (λ z. let w : true ≡ false = sym z ∙ l.plan.framed in absurd cc) (λ j z. framed_owner))
 
     last_few : length last ≤ 3
@@ -328,19 +351,24 @@ module _ (t : Functions) (fs : List Funclet) (program : LinearProgram) (p : Imag
     high_enough = let hi = e.top in let z = e.sp_is in let n = a.stack in omega arith
 
     abbrev base : List Instr
-    base = base_code t fs program p q image s k activation (of_test abnormal) items acts l a store.memory memory some low_enough high_enough (register s.cpu Rdx) a.reaches.base leads
+    base = base_code setting s k activation (of_test abnormal) items acts l a store.memory memory
+        some low_enough high_enough (register s.cpu Rdx) a.reaches.base leads
 
     abbrev arguments : List Instr
     arguments = arguments_code program p (FuncletBody k)
 
     parts : arguments ≡ base ++ keep_argument y f.kind
-    parts = arguments_are t fs program p q image s k activation (of_test abnormal) items acts l a store.memory memory some low_enough high_enough (register s.cpu Rdx) a.reaches.base leads
+    parts = arguments_are setting s k activation (of_test abnormal) items acts l a store.memory
+        memory some low_enough high_enough (register s.cpu Rdx) a.reaches.base leads
 
     kept_base : EntryRan t fs program p q image (FuncletBody k) f.body (ap funclet_body l.there) some (register s.cpu Rsp) (register s.cpu Rsp + 8) a.back (others_of s.cpu.registers) a.is e.turns s y1 base
     kept_base =
-        funclet_ran t fs program p q image s k activation (of_test abnormal) items acts l a store.memory memory some low_enough high_enough (register s.cpu Rdx) a.reaches.base leads e.turns y1 base (keep_argument y f.kind) parts
+        funclet_ran setting s k activation (of_test abnormal) items acts l a store.memory memory
+        some low_enough high_enough (register s.cpu Rdx) a.reaches.base leads e.turns y1 base
+        (keep_argument y f.kind) parts
         (let n = e.exact in omega arith) (enters_steps e.turns s y1 e.comes)
-        (base_is_plain t fs program p q image s k activation (of_test abnormal) items acts l a store.memory memory some low_enough high_enough (register s.cpu Rdx) a.reaches.base leads)
+        (base_is_plain setting s k activation (of_test abnormal) items acts l a store.memory memory
+        some low_enough high_enough (register s.cpu Rdx) a.reaches.base leads)
 
     -- the flag is in RAX, and the base in RCX
     abbrev slot : ℕ
@@ -359,7 +387,7 @@ module _ (t : Functions) (fs : List Funclet) (program : LinearProgram) (p : Imag
     all_parts = parts ∙ ap (λ z. base ++ keep_argument y z) kind_is ∙ ap (λ (xs : List Instr). base ++ xs) last_is ∙ sym (append_assoc base mid (storing ∷ []))
 
     abbrev top1 : ℕ
-    top1 = top_of t fs program p q image s1 c1 b1 counted
+    top1 = top_of setting s1 c1 b1 counted
 
     abbrev list1 : List StackItem
     list1 = b1.body.is
@@ -369,7 +397,7 @@ module _ (t : Functions) (fs : List Funclet) (program : LinearProgram) (p : Imag
 
     beneath_1 : Beneath t y1 top1 (top1 + 8) b1.body.back others1 list1
     beneath_1 =
-        let g = begins_beneath t fs program p q image s1 c1 b1 counted in
+        let g = begins_beneath setting s1 c1 b1 counted in
         record { others_are = g.others_are; count = g.count; returns = g.returns; list = g.list; owned = g.owned; past = g.past; high = g.high; limit = g.limit; no_code = g.no_code }
 
     run_3 : StepsTo 3 y1 u
@@ -387,14 +415,17 @@ module _ (t : Functions) (fs : List Funclet) (program : LinearProgram) (p : Imag
     abbrev begin : ℕ
     begin = begin_of p q (FuncletBody k) + making_size p q (FuncletBody k)
 
-    codes : (m : Memory) → HasProgram t fs program p q m → HasCode m begin (base ++ mid) × HasCode m (begin + sizes (base ++ mid)) (storing ∷ [])
-    codes m h = code_split m begin (base ++ mid) (storing ∷ []) (subst (HasCode m begin) all_parts (frame_there t fs program p q image (FuncletBody k) f.body (ap funclet_body l.there) some m h).1)
+    codes : (m : Memory) → HasProgram setting m → HasCode m begin (base ++ mid) × HasCode m
+        (begin + sizes (base ++ mid)) (storing ∷ [])
+    codes m h = code_split m begin (base ++ mid) (storing ∷ []) (subst (HasCode m begin) all_parts
+        (frame_there setting (FuncletBody k) f.body (ap funclet_body l.there) some m h).1)
 
     finds : Finds t fs program p q top1 (top1 + 8) b1.body.back others1 list1 y1.cpu.rip mid y.frame
     finds done left split m h =
         let z : begin + sizes (base ++ done) ≡ y1.cpu.rip + sizes done = omega (arith, kept_base.rip, sizes_append base done) in
         subst (λ n. FindsReturn t m n y.frame) z
-        (argument_found t fs program p q image (FuncletBody k) f.body (ap funclet_body l.there) m h some (base ++ done) (left ++ (storing ∷ []))
+        (argument_found setting (FuncletBody k) f.body (ap funclet_body l.there) m h some
+        (base ++ done) (left ++ (storing ∷ []))
         (all_parts ∙ ap (λ (xs : List Instr). (base ++ xs) ++ (storing ∷ [])) split ∙ assoc base done left (storing ∷ [])))
       where
         assoc : (a b c d : List Instr) → (a ++ (b ++ c)) ++ d ≡ (a ++ b) ++ (c ++ d)
@@ -416,10 +447,13 @@ module _ (t : Functions) (fs : List Funclet) (program : LinearProgram) (p : Imag
 
     beneath_u : Beneath t u top1 (top1 + 8) b1.body.back others1 list1
     beneath_u =
-        let h = frame_top t fs program p q image s1 c1 b1 counted in
-        let on = new_on t fs program p q image s1 c1 b1 counted u d values [] ran_here (λ z. let w : true ≡ false = sym z ∙ l.plan.framed in absurd cc) (λ j z. framed_owner) (others_of u.cpu.registers) refl in
+        let h = frame_top setting s1 c1 b1 counted in
+        let on = new_on setting s1 c1 b1 counted u d values [] ran_here (λ z. let w : true ≡ false =
+        sym z ∙ l.plan.framed in absurd cc) (λ j z. framed_owner) (others_of u.cpu.registers)
+        refl in
         subst (λ o. Beneath t u top1 (top1 + 8) b1.body.back o list1) others_there
-        (beneath_by t u top1 b1.body.back list1 well_formed_here.count (returns t fs program p q image s1 c1 b1 counted u d values [] ran_here) on.is_there.stack (omega arith) on.data_alone.no_code)
+        (beneath_by t u top1 b1.body.back list1 well_formed_here.count (returns setting s1 c1 b1
+        counted u d values [] ran_here) on.is_there.stack (omega arith) on.data_alone.no_code)
 
     last_step : Steps x u
     last_step = subst (Steps x) run_1.2 run_1.1
@@ -428,7 +462,7 @@ module _ (t : Functions) (fs : List Funclet) (program : LinearProgram) (p : Imag
     storing_keeps =
         let here' : begin + sizes (base ++ mid) ≡ x.cpu.rip = omega (arith, middle.rip, kept_base.rip, sizes_append base mid) in
         let code = subst (λ n. HasCode x.memory n (storing ∷ [])) here' (codes x.memory middle.has).1 in
-        let z = room_here t fs program p q image s1 c1 b1 counted in
+        let z = room_here setting s1 c1 b1 counted in
         let near_local = z.locals in
         let fitting = flag_fits in
         let enc : is_encodable storing ≡ true = near (local_at y flag) (omega arith) in
@@ -442,9 +476,11 @@ module _ (t : Functions) (fs : List Funclet) (program : LinearProgram) (p : Imag
         (gives_here t fs top1 (top1 + 8) b1.body.back others1 list1 u y.frame beneath_u found_u up)
         (let h : register u.cpu Rsp + 8 ≤ top1 + 8 = omega arith in h)
       where
-        first_found : (m : Memory) → HasProgram t fs program p q m → FindsReturn t m (p.address (FuncletBody k) 0) y.frame
+        first_found : (m : Memory) → HasProgram setting m → FindsReturn t m
+            (p.address (FuncletBody k) 0) y.frame
         first_found m h = elim (slice_get_cases f.body.code 0).1 [
-          | inl i ↦ label_found t fs program p q image (FuncletBody k) f.body (ap funclet_body l.there) m h 0 i.0 i.2
+          | inl i ↦ label_found setting (FuncletBody k) f.body (ap funclet_body l.there) m h 0 i.0
+              i.2
           | inr i ↦ let le = i.0 in absurd (let lt = some in omega arith)
         ]
 
@@ -453,11 +489,13 @@ module _ (t : Functions) (fs : List Funclet) (program : LinearProgram) (p : Imag
         let three = keeps_split t fs 2 1 y1 x (run_3.0, run_3.1, (x, run_2.1, refl)) middle.keeps (keep_first t fs 0 x u last_step.steps storing_keeps tt) in
         keeps_split t fs e.turns (length last) s y1 (enters_steps e.turns s y1 e.comes) kept_base.keeps (subst (λ n. AllKeep t fs n y1) (sym (ap (λ (xs : List Instr). length xs) last_is)) three)
 
-    pub block_leads : LeadsTo t fs entry_turns (RepresentsAt t fs program p q) s (block_begins k flag activation held abnormal items store events)
+    pub block_leads : LeadsTo t fs entry_turns (RepresentsAt setting) s
+        (block_begins k flag activation held abnormal items store events)
     block_leads = record {
       turns = e.turns + length last;
       few = (let z = e.few in let w = last_few in omega arith);
       state = u;
-      comes = enters_silently t fs program p q image (e.turns + length last) s u run keeps_shadow memory.code (silent_there t fs program p q image k l u rip_here some);
+      comes = enters_silently t fs program p q image (e.turns + length last) s u run keeps_shadow
+          memory.code (silent_there setting k l u rip_here some);
       is_there = represents_here;
     }

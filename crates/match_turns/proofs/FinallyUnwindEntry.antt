@@ -14,6 +14,7 @@ use Rattle.match_turns.specs.FuncletEntry.{FlagsFit, BlocksBegin}
 use Rattle.match_turns.proofs.DispatchSpace.{shallow_is, unwind_space}
 use Rattle.match_turns.proofs.FuncletFrame.{arrives_below}
 use Rattle.match_turns.proofs.FinallyEntry.{block_leads}
+use Rattle.match_bodies.specs.Setting.{setting_of}
 
 pub blocks_begin : (t : Functions) (fs : List Funclet) (program : LinearProgram) (p : ImagePlan)
     (q : Sites) → IsProgramImage t fs program p q → FlagsFit program → BlocksBegin t fs program p q
@@ -23,7 +24,8 @@ blocks_begin t fs program p q image fits s k flag rest target c acts a flagged m
     let n : length acts + target.held + 2 ≤ 1000 =
     (let z = shallow_is (length c.store.activations + target.held + 2) shallow in
     omega (arith, ap length stored, locals_count acts)) in
-    block_leads t fs program p q image s k flag c.frame.activation target.held true items c.store
+    block_leads (setting_of t fs program p q image) s k flag c.frame.activation target.held true
+    items c.store
     (c.events ++ events.Finally (k + 1) true ∷ []) acts
     (arrives_below t fs program p s k c.frame.activation 1 items acts a tt) c.frame.body
     typed.stacked.above.funclet flagged fits memory stored

@@ -2,8 +2,6 @@
 use Rattle.std.proofs.Common.{◌≡◌, ℕ, zero, suc, false, Option, Some, None, List, [], ◌∷◌, ◌++◌, length, refl, sym, ap, subst, ◌∙◌, arith, inl, inr, length-append}
 use Rattle.std.specs.Prelude.{slice_get}
 use Rattle.flat_memory.specs.Memory.{Memory}
-use Rattle.virtual_unwind.specs.CallerOf.{Functions}
-use Rattle.host_model.specs.declared.funclet.Funclet.{Funclet}
 use Rattle.linear_code.specs.declared.program.RegionKind.{RegionKind}
 use Rattle.linear_code.specs.declared.program.RegionKind.TheVariants as kinds
 use Rattle.linear_code.specs.declared.program.FuncletKind.{FuncletKind}
@@ -13,14 +11,14 @@ use Rattle.linear_machine.specs.Frames.{BodyName, FunctionBody, FuncletBody, bod
 use Rattle.lowering_invariants.specs.Bodies.{IsFilterKind, parent_of, function_of, owner_of, IsFuncletOf, IsKindOf}
 use Rattle.lowering_invariants.specs.Waiting.{Handles, IsHandler}
 use Rattle.lowering_invariants.specs.Activations.{with_own, owners_of, WorksOn, AreWorking, IsActivationOf, AreActivations}
-use Rattle.match_stack.specs.ImagePlan.{ImagePlan, by_parent}
+use Rattle.match_stack.specs.ImagePlan.{by_parent}
 use Rattle.match_stack.specs.ItemMatches.{Activation, activations_below, Leads}
-use Rattle.match_bodies.specs.CodeSites.{Sites, parent_base}
+use Rattle.match_bodies.specs.CodeSites.{parent_base}
 use Rattle.match_bodies.specs.Layouts.{IsFuncletPlan}
-use Rattle.match_bodies.specs.ProgramImages.{IsProgramImage}
 use Rattle.match_bodies.specs.SlotStores.{OwnerHasFrame}
 use Rattle.match_bodies.proofs.ActivationPlaces.{got_before, got_last}
 use Rattle.match_turns.proofs.FuncletPrologue.{LeadsBy}
+use Rattle.match_bodies.specs.Setting.{Setting}
 
 same_number : (a b : ℕ) → Some a ≡ Some b → a ≡ b
 same_number a b e = cc
@@ -95,8 +93,9 @@ module _ (program : LinearProgram) where
 
 -- ---- where a funclet is laid out
 
-module _ (t : Functions) (fs : List Funclet) (program : LinearProgram) (p : ImagePlan) (q : Sites)
-    (image : IsProgramImage t fs program p q) where
+module _ (setting : Setting) where
+  open setting use {functions as t, funclets as fs, program, plan as p, image}
+
   -- the locals of its function
   pub own_locals : (k : ℕ) (f : LinearFunclet) → slice_get program.funclets k ≡ Some f
       → (p.layout (FuncletBody k)).locals ≡ (p.layout (FunctionBody f.function)).locals

@@ -1,5 +1,5 @@
 -- Where an instruction is that makes no frame, no funclet begins.
-use Rattle.std.proofs.Common.{◌≡◌, ℕ, ◌^◌, ◌<◌, ◌≤◌, Bool, true, false, List, [], ◌∷◌, length, Option, Some, None, refl, sym, ap, subst, ◌∙◌, arith, inl, inr}
+use Rattle.std.proofs.Common.{◌≡◌, ℕ, ◌^◌, ◌<◌, ◌≤◌, Bool, true, false, [], ◌∷◌, length, Option, Some, None, refl, sym, ap, subst, ◌∙◌, arith, inl, inr}
 use Rattle.std.specs.Prelude.{slice_get}
 use Rattle.std.proofs.lemmas.Bool.{le-leb}
 use Rattle.std.proofs.lemmas.Option.{slice_get_cases}
@@ -16,11 +16,10 @@ use Rattle.x64_encode.specs.Chosen.{chosen, is_encodable}
 use Rattle.x64_encode.proofs.Lengths.{longest}
 use Rattle.x64_machine.specs.declared.cpu.Cpu.{Cpu}
 use Rattle.x64_machine.specs.Effect.{State}
-use Rattle.virtual_unwind.specs.CallerOf.{Functions, distance}
-use Rattle.host_model.specs.declared.funclet.Funclet.{Funclet}
+use Rattle.virtual_unwind.specs.CallerOf.{distance}
 use Rattle.host_model.specs.Funclets.{arrivals}
 use Rattle.host_model.specs.Dispatch.{no_flags}
-use Rattle.linear_code.specs.Program.{LinearProgram, LinearFunclet}
+use Rattle.linear_code.specs.Program.{LinearFunclet}
 use Rattle.linear_machine.specs.Frames.{FuncletBody, body_of, funclet_body}
 use Rattle.template_code.specs.Bytes.{size}
 use Rattle.template_code.specs.Calls.{enter_code}
@@ -30,10 +29,9 @@ use Rattle.x64_templates.specs.Runs.{HasCode}
 use Rattle.x64_templates.proofs.PlacedCode.{bytes_split, spells, reads}
 use Rattle.x64_templates.proofs.Computes.{code_split}
 use Rattle.x64_templates.proofs.Encoded.{near}
-use Rattle.match_stack.specs.ImagePlan.{ImagePlan}
-use Rattle.match_bodies.specs.CodeSites.{Sites, making, frame_code, arguments_code, entry_code, links_of}
+use Rattle.match_bodies.specs.CodeSites.{making, frame_code, arguments_code, entry_code, links_of}
 use Rattle.match_bodies.specs.Layouts.{IsFuncletPlan}
-use Rattle.match_bodies.specs.ProgramImages.{HasProgram, IsProgramImage}
+use Rattle.match_bodies.specs.Setting.{Setting, HasProgram}
 
 -- the first instruction of code that is somewhere is read there
 reads_first : (m : Memory) (at : ℕ) (j : Instr) → is_encodable j ≡ true → HasCode m at (j ∷ [])
@@ -64,11 +62,12 @@ made_at_once : (size at check : ℕ) (leaf : Bool) → leaf ≡ false → size �
 made_at_once size at check leaf e small = ap (frame_code size at check) e
     ∙ ap (making size at check) (le-leb size 4096 small)
 
-module _ (t : Functions) (fs : List Funclet) (program : LinearProgram) (p : ImagePlan) (q : Sites)
-    (image : IsProgramImage t fs program p q) where
+module _ (setting : Setting) where
+  open setting use {functions as t, funclets as fs, program, plan as p, sites as q, image}
+
   -- a funclet begins with an instruction that makes its frame
   makes_frame : (m : Memory) (k : ℕ) (f : LinearFunclet) (j : Instr)
-      → slice_get program.funclets k ≡ Some f → HasProgram t fs program p q m
+      → slice_get program.funclets k ≡ Some f → HasProgram setting m
       → is_encodable j ≡ true → takes_frame j ≡ false → HasCode m (p.funclet k) (j ∷ []) → ⊥
   makes_frame m k f j there has fine silent code =
       let name = FuncletBody k in
@@ -90,7 +89,7 @@ module _ (t : Functions) (fs : List Funclet) (program : LinearProgram) (p : Imag
       (sym (reads_first m (p.funclet k) i (near y.frame (omega arith)) made)
       ∙ reads_first m (p.funclet k) j fine code) refl silent
 
-  pub silent_code : (m : Memory) (at : ℕ) (j : Instr) (c : Cpu) → HasProgram t fs program p q m
+  pub silent_code : (m : Memory) (at : ℕ) (j : Instr) (c : Cpu) → HasProgram setting m
       → is_encodable j ≡ true → takes_frame j ≡ false → HasCode m at (j ∷ []) → at < 2 ^ 64
       → arrivals c (distance t.base at) 1 fs ≡ []
   silent_code m at j c has fine silent code small =

@@ -8,10 +8,8 @@ use Rattle.x64_instr.specs.declared.register.Reg.TheVariants.{Rcx, Rdx, Rsp}
 use Rattle.x64_instr.specs.declared.instruction.Instr.{Instr}
 use Rattle.x64_machine.specs.declared.cpu.Flags.{Flags}
 use Rattle.x64_machine.specs.Effect.{State, register}
-use Rattle.virtual_unwind.specs.CallerOf.{Functions, distance}
-use Rattle.host_model.specs.declared.funclet.Funclet.{Funclet}
+use Rattle.virtual_unwind.specs.CallerOf.{distance}
 use Rattle.host_model.specs.Funclets.{arrivals}
-use Rattle.linear_code.specs.Program.{LinearProgram}
 use Rattle.linear_machine.specs.Frames.{FuncletBody, body_of, funclet_body, Item}
 use Rattle.template_code.specs.declared.layout.Layout.{Layout}
 use Rattle.template_code.specs.Bytes.{sizes}
@@ -23,12 +21,10 @@ use Rattle.x64_templates.specs.CallStates.{sp_of}
 use Rattle.x64_templates.specs.Runs.{HasCode, Enters}
 use Rattle.x64_templates.proofs.Computes.{code_split}
 use Rattle.x64_templates.proofs.FilterEntries.{Within, within_keeps_code}
-use Rattle.match_stack.specs.ImagePlan.{ImagePlan}
 use Rattle.match_stack.specs.ItemMatches.{Activation, below_end, record_room}
 use Rattle.match_stack.proofs.ListEnds.{in_stack}
 use Rattle.match_bodies.specs.CodeSites as sites
-use Rattle.match_bodies.specs.CodeSites.{Sites, links_of, making, frame_code, parent_base, keep_argument, funclet_arguments, arguments_code, entry_code}
-use Rattle.match_bodies.specs.ProgramImages.{HasProgram, IsMachineMemory, IsProgramImage}
+use Rattle.match_bodies.specs.CodeSites.{links_of, making, frame_code, parent_base, keep_argument, funclet_arguments, arguments_code, entry_code}
 use Rattle.match_bodies.specs.BodyViews.{seen_by_templates}
 use Rattle.match_bodies.proofs.ActivationPlaces.{activations_are_at}
 use Rattle.match_bodies.proofs.BodyViews.{is_machine}
@@ -36,6 +32,7 @@ use Rattle.match_bodies.proofs.TemplateRuns.{index_of, sp_seen}
 use Rattle.match_turns.proofs.FuncletPrologue.{LeadsBy, first_code, Made, HasRoom, made}
 use Rattle.match_turns.proofs.FuncletFrame.{ArrivesBelow, IsPlanned}
 use Rattle.template_code.specs.declared.layout.TheConstants.{LARGEST_FRAME}
+use Rattle.match_bodies.specs.Setting.{Setting, HasProgram, IsMachineMemory}
 
 dropped_count : (rs : List ℕ) → length rs ≡ 16 → length (drop 3 rs) ≡ 13
 dropped_count [] e = absurd (omega arith)
@@ -43,9 +40,10 @@ dropped_count (a ∷ []) e = absurd (omega arith)
 dropped_count (a ∷ b ∷ []) e = absurd (omega arith)
 dropped_count (a ∷ b ∷ c ∷ rs) e = omega arith
 
-module _ (t : Functions) (fs : List Funclet) (program : LinearProgram) (p : ImagePlan) (q : Sites)
-    (image : IsProgramImage t fs program p q) where
-  module _ (k : ℕ) (l : IsPlanned t fs program p q image k) where
+module _ (setting : Setting) where
+  open setting use {functions as t, funclets as fs, program, plan as p, sites as q, image}
+
+  module _ (k : ℕ) (l : IsPlanned setting k) where
     abbrev y : Layout
     y = p.layout (FuncletBody k)
 
@@ -74,7 +72,7 @@ module _ (t : Functions) (fs : List Funclet) (program : LinearProgram) (p : Imag
         ∙ ap (λ o. enter_code y.frame ++ (sites.keep_base (parent_base p l.funclet.parent)
         (elim o [ Some b ↦ b | None ↦ 0 ]) ++ last)) l.plan.layout.base
 
-    pub entry_codes : (m : Memory) → HasProgram t fs program p q m
+    pub entry_codes : (m : Memory) → HasProgram setting m
         → HasCode m (p.funclet k) front × HasCode m (p.funclet k + sizes front) last
     entry_codes m has =
         let h = code_split m (p.funclet k) (entry_code program p q (FuncletBody k))
@@ -102,8 +100,7 @@ module _ (t : Functions) (fs : List Funclet) (program : LinearProgram) (p : Imag
 
   -- the state after these turns: RSP is at the frame, which keeps the base, and the rest of the
   -- entry follows
-  pub record HasEntered (s : State) (k : ℕ) (l : IsPlanned t fs program p q image k) (base : ℕ) : Type
-      0 where
+  pub record HasEntered (s : State) (k : ℕ) (l : IsPlanned setting k) (base : ℕ) : Type 0 where
     pub sp : ℕ
     pub sp_is : register s.cpu Rsp ≡ sp + (p.layout (FuncletBody k)).frame
     pub low : STACK_START ≤ sp
@@ -125,8 +122,8 @@ module _ (t : Functions) (fs : List Funclet) (program : LinearProgram) (p : Imag
 
   -- the frame, and the base in it
   module _ (s : State) (k first activation : ℕ) (items : List Item) (acts : List Activation)
-      (l : IsPlanned t fs program p q image k) (a : ArrivesBelow t fs program p s k activation first
-      items acts) (source : Memory) (memory : IsMachineMemory t fs program p q s.memory source)
+      (l : IsPlanned setting k) (a : ArrivesBelow t fs program p s k activation first
+      items acts) (source : Memory) (memory : IsMachineMemory setting s.memory source)
       (depth : ℕ) (space : STACK_END ≤ a.at + (below_end + record_room) + LARGEST_FRAME * depth)
       (shallow : depth + 2 ≤ 1000) (leads : LeadsBy s.memory (parent_base p l.funclet.parent)
       (register s.cpu Rdx) a.reaches.base) where

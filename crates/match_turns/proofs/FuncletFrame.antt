@@ -32,13 +32,12 @@ use Rattle.match_stack.specs.ListLaws.{KeepsStack}
 use Rattle.match_stack.proofs.ListKeeping.{kept_by_other_memories}
 use Rattle.match_stack.specs.StackRecords.{On}
 use Rattle.match_stack.specs.DispatchStates.{IsWellFormed, Arrives}
-use Rattle.match_bodies.specs.CodeSites.{Sites}
 use Rattle.match_bodies.specs.Layouts.{IsFuncletPlan}
-use Rattle.match_bodies.specs.ProgramImages.{IsMachineMemory, IsProgramImage}
-use Rattle.match_bodies.specs.Bodies.{slots_end, last_temporary, InBody, RepresentsAt}
+use Rattle.match_bodies.specs.Bodies.{slots_end, last_temporary}
 use Rattle.match_bodies.proofs.StackWords.{word_is, word_of, may_read_written}
 use Rattle.match_bodies.proofs.SlotPlaces.{stack_is_reserved}
 use Rattle.match_bodies.proofs.ProgramKeeping.{program_stays}
+use Rattle.match_bodies.specs.Setting.{Setting, InBody, IsMachineMemory, RepresentsAt}
 
 pub same_regions : (rs : List Region) (label : ℕ)
     → AllByRecursion (λ (r : Region). holds label r ≡ holds label r) rs
@@ -52,10 +51,11 @@ pub apart : true ≡ false → ⊥
 apart z = cc
 
 -- memory that differs within a part of the stack alone
-module _ (t : Functions) (fs : List Funclet) (program : LinearProgram) (p : ImagePlan) (q : Sites)
-    (image : IsProgramImage t fs program p q) (m m' source : Memory) (lo hi : ℕ)
+module _ (setting : Setting) (m m' source : Memory) (lo hi : ℕ)
     (w : Within lo hi m m') (low : STACK_START ≤ lo) (high : hi ≤ STACK_END)
-    (memory : IsMachineMemory t fs program p q m source) where
+    (memory : IsMachineMemory setting m source) where
+  open setting use {functions as t, funclets as fs, program, plan as p, sites as q, image}
+
   same_protection : (a : ℕ) → m'.protection a ≡ m.protection a
   same_protection a = ap (λ (f : ℕ → Protection). f a) w.protection
 
@@ -86,7 +86,7 @@ module _ (t : Functions) (fs : List Funclet) (program : LinearProgram) (p : Imag
   stack_writable a l h = ap (λ (x : Protection). is_writable x.rights) (same_protection a)
       ∙ memory.stack a l h
 
-  pub memory_stays : IsMachineMemory t fs program p q m' source
+  pub memory_stays : IsMachineMemory setting m' source
   memory_stays = record {
     data_alone = record {
       bytes = w.bytes memory.data_alone.bytes;
@@ -172,8 +172,9 @@ arrives_below t fs program p s k activation first items acts a to = record {
 }
 
 -- what a funclet's frame is made with
-module _ (t : Functions) (fs : List Funclet) (program : LinearProgram) (p : ImagePlan) (q : Sites)
-    (image : IsProgramImage t fs program p q) where
+module _ (setting : Setting) where
+  open setting use {functions as t, funclets as fs, program, plan as p, image}
+
   -- a funclet of the program, as its frame is laid out
   pub record IsPlanned (k : ℕ) : Type 0 where
     pub funclet : LinearFunclet
@@ -225,7 +226,7 @@ module _ (t : Functions) (fs : List Funclet) (program : LinearProgram) (p : Imag
       (l : IsPlanned k) (a : ArrivesBelow t fs program p s k activation first items acts)
       (h : HasFrame s u k first activation items acts l a)
       (exception : Exception) (held : ℕ) (store : Store) (events : List Event)
-      (memory : IsMachineMemory t fs program p q s.memory store.memory)
+      (memory : IsMachineMemory setting s.memory store.memory)
       (stored : store.activations ≡ locals_of acts) (top : a.at ≤ STACK_END)
       (some : 0 < length l.funclet.body.code)
       (space : HasSpace (register u.cpu Rsp) below_end (length acts + held))
@@ -248,7 +249,7 @@ module _ (t : Functions) (fs : List Funclet) (program : LinearProgram) (p : Imag
     keeps : KeepsStack s.memory u.memory (sp + y.frame + 8)
     keeps =
         let e = high in
-        let z = stack_stays t fs program p q image s.memory u.memory store.memory sp (sp + y.frame)
+        let z = stack_stays setting s.memory u.memory store.memory sp (sp + y.frame)
         h.within h.low (omega arith) memory in
         record {
           bytes = λ x from to. z.bytes x (omega arith) to;
@@ -271,8 +272,8 @@ module _ (t : Functions) (fs : List Funclet) (program : LinearProgram) (p : Imag
           is_there = kept_by_other_memories t fs program p s.memory u.memory
               (context_below a.back (sp + y.frame + 8) others) a.is items acts keeps (omega arith)
               on.is_there;
-          data_alone = (memory_stays t fs program p q image s.memory u.memory store.memory sp
-              (sp + y.frame) h.within h.low (omega arith) memory).data_alone;
+          data_alone = (memory_stays setting s.memory u.memory store.memory sp (sp + y.frame)
+              h.within h.low (omega arith) memory).data_alone;
         }
 
     pub in_code : InCode p (FuncletBody k) 0 u.cpu.rip
@@ -289,9 +290,9 @@ module _ (t : Functions) (fs : List Funclet) (program : LinearProgram) (p : Imag
           base = a.reaches.base;
           some = l.plan.layout.base;
           room = omega arith;
-          kept = word_within t fs program p q image s.memory u.memory store.memory sp (sp + y.frame)
-              h.within h.low (omega arith) memory (sp + l.plan.layout.slot) a.reaches.base
-              (omega arith) (omega arith) h.number;
+          kept = word_within setting s.memory u.memory store.memory sp (sp + y.frame) h.within h.low
+              (omega arith) memory (sp + l.plan.layout.slot) a.reaches.base (omega arith)
+              (omega arith) h.number;
           activation = h.distance;
         }
 
@@ -315,7 +316,7 @@ module _ (t : Functions) (fs : List Funclet) (program : LinearProgram) (p : Imag
       space = space;
     }
 
-    abbrev pub in_body : InBody t fs program p q u
+    abbrev pub in_body : InBody setting u
         (beginning (first_frame k activation exception held) items store events)
     in_body = record {
       acts = acts;
@@ -327,21 +328,21 @@ module _ (t : Functions) (fs : List Funclet) (program : LinearProgram) (p : Imag
       home = λ e. absurd (apart (sym e ∙ l.plan.framed));
       back = a.back;
       returns_to = a.returns_to;
-      returns = (let e = high in word_stays t fs program p q image s.memory u.memory store.memory sp
-          (sp + y.frame) h.within h.low (omega arith) memory (sp + y.frame) a.back
+      returns = (let e = high in word_stays setting s.memory u.memory store.memory sp (sp + y.frame)
+          h.within h.low (omega arith) memory (sp + y.frame) a.back
           (let z = h.low in omega arith) (omega arith) (omega arith)
           (subst (λ x. word s.memory x ≡ Ok a.back) h.stack a.returns));
       is = a.is;
       below = list;
     }
 
-    abbrev pub begins : RepresentsAt t fs program p q u
+    abbrev pub begins : RepresentsAt setting u
         (beginning (first_frame k activation exception held) items store events)
     begins = record {
       rip = h.rip;
       well_formed = h.well_formed;
-      memory = (let e = high in memory_stays t fs program p q image s.memory u.memory store.memory
-          sp (sp + y.frame) h.within h.low (omega arith) memory);
+      memory = (let e = high in memory_stays setting s.memory u.memory store.memory sp
+          (sp + y.frame) h.within h.low (omega arith) memory);
       body = in_body;
       landed = λ code e. absurd (nothing_landed code e);
     }

@@ -7,14 +7,12 @@ use Rattle.seh_num.specs.Widths.{low}
 use Rattle.x64_instr.specs.declared.register.Reg.TheVariants.{Rsp}
 use Rattle.x64_machine.specs.Contexts.{context_of}
 use Rattle.x64_machine.specs.Effect.{State, register}
-use Rattle.virtual_unwind.specs.CallerOf.{Functions}
-use Rattle.host_model.specs.declared.funclet.Funclet.{Funclet}
 use Rattle.source_meaning.specs.State.{Exception}
 use Rattle.linear_code.specs.declared.slot.Slot.{Slot}
 use Rattle.linear_code.specs.declared.instruction.Instruction.TheVariants as instructions
 use Rattle.linear_code.specs.declared.program.Region.{Region}
 use Rattle.linear_code.specs.declared.program.FuncletKind.TheVariants as funclets
-use Rattle.linear_code.specs.Program.{LinearProgram, LinearFunclet}
+use Rattle.linear_code.specs.Program.{LinearFunclet}
 use Rattle.linear_machine.specs.Frames.{FuncletBody, Frame, Handler, Target, Resumption, Item, Waits, Searches, Unwinds, Configuration, Next, with_some, read}
 use Rattle.linear_machine.specs.Searching.{answer}
 use Rattle.linear_machine.specs.Instructions.{end_funclet, end_body, act}
@@ -22,7 +20,6 @@ use Rattle.linear_machine.specs.Run.{exec}
 use Rattle.template_code.specs.Calls.{return_code}
 use Rattle.match_stack.specs.Stack.{StackItem, Searching, Unwinding}
 use Rattle.match_stack.specs.WalkLaws.{context_below}
-use Rattle.match_stack.specs.ImagePlan.{ImagePlan}
 use Rattle.match_stack.specs.ItemMatches.{activations_below}
 use Rattle.match_stack.specs.StackRecords.{On}
 use Rattle.match_stack.specs.DispatchSteps.{SearchIsAnswered}
@@ -32,9 +29,7 @@ use Rattle.match_runs.specs.Ends.{HasRule}
 use Rattle.match_runs.specs.Matched.{IsMatched}
 use Rattle.lowering_invariants.specs.Room.{HaveRoom}
 use Rattle.lowering_invariants.specs.Waiting.{AreWaiting}
-use Rattle.match_bodies.specs.CodeSites.{Sites}
-use Rattle.match_bodies.specs.Bodies.{turns_left, RepresentsAt}
-use Rattle.match_bodies.specs.ProgramImages.{IsMachineMemory, IsProgramImage}
+use Rattle.match_bodies.specs.Bodies.{turns_left}
 use Rattle.match_bodies.proofs.StackContexts.{on_moved}
 use Rattle.match_bodies.proofs.SilentTurns.{reaches_silently}
 use Rattle.match_bodies.specs.ConfigurationFacts.{KnownNext}
@@ -42,26 +37,26 @@ use Rattle.match_bodies.proofs.BodyViews.{IsCounted}
 use Rattle.match_turns.specs.FuncletEntry.{FlagsFit}
 use Rattle.match_turns.proofs.BodyReturn as leaving
 use Rattle.match_turns.proofs.BodyReturn.{returns_soon}
-use Rattle.match_turns.specs.DispatchOutcome.{Represents}
-use Rattle.match_turns.specs.ExceptionContinuation.{Continuations}
 use Rattle.match_turns.specs.TurnLaws.{waiting_below}
 use Rattle.match_turns.proofs.DispatchReturnSteps.{filter_step, finally_step}
 use Rattle.match_turns.proofs.HostPage.{host_silent}
 use Rattle.match_turns.proofs.FilterAnswer.{answer_low}
 use Rattle.match_turns.proofs.DispatchStackTop.{IsSearchOnTop, IsUnwindingOnTop, search_on_top, unwinding_on_top, none_landed}
+use Rattle.match_bodies.specs.Setting.{Setting, IsMachineMemory, RepresentsAt}
+use Rattle.match_turns.specs.SettingOutcome.{Continuations, Represents}
 
-module _ (t : Functions) (fs : List Funclet) (program : LinearProgram) (p : ImagePlan) (q : Sites)
-    (image : IsProgramImage t fs program p q) (roomy : HaveRoom program) where
-  module _ (s : State) (c : Configuration) (b : RepresentsAt t fs program p q s c)
-      (counted : IsCounted t fs program p q image c) (k : ℕ) (is : c.frame.body ≡ FuncletBody k)
-      (from : Slot)
+module _ (setting : Setting) (roomy : HaveRoom setting.program) where
+  open setting use {functions as t, funclets as fs, program, plan as p, sites as q, image}
+
+  module _ (s : State) (c : Configuration) (b : RepresentsAt setting s c)
+      (counted : IsCounted setting c) (k : ℕ) (is : c.frame.body ≡ FuncletBody k) (from : Slot)
       (at : slice_get b.body.slots.code.code c.frame.next ≡ Some (instructions.Return from)) (x : ℕ)
       (reads : read c from ≡ Some x)
       (g : LinearFunclet) (funclet : slice_get program.funclets k ≡ Some g)
       (rule : HasRule (act program (instructions.Return from) (exec program zero) c))
       (known : KnownNext program c (instructions.Return from)) where
     abbrev after : State
-    after = leaving.after t fs program p q image roomy s c b counted from at
+    after = leaving.after setting roomy s c b counted from at
 
     abbrev n : ℕ
     n = length (return_code (p.layout c.frame.body) from)
@@ -93,20 +88,20 @@ module _ (t : Functions) (fs : List Funclet) (program : LinearProgram) (p : Imag
         ys b.body.acts) below rest_of_list) in
         on_moved t fs program p s.memory (context_below back top rest_of_context)
         (context_of after.cpu) js items b.body.acts refl refl refl
-        (leaving.sp_after t fs program p q image roomy s c b counted from at) on
+        (leaving.sp_after setting roomy s c b counted from at) on
 
     -- in the host's page no funclet begins
     silent : back < 0x100000000 → Comes t fs n s [] after
     silent low =
         reaches_silently t fs program p q image n s after
-        (leaving.reaches t fs program p q image roomy s c b counted from at)
-        (leaving.keeps t fs program p q image roomy s c b counted from at) b.memory.code
-        (host_silent t fs program p q image s.memory back after.cpu b.memory.code low)
+        (leaving.reaches setting roomy s c b counted from at)
+        (leaving.keeps setting roomy s c b counted from at) b.memory.code
+        (host_silent setting s.memory back after.cpu b.memory.code low)
 
     few : n ≤ 6
     few = let z = (returns_soon (p.layout c.frame.body) from).1 in omega arith
 
-    memory_after : IsMachineMemory t fs program p q after.memory c.store.memory
+    memory_after : IsMachineMemory setting after.memory c.store.memory
     memory_after = b.memory
 
     ends : (next : Next) → act program (instructions.Return from) next c
@@ -119,7 +114,7 @@ module _ (t : Functions) (fs : List Funclet) (program : LinearProgram) (p : Imag
 
     -- ---- a filter
 
-    module _ (fits : FlagsFit program) (continues : Continuations t fs program p q)
+    module _ (fits : FlagsFit program) (continues : Continuations setting)
         (kind : g.kind ≡ funclets.Filter)
         (exception : Exception) (resumption : Resumption) (asked : Handler) (rest : List Handler)
         (w : Frame) (below : List Item) (under : c.below
@@ -141,7 +136,7 @@ module _ (t : Functions) (fs : List Funclet) (program : LinearProgram) (p : Imag
           exception resumption asked rest (waiting_below c w below)
       is_answered = record {
         gives = image.gives;
-        well_formed = leaving.well_formed_after t fs program p q image roomy s c b counted from at;
+        well_formed = leaving.well_formed_after setting roomy s c b counted from at;
         on = here (Searching on_top.dispatch ∷ on_top.others) waiting on_top.items under;
       }
 
@@ -153,16 +148,16 @@ module _ (t : Functions) (fs : List Funclet) (program : LinearProgram) (p : Imag
           ∙ ap (λ ws. answer program next x ws c.events c.store) under
           ∙ answer_low program next x exception resumption asked rest w below c.events c.store
           ∙ ap (λ v. answer program next (low W32 v) waiting c.events c.store)
-          (sym (leaving.result_is t fs program p q image roomy s c b counted from at x reads))
+          (sym (leaving.result_is setting roomy s c b counted from at x reads))
 
-      pub filter_returns : IsMatched t fs program 16 turns_left (Represents t fs program p q) s c
+      pub filter_returns : IsMatched t fs program 16 turns_left (Represents setting) s c
           (instructions.Return from)
       filter_returns =
           let at_host = on_top.at_host in
-          filter_step t fs program p q image fits continues n s after c (instructions.Return from)
-          on_top.dispatch on_top.others b.body.acts exception resumption asked rest w below
-          (silent (omega arith)) few at_host under (none_landed program c.below waits) is_answered
-          memory_after b.body.store answers rule known
+          filter_step setting fits continues n s after c (instructions.Return from) on_top.dispatch
+          on_top.others b.body.acts exception resumption asked rest w below (silent (omega arith))
+          few at_host under (none_landed program c.below waits) is_answered memory_after
+          b.body.store answers rule known
 
     -- ---- a `__finally` block that an unwinding runs
 
@@ -178,14 +173,14 @@ module _ (t : Functions) (fs : List Funclet) (program : LinearProgram) (p : Imag
             unwinding_on_top t fs program p s.memory (context_below back top rest_of_context)
             b.body.is rest target (Waits f ∷ below) b.body.acts is_there.stack is_there.linked
 
-        pub block_returns : IsMatched t fs program 16 turns_left (Represents t fs program p q) s c
+        pub block_returns : IsMatched t fs program 16 turns_left (Represents setting) s c
             (instructions.Return from)
         block_returns =
             let at_host = unwinding.at_host in
-            finally_step t fs program p q image fits n s after c (instructions.Return from)
-            unwinding.dispatch unwinding.others b.body.acts rest target f below
-            (silent (omega arith)) few at_host under (none_landed program c.below waits)
-            (leaving.well_formed_after t fs program p q image roomy s c b counted from at)
+            finally_step setting fits n s after c (instructions.Return from) unwinding.dispatch
+            unwinding.others b.body.acts rest target f below (silent (omega arith)) few at_host
+            under (none_landed program c.below waits)
+            (leaving.well_formed_after setting roomy s c b counted from at)
             (here (Unwinding unwinding.dispatch ∷ unwinding.others)
             (Unwinds rest target ∷ Waits f ∷ below) unwinding.items under) memory_after b.body.store
             (λ next. ends next ∙ ap (λ z. end_funclet program next z x c) kind) rule known

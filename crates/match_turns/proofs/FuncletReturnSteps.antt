@@ -2,48 +2,43 @@
 use Rattle.std.proofs.Common.{◌≡◌, ℕ, zero, Option, Some, None, List, [], ◌∷◌, refl, subst, inl}
 use Rattle.std.specs.Prelude.{slice_get}
 use Rattle.x64_machine.specs.Effect.{State}
-use Rattle.virtual_unwind.specs.CallerOf.{Functions}
-use Rattle.host_model.specs.declared.funclet.Funclet.{Funclet}
 use Rattle.linear_code.specs.declared.slot.Slot.{Slot}
 use Rattle.linear_code.specs.declared.instruction.Instruction.TheVariants as instructions
-use Rattle.linear_code.specs.Program.{LinearProgram, LinearFunclet}
+use Rattle.linear_code.specs.Program.{LinearFunclet}
 use Rattle.linear_machine.specs.Frames.{FuncletBody, Item, Waits, Searches, Unwinds, Configuration, read}
 use Rattle.linear_machine.specs.Instructions.{act}
 use Rattle.linear_machine.specs.Run.{instruction_at, exec}
-use Rattle.match_stack.specs.ImagePlan.{ImagePlan}
 use Rattle.match_stack.specs.ItemMatches.{FuncletIsAbove, IsAbove}
 use Rattle.match_runs.specs.Ends.{HasRule}
 use Rattle.match_runs.specs.Matched.{Moves, IsMatched}
-use Rattle.match_bodies.specs.CodeSites.{Sites}
-use Rattle.match_bodies.specs.Bodies.{turns_left, RepresentsAt}
-use Rattle.match_bodies.specs.ProgramImages.{IsProgramImage}
+use Rattle.match_bodies.specs.Bodies.{turns_left}
 use Rattle.match_bodies.specs.ConfigurationFacts.{IsWellMade, IsKnown, KnownNext}
 use Rattle.match_bodies.specs.StepLaws.{turns_per_step}
 use Rattle.match_bodies.proofs.StepNeeds.{counted_here, code_at, ready_here}
 use Rattle.match_turns.specs.FuncletEntry.{FlagsFit}
 use Rattle.match_turns.proofs.FuncletSteps.{reads_some, returns_of_blocks_are_matched}
-use Rattle.match_turns.specs.DispatchOutcome.{Represents}
-use Rattle.match_turns.specs.ExceptionContinuation.{Continuations}
 use Rattle.match_turns.specs.EndLaws.{FuncletReturnsAreMatched}
 use Rattle.match_turns.proofs.FuncletReturn.{filter_returns, block_returns}
+use Rattle.match_bodies.specs.Setting.{Setting, setting_of, RepresentsAt}
+use Rattle.match_turns.specs.SettingOutcome.{Continuations, Represents}
 
-module _ (t : Functions) (fs : List Funclet) (program : LinearProgram) (p : ImagePlan) (q : Sites)
-    (image : IsProgramImage t fs program p q) (made : IsWellMade program p)
-    (fits : FlagsFit program) (continues : Continuations t fs program p q) where
-  module _ (s : State) (c : Configuration) (k : ℕ) (from : Slot) (b : RepresentsAt t fs program p q s c)
+module _ (setting : Setting) (made : IsWellMade setting.program setting.plan)
+    (fits : FlagsFit setting.program) (continues : Continuations setting) where
+  open setting use {functions as t, funclets as fs, program, plan as p, sites as q, image}
+
+  module _ (s : State) (c : Configuration) (k : ℕ) (from : Slot) (b : RepresentsAt setting s c)
       (known : IsKnown program c) (name : c.frame.body ≡ FuncletBody k)
       (at : instruction_at program c ≡ Some (instructions.Return from))
       (rule : HasRule (act program (instructions.Return from) (exec program zero) c))
       (after : KnownNext program c (instructions.Return from)) where
     abbrev Goal : Type 0
-    Goal = IsMatched t fs program turns_per_step turns_left (Represents t fs program p q) s c
+    Goal = IsMatched t fs program turns_per_step turns_left (Represents setting) s c
         (instructions.Return from)
 
     value : (x : ℕ) × (read c from ≡ Some x)
-    value = reads_some c from (ready_here t fs program p q image made s c b known
-        (instructions.Return from) at)
+    value = reads_some c from (ready_here setting made s c b known (instructions.Return from) at)
 
-    moves_on : Moves t fs program turns_per_step turns_left (RepresentsAt t fs program p q) s c
+    moves_on : Moves t fs program turns_per_step turns_left (RepresentsAt setting) s c
         (instructions.Return from) → Goal
     moves_on m = inl (record {
       turns = m.turns;
@@ -66,19 +61,17 @@ module _ (t : Functions) (fs : List Funclet) (program : LinearProgram) (p : Imag
       by_list (Searches exception resumption asked rest ∷ Searches x y z w ∷ below) e h = absurd h
       by_list (Searches exception resumption asked rest ∷ Unwinds x y ∷ below) e h = absurd h
       by_list (Searches exception resumption asked rest ∷ Waits w ∷ below) e h =
-          filter_returns t fs program p q image made.room s c b
-          (counted_here t fs program p q image made c known) k name from
-          (code_at t fs program p q image made s c b known (instructions.Return from) at)
-          value.0 value.1 g there rule after fits continues h.0 exception resumption asked rest w
-          below e known.stacked.below
+          filter_returns setting made.room s c b (counted_here setting made c known) k name from
+          (code_at setting made s c b known (instructions.Return from) at) value.0 value.1 g there
+          rule after fits continues h.0 exception resumption asked rest w below e
+          known.stacked.below
       by_list (Unwinds rest target ∷ []) e h = absurd h
       by_list (Unwinds rest target ∷ Searches x y z w ∷ below) e h = absurd h
       by_list (Unwinds rest target ∷ Unwinds x y ∷ below) e h = absurd h
       by_list (Unwinds rest target ∷ Waits f ∷ below) e h =
-          block_returns t fs program p q image made.room s c b
-          (counted_here t fs program p q image made c known) k name from
-          (code_at t fs program p q image made s c b known (instructions.Return from) at)
-          value.0 value.1 g there rule after fits h.0 h.1 rest target f below e known.stacked.below
+          block_returns setting made.room s c b (counted_here setting made c known) k name from
+          (code_at setting made s c b known (instructions.Return from) at) value.0 value.1 g there
+          rule after fits h.0 h.1 rest target f below e known.stacked.below
       by_list (Waits w ∷ below) e h =
           moves_on (returns_of_blocks_are_matched t fs program p q image made s c from b known at
           (record {
@@ -105,5 +98,5 @@ module _ (t : Functions) (fs : List Funclet) (program : LinearProgram) (p : Imag
 pub funclet_returns_are_matched : FuncletReturnsAreMatched
 funclet_returns_are_matched t fs program p q image made fits continues s c k from b known name at
     rule after =
-    returned t fs program p q image made fits continues s c k from b known name at rule
+    returned (setting_of t fs program p q image) made fits continues s c k from b known name at rule
     after

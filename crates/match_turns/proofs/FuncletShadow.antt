@@ -7,14 +7,9 @@ use Rattle.flat_memory.specs.Memory.{Memory}
 use Rattle.x64_instr.specs.declared.register.Reg.TheVariants.{Rsp}
 use Rattle.x64_instr.specs.declared.instruction.Instr.{Instr}
 use Rattle.x64_machine.specs.Effect.{State, register}
-use Rattle.virtual_unwind.specs.CallerOf.{Functions}
-use Rattle.host_model.specs.declared.funclet.Funclet.{Funclet}
-use Rattle.linear_code.specs.Program.{LinearProgram}
 use Rattle.linear_machine.specs.Frames.{FuncletBody, funclet_body, Item}
-use Rattle.match_stack.specs.ImagePlan.{ImagePlan}
 use Rattle.match_stack.specs.ItemMatches.{Activation}
-use Rattle.match_bodies.specs.CodeSites.{Sites, parent_base, keep_base, keep_argument, funclet_arguments, arguments_code}
-use Rattle.match_bodies.specs.ProgramImages.{IsMachineMemory, IsProgramImage}
+use Rattle.match_bodies.specs.CodeSites.{parent_base, keep_base, keep_argument, funclet_arguments, arguments_code}
 use Rattle.match_bodies.proofs.InstructionEffects.{others_of}
 use Rattle.match_bodies.proofs.RoutineWalks.{StepsTo, AllPlain}
 use Rattle.match_bodies.proofs.FrameMaking.{making_steps}
@@ -22,6 +17,7 @@ use Rattle.match_bodies.proofs.EntryKeeping.{EntryRan, entry_ran, base_plain}
 use Rattle.match_turns.proofs.FuncletPrologue.{LeadsBy}
 use Rattle.match_turns.proofs.FuncletFrame.{ArrivesBelow, IsPlanned}
 use Rattle.match_turns.proofs.ReturnAddressPlace.{arrives_beneath}
+use Rattle.match_bodies.specs.Setting.{Setting, IsMachineMemory}
 
 -- the parent's base is near, where it is kept in a frame
 pub near_parent : (m : Memory) (o : Option ℕ) (frame base : ℕ) → LeadsBy m o frame base → (away : ℕ)
@@ -30,11 +26,12 @@ near_parent m None frame base leads away e = absurd cc
 near_parent m (Some x) frame base leads away e = let same : x ≡ away = cc in let n = leads.near in
     omega arith
 
-module _ (t : Functions) (fs : List Funclet) (program : LinearProgram) (p : ImagePlan) (q : Sites)
-    (image : IsProgramImage t fs program p q) where
+module _ (setting : Setting) where
+  open setting use {functions as t, funclets as fs, program, plan as p, sites as q, image}
+
   module _ (s : State) (k activation argument : ℕ) (items : List Item) (acts : List Activation)
-      (l : IsPlanned t fs program p q image k) (a : ArrivesBelow t fs program p s k activation argument
-      items acts) (source : Memory) (memory : IsMachineMemory t fs program p q s.memory source)
+      (l : IsPlanned setting k) (a : ArrivesBelow t fs program p s k activation argument
+      items acts) (source : Memory) (memory : IsMachineMemory setting s.memory source)
       (some : 0 < length l.funclet.body.code) (low : STACK_START ≤ register s.cpu Rsp)
       (high : a.at ≤ STACK_END) (frame base : ℕ)
       (leads : LeadsBy s.memory (parent_base p l.funclet.parent) frame base) where
@@ -72,5 +69,5 @@ module _ (t : Functions) (fs : List Funclet) (program : LinearProgram) (p : Imag
         some (register s.cpu Rsp) (register s.cpu Rsp + 8) a.back (others_of s.cpu.registers) a.is
         n s w stored left 8 parts
         (count ∙ ap (λ x. x + length stored) (sym one)) run a.rip refl
-        (arrives_beneath t fs program p q image s k activation argument items acts a high)
-        memory.code (omega arith) (omega arith) refl plain
+        (arrives_beneath setting s k activation argument items acts a high) memory.code
+        (omega arith) (omega arith) refl plain

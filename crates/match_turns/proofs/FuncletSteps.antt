@@ -15,6 +15,7 @@ use Rattle.match_turns.specs.FuncletLaws.{CalledFiltersBegin, CalledBlocksBegin,
 use Rattle.match_turns.proofs.FilterEntry.{filters_begin}
 use Rattle.match_turns.proofs.FinallyUnwindEntry.{blocks_begin}
 use Rattle.match_turns.proofs.FinallyCallReturn.{return_of_block}
+use Rattle.match_bodies.specs.Setting.{Setting, setting_of}
 
 -- a slot that is held is read
 got_within : (vs : List ℕ) (i : ℕ) → i < length vs → slice_get vs i ≡ Some (slice_index vs i)
@@ -53,9 +54,12 @@ called_blocks_begin t fs program p q image fits = blocks_begin t fs program p q 
 
 pub returns_of_blocks_are_matched : ReturnsOfBlocksAreMatched
 returns_of_blocks_are_matched t fs program p q image made s c from b known at called =
-    let counted = counted_here t fs program p q image made c known in
-    let here = code_at t fs program p q image made s c b known (instructions.Return from) at in
-    let held = ready_here t fs program p q image made s c b known (instructions.Return from) at in
+    let setting : Setting = setting_of t fs program p q image in
+    let counted = counted_here setting made c known in
+    let here = code_at setting made s c b known
+    (instructions.Return from) at in
+    let held = ready_here setting made s c b known
+    (instructions.Return from) at in
     let x = reads_some c from held in
     let above : IsBlockOf program called.number c.frame.activation called.body
     × IsAt program called.body (instructions.CallFinally called.number) =
@@ -67,7 +71,8 @@ returns_of_blocks_are_matched t fs program p q image made s c from b known at ca
     called.below known.stacked.below in
     let calls = has_instruction program called.body (instructions.CallFinally called.number)
     above.1 in
-    return_of_block t fs program p q image made.room made.apart s c b counted called.number
+    return_of_block setting made.room made.apart s c b counted
+    called.number
     called.name from here x.0 x.1 called.funclet called.there called.flag called.kind
     called.body called.items called.below calls.body calls.there called.number calls.at
     waits.0.landed

@@ -1,16 +1,14 @@
 -- A function is entered after its call, whatever its frame is.
 use Rattle.std.proofs.Common.{◌≡◌, ℕ, ◌+◌, ◌-◌, ◌<◌, ◌≤◌, Bool, true, false, Some, List, length, refl, sym, ap, subst, ◌∙◌, arith, inl, inr}
-use Rattle.std.specs.Prelude.{slice_get, nat_le, if◌then◌else◌}
+use Rattle.std.specs.Prelude.{nat_le, if◌then◌else◌}
 use Rattle.std.proofs.lemmas.Bool.{cases_lt, le-leb}
 use Rattle.host_layout.specs.declared.range.TheConstants.{STACK_START, STACK_END}
 use Rattle.x64_instr.specs.declared.register.Reg.TheVariants.{Rsp}
 use Rattle.x64_instr.specs.declared.instruction.Instr.{Instr}
-use Rattle.x64_machine.specs.Effect.{State, register}
-use Rattle.virtual_unwind.specs.CallerOf.{Functions}
-use Rattle.host_model.specs.declared.funclet.Funclet.{Funclet}
+use Rattle.x64_machine.specs.Effect.{register}
 use Rattle.linear_code.specs.declared.instruction.Instruction.TheVariants as instructions
-use Rattle.linear_code.specs.Program.{LinearProgram, LinearBody, LinearFunction}
-use Rattle.linear_machine.specs.Frames.{FunctionBody, body_of, Configuration}
+use Rattle.linear_code.specs.Program.{LinearBody}
+use Rattle.linear_machine.specs.Frames.{FunctionBody, body_of}
 use Rattle.template_code.specs.declared.layout.Layout.{Layout}
 use Rattle.template_code.specs.Bytes.{sizes, spelled}
 use Rattle.template_code.specs.Calls.{enter_code, parameters_code}
@@ -18,128 +16,162 @@ use Rattle.template_code.specs.Probing.{check_stack, enter_large}
 use Rattle.x64_templates.specs.CallStates.{HasBelow}
 use Rattle.x64_templates.specs.Runs.{HasCode}
 use Rattle.x64_templates.proofs.PlacedCode.{bytes_kept}
-use Rattle.match_stack.specs.ImagePlan.{ImagePlan}
-use Rattle.lowering_invariants.specs.Room.{HaveRoom}
-use Rattle.match_bodies.specs.CodeSites.{Sites, making}
+use Rattle.match_bodies.specs.CodeSites.{making}
 use Rattle.match_bodies.specs.Layouts.{IsFunctionLayout, IsLeafLayout, IsLayoutIf}
-use Rattle.match_bodies.specs.ProgramImages.{IsProgramImage}
-use Rattle.match_bodies.specs.Bodies.{RepresentsAt}
 use Rattle.match_bodies.proofs.FrameMaking.{making_steps}
 use Rattle.match_bodies.proofs.StackWords.{may_read_written}
-use Rattle.match_bodies.proofs.BodyViews.{IsCounted}
 use Rattle.match_turns.proofs.CallArguments as calling
 use Rattle.match_turns.proofs.FunctionParameters.{with_home, home_parameters}
 use Rattle.match_turns.proofs.FunctionParameters as entering
 use Rattle.match_turns.proofs.FunctionEntryCode.{making_frame, HasEntry, has_entry}
 use Rattle.match_turns.proofs.FunctionPrologue.{Made, no_frame, small_frame, large_frame}
+use Rattle.match_turns.proofs.AtCall.{AtCall}
+use Rattle.match_bodies.specs.Setting.{Setting}
 
-module _ (t : Functions) (fs : List Funclet) (program : LinearProgram) (p : ImagePlan) (q : Sites)
-    (image : IsProgramImage t fs program p q) (roomy : HaveRoom program) where
-  module _ (s : State) (c : Configuration) (b : RepresentsAt t fs program p q s c)
-      (counted : IsCounted t fs program p q image c) (f first count : ℕ)
-      (at : slice_get b.body.slots.code.code c.frame.next ≡ Some (instructions.Call f first count))
-      (few : count ≤ 8) (few_passed : count ≤ 4 + b.body.slots.code.passed)
-      (framed : p.leaf c.frame.body ≡ false)
-      (fn : LinearFunction) (callee : slice_get program.functions f ≡ Some fn)
-      (parameters : fn.parameters ≡ count) (fits : count ≤ fn.body.locals) where
-    abbrev caller : ℕ
-    caller = register s.cpu Rsp
+module _ {setting : Setting} (at_call : AtCall setting) where
+  open setting use {functions as t, funclets as fs, program, plan as p, sites as q, image}
+  open at_call use {
+    state as s,
+    represents as b,
+    number as f,
+    count,
+    function as fn,
+    found as callee,
+    parameters,
+    fits,
+  }
 
-    abbrev layout : Layout
-    layout = p.layout (FunctionBody f)
+  abbrev caller : ℕ
+  caller = register s.cpu Rsp
 
-    abbrev target : ℕ
-    target = q.function f
+  abbrev layout : Layout
+  layout = p.layout (FunctionBody f)
 
-    abbrev o : LinearBody
-    o = fn.body
+  abbrev target : ℕ
+  target = q.function f
 
-    abbrev there : body_of program (FunctionBody f) ≡ Some o
-    there = entering.there t fs program p q image roomy s c b counted f first count at few
-        few_passed framed fn callee parameters fits
+  abbrev o : LinearBody
+  o = fn.body
 
-    abbrev Goal : Type 0
-    Goal = entering.InCallee t fs program p q image roomy s c b counted f first count at few
-        few_passed framed fn callee parameters fits
+  abbrev there : body_of program (FunctionBody f) ≡ Some o
+  there = entering.there at_call
 
-    entry : (leaf : Bool) → p.leaf (FunctionBody f) ≡ leaf
-        → HasEntry program p q f count s.memory leaf
-    entry = has_entry t fs program p q image f count fn callee parameters s.memory b.memory.code
+  abbrev Goal : Type 0
+  Goal = entering.InCallee at_call
 
-    -- code at the callee's first byte
-    called_code : (to : ℕ) (code : List Instr) → HasCode s.memory to code
-        → HasCode (entering.called t fs program p q image roomy s c b counted f first count at few
-        few_passed framed fn callee parameters fits).memory to code
-    called_code to code h =
-        let k = entering.keeps t fs program p q image roomy s c b counted f first count at few
-        few_passed framed fn callee parameters fits in
-        record {
-          is_there = bytes_kept s.memory _ to (spelled code) k.fixed k.protection h.is_there;
-          placed = h.placed;
-        }
+  entry : (leaf : Bool) → p.leaf (FunctionBody f) ≡ leaf
+      → HasEntry program p q f count s.memory leaf
+  entry = has_entry t fs program p q image f count fn callee parameters s.memory b.memory.code
 
-    low : STACK_START + 196568 ≤ caller
-    low = calling.low t fs program p q image roomy s c b counted f first count at few few_passed
-        framed
+  -- code at the callee's first byte
+  called_code : (to : ℕ) (code : List Instr) → HasCode s.memory to code
+      → HasCode (entering.called at_call).memory to code
+  called_code to code h =
+      let k = entering.keeps at_call in
+      record {
+        is_there = bytes_kept s.memory _ to (spelled code) k.fixed k.protection h.is_there;
+        placed = h.placed;
+      }
 
-    top : caller + 40 ≤ STACK_END
-    top = let a = calling.room_top t fs program p q image roomy s c b counted f first count at few
-        few_passed framed in omega arith
+  low : STACK_START + 196568 ≤ caller
+  low = calling.low at_call
 
-    below_top : HasBelow (entering.called t fs program p q image roomy s c b counted f first count
-        at few few_passed framed fn callee parameters fits).memory (caller - 8) 8
-    below_top =
+  top : caller + 40 ≤ STACK_END
+  top = let a = calling.room_top at_call in omega arith
+
+  below_top : HasBelow (entering.called at_call).memory (caller - 8) 8
+  below_top =
+      let x = low in
+      let z = top in
+      record {
+        enough = omega arith;
+        high = omega arith;
+        writable = λ a l u. entering.may_stack at_call a (omega arith) (omega arith);
+      }
+
+  -- ---- a leaf function
+
+  leaf_entered : p.leaf (FunctionBody f) ≡ true → IsLeafLayout layout o → Goal
+  leaf_entered leaf l =
+      let h = fits in
+      let x = low in
+      let z = top in
+      let e = l.frame in
+      let m = l.locals in
+      let k = l.temporaries in
+      let n = l.few in
+      let small : 0 + count ≤ 4 = omega arith in
+      let none : target + sizes (making_frame p q f true) ≡ target = omega arith in
+      let same = home_parameters layout 0 count small in
+      let made = no_frame (entering.called at_call) target
+      (entering.flags at_call) (caller - 8) (entering.arguments at_call) (calling.called_sp at_call)
+      (calling.called_count at_call) (calling.in_registers at_call) in
+      entering.entered at_call (caller - 8) target 0 made (with_home layout) (record {
+        none = l.none;
+        low = omega arith;
+        temporaries = omega arith;
+        locals = omega arith;
+        temporaries_small = omega arith;
+        locals_small = omega arith;
+        apart = inl (omega arith);
+      })
+      (record { base = refl; temporaries = omega arith; locals = omega arith }) refl (omega arith)
+      (λ i ge lt. absurd (omega arith)) (omega arith)
+      (subst (λ code. HasCode s.memory target code) (sym same)
+      (subst (λ a. HasCode s.memory a (parameters_code layout 0 count)) none
+      (entry true leaf).storing))
+      (ap (λ code. target + sizes code) same ∙ (let y = (entry true leaf).ends in omega arith))
+      (λ a out i. elim i [
+        | inl w ↦ (let g = w.0 in let h = w.1 in
+            elim out [
+              | inl o1 ↦ absurd (omega arith)
+              | inr (inl o1) ↦ absurd (omega arith)
+              | inr (inr (inl o1)) ↦ (let o2 = o1.0 in let o3 = o1.1 in absurd (omega arith))
+              | inr (inr (inr o1)) ↦ absurd (omega arith)
+            ])
+        | inr w ↦ (let g = w.0 in let h = w.1 in
+            elim out [
+              | inl o1 ↦ absurd (omega arith)
+              | inr (inl o1) ↦ absurd (omega arith)
+              | inr (inr (inl o1)) ↦ (let o2 = o1.0 in let o3 = o1.1 in absurd (omega arith))
+              | inr (inr (inr o1)) ↦ absurd (omega arith)
+            ])
+      ]) (ap (λ code. 0 + length code) same ∙ (entry true leaf).turns 0 refl)
+
+  -- ---- a function with a frame
+
+  module _ (leaf : p.leaf (FunctionBody f) ≡ false) (l : IsFunctionLayout layout o) where
+    abbrev frame : ℕ
+    frame = layout.frame
+
+    abbrev sp : ℕ
+    sp = caller - 8 - frame
+
+    framed_entered : (making : List Instr) (n : ℕ) → making_frame p q f false ≡ making
+        → making_steps false frame ≡ n → Made (entering.called at_call) target
+        (target + sizes making) (entering.flags at_call) (caller - 8) sp
+        (entering.arguments at_call) n → Goal
+    framed_entered making n e same made =
         let x = low in
         let z = top in
-        record {
-          enough = omega arith;
-          high = omega arith;
-          writable = λ a l u. entering.may_stack t fs program p q image roomy s c b counted f first
-              count at few few_passed framed fn callee parameters fits a (omega arith) (omega arith);
-        }
-
-    -- ---- a leaf function
-
-    leaf_entered : p.leaf (FunctionBody f) ≡ true → IsLeafLayout layout o → Goal
-    leaf_entered leaf l =
-        let x = low in
-        let z = top in
-        let e = l.frame in
+        let a = l.temporaries in
         let m = l.locals in
-        let k = l.temporaries in
-        let n = l.few in
-        let small : 0 + count ≤ 4 = omega arith in
-        let none : target + sizes (making_frame p q f true) ≡ target = omega arith in
-        let same = home_parameters layout 0 count small in
-        let made = no_frame (entering.called t fs program p q image roomy s c b counted f first
-        count at few few_passed framed fn callee parameters fits) target
-        (entering.flags t fs program p q image roomy s c b counted f first count at few few_passed
-        framed fn callee parameters fits) (caller - 8)
-        (entering.arguments t fs program p q image roomy s c b counted f first count at few
-        few_passed framed fn callee parameters fits)
-        (calling.called_sp t fs program p q image roomy s c b counted f first count at few
-        few_passed framed) (calling.called_count t fs program p q image roomy s c b counted f
-        first count at few few_passed framed)
-        (calling.in_registers t fs program p q image roomy s c b counted f first count at few
-        few_passed framed) in
-        entering.entered t fs program p q image roomy s c b counted f first count at few few_passed
-        framed fn callee parameters fits (caller - 8) target 0 made (with_home layout)
-        (record {
+        let k = l.small in
+        entering.entered at_call sp (target + sizes making) n made layout (record {
           none = l.none;
           low = omega arith;
           temporaries = omega arith;
           locals = omega arith;
           temporaries_small = omega arith;
           locals_small = omega arith;
-          apart = inl (omega arith);
+          apart = inr (omega arith);
         })
-        (record { base = refl; temporaries = omega arith; locals = omega arith }) refl (omega arith)
-        (λ i ge lt. absurd (omega arith)) (omega arith)
-        (subst (λ code. HasCode s.memory target code) (sym same)
-        (subst (λ a. HasCode s.memory a (parameters_code layout 0 count)) none
-        (entry true leaf).storing))
-        (ap (λ code. target + sizes code) same ∙ (let y = (entry true leaf).ends in omega arith))
-        (λ a out i. elim i [
+        (record { base = refl; temporaries = omega arith; locals = omega arith }) refl k
+        (λ i ge lt. (let w : sp + frame + 8 ≡ caller = omega arith in w)) (omega arith)
+        (subst (λ i. HasCode s.memory (target + sizes i) (parameters_code layout 0 count)) e
+        (entry false leaf).storing)
+        (ap (λ i. target + sizes i + sizes (parameters_code layout 0 count)) (sym e)
+        ∙ (entry false leaf).ends) (λ a out i. elim i [
           | inl w ↦ (let g = w.0 in let h = w.1 in
               elim out [
                 | inl o1 ↦ absurd (omega arith)
@@ -159,148 +191,66 @@ module _ (t : Functions) (fs : List Funclet) (program : LinearProgram) (p : Imag
                     (inr (inr o1)) ↦ absurd (omega arith)
               ])
         ])
-        (ap (λ code. 0 + length code) same ∙ (entry true leaf).turns 0 refl)
+        ((entry false leaf).turns n same)
 
-    -- ---- a function with a frame
+    small_entered : nat_le frame 4096 ≡ true → Goal
+    small_entered e =
+        let x = low in
+        let z = top in
+        let k = l.small in
+        let is : making_frame p q f false ≡ enter_code frame = ap
+        (making frame target q.check_stack) e in
+        framed_entered (enter_code frame) 1 is (ap (λ x. if x then 1 else 8) e)
+        (small_frame (entering.called at_call) target (entering.flags at_call) (caller - 8)
+        (entering.arguments at_call) (calling.called_sp at_call) (calling.called_count at_call)
+        (calling.in_registers at_call) frame (omega arith) (omega arith) (omega arith)
+        (called_code target (enter_code frame)
+        (subst (HasCode s.memory target) is (entry false leaf).making)))
 
-    module _ (leaf : p.leaf (FunctionBody f) ≡ false) (l : IsFunctionLayout layout o) where
-      abbrev frame : ℕ
-      frame = layout.frame
+    large_entered : nat_le frame 4096 ≡ false → 4096 < frame → Goal
+    large_entered e big =
+        let x = low in
+        let z = top in
+        let k = l.small in
+        let is : making_frame p q f false ≡ enter_large frame target q.check_stack = ap
+        (making frame target q.check_stack) e in
+        let a = image.addresses (FunctionBody f) o there in
+        let begin = a.first in
+        let a1 = a.inside.low in
+        let a2 = a.inside.high in
+        let c1 = image.check_stack.low in
+        let c2 = image.check_stack.high in
+        let reads = λ (i : ℕ) (lo : STACK_START ≤ i) (hi : i < STACK_END). may_read_written
+        (entering.called at_call).memory i (entering.may_stack at_call i lo hi) in
+        framed_entered (enter_large frame target q.check_stack) 8 is
+        (ap (λ x. if x then 1 else 8) e) (large_frame (entering.called at_call) target
+        (entering.flags at_call) (caller - 8) (entering.arguments at_call)
+        (calling.called_sp at_call) (calling.called_count at_call) (calling.in_registers at_call)
+        frame q.check_stack (omega arith) below_top (record {
+          enough = omega arith;
+          more = omega arith;
+          high = omega arith;
+          first = reads (caller - 8 - 4096) (omega arith) (omega arith);
+          last = reads (caller - 8 - frame) (omega arith) (omega arith);
+        })
+        ((omega arith, omega arith, omega arith, omega arith)) (omega arith)
+        (called_code q.check_stack check_stack b.memory.code.check_stack)
+        (called_code target (enter_large frame target q.check_stack)
+        (subst (HasCode s.memory target) is (entry false leaf).making)))
 
-      abbrev sp : ℕ
-      sp = caller - 8 - frame
+    by_size : (x : Bool) → nat_le frame 4096 ≡ x → Goal
+    by_size true e = small_entered e
+    by_size false e = elim (cases_lt 4096 frame) [
+      | inl lt ↦ large_entered e lt
+      | inr le ↦ absurd (let w : nat_le frame 4096 ≡ true = le-leb frame 4096 le in
+          let no : true ≡ false = sym w ∙ e in cc)
+    ]
 
-      framed_entered : (making : List Instr) (n : ℕ) → making_frame p q f false ≡ making
-          → making_steps false frame ≡ n → Made
-          (entering.called t fs program p q image roomy s c b counted f first count at few
-          few_passed framed fn callee parameters fits) target (target + sizes making)
-          (entering.flags t fs program p q image roomy s c b counted f first count at few few_passed
-          framed fn callee parameters fits) (caller - 8) sp
-          (entering.arguments t fs program p q image roomy s c b counted f first count at few
-          few_passed framed fn callee parameters fits) n → Goal
-      framed_entered making n e same made =
-          let x = low in
-          let z = top in
-          let a = l.temporaries in
-          let m = l.locals in
-          let k = l.small in
-          entering.entered t fs program p q image roomy s c b counted f first count at few
-          few_passed framed fn callee parameters fits sp (target + sizes making) n made layout
-          (record {
-            none = l.none;
-            low = omega arith;
-            temporaries = omega arith;
-            locals = omega arith;
-            temporaries_small = omega arith;
-            locals_small = omega arith;
-            apart = inr (omega arith);
-          })
-          (record { base = refl; temporaries = omega arith; locals = omega arith }) refl k
-          (λ i ge lt. (let w : sp + frame + 8 ≡ caller = omega arith in w)) (omega arith)
-          (subst (λ i. HasCode s.memory (target + sizes i) (parameters_code layout 0 count)) e
-          (entry false leaf).storing)
-          (ap (λ i. target + sizes i + sizes (parameters_code layout 0 count)) (sym e)
-          ∙ (entry false leaf).ends)
-          (λ a out i. elim i [
-            | inl w ↦ (let g = w.0 in let h = w.1 in
-                elim out [
-                  | inl o1 ↦ absurd (omega arith)
-                  | inr (inl o1) ↦ absurd (omega arith)
-                  | inr
-                      (inr (inl o1)) ↦ (let o2 = o1.0 in let o3 = o1.1 in absurd (omega arith))
-                  | inr
-                      (inr (inr o1)) ↦ absurd (omega arith)
-                ])
-            | inr w ↦ (let g = w.0 in let h = w.1 in
-                elim out [
-                  | inl o1 ↦ absurd (omega arith)
-                  | inr (inl o1) ↦ absurd (omega arith)
-                  | inr
-                      (inr (inl o1)) ↦ (let o2 = o1.0 in let o3 = o1.1 in absurd (omega arith))
-                  | inr
-                      (inr (inr o1)) ↦ absurd (omega arith)
-                ])
-          ])
-          ((entry false leaf).turns n same)
-
-      small_entered : nat_le frame 4096 ≡ true → Goal
-      small_entered e =
-          let x = low in
-          let z = top in
-          let k = l.small in
-          let is : making_frame p q f false ≡ enter_code frame = ap
-          (making frame target q.check_stack) e in
-          framed_entered (enter_code frame) 1 is (ap (λ x. if x then 1 else 8) e)
-          (small_frame (entering.called t fs program p q image roomy s c b counted f first count at
-          few few_passed framed fn callee parameters fits) target
-          (entering.flags t fs program p q image roomy s c b counted f first count at few
-          few_passed framed fn callee parameters fits) (caller - 8)
-          (entering.arguments t fs program p q image roomy s c b counted f first count at few
-          few_passed framed fn callee parameters fits)
-          (calling.called_sp t fs program p q image roomy s c b counted f first count at few
-          few_passed framed) (calling.called_count t fs program p q image roomy s c b counted f
-          first count at few few_passed framed)
-          (calling.in_registers t fs program p q image roomy s c b counted f first count at few
-          few_passed framed) frame (omega arith) (omega arith) (omega arith)
-          (called_code target (enter_code frame)
-          (subst (HasCode s.memory target) is (entry false leaf).making)))
-
-      large_entered : nat_le frame 4096 ≡ false → 4096 < frame → Goal
-      large_entered e big =
-          let x = low in
-          let z = top in
-          let k = l.small in
-          let is : making_frame p q f false ≡ enter_large frame target q.check_stack = ap
-          (making frame target q.check_stack) e in
-          let a = image.addresses (FunctionBody f) o there in
-          let begin = a.first in
-          let a1 = a.inside.low in
-          let a2 = a.inside.high in
-          let c1 = image.check_stack.low in
-          let c2 = image.check_stack.high in
-          let reads = λ (i : ℕ) (lo : STACK_START ≤ i) (hi : i < STACK_END). may_read_written
-          (entering.called t fs program p q image roomy s c b counted f first count at few
-          few_passed framed fn callee parameters fits).memory i
-          (entering.may_stack t fs program p q image roomy s c b counted f first count at few
-          few_passed framed fn callee parameters fits i lo hi) in
-          framed_entered (enter_large frame target q.check_stack) 8 is
-          (ap (λ x. if x then 1 else 8) e)
-          (large_frame (entering.called t fs program p q image roomy s c b counted f first count at
-          few few_passed framed fn callee parameters fits) target
-          (entering.flags t fs program p q image roomy s c b counted f first count at few
-          few_passed framed fn callee parameters fits) (caller - 8)
-          (entering.arguments t fs program p q image roomy s c b counted f first count at few
-          few_passed framed fn callee parameters fits)
-          (calling.called_sp t fs program p q image roomy s c b counted f first count at few
-          few_passed framed) (calling.called_count t fs program p q image roomy s c b counted f
-          first count at few few_passed framed)
-          (calling.in_registers t fs program p q image roomy s c b counted f first count at few
-          few_passed framed) frame q.check_stack (omega arith) below_top
-          (record {
-            enough = omega arith;
-            more = omega arith;
-            high = omega arith;
-            first = reads (caller - 8 - 4096) (omega arith) (omega arith);
-            last = reads (caller - 8 - frame) (omega arith) (omega arith);
-          })
-          ((omega arith, omega arith, omega arith, omega arith)) (omega arith)
-          (called_code q.check_stack check_stack b.memory.code.check_stack)
-          (called_code target (enter_large frame target q.check_stack)
-          (subst (HasCode s.memory target) is (entry false leaf).making)))
-
-      by_size : (x : Bool) → nat_le frame 4096 ≡ x → Goal
-      by_size true e = small_entered e
-      by_size false e = elim (cases_lt 4096 frame) [
-        | inl lt ↦ large_entered e lt
-        | inr le ↦ absurd (let w : nat_le frame 4096 ≡ true = le-leb frame 4096 le in
-            let no : true ≡ false = sym w ∙ e in cc)
-      ]
-
-    pub entered : Goal
-    entered = by (p.leaf (FunctionBody f)) refl
-      where
-        by : (leaf : Bool) → p.leaf (FunctionBody f) ≡ leaf → Goal
-        by true e = leaf_entered e (subst (λ x. IsLayoutIf program p layout o x) e
-            (image.laid_out (FunctionBody f) o there))
-        by false e = by_size e (subst (λ x. IsLayoutIf program p layout o x) e
-            (image.laid_out (FunctionBody f) o there)) (nat_le layout.frame 4096) refl
+  pub entered : Goal
+  entered = by (p.leaf (FunctionBody f)) refl
+    where
+      by : (leaf : Bool) → p.leaf (FunctionBody f) ≡ leaf → Goal
+      by true e = leaf_entered e (subst (λ x. IsLayoutIf program p layout o x) e
+          (image.laid_out (FunctionBody f) o there))
+      by false e = by_size e (subst (λ x. IsLayoutIf program p layout o x) e
+          (image.laid_out (FunctionBody f) o there)) (nat_le layout.frame 4096) refl

@@ -1,6 +1,6 @@
 -- A function is entered after its call: its frame is made, and its parameters go to their locals.
 use Rattle.std.proofs.Common.{◌≡◌, ℕ, zero, suc, ◌+◌, ◌-◌, ◌*◌, ◌^◌, ◌<◌, ◌≤◌, true, false, Some, None, List, ◌++◌, length, refl, sym, ap, subst, ◌∙◌, arith, inl, inr, length-append}
-use Rattle.std.specs.Prelude.{◌⊎◌, slice_get, slice_index, nat_lt}
+use Rattle.std.specs.Prelude.{◌⊎◌, slice_index, nat_lt}
 use Rattle.std.proofs.lemmas.Bool.{cases_lt, lt-ltb, le-ltb}
 use Rattle.host_layout.specs.declared.range.TheConstants.{STACK_START, STACK_END}
 use Rattle.flat_memory.specs.Memory.{Memory, may_write, number_at}
@@ -9,13 +9,11 @@ use Rattle.flat_memory.specs.Protections.{is_writable}
 use Rattle.x64_instr.specs.declared.register.Reg.TheVariants.{Rsp}
 use Rattle.x64_machine.specs.declared.cpu.Flags.{Flags}
 use Rattle.x64_machine.specs.Effect.{State, register}
-use Rattle.virtual_unwind.specs.CallerOf.{Functions}
-use Rattle.host_model.specs.declared.funclet.Funclet.{Funclet}
 use Rattle.source_meaning.specs.Source.{is_reserved}
 use Rattle.linear_code.specs.declared.slot.Slot.TheVariants.{Local, Temporary}
 use Rattle.linear_code.specs.declared.instruction.Instruction.TheVariants as instructions
-use Rattle.linear_code.specs.Program.{LinearProgram, LinearBody, LinearFunction}
-use Rattle.linear_machine.specs.Frames.{FunctionBody, body_of, function_body, Configuration}
+use Rattle.linear_code.specs.Program.{LinearBody}
+use Rattle.linear_machine.specs.Frames.{FunctionBody, body_of, function_body}
 use Rattle.template_code.specs.declared.layout.Layout.{Layout}
 use Rattle.template_code.specs.Bytes.{sizes, spelled}
 use Rattle.template_code.specs.Jumps.{IsNear}
@@ -28,16 +26,12 @@ use Rattle.x64_templates.specs.Runs.{HasCode, Reaches, Enters, FramePlace, Roomy
 use Rattle.x64_templates.proofs.PlacedCode.{bytes_kept, same_number, enters_then}
 use Rattle.x64_templates.proofs.Entries.{pushed_agrees, pushed_bytes}
 use Rattle.x64_templates.proofs.Entering.{fresh_holds, parameters_run}
-use Rattle.match_stack.specs.ImagePlan.{ImagePlan}
-use Rattle.lowering_invariants.specs.Room.{HaveRoom}
-use Rattle.match_bodies.specs.CodeSites.{Sites, arguments_code}
-use Rattle.match_bodies.specs.ProgramImages.{IsProgramImage}
-use Rattle.match_bodies.specs.Bodies.{RepresentsAt}
+use Rattle.match_bodies.specs.CodeSites.{arguments_code}
 use Rattle.match_bodies.proofs.FrameMaking.{making_steps}
 use Rattle.match_bodies.specs.BodyViews.{counts_of}
 use Rattle.match_bodies.proofs.SlotPlaces.{stack_is_reserved}
 use Rattle.match_bodies.proofs.StackWords.{may_read_written}
-use Rattle.match_bodies.proofs.BodyViews.{IsCounted, holds_here}
+use Rattle.match_bodies.proofs.BodyViews.{holds_here}
 use Rattle.match_bodies.proofs.TemplateRuns.{index_of}
 use Rattle.match_bodies.proofs.ChainKeeping.{Keeps, keeps_then, reaches_keeps, enters_keeps}
 use Rattle.match_turns.proofs.CallArguments as calling
@@ -45,6 +39,8 @@ use Rattle.match_turns.proofs.CallWaitingCaller.{back_near}
 use Rattle.match_turns.proofs.FunctionLocals.{argument_is}
 use Rattle.match_turns.proofs.FunctionPrologue.{Made}
 use Rattle.template_code.specs.declared.layout.TheConstants.{LARGEST_FRAME}
+use Rattle.match_turns.proofs.AtCall.{AtCall}
+use Rattle.match_bodies.specs.Setting.{Setting}
 
 -- ---- what a frame needs
 
@@ -157,248 +153,233 @@ parameters_soon y i (suc n) le = elim (cases_lt i 4) [
   | inr g ↦ (let z = two_each y i (suc n) in omega arith)
 ]
 
-module _ (t : Functions) (fs : List Funclet) (program : LinearProgram) (p : ImagePlan) (q : Sites)
-    (image : IsProgramImage t fs program p q) (roomy : HaveRoom program) where
-  module _ (s : State) (c : Configuration) (b : RepresentsAt t fs program p q s c)
-      (counted : IsCounted t fs program p q image c) (f first count : ℕ)
-      (at : slice_get b.body.slots.code.code c.frame.next ≡ Some (instructions.Call f first count))
-      (few : count ≤ 8) (few_passed : count ≤ 4 + b.body.slots.code.passed)
-      (framed : p.leaf c.frame.body ≡ false)
-      (fn : LinearFunction) (callee : slice_get program.functions f ≡ Some fn)
-      (parameters : fn.parameters ≡ count) (fits : count ≤ fn.body.locals) where
-    abbrev caller : ℕ
-    caller = register s.cpu Rsp
+module _ {setting : Setting} (at_call : AtCall setting) where
+  open setting use {program, plan as p, sites as q, image}
+  open at_call use {
+    state as s,
+    configuration as c,
+    represents as b,
+    counted,
+    number as f,
+    first,
+    count,
+    few,
+    few_passed,
+    function as fn,
+    found as callee,
+    fits,
+  }
 
-    abbrev layout : Layout
-    layout = p.layout (FunctionBody f)
+  abbrev caller : ℕ
+  caller = register s.cpu Rsp
 
-    abbrev target : ℕ
-    target = q.function f
+  abbrev layout : Layout
+  layout = p.layout (FunctionBody f)
 
-    abbrev o : LinearBody
-    o = fn.body
+  abbrev target : ℕ
+  target = q.function f
 
-    pub there : body_of program (FunctionBody f) ≡ Some o
-    there = ap function_body callee
+  abbrev o : LinearBody
+  o = fn.body
 
-    pub near : IsNear (calling.back t fs program p q image roomy s c b counted f first count at few
-        few_passed framed) target
-    near =
-        let n = back_near t fs program p q image roomy s c b counted f first count at in
-        let e = ap (λ x. return_at (p.layout c.frame.body) first
-        (x + sizes (passing_code (p.layout c.frame.body) first 4 (count - 4)))) b.rip in
-        let a = image.addresses (FunctionBody f) o there in
-        let low = a.inside.low in
-        let high = a.inside.high in
-        let begin = a.first in
-        let l = n.0 in
-        let h = n.1 in
-        (omega arith, omega arith, omega arith, omega arith)
+  pub there : body_of program (FunctionBody f) ≡ Some o
+  there = ap function_body callee
 
-    abbrev pub called : MachineView
-    called = calling.called t fs program p q image roomy s c b counted f first count at few
-        few_passed framed
+  pub near : IsNear (calling.back at_call) target
+  near =
+      let n = back_near at_call in
+      let e = ap (λ x. return_at (p.layout c.frame.body) first
+      (x + sizes (passing_code (p.layout c.frame.body) first 4 (count - 4)))) b.rip in
+      let a = image.addresses (FunctionBody f) o there in
+      let low = a.inside.low in
+      let high = a.inside.high in
+      let begin = a.first in
+      let l = n.0 in
+      let h = n.1 in
+      (omega arith, omega arith, omega arith, omega arith)
 
-    abbrev pub arguments : ℕ → ℕ
-    arguments = calling.arguments t fs program p q image roomy s c b counted f first count at few
-        few_passed framed
+  abbrev pub called : MachineView
+  called = calling.called at_call
 
-    abbrev pub flags : Flags
-    flags = calling.flags_called t fs program p q image roomy s c b counted f first count at few
-        few_passed framed near
+  abbrev pub arguments : ℕ → ℕ
+  arguments = calling.arguments at_call
 
-    abbrev pub at_callee : State
-    at_callee = machine called target flags
+  abbrev pub flags : Flags
+  flags = calling.flags_called at_call near
 
-    abbrev turns_of_call : ℕ
-    turns_of_call = length (passing_code (p.layout c.frame.body) first 4 (count - 4)) + 5
+  abbrev pub at_callee : State
+  at_callee = machine called target flags
 
-    pub calls : Reaches turns_of_call s at_callee
-    calls = calling.calls t fs program p q image roomy s c b counted f first count at few few_passed
-        framed near
+  abbrev turns_of_call : ℕ
+  turns_of_call = length (passing_code (p.layout c.frame.body) first 4 (count - 4)) + 5
 
-    pub keeps : Keeps s at_callee
-    keeps = reaches_keeps turns_of_call s at_callee calls
+  pub calls : Reaches turns_of_call s at_callee
+  calls = calling.calls at_call near
 
-    -- what is outside of the callee's slots: all but the stack, the return address, and the
-    -- caller's frame above its home space
-    abbrev pub Outside : ℕ → Type 0
-    Outside a = (a < STACK_START) ⊎ ((STACK_END ≤ a)
-        ⊎ (((caller ≤ a + 8) × (a < caller)) ⊎ (caller + 32 ≤ a)))
+  pub keeps : Keeps s at_callee
+  keeps = reaches_keeps turns_of_call s at_callee calls
 
-    pub record InCallee : Type 0 where
-      pub sp : ℕ
-      pub place : sp + layout.frame + 8 ≡ caller
-      pub state : State
-      pub turns : ℕ
-      pub exact : turns ≡ making_steps (p.leaf (FunctionBody f)) layout.frame
-          + length (arguments_code program p (FunctionBody f))
-      pub soon : turns ≤ 8 + (count + (count - 4))
-      pub comes : Enters turns at_callee state
-      pub rip : state.cpu.rip ≡ p.address (FunctionBody f) 0
-      pub stack : register state.cpu Rsp ≡ sp
-      pub locals : (i : ℕ) → i < count → number_at state.memory.byte 8
-          (sp + (layout.locals + 8 * i)) ≡ arguments i
-      pub bytes : IsBytes state.memory
-      pub agrees : Agrees (is_reserved program.globals) state.memory c.store.memory
-      pub same : (a : ℕ) → is_reserved program.globals a ≡ true → Outside a
-          → state.memory.byte a ≡ called.memory.byte a
+  -- what is outside of the callee's slots: all but the stack, the return address, and the
+  -- caller's frame above its home space
+  abbrev pub Outside : ℕ → Type 0
+  Outside a = (a < STACK_START) ⊎ ((STACK_END ≤ a)
+      ⊎ (((caller ≤ a + 8) × (a < caller)) ⊎ (caller + 32 ≤ a)))
 
-    small_argument : (i : ℕ) → i < count → arguments i < 2 ^ 64
-    small_argument i lt =
-        let r = (calling.has_room t fs program p q image roomy s c b counted f first count at few
-        few_passed framed).1 in
-        (holds_here t fs program p q image s c b counted).small (Temporary (first + i))
-        (let z : first + i < b.body.slots.code.temporaries = omega arith in z)
+  pub record InCallee : Type 0 where
+    pub sp : ℕ
+    pub place : sp + layout.frame + 8 ≡ caller
+    pub state : State
+    pub turns : ℕ
+    pub exact : turns ≡ making_steps (p.leaf (FunctionBody f)) layout.frame + length
+        (arguments_code program p (FunctionBody f))
+    pub soon : turns ≤ 8 + (count + (count - 4))
+    pub comes : Enters turns at_callee state
+    pub rip : state.cpu.rip ≡ p.address (FunctionBody f) 0
+    pub stack : register state.cpu Rsp ≡ sp
+    pub locals : (i : ℕ) → i < count → number_at state.memory.byte 8 (sp + (layout.locals + 8 * i))
+        ≡ arguments i
+    pub bytes : IsBytes state.memory
+    pub agrees : Agrees (is_reserved program.globals) state.memory c.store.memory
+    pub same : (a : ℕ) → is_reserved program.globals a ≡ true → Outside a
+        → state.memory.byte a ≡ called.memory.byte a
 
-    pub may_stack : (a : ℕ) → STACK_START ≤ a → a < STACK_END → may_write called.memory a ≡ true
-    may_stack a l u = ap (λ (g : ℕ → Protection). is_writable (g a).rights)
-        (calling.called_protection t fs program p q image roomy s c b counted f first count at few
-        few_passed framed) ∙ b.memory.stack a l u
+  small_argument : (i : ℕ) → i < count → arguments i < 2 ^ 64
+  small_argument i lt =
+      let r = (calling.has_room at_call).1 in
+      (holds_here setting s c b counted).small (Temporary (first + i))
+      (let z : first + i < b.body.slots.code.temporaries = omega arith in z)
 
-    -- ---- once the frame is made, the parameters
+  pub may_stack : (a : ℕ) → STACK_START ≤ a → a < STACK_END → may_write called.memory a ≡ true
+  may_stack a l u = ap (λ (g : ℕ → Protection). is_writable (g a).rights)
+      (calling.called_protection at_call) ∙ b.memory.stack a l u
 
-    module _ (sp to n : ℕ) (made : Made called target to flags (caller - 8) sp arguments n)
-        (y : Layout) (own : IsOwn program.globals y o sp)
-        (whole : IsFunctionFrame (own_frame program.globals y o sp))
-        (same_locals : y.locals ≡ layout.locals) (short : y.frame + 8 ≤ LARGEST_FRAME)
-        (up : (i : ℕ) → 4 ≤ i → i < count → sp + y.frame + 8 ≡ caller)
-        (place : sp + layout.frame + 8 ≡ caller)
-        (code : HasCode s.memory to (parameters_code y 0 count))
-        (ends : to + sizes (parameters_code y 0 count) ≡ p.address (FunctionBody f) 0)
-        (outside : (a : ℕ) → Outside a → InTemporaries y (counts_of o) sp a
-        ⊎ InLocals y (counts_of o) sp a → ⊥)
-        (counted_turns : n + length (parameters_code y 0 count)
-        ≡ making_steps (p.leaf (FunctionBody f)) layout.frame
-        + length (arguments_code program p (FunctionBody f))) where
-      abbrev k : State
-      k = machine made.after to made.flags
+  -- ---- once the frame is made, the parameters
 
-      made_keeps : Keeps s k
-      made_keeps = keeps_then s at_callee k keeps (enters_keeps made.turns at_callee k made.comes)
+  module _ (sp to n : ℕ) (made : Made called target to flags (caller - 8) sp arguments n)
+      (y : Layout) (own : IsOwn program.globals y o sp)
+      (whole : IsFunctionFrame (own_frame program.globals y o sp))
+      (same_locals : y.locals ≡ layout.locals) (short : y.frame + 8 ≤ LARGEST_FRAME)
+      (up : (i : ℕ) → 4 ≤ i → i < count → sp + y.frame + 8 ≡ caller)
+      (place : sp + layout.frame + 8 ≡ caller)
+      (code : HasCode s.memory to (parameters_code y 0 count))
+      (ends : to + sizes (parameters_code y 0 count) ≡ p.address (FunctionBody f) 0)
+      (outside : (a : ℕ) → Outside a → InTemporaries y (counts_of o) sp a
+      ⊎ InLocals y (counts_of o) sp a → ⊥) (counted_turns : n + length (parameters_code y 0 count) ≡
+      making_steps (p.leaf (FunctionBody f)) layout.frame + length
+      (arguments_code program p (FunctionBody f))) where
+    abbrev k : State
+    k = machine made.after to made.flags
 
-      made_bytes : IsBytes made.after.memory
-      made_bytes = elim made.made [
-        | inl e ↦ subst IsBytes (sym e) (calling.called_bytes t fs program p q image roomy s c b
-            counted f first count at few few_passed framed)
-        | inr e ↦ subst IsBytes (sym e) (pushed_bytes called (caller - 8) (target + 10)
-            (calling.called_bytes t fs program p q image roomy s c b counted f first count at few
-            few_passed framed))
-      ]
+    made_keeps : Keeps s k
+    made_keeps = keeps_then s at_callee k keeps (enters_keeps made.turns at_callee k made.comes)
 
-      below_top : HasBelow called.memory (caller - 8) 8
-      below_top =
-          let x = calling.low t fs program p q image roomy s c b counted f first count at few
-          few_passed framed in
-          let z = calling.top t fs program p q image roomy s c b counted f first count at few
-          few_passed framed in
-          record {
-            enough = omega arith;
-            high = omega arith;
-            writable = λ a l u. may_stack a (omega arith) (omega arith);
-          }
+    made_bytes : IsBytes made.after.memory
+    made_bytes = elim made.made [
+      | inl e ↦ subst IsBytes (sym e) (calling.called_bytes at_call)
+      | inr e ↦ subst IsBytes (sym e) (pushed_bytes called (caller - 8) (target + 10)
+          (calling.called_bytes at_call))
+    ]
 
-      made_agrees : Agrees (is_reserved program.globals) made.after.memory c.store.memory
-      made_agrees =
-          let x = calling.low t fs program p q image roomy s c b counted f first count at few
-          few_passed framed in
-          let z = calling.top t fs program p q image roomy s c b counted f first count at few
-          few_passed framed in
-          let here = calling.called_agrees t fs program p q image roomy s c b counted f first count
-          at few few_passed framed in
-          elim made.made [
-            | inl e ↦ subst (λ (m : Memory). Agrees (is_reserved program.globals) m c.store.memory)
-                (sym e) here
-            | inr e ↦ subst (λ (m : Memory). Agrees (is_reserved program.globals) m c.store.memory)
-                (sym e)
-                (pushed_agrees (is_reserved program.globals) called c.store.memory (caller - 8)
-                (target + 10) below_top (λ a l u. stack_is_reserved program.globals a
-                (omega arith) (omega arith)) here)
-          ]
+    below_top : HasBelow called.memory (caller - 8) 8
+    below_top =
+        let x = calling.low at_call in
+        let z = calling.top at_call in
+        record {
+          enough = omega arith;
+          high = omega arith;
+          writable = λ a l u. may_stack a (omega arith) (omega arith);
+        }
 
-      made_may : (a : ℕ) → STACK_START ≤ a → a < STACK_END → may_write made.after.memory a ≡ true
-      made_may a l u = ap (λ (g : ℕ → Protection). is_writable (g a).rights) made.protection
-          ∙ may_stack a l u
+    made_agrees : Agrees (is_reserved program.globals) made.after.memory c.store.memory
+    made_agrees =
+        let x = calling.low at_call in
+        let z = calling.top at_call in
+        let here = calling.called_agrees at_call in
+        elim made.made [
+          | inl e ↦ subst (λ (m : Memory). Agrees (is_reserved program.globals) m c.store.memory)
+              (sym e) here
+          | inr e ↦ subst (λ (m : Memory). Agrees (is_reserved program.globals) m c.store.memory)
+              (sym e)
+              (pushed_agrees (is_reserved program.globals) called c.store.memory (caller - 8)
+              (target + 10) below_top (λ a l u. stack_is_reserved program.globals a (omega arith)
+              (omega arith)) here)
+        ]
 
-      stack_arguments : OnStack (own_frame program.globals y o sp) made.after.memory count arguments
-      stack_arguments =
-          let x = calling.low t fs program p q image roomy s c b counted f first count at few
-          few_passed framed in
-          let z = calling.room_top t fs program p q image roomy s c b counted f first count at few
-          few_passed framed in
-          record {
-            number = λ i ge lt. (let e = up i ge lt in
-                ap (number_at made.after.memory.byte 8)
-                (let w : sp + stack_parameter y i ≡ caller + 8 * i = omega arith in w)
-                ∙ same_number made.after.memory.byte called.memory.byte 8 (caller + 8 * i)
-                (omega arith) (λ a l h. made.same a (inr (omega arith)))
-                ∙ calling.on_stack t fs program p q image roomy s c b counted f first count at few
-                few_passed framed i ge lt);
-            readable = λ i a ge lt l u. (let e = up i ge lt in
-                may_read_written made.after.memory a (made_may a (omega arith) (omega arith)));
-            own = λ i a ge lt l u. (let e = up i ge lt in
-                stack_is_reserved program.globals a (omega arith) (omega arith));
-            near = λ i lt. (let w : stack_parameter y i < 2 ^ 31 = omega arith in w);
-            small = small_argument;
-          }
+    made_may : (a : ℕ) → STACK_START ≤ a → a < STACK_END → may_write made.after.memory a ≡ true
+    made_may a l u = ap (λ (g : ℕ → Protection). is_writable (g a).rights) made.protection
+        ∙ may_stack a l u
 
-      run : ReachesBody (own_frame program.globals y o sp) (length (parameters_code y 0 count)) k
-          (to + sizes (parameters_code y 0 count)) made.after.rest
-          (record {
-            slots = with_arguments (body_in_memory y sp sp made.after.memory
-                c.store.memory).slots arguments 0 count;
-            memory = c.store.memory;
-          })
-      run =
-          parameters_run (own_frame program.globals y o sp) count arguments made.after to made.flags
-          (body_in_memory y sp sp made.after.memory c.store.memory)
-          (roomy_own program.globals y o sp own) whole fits made.stack
-          (fresh_holds (own_frame program.globals y o sp) made.after.memory c.store.memory
-          (fresh_own program.globals y o sp made.after.memory c.store.memory own made_bytes
-          made_may made_agrees)) made.registers stack_arguments
-          (record {
-            is_there = bytes_kept s.memory made.after.memory to
-                (spelled (parameters_code y 0 count)) made_keeps.fixed made_keeps.protection
-                code.is_there;
-            placed = code.placed;
-          })
+    stack_arguments : OnStack (own_frame program.globals y o sp) made.after.memory count arguments
+    stack_arguments =
+        let m = few in
+        let n = few_passed in
+        let x = calling.low at_call in
+        let z = calling.room_top at_call in
+        record {
+          number = λ i ge lt. (let e = up i ge lt in
+              ap (number_at made.after.memory.byte 8)
+              (let w : sp + stack_parameter y i ≡ caller + 8 * i = omega arith in w)
+              ∙ same_number made.after.memory.byte called.memory.byte 8 (caller + 8 * i)
+              (omega arith) (λ a l h. made.same a (inr (omega arith)))
+              ∙ calling.on_stack at_call i ge lt);
+          readable = λ i a ge lt l u. (let e = up i ge lt in
+              may_read_written made.after.memory a (made_may a (omega arith) (omega arith)));
+          own = λ i a ge lt l u. (let e = up i ge lt in
+              stack_is_reserved program.globals a (omega arith) (omega arith));
+          near = λ i lt. (let w : stack_parameter y i < 2 ^ 31 = omega arith in w);
+          small = small_argument;
+        }
 
-      pub entered : InCallee
-      entered =
-          let long = parameters_soon y 0 count (omega arith) in
-          let early = made.few in
-          record {
-            sp = sp;
-            place = place;
-            state = machine run.after (to + sizes (parameters_code y 0 count)) run.flags;
-            turns = made.turns + length (parameters_code y 0 count);
-            exact = ap (λ k. k + length (parameters_code y 0 count)) made.exact ∙ counted_turns;
-            soon = omega arith;
-            comes = enters_then made.turns (length (parameters_code y 0 count)) at_callee k
-                (machine run.after (to + sizes (parameters_code y 0 count)) run.flags) made.comes
-                run.comes;
-            rip = ends;
-            stack = ap (λ (xs : List ℕ). slice_index xs 1) run.rest
-                ∙ sym (index_of made.after.rest 1) ∙ made.stack;
-            locals = λ i lt. (let w : sp + (layout.locals + 8 * i)
-                ≡ sp + (y.locals + 8 * i) = omega arith in
-                ap (number_at run.after.memory.byte 8) w
-                ∙ run.holds.slot (Local i) (let z : i < o.locals = omega arith in z)
-                ∙ argument_is (body_in_memory y sp sp made.after.memory c.store.memory).slots
-                arguments 0 count i (omega arith) (omega arith));
-            bytes = run.changes.bytes made_bytes;
-            agrees = run.holds.source;
-            same = λ a own_byte out. run.changes.byte a own_byte (outside a out) ∙ made.same a
-                (let x = calling.low t fs program p q image roomy s c b counted f first count at few
-                few_passed framed in
-                let z = calling.top t fs program p q image roomy s c b counted f first count at few
-                few_passed framed in
-                elim out [
-                  | inl h ↦ inl (omega arith)
-                  | inr (inl h) ↦ inr (omega arith)
-                  | inr
-                      (inr (inl h)) ↦ (let g = h.0 in inr (omega arith))
-                  | inr (inr (inr h)) ↦ inr
-                      (omega arith)
-                ]);
-          }
+    run : ReachesBody (own_frame program.globals y o sp) (length (parameters_code y 0 count)) k
+        (to + sizes (parameters_code y 0 count)) made.after.rest (record {
+          slots = with_arguments (body_in_memory y sp sp made.after.memory c.store.memory).slots
+              arguments 0 count;
+          memory = c.store.memory;
+        })
+    run =
+        parameters_run (own_frame program.globals y o sp) count arguments made.after to made.flags
+        (body_in_memory y sp sp made.after.memory c.store.memory)
+        (roomy_own program.globals y o sp own) whole fits made.stack
+        (fresh_holds (own_frame program.globals y o sp) made.after.memory c.store.memory
+        (fresh_own program.globals y o sp made.after.memory c.store.memory own made_bytes made_may
+        made_agrees)) made.registers stack_arguments (record {
+          is_there = bytes_kept s.memory made.after.memory to (spelled (parameters_code y 0 count))
+              made_keeps.fixed made_keeps.protection code.is_there;
+          placed = code.placed;
+        })
+
+    pub entered : InCallee
+    entered =
+        let long = parameters_soon y 0 count (omega arith) in
+        let early = made.few in
+        record {
+          sp = sp;
+          place = place;
+          state = machine run.after (to + sizes (parameters_code y 0 count)) run.flags;
+          turns = made.turns + length (parameters_code y 0 count);
+          exact = ap (λ k. k + length (parameters_code y 0 count)) made.exact ∙ counted_turns;
+          soon = omega arith;
+          comes = enters_then made.turns (length (parameters_code y 0 count)) at_callee k
+              (machine run.after (to + sizes (parameters_code y 0 count)) run.flags) made.comes
+              run.comes;
+          rip = ends;
+          stack = ap (λ (xs : List ℕ). slice_index xs 1) run.rest
+              ∙ sym (index_of made.after.rest 1) ∙ made.stack;
+          locals = λ i lt. (let w : sp + (layout.locals + 8 * i)
+              ≡ sp + (y.locals + 8 * i) = omega arith in
+              ap (number_at run.after.memory.byte 8) w
+              ∙ run.holds.slot (Local i) (let z : i < o.locals = omega (arith, fits) in z)
+              ∙ argument_is (body_in_memory y sp sp made.after.memory c.store.memory).slots
+              arguments 0 count i (omega arith) (omega arith));
+          bytes = run.changes.bytes made_bytes;
+          agrees = run.holds.source;
+          same = λ a own_byte out. run.changes.byte a own_byte (outside a out) ∙ made.same a
+              (let x = calling.low at_call in
+              let z = calling.top at_call in
+              elim out [
+                | inl h ↦ inl (omega arith)
+                | inr (inl h) ↦ inr (omega arith)
+                | inr (inr (inl h)) ↦ (let g = h.0 in inr (omega arith))
+                | inr (inr (inr h)) ↦ inr (omega arith)
+              ]);
+        }

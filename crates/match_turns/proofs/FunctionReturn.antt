@@ -8,13 +8,12 @@ use Rattle.seh_num.specs.Widths.{signed}
 use Rattle.x64_instr.specs.declared.register.Reg.TheVariants.{Rsp}
 use Rattle.x64_machine.specs.declared.context.Context.{Context}
 use Rattle.x64_machine.specs.Effect.{State, register}
-use Rattle.virtual_unwind.specs.CallerOf.{Functions, distance}
-use Rattle.host_model.specs.declared.funclet.Funclet.{Funclet}
+use Rattle.virtual_unwind.specs.CallerOf.{distance}
 use Rattle.host_model.specs.Funclets.{arrivals}
 use Rattle.linear_code.specs.declared.slot.Slot.{Slot}
 use Rattle.linear_code.specs.declared.instruction.Instruction.TheVariants as instructions
 use Rattle.linear_code.specs.declared.program.FuncletKind.TheVariants as kinds
-use Rattle.linear_code.specs.Program.{LinearProgram, LinearBody, LinearFunclet}
+use Rattle.linear_code.specs.Program.{LinearBody, LinearFunclet}
 use Rattle.linear_machine.specs.Frames.{FunctionBody, FuncletBody, body_of, funclet_body, Frame, Item, Waits, Store, Configuration, Finished, Next, with_some, read}
 use Rattle.linear_machine.specs.Run.{instruction_in}
 use Rattle.linear_machine.specs.Unwinding.{left_store}
@@ -29,7 +28,6 @@ use Rattle.x64_templates.specs.Runs.{Reaches}
 use Rattle.x64_templates.proofs.PlacedCode.{reaches_then}
 use Rattle.x64_templates.proofs.Returns.{sp_moved}
 use Rattle.match_stack.specs.WalkLaws.{context_below}
-use Rattle.match_stack.specs.ImagePlan.{ImagePlan}
 use Rattle.match_stack.specs.ItemMatches.{Activation, activations_below, return_of, ReturnsTo}
 use Rattle.match_stack.specs.StackRecords.{On}
 use Rattle.match_stack.specs.HostUnwind.{store_of, on_top}
@@ -38,9 +36,7 @@ use Rattle.match_stack.specs.DispatchStates.{IsWellFormed}
 use Rattle.match_runs.specs.Shadow.{AllKeep}
 use Rattle.match_runs.specs.Matched.{Moves, Exits}
 use Rattle.lowering_invariants.specs.Room.{HaveRoom}
-use Rattle.match_bodies.specs.CodeSites.{Sites}
-use Rattle.match_bodies.specs.Bodies.{held_below, turns_left, slots_end, RepresentsAt}
-use Rattle.match_bodies.specs.ProgramImages.{IsProgramImage}
+use Rattle.match_bodies.specs.Bodies.{held_below, turns_left, slots_end}
 use Rattle.match_bodies.proofs.StackWalks.{keep_then}
 use Rattle.match_bodies.proofs.SilentTurns.{reaches_silently}
 use Rattle.match_bodies.proofs.ChainKeeping.{reaches_keeps, stays_well_formed}
@@ -49,11 +45,13 @@ use Rattle.match_bodies.proofs.TemplateRuns.{v, slots, same_state, index_of}
 use Rattle.match_turns.proofs.CallResult.{IsSurrounded, answered}
 use Rattle.match_turns.proofs.CallReturn.{returns_at, resumes}
 use Rattle.match_turns.proofs.BodyReturn as leaving
+use Rattle.match_bodies.specs.Setting.{Setting, RepresentsAt}
 
-module _ (t : Functions) (fs : List Funclet) (program : LinearProgram) (p : ImagePlan) (q : Sites)
-    (image : IsProgramImage t fs program p q) (roomy : HaveRoom program) where
-  module _ (s : State) (c : Configuration) (b : RepresentsAt t fs program p q s c)
-      (counted : IsCounted t fs program p q image c) (f : ℕ)
+module _ (setting : Setting) (roomy : HaveRoom setting.program) where
+  open setting use {functions as t, funclets as fs, program, plan as p, sites as q, image}
+
+  module _ (s : State) (c : Configuration) (b : RepresentsAt setting s c)
+      (counted : IsCounted setting c) (f : ℕ)
       (function : c.frame.body ≡ FunctionBody f) (from : Slot)
       (at : slice_get b.body.slots.code.code c.frame.next ≡ Some (instructions.Return from)) (x : ℕ)
       (reads : read c from ≡ Some x) where
@@ -70,15 +68,15 @@ module _ (t : Functions) (fs : List Funclet) (program : LinearProgram) (p : Imag
     n = length (return_code layout from)
 
     has_back : HasBack s.memory (sp + layout.frame) back
-    has_back = leaving.has_back t fs program p q image roomy s c b counted from at
+    has_back = leaving.has_back setting roomy s c b counted from at
 
     abbrev view : MachineView
-    view = v t fs program p q image roomy s c b counted
+    view = v setting roomy s c b counted
 
     -- the state after it
     pub run : Returned n view (sp + layout.frame + 8) back
-        ((slots t fs program p q image roomy s c b counted).slots from) s.cpu.rip s.cpu.flags
-    run = leaving.run t fs program p q image roomy s c b counted from at
+        ((slots setting roomy s c b counted).slots from) s.cpu.rip s.cpu.flags
+    run = leaving.run setting roomy s c b counted from at
 
     abbrev after_view : ℕ → MachineView
     after_view r = record {
@@ -94,10 +92,10 @@ module _ (t : Functions) (fs : List Funclet) (program : LinearProgram) (p : Imag
 
     pub reaches : Reaches n s after
     reaches =
-        subst (λ z. Reaches n z after) (sym (same_state t fs program p q image roomy s c b counted))
+        subst (λ z. Reaches n z after) (sym (same_state setting roomy s c b counted))
         (subst (λ r. Reaches n (machine view s.cpu.rip s.cpu.flags)
         (machine (moved (after_view r) (sp + layout.frame + 8)) back run.flags))
-        (leaving.result_is t fs program p q image roomy s c b counted from at x reads) run.comes)
+        (leaving.result_is setting roomy s c b counted from at x reads) run.comes)
 
     pub sp_after : register after.cpu Rsp ≡ sp + layout.frame + 8
     sp_after = sym (index_of (with_sp view.rest (sp + layout.frame + 8)) 1)
@@ -109,7 +107,7 @@ module _ (t : Functions) (fs : List Funclet) (program : LinearProgram) (p : Imag
 
     -- each turn keeps the shadow
     keeps : AllKeep t fs n s
-    keeps = leaving.keeps t fs program p q image roomy s c b counted from at
+    keeps = leaving.keeps setting roomy s c b counted from at
 
     -- linear code leaves the function's locals
     left : left_store c.frame.body c.frame.activation c.store
@@ -210,21 +208,20 @@ module _ (t : Functions) (fs : List Funclet) (program : LinearProgram) (p : Imag
 
       -- the next configuration
       abbrev pub next_one : Configuration
-      next_one = answered t fs program p q image roomy w items c.store.memory outer c.events x
+      next_one = answered setting roomy w items c.store.memory outer c.events x
 
       pub goes : (next : Next) → act program (instructions.Return from) next c ≡ next next_one
       goes next = acts_as next ∙ ap (λ ws. return next x ws c.events
           (store_of c.store.memory outer)) below
 
-      pub moves : IsCounted t fs program p q image waiting_for_it
-          → IsSurrounded t fs program p q image roomy w.body w.activation items (length outer)
-          → Moves t fs program 16 turns_left (RepresentsAt t fs program p q) s c
-          (instructions.Return from)
+      pub moves : IsCounted setting waiting_for_it
+          → IsSurrounded setting roomy w.body w.activation items (length outer)
+          → Moves t fs program 16 turns_left (RepresentsAt setting) s c (instructions.Return from)
       moves counts surrounded =
           let few = (leaving.returns_soon layout from).1 in
           let some = (leaving.returns_soon layout from).0 in
           let more = length-append w.temporaries (x ∷ []) in
-          let z = resumes t fs program p q image roomy after w items outer c.store.memory c.events
+          let z = resumes setting roomy after w items outer c.store.memory c.events
           above b.body.is on sp_after well_formed_after
           (record {
             data_alone = b.memory.data_alone;

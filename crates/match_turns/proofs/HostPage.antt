@@ -1,27 +1,24 @@
 -- In the host's page no funclet begins.
-use Rattle.std.proofs.Common.{◌≡◌, ℕ, ◌<◌, ◌≤◌, List, [], length, ap, arith, inl, inr}
+use Rattle.std.proofs.Common.{◌≡◌, ℕ, ◌<◌, ◌≤◌, [], length, ap, arith, inl, inr}
 use Rattle.std.proofs.lemmas.Option.{slice_get_cases}
 use Rattle.flat_memory.specs.Memory.{Memory}
 use Rattle.x64_machine.specs.declared.cpu.Cpu.{Cpu}
-use Rattle.virtual_unwind.specs.CallerOf.{Functions, distance}
-use Rattle.host_model.specs.declared.funclet.Funclet.{Funclet}
+use Rattle.virtual_unwind.specs.CallerOf.{distance}
 use Rattle.host_model.specs.Funclets.{arrivals}
-use Rattle.linear_code.specs.Program.{LinearProgram}
 use Rattle.linear_machine.specs.Frames.{FuncletBody, funclet_body}
-use Rattle.match_stack.specs.ImagePlan.{ImagePlan}
-use Rattle.match_bodies.specs.CodeSites.{Sites}
-use Rattle.match_bodies.specs.ProgramImages.{HasProgram, IsProgramImage}
+use Rattle.match_bodies.specs.Setting.{Setting, HasProgram}
 
-module _ (t : Functions) (fs : List Funclet) (program : LinearProgram) (p : ImagePlan) (q : Sites)
-    (image : IsProgramImage t fs program p q) where
-  funclet_high : (m : Memory) (k : ℕ) → HasProgram t fs program p q m → k < length program.funclets
+module _ (setting : Setting) where
+  open setting use {functions as t, funclets as fs, program, plan as p, image}
+
+  funclet_high : (m : Memory) (k : ℕ) → HasProgram setting m → k < length program.funclets
       → 0x100000000 ≤ p.funclet k
   funclet_high m k has lt = elim (slice_get_cases program.funclets k).1 [
     | inl x ↦ (has.code (FuncletBody k) x.0.body (ap funclet_body x.2)).placed.low
     | inr x ↦ let le = x.0 in absurd (omega arith)
   ]
 
-  pub host_silent : (m : Memory) (a : ℕ) (c : Cpu) → HasProgram t fs program p q m → a < 0x100000000
+  pub host_silent : (m : Memory) (a : ℕ) (c : Cpu) → HasProgram setting m → a < 0x100000000
       → arrivals c (distance t.base a) 1 fs ≡ []
   host_silent m a c has lt = image.funclets.none a (omega arith)
       (λ k inside e. let h = funclet_high m k has inside in absurd (omega arith)) c

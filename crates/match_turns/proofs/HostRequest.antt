@@ -8,24 +8,18 @@ use Rattle.x64_machine.specs.declared.cpu.Cpu.{Cpu}
 use Rattle.x64_machine.specs.Contexts.{context_of}
 use Rattle.x64_machine.specs.Effect.{State}
 use Rattle.virtual_unwind.specs.Contexts.{rsp}
-use Rattle.virtual_unwind.specs.CallerOf.{Functions}
 use Rattle.seh_records.specs.Record.{return_address_at, misplaced, place_below}
-use Rattle.host_model.specs.declared.funclet.Funclet.{Funclet}
-use Rattle.linear_code.specs.Program.{LinearProgram}
 use Rattle.linear_machine.specs.Frames.{Waits, Configuration}
 use Rattle.x64_templates.proofs.PlacedCode.{all_may}
 use Rattle.match_stack.specs.Stack.{StackItem}
-use Rattle.match_stack.specs.ImagePlan.{ImagePlan}
 use Rattle.match_stack.specs.ItemMatches.{Activation}
 use Rattle.match_stack.specs.ListLaws.{KeepsAbove}
 use Rattle.match_stack.proofs.ListEnds.{in_stack}
 use Rattle.match_stack.proofs.ListKeeping.{kept_by_stores_below}
 use Rattle.match_stack.specs.DispatchStates.{IsWellFormed}
 use Rattle.match_stack.specs.DispatchSteps.{AsksHost}
-use Rattle.match_bodies.specs.CodeSites.{Sites}
-use Rattle.match_bodies.specs.ProgramImages.{HasProgram, IsResumed, IsMachineMemory, IsProgramImage}
-use Rattle.match_bodies.specs.Bodies.{InBody}
 use Rattle.match_bodies.proofs.StackTop.{body_on_top}
+use Rattle.match_bodies.specs.Setting.{Setting, HasProgram, InBody, IsMachineMemory, IsResumed}
 
 -- in the stack, far enough above its start, a record can be placed
 pub record_fits : (m : Memory) (sp : ℕ) → STACK_START + 1592 ≤ sp → sp ≤ STACK_END
@@ -50,8 +44,9 @@ record_fits m sp low high may =
     (first_refused (may_write m) 1576 (return_address_at at))) second
     ∙ third
 
-module _ (t : Functions) (fs : List Funclet) (program : LinearProgram) (p : ImagePlan) (q : Sites)
-    (image : IsProgramImage t fs program p q) where
+module _ (setting : Setting) where
+  open setting use {functions as t, funclets as fs, program, plan as p, sites as q, image}
+
   -- the body's state is saved, and bytes below its stack pointer may have been stored since
   pub record Asks (cpu saved : Cpu) (m : Memory) (byte : ℕ → ℕ) (c : Configuration)
       (acts : List Activation) : Type 0 where
@@ -61,10 +56,10 @@ module _ (t : Functions) (fs : List Funclet) (program : LinearProgram) (p : Imag
 
   -- where the saved state is at a machine instruction of an instruction of the body
   pub asks_host : (cpu saved : Cpu) (m : Memory) (byte : ℕ → ℕ) (c : Configuration) (label : ℕ)
-      (source : Memory) (at : InBody t fs program p q (record { cpu = saved; memory = m }) c)
-      → IsResumed t fs program p q c.frame.body at.slots.code label saved.rip
-      → HasProgram t fs program p q m → KeepsAbove m byte (rsp (context_of saved))
-      → IsMachineMemory t fs program p q (with_bytes m byte) source
+      (source : Memory) (at : InBody setting (record { cpu = saved; memory = m }) c)
+      → IsResumed setting c.frame.body at.slots.code label saved.rip
+      → HasProgram setting m → KeepsAbove m byte (rsp (context_of saved))
+      → IsMachineMemory setting (with_bytes m byte) source
       → IsWellFormed (record { cpu = cpu; memory = with_bytes m byte })
       → IsWellFormed (record { cpu = saved; memory = with_bytes m byte })
       → Asks cpu saved m byte c at.acts

@@ -4,6 +4,7 @@ pub mod ReturnAddressPlace
 pub mod FunctionReturn
 pub mod CallStackArguments
 pub mod FunctionFrame
+pub mod AtCall
 pub mod CallWaitingCaller
 pub mod CallArguments
 pub mod FunctionLocals

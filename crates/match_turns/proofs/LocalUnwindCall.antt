@@ -52,9 +52,8 @@ use Rattle.match_runs.specs.Ends.{HasRule}
 use Rattle.match_runs.specs.Matched.{IsMatched}
 use Rattle.lowering_invariants.specs.Waiting.{LandsWell}
 use Rattle.match_bodies.specs.Callers.{callers}
-use Rattle.match_bodies.specs.CodeSites.{Sites, links_of}
-use Rattle.match_bodies.specs.ProgramImages.{IsResumed, IsMachineMemory, IsProgramImage}
-use Rattle.match_bodies.specs.Bodies.{turns_left, InBody, RepresentsAt}
+use Rattle.match_bodies.specs.CodeSites.{links_of}
+use Rattle.match_bodies.specs.Bodies.{turns_left}
 use Rattle.match_bodies.proofs.SilentTurns.{reaches_silently}
 use Rattle.match_bodies.proofs.InstructionEffects.{others_of}
 use Rattle.match_bodies.proofs.RoutineWalks.{StepsTo, reaches_steps, steps_split, keeps_split, AllPlain}
@@ -69,7 +68,7 @@ use Rattle.match_bodies.proofs.BodyViews.{IsCounted, sp_low, frame_top}
 use Rattle.match_turns.proofs.ReturnAddressPlace.{top_of, begins_beneath}
 use Rattle.match_turns.proofs.CallResult.{offset_most}
 use Rattle.match_turns.specs.FuncletEntry.{FlagsFit}
-use Rattle.match_turns.specs.DispatchOutcome.{NoneLanded, Represents}
+use Rattle.match_turns.specs.DispatchOutcome.{NoneLanded}
 use Rattle.match_turns.proofs.CallRegions.{apart_same}
 use Rattle.match_turns.proofs.DispatchStart.{unwound_to}
 use Rattle.match_turns.proofs.HostRequest.{Asks, asks_host}
@@ -82,6 +81,8 @@ use Rattle.match_turns.specs.LocalUnwindPlaces.{AreFollowed, StayInside}
 use Rattle.match_turns.specs.RaiseLaws.{LocalUnwindsAreMatched}
 use Rattle.match_turns.proofs.WaitingBodies.{none_landed_below}
 use Rattle.match_turns.proofs.BodySavedState.{in_body}
+use Rattle.match_bodies.specs.Setting.{Setting, setting_of, InBody, IsMachineMemory, IsResumed, RepresentsAt}
+use Rattle.match_turns.specs.SettingOutcome.{Represents}
 
 -- ---- sizes
 
@@ -125,17 +126,19 @@ aimed_first t fs program p m c (Leaf back ∷ is) b below acts label frame addre
     absurd (let z : true ≡ false = sym l.0.leaf ∙ framed in cc)
 aimed_first t fs program p m c is b below acts label frame address l framed here = absurd l
 
-module _ (t : Functions) (fs : List Funclet) (program : LinearProgram) (p : ImagePlan) (q : Sites)
-    (image : IsProgramImage t fs program p q) (made : IsWellMade program p)
-    (follows : AreFollowed program) (stays : StayInside program) (fits : FlagsFit program) where
-  module _ (s : State) (c : Configuration) (b : RepresentsAt t fs program p q s c)
+module _ (setting : Setting) (made : IsWellMade setting.program setting.plan)
+    (follows : AreFollowed setting.program) (stays : StayInside setting.program)
+    (fits : FlagsFit setting.program) where
+  open setting use {functions as t, funclets as fs, program, plan as p, sites as q, image}
+
+  module _ (s : State) (c : Configuration) (b : RepresentsAt setting s c)
       (known : IsKnown program c) (label : ℕ)
       (at : instruction_at program c ≡ Some (instructions.LocalUnwind label)) where
     abbrev i : Instruction
     i = instructions.LocalUnwind label
 
-    abbrev counted : IsCounted t fs program p q image c
-    counted = counted_here t fs program p q image made c known
+    abbrev counted : IsCounted setting c
+    counted = counted_here setting made c known
 
     abbrev body : LinearBody
     body = b.body.slots.code
@@ -159,16 +162,16 @@ module _ (t : Functions) (fs : List Funclet) (program : LinearProgram) (p : Imag
     service = address_of services.LocalUnwind
 
     abbrev view : MachineView
-    view = v t fs program p q image made.room s c b counted
+    view = v setting made.room s c b counted
 
     here : slice_get body.code c.frame.next ≡ Some i
-    here = code_at t fs program p q image made s c b known i at
+    here = code_at setting made s c b known i at
 
     low : STACK_START + 196568 ≤ sp
-    low = sp_low t fs program p q image s c b counted
+    low = sp_low setting s c b counted
 
     top : sp + y.frame + 8 ≤ STACK_END
-    top = frame_top t fs program p q image s c b counted
+    top = frame_top setting s c b counted
 
     low_enough : STACK_START + 8 ≤ sp
     low_enough = let l = low in omega arith
@@ -194,7 +197,7 @@ module _ (t : Functions) (fs : List Funclet) (program : LinearProgram) (p : Imag
 
     back_is : p.address c.frame.body (c.frame.next + 1) ≡ back
     back_is =
-        let n = next_address t fs program p q image made.room s c b counted i here in
+        let n = next_address setting made.room s c b counted i here in
         let z = template_sizes (links_of p q c.frame.body) y place i in
         let k = unwind_size place target q.local_unwind in
         omega (arith, n, z, k, b.rip)
@@ -251,7 +254,7 @@ module _ (t : Functions) (fs : List Funclet) (program : LinearProgram) (p : Imag
     back_small = let z = label_near (c.frame.next + 1) in let z1 = z.1 in let e = back_is in
         omega arith
 
-    resumed : IsResumed t fs program p q c.frame.body body (c.frame.next + 1) back
+    resumed : IsResumed setting c.frame.body body (c.frame.next + 1) back
     resumed = record {
       instruction = instructions.Separator;
       there = separator;
@@ -266,12 +269,11 @@ module _ (t : Functions) (fs : List Funclet) (program : LinearProgram) (p : Imag
     -- ---- the run to the service
 
     same : s ≡ machine view place s.cpu.flags
-    same = same_state t fs program p q image made.room s c b counted
-        ∙ ap (λ a. machine view a s.cpu.flags) b.rip
+    same = same_state setting made.room s c b counted ∙ ap (λ a. machine view a s.cpu.flags) b.rip
 
     code_here : HasCode s.memory place (local_unwind_code place target q.local_unwind)
     code_here = subst (λ a. HasCode s.memory a (local_unwind_code a target q.local_unwind)) b.rip
-        (template_here t fs program p q image made.room s c b counted i here)
+        (template_here setting made.room s c b counted i here)
 
     -- with its frame and the label's address in RCX and RDX
     abbrev given : MachineView
@@ -285,8 +287,7 @@ module _ (t : Functions) (fs : List Funclet) (program : LinearProgram) (p : Imag
         let below = pushing.below view sp back low_enough high_enough b.memory.data_alone
         b.memory.stack in
         let three = local_unwind_begins view sp place target q.local_unwind s.cpu.flags
-        (sp_is t fs program p q image made.room s c b counted) below near_target near_thunk
-        code_here in
+        (sp_is setting made.room s c b counted) below near_target near_thunk code_here in
         let last = thunk_reaches (pushed given sp back) q.local_unwind service s.cpu.flags
         (pushed_thunk given sp back q.local_unwind service below
         b.memory.code.local_unwind.thunk) in
@@ -307,43 +308,38 @@ module _ (t : Functions) (fs : List Funclet) (program : LinearProgram) (p : Imag
     halves : (u : State) × StepsTo 3 s u × StepsTo 1 u state
     halves = steps_split 3 1 s state (reaches_steps 4 s state reaches)
 
-    called : CalleeBegins t fs program p q image c.frame.body body b.body.slots.body c.frame.next i
-        here (λ h. h) before [] back q.local_unwind refl before_size near_thunk (c.frame.next + 1)
-        resumed (λ m. image.callers_outside.local_unwind m)
-        s halves.0 (top_of t fs program p q image s c b counted) b.body.back
-        (others_of s.cpu.registers) b.body.is b.rip
-        (begins_beneath t fs program p q image s c b counted) refl (let l = low in omega arith)
-        b.memory.code plain halves.1 sp
+    called : CalleeBegins setting c.frame.body body b.body.slots.body c.frame.next i here (λ h. h)
+        before [] back q.local_unwind refl before_size near_thunk (c.frame.next + 1) resumed
+        (λ m. image.callers_outside.local_unwind m) s halves.0 (top_of setting s c b counted)
+        b.body.back (others_of s.cpu.registers) b.body.is b.rip
+        (begins_beneath setting s c b counted) refl (let l = low in omega arith) b.memory.code plain
+        halves.1 sp
     called =
-        callee_begins t fs program p q image c.frame.body body b.body.slots.body c.frame.next i here
-        (λ h. h) before [] back q.local_unwind refl before_size near_thunk (c.frame.next + 1)
-        resumed (λ m. image.callers_outside.local_unwind m)
-        s halves.0 (top_of t fs program p q image s c b counted) b.body.back
-        (others_of s.cpu.registers) b.body.is b.rip
-        (begins_beneath t fs program p q image s c b counted) refl (let l = low in omega arith)
-        b.memory.code plain halves.1 sp
-        (omega arith) (omega arith)
+        callee_begins setting c.frame.body body b.body.slots.body c.frame.next i here (λ h. h)
+        before [] back q.local_unwind refl before_size near_thunk (c.frame.next + 1) resumed
+        (λ m. image.callers_outside.local_unwind m) s halves.0 (top_of setting s c b counted)
+        b.body.back (others_of s.cpu.registers) b.body.is b.rip
+        (begins_beneath setting s c b counted) refl (let l = low in omega arith) b.memory.code plain
+        halves.1 sp (omega arith) (omega arith)
 
     keeps_shadow : AllKeep t fs 4 s
     keeps_shadow =
         keeps_split t fs 3 1 s halves.0 halves.1
-        (calls_keep t fs program p q image c.frame.body body b.body.slots.body c.frame.next i here
-        (λ h. h) before [] back q.local_unwind refl before_size near_thunk (c.frame.next + 1)
-        resumed (λ m. image.callers_outside.local_unwind m)
-        s halves.0 (top_of t fs program p q image s c b counted) b.body.back
-        (others_of s.cpu.registers) b.body.is b.rip
-        (begins_beneath t fs program p q image s c b counted) refl (let l = low in omega arith)
-        b.memory.code plain halves.1)
-        (thunk_keeps t fs program p q image halves.0 state (sp - 8) sp back
-        (others_of s.cpu.registers) _ called.beneath_it called.stack q.local_unwind service
-        called.rip called.program_there.local_unwind.thunk halves.2 refl
+        (calls_keep setting c.frame.body body b.body.slots.body c.frame.next i here (λ h. h) before
+        [] back q.local_unwind refl before_size near_thunk (c.frame.next + 1) resumed
+        (λ m. image.callers_outside.local_unwind m) s halves.0 (top_of setting s c b counted)
+        b.body.back (others_of s.cpu.registers) b.body.is b.rip
+        (begins_beneath setting s c b counted) refl (let l = low in omega arith) b.memory.code plain
+        halves.1) (thunk_keeps setting halves.0 state (sp - 8) sp back (others_of s.cpu.registers) _
+        called.beneath_it called.stack q.local_unwind service called.rip
+        called.program_there.local_unwind.thunk halves.2 refl
         (λ m. image.callers_outside.local_unwind m)
         (λ m. image.callers_outside.services m service (omega arith) (omega arith)
         (λ e. absurd (omega arith)) (λ e. absurd (omega arith))))
 
     comes : Comes t fs 4 s [] state
     comes = reaches_silently t fs program p q image 4 s state reaches keeps_shadow b.memory.code
-        (host_silent t fs program p q image s.memory service state.cpu b.memory.code (omega arith))
+        (host_silent setting s.memory service state.cpu b.memory.code (omega arith))
 
     well_formed : IsWellFormed state
     well_formed = stays_well_formed s state (reaches_keeps 4 s state reaches) (omega arith) b.well_formed
@@ -374,7 +370,7 @@ module _ (t : Functions) (fs : List Funclet) (program : LinearProgram) (p : Imag
           small = set_small state.cpu.registers 4 raised well_formed.small (omega arith);
         }
 
-    memory : IsMachineMemory t fs program p q state.memory c.store.memory
+    memory : IsMachineMemory setting state.memory c.store.memory
     memory =
         memory_untouched t fs program p q s.memory state.memory c.store.memory
         (pushing.pushed_untouched given sp back low_enough high_enough b.memory.data_alone
@@ -382,16 +378,16 @@ module _ (t : Functions) (fs : List Funclet) (program : LinearProgram) (p : Imag
         (pushing.pushed_data given sp back low_enough high_enough b.memory.data_alone
         b.memory.stack)
 
-    abbrev at_return : InBody t fs program p q (record { cpu = saved; memory = s.memory }) c
+    abbrev at_return : InBody setting (record { cpu = saved; memory = s.memory }) c
     at_return = in_body t fs program p q s c b saved (c.frame.next + 1) c.frame.temporaries sp_saved
         (record { low = inside.low; high = inside.high }) same_regions back_small
         (all_front s.memory c.frame.temporaries)
 
-    asks : Asks t fs program p q image state.cpu saved s.memory
+    asks : Asks setting state.cpu saved s.memory
         (pushing.bytes given sp back low_enough high_enough b.memory.data_alone b.memory.stack) c
         b.body.acts
     asks =
-        asks_host t fs program p q image state.cpu saved s.memory
+        asks_host setting state.cpu saved s.memory
         (pushing.bytes given sp back low_enough high_enough b.memory.data_alone b.memory.stack) c
         (c.frame.next + 1) c.store.memory
         at_return resumed b.memory.code
@@ -422,7 +418,7 @@ module _ (t : Functions) (fs : List Funclet) (program : LinearProgram) (p : Imag
     unlanded = (free, none_landed_below program c.below known.stacked.below)
 
     pub unwind_step : HasRule (act program i (exec program zero) c) → KnownNext program c i
-        → IsMatched t fs program turns_per_step turns_left (Represents t fs program p q) s c i
+        → IsMatched t fs program turns_per_step turns_left (Represents setting) s c i
     unwind_step rule after =
         let n = label_near label in
         let n1 = n.1 in
@@ -431,10 +427,10 @@ module _ (t : Functions) (fs : List Funclet) (program : LinearProgram) (p : Imag
         let there = pushing.sp_there given sp back low_enough high_enough b.memory.data_alone
         b.memory.stack service s.cpu.flags back_small many in
         let walk =
-        service_walk t fs program p q image state service back asks.is refl (omega arith)
-        (omega arith) (λ e. absurd (omega arith)) (λ e. absurd (omega arith)) returns well_formed.count
+        service_walk setting state service back asks.is refl (omega arith) (omega arith)
+        (λ e. absurd (omega arith)) (λ e. absurd (omega arith)) returns well_formed.count
         (omega arith) asks.asks.on.is_there.stack in
-        let shown = unwound_to t fs program p q image fits state saved asks.is b.body.acts c
+        let shown = unwound_to setting fits state saved asks.is b.body.acts c
         asks.asks memory b.body.store sp target label (omega arith) (omega arith) aimed rule
         unlanded in
         matched_when_shown t fs program p q 16 4 (turns_left c) s state c i
@@ -447,4 +443,5 @@ module _ (t : Functions) (fs : List Funclet) (program : LinearProgram) (p : Imag
 pub local_unwinds_are_matched : LocalUnwindsAreMatched
 local_unwinds_are_matched t fs program p q image made follows stays fits s c label b known at rule
     after =
-    unwind_step t fs program p q image made follows stays fits s c b known label at rule after
+    unwind_step (setting_of t fs program p q image) made follows stays fits s c b known label at
+    rule after

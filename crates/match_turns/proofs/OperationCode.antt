@@ -42,6 +42,7 @@ use Rattle.match_bodies.proofs.ReturnAddresses.{template_there}
 use Rattle.match_bodies.proofs.TemplateSizes.{template_some}
 use Rattle.match_bodies.specs.BodyViews.{counts_of}
 use Rattle.match_bodies.proofs.TemplateRuns.{each}
+use Rattle.match_bodies.specs.Setting.{setting_of}
 
 -- ---- sizes
 
@@ -157,7 +158,8 @@ module _ (t : Functions) (fs : List Funclet) (program : LinearProgram) (p : Imag
       → slice_get b.code label ≡ Some i
       → HasCode m (p.address name label) (template (links_of p q name) (p.layout name)
       (p.address name label) i)
-  template_is_at m name b label i has there is = template_there t fs program p q image name b there
+  template_is_at m name b label i has there is = template_there (setting_of t fs program p q image)
+      name b there
       m has label i is
 
   -- an operation's instructions from the one on that may fault

@@ -7,8 +7,6 @@ use Rattle.flat_memory.specs.Memory.{Memory}
 use Rattle.x64_instr.specs.declared.register.Reg.TheVariants.{Rax, Rcx, Rsp}
 use Rattle.x64_instr.specs.declared.instruction.Instr.{Instr}
 use Rattle.x64_machine.specs.Effect.{State, register}
-use Rattle.virtual_unwind.specs.CallerOf.{Functions}
-use Rattle.host_model.specs.declared.funclet.Funclet.{Funclet}
 use Rattle.c_operations.specs.Performed.{Gives}
 use Rattle.c_operations.specs.declared.operation.Operation.{Operation}
 use Rattle.linear_code.specs.declared.slot.Slot.{Slot}
@@ -18,7 +16,7 @@ use Rattle.linear_code.specs.declared.instruction.Instruction.{Instruction}
 use Rattle.linear_code.specs.declared.instruction.Instruction.TheVariants as instructions
 use Rattle.linear_code.specs.BodyState.{BodyState, with_slot}
 use Rattle.linear_code.specs.Meaning.{HasSlots}
-use Rattle.linear_code.specs.Program.{LinearProgram, LinearBody}
+use Rattle.linear_code.specs.Program.{LinearBody}
 use Rattle.linear_machine.specs.Frames as linear
 use Rattle.linear_machine.specs.Frames.{Configuration, Next}
 use Rattle.linear_machine.specs.Instructions.{written, act}
@@ -28,15 +26,12 @@ use Rattle.template_code.specs.Slots.{operands_code, finish_code}
 use Rattle.template_code.proofs.Lengths.{compute_length}
 use Rattle.x64_templates.specs.Straight.{machine}
 use Rattle.x64_templates.specs.Runs.{ReachesBody, Finished, FramePlace}
-use Rattle.match_stack.specs.ImagePlan.{ImagePlan}
 use Rattle.match_stack.specs.ItemMatches.{locals_of}
 use Rattle.match_runs.specs.Shadow.{AllKeep}
 use Rattle.match_runs.specs.Comes.{Comes}
 use Rattle.match_runs.specs.Ends.{HasRule}
 use Rattle.match_runs.specs.Matched.{Moves}
-use Rattle.match_bodies.specs.CodeSites.{Sites}
-use Rattle.match_bodies.specs.ProgramImages.{IsProgramImage}
-use Rattle.match_bodies.specs.Bodies.{turns_left, RepresentsAt}
+use Rattle.match_bodies.specs.Bodies.{turns_left}
 use Rattle.match_bodies.proofs.SilentTurns.{reaches_silently}
 use Rattle.match_bodies.specs.ConfigurationFacts.{IsWellMade, IsKnown}
 use Rattle.match_bodies.specs.BodyViews.{seen_by_templates, counts_of}
@@ -54,20 +49,22 @@ use Rattle.match_bodies.proofs.SlotWrites.{locals_after, temporaries_after, Fits
 use Rattle.match_bodies.proofs.PlainSteps.{at_other, label_small}
 use Rattle.match_bodies.proofs.ComputeStep.{stored, writes, fits_when_read, leaves_stored}
 use Rattle.match_bodies.proofs.StepNeeds.{held_here, goes_inside}
-use Rattle.match_turns.specs.DispatchOutcome.{WorksOn}
 use Rattle.match_turns.specs.OperationOutcome.{ComesTo}
 use Rattle.match_turns.proofs.OperationMeaning.{acts_as}
 use Rattle.match_turns.proofs.OperationCode.{some_finish, whole_size}
 use Rattle.match_turns.proofs.OperationInProgress as inside
+use Rattle.match_bodies.specs.Setting.{Setting, RepresentsAt}
+use Rattle.match_turns.specs.SettingOutcome.{WorksOn}
 
 some_length : (code : List Instr) → 1 ≤ sizes code → 1 ≤ length code
 some_length [] le = absurd (omega arith)
 some_length (i ∷ is) le = omega arith
 
-module _ (t : Functions) (fs : List Funclet) (program : LinearProgram) (p : ImagePlan) (q : Sites)
-    (image : IsProgramImage t fs program p q) (made : IsWellMade program p)
-    (s : State) (c : Configuration) (w : WorksOn t fs program p q s c) (known : IsKnown program c)
+module _ (setting : Setting) (made : IsWellMade setting.program setting.plan)
+    (s : State) (c : Configuration) (w : WorksOn setting s c) (known : IsKnown setting.program c)
   where
+    open setting use {functions as t, funclets as fs, program, plan as p, sites as q, image}
+
     abbrev to : Slot
     to = w.again.to
 
@@ -87,31 +84,31 @@ module _ (t : Functions) (fs : List Funclet) (program : LinearProgram) (p : Imag
     y = p.layout c.frame.body
 
     abbrev old : State
-    old = inside.before t fs program p q image made s c w known
+    old = inside.before setting made s c w known
 
-    abbrev begins : RepresentsAt t fs program p q old c
-    begins = inside.represents_before t fs program p q image made s c w known
+    abbrev begins : RepresentsAt setting old c
+    begins = inside.represents_before setting made s c w known
 
-    abbrev counted : IsCounted t fs program p q image c
-    counted = inside.counted t fs program p q image made s c w known
+    abbrev counted : IsCounted setting c
+    counted = inside.counted setting made s c w known
 
-    abbrev around : Surroundings t fs program p q image made.room old c begins counted
-    around = inside.around t fs program p q image made s c w known
+    abbrev around : Surroundings setting made.room old c begins counted
+    around = inside.around setting made s c w known
 
     abbrev body : LinearBody
-    body = inside.body t fs program p q image made s c w known
+    body = inside.body setting made s c w known
 
     abbrev here : FramePlace
-    here = inside.frame_here t fs program p q image made s c w known
+    here = inside.frame_here setting made s c w known
 
     abbrev now : BodyState
-    now = inside.slots_now t fs program p q image made s c w known
+    now = inside.slots_now setting made s c w known
 
     -- ---- a run of the template's rest to an instruction of the body
 
     is_there : c.frame.activation < length begins.body.acts
     is_there =
-        let l = placed t fs program p q image old c begins counted in
+        let l = placed setting old c begins counted in
         let n = slice_get_within (locals_of begins.body.acts) c.frame.activation l.values l.number in
         let k = locals_count begins.body.acts in
         omega arith
@@ -121,7 +118,7 @@ module _ (t : Functions) (fs : List Funclet) (program : LinearProgram) (p : Imag
         (at : rip ≡ p.address c.frame.body label) (lt : label < length body.code)
         (small : rip < 2 ^ 64)
         (leaves : Leaves body d values ts) (nothing : landed ≡ None)
-        (keep : RunsKeep t fs program p q image old c begins counted n s) where
+        (keep : RunsKeep setting old c begins counted n s) where
       abbrev u : State
       u = machine r.after rip r.flags
 
@@ -131,7 +128,7 @@ module _ (t : Functions) (fs : List Funclet) (program : LinearProgram) (p : Imag
       sp : register u.cpu Rsp ≡ register s.cpu Rsp
       sp = ap (λ (xs : List ℕ). slice_index xs 1) r.rest ∙ dropped s.cpu.registers
 
-      ran : Ran t fs program p q image old c begins counted u d values ts
+      ran : Ran setting old c begins counted u d values ts
       ran = record {
         changed = record {
           changes = r.changes;
@@ -150,27 +147,26 @@ module _ (t : Functions) (fs : List Funclet) (program : LinearProgram) (p : Imag
       -- each turn keeps the shadow
       keeps_shadow : AllKeep t fs n s
       keeps_shadow =
-          keep u r.comes (ends_at t fs program p q image old c begins counted u label at lt
+          keep u r.comes (ends_at setting old c begins counted u label at lt
           (kept_by_rest r.after.rest s.cpu.registers r.rest)
-          (is_after t fs program p q image old c begins counted u d values ts ran around.caller
-          around.owner))
+          (is_after setting old c begins counted u d values ts ran around.caller around.owner))
 
       silently : Comes t fs n s [] u
       silently = reaches_silently t fs program p q image n s u r.comes keeps_shadow w.memory.code
-          (silent_at t fs program p q image made.room old c begins counted label rip at lt small u refl)
+          (silent_at setting made.room old c begins counted label rip at lt small u refl)
 
-      continues : RepresentsAt t fs program p q u (further t fs program p q image c begins.body.acts label
-          values ts landed d.memory c.events)
+      continues : RepresentsAt setting u (further setting c begins.body.acts label values ts landed
+          d.memory c.events)
       continues =
-          represents_next t fs program p q image old c begins counted u d values ts ran label landed
-          c.events at lt (stays_well_formed s u keeps small w.well_formed)
+          represents_next setting old c begins counted u d values ts ran label landed c.events at lt
+          (stays_well_formed s u keeps small w.well_formed)
           (λ value e. let z : ◌≡◌ {A = Option ℕ} None (Some value) = sym nothing ∙ e in absurd cc)
           around.caller around.owner
 
       moves_on : ((next : Next) → act program i next c
-          ≡ next (at_other t fs program p q image made.room c label values ts landed d.memory c.events))
+          ≡ next (at_other setting made.room c label values ts landed d.memory c.events))
           → 1 ≤ n → n + 3 * length ts ≤ 16 + 3 * length c.frame.temporaries
-          → Moves t fs program 16 turns_left (RepresentsAt t fs program p q) s c i
+          → Moves t fs program 16 turns_left (RepresentsAt setting) s c i
       moves_on acts some few =
           let store : locals_of (with_values begins.body.acts c.frame.activation values)
           ≡ slice_set c.store.activations c.frame.activation values =
@@ -179,8 +175,7 @@ module _ (t : Functions) (fs : List Funclet) (program : LinearProgram) (p : Imag
           record {
             turns = n;
             some = some;
-            configuration = at_other t fs program p q image made.room c label values ts landed
-                d.memory c.events;
+            configuration = at_other setting made.room c label values ts landed d.memory c.events;
             few = omega arith;
             state = u;
             events = [];
@@ -192,7 +187,7 @@ module _ (t : Functions) (fs : List Funclet) (program : LinearProgram) (p : Imag
               below = c.below;
               store = record { memory = d.memory; activations = xs };
               events = c.events;
-            } in RepresentsAt t fs program p q u o) store continues;
+            } in RepresentsAt setting u o) store continues;
           }
 
     -- ---- the step
@@ -211,27 +206,27 @@ module _ (t : Functions) (fs : List Funclet) (program : LinearProgram) (p : Imag
           subst (λ x. ReachesBody here (length finish) x (s.cpu.rip + sizes finish)
           (seen_by_templates s).rest after) (sym (is_machine s w.well_formed.count))
           (subst (λ x. Finished here o to (seen_by_templates s) s.cpu.rip s.cpu.flags
-          now x) (inside.same_outcome t fs program p q image made s c w known (Gives value m) gives)
-          (inside.made_here t fs program p q image made s c w known))
+          now x) (inside.same_outcome setting made s c w known (Gives value m) gives)
+          (inside.made_here setting made s c w known))
 
       meant : (next : Next) → act program i next c
           ≡ written (record c { store = record c.store { memory = m } }) to value next
       meant = acts_as program c to o first second (Gives value m) gives
 
       fits : FitsAfter c.frame.temporaries to
-      fits = fits_when_read t fs program p q image made.room old c begins counted around to value m
+      fits = fits_when_read setting made.room old c begins counted around to value m
           (subst HasRule (meant (exec program zero)) rule)
 
       acts : (next : Next) → act program i next c
-          ≡ next (stored t fs program p q image made.room old c begins counted around to value m)
-      acts next = meant next ∙ writes t fs program p q image made.room old c begins counted around to
-          value m fits next
+          ≡ next (stored setting made.room old c begins counted around to value m)
+      acts next = meant next ∙ writes setting made.room old c begins counted around to value m fits
+          next
 
       within : c.frame.next + 1 < length body.code
       within =
-          goes_inside t fs program p q image made old c begins known i w.again.works
-          (stored t fs program p q image made.room old c begins counted around to value m) acts
-          body begins.body.slots.body
+          goes_inside setting made old c begins known i w.again.works
+          (stored setting made.room old c begins counted around to value m) acts body
+          begins.body.slots.body
 
       next_at : s.cpu.rip + sizes finish ≡ p.address c.frame.body (c.frame.next + 1)
       next_at =
@@ -239,44 +234,44 @@ module _ (t : Functions) (fs : List Funclet) (program : LinearProgram) (p : Imag
           omega (
             arith,
             w.again.here,
-            next_address t fs program p q image made.room old c begins counted i
-                (inside.at_here t fs program p q image made s c w known),
+            next_address setting made.room old c begins counted i
+                (inside.at_here setting made s c w known),
             whole_size y to o first second,
           )
 
-      rest_keeps : RunsKeep t fs program p q image old c begins counted (length finish) s
+      rest_keeps : RunsKeep setting old c begins counted (length finish) s
       rest_keeps =
-          finish_keeps t fs program p q image made.room old c begins counted around to o first second
-          (inside.at_here t fs program p q image made s c w known) s (seen_by_templates s)
+          finish_keeps setting made.room old c begins counted around to o first second
+          (inside.at_here setting made s c w known) s (seen_by_templates s)
           (is_machine s w.well_formed.count)
           (record {
             rip = w.again.here;
             registers = refl;
-            is_there = is_here t fs program p q image old c begins counted;
+            is_there = is_here setting old c begins counted;
           }) refl refl
           (record { protection = refl; fixed = λ a f. refl; count = refl; small = λ h. h })
           (register s.cpu Rax) (register s.cpu Rcx) value m
-          (inside.first_small t fs program p q image made s c w known)
-          (inside.second_small t fs program p q image made s c w known)
-          (inside.operands_wait t fs program p q image made s c w known)
-          (inside.same_outcome t fs program p q image made s c w known (Gives value m) gives)
+          (inside.first_small setting made s c w known)
+          (inside.second_small setting made s c w known)
+          (inside.operands_wait setting made s c w known)
+          (inside.same_outcome setting made s c w known (Gives value m) gives)
 
-      pub completed : Moves t fs program 16 turns_left (RepresentsAt t fs program p q) s c i
+      pub completed : Moves t fs program 16 turns_left (RepresentsAt setting) s c i
       completed =
           let ops = operands_code y o first second in
           let len = compute_length y to o first second in
           let more = one_more c.frame.temporaries to value fits in
-          let high = label_small t fs program p q image made.room old c begins counted around
+          let high = label_small setting made.room old c begins counted around
           (c.frame.next + 1) within in
           let at = next_at in
-          let there : HasSlots (counts_of body) i = has_slots t fs program p q image made.room old c
-          begins counted i (inside.at_here t fs program p q image made s c w known) in
+          let there : HasSlots (counts_of body) i = has_slots setting made.room old c
+          begins counted i (inside.at_here setting made s c w known) in
           moves_on (length finish) (c.frame.next + 1) (s.cpu.rip + sizes finish) after
           (locals_after (linear.locals_of c.store c.frame.activation) to value)
           (temporaries_after c.frame.temporaries to value) c.frame.landed
           run at within (omega arith)
-          (leaves_stored t fs program p q image made.room old c begins counted around to value m
-          (held_here t fs program p q image made old c begins known) fits there.0)
-          (inside.free t fs program p q image made s c w known) rest_keeps acts
+          (leaves_stored setting made.room old c begins counted around to value m
+          (held_here setting made old c begins known) fits there.0)
+          (inside.free setting made s c w known) rest_keeps acts
           (some_length finish (some_finish y o to))
           (omega (arith, length-append ops finish))

@@ -36,8 +36,8 @@ use Rattle.match_stack.specs.ImagePlan.{ImagePlan, InCode}
 use Rattle.match_stack.specs.ItemMatches.{activations_below, home_end, below_end, HoldsWords, HasActivation, HasPointers, HasSpace}
 use Rattle.match_stack.specs.StackRecords.{On}
 use Rattle.match_bodies.specs.CodeSites.{Sites}
-use Rattle.match_bodies.specs.ProgramImages.{view_of, IsProgramImage}
-use Rattle.match_bodies.specs.Bodies.{slots_end, last_temporary, InBody, RepresentsAt}
+use Rattle.match_bodies.specs.ProgramImages.{view_of}
+use Rattle.match_bodies.specs.Bodies.{slots_end, last_temporary, InBody}
 use Rattle.match_bodies.proofs.TemplateSizes.{first_in_code}
 use Rattle.match_bodies.specs.ConfigurationFacts.{IsWellMade, IsKnown}
 use Rattle.match_bodies.specs.BodyViews.{seen_by_templates}
@@ -45,10 +45,11 @@ use Rattle.match_bodies.proofs.BodyViews.{IsCounted, room_here, holds_here}
 use Rattle.match_bodies.proofs.TemplateRuns.{code, frame, slots, has_slots, sp_is, Surroundings}
 use Rattle.match_bodies.proofs.ComputeStep.{same_constant}
 use Rattle.match_bodies.proofs.StepNeeds.{some_is, label_in, counted_here, around_here, code_at}
-use Rattle.match_turns.specs.DispatchOutcome.{WorksOn}
 use Rattle.match_turns.specs.OperationOutcome.{ComesTo}
 use Rattle.match_turns.proofs.OperationMeaning.{nothing_landed}
 use Rattle.match_turns.proofs.OperationCode.{finish_is_at}
+use Rattle.match_bodies.specs.Setting.{Setting, RepresentsAt}
+use Rattle.match_turns.specs.SettingOutcome.{WorksOn}
 
 -- ---- the body, with RIP elsewhere in the same instruction
 
@@ -105,10 +106,11 @@ ready_same (operations.Remainder s z) v w a d h = rw (← a, ← d) h
 ready_same (operations.Load z) v w a d h = tt
 ready_same (operations.Store z) v w a d h = tt
 
-module _ (t : Functions) (fs : List Funclet) (program : LinearProgram) (p : ImagePlan) (q : Sites)
-    (image : IsProgramImage t fs program p q) (made : IsWellMade program p)
-    (s : State) (c : Configuration) (w : WorksOn t fs program p q s c) (known : IsKnown program c)
+module _ (setting : Setting) (made : IsWellMade setting.program setting.plan)
+    (s : State) (c : Configuration) (w : WorksOn setting s c) (known : IsKnown setting.program c)
   where
+    open setting use {functions as t, funclets as fs, program, plan as p, sites as q, image}
+
     abbrev to : Slot
     to = w.again.to
 
@@ -150,7 +152,7 @@ module _ (t : Functions) (fs : List Funclet) (program : LinearProgram) (p : Imag
     begin_small : p.address c.frame.body c.frame.next < 2 ^ 64
     begin_small = let h = w.again.here in let l = w.well_formed.rip_small in omega arith
 
-    pub represents_before : RepresentsAt t fs program p q before c
+    pub represents_before : RepresentsAt setting before c
     represents_before = record {
       rip = refl;
       well_formed = record { rip_small = begin_small; count = w.well_formed.count; small = w.well_formed.small };
@@ -162,24 +164,24 @@ module _ (t : Functions) (fs : List Funclet) (program : LinearProgram) (p : Imag
       landed = λ code e. let z : ◌≡◌ {A = Option ℕ} None (Some code) = sym free ∙ e in absurd cc;
     }
 
-    abbrev pub counted : IsCounted t fs program p q image c
-    counted = counted_here t fs program p q image made c known
+    abbrev pub counted : IsCounted setting c
+    counted = counted_here setting made c known
 
-    pub around : Surroundings t fs program p q image made.room before c represents_before counted
-    around = around_here t fs program p q image made before c represents_before known
+    pub around : Surroundings setting made.room before c represents_before counted
+    around = around_here setting made before c represents_before known
 
     abbrev pub body : LinearBody
-    body = code t fs program p q image made.room before c represents_before counted
+    body = code setting made.room before c represents_before counted
 
     pub at_here : slice_get body.code c.frame.next ≡ Some here
-    at_here = code_at t fs program p q image made before c represents_before known here w.again.works
+    at_here = code_at setting made before c represents_before known here w.again.works
 
     -- its frame, and what its slots hold
     abbrev pub frame_here : FramePlace
-    frame_here = frame t fs program p q image made.room before c represents_before counted
+    frame_here = frame setting made.room before c represents_before counted
 
     abbrev pub slots_now : BodyState
-    slots_now = slots t fs program p q image made.room before c represents_before counted
+    slots_now = slots setting made.room before c represents_before counted
 
     -- ---- the operation is made
 
@@ -211,11 +213,10 @@ module _ (t : Functions) (fs : List Funclet) (program : LinearProgram) (p : Imag
     made_here =
         finish_run frame_here o to (seen_by_templates s) s.cpu.rip s.cpu.flags slots_now
         (register s.cpu Rax) (register s.cpu Rcx)
-        (room_here t fs program p q image before c represents_before counted)
-        (has_slots t fs program p q image made.room before c represents_before counted here at_here).0
-        first_small second_small operands_wait (sp_is t fs program p q image made.room before c
-        represents_before counted)
-        (holds_here t fs program p q image before c represents_before counted) code_here
+        (room_here setting before c represents_before counted)
+        (has_slots setting made.room before c represents_before counted here at_here).0 first_small
+        second_small operands_wait (sp_is setting made.room before c represents_before counted)
+        (holds_here setting before c represents_before counted) code_here
 
     -- on the same numbers as in linear code
     pub same_outcome : (x : OperationResult) → ComesTo program c o first second x → outcome ≡ x

@@ -5,8 +5,7 @@ use Rattle.flat_memory.specs.Memory.{Memory}
 use Rattle.x64_instr.specs.declared.register.Reg.TheVariants.{Rax, Rcx, Rsp}
 use Rattle.x64_instr.specs.declared.instruction.Instr.{Instr}
 use Rattle.x64_machine.specs.Effect.{State, register}
-use Rattle.virtual_unwind.specs.CallerOf.{Functions, distance}
-use Rattle.host_model.specs.declared.funclet.Funclet.{Funclet}
+use Rattle.virtual_unwind.specs.CallerOf.{distance}
 use Rattle.host_model.specs.Funclets.{arrivals}
 use Rattle.c_operations.specs.declared.operation.Operation.{Operation}
 use Rattle.linear_code.specs.declared.slot.Slot.{Slot}
@@ -14,7 +13,7 @@ use Rattle.linear_code.specs.declared.slot.Slot.TheVariants.{Temporary}
 use Rattle.linear_code.specs.declared.instruction.Instruction.{Instruction}
 use Rattle.linear_code.specs.declared.instruction.Instruction.TheVariants as instructions
 use Rattle.linear_code.specs.Meaning.{HasSlots}
-use Rattle.linear_code.specs.Program.{LinearProgram, LinearBody}
+use Rattle.linear_code.specs.Program.{LinearBody}
 use Rattle.linear_machine.specs.Frames.{Configuration}
 use Rattle.linear_machine.specs.Instructions.{is_constant}
 use Rattle.linear_machine.specs.Run.{instruction_at}
@@ -26,14 +25,12 @@ use Rattle.template_code.proofs.Lengths.{before_length}
 use Rattle.x64_templates.specs.Straight.{machine}
 use Rattle.x64_templates.specs.Runs.{Reaches}
 use Rattle.x64_templates.proofs.Computes.{code_split, Begun, operands_run}
-use Rattle.match_stack.specs.ImagePlan.{ImagePlan, InCode}
+use Rattle.match_stack.specs.ImagePlan.{InCode}
 use Rattle.match_stack.specs.DispatchStates.{IsWellFormed}
 use Rattle.match_runs.specs.Shadow.{AllKeep}
 use Rattle.match_runs.specs.Comes.{Comes, LeadsTo}
 use Rattle.lowering_invariants.specs.Ready as ready
-use Rattle.match_bodies.specs.CodeSites.{Sites}
-use Rattle.match_bodies.specs.ProgramImages.{view_of, WorksAgain, IsProgramImage}
-use Rattle.match_bodies.specs.Bodies.{RepresentsAt}
+use Rattle.match_bodies.specs.ProgramImages.{view_of, WorksAgain}
 use Rattle.match_bodies.proofs.SilentTurns.{reaches_silently}
 use Rattle.match_bodies.specs.ConfigurationFacts.{IsWellMade, IsKnown}
 use Rattle.match_bodies.specs.BodyViews.{counts_of}
@@ -44,10 +41,11 @@ use Rattle.match_bodies.proofs.TemplateRuns.{code, frame, slots, v, dropped, sam
 use Rattle.match_bodies.proofs.ChainKeeping.{reaches_keeps, stays_well_formed}
 use Rattle.match_bodies.proofs.PlainSteps.{is_read}
 use Rattle.match_bodies.proofs.StepNeeds.{counted_here, around_here, code_at, ready_here}
-use Rattle.match_turns.specs.DispatchOutcome.{WorksOn}
 use Rattle.match_turns.specs.FaultLaws.{fetch_turns, OperandsAreFetched}
 use Rattle.match_turns.proofs.OperationCode.{some_finish, whole_size, finish_is_at, silent_within}
 use Rattle.match_turns.proofs.OperationInProgress.{in_body_at, ready_same}
+use Rattle.match_bodies.specs.Setting.{Setting, setting_of, RepresentsAt}
+use Rattle.match_turns.specs.SettingOutcome.{WorksOn}
 
 -- two temporaries are fetched in one turn each
 few_operands : (y : Layout) (o : Operation) (first second : ℕ)
@@ -61,29 +59,31 @@ few_operands y o first second =
       length-append (fetch y Rcx (Temporary second)) (before o),
     )
 
-module _ (t : Functions) (fs : List Funclet) (program : LinearProgram) (p : ImagePlan) (q : Sites)
-    (image : IsProgramImage t fs program p q) (made : IsWellMade program p)
+module _ (setting : Setting) (made : IsWellMade setting.program setting.plan)
     (s : State) (c : Configuration) (to : Slot) (o : Operation) (first second : ℕ)
-    (b : RepresentsAt t fs program p q s c) (known : IsKnown program c) (reads : is_constant o ≡ false)
-    (e : instruction_at program c ≡ Some (instructions.Compute to o (Temporary first)
+    (b : RepresentsAt setting s c) (known : IsKnown setting.program c)
+    (reads : is_constant o ≡ false)
+    (e : instruction_at setting.program c ≡ Some (instructions.Compute to o (Temporary first)
     (Temporary second))) where
+  open setting use {functions as t, funclets as fs, program, plan as p, sites as q, image}
+
   abbrev here : Instruction
   here = instructions.Compute to o (Temporary first) (Temporary second)
 
-  abbrev counted : IsCounted t fs program p q image c
-  counted = counted_here t fs program p q image made c known
+  abbrev counted : IsCounted setting c
+  counted = counted_here setting made c known
 
-  around : Surroundings t fs program p q image made.room s c b counted
-  around = around_here t fs program p q image made s c b known
+  around : Surroundings setting made.room s c b counted
+  around = around_here setting made s c b known
 
   abbrev body : LinearBody
-  body = code t fs program p q image made.room s c b counted
+  body = code setting made.room s c b counted
 
   at_here : slice_get body.code c.frame.next ≡ Some here
-  at_here = code_at t fs program p q image made s c b known here e
+  at_here = code_at setting made s c b known here e
 
   there : HasSlots (counts_of body) here
-  there = has_slots t fs program p q image made.room s c b counted here at_here
+  there = has_slots setting made.room s c b counted here at_here
 
   abbrev ops : List Instr
   ops = operands_code (p.layout c.frame.body) o (Temporary first) (Temporary second)
@@ -91,18 +91,16 @@ module _ (t : Functions) (fs : List Funclet) (program : LinearProgram) (p : Imag
   abbrev n : ℕ
   n = length ops
 
-  begun : Begun (frame t fs program p q image made.room s c b counted) o (Temporary first)
-      (Temporary second) (v t fs program p q image made.room s c b counted) s.cpu.rip s.cpu.flags
-      (slots t fs program p q image made.room s c b counted)
+  begun : Begun (frame setting made.room s c b counted) o (Temporary first) (Temporary second)
+      (v setting made.room s c b counted) s.cpu.rip s.cpu.flags
+      (slots setting made.room s c b counted)
   begun =
-      operands_run (frame t fs program p q image made.room s c b counted) o (Temporary first)
-      (Temporary second) (v t fs program p q image made.room s c b counted) s.cpu.rip s.cpu.flags
-      (slots t fs program p q image made.room s c b counted)
-      (room_here t fs program p q image s c b counted) there.1 there.2
-      (sp_is t fs program p q image made.room s c b counted)
-      (holds_here t fs program p q image s c b counted)
+      operands_run (frame setting made.room s c b counted) o (Temporary first) (Temporary second)
+      (v setting made.room s c b counted) s.cpu.rip s.cpu.flags
+      (slots setting made.room s c b counted) (room_here setting s c b counted) there.1 there.2
+      (sp_is setting made.room s c b counted) (holds_here setting s c b counted)
       (code_split s.memory s.cpu.rip ops (finish_code (p.layout c.frame.body) o to)
-      (template_here t fs program p q image made.room s c b counted here at_here)).0
+      (template_here setting made.room s c b counted here at_here)).0
 
   -- the state that is reached, in the same memory
   abbrev u : State
@@ -125,14 +123,14 @@ module _ (t : Functions) (fs : List Funclet) (program : LinearProgram) (p : Imag
         memory = m;
       }) (s.cpu.rip + sizes ops) begun.left)) begun.memory
       (subst (λ (x : State). Reaches n x (machine begun.stopped (s.cpu.rip + sizes ops) begun.left))
-      (sym (same_state t fs program p q image made.room s c b counted)) begun.comes)
+      (sym (same_state setting made.room s c b counted)) begun.comes)
 
   at_end : u.cpu.rip ≡ p.address c.frame.body c.frame.next + sizes ops
   at_end = ap (λ a. a + sizes ops) b.rip
 
   next_at : p.address c.frame.body (c.frame.next + 1)
       ≡ s.cpu.rip + (sizes ops + sizes (finish_code (p.layout c.frame.body) o to))
-  next_at = next_address t fs program p q image made.room s c b counted here at_here
+  next_at = next_address setting made.room s c b counted here at_here
       ∙ ap (λ x. s.cpu.rip + x) (whole_size (p.layout c.frame.body) to o (Temporary first)
       (Temporary second))
 
@@ -159,18 +157,18 @@ module _ (t : Functions) (fs : List Funclet) (program : LinearProgram) (p : Imag
   sp = ap (λ (xs : List ℕ). slice_index xs 1) begun.rest ∙ dropped s.cpu.registers
 
   -- the operands are the temporaries
-  has_temporary : (i x : ℕ) → (slots t fs program p q image made.room s c b counted).slots
-      (Temporary i) ≡ x → ready.IsRead (is_constant o) (length c.frame.temporaries) (Temporary i)
+  has_temporary : (i x : ℕ) → (slots setting made.room s c b counted).slots (Temporary i) ≡ x
+      → ready.IsRead (is_constant o) (length c.frame.temporaries) (Temporary i)
       → (h : i < body.temporaries) → slice_get c.frame.temporaries i ≡ Some x
   has_temporary i x is held h =
-      let r = is_read t fs program p q image made.room s c b counted around (Temporary i) h
+      let r = is_read setting made.room s c b counted around (Temporary i) h
       (subst (λ (constant : Bool). ready.IsRead constant (length c.frame.temporaries)
       (Temporary i)) reads held) in
       r.reads ∙ ap (λ z. Some z) (sym r.same ∙ is)
 
   again : WorksAgain t fs program p q c.frame u.cpu
   again =
-      let r = ready_here t fs program p q image made s c b known here e in
+      let r = ready_here setting made s c b known here e in
       record {
         to = to;
         operation = o;
@@ -183,7 +181,7 @@ module _ (t : Functions) (fs : List Funclet) (program : LinearProgram) (p : Imag
         ready = ready_same o begun.stopped (view_of u.cpu) refl refl begun.waits.ready;
       }
 
-  works : WorksOn t fs program p q u c
+  works : WorksOn setting u c
   works = record {
     again = again;
     well_formed = well_formed;
@@ -194,13 +192,12 @@ module _ (t : Functions) (fs : List Funclet) (program : LinearProgram) (p : Imag
   -- each turn keeps the shadow
   keeps_shadow : AllKeep t fs n s
   keeps_shadow =
-      operands_keep t fs program p q image made.room s c b counted around to o (Temporary first)
-      (Temporary second) at_here u comes
-      (record {
+      operands_keep setting made.room s c b counted around to o (Temporary first) (Temporary second)
+      at_here u comes (record {
         rip = at_end;
         registers = kept_by_rest begun.stopped.rest s.cpu.registers
             begun.rest;
-        is_there = is_here t fs program p q image s c b counted;
+        is_there = is_here setting s c b counted;
       })
 
   silently : Comes t fs n s [] u
@@ -211,7 +208,7 @@ module _ (t : Functions) (fs : List Funclet) (program : LinearProgram) (p : Imag
       c.frame.next to o (Temporary first) (Temporary second) b.memory.code b.body.slots.body
       at_here u.cpu))
 
-  pub fetched : LeadsTo t fs fetch_turns (WorksOn t fs program p q) s c
+  pub fetched : LeadsTo t fs fetch_turns (WorksOn setting) s c
   fetched = record {
     turns = n;
     few = few_operands (p.layout c.frame.body) o first second;
@@ -221,5 +218,5 @@ module _ (t : Functions) (fs : List Funclet) (program : LinearProgram) (p : Imag
   }
 
 pub operands_are_fetched : OperandsAreFetched
-operands_are_fetched t fs program p q image made s c to o first second b known reads e = fetched t
-    fs program p q image made s c to o first second b known reads e
+operands_are_fetched t fs program p q image made s c to o first second b known reads e = fetched
+    (setting_of t fs program p q image) made s c to o first second b known reads e

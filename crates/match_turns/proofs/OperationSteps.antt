@@ -23,7 +23,6 @@ use Rattle.match_runs.specs.Matched.{Moves, IsMatched}
 use Rattle.match_runs.proofs.Matches.{matched_after, matched_slower}
 use Rattle.match_runs.proofs.Turns.{comes_nowhere}
 use Rattle.match_bodies.specs.CodeSites.{Sites}
-use Rattle.match_bodies.specs.ProgramImages.{IsProgramImage}
 use Rattle.match_bodies.specs.Bodies.{turns_left, RepresentsAt}
 use Rattle.match_bodies.specs.ConfigurationFacts.{IsWellMade, IsKnown, KnownNext}
 use Rattle.match_bodies.specs.StepLaws.{turns_per_step}
@@ -31,7 +30,7 @@ use Rattle.match_bodies.proofs.TemplateRuns.{each}
 use Rattle.match_bodies.proofs.BodySteps.{within_body}
 use Rattle.match_bodies.proofs.StepNeeds.{some_is, label_in, body_there}
 use Rattle.match_turns.specs.FuncletEntry.{FlagsFit}
-use Rattle.match_turns.specs.DispatchOutcome.{WorksOn, Represents}
+use Rattle.match_turns.specs.DispatchOutcome.{Represents}
 use Rattle.match_turns.specs.OperationOutcome.{ComesTo}
 use Rattle.match_turns.specs.FaultLaws.{RetriesAreMatched, ContinuationsAtOperations, OperationsAreMatched}
 use Rattle.match_turns.proofs.OperationMeaning.{comes_to_something, undefined, not_constant, fault_reads}
@@ -39,6 +38,8 @@ use Rattle.match_turns.proofs.OperationOperands.{fetched}
 use Rattle.match_turns.proofs.FaultRaise.{raised_at_once}
 use Rattle.match_turns.proofs.OperationCompletion.{completed}
 use Rattle.match_turns.proofs.FaultContinuation.{silent_there, works_on}
+use Rattle.match_bodies.specs.Setting.{Setting, setting_of}
+use Rattle.match_turns.specs.SettingOutcome.{WorksOn}
 
 -- the operation that an instruction is comes to this
 abbrev Meets : LinearProgram → Configuration → OperationResult → Instruction → Type 0
@@ -68,17 +69,18 @@ matched_represents t fs program p q most s c i m = inl (record {
   is_there = inl m.is_there;
 })
 
-module _ (t : Functions) (fs : List Funclet) (program : LinearProgram) (p : ImagePlan) (q : Sites)
-    (image : IsProgramImage t fs program p q) (made : IsWellMade program p)
-    (fits : FlagsFit program) where
+module _ (setting : Setting) (made : IsWellMade setting.program setting.plan)
+    (fits : FlagsFit setting.program) where
+  open setting use {functions as t, funclets as fs, program, plan as p, sites as q, image}
+
   -- the instruction that is made again
-  abbrev again : (s : State) (c : Configuration) → WorksOn t fs program p q s c → Instruction
+  abbrev again : (s : State) (c : Configuration) → WorksOn setting s c → Instruction
   again s c w = instructions.Compute w.again.to w.again.operation (Temporary w.again.first)
       (Temporary w.again.second)
 
   -- ---- within an operation
 
-  pub within_operation : (s : State) (c : Configuration) (w : WorksOn t fs program p q s c)
+  pub within_operation : (s : State) (c : Configuration) (w : WorksOn setting s c)
       (known : IsKnown program c)
       → (x : OperationResult) → ComesTo program c w.again.operation (Temporary w.again.first)
       (Temporary w.again.second) x
@@ -86,16 +88,16 @@ module _ (t : Functions) (fs : List Funclet) (program : LinearProgram) (p : Imag
       → KnownNext program c (again s c w)
       → IsMatched t fs program turns_per_step turns_left (Represents t fs program p q) s c (again s c w)
   within_operation s c w known (Gives value m) h rule next = matched_represents t fs program p q turns_per_step s c
-      (again s c w) (completed t fs program p q image made s c w known value m h rule)
+      (again s c w) (completed setting made s c w known value m h rule)
   within_operation s c w known (Raises code access) h rule next =
       matched_slower t fs program turns_left 7 turns_per_step (Represents t fs program p q) s c (again s c w)
       (omega arith)
-      (raised_at_once t fs program p q image made fits s c w known code access h rule next)
+      (raised_at_once setting made fits s c w known code access h rule next)
   within_operation s c w known (Undefined at) h rule next =
       inr (inr (inr (undefined t fs program s c w.again.to w.again.operation
       (Temporary w.again.first) (Temporary w.again.second) at h)))
 
-  pub retried : (s : State) (c : Configuration) (i : Instruction) → WorksOn t fs program p q s c
+  pub retried : (s : State) (c : Configuration) (i : Instruction) → WorksOn setting s c
       → IsKnown program c → instruction_at program c ≡ Some i
       → HasRule (act program i (exec program zero) c) → KnownNext program c i
       → IsMatched t fs program turns_per_step turns_left (Represents t fs program p q) s c i
@@ -112,7 +114,7 @@ module _ (t : Functions) (fs : List Funclet) (program : LinearProgram) (p : Imag
 
   -- one that faults takes no more turns than the host's own
   faults_within : (s : State) (c : Configuration) (i : Instruction) (code : Code)
-      (access : Option (Bool × ℕ)) → WorksOn t fs program p q s c → IsKnown program c
+      (access : Option (Bool × ℕ)) → WorksOn setting s c → IsKnown program c
       → instruction_at program c ≡ Some i
       → Meets program c (Raises code access) i → HasRule (act program i (exec program zero) c)
       → KnownNext program c i → IsMatched t fs program 7 turns_left (Represents t fs program p q) s
@@ -122,8 +124,7 @@ module _ (t : Functions) (fs : List Funclet) (program : LinearProgram) (p : Imag
       → HasRule (act program j (exec program zero) c) → KnownNext program c j
       → IsMatched t fs program 7 turns_left (Represents t fs program p q) s c j)
       (some_is (again s c w) i (sym w.again.works ∙ e))
-      (λ h rule next. raised_at_once t fs program p q image made fits s c w known code access h rule
-      next)
+      (λ h rule next. raised_at_once setting made fits s c w known code access h rule next)
 
   -- ---- where an operation begins
 
@@ -142,7 +143,7 @@ module _ (t : Functions) (fs : List Funclet) (program : LinearProgram) (p : Imag
     faults (Temporary x) (Local y) code access temporaries h e rule next = absurd temporaries.1
     faults (Temporary x) (Temporary y) code access temporaries h e rule next =
         let i = instructions.Compute to o (Temporary x) (Temporary y) in
-        let l = fetched t fs program p q image made s c to o x y b known
+        let l = fetched setting made s c to o x y b known
         (not_constant (is_reserved program.globals) o h.a h.b c.store.memory code access h.comes)
         e in
         let few = l.few in
@@ -186,25 +187,30 @@ pub operations : OperationsAreMatched
 operations t fs program p q image made fits s c to o first second (inl b) known e rule next =
     let i = instructions.Compute to o first second in
     let x = comes_to_something program c to o first second (ready_at program c i known e) in
-    from_beginning t fs program p q image made fits s c to o b known first second x.0 x.1 e rule
+    from_beginning (setting_of t fs program p q image) made fits s c to o b known first second x.0
+    x.1 e rule
     next
 operations t fs program p q image made fits s c to o first second (inr w) known e rule next =
-    retried t fs program p q image made fits s c (instructions.Compute to o first second) w known e
+    retried (setting_of t fs program p q image) made fits s c (instructions.Compute to o first
+    second) w known e
     rule next
 
 pub retries : RetriesAreMatched
-retries t fs program p q image made fits s c i w known e rule next = retried t fs program p q image
+retries t fs program p q image made fits s c i w known e rule next = retried
+    (setting_of t fs program p q image)
     made fits s c i w known e rule next
 
 pub continuations : ContinuationsAtOperations
 continuations t fs program p q image made s saved is acts c on well_formed resumes memory store = (
-  silent_there t fs program p q image made s saved is acts c on well_formed resumes memory store,
+  silent_there (setting_of t fs program p q image) made s saved is acts c on well_formed resumes
+      memory store,
   record {
     turns = 0;
     few = omega arith;
     state = record { cpu = saved; memory = s.memory };
     comes = comes_nowhere t fs (record { cpu = saved; memory = s.memory });
-    is_there = inr (works_on t fs program p q image made s saved is acts c on well_formed resumes memory
+    is_there = inr (works_on (setting_of t fs program p q image) made s saved is acts c on
+        well_formed resumes memory
         store);
   },
 )

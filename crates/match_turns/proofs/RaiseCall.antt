@@ -12,8 +12,6 @@ use Rattle.host_layout.specs.declared.service.Service.TheVariants as services
 use Rattle.host_layout.specs.Services.{address_of}
 use Rattle.x64_machine.specs.Contexts.{context_of}
 use Rattle.x64_machine.specs.Effect.{State, register}
-use Rattle.virtual_unwind.specs.CallerOf.{Functions}
-use Rattle.host_model.specs.declared.funclet.Funclet.{Funclet}
 use Rattle.host_model.specs.Funclets.{arrived}
 use Rattle.host_model.specs.Dispatch.{raised}
 use Rattle.c_operations.specs.declared.built_in.BuiltIn.TheVariants.{RaiseException}
@@ -28,25 +26,23 @@ use Rattle.linear_machine.specs.Frames.{AfterCall, Configuration, Next, with_som
 use Rattle.linear_machine.specs.Searching.{raise}
 use Rattle.linear_machine.specs.Instructions.{count_of, waiting, built_in, act}
 use Rattle.linear_machine.specs.Run.{instruction_at, exec}
-use Rattle.match_stack.specs.ImagePlan.{ImagePlan}
 use Rattle.match_stack.specs.DispatchSteps.{IsException}
 use Rattle.match_runs.specs.Ends.{HasRule}
 use Rattle.match_runs.specs.Matched.{IsMatched}
 use Rattle.match_bodies.specs.Callers.{callers}
-use Rattle.match_bodies.specs.CodeSites.{Sites}
-use Rattle.match_bodies.specs.ProgramImages.{IsProgramImage}
-use Rattle.match_bodies.specs.Bodies.{turns_left, RepresentsAt}
+use Rattle.match_bodies.specs.Bodies.{turns_left}
 use Rattle.match_bodies.specs.ConfigurationFacts.{IsWellMade, IsKnown, KnownNext}
 use Rattle.match_bodies.specs.StepLaws.{turns_per_step}
 use Rattle.match_bodies.proofs.StepNeeds.{counted_here, ready_here}
 use Rattle.match_bodies.proofs.BodyViews.{slots_here}
 use Rattle.match_turns.specs.FuncletEntry.{FlagsFit}
-use Rattle.match_turns.specs.DispatchOutcome.{Represents}
 use Rattle.match_turns.proofs.DispatchStart.{raised_as}
 use Rattle.match_turns.proofs.DispatchWalks.{service_walk}
 use Rattle.match_turns.proofs.HostTurns.{raise_turns, raise_keeps, matched_when_shown}
 use Rattle.match_turns.specs.RaiseLaws.{RaisesAreMatched}
 use Rattle.match_turns.proofs.BuiltInRequest as asking
+use Rattle.match_bodies.specs.Setting.{Setting, setting_of, RepresentsAt}
+use Rattle.match_turns.specs.SettingOutcome.{Represents}
 
 -- an argument, among the last temporaries
 argument_is : (ts : List ℕ) (first i : ℕ) → first + i < length ts
@@ -79,41 +75,40 @@ raise_acts program c first held next =
     ap (λ o. with_some c.events o (λ vs. built_in program next RaiseException vs (waiting c first)))
     last
 
-module _ (t : Functions) (fs : List Funclet) (program : LinearProgram) (p : ImagePlan) (q : Sites)
-    (image : IsProgramImage t fs program p q) (made : IsWellMade program p)
-    (fits : FlagsFit program) where
-  module _ (s : State) (c : Configuration) (b : RepresentsAt t fs program p q s c)
+module _ (setting : Setting) (made : IsWellMade setting.program setting.plan)
+    (fits : FlagsFit setting.program) where
+  open setting use {functions as t, funclets as fs, program, plan as p, sites as q, image}
+
+  module _ (s : State) (c : Configuration) (b : RepresentsAt setting s c)
       (known : IsKnown program c) (first : ℕ)
       (at : instruction_at program c ≡ Some (instructions.CallBuiltIn RaiseException first)) where
     abbrev i : Instruction
     i = instructions.CallBuiltIn RaiseException first
 
     abbrev state : State
-    state = asking.state t fs program p q image made s c b known RaiseException first at
+    state = asking.state setting made s c b known RaiseException first at
 
     abbrev back : ℕ
-    back = asking.back t fs program p q image made s c b known RaiseException first at
+    back = asking.back setting made s c b known RaiseException first at
 
     abbrev exception : Exception
     exception = asked_for c first
 
     held : length c.frame.temporaries ≡ first + 4
-    held = ready_here t fs program p q image made s c b known i at
+    held = ready_here setting made s c b known i at
 
-    argument : (j : ℕ) → j < 4 → (asking.numbers t fs program p q image made s c b known
-        RaiseException first at).slots (Temporary (first + j))
-        ≡ get_or (drop first c.frame.temporaries) j 0
+    argument : (j : ℕ) → j < 4 → (asking.numbers setting made s c b known RaiseException first
+        at).slots (Temporary (first + j)) ≡ get_or (drop first c.frame.temporaries) j 0
     argument j lt =
         let n = held in
-        (slots_here t fs program p q image s c b
-        (counted_here t fs program p q image made c known)).temporaries (first + j)
+        (slots_here setting s c b (counted_here setting made c known)).temporaries (first + j)
         (get_or (drop first c.frame.temporaries) j 0)
         (argument_is c.frame.temporaries first j (omega arith))
 
     code_given : register state.cpu Rcx ≡ get_or (drop first c.frame.temporaries) 0 0
     code_given = (let z : first + 0 ≡ first = omega arith in
-        ap (λ n. (asking.numbers t fs program p q image made s c b known RaiseException first
-        at).slots (Temporary n)) (sym z)) ∙ argument 0 (omega arith)
+        ap (λ n. (asking.numbers setting made s c b known RaiseException first at).slots (Temporary
+        n)) (sym z)) ∙ argument 0 (omega arith)
 
     flags_given : register state.cpu Rdx ≡ get_or (drop first c.frame.temporaries) 1 0
     flags_given = argument 1 (omega arith)
@@ -132,9 +127,9 @@ module _ (t : Functions) (fs : List Funclet) (program : LinearProgram) (p : Imag
     }
 
     resumes : p.resumes AfterCall (waiting c first).frame
-        (asking.saved t fs program p q image made s c b known RaiseException first at) ≡ true
+        (asking.saved setting made s c b known RaiseException first at) ≡ true
     resumes = (image.resumptions AfterCall (waiting c first).frame
-        (asking.saved t fs program p q image made s c b known RaiseException first at)).says
+        (asking.saved setting made s c b known RaiseException first at)).says
         (record { first = first; calls = at; here = refl; no_result = refl })
 
     goes : (next : Next) → act program i next c
@@ -142,42 +137,41 @@ module _ (t : Functions) (fs : List Funclet) (program : LinearProgram) (p : Imag
     goes = raise_acts program c first held
 
     pub raise_step : HasRule (act program i (exec program zero) c) → KnownNext program c i
-        → IsMatched t fs program turns_per_step turns_left (Represents t fs program p q) s c i
+        → IsMatched t fs program turns_per_step turns_left (Represents setting) s c i
     raise_step rule after =
-        let asks = asking.asks t fs program p q image made s c b known RaiseException first at in
-        let shown = raised_as t fs program p q image fits state
-        (asking.saved t fs program p q image made s c b known RaiseException first at) asks.is
-        b.body.acts (waiting c first) asks.asks
-        (asking.memory t fs program p q image made s c b known RaiseException first at) b.body.store
-        code (register state.cpu Rdx % 2) None exception AfterCall is_exception resumes
+        let asks = asking.asks setting made s c b known RaiseException first at in
+        let shown = raised_as setting fits state
+        (asking.saved setting made s c b known RaiseException first at) asks.is b.body.acts
+        (waiting c first) asks.asks (asking.memory setting made s c b known RaiseException first at)
+        b.body.store code (register state.cpu Rdx % 2) None exception AfterCall is_exception resumes
         (subst HasRule (goes (exec program zero)) rule) in
         let less : turns_left (waiting c first)
         ≤ turns_left c = (let n = length-take first c.frame.temporaries in omega arith) in
-        let saved = asking.saved t fs program p q image made s c b known RaiseException first at in
+        let saved = asking.saved setting made s c b known RaiseException first at in
         let shadow = callers (context_of saved) asks.is in
-        let high = asking.high_enough t fs program p q image made s c b known RaiseException first
+        let high = asking.high_enough setting made s c b known RaiseException first
         at in
-        let low = asking.low_enough t fs program p q image made s c b known RaiseException first
+        let low = asking.low_enough setting made s c b known RaiseException first
         at in
-        let well_formed = asking.well_formed t fs program p q image made s c b known RaiseException first at in
-        let there = asking.sp_there t fs program p q image made s c b known RaiseException first
+        let well_formed = asking.well_formed setting made s c b known RaiseException first at in
+        let there = asking.sp_there setting made s c b known RaiseException first
         at in
         let walk =
-        service_walk t fs program p q image state (address_of services.RaiseException) back asks.is
-        refl (omega arith) (omega arith) (λ e. absurd (omega arith)) (λ e. absurd (omega arith))
-        (asking.returns t fs program p q image made s c b known RaiseException first at) well_formed.count
+        service_walk setting state (address_of services.RaiseException) back asks.is refl
+        (omega arith) (omega arith) (λ e. absurd (omega arith)) (λ e. absurd (omega arith))
+        (asking.returns setting made s c b known RaiseException first at) well_formed.count
         (omega arith) asks.asks.on.is_there.stack in
         matched_when_shown t fs program p q 16 7 (turns_left (waiting c first)) s state c i
         (arrived t fs (raised t state code (register state.cpu Rdx % 2) None
-        (asking.saved t fs program p q image made s c b known RaiseException first at)))
+        (asking.saved setting made s c b known RaiseException first at)))
         (raise_event exception ∷ [])
         (λ next. raise program next exception AfterCall (waiting c first)) shadow
-        (asking.comes t fs program p q image made s c b known RaiseException first at)
-        (asking.live t fs program p q image made s c b known RaiseException first at)
-        (raise_turns t fs state back refl (asking.returns t fs program p q image made s c b known
-        RaiseException first at)) (raise_keeps t fs program p q state walk.0 shadow refl walk.1)
-        shown goes (omega arith) after
+        (asking.comes setting made s c b known RaiseException first at)
+        (asking.live setting made s c b known RaiseException first at)
+        (raise_turns t fs state back refl (asking.returns setting made s c b known RaiseException
+        first at)) (raise_keeps t fs program p q state walk.0 shadow refl walk.1) shown goes
+        (omega arith) after
 
 pub raises_are_matched : RaisesAreMatched
-raises_are_matched t fs program p q image made fits s c first b known at rule after = raise_step t
-    fs program p q image made fits s c b known first at rule after
+raises_are_matched t fs program p q image made fits s c first b known at rule after = raise_step
+    (setting_of t fs program p q image) made fits s c b known first at rule after

@@ -7,8 +7,7 @@ use Rattle.x64_instr.specs.declared.instruction.Instr.{Instr}
 use Rattle.x64_machine.specs.declared.cpu.Cpu.{Cpu}
 use Rattle.x64_machine.specs.Contexts.{context_of}
 use Rattle.x64_machine.specs.Effect.{State}
-use Rattle.virtual_unwind.specs.CallerOf.{Functions, distance}
-use Rattle.host_model.specs.declared.funclet.Funclet.{Funclet}
+use Rattle.virtual_unwind.specs.CallerOf.{distance}
 use Rattle.host_model.specs.Funclets.{arrivals}
 use Rattle.c_operations.specs.declared.built_in.BuiltIn.TheVariants.{RaiseException}
 use Rattle.linear_code.specs.declared.slot.Slot.TheVariants.{Temporary}
@@ -37,9 +36,7 @@ use Rattle.match_runs.specs.Comes.{LeadsTo}
 use Rattle.lowering_invariants.specs.Depths.{depth_at, depth_in}
 use Rattle.lowering_invariants.proofs.Scans.{depth_next}
 use Rattle.match_bodies.specs.Layouts.{IsLayoutIf, IsLaidOut}
-use Rattle.match_bodies.specs.CodeSites.{Sites}
-use Rattle.match_bodies.specs.ProgramImages.{ReturnsThere, IsMachineMemory, IsProgramImage}
-use Rattle.match_bodies.specs.Bodies.{RepresentsAt}
+use Rattle.match_bodies.specs.ProgramImages.{ReturnsThere}
 use Rattle.match_bodies.proofs.ReturnAddresses.{template_there}
 use Rattle.match_bodies.proofs.SilentTurns.{reaches_silently}
 use Rattle.match_bodies.specs.ConfigurationFacts.{IsWellMade, IsKnown}
@@ -55,6 +52,7 @@ use Rattle.match_turns.specs.RaiseLaws.{ContinuationsAfterCalls}
 use Rattle.match_turns.proofs.BuiltInRequest.{clear_size}
 use Rattle.match_turns.proofs.FuncletFirstInstruction.{silent_code}
 use Rattle.template_code.specs.declared.layout.TheConstants.{LARGEST_FRAME}
+use Rattle.match_bodies.specs.Setting.{Setting, setting_of, IsMachineMemory, RepresentsAt}
 
 -- the locals of an activation
 abbrev locals_in : List (List ℕ) → ℕ → List ℕ
@@ -73,14 +71,15 @@ temporaries_near program p (FunctionBody f) b h = by (p.leaf (FunctionBody f)) h
 temporaries_near program p (FuncletBody k) b h = let a = h.layout.temporaries in
     let z = h.layout.small in omega arith
 
-module _ (t : Functions) (fs : List Funclet) (program : LinearProgram) (p : ImagePlan) (q : Sites)
-    (image : IsProgramImage t fs program p q) where
+module _ (setting : Setting) where
+  open setting use {functions as t, funclets as fs, program, plan as p, sites as q, image}
+
   module _ (made : IsWellMade program p) (s : State) (saved : Cpu) (is : List StackItem)
       (acts : List Activation) (c : Configuration)
       (on : On t fs program p s.memory (context_of saved) is (Waits c.frame ∷ c.below) acts)
       (well_formed : IsWellFormed (record { cpu = saved; memory = s.memory }))
       (says : p.resumes AfterCall c.frame saved ≡ true)
-      (memory : IsMachineMemory t fs program p q s.memory c.store.memory)
+      (memory : IsMachineMemory setting s.memory c.store.memory)
       (store : c.store.activations ≡ locals_of acts) where
     abbrev name : BodyName
     name = c.frame.body
@@ -129,16 +128,15 @@ module _ (t : Functions) (fs : List Funclet) (program : LinearProgram) (p : Imag
     keeps : HasCode s.memory saved.rip (put_back Rsp (temporary_at y first) ∷ [])
     keeps =
         let h = code_split s.memory place done (keep y (Temporary first))
-        (template_there t fs program p q image name code.0 code.1 s.memory memory.code
-        c.frame.next i here) in
+        (template_there setting name code.0 code.1 s.memory memory.code c.frame.next i here) in
         subst (λ x. HasCode s.memory x (keep y (Temporary first))) (sym back_is) h.1
 
     pub silent_there : arrivals saved (distance t.base saved.rip) 1 fs ≡ []
     silent_there =
         let n = temporaries_near program p name code.0 (image.laid_out name code.0 code.1) in
         let f = fits in
-        silent_code t fs program p q image s.memory saved.rip (put_back Rsp (temporary_at y first))
-        saved memory.code (near (temporary_at y first) (omega arith)) refl keeps well_formed.rip_small
+        silent_code setting s.memory saved.rip (put_back Rsp (temporary_at y first)) saved
+        memory.code (near (temporary_at y first) (omega arith)) refl keeps well_formed.rip_small
 
     module _ (known : IsKnown program (resumed AfterCall c)) (free : c.frame.landed ≡ None) where
       held : length c.frame.temporaries ≡ first
@@ -152,18 +150,18 @@ module _ (t : Functions) (fs : List Funclet) (program : LinearProgram) (p : Imag
       abbrev caller : Configuration
       caller = on_top c.frame c.below c.store.memory acts c.events
 
-      counted : IsCounted t fs program p q image caller
+      counted : IsCounted setting caller
       counted b there = ap (λ (xs : List (List ℕ)). length (locals_in xs c.frame.activation))
-          (sym store) ∙ counted_here t fs program p q image made (resumed AfterCall c) known b there
+          (sym store) ∙ counted_here setting made (resumed AfterCall c) known b there
 
-      pub continues : LeadsTo t fs entry_turns (RepresentsAt t fs program p q)
+      pub continues : LeadsTo t fs entry_turns (RepresentsAt setting)
           (record { cpu = saved; memory = s.memory }) (resumed AfterCall c)
       continues =
-          let around = surrounded t fs program p q image made (resumed AfterCall c) known code.0
+          let around = surrounded setting made (resumed AfterCall c) known code.0
           code.1 (length acts) (sym (locals_count acts) ∙ sym (ap length store)) in
           let u : State = record { cpu = saved; memory = s.memory } in
           let f = fits in
-          let z = kept.resumes t fs program p q image made.room u c.frame c.below acts
+          let z = kept.resumes setting made.room u c.frame c.below acts
           c.store.memory c.events (context_of saved) is on refl well_formed memory code.0 code.1 i first
           done here (λ h. h) refl (omega arith)
           ((made.apart name code.0 code.1).within c.frame.next i here refl) held free back_is
@@ -174,7 +172,7 @@ module _ (t : Functions) (fs : List Funclet) (program : LinearProgram) (p : Imag
             state = z.state;
             comes = reaches_silently t fs program p q image 1 u z.state z.reaches z.keeps memory.code
                 z.silent;
-            is_there = subst (λ xs. RepresentsAt t fs program p q z.state (record {
+            is_there = subst (λ xs. RepresentsAt setting z.state (record {
               frame = record c.frame {
                 next = c.frame.next + 1;
                 temporaries = c.frame.temporaries ++ 0 ∷ [];
@@ -182,14 +180,16 @@ module _ (t : Functions) (fs : List Funclet) (program : LinearProgram) (p : Imag
               below = c.below;
               store = record { memory = c.store.memory; activations = xs };
               events = c.events;
-            })) (sym store) (subst (λ x. RepresentsAt t fs program p q z.state
-                (kept.answered t fs program p q image made.room c.frame c.below c.store.memory acts
-                c.events x)) returns.no_result z.begins);
+            })) (sym store) (subst (λ x. RepresentsAt setting z.state
+                (kept.answered setting made.room c.frame c.below c.store.memory acts c.events x))
+                returns.no_result z.begins);
           }
 
 pub continuations_after_calls : ContinuationsAfterCalls
 continuations_after_calls t fs program p q image made s saved is acts c on well_formed says memory store = (
-  silent_there t fs program p q image made s saved is acts c on well_formed says memory store,
-  λ known free. continues t fs program p q image made s saved is acts c on well_formed says memory
+  silent_there (setting_of t fs program p q image) made s saved is acts c on well_formed says memory
+      store,
+  λ known free. continues (setting_of t fs program p q image) made s saved is acts c on well_formed
+      says memory
       store known free,
 )

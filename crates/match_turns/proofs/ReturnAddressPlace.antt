@@ -4,26 +4,21 @@ use Rattle.std.proofs.Common.{ℕ, ◌+◌, ◌≤◌, List, refl, sym, subst, a
 use Rattle.host_layout.specs.declared.range.TheConstants.{STACK_END}
 use Rattle.x64_instr.specs.declared.register.Reg.TheVariants.{Rsp}
 use Rattle.x64_machine.specs.Effect.{State, register}
-use Rattle.virtual_unwind.specs.CallerOf.{Functions}
-use Rattle.host_model.specs.declared.funclet.Funclet.{Funclet}
-use Rattle.linear_code.specs.Program.{LinearProgram}
 use Rattle.linear_machine.specs.Frames.{Item, Configuration}
 use Rattle.match_stack.specs.Stack.{IsStack}
 use Rattle.match_stack.specs.WalkLaws.{context_below}
-use Rattle.match_stack.specs.ImagePlan.{ImagePlan}
 use Rattle.match_stack.specs.ItemMatches.{Activation}
-use Rattle.match_bodies.specs.CodeSites.{Sites}
-use Rattle.match_bodies.specs.ProgramImages.{IsProgramImage}
-use Rattle.match_bodies.specs.Bodies.{RepresentsAt}
 use Rattle.match_bodies.proofs.InstructionEffects.{others_of}
 use Rattle.match_bodies.proofs.RoutineWalks.{Beneath, beneath_by}
 use Rattle.match_bodies.proofs.BodyViews.{IsCounted, frame_top}
 use Rattle.match_turns.proofs.FuncletFrame.{ArrivesBelow}
+use Rattle.match_bodies.specs.Setting.{Setting, RepresentsAt}
 
-module _ (t : Functions) (fs : List Funclet) (program : LinearProgram) (p : ImagePlan) (q : Sites)
-    (image : IsProgramImage t fs program p q) where
-  module _ (s : State) (c : Configuration) (b : RepresentsAt t fs program p q s c)
-      (counted : IsCounted t fs program p q image c) where
+module _ (setting : Setting) where
+  open setting use {functions as t, funclets as fs, program, plan as p}
+
+  module _ (s : State) (c : Configuration) (b : RepresentsAt setting s c)
+      (counted : IsCounted setting c) where
     -- the return address of the body that runs
     abbrev pub top_of : ℕ
     top_of = register s.cpu Rsp + (p.layout c.frame.body).frame
@@ -31,7 +26,7 @@ module _ (t : Functions) (fs : List Funclet) (program : LinearProgram) (p : Imag
     pub begins_beneath : Beneath t s top_of (top_of + 8) b.body.back (others_of s.cpu.registers)
         b.body.is
     begins_beneath =
-        let h = frame_top t fs program p q image s c b counted in
+        let h = frame_top setting s c b counted in
         beneath_by t s top_of b.body.back b.body.is b.well_formed.count b.body.returns
         (b.body.below (others_of s.cpu.registers) refl).is_there.stack (omega arith)
         b.memory.data_alone.no_code

@@ -4,22 +4,18 @@ use Rattle.seh_num.specs.declared.event.Event.TheVariants as events
 use Rattle.x64_machine.specs.Contexts.{context_of}
 use Rattle.x64_machine.specs.Effect.{State}
 use Rattle.virtual_unwind.specs.Contexts.{rsp}
-use Rattle.virtual_unwind.specs.CallerOf.{Functions}
 use Rattle.seh_records.specs.declared.dispatch.DispatchRecord.{DispatchRecord}
 use Rattle.seh_records.specs.Record.{placed}
-use Rattle.host_model.specs.declared.funclet.Funclet.{Funclet}
 use Rattle.host_model.specs.Turns.{Turn}
 use Rattle.host_model.specs.Funclets.{arrived}
 use Rattle.host_model.specs.Dispatch.{accepting, accepted, searches_on, unwinds_on}
 use Rattle.source_meaning.specs.State.{Exception}
-use Rattle.linear_code.specs.Program.{LinearProgram}
 use Rattle.linear_machine.specs.Frames.{Handler, Resumption, Waits, Store, Next, Configuration}
 use Rattle.linear_machine.specs.Searching as linear
 use Rattle.linear_machine.specs.Searching.{target_of, begin_filter, accept}
 use Rattle.linear_machine.specs.Unwinding.{unwind}
 use Rattle.linear_machine.specs.Run.{exec}
 use Rattle.match_stack.specs.Stack.{StackItem}
-use Rattle.match_stack.specs.ImagePlan.{ImagePlan}
 use Rattle.match_stack.specs.ItemMatches.{Activation, locals_of, Aimed}
 use Rattle.match_stack.proofs.ListEnds.{in_stack}
 use Rattle.match_stack.specs.StackRecords.{RecordHasRoom}
@@ -30,24 +26,24 @@ use Rattle.match_stack.specs.DispatchSteps.{placed_in, from_body}
 use Rattle.match_stack.proofs.SearchTurns.{search_turns}
 use Rattle.match_stack.proofs.DispatchSteps.{acceptance_unwinds}
 use Rattle.match_runs.specs.Ends.{HasRule}
-use Rattle.match_bodies.specs.CodeSites.{Sites}
 use Rattle.match_bodies.specs.Callers.{callers}
-use Rattle.match_bodies.specs.ProgramImages.{IsMachineMemory, IsProgramImage}
 use Rattle.match_bodies.specs.Bodies.{turns_left}
 use Rattle.match_turns.specs.FuncletEntry.{FlagsFit}
 use Rattle.match_turns.proofs.FuncletSteps.{called_filters_begin}
-use Rattle.match_turns.specs.DispatchOutcome.{EntersFunclet, Outcome}
 use Rattle.match_turns.proofs.DispatchMemory.{memory_untouched, placing}
 use Rattle.match_turns.proofs.DispatchOutcomeSteps.{represents_there, outcome_same}
 use Rattle.match_turns.proofs.DispatchWalks.{filter_walk}
 use Rattle.match_turns.proofs.UnwindTurn.{unwound}
+use Rattle.match_bodies.specs.Setting.{Setting, IsMachineMemory}
+use Rattle.match_turns.specs.SettingOutcome.{EntersFunclet, Outcome}
 
-module _ (t : Functions) (fs : List Funclet) (program : LinearProgram) (p : ImagePlan) (q : Sites)
-    (image : IsProgramImage t fs program p q) (fits : FlagsFit program) where
+module _ (setting : Setting) (fits : FlagsFit setting.program) where
+  open setting use {functions as t, funclets as fs, program, plan as p, sites as q, image}
+
   module _ (s : State) (at : ℕ) (r : DispatchRecord) (is : List StackItem) (acts : List Activation)
       (exception : Exception) (found : List Handler) (c : Configuration)
       (h : IsSearching t fs program p s at r is acts exception found c)
-      (memory : IsMachineMemory t fs program p q s.memory c.store.memory)
+      (memory : IsMachineMemory setting s.memory c.store.memory)
       (store : c.store.activations ≡ locals_of acts) where
     same_store : store_of c.store.memory acts ≡ c.store
     same_store = ap (λ (xs : List (List ℕ)). let x : Store =
@@ -59,7 +55,7 @@ module _ (t : Functions) (fs : List Funclet) (program : LinearProgram) (p : Imag
         → Aimed t fs program p f.depth f.target frame address (context_of r.saved) is
         (Waits c.frame ∷ c.below)
         → HasRule (accept program f exception (exec program zero) c)
-        → Outcome t fs program p q (arrived t fs (accepted t s at r frame address))
+        → Outcome setting (arrived t fs (accepted t s at r frame address))
         (λ next. accept program f exception next c) c.events (turns_left c)
         (callers (context_of r.saved) is)
     taken_over f frame address frame_small address_small aimed rule =
@@ -91,7 +87,7 @@ module _ (t : Functions) (fs : List Funclet) (program : LinearProgram) (p : Imag
         (λ next. accept program f exception next c) c.events (turns_left c)
         (callers (context_of r.saved) is)
         (ap (arrived t fs) a.turns) same
-        (unwound t fs program p q image fits w (turns_left c) (omega arith) (λ e. absurd cc)
+        (unwound setting fits w (turns_left c) (omega arith) (λ e. absurd cc)
         (placed_in s at record') at record' is a.unwinding memory'
         (subst HasRule (same (exec program zero)) rule))
 
@@ -99,8 +95,8 @@ module _ (t : Functions) (fs : List Funclet) (program : LinearProgram) (p : Imag
 
     filter_enters : (turn : Turn) (resumption : Resumption)
         → FilterBegins t fs program p s at r turn found exception resumption is acts c
-        → EntersFunclet t fs program p q turn (λ next. linear.search program next found exception
-        resumption c) c.events (turns_left c) (callers (context_of r.saved) is)
+        → EntersFunclet setting turn (λ next. linear.search program next found exception resumption
+        c) c.events (turns_left c) (callers (context_of r.saved) is)
     filter_enters turn resumption f =
         let memory' = memory_untouched t fs program p q s.memory f.state.memory c.store.memory
         f.untouched memory (f.arrives.on []).data_alone in
@@ -116,8 +112,7 @@ module _ (t : Functions) (fs : List Funclet) (program : LinearProgram) (p : Imag
           acts = f.goes;
           shown = refl;
           arrives = f.named;
-          walk = filter_walk t fs program p q image s at r turn found exception resumption is acts c
-              f;
+          walk = filter_walk setting s at r turn found exception resumption is acts c f;
           leads = λ shallow known. represents_there t fs program p q f.state
               (begin_filter f.filter f.handler f.rest exception resumption c)
               (called_filters_begin t fs program p q image f.state f.filter ((at + 80) % 2 ^ 64)
@@ -129,7 +124,7 @@ module _ (t : Functions) (fs : List Funclet) (program : LinearProgram) (p : Imag
 
     pub searched : (resumption : Resumption) → p.resumes resumption c.frame r.saved ≡ true
         → HasRule (linear.search program (exec program zero) found exception resumption c)
-        → Outcome t fs program p q (arrived t fs (searches_on t s at r))
+        → Outcome setting (arrived t fs (searches_on t s at r))
         (λ next. linear.search program next found exception resumption c) c.events (turns_left c)
         (callers (context_of r.saved) is)
     searched resumption resumes rule = elim (search_turns t fs program p s at r is acts exception

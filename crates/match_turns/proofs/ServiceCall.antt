@@ -11,15 +11,12 @@ use Rattle.flat_memory.specs.Memory.{loaded}
 use Rattle.x64_instr.specs.declared.register.Reg.TheVariants.{Rsp}
 use Rattle.x64_machine.specs.declared.cpu.Flags.{Flags}
 use Rattle.x64_machine.specs.Effect.{State, register}
-use Rattle.virtual_unwind.specs.CallerOf.{Functions}
-use Rattle.host_model.specs.declared.funclet.Funclet.{Funclet}
 use Rattle.c_operations.specs.declared.built_in.BuiltIn.{BuiltIn}
 use Rattle.c_operations.specs.declared.built_in.BuiltIn.TheVariants.{Put, Protect, RaiseException}
 use Rattle.linear_code.specs.declared.slot.Slot.TheVariants.{Temporary}
 use Rattle.linear_code.specs.declared.instruction.Instruction.{Instruction}
 use Rattle.linear_code.specs.declared.instruction.Instruction.TheVariants as instructions
 use Rattle.linear_code.specs.BodyState.{BodyState}
-use Rattle.linear_code.specs.Program.{LinearProgram}
 use Rattle.linear_machine.specs.Frames.{Configuration}
 use Rattle.template_code.specs.declared.layout.Layout.{Layout}
 use Rattle.template_code.specs.Bytes.{size, sizes}
@@ -32,12 +29,9 @@ use Rattle.x64_templates.specs.Straight.{MachineView, machine}
 use Rattle.x64_templates.specs.CallStates.{pushed}
 use Rattle.x64_templates.specs.Runs.{Reaches, HasCode}
 use Rattle.x64_templates.proofs.Computes.{code_split}
-use Rattle.match_stack.specs.ImagePlan.{ImagePlan}
 use Rattle.match_runs.specs.Comes.{IsLive, Comes}
 use Rattle.lowering_invariants.specs.Room.{HaveRoom}
-use Rattle.match_bodies.specs.CodeSites.{Sites}
-use Rattle.match_bodies.specs.ProgramImages.{service_of, IsProgramImage}
-use Rattle.match_bodies.specs.Bodies.{RepresentsAt}
+use Rattle.match_bodies.specs.ProgramImages.{service_of}
 use Rattle.match_bodies.proofs.SilentTurns.{reaches_silently}
 use Rattle.match_bodies.proofs.BodyViews.{IsCounted, room_here, holds_here, sp_low, frame_top}
 use Rattle.match_bodies.proofs.TemplateRuns.{frame, slots, v, sp_is, same_state, has_slots, template_here, next_address}
@@ -45,6 +39,7 @@ use Rattle.match_turns.proofs.BuiltInCall.{ServiceReached, with_arguments_of, se
 use Rattle.match_turns.proofs.BuiltInShadow.{built_in_keeps}
 use Rattle.match_turns.proofs.HostPage.{host_silent}
 use Rattle.match_turns.proofs.ReturnAddressPush.{below, returns_there}
+use Rattle.match_bodies.specs.Setting.{Setting, RepresentsAt}
 
 clear_size : size clear_result ≡ 5
 unfolding size opcode_register
@@ -71,10 +66,11 @@ unfolding template_size
 built_in_size y f first = let a = call_code_size y (Temporary first) first 5 0 in
     let b = clear_size in omega arith
 
-module _ (t : Functions) (fs : List Funclet) (program : LinearProgram) (p : ImagePlan) (q : Sites)
-    (image : IsProgramImage t fs program p q) (roomy : HaveRoom program) where
-  module _ (s : State) (c : Configuration) (b : RepresentsAt t fs program p q s c)
-      (counted : IsCounted t fs program p q image c) (f : BuiltIn) (first : ℕ)
+module _ (setting : Setting) (roomy : HaveRoom setting.program) where
+  open setting use {functions as t, funclets as fs, program, plan as p, sites as q, image}
+
+  module _ (s : State) (c : Configuration) (b : RepresentsAt setting s c)
+      (counted : IsCounted setting c) (f : BuiltIn) (first : ℕ)
       (at : slice_get b.body.slots.code.code c.frame.next ≡ Some (instructions.CallBuiltIn f first))
     where
       abbrev pub layout : Layout
@@ -84,10 +80,10 @@ module _ (t : Functions) (fs : List Funclet) (program : LinearProgram) (p : Imag
       sp = register s.cpu Rsp
 
       abbrev pub view : MachineView
-      view = v t fs program p q image roomy s c b counted
+      view = v setting roomy s c b counted
 
       abbrev pub numbers : BodyState
-      numbers = slots t fs program p q image roomy s c b counted
+      numbers = slots setting roomy s c b counted
 
       -- where the service returns to
       abbrev pub back : ℕ
@@ -97,10 +93,10 @@ module _ (t : Functions) (fs : List Funclet) (program : LinearProgram) (p : Imag
       service = address_of (service_of f)
 
       pub low : STACK_START + 196568 ≤ sp
-      low = sp_low t fs program p q image s c b counted
+      low = sp_low setting s c b counted
 
       pub top : sp ≤ STACK_END
-      top = let h = frame_top t fs program p q image s c b counted in omega arith
+      top = let h = frame_top setting s c b counted in omega arith
 
       -- with the arguments in their registers
       abbrev pub given : MachineView
@@ -117,7 +113,7 @@ module _ (t : Functions) (fs : List Funclet) (program : LinearProgram) (p : Imag
       pub next_is : p.address c.frame.body (c.frame.next + 1)
           ≡ back + sizes (keep layout (Temporary first))
       next_is =
-          let n = next_address t fs program p q image roomy s c b counted
+          let n = next_address setting roomy s c b counted
           (instructions.CallBuiltIn f first) at in
           let z = built_in_size layout f first in
           omega arith
@@ -145,18 +141,17 @@ module _ (t : Functions) (fs : List Funclet) (program : LinearProgram) (p : Imag
           let z = inside.high in
           (omega arith, omega arith, omega arith, omega arith)
 
-      reached : ServiceReached (frame t fs program p q image roomy s c b counted) first view s.cpu.rip
-          service s.cpu.flags numbers
+      reached : ServiceReached (frame setting roomy s c b counted) first view s.cpu.rip service
+          s.cpu.flags numbers
       reached =
-          service_reached (frame t fs program p q image roomy s c b counted) first view s.cpu.rip
-          (q.thunk f) service s.cpu.flags numbers (room_here t fs program p q image s c b counted)
-          (has_slots t fs program p q image roomy s c b counted (instructions.CallBuiltIn f first) at)
-          (sp_is t fs program p q image roomy s c b counted)
-          (holds_here t fs program p q image s c b counted)
+          service_reached (frame setting roomy s c b counted) first view s.cpu.rip (q.thunk f)
+          service s.cpu.flags numbers (room_here setting s c b counted)
+          (has_slots setting roomy s c b counted (instructions.CallBuiltIn f first) at)
+          (sp_is setting roomy s c b counted) (holds_here setting s c b counted)
           (below view sp back (let l = low in omega arith) top b.memory.data_alone b.memory.stack)
           near
-          (template_here t fs program p q image roomy s c b counted (instructions.CallBuiltIn f first)
-          at) (b.memory.code.thunks f).thunk
+          (template_here setting roomy s c b counted (instructions.CallBuiltIn f first) at)
+          (b.memory.code.thunks f).thunk
 
       pub flags_there : Flags
       flags_there = reached.flags
@@ -168,14 +163,13 @@ module _ (t : Functions) (fs : List Funclet) (program : LinearProgram) (p : Imag
       pub reaches : Reaches 7 s at_service
       unfolding flags_there
       reaches = subst (λ x. Reaches 7 x (machine (pushed given sp back) service reached.flags))
-          (sym (same_state t fs program p q image roomy s c b counted)) reached.comes
+          (sym (same_state setting roomy s c b counted)) reached.comes
 
       pub comes_there : Comes t fs 7 s [] at_service
       comes_there = reaches_silently t fs program p q image 7 s at_service reaches
-          (built_in_keeps t fs program p q image roomy s c b counted f first at at_service reaches refl
+          (built_in_keeps setting roomy s c b counted f first at at_service reaches refl
           (subst (λ r. IsNear (return_at layout first (r + 5)) (q.thunk f)) b.rip near)) b.memory.code
-          (host_silent t fs program p q image s.memory service at_service.cpu b.memory.code
-          (service_low f).1)
+          (host_silent setting s.memory service at_service.cpu b.memory.code (service_low f).1)
 
       pub live_there : IsLive at_service
       live_there = let l = (service_low f).0 in ne_eqb service 0 (λ e. absurd (omega arith))
@@ -190,7 +184,7 @@ module _ (t : Functions) (fs : List Funclet) (program : LinearProgram) (p : Imag
       -- after the call the result is kept
       pub code_after : HasCode s.memory back (keep layout (Temporary first))
       code_after =
-          let whole = template_here t fs program p q image roomy s c b counted
+          let whole = template_here setting roomy s c b counted
           (instructions.CallBuiltIn f first) at in
           let parts = code_split s.memory s.cpu.rip (clear_result ∷ [])
           (call_code layout (Temporary first) first (s.cpu.rip + 5) (q.thunk f)) whole in

@@ -11,8 +11,7 @@ use Rattle.x64_instr.specs.declared.instruction.Instr.{Instr}
 use Rattle.x64_machine.specs.declared.context.Context.{Context}
 use Rattle.x64_machine.specs.Contexts.{kept_of}
 use Rattle.x64_machine.specs.Effect.{State, register}
-use Rattle.virtual_unwind.specs.CallerOf.{Functions, distance}
-use Rattle.host_model.specs.declared.funclet.Funclet.{Funclet}
+use Rattle.virtual_unwind.specs.CallerOf.{distance}
 use Rattle.host_model.specs.Funclets.{arrivals}
 use Rattle.host_model.specs.Turns.{Continues}
 use Rattle.host_model.specs.HostStep.{turn}
@@ -20,7 +19,7 @@ use Rattle.c_operations.specs.declared.built_in.BuiltIn.{BuiltIn}
 use Rattle.linear_code.specs.declared.slot.Slot.TheVariants.{Temporary}
 use Rattle.linear_code.specs.declared.instruction.Instruction.TheVariants as instructions
 use Rattle.linear_code.specs.BodyState.{BodyState, with_slot}
-use Rattle.linear_code.specs.Program.{LinearProgram, LinearBody}
+use Rattle.linear_code.specs.Program.{LinearBody}
 use Rattle.linear_machine.specs.Frames as linear
 use Rattle.linear_machine.specs.Frames.{Configuration, Next}
 use Rattle.linear_machine.specs.Instructions.{act}
@@ -35,7 +34,6 @@ use Rattle.x64_templates.specs.Runs.{ReachesBody}
 use Rattle.x64_templates.proofs.Keeping.{index_other}
 use Rattle.x64_templates.proofs.Returns.{call_ends}
 use Rattle.x64_templates.proofs.Flows.{keep_flow}
-use Rattle.match_stack.specs.ImagePlan.{ImagePlan}
 use Rattle.match_stack.specs.ItemMatches.{locals_of}
 use Rattle.match_stack.specs.ListLaws.{KeepsAbove, KeepsStack}
 use Rattle.match_runs.specs.Shadow.{WalkGives, KeepsShadow, AllKeep}
@@ -43,9 +41,7 @@ use Rattle.match_runs.specs.Comes.{Comes}
 use Rattle.match_runs.specs.Matched.{Moves}
 use Rattle.match_runs.proofs.Turns.{comes_then}
 use Rattle.lowering_invariants.specs.Room.{HaveRoom}
-use Rattle.match_bodies.specs.CodeSites.{Sites}
-use Rattle.match_bodies.specs.ProgramImages.{HasProgram, IsMachineMemory, IsProgramImage}
-use Rattle.match_bodies.specs.Bodies.{turns_left, RepresentsAt}
+use Rattle.match_bodies.specs.Bodies.{turns_left}
 use Rattle.match_bodies.proofs.SilentTurns.{silent_here, reaches_silently, program_reaches}
 use Rattle.match_bodies.specs.BodyViews.{counts_of}
 use Rattle.match_bodies.specs.SlotStores.{with_values, OwnerHasFrame}
@@ -64,6 +60,7 @@ use Rattle.match_turns.proofs.ReturnAddressPush.{keeps_above, sp_there as return
 use Rattle.match_turns.proofs.BodyOtherMemory.{elsewhere, source_elsewhere, represents_elsewhere, same_activations as same_acts, same_code}
 use Rattle.match_turns.proofs.ServiceCall.{sp, given, back, at_service, flags_there, low, top, many, next_is, back_small, reaches, comes_there, live_there, returns, code_after}
 use Rattle.match_turns.proofs.ServiceShadow.{is_elsewhere, service_keeps, set_back}
+use Rattle.match_bodies.specs.Setting.{Setting, HasProgram, IsMachineMemory, RepresentsAt}
 
 -- numbers of 64 bits, with another of 64 bits among them
 small_set : (xs : List ℕ) (i v : ℕ) → AreSmall xs → v < 2 ^ 64 → AreSmall (set xs i v)
@@ -111,27 +108,28 @@ saved_kept xs third fourth low sp old back was =
 nothing : (landed : Option ℕ) (code : ℕ) → landed ≡ None → landed ≡ Some code → ⊥
 nothing landed code e h = let z : ◌≡◌ {A = Option ℕ} None (Some code) = sym e ∙ h in cc
 
-module _ (t : Functions) (fs : List Funclet) (program : LinearProgram) (p : ImagePlan) (q : Sites)
-    (image : IsProgramImage t fs program p q) (roomy : HaveRoom program) where
-  module _ (s : State) (c : Configuration) (b : RepresentsAt t fs program p q s c)
-      (counted : IsCounted t fs program p q image c)
-      (around : Surroundings t fs program p q image roomy s c b counted) (f : BuiltIn) (first : ℕ)
+module _ (setting : Setting) (roomy : HaveRoom setting.program) where
+  open setting use {functions as t, funclets as fs, program, plan as p, sites as q, image}
+
+  module _ (s : State) (c : Configuration) (b : RepresentsAt setting s c)
+      (counted : IsCounted setting c)
+      (around : Surroundings setting roomy s c b counted) (f : BuiltIn) (first : ℕ)
       (at : slice_get b.body.slots.code.code c.frame.next ≡ Some (instructions.CallBuiltIn f first))
       (framed : p.leaf c.frame.body ≡ false)
       (within : c.frame.next + 1 < length b.body.slots.code.code)
       (held : length c.frame.temporaries ≤ b.body.slots.code.temporaries)
       (fits : first ≤ length c.frame.temporaries) (free : c.frame.landed ≡ None) where
     abbrev called_from : ℕ
-    called_from = sp t fs program p q image roomy s c b counted f first at
+    called_from = sp setting roomy s c b counted f first at
 
     abbrev pub with_given : MachineView
-    with_given = given t fs program p q image roomy s c b counted f first at
+    with_given = given setting roomy s c b counted f first at
 
     abbrev pub to : ℕ
-    to = back t fs program p q image roomy s c b counted f first at
+    to = back setting roomy s c b counted f first at
 
     abbrev pub there : State
-    there = at_service t fs program p q image roomy s c b counted f first at
+    there = at_service setting roomy s c b counted f first at
 
     -- the memory with the return address
     abbrev pub memory_there : Memory
@@ -152,7 +150,8 @@ module _ (t : Functions) (fs : List Funclet) (program : LinearProgram) (p : Imag
     }
 
     abbrev pub returned_to : ℕ → Memory → State
-    returned_to x m = machine (view_after x m) to (flags_there t fs program p q image roomy s c b counted f first at)
+    returned_to x m = machine (view_after x m) to (flags_there setting roomy s c b counted f first
+        at)
 
     -- linear code with the result
     abbrev pub answered : ℕ → Memory → List Event → Configuration
@@ -165,20 +164,20 @@ module _ (t : Functions) (fs : List Funclet) (program : LinearProgram) (p : Imag
 
     above : KeepsAbove s.memory memory_there.byte called_from
     above = keeps_above with_given called_from to
-        (let l = low t fs program p q image roomy s c b counted f first at in omega arith)
-        (top t fs program p q image roomy s c b counted f first at) b.memory.data_alone b.memory.stack
+        (let l = low setting roomy s c b counted f first at in omega arith)
+        (top setting roomy s c b counted f first at) b.memory.data_alone b.memory.stack
 
     sp_is : (x : ℕ) (m : Memory) → sp_of (view_after x m) ≡ called_from
     sp_is x m = sp_saved with_given called_from to
-        (let l = low t fs program p q image roomy s c b counted f first at in omega arith)
-        (top t fs program p q image roomy s c b counted f first at) b.memory.data_alone b.memory.stack
+        (let l = low setting roomy s c b counted f first at in omega arith)
+        (top setting roomy s c b counted f first at) b.memory.data_alone b.memory.stack
         there.cpu.rip there.cpu.flags
-        (back_small t fs program p q image roomy s c b counted f first at)
-        (many t fs program p q image roomy s c b counted f first at)
+        (back_small setting roomy s c b counted f first at)
+        (many setting roomy s c b counted f first at)
 
     module _ (x : ℕ) (x_small : x < 2 ^ 64) (m source : Memory) (events : List Event)
         (keeps : KeepsStack memory_there m called_from)
-        (memory : IsMachineMemory t fs program p q m source) where
+        (memory : IsMachineMemory setting m source) where
       pub keeps_all : KeepsStack s.memory m called_from
       keeps_all = record {
         bytes = λ a l u. keeps.bytes a l u ∙ above.above a l;
@@ -189,20 +188,20 @@ module _ (t : Functions) (fs : List Funclet) (program : LinearProgram) (p : Imag
 
       -- the body before the call, in this memory
       abbrev pub earlier : State
-      earlier = elsewhere t fs program p q image s c b counted framed m source keeps_all memory
+      earlier = elsewhere setting s c b counted framed m source keeps_all memory
 
       abbrev pub calling : Configuration
-      calling = source_elsewhere t fs program p q image s c b counted framed m source keeps_all memory
+      calling = source_elsewhere setting s c b counted framed m source keeps_all memory
 
-      pub begins : RepresentsAt t fs program p q earlier calling
-      begins = represents_elsewhere t fs program p q image s c b counted framed m source keeps_all memory
+      pub begins : RepresentsAt setting earlier calling
+      begins = represents_elsewhere setting s c b counted framed m source keeps_all memory
 
-      around_earlier : Surroundings t fs program p q image roomy earlier calling begins counted
+      around_earlier : Surroundings setting roomy earlier calling begins counted
       unfolding begins
       around_earlier = record {
         caller = around.caller;
         owner = λ k e. subst (OwnerHasFrame t fs program p c.frame.activation c.below)
-            (sym (same_acts t fs program p q image s c b counted framed m source keeps_all memory))
+            (sym (same_acts setting s c b counted framed m source keeps_all memory))
             (around.owner k e);
       }
 
@@ -211,7 +210,7 @@ module _ (t : Functions) (fs : List Funclet) (program : LinearProgram) (p : Imag
 
       is_body : b.body.slots.code ≡ body
       unfolding begins
-      is_body = same_code t fs program p q image s c b counted framed m source keeps_all memory
+      is_body = same_code setting s c b counted framed m source keeps_all memory
 
       pub at_earlier : slice_get body.code c.frame.next ≡ Some (instructions.CallBuiltIn f first)
       at_earlier = subst (λ (o : LinearBody). slice_get o.code c.frame.next
@@ -224,10 +223,10 @@ module _ (t : Functions) (fs : List Funclet) (program : LinearProgram) (p : Imag
       held_earlier = subst (λ (o : LinearBody). length c.frame.temporaries ≤ o.temporaries) is_body held
 
       abbrev now : BodyState
-      now = slots t fs program p q image roomy earlier calling begins counted
+      now = slots setting roomy earlier calling begins counted
 
       room_slots : first + 4 ≤ body.temporaries
-      room_slots = has_slots t fs program p q image roomy earlier calling begins counted
+      room_slots = has_slots setting roomy earlier calling begins counted
           (instructions.CallBuiltIn f first) at_earlier
 
       abbrev after_code : List Instr
@@ -240,16 +239,15 @@ module _ (t : Functions) (fs : List Funclet) (program : LinearProgram) (p : Imag
       d = record { slots = with_slot now.slots (Temporary first) x; memory = source }
 
       -- the result is kept
-      pub run : ReachesBody (frame t fs program p q image roomy earlier calling begins counted) 1
-          (returned_to x m) rip (view_after x m).rest d
+      pub run : ReachesBody (frame setting roomy earlier calling begins counted) 1 (returned_to x m)
+          rip (view_after x m).rest d
       run =
           let r = room_slots in
-          call_ends (frame t fs program p q image roomy earlier calling begins counted)
-          (Temporary first) (view_after x m) to
-          (flags_there t fs program p q image roomy s c b counted f first at) now
-          (room_here t fs program p q image earlier calling begins counted) (omega arith) x_small
-          (sp_is x m) (holds_here t fs program p q image earlier calling begins counted)
-          (code_after t fs program p q image roomy earlier calling begins counted f first at_earlier)
+          call_ends (frame setting roomy earlier calling begins counted) (Temporary first)
+          (view_after x m) to (flags_there setting roomy s c b counted f first at) now
+          (room_here setting earlier calling begins counted) (omega arith) x_small (sp_is x m)
+          (holds_here setting earlier calling begins counted)
+          (code_after setting roomy earlier calling begins counted f first at_earlier)
 
       abbrev u : State
       u = returned_to x m
@@ -260,7 +258,8 @@ module _ (t : Functions) (fs : List Funclet) (program : LinearProgram) (p : Imag
       -- registers
       given_small : AreSmall s.cpu.registers → AreSmall u.cpu.registers
       given_small h =
-          let k = (reaches_keeps 7 s there (reaches t fs program p q image roomy s c b counted f first at)).small h in
+          let k = (reaches_keeps 7 s there (reaches setting roomy s c b counted f first at)).small h
+          in
           let after_rax = k.1 in
           let after_rcx = after_rax.1 in (
             x_small,
@@ -276,7 +275,7 @@ module _ (t : Functions) (fs : List Funclet) (program : LinearProgram) (p : Imag
 
       as_many : length u.cpu.registers ≡ length s.cpu.registers
       as_many =
-          let n = many t fs program p q image roomy s c b counted f first at in
+          let n = many setting roomy s c b counted f first at in
           let e = length-set (set with_given.rest 1 (called_from - 8)) 1 sp_after in
           let g = length-set with_given.rest 1 (called_from - 8) in
           let k = b.well_formed.count in
@@ -300,41 +299,41 @@ module _ (t : Functions) (fs : List Funclet) (program : LinearProgram) (p : Imag
       abbrev ts : List ℕ
       ts = take first c.frame.temporaries ++ x ∷ []
 
-      ran : Ran t fs program p q image earlier calling begins counted after d values ts
+      ran : Ran setting earlier calling begins counted after d values ts
       ran = record {
         changed = record { changes = run.changes; keeps = keeps_registers };
         holds = run.holds;
         stack = stack;
-        leaves = (let r = room_slots in leaves_stored t fs program p q image roomy earlier calling
-            begins counted around_earlier (Temporary first) x source held_earlier fits (omega arith));
+        leaves = (let r = room_slots in leaves_stored setting roomy earlier calling begins counted
+            around_earlier (Temporary first) x source held_earlier fits (omega arith));
       }
 
       rip_is : rip ≡ p.address c.frame.body (c.frame.next + 1)
-      rip_is = sym (next_is t fs program p q image roomy s c b counted f first at)
+      rip_is = sym (next_is setting roomy s c b counted f first at)
 
       rip_small : rip < 2 ^ 64
-      rip_small = let n = label_small t fs program p q image roomy s c b counted around
-          (c.frame.next + 1) within in omega (arith, rip_is)
+      rip_small = let n = label_small setting roomy s c b counted around (c.frame.next + 1) within
+          in omega (arith, rip_is)
 
       same_locals : locals_of (with_values begins.body.acts c.frame.activation values) ≡ c.store.activations
       same_locals =
-          let own = placed t fs program p q image earlier calling begins counted in
+          let own = placed setting earlier calling begins counted in
           let n = slice_get_within (locals_of begins.body.acts) c.frame.activation own.values own.number in
           let k = locals_count begins.body.acts in
           ap (λ vs. locals_of (with_values begins.body.acts c.frame.activation vs))
-          (locals_here t fs program p q image earlier calling begins counted)
+          (locals_here setting earlier calling begins counted)
           ∙ same_activations begins.body.acts c.frame.activation own.values (omega arith) own.number
           ∙ sym begins.body.store
 
-      pub represents_after : RepresentsAt t fs program p q after (answered x source events)
+      pub represents_after : RepresentsAt setting after (answered x source events)
       represents_after =
           subst (λ (xs : List (List ℕ)). let o : Configuration = record {
             frame = record c.frame { next = c.frame.next + 1; temporaries = ts };
             below = c.below;
             store = record { memory = source; activations = xs };
             events = events;
-          } in RepresentsAt t fs program p q after o) same_locals
-          (represents_next t fs program p q image earlier calling begins counted after d values ts ran
+          } in RepresentsAt setting after o) same_locals
+          (represents_next setting earlier calling begins counted after d values ts ran
           (c.frame.next + 1) c.frame.landed events rip_is inside
           (stays_well_formed earlier after keeps_registers rip_small begins.well_formed)
           (λ code e. absurd (nothing c.frame.landed code free e)) around_earlier.caller around_earlier.owner)
@@ -367,12 +366,12 @@ module _ (t : Functions) (fs : List Funclet) (program : LinearProgram) (p : Imag
                 (call back (q.thunk f) ∷ []),
           )
 
-      pub past_call : IsPast t fs program p q image earlier calling begins counted
+      pub past_call : IsPast setting earlier calling begins counted
           (instructions.CallBuiltIn f first) at_earlier (λ h. h) call_code u
       past_call = record {
         rip = back_is;
         registers = kept_back;
-        is_there = is_here t fs program p q image earlier calling begins counted;
+        is_there = is_here setting earlier calling begins counted;
       }
 
       -- the code that keeps the result keeps the shadow
@@ -380,23 +379,22 @@ module _ (t : Functions) (fs : List Funclet) (program : LinearProgram) (p : Imag
       keeps_shadow =
           let r = room_slots in
           let i = instructions.CallBuiltIn f first in
-          let room = room_here t fs program p q image earlier calling begins counted in
+          let room = room_here setting earlier calling begins counted in
           let kept = ap (λ (rest : List ℕ). kept_of (0 ∷ 0 ∷ 0 ∷ rest)) run.rest ∙ kept_back in
-          let ends = ends_at t fs program p q image earlier calling begins counted after
+          let ends = ends_at setting earlier calling begins counted after
           (c.frame.next + 1) rip_is inside kept
-          (is_after t fs program p q image earlier calling begins counted after d values ts ran
+          (is_after setting earlier calling begins counted after d values ts ran
           around_earlier.caller around_earlier.owner) in
-          one_piece t fs program p q image earlier calling begins counted i at_earlier (λ h. h)
-          call_code after_code u refl
+          one_piece setting earlier calling begins counted i at_earlier (λ h. h) call_code
+          after_code u refl
           (keep_flow (p.layout c.frame.body) (counts_of body) (register earlier.cpu Rsp)
-          (placed t fs program p q image earlier calling begins counted).base room
-          (Temporary first) (omega arith))
+          (placed setting earlier calling begins counted).base room (Temporary first) (omega arith))
           past_call after run.comes ends
 
       -- and so does the service's own turn
-      program_there : HasProgram t fs program p q memory_there
+      program_there : HasProgram setting memory_there
       program_there = program_reaches t fs program p q 7 s there
-          (reaches t fs program p q image roomy s c b counted f first at) b.memory.code
+          (reaches setting roomy s c b counted f first at) b.memory.code
 
       keeps_there : KeepsStack s.memory memory_there called_from
       keeps_there = record {
@@ -407,62 +405,61 @@ module _ (t : Functions) (fs : List Funclet) (program : LinearProgram) (p : Imag
       }
 
       abbrev caller : Context
-      caller = caller_here t fs program p q image s c b counted
+      caller = caller_here setting s c b counted
 
       abbrev callers : List Context
-      callers = beyond_here t fs program p q image s c b counted
+      callers = beyond_here setting s c b counted
 
-      gives_by : (n : Memory) → KeepsStack s.memory n called_from → HasProgram t fs program p q n
+      gives_by : (n : Memory) → KeepsStack s.memory n called_from → HasProgram setting n
           → WalkGives t (record { cpu = u.cpu; memory = n }) (caller ∷ callers)
       gives_by n same has =
           let x : State = record { cpu = u.cpu; memory = n } in
-          ends_gives t fs program p q image s c b counted x
-          (past_ends t fs program p q image s c b counted (instructions.CallBuiltIn f first) at
-          (λ h. h) call_code after_code x refl (omega arith)
-          (record {
+          ends_gives setting s c b counted x
+          (past_ends setting s c b counted (instructions.CallBuiltIn f first) at (λ h. h) call_code
+          after_code x refl (omega arith) (record {
             rip = back_is;
             registers = kept_back;
-            is_there = is_elsewhere t fs program p q image s c b counted n same has;
+            is_there = is_elsewhere setting s c b counted n same has;
           }))
 
       sp_there : register there.cpu Rsp ≡ called_from - 8
       sp_there =
           returned_sp with_given called_from to
-          (let l = low t fs program p q image roomy s c b counted f first at in omega arith)
-          (top t fs program p q image roomy s c b counted f first at) b.memory.data_alone
-          b.memory.stack there.cpu.rip there.cpu.flags
-          (back_small t fs program p q image roomy s c b counted f first at)
-          (many t fs program p q image roomy s c b counted f first at)
+          (let l = low setting roomy s c b counted f first at in omega arith)
+          (top setting roomy s c b counted f first at) b.memory.data_alone b.memory.stack
+          there.cpu.rip there.cpu.flags (back_small setting roomy s c b counted f first at)
+          (many setting roomy s c b counted f first at)
 
       pub keeps_served : KeepsShadow t fs there u
       keeps_served =
-          let l = low t fs program p q image roomy s c b counted f first at in
-          let h = top t fs program p q image roomy s c b counted f first at in
+          let l = low setting roomy s c b counted f first at in
+          let h = top setting roomy s c b counted f first at in
           let z = sp_there in
           let e : register u.cpu Rsp ≡ called_from = sp_is x m in
           let up : called_from ≡ register there.cpu Rsp + 0 + 8 = omega arith in
           let same = ap (λ (ks : List ℕ). let k : Context = record { rip = to; kept = ks } in k)
           (set_back (set with_given.rest 1 (called_from - 8)) sp_after
           (register there.cpu Rsp + 0 + 8) (e ∙ up)) in
-          service_keeps t fs program p q image f there u to caller callers refl
-          (returns t fs program p q image roomy s c b counted f first at) (omega arith) same
+          service_keeps setting f there u to caller callers refl
+          (returns setting roomy s c b counted f first at) (omega arith) same
           (gives_by memory_there keeps_there program_there) (gives_by m keeps_all memory.code)
           (omega arith) (omega arith) silent_back
 
       comes_after : Comes t fs 1 u [] after
       comes_after = reaches_silently t fs program p q image 1 u after run.comes keeps_shadow
-          memory.code (silent_at t fs program p q image roomy earlier calling begins counted
-          (c.frame.next + 1) rip rip_is inside rip_small after refl)
+          memory.code (silent_at setting roomy earlier calling begins counted (c.frame.next + 1) rip
+          rip_is inside rip_small after refl)
 
       -- a service that shows these events
       pub served : (shown : List Event) → turn t fs there ≡ Continues u shown
           → events ≡ c.events ++ shown → ((next : Next)
           → act program (instructions.CallBuiltIn f first) next c ≡ next (answered x source events))
-          → Moves t fs program 16 turns_left (RepresentsAt t fs program p q) s c (instructions.CallBuiltIn f first)
+          → Moves t fs program 16 turns_left (RepresentsAt setting) s c (instructions.CallBuiltIn f
+          first)
       served shown turns all acts =
           let one : Comes t fs 1 there shown u =
           record {
-            live = live_there t fs program p q image roomy s c b counted f first at;
+            live = live_there setting roomy s c b counted f first at;
             state = u;
             first = shown;
             others = [];
@@ -480,7 +477,7 @@ module _ (t : Functions) (fs : List Funclet) (program : LinearProgram) (p : Imag
             state = after;
             events = [] ++ (shown ++ []);
             comes = comes_then t fs 7 (1 + 1) s there after [] (shown ++ [])
-                (comes_there t fs program p q image roomy s c b counted f first at)
+                (comes_there setting roomy s c b counted f first at)
                 (comes_then t fs 1 1 there u after shown [] one comes_after);
             acts = acts;
             shown = all ∙ ap (λ es. c.events ++ es) (sym (append-nil shown));

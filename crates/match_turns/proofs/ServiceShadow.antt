@@ -13,32 +13,28 @@ use Rattle.x64_machine.specs.declared.outcome.Stop.TheVariants as stops
 use Rattle.x64_machine.specs.Contexts.{kept_of, context_of}
 use Rattle.x64_machine.specs.Effect.{State, register, hosted, execute, step}
 use Rattle.virtual_unwind.specs.Contexts.{rsp}
-use Rattle.virtual_unwind.specs.CallerOf.{Functions, distance}
+use Rattle.virtual_unwind.specs.CallerOf.{distance}
 use Rattle.virtual_unwind.specs.Undone.{readable, word}
 use Rattle.seh_walk.specs.Walk.{filter_return, finally_return}
-use Rattle.host_model.specs.declared.funclet.Funclet.{Funclet}
 use Rattle.host_model.specs.Funclets.{arrivals}
 use Rattle.c_operations.specs.declared.built_in.BuiltIn.{BuiltIn}
 use Rattle.c_operations.specs.declared.built_in.BuiltIn.TheVariants.{Put, Protect, RaiseException}
-use Rattle.linear_code.specs.Program.{LinearProgram}
 use Rattle.linear_machine.specs.Frames.{Configuration}
 use Rattle.x64_templates.proofs.Keeping.{index_other}
 use Rattle.match_stack.specs.PlainWalks.{state}
-use Rattle.match_stack.specs.ImagePlan.{ImagePlan}
 use Rattle.match_stack.specs.ItemMatches.{activations_below}
 use Rattle.match_stack.specs.ListLaws.{KeepsStack}
 use Rattle.match_stack.proofs.ListKeeping.{reads_other, kept_by_other_memories}
 use Rattle.match_runs.specs.Shadow.{drop_below, started, served, GivesCallers, WalkGives, KeepsShadow}
 use Rattle.match_runs.proofs.Shadows.{none_below, one_below, host_keeps}
-use Rattle.match_bodies.specs.CodeSites.{Sites}
 use Rattle.match_bodies.specs.Callers.{caller_above}
-use Rattle.match_bodies.specs.ProgramImages.{service_of, HasProgram, IsProgramImage}
-use Rattle.match_bodies.specs.Bodies.{RepresentsAt}
+use Rattle.match_bodies.specs.ProgramImages.{service_of}
 use Rattle.match_bodies.proofs.StackWalks.{on_stack}
 use Rattle.match_bodies.proofs.BodyCallers.{gives_caller}
 use Rattle.match_bodies.proofs.BodyViews.{IsCounted, sp_low, frame_top}
 use Rattle.match_bodies.proofs.TemplateShadows.{kept_here, caller_here, Below}
 use Rattle.match_turns.proofs.BodyOtherMemory.{higher_stack}
+use Rattle.match_bodies.specs.Setting.{Setting, HasProgram, RepresentsAt}
 
 -- at a service of a built-in function the host continues
 host_step : (f : BuiltIn) (s : State) → s.cpu.rip ≡ address_of (service_of f)
@@ -77,18 +73,19 @@ service_found RaiseException = (
   λ e. absurd (omega arith),
 )
 
-module _ (t : Functions) (fs : List Funclet) (program : LinearProgram) (p : ImagePlan) (q : Sites)
-    (image : IsProgramImage t fs program p q) where
+module _ (setting : Setting) where
+  open setting use {functions as t, funclets as fs, program, plan as p, image}
+
   -- in another memory with the stack as it was from RSP up
-  pub is_elsewhere : (s : State) (c : Configuration) (b : RepresentsAt t fs program p q s c)
-      (counted : IsCounted t fs program p q image c) (m : Memory)
-      → KeepsStack s.memory m (register s.cpu Rsp) → HasProgram t fs program p q m
-      → Below t fs program p q image s c b counted m
+  pub is_elsewhere : (s : State) (c : Configuration) (b : RepresentsAt setting s c)
+      (counted : IsCounted setting c) (m : Memory)
+      → KeepsStack s.memory m (register s.cpu Rsp) → HasProgram setting m
+      → Below setting s c b counted m
   is_elsewhere s c b counted m keeps has =
       let sp = register s.cpu Rsp in
       let frame = (p.layout c.frame.body).frame in
-      let low = sp_low t fs program p q image s c b counted in
-      let top = frame_top t fs program p q image s c b counted in
+      let low = sp_low setting s c b counted in
+      let top = frame_top setting s c b counted in
       let reads = reads_other s.memory m sp 0x70800000
       (record {
         bytes = keeps.bytes;
@@ -96,8 +93,8 @@ module _ (t : Functions) (fs : List Funclet) (program : LinearProgram) (p : Imag
         code = keeps.code;
         no_more_code = keeps.no_more_code;
       }) (omega arith) (omega arith) in
-      let kept = kept_here t fs program p q image s c b counted in
-      let caller = caller_here t fs program p q image s c b counted in
+      let kept = kept_here setting s c b counted in
+      let caller = caller_here setting s c b counted in
       let list = kept_by_other_memories t fs program p s.memory m caller b.body.is c.below
       (activations_below c.frame.body b.body.acts)
       (higher_stack s.memory m sp (sp + frame + 8) (omega arith) keeps) (omega arith)

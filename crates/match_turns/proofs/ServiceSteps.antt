@@ -1,8 +1,6 @@
 -- Each of these steps is matched.
-use Rattle.std.proofs.Common.{◌≡◌, ℕ, ◌+◌, ◌<◌, Bool, true, false, Option, Some, None, List, length, refl, sym, ap, ◌∙◌}
+use Rattle.std.proofs.Common.{◌≡◌, ℕ, ◌+◌, ◌<◌, Bool, true, false, Option, Some, None, length, refl, sym, ap, ◌∙◌}
 use Rattle.std.specs.Prelude.{slice_get}
-use Rattle.host_model.specs.declared.funclet.Funclet.{Funclet}
-use Rattle.virtual_unwind.specs.CallerOf.{Functions}
 use Rattle.x64_machine.specs.Effect.{State}
 use Rattle.c_operations.specs.declared.built_in.BuiltIn.{BuiltIn}
 use Rattle.c_operations.specs.declared.built_in.BuiltIn.TheVariants.{Put, Protect}
@@ -14,14 +12,11 @@ use Rattle.linear_machine.specs.Frames.{Configuration}
 use Rattle.linear_machine.specs.Run.{instruction_at}
 use Rattle.lowering_invariants.specs.Waiting.{LandsWell}
 use Rattle.match_bodies.proofs.StepNeeds.{some_is, counted_here, around_here, code_at, held_here, goes_inside, ready_here}
-use Rattle.match_stack.specs.ImagePlan.{ImagePlan}
-use Rattle.match_bodies.specs.CodeSites.{Sites}
-use Rattle.match_bodies.specs.ProgramImages.{IsProgramImage}
-use Rattle.match_bodies.specs.Bodies.{RepresentsAt}
 use Rattle.match_bodies.specs.ConfigurationFacts.{IsWellMade, IsKnown}
 use Rattle.match_turns.specs.ServiceLaws.{InformationIsMatched, PutsAreMatched, ProtectsAreMatched}
 use Rattle.match_turns.proofs.ServiceTurns.{put_step, protect_step}
 use Rattle.match_turns.proofs.FilterInformationStep.{information_step}
+use Rattle.match_bodies.specs.Setting.{Setting, setting_of, RepresentsAt}
 
 -- only a landing follows what has landed
 abbrev is_landing : Instruction → Bool
@@ -39,28 +34,30 @@ nothing_landed program c i (Some v) h e f =
 
 pub information_is_matched : InformationIsMatched
 information_is_matched t fs program p q image made reads s c to field b known e =
+    let setting : Setting = setting_of t fs program p q image in
     let i = instructions.Information to field in
-    let at = code_at t fs program p q image made s c b known i e in
+    let at = code_at setting made s c b known i e in
     let r = reads c.frame.body b.body.slots.code c.frame.next to field b.body.slots.body at in
-    information_step t fs program p q image made.room s c b
-    (counted_here t fs program p q image made c known)
-    (around_here t fs program p q image made s c b known) to field
+    information_step setting made.room s c b
+    (counted_here setting made c known)
+    (around_here setting made s c b known) to field
     (nothing_landed program c i c.frame.landed known.stacked.landed e refl) at
-    (held_here t fs program p q image made s c b known)
-    (ready_here t fs program p q image made s c b known i e) r.0 r.1
-    (goes_inside t fs program p q image made s c b known i e)
+    (held_here setting made s c b known)
+    (ready_here setting made s c b known i e) r.0 r.1
+    (goes_inside setting made s c b known i e)
 
 -- a body that calls is no leaf
-module _ (t : Functions) (fs : List Funclet) (program : LinearProgram) (p : ImagePlan) (q : Sites)
-    (image : IsProgramImage t fs program p q) (made : IsWellMade program p) (s : State)
-    (c : Configuration) (b : RepresentsAt t fs program p q s c) (known : IsKnown program c)
-    (f : BuiltIn) (first : ℕ) (e : instruction_at program c
-    ≡ Some (instructions.CallBuiltIn f first)) where
+module _ (setting : Setting) (made : IsWellMade setting.program setting.plan) (s : State)
+    (c : Configuration) (b : RepresentsAt setting s c) (known : IsKnown setting.program c)
+    (f : BuiltIn) (first : ℕ) (e : instruction_at setting.program c ≡ Some
+    (instructions.CallBuiltIn f first)) where
+  open setting use {plan as p}
+
   abbrev i : Instruction
   i = instructions.CallBuiltIn f first
 
   call_here : slice_get b.body.slots.code.code c.frame.next ≡ Some i
-  call_here = code_at t fs program p q image made s c b known i e
+  call_here = code_at setting made s c b known i e
 
   framed : p.leaf c.frame.body ≡ false
   framed = by (p.leaf c.frame.body) refl
@@ -76,26 +73,28 @@ module _ (t : Functions) (fs : List Funclet) (program : LinearProgram) (p : Imag
 
 pub puts_are_matched : PutsAreMatched
 puts_are_matched t fs program p q image made s c first b known e =
+    let setting : Setting = setting_of t fs program p q image in
     let i = instructions.CallBuiltIn Put first in
-    put_step t fs program p q image made.room s c b
-    (counted_here t fs program p q image made c known)
-    (around_here t fs program p q image made s c b known) first
-    (call_here t fs program p q image made s c b known Put first e)
-    (framed t fs program p q image made s c b known Put first e)
-    (within t fs program p q image made s c b known Put first e)
-    (held_here t fs program p q image made s c b known)
-    (ready_here t fs program p q image made s c b known i e)
+    put_step setting made.room s c b
+    (counted_here setting made c known)
+    (around_here setting made s c b known) first
+    (call_here setting made s c b known Put first e)
+    (framed setting made s c b known Put first e)
+    (within setting made s c b known Put first e)
+    (held_here setting made s c b known)
+    (ready_here setting made s c b known i e)
     (nothing_landed program c i c.frame.landed known.stacked.landed e refl)
 
 pub protects_are_matched : ProtectsAreMatched
 protects_are_matched t fs program p q image made s c first b known e =
+    let setting : Setting = setting_of t fs program p q image in
     let i = instructions.CallBuiltIn Protect first in
-    protect_step t fs program p q image made.room s c b
-    (counted_here t fs program p q image made c known)
-    (around_here t fs program p q image made s c b known) first
-    (call_here t fs program p q image made s c b known Protect first e)
-    (framed t fs program p q image made s c b known Protect first e)
-    (within t fs program p q image made s c b known Protect first e)
-    (held_here t fs program p q image made s c b known)
-    (ready_here t fs program p q image made s c b known i e)
+    protect_step setting made.room s c b
+    (counted_here setting made c known)
+    (around_here setting made s c b known) first
+    (call_here setting made s c b known Protect first e)
+    (framed setting made s c b known Protect first e)
+    (within setting made s c b known Protect first e)
+    (held_here setting made s c b known)
+    (ready_here setting made s c b known i e)
     (nothing_landed program c i c.frame.landed known.stacked.landed e refl)

@@ -28,13 +28,10 @@ use Rattle.linear_code.specs.declared.instruction.Instruction.TheVariants as ins
 use Rattle.linear_code.specs.Program.{LinearProgram}
 use Rattle.linear_machine.specs.Frames.{Configuration, Next, with_some, last_temporaries}
 use Rattle.linear_machine.specs.Instructions.{count_of, built_in, waiting, act}
-use Rattle.match_stack.specs.ImagePlan.{ImagePlan}
 use Rattle.match_stack.specs.ListLaws.{KeepsStack}
 use Rattle.match_runs.specs.Matched.{Moves}
 use Rattle.lowering_invariants.specs.Room.{HaveRoom}
-use Rattle.match_bodies.specs.CodeSites.{Sites}
-use Rattle.match_bodies.specs.ProgramImages.{IsMachineMemory, IsProgramImage}
-use Rattle.match_bodies.specs.Bodies.{turns_left, RepresentsAt}
+use Rattle.match_bodies.specs.Bodies.{turns_left}
 use Rattle.match_bodies.proofs.BodyViews.{IsCounted, slots_here}
 use Rattle.match_bodies.proofs.TemplateRuns.{Surroundings}
 use Rattle.match_turns.proofs.DispatchMemory.{memory_untouched}
@@ -42,6 +39,7 @@ use Rattle.match_turns.proofs.ReturnAddressPush.{pushed_untouched, pushed_data}
 use Rattle.match_turns.proofs.ArenaRights.{arena_memory, arena_stack}
 use Rattle.match_turns.proofs.ServiceCall.{sp, low, top, numbers, returns}
 use Rattle.match_turns.proofs.ServiceReturn.{with_given, to, there, memory_there, returned_to, answered, silent_back, served}
+use Rattle.match_bodies.specs.Setting.{Setting, IsMachineMemory, RepresentsAt}
 
 module _ (t : Functions) (fs : List Funclet) where
   -- what a step is where RIP is in the host's page
@@ -92,11 +90,12 @@ numbered : (b : Bool) → answer_number b % 2 ^ 64 ≡ of_test b
 numbered true = refl
 numbered false = refl
 
-module _ (t : Functions) (fs : List Funclet) (program : LinearProgram) (p : ImagePlan) (q : Sites)
-    (image : IsProgramImage t fs program p q) (roomy : HaveRoom program) where
-  module _ (s : State) (c : Configuration) (b : RepresentsAt t fs program p q s c)
-      (counted : IsCounted t fs program p q image c)
-      (around : Surroundings t fs program p q image roomy s c b counted) (f : BuiltIn) (first : ℕ)
+module _ (setting : Setting) (roomy : HaveRoom setting.program) where
+  open setting use {functions as t, funclets as fs, program, plan as p, sites as q}
+
+  module _ (s : State) (c : Configuration) (b : RepresentsAt setting s c)
+      (counted : IsCounted setting c)
+      (around : Surroundings setting roomy s c b counted) (f : BuiltIn) (first : ℕ)
       (at : slice_get b.body.slots.code.code c.frame.next ≡ Some (instructions.CallBuiltIn f first))
       (framed : p.leaf c.frame.body ≡ false)
       (within : c.frame.next + 1 < length b.body.slots.code.code)
@@ -104,27 +103,27 @@ module _ (t : Functions) (fs : List Funclet) (program : LinearProgram) (p : Imag
       (fits : first ≤ length c.frame.temporaries) (free : c.frame.landed ≡ None) where
     -- the number of an argument, for templates and for linear code
     argument : (k : ℕ) → first + k < length c.frame.temporaries
-        → (numbers t fs program p q image roomy s c b counted f first at).slots
-        (Temporary (first + k)) ≡ get_or (drop first c.frame.temporaries) k 0
-    argument k lt = (slots_here t fs program p q image s c b counted).temporaries (first + k)
+        → (numbers setting roomy s c b counted f first at).slots (Temporary (first + k)) ≡ get_or
+        (drop first c.frame.temporaries) k 0
+    argument k lt = (slots_here setting s c b counted).temporaries (first + k)
         (get_or c.frame.temporaries (first + k) 0)
         (slice_get-get_or c.frame.temporaries (first + k) 0 lt)
         ∙ sym (given_in c.frame.temporaries first k)
 
-    pushed_memory : IsMachineMemory t fs program p q
-        (memory_there t fs program p q image roomy s c b counted around f first at framed within held
-        fits free) c.store.memory
+    pushed_memory : IsMachineMemory setting
+        (memory_there setting roomy s c b counted around f first at framed within held fits free)
+        c.store.memory
     pushed_memory =
-        let v = with_given t fs program p q image roomy s c b counted around f first at framed
+        let v = with_given setting roomy s c b counted around f first at framed
         within held fits free in
-        let from = sp t fs program p q image roomy s c b counted f first at in
-        let ret = to t fs program p q image roomy s c b counted around f first at framed within held
+        let from = sp setting roomy s c b counted f first at in
+        let ret = to setting roomy s c b counted around f first at framed within held
         fits free in
-        let l = low t fs program p q image roomy s c b counted f first at in
-        let h = top t fs program p q image roomy s c b counted f first at in
+        let l = low setting roomy s c b counted f first at in
+        let h = top setting roomy s c b counted f first at in
         memory_untouched t fs program p q s.memory
-        (memory_there t fs program p q image roomy s c b counted around f first at framed within
-        held fits free) c.store.memory
+        (memory_there setting roomy s c b counted around f first at framed within held fits free)
+        c.store.memory
         (pushed_untouched v from ret (omega arith) h b.memory.data_alone b.memory.stack) b.memory
         (pushed_data v from ret (omega arith) h b.memory.data_alone b.memory.stack)
 
@@ -137,9 +136,9 @@ module _ (t : Functions) (fs : List Funclet) (program : LinearProgram) (p : Imag
     }
 
   -- `put`
-  module _ (s : State) (c : Configuration) (b : RepresentsAt t fs program p q s c)
-      (counted : IsCounted t fs program p q image c)
-      (around : Surroundings t fs program p q image roomy s c b counted) (first : ℕ)
+  module _ (s : State) (c : Configuration) (b : RepresentsAt setting s c)
+      (counted : IsCounted setting c)
+      (around : Surroundings setting roomy s c b counted) (first : ℕ)
       (at : slice_get b.body.slots.code.code c.frame.next
       ≡ Some (instructions.CallBuiltIn Put first)) (framed : p.leaf c.frame.body ≡ false)
       (within : c.frame.next + 1 < length b.body.slots.code.code)
@@ -149,8 +148,7 @@ module _ (t : Functions) (fs : List Funclet) (program : LinearProgram) (p : Imag
     fits = omega arith
 
     abbrev here : State
-    here = there t fs program p q image roomy s c b counted around Put first at framed within held
-        fits free
+    here = there setting roomy s c b counted around Put first at framed within held fits free
 
     abbrev value : ℕ
     value = register here.cpu Rcx
@@ -161,50 +159,47 @@ module _ (t : Functions) (fs : List Funclet) (program : LinearProgram) (p : Imag
     value_is : value ≡ get_or (drop first c.frame.temporaries) 0 0
     value_is =
         let z : first + 0 ≡ first = omega arith in
-        ap (λ i. (numbers t fs program p q image roomy s c b counted Put first at).slots
-        (Temporary i)) (sym z) ∙ argument s c b counted around Put first at framed within held
-        fits free 0 (omega arith)
+        ap (λ i. (numbers setting roomy s c b counted Put first at).slots (Temporary i)) (sym z)
+        ∙ argument s c b counted around Put first at framed within held fits free 0 (omega arith)
 
     abbrev after_put : Configuration
-    after_put = answered t fs program p q image roomy s c b counted around Put first at framed
-        within held fits free 0 c.store.memory (c.events ++ shown)
+    after_put = answered setting roomy s c b counted around Put first at framed within held fits
+        free 0 c.store.memory (c.events ++ shown)
 
     puts : (next : Next) → act program (instructions.CallBuiltIn Put first) next c ≡ next after_put
     puts next =
         calls_as program c Put first count next
-        ∙ ap (λ x. next (answered t fs program p q image roomy s c b counted around Put first at
-        framed within held fits free 0 c.store.memory
-        (c.events ++ events.Put (signed W64 x) ∷ []))) (sym value_is)
+        ∙ ap (λ x. next (answered setting roomy s c b counted around Put first at framed within held
+        fits free 0 c.store.memory (c.events ++ events.Put (signed W64 x) ∷ []))) (sym value_is)
 
-    turns : turn t fs here ≡ Continues (returned_to t fs program p q image roomy s c b counted
-        around Put first at framed within held fits free 0 here.memory) shown
+    turns : turn t fs here ≡ Continues (returned_to setting roomy s c b counted around Put first at
+        framed within held fits free 0 here.memory) shown
     turns =
-        let u = returned_to t fs program p q image roomy s c b counted around Put first at framed
+        let u = returned_to setting roomy s c b counted around Put first at framed
         within held fits free 0 here.memory in
-        let silent = silent_back t fs program p q image roomy s c b counted around Put first at framed
+        let silent = silent_back setting roomy s c b counted around Put first at framed
         within held fits free 0 (omega arith) here.memory c.store.memory (c.events ++ shown)
         (same_stack s c b counted around Put first at framed within held fits free here.memory
-        (sp t fs program p q image roomy s c b counted Put first at))
+        (sp setting roomy s c b counted Put first at))
         (pushed_memory s c b counted around Put first at framed within held fits free) in
-        put_turns t fs here (to t fs program p q image roomy s c b counted around Put first at
-        framed within held fits free) refl (returns t fs program p q image roomy s c b counted Put
-        first at)
+        put_turns t fs here (to setting roomy s c b counted around Put first at framed within held
+        fits free) refl (returns setting roomy s c b counted Put first at)
         ∙ ap (λ es. Continues u (shown ++ es)) silent
 
-    pub put_step : Moves t fs program 16 turns_left (RepresentsAt t fs program p q) s c
+    pub put_step : Moves t fs program 16 turns_left (RepresentsAt setting) s c
         (instructions.CallBuiltIn Put first)
     put_step =
-        served t fs program p q image roomy s c b counted around Put first at framed within held
-        fits free 0 (omega arith) here.memory c.store.memory (c.events ++ shown)
+        served setting roomy s c b counted around Put first at framed within held fits free 0
+        (omega arith) here.memory c.store.memory (c.events ++ shown)
         (same_stack s c b counted around Put first at framed within held fits free here.memory
-        (sp t fs program p q image roomy s c b counted Put first at))
+        (sp setting roomy s c b counted Put first at))
         (pushed_memory s c b counted around Put first at framed within held fits free)
         shown turns refl puts
 
   -- `protect`
-  module _ (s : State) (c : Configuration) (b : RepresentsAt t fs program p q s c)
-      (counted : IsCounted t fs program p q image c)
-      (around : Surroundings t fs program p q image roomy s c b counted) (first : ℕ)
+  module _ (s : State) (c : Configuration) (b : RepresentsAt setting s c)
+      (counted : IsCounted setting c)
+      (around : Surroundings setting roomy s c b counted) (first : ℕ)
       (at : slice_get b.body.slots.code.code c.frame.next
       ≡ Some (instructions.CallBuiltIn Protect first)) (framed : p.leaf c.frame.body ≡ false)
       (within : c.frame.next + 1 < length b.body.slots.code.code)
@@ -214,8 +209,8 @@ module _ (t : Functions) (fs : List Funclet) (program : LinearProgram) (p : Imag
     enough = omega arith
 
     abbrev at_protect : State
-    at_protect = there t fs program p q image roomy s c b counted around Protect first at framed
-        within held enough free
+    at_protect = there setting roomy s c b counted around Protect first at framed within held enough
+        free
 
     abbrev page : ℕ
     page = register at_protect.cpu Rcx
@@ -235,59 +230,57 @@ module _ (t : Functions) (fs : List Funclet) (program : LinearProgram) (p : Imag
     page_is : page ≡ get_or (drop first c.frame.temporaries) 0 0
     page_is =
         let z : first + 0 ≡ first = omega arith in
-        ap (λ i. (numbers t fs program p q image roomy s c b counted Protect first at).slots
-        (Temporary i)) (sym z) ∙ argument s c b counted around Protect first at framed within held
-        enough free 0 (omega arith)
+        ap (λ i. (numbers setting roomy s c b counted Protect first at).slots (Temporary i)) (sym z)
+        ∙ argument s c b counted around Protect first at framed within held enough free 0
+        (omega arith)
 
     number_is : register at_protect.cpu Rdx ≡ get_or (drop first c.frame.temporaries) 1 0
     number_is = argument s c b counted around Protect first at framed within held enough free 1
         (omega arith)
 
     abbrev after_protect : Configuration
-    after_protect = answered t fs program p q image roomy s c b counted around Protect first at
-        framed within held enough free result new_source c.events
+    after_protect = answered setting roomy s c b counted around Protect first at framed within held
+        enough free result new_source c.events
 
     protects : (next : Next) → act program (instructions.CallBuiltIn Protect first) next c
         ≡ next after_protect
     protects next =
-        let arrive = λ (a n : ℕ). next (answered t fs program p q image roomy s c b counted around
-        Protect first at framed within held enough free
-        (of_test (is_some (rights_asked a (signed W32 n))))
+        let arrive = λ (a n : ℕ). next (answered setting roomy s c b counted around Protect first at
+        framed within held enough free (of_test (is_some (rights_asked a (signed W32 n))))
         (protected c.store.memory a (signed W32 n)) c.events) in
         calls_as program c Protect first count next
         ∙ ap (λ a. arrive a (get_or (drop first c.frame.temporaries) 1 0)) (sym page_is)
         ∙ ap (arrive page) (sym number_is)
-        ∙ ap (λ x. next (answered t fs program p q image roomy s c b counted around Protect first at
-        framed within held enough free x new_source c.events))
+        ∙ ap (λ x. next (answered setting roomy s c b counted around Protect first at framed within
+        held enough free x new_source c.events))
         (sym (numbered (is_some (rights_asked page rights))))
 
     kept_stack : KeepsStack at_protect.memory new_memory
-        (sp t fs program p q image roomy s c b counted Protect first at)
-    kept_stack = arena_stack t fs program p q image at_protect.memory c.store.memory page rights
+        (sp setting roomy s c b counted Protect first at)
+    kept_stack = arena_stack setting at_protect.memory c.store.memory page rights
         (pushed_memory s c b counted around Protect first at framed within held enough free)
-        (sp t fs program p q image roomy s c b counted Protect first at)
+        (sp setting roomy s c b counted Protect first at)
 
-    kept_memory : IsMachineMemory t fs program p q new_memory new_source
-    kept_memory = arena_memory t fs program p q image at_protect.memory c.store.memory page rights
+    kept_memory : IsMachineMemory setting new_memory new_source
+    kept_memory = arena_memory setting at_protect.memory c.store.memory page rights
         (pushed_memory s c b counted around Protect first at framed within held enough free)
 
     protect_turn : turn t fs at_protect ≡ Continues
-        (returned_to t fs program p q image roomy s c b counted around Protect first at framed within
-        held enough free result new_memory) []
+        (returned_to setting roomy s c b counted around Protect first at framed within held enough
+        free result new_memory) []
     protect_turn =
-        let u = returned_to t fs program p q image roomy s c b counted around Protect first at
+        let u = returned_to setting roomy s c b counted around Protect first at
         framed within held enough free result new_memory in
-        let silent = silent_back t fs program p q image roomy s c b counted around Protect first at
+        let silent = silent_back setting roomy s c b counted around Protect first at
         framed within held enough free result (omega arith) new_memory new_source c.events
         kept_stack kept_memory in
-        protect_turns t fs at_protect (to t fs program p q image roomy s c b counted around Protect
-        first at framed within held enough free) refl
-        (returns t fs program p q image roomy s c b counted Protect first at)
+        protect_turns t fs at_protect (to setting roomy s c b counted around Protect first at framed
+        within held enough free) refl (returns setting roomy s c b counted Protect first at)
         ∙ ap (λ es. Continues u es) silent
 
-    pub protect_step : Moves t fs program 16 turns_left (RepresentsAt t fs program p q) s c
+    pub protect_step : Moves t fs program 16 turns_left (RepresentsAt setting) s c
         (instructions.CallBuiltIn Protect first)
     protect_step =
-        served t fs program p q image roomy s c b counted around Protect first at framed within held
-        enough free result (omega arith) new_memory new_source c.events kept_stack kept_memory
-        [] protect_turn (sym (append-nil c.events)) protects
+        served setting roomy s c b counted around Protect first at framed within held enough free
+        result (omega arith) new_memory new_source c.events kept_stack kept_memory [] protect_turn
+        (sym (append-nil c.events)) protects

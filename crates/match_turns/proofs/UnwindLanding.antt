@@ -5,17 +5,14 @@ use Rattle.seh_num.specs.declared.event.Event.{Event}
 use Rattle.flat_memory.specs.Memory.{Memory}
 use Rattle.x64_machine.specs.declared.context.Context.{Context}
 use Rattle.x64_machine.specs.Effect.{State}
-use Rattle.virtual_unwind.specs.CallerOf.{Functions}
 use Rattle.seh_records.specs.declared.dispatch.DispatchRecord.{DispatchRecord}
-use Rattle.host_model.specs.declared.funclet.Funclet.{Funclet}
 use Rattle.host_model.specs.Turns.{Turn}
 use Rattle.host_model.specs.Dispatch.{at_landing}
-use Rattle.linear_code.specs.Program.{LinearProgram}
 use Rattle.linear_machine.specs.Frames.{Frame, Target, Item, Waits, Configuration, Next}
 use Rattle.linear_machine.specs.Unwinding as linear
 use Rattle.linear_machine.specs.Unwinding.{arrive}
 use Rattle.match_stack.specs.Stack.{StackFrame, StackItem, Framed}
-use Rattle.match_stack.specs.ImagePlan.{ImagePlan, InCode}
+use Rattle.match_stack.specs.ImagePlan.{InCode}
 use Rattle.match_stack.specs.ItemMatches.{Activation}
 use Rattle.match_stack.specs.StackRecords.{On}
 use Rattle.match_stack.specs.HostUnwind.{store_of, on_top}
@@ -23,15 +20,14 @@ use Rattle.match_stack.specs.DispatchStates.{IsWellFormed}
 use Rattle.match_stack.specs.TurnLaws.{IsUnwinding}
 use Rattle.match_stack.specs.UnwindOutcomes.{landing_value, landing_events, Unwound, LandsThere}
 use Rattle.match_runs.specs.Comes.{LeadsTo}
-use Rattle.match_bodies.specs.CodeSites.{Sites}
 use Rattle.match_bodies.specs.Callers.{callers}
-use Rattle.match_bodies.specs.ProgramImages.{IsMachineMemory, IsProgramImage}
-use Rattle.match_bodies.specs.Bodies.{RepresentsAt, turns_left}
+use Rattle.match_bodies.specs.Bodies.{turns_left}
 use Rattle.match_bodies.proofs.BodyResumption.{waits_in_body, no_front, all_front}
 use Rattle.match_bodies.proofs.TemplateSizes.{first_in_code}
 use Rattle.match_turns.specs.FuncletEntry.{entry_turns}
 use Rattle.match_turns.proofs.DispatchWalks.{landing_walk}
-use Rattle.match_turns.specs.DispatchOutcome.{Represents, ContinuesAs}
+use Rattle.match_bodies.specs.Setting.{Setting, IsMachineMemory, RepresentsAt}
+use Rattle.match_turns.specs.SettingOutcome.{ContinuesAs, Represents}
 
 same_code : (a b : ℕ) → Some a ≡ Some b → a ≡ b
 same_code a b e = cc
@@ -55,8 +51,9 @@ arrives_there body below target None source outer shown next = ap
     (sym (append-nil shown))
 arrives_there body below target (Some code) source outer shown next = refl
 
-module _ (t : Functions) (fs : List Funclet) (program : LinearProgram) (p : ImagePlan) (q : Sites)
-    (image : IsProgramImage t fs program p q) where
+module _ (setting : Setting) where
+  open setting use {functions as t, funclets as fs, program, plan as p, sites as q, image}
+
   -- the state of the machine represents it
   lands_in_body : (s : State) (to : Context) (framed : StackFrame) (is : List StackItem)
       (body : Frame) (below : List Item) (outer : List Activation) (rax address label : ℕ)
@@ -64,9 +61,9 @@ module _ (t : Functions) (fs : List Funclet) (program : LinearProgram) (p : Imag
       → On t fs program p s.memory to (Framed framed ∷ is) (Waits body ∷ below) outer
       → address ≡ p.address body.body label → p.lands body.body label ≡ true
       → IsWellFormed (at_landing s to rax address)
-      → IsMachineMemory t fs program p q s.memory source → rax ≡ landing_value code
+      → IsMachineMemory setting s.memory source → rax ≡ landing_value code
       → (code ≡ None → body.landed ≡ None)
-      → RepresentsAt t fs program p q (at_landing s to rax address)
+      → RepresentsAt setting (at_landing s to rax address)
       (arrival body below label code source outer shown)
   lands_in_body s to framed is body below outer rax address label code source shown on at lands well_formed
       memory is_code unlanded =
@@ -77,7 +74,7 @@ module _ (t : Functions) (fs : List Funclet) (program : LinearProgram) (p : Imag
       by_code code inside is_code unlanded
     where
       by_code : (code : Option ℕ) → InCode p body.body label address → rax ≡ landing_value code
-          → (code ≡ None → body.landed ≡ None) → RepresentsAt t fs program p q (at_landing s to rax address)
+          → (code ≡ None → body.landed ≡ None) → RepresentsAt setting (at_landing s to rax address)
           (arrival body below label code source outer shown)
       by_code None inside is_code unlanded = record {
         rip = at;
@@ -102,11 +99,11 @@ module _ (t : Functions) (fs : List Funclet) (program : LinearProgram) (p : Imag
   pub lands_as : (s : State) (at : ℕ) (r : DispatchRecord) (is : List StackItem) (turn : Turn)
       (w : Unwound) (left : ℕ) → IsUnwinding t fs program p s at r is w
       → (l : LandsThere t fs program p s r turn w)
-      → IsMachineMemory t fs program p q s.memory w.source
+      → IsMachineMemory setting s.memory w.source
       → turns_left (arrival l.body l.below w.target.label w.target.code w.source l.outer w.shown)
       ≤ left → (w.target.code ≡ None → l.body.landed ≡ None)
-      → ContinuesAs t fs program p q turn (λ next. linear.unwind program next w.target w.items
-      w.left w.shown (store_of w.source w.acts)) w.shown left (callers r.walk is)
+      → ContinuesAs setting turn (λ next. linear.unwind program next w.target w.items w.left w.shown
+      (store_of w.source w.acts)) w.shown left (callers r.walk is)
   lands_as s at r is turn w left u l memory few unlanded = record {
     state = at_landing s l.to (landing_value w.target.code) r.target;
     events = landing_events w.target.code;
@@ -117,15 +114,14 @@ module _ (t : Functions) (fs : List Funclet) (program : LinearProgram) (p : Imag
         w.target.code w.source l.outer w.shown next;
     shown = refl;
     silent = l.silent (at_landing s l.to (landing_value w.target.code) r.target).cpu;
-    walk = landing_walk t fs program p q image s at r is turn w u l (landing_value w.target.code)
-        memory;
+    walk = landing_walk setting s at r is turn w u l (landing_value w.target.code) memory;
     leads = λ known. at_once (lands_in_body s l.to l.framed l.is l.body l.below l.outer
         (landing_value w.target.code) r.target w.target.label w.target.code w.source w.shown l.on
         l.at_address l.lands l.well_formed memory refl unlanded);
   }
     where
-      at_once : {u : State} {d : Configuration} → RepresentsAt t fs program p q u d
-          → LeadsTo t fs entry_turns (Represents t fs program p q) u d
+      at_once : {u : State} {d : Configuration} → RepresentsAt setting u d
+          → LeadsTo t fs entry_turns (Represents setting) u d
       at_once {u} {d} h = record {
         turns = 0;
         few = omega arith;

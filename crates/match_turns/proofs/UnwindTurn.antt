@@ -3,41 +3,38 @@ use Rattle.std.proofs.Common.{◌≡◌, ℕ, zero, ◌+◌, ◌*◌, ◌≤◌,
 use Rattle.std.specs.Prelude.{nat_lt, slice_get}
 use Rattle.seh_num.specs.declared.event.Event.TheVariants as events
 use Rattle.x64_machine.specs.Effect.{State}
-use Rattle.virtual_unwind.specs.CallerOf.{Functions}
 use Rattle.seh_records.specs.declared.dispatch.DispatchRecord.{DispatchRecord}
-use Rattle.host_model.specs.declared.funclet.Funclet.{Funclet}
 use Rattle.host_model.specs.Turns.{Turn}
 use Rattle.host_model.specs.Funclets.{arrived}
 use Rattle.host_model.specs.Dispatch.{unwinds_on}
 use Rattle.source_meaning.specs.declared.ended.Ended.TheVariants.{Deep}
-use Rattle.linear_code.specs.Program.{LinearProgram}
 use Rattle.linear_machine.specs.Frames.{Frame, Item, Target, Waits, Unwinds, Seen, Finished, Next, pick, with_some, deeper}
 use Rattle.linear_machine.specs.Unwinding as linear
 use Rattle.linear_machine.specs.Unwinding.{flag_of, begin_finally}
 use Rattle.linear_machine.specs.Run.{exec}
 use Rattle.match_stack.specs.Stack.{StackItem}
-use Rattle.match_stack.specs.ImagePlan.{ImagePlan}
 use Rattle.match_stack.specs.HostUnwind.{store_of, on_top}
 use Rattle.match_stack.specs.UnwindOutcomes.{Unwound, BlockBegins, LandsThere}
 use Rattle.match_stack.specs.TurnLaws.{IsUnwinding}
 use Rattle.match_stack.proofs.UnwindTurns.{unwind_turns}
 use Rattle.match_runs.specs.Ends.{HasRule}
-use Rattle.match_bodies.specs.CodeSites.{Sites}
 use Rattle.match_bodies.specs.Callers.{callers}
-use Rattle.match_bodies.specs.ProgramImages.{IsMachineMemory, IsProgramImage}
 use Rattle.match_bodies.specs.Bodies.{held_below}
 use Rattle.match_turns.specs.FuncletEntry.{FlagsFit}
 use Rattle.match_turns.proofs.FuncletSteps.{called_blocks_begin}
-use Rattle.match_turns.specs.DispatchOutcome.{NoneLanded, EntersFunclet, Outcome}
+use Rattle.match_turns.specs.DispatchOutcome.{NoneLanded}
 use Rattle.match_turns.proofs.DispatchMemory.{memory_untouched}
 use Rattle.match_turns.proofs.DispatchOutcomeSteps.{represents_there}
 use Rattle.match_turns.proofs.UnwindTurnsLeft.{counting, IsShort, counted_back, unwind_short}
 use Rattle.match_turns.proofs.LocalUnwindLanding.{noticing, IsBare, unmarked, unwind_bare}
 use Rattle.match_turns.proofs.DispatchWalks.{block_walk}
 use Rattle.match_turns.proofs.UnwindLanding.{landed, arrival, arrives_there, lands_as}
+use Rattle.match_bodies.specs.Setting.{Setting, IsMachineMemory}
+use Rattle.match_turns.specs.SettingOutcome.{EntersFunclet, Outcome}
 
-module _ (t : Functions) (fs : List Funclet) (program : LinearProgram) (p : ImagePlan) (q : Sites)
-    (image : IsProgramImage t fs program p q) (fits : FlagsFit program) where
+module _ (setting : Setting) (fits : FlagsFit setting.program) where
+  open setting use {functions as t, funclets as fs, program, plan as p, sites as q, image}
+
   module _ (w : Unwound) (n : ℕ) (few : 3 * held_below w.items ≤ n)
       (unlanded : w.target.code ≡ None → NoneLanded w.items) where
     abbrev seen : Next → Seen
@@ -52,8 +49,8 @@ module _ (t : Functions) (fs : List Funclet) (program : LinearProgram) (p : Imag
         (flag : ℕ) → IsUnwinding t fs program p s at r is w
         → (b : BlockBegins t fs program p s r turn w)
         → flag_of (slice_get program.funclets b.block) ≡ Some flag
-        → IsMachineMemory t fs program p q s.memory w.source
-        → EntersFunclet t fs program p q turn seen w.shown n (callers r.walk is)
+        → IsMachineMemory setting s.memory w.source
+        → EntersFunclet setting turn seen w.shown n (callers r.walk is)
     unfolding with_some pick
     block_enters s at r is turn flag u b flagged memory =
         let target : Target = record w.target { held = b.held } in
@@ -80,7 +77,7 @@ module _ (t : Functions) (fs : List Funclet) (program : LinearProgram) (p : Imag
           acts = goes;
           shown = refl;
           arrives = b.named;
-          walk = block_walk t fs program p q image s at r is turn w u b;
+          walk = block_walk setting s at r is turn w u b;
           leads = λ shallow known. represents_there t fs program p q b.state d
               (called_blocks_begin t fs program p q image fits b.state b.block flag b.rest target c
               b.outer b.arrives flagged memory' refl shallow known);
@@ -92,16 +89,16 @@ module _ (t : Functions) (fs : List Funclet) (program : LinearProgram) (p : Imag
         not_deep false e x h = h
 
     unwinds_as : (s : State) (at : ℕ) (r : DispatchRecord) (is : List StackItem) (turn : Turn)
-        → IsUnwinding t fs program p s at r is w → IsMachineMemory t fs program p q s.memory w.source
+        → IsUnwinding t fs program p s at r is w → IsMachineMemory setting s.memory w.source
         → HasRule (seen (exec program zero))
         → BlockBegins t fs program p s r turn w
-        → Outcome t fs program p q turn seen w.shown n (callers r.walk is)
+        → Outcome setting turn seen w.shown n (callers r.walk is)
     unfolding with_some
     unwinds_as s at r is turn u memory rule b = by (flag_of (slice_get program.funclets b.block))
         refl
       where
         by : (o : Option ℕ) → flag_of (slice_get program.funclets b.block) ≡ o
-            → Outcome t fs program p q turn seen w.shown n (callers r.walk is)
+            → Outcome setting turn seen w.shown n (callers r.walk is)
         by None e =
             let c = on_top b.body b.below w.source b.outer w.shown in
             let under = Unwinds b.rest (record w.target { held = b.held }) ∷ Waits b.body
@@ -114,15 +111,15 @@ module _ (t : Functions) (fs : List Funclet) (program : LinearProgram) (p : Imag
         by (Some flag) e = inr (inl (block_enters s at r is turn flag u b e memory))
 
     lands_with : (s : State) (at : ℕ) (r : DispatchRecord) (is : List StackItem) (turn : Turn)
-        → IsUnwinding t fs program p s at r is w → IsMachineMemory t fs program p q s.memory w.source
+        → IsUnwinding t fs program p s at r is w → IsMachineMemory setting s.memory w.source
         → LandsThere t fs program p s r turn w
-        → Outcome t fs program p q turn seen w.shown n (callers r.walk is)
+        → Outcome setting turn seen w.shown n (callers r.walk is)
     lands_with s at r is turn u memory l =
         let target : Target = record w.target { held = l.held } in
         let d = arrival l.body l.below w.target.label w.target.code w.source l.outer w.shown in
         let goes = λ (next : Next). l.goes next
         ∙ arrives_there l.body l.below target w.target.code w.source l.outer w.shown next in
-        inl (lands_as t fs program p q image s at r is turn w n u l memory
+        inl (lands_as setting s at r is turn w n u l memory
         (counted_back n d (subst (IsShort n) (goes counting) short))
         (λ e. kept_unlanded l.body l.below w.target.label w.target.code e
         (unmarked d.frame.landed (subst IsBare (goes noticing)
@@ -135,10 +132,9 @@ module _ (t : Functions) (fs : List Funclet) (program : LinearProgram) (p : Imag
         kept_unlanded body below label (Some x) e h = absurd cc
 
     pub unwound : (s : State) (at : ℕ) (r : DispatchRecord) (is : List StackItem)
-        → IsUnwinding t fs program p s at r is w → IsMachineMemory t fs program p q s.memory w.source
+        → IsUnwinding t fs program p s at r is w → IsMachineMemory setting s.memory w.source
         → HasRule (seen (exec program zero))
-        → Outcome t fs program p q (arrived t fs (unwinds_on t s at r)) seen w.shown n
-        (callers r.walk is)
+        → Outcome setting (arrived t fs (unwinds_on t s at r)) seen w.shown n (callers r.walk is)
     unwound s at r is u memory rule = elim (unwind_turns t fs program p s at r is w u) [
       | inl b ↦ unwinds_as s at r is (arrived t fs (unwinds_on t s at r)) u memory rule b
       | inr l ↦ lands_with s at r is (arrived t fs (unwinds_on t s at r)) u memory l

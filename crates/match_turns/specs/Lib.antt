@@ -4,6 +4,7 @@ pub mod FuncletEntry
 pub mod FuncletLaws
 pub mod DispatchOutcome
 pub mod ExceptionContinuation
+pub mod SettingOutcome
 pub mod TurnLaws
 pub mod BlockLaws
 pub mod FilterInformation
