@@ -54,8 +54,12 @@ def units_of(path, lines):
         if name:
             found.append(Unit(path, name, names, start, end))
 
+    in_open = False
     for number, line in enumerate(lines, 1):
         text = line.strip()
+        if in_open or text.startswith("open "):
+            in_open = "}" not in text and "{" in text or in_open and "}" not in text
+            continue
         if not text or text.startswith("--") or re.match(r"(pub )?use ", text):
             continue
         indent = len(line) - len(line.lstrip())

@@ -23,7 +23,7 @@ use Rattle.match_bodies.specs.CodeSites.{Sites}
 use Rattle.match_bodies.specs.Bodies.{turns_left}
 use Rattle.match_bodies.specs.StepLaws.{turns_per_step}
 use Rattle.match_turns.specs.CallOutcome.{CallBegins}
-use Rattle.match_turns.proofs.CallEntry.{call_acts}
+use Rattle.match_turns.proofs.CallActs.{call_acts}
 use Rattle.image_runs.specs.AgreementStates.{RepresentsWhereSet}
 use Rattle.image_runs.proofs.AgreementSteps.{same_left, fails}
 

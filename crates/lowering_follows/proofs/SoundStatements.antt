@@ -9,7 +9,7 @@ use Rattle.c_checked.specs.Sound as sound
 use Rattle.c_checked.specs.Sound.{Inside, function_sound, optional_sound, test_sound, value_fits, declared_sound, all_declared_sound, result_sound, filter_sound, statement_sound, statements_sound}
 use Rattle.c_checked.specs.Statement.{Declared, Filter, Always, Funclet, Statement, Declare, Block, Evaluate, If, IfElse, For, DoWhile, Return, Break, Continue, Leave, TryExcept, TryFinally, Statements, Empty, Then}
 use Rattle.seh_ir.specs.Lowered.{own_locals}
-use Rattle.seh_ir.proofs.StatementParts.{OptionalHas, DeclaredHas, AllDeclaredHave, FilterHas, StatementHas, StatementsHave, statement_has, statements_have}
+use Rattle.seh_ir.proofs.StatementParts.{OptionalHas, DeclaredHas, AllDeclaredHave, FilterHas, StatementHas, StatementsHave, statements_have}
 use Rattle.lowering_follows.specs.Fits.{ExpressionFits}
 use Rattle.lowering_follows.proofs.SoundExpressions.{both_left, both_right, Knows, expression_fits}
 
@@ -162,20 +162,9 @@ module _ (program : Program) (own : ℕ) (A B E F : Expression → Type 0) (D : 
 -- ---- that they fit
 
 -- the expressions of a part fit, those of its filters too, and its locals are the function's
-abbrev pub StatementFits : Program → ℕ → Statement → Type 0
-StatementFits program own s = StatementHas (ExpressionFits program own false)
-    (ExpressionFits program own true) (λ x. x < own) s
-
 abbrev pub StatementsFit : Program → ℕ → Statements → Type 0
 StatementsFit program own ss = StatementsHave (ExpressionFits program own false)
     (ExpressionFits program own true) (λ x. x < own) ss
-
-pub statement_fits : (program : Program) (own : ℕ) (s : Statement) (i : Inside)
-    → Knows program own false i.scope → statement_sound i s ≡ true → StatementFits program own s
-statement_fits program own s i k ok = statement_sound_has program own (λ e. Unit {0})
-    (λ e. Unit {0}) (ExpressionFits program own false) (ExpressionFits program own true)
-    (λ x. x < own) (λ e h f. f) (λ e h f. f) (λ x lt. lt) s i k ok
-    (statement_has (λ e. Unit {0}) (λ e. Unit {0}) (λ x. Unit {0}) (λ e. tt) (λ e. tt) (λ x. tt) s)
 
 pub statements_fit : (program : Program) (own : ℕ) (ss : Statements) (i : Inside)
     → Knows program own false i.scope → statements_sound i ss ≡ true → StatementsFit program own ss

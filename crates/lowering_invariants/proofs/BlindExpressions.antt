@@ -1,5 +1,5 @@
 -- Outside a filter the code of an expression reads nothing of an exception.
-use Rattle.std.proofs.Common.{◌≡◌, ℕ, List, ◌++◌, true, false}
+use Rattle.std.proofs.Common.{◌≡◌, ℕ, List, true, false}
 use Rattle.std.specs.List.{AllByRecursion}
 use Rattle.c_checked.specs.Expression.{Expression}
 use Rattle.c_checked.specs.Program.{Program}
@@ -9,15 +9,11 @@ use Rattle.lowering_expressions.specs.declared.scope.ExceptionSource.TheVariants
 use Rattle.lowering_expressions.specs.declared.scope.Names.{Names}
 use Rattle.lowering_expressions.specs.Expressions.{code_code, expression_code}
 use Rattle.lowering_follows.specs.Fits.{ExpressionFits}
-use Rattle.lowering_invariants.proofs.PlainExpressions.{all_append}
 use Rattle.lowering_invariants.proofs.EveryExpression.{HoldsOfOperations, expression_every}
 use Rattle.lowering_invariants.specs.Blind.{IsBlind}
 
 abbrev pub AllBlind : List Instruction → Type 0
 AllBlind code = AllByRecursion IsBlind code
-
-pub append : (xs ys : List Instruction) → AllBlind xs → AllBlind ys → AllBlind (xs ++ ys)
-append xs ys h k = all_append IsBlind xs ys h k
 
 operations_blind : HoldsOfOperations IsBlind
 operations_blind = record {

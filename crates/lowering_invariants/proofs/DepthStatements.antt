@@ -63,11 +63,6 @@ statements_past : (ss : Statements) (scope : LoweringContext) (at : ℕ)
     → past (statements_code scope ss at) 0 ≡ 0
 statements_past = statements_any (λ at xs rs. past xs 0 ≡ 0) pieces_past
 
-returned_past : (names : Names) (e : Option Expression) (at : ℕ)
-    → past (returned_code names e at) 0 ≡ 1
-returned_past names None at = refl
-returned_past names (Some e) at = expression_past names e 0 at
-
 -- ---- jumps
 
 module _ (depth : ℕ → ℕ) where

@@ -15,7 +15,7 @@ use Rattle.match_stack.specs.ListLaws.{IsLinkedStack}
 use Rattle.match_bodies.specs.Layouts.{IsFunctionLayout, IsLeafLayout, IsFuncletLayout, IsLayoutIf, IsLaidOut, IsFuncletPlan}
 use Rattle.match_bodies.specs.Bodies.{slots_end, last_temporary}
 use Rattle.x64_templates.specs.Runs.{Roomy, FrameHolds}
-use Rattle.match_bodies.specs.BodyViews.{seen_by_templates, counts_of, frame_at, state_of, HasSlotsOf, HasView}
+use Rattle.match_bodies.specs.BodyViews.{seen_by_templates, counts_of, frame_at, state_of, HasSlotsOf}
 use Rattle.match_bodies.proofs.SlotPlaces.{SlotsPlaced, function_placed, leaf_placed, funclet_placed, room_of, holds_of, local_is, temporary_is}
 use Rattle.match_bodies.specs.Setting.{Setting, RepresentsAt}
 
@@ -159,17 +159,6 @@ module _ (setting : Setting) where
         temporaries = λ i v e. temporary_is s.memory (p.layout c.frame.body) sp _ i v
             c.frame.temporaries b.body.slots.temporaries e;
         source = refl;
-      }
-
-      pub has_view : HasView program p s c
-      has_view = record {
-        is_machine = is_machine s b.well_formed.count;
-        body = code;
-        there = b.body.slots.body;
-        base = placed.base;
-        room = room_here;
-        holds = holds_here;
-        slots = slots_here;
       }
 
       -- ---- which kind of body it is

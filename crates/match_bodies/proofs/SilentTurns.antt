@@ -223,9 +223,3 @@ module _ (t : Functions) (fs : List Funclet) (program : LinearProgram) (p : Imag
     program_reaches zero s w r has = subst (λ (x : State). HasProgram t fs program p q x.memory) r has
     program_reaches (suc n) s w r has = program_reaches n r.0 w r.2
         (program_kept s.memory r.0.memory (step_keeps s r.0 r.1.steps) has)
-
-    pub program_enters : (n : ℕ) (s w : State) → Enters n s w → HasProgram t fs program p q s.memory
-        → HasProgram t fs program p q w.memory
-    program_enters zero s w r has = subst (λ (x : State). HasProgram t fs program p q x.memory) r has
-    program_enters (suc n) s w r has = program_reaches n r.0 w r.2
-        (program_kept s.memory r.0.memory (step_keeps s r.0 r.1) has)

@@ -1,17 +1,15 @@
 -- Steps that are matched, from their parts.
-use Rattle.std.proofs.Common.{◌≡◌, inl, inr, ℕ, ◌+◌, ◌-◌, ◌≤◌, Bool, true, false, Some, List, [], ◌++◌, length, refl, sym, ap, subst, ◌∙◌, arith}
+use Rattle.std.proofs.Common.{◌≡◌, inl, inr, ℕ, ◌+◌, ◌-◌, ◌≤◌, false, Some, List, [], refl, sym, ap, subst, ◌∙◌, arith}
 use Rattle.std.proofs.lemmas.List.{append-nil}
-use Rattle.std.specs.Prelude.{nat_lt}
 use Rattle.seh_num.specs.declared.event.Event.{Event}
 use Rattle.x64_machine.specs.Effect.{State}
 use Rattle.virtual_unwind.specs.CallerOf.{Functions}
 use Rattle.host_model.specs.declared.funclet.Funclet.{Funclet}
 use Rattle.source_meaning.specs.declared.ended.Ended.{Ended}
-use Rattle.source_meaning.specs.declared.ended.Ended.TheVariants.{Deep}
 use Rattle.source_meaning.specs.Meaning.{is_calm}
 use Rattle.linear_code.specs.declared.instruction.Instruction.{Instruction}
 use Rattle.linear_code.specs.Program.{LinearProgram}
-use Rattle.linear_machine.specs.Frames.{Store, Configuration, Finished, Next, pick, deeper}
+use Rattle.linear_machine.specs.Frames.{Configuration, Finished, Next}
 use Rattle.linear_machine.specs.Instructions.{act}
 use Rattle.match_runs.specs.Comes.{Comes, LeadsTo}
 use Rattle.match_runs.specs.Matched.{Fails, IsMatched}
@@ -47,50 +45,6 @@ module _ (t : Functions) (fs : List Funclet) (program : LinearProgram) (credit :
       acts = λ next. acts next ∙ ap (λ (es : List Event). Finished end es)
           (sym (append-nil c.events));
     }
-
-    -- a step that continues unless the depth would be too great
-    pub matched_by_depth : (turns_per_step : ℕ) (Represents : State → Configuration → Type 0) (s : State)
-        (c : Configuration) (i : Instruction)
-        → (n held : ℕ) (store : Store) (before after : List Event) (d : Configuration) (turns : ℕ)
-        (u : State)
-        → ((next : Next) → act program i next c ≡ deeper n held store (c.events ++ before) (next d))
-        → d.events ≡ c.events ++ (before ++ after)
-        → 1 ≤ turns → turns + credit d ≤ turns_per_step + credit c → Comes t fs turns s (before ++ after) u
-        → (nat_lt 1000 (length store.activations + held + n) ≡ false → Represents u d)
-        → IsMatched t fs program turns_per_step credit Represents s c i
-    unfolding pick
-    matched_by_depth turns_per_step Represents s c i n held store before after d turns u acts shown some few
-        comes is_there =
-        by (nat_lt 1000 (length store.activations + held + n)) refl
-      where
-        by : (b : Bool) → nat_lt 1000 (length store.activations + held + n) ≡ b
-            → IsMatched t fs program turns_per_step credit Represents s c i
-        by true deep = inr (inr (inr (record {
-          turns = turns;
-          few = omega arith;
-          state = u;
-          made = before ++ after;
-          comes = comes;
-          events = before;
-          front = (after, refl);
-          end = Deep 1001;
-          wild = refl;
-          acts = λ next. acts next ∙ ap (λ (b : Bool). pick b
-              (Finished (Deep 1001) (c.events ++ before)) (next d)) deep;
-        })))
-        by false shallow = inl (record {
-          turns = turns;
-          some = some;
-          configuration = d;
-          few = few;
-          state = u;
-          events = before ++ after;
-          comes = comes;
-          acts = λ next. acts next ∙ ap (λ (b : Bool). pick b
-              (Finished (Deep 1001) (c.events ++ before)) (next d)) shallow;
-          shown = shown;
-          is_there = is_there shallow;
-        })
 
     -- turns that show nothing come before a step's
     pub matched_after : (k turns_per_step : ℕ) (Represents : State → Configuration → Type 0) (s u : State)

@@ -1,8 +1,8 @@
 -- A call of a function: the callee's first instruction begins, with its arguments in its first
 -- locals and what the stack held in the others.
-use Rattle.std.proofs.Common.{◌≡◌, ℕ, zero, suc, ◌+◌, ◌-◌, ◌*◌, ◌^◌, ◌<◌, ◌≤◌, Bool, true, false, Some, None, Ok, List, [], ◌∷◌, ◌++◌, length, refl, sym, ap, subst, ◌∙◌, arith, inl, inr, length-append, append_assoc}
-use Rattle.std.specs.Prelude.{nat_lt, slice_get, drop, if◌then◌else◌}
-use Rattle.std.proofs.lemmas.Bool.{cases_lt, lt-ltb, eq-eqb}
+use Rattle.std.proofs.Common.{◌≡◌, ℕ, ◌+◌, ◌-◌, ◌*◌, ◌^◌, ◌<◌, ◌≤◌, Bool, true, false, Some, Ok, List, [], ◌∷◌, ◌++◌, length, refl, sym, ap, subst, ◌∙◌, arith, inl, inr, length-append, append_assoc}
+use Rattle.std.specs.Prelude.{nat_lt, slice_get, drop}
+use Rattle.std.proofs.lemmas.Bool.{cases_lt, lt-ltb}
 use Rattle.std.proofs.lemmas.Option.{slice_get_within}
 use Rattle.std.proofs.lemmas.List.{append-nil, length-drop, length-take}
 use Rattle.host_layout.specs.declared.range.TheConstants.{STACK_START, STACK_END}
@@ -16,10 +16,10 @@ use Rattle.virtual_unwind.specs.Undone.{word}
 use Rattle.host_model.specs.Funclets.{arrivals}
 use Rattle.linear_code.specs.declared.slot.Slot.TheVariants.{Temporary}
 use Rattle.linear_code.specs.declared.instruction.Instruction.TheVariants as instructions
-use Rattle.linear_code.specs.Program.{LinearProgram, LinearBody, LinearFunction}
-use Rattle.linear_machine.specs.Frames.{FunctionBody, body_of, Waits, Configuration, Next, with_some, deeper, last_temporaries}
+use Rattle.linear_code.specs.Program.{LinearBody}
+use Rattle.linear_machine.specs.Frames.{FunctionBody, body_of, Waits, Configuration}
 use Rattle.linear_machine.specs.Run.{instruction_in}
-use Rattle.linear_machine.specs.Instructions.{begin_function, waiting, act}
+use Rattle.linear_machine.specs.Instructions.{waiting}
 use Rattle.template_code.specs.declared.layout.Layout.{Layout}
 use Rattle.template_code.specs.Bytes.{sizes}
 use Rattle.template_code.specs.Slots.{put_back, keep, temporary_at}
@@ -64,37 +64,7 @@ use Rattle.match_turns.proofs.FunctionEntry as entries
 use Rattle.template_code.specs.declared.layout.TheConstants.{LARGEST_FRAME}
 use Rattle.match_turns.proofs.AtCall.{AtCall}
 use Rattle.match_bodies.specs.Setting.{Setting, IsMachineMemory, IsResumed, RepresentsAt}
-
--- two turns for each argument that is passed on the stack
-passed_in : (y : Layout) (first i n : ℕ) → length (passing_code y first i n) ≡ 2 * n
-passed_in y first i zero = refl
-passed_in y first i (suc n) = let r = passed_in y first (i + 1) n in omega arith
-
-got_past : (xs : List ℕ) (n i : ℕ) → slice_get (drop n xs) i ≡ slice_get xs (n + i)
-got_past xs zero i = let z : i ≡ 0 + i = omega arith in ap (slice_get xs) z
-got_past [] (suc n) i = refl
-got_past (x ∷ xs) (suc n) i = got_past xs n i ∙ (let z : suc (n + i) ≡ suc n + i = omega arith in ap (slice_get (x ∷ xs)) z)
-
--- what linear code does
-pub call_acts : (program : LinearProgram) (c : Configuration) (f first count : ℕ)
-    (fn : LinearFunction) → slice_get program.functions f ≡ Some fn
-    → length c.frame.temporaries ≡ first + count
-    → (next : Next) → act program (instructions.Call f first count) next c
-    ≡ deeper 1 c.frame.held c.store c.events (next
-    (begin_function f fn (drop first c.frame.temporaries) c.frame.held
-    (Waits (waiting c first).frame ∷ c.below) c.store c.events))
-unfolding with_some
-call_acts program c f first count fn callee held next =
-    let arguments = drop first c.frame.temporaries in
-    let e : last_temporaries c.frame.temporaries first count ≡ Some arguments =
-    ap (λ (x : Bool). if x then Some arguments else None) (eq-eqb (length c.frame.temporaries) (first + count) held) in
-    ap (λ o. with_some c.events o (λ arguments.
-    with_some c.events (slice_get program.functions f) (λ function.
-    deeper 1 c.frame.held c.store c.events
-    (next (begin_function f function arguments c.frame.held (Waits (waiting c first).frame ∷ c.below) c.store c.events))))) e
-    ∙ ap (λ o. with_some c.events o (λ function.
-    deeper 1 c.frame.held c.store c.events
-    (next (begin_function f function arguments c.frame.held (Waits (waiting c first).frame ∷ c.below) c.store c.events)))) callee
+use Rattle.match_turns.proofs.CallActs.{passed_in, got_past}
 
 module _ {setting : Setting} (at_call : AtCall setting) where
   open setting use {functions as t, funclets as fs, program, plan as p, sites as q, image}

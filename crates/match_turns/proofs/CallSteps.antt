@@ -32,7 +32,7 @@ use Rattle.match_turns.specs.CallOutcome.{FunctionsApart}
 use Rattle.match_turns.specs.CallLaws.{ReturnsAreMatched, CallsBegin}
 use Rattle.match_turns.proofs.CallResult.{IsSurrounded}
 use Rattle.match_turns.proofs.FunctionReturn as returning
-use Rattle.match_turns.proofs.CallEntry.{call_acts}
+use Rattle.match_turns.proofs.CallActs.{call_acts}
 use Rattle.match_turns.proofs.CallEntry as called
 use Rattle.match_turns.proofs.AtCall.{AtCall}
 use Rattle.match_bodies.specs.Setting.{Setting, setting_of, RepresentsAt}

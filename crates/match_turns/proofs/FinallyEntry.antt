@@ -1,5 +1,4 @@
--- A `__finally` block begins: it keeps the base and, in a local of its activation, its flag, and
--- its first instruction follows.
+-- A `__finally` block begins: base and flag are kept, and its first instruction follows.
 use Rattle.std.proofs.Common.{◌≡◌, ℕ, zero, suc, ◌+◌, ◌*◌, ◌<◌, ◌≤◌, Bool, true, false, Option, Some, None, List, [], ◌∷◌, ◌++◌, length, refl, sym, ap, subst, ◌∙◌, arith, inl, inr, append_assoc}
 use Rattle.std.specs.Prelude.{slice_get, slice_index, slice_set}
 use Rattle.std.proofs.lemmas.Option.{slice_get_within, slice_get_cases}

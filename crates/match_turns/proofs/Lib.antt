@@ -76,3 +76,4 @@ pub mod FilterAnswer
 pub mod DispatchStackTop
 pub mod FuncletReturn
 pub mod FuncletReturnSteps
+pub mod CallActs
