@@ -3,28 +3,16 @@ use Rattle.std.proofs.Common.{◌≡◌, ℕ, ◌+◌, ◌-◌, Bool, true, fals
 use Rattle.std.specs.Prelude.{◌⊎◌, nat_lt, replicate, if◌then◌else◌}
 use Rattle.std.proofs.lemmas.Bool.{eq-eqb}
 use Rattle.std.proofs.lemmas.List.{append-nil}
-use Rattle.x64_machine.specs.Effect.{State}
-use Rattle.virtual_unwind.specs.CallerOf.{Functions}
-use Rattle.host_model.specs.declared.funclet.Funclet.{Funclet}
+use Rattle.image_runs.specs.Words.{State, Functions, Funclet, Instruction, LinearProgram, LinearFunction, Waits, Configuration, Seen, Running, Finished, Next, act, instruction_at, ImagePlan, Moves, Fails, IsMatched, AgreeOnSet, StepsAgree, Sites, turns_left, turns_per_step, RepresentsWhereSet}
 use Rattle.source_meaning.specs.declared.ended.Ended.TheVariants.{Deep}
-use Rattle.linear_code.specs.declared.instruction.Instruction.{Instruction}
 use Rattle.linear_code.specs.declared.instruction.Instruction.TheVariants as instructions
-use Rattle.linear_code.specs.Program.{LinearProgram, LinearFunction}
-use Rattle.linear_machine.specs.Frames.{Waits, Configuration, Seen, Running, Finished, Next, pick, last_temporaries}
-use Rattle.linear_machine.specs.Instructions.{begin_function, waiting, act}
-use Rattle.linear_machine.specs.Run.{instruction_at}
-use Rattle.match_stack.specs.ImagePlan.{ImagePlan}
-use Rattle.match_runs.specs.Matched.{Moves, Fails, IsMatched}
+use Rattle.linear_machine.specs.Frames.{pick, last_temporaries}
+use Rattle.linear_machine.specs.Instructions.{begin_function, waiting}
 use Rattle.lowering_invariants.proofs.Same.{alike_is_same}
 use Rattle.lowering_locals.specs.UnsetLaws.{called_with}
-use Rattle.lowering_locals.specs.Agreement.{AgreeOnSet, StepsAgree}
 use Rattle.lowering_locals.proofs.AgreementSteps.{agreement_at_call}
-use Rattle.match_bodies.specs.CodeSites.{Sites}
-use Rattle.match_bodies.specs.Bodies.{turns_left}
-use Rattle.match_bodies.specs.StepLaws.{turns_per_step}
 use Rattle.match_turns.specs.CallOutcome.{CallBegins}
 use Rattle.match_turns.proofs.CallActs.{call_acts}
-use Rattle.image_runs.specs.AgreementStates.{RepresentsWhereSet}
 use Rattle.image_runs.proofs.AgreementSteps.{same_left, fails}
 
 -- ---- lists with the same end

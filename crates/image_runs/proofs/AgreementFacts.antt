@@ -1,29 +1,17 @@
 -- What is known of the actual configuration.
 use Rattle.std.proofs.Common.{◌≡◌, ℕ, List, Some, subst}
-use Rattle.c_checked.specs.Program.{Program}
-use Rattle.c_checked.specs.Sound.{IsSound}
-use Rattle.linear_code.specs.declared.instruction.Instruction.{Instruction}
+use Rattle.image_runs.specs.Words.{Program, IsSound, Instruction, LinearProgram, Configuration, instruction_at, lowered, IsReady, CanContinue, Marks, AreAlike, ReadsNoUnset, AgreeOnSet, IsKnown, KnownNext}
 use Rattle.linear_code.specs.declared.instruction.Instruction.TheVariants as instructions
-use Rattle.linear_code.specs.Program.{LinearProgram}
-use Rattle.linear_machine.specs.Frames.{Configuration}
-use Rattle.linear_machine.specs.Run.{instruction_at}
-use Rattle.seh_ir.specs.Lowered.{lowered}
 use Rattle.lowering_invariants.specs.Turns.{IsReached}
-use Rattle.lowering_invariants.specs.Ready.{IsReady, CanContinue}
 use Rattle.lowering_invariants.specs.Waiting.{IsStacked}
 use Rattle.lowering_invariants.specs.Depths.{HasDepths}
 use Rattle.lowering_invariants.proofs.Ready.{continues}
 use Rattle.lowering_invariants.proofs.Reached.{is_stacked, has_depths}
 use Rattle.lowering_invariants.proofs.Reached as reached
-use Rattle.lowering_locals.specs.Marks.{Marks}
-use Rattle.lowering_locals.specs.Alike.{AreAlike}
-use Rattle.lowering_locals.specs.Reads.{ReadsNoUnset}
-use Rattle.lowering_locals.specs.Agreement.{AgreeOnSet}
 use Rattle.lowering_locals.proofs.Alike.{is_over, marked_is_reached}
 use Rattle.lowering_locals.proofs.TurnPairs.{over}
 use Rattle.lowering_locals.proofs.AlikeFacts.{has_activations}
 use Rattle.lowering_locals.proofs.AgreementSteps.{agreeing_are_small, agreement_continues}
-use Rattle.match_bodies.specs.ConfigurationFacts.{IsKnown, KnownNext}
 use Rattle.image_runs.specs.RunLaws.{AgreeingAreKnown}
 
 module _ (program : LinearProgram) where

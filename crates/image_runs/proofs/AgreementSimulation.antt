@@ -1,33 +1,14 @@
 -- The machine keeps representing where linear code is, in all locals that have been set.
 use Rattle.std.proofs.Common.{◌≡◌, ℕ, zero, ◌+◌, length, Some, refl, inl, inr, sym, ap, subst, ◌∙◌}
 use Rattle.std.specs.Prelude.{List}
-use Rattle.x64_machine.specs.Effect.{State}
-use Rattle.virtual_unwind.specs.CallerOf.{Functions}
-use Rattle.host_model.specs.declared.funclet.Funclet.{Funclet}
-use Rattle.c_checked.specs.Program.{Program}
-use Rattle.c_checked.specs.Sound.{IsSound}
-use Rattle.linear_code.specs.declared.slot.Slot.{Slot}
-use Rattle.linear_code.specs.declared.instruction.Instruction.{Instruction}
+use Rattle.image_runs.specs.Words.{State, Functions, Funclet, Program, IsSound, Slot, Instruction, LinearProgram, BodyName, FunctionBody, Frame, Configuration, body_of, act, instruction_in, instruction_at, exec, ImagePlan, lowered, HasRule, Moves, IsMatched, IsReady, CanContinue, ReadsNoUnset, AgreeOnSet, StepsAgree, Sites, turns_left, RepresentsAt, IsKnown, KnownNext, turns_per_step, Represents, Field, IsSoundImage, RepresentsWhereSet}
 use Rattle.linear_code.specs.declared.instruction.Instruction.TheVariants as instructions
-use Rattle.linear_code.specs.Program.{LinearProgram}
-use Rattle.linear_machine.specs.Frames.{BodyName, FunctionBody, FuncletBody, Frame, Configuration, body_of}
-use Rattle.linear_machine.specs.Instructions.{act}
-use Rattle.linear_machine.specs.Run.{instruction_in, instruction_at, exec}
-use Rattle.match_stack.specs.ImagePlan.{ImagePlan}
-use Rattle.seh_ir.specs.Lowered.{lowered}
-use Rattle.match_runs.specs.Ends.{HasRule}
-use Rattle.match_runs.specs.Matched.{Moves, IsMatched, StepIsMatched}
-use Rattle.lowering_invariants.specs.Ready.{IsReady, CanContinue}
-use Rattle.lowering_locals.specs.Reads.{ReadsNoUnset}
-use Rattle.lowering_locals.specs.Agreement.{AgreeOnSet, StepsAgree}
+use Rattle.linear_machine.specs.Frames.{FuncletBody}
+use Rattle.match_runs.specs.Matched.{StepIsMatched}
 use Rattle.lowering_locals.proofs.AgreementSteps.{agreement_continues}
-use Rattle.match_bodies.specs.CodeSites.{Sites}
-use Rattle.match_bodies.specs.Bodies.{turns_left, RepresentsAt}
-use Rattle.match_bodies.specs.ConfigurationFacts.{IsKnown, KnownNext}
-use Rattle.match_bodies.specs.StepLaws.{turns_per_step, IsWithinBody}
+use Rattle.match_bodies.specs.StepLaws.{IsWithinBody}
 use Rattle.match_bodies.proofs.BodySteps.{within_body}
 use Rattle.match_turns.proofs.CallSteps.{returns_are_matched, calls_begin}
-use Rattle.match_turns.specs.DispatchOutcome.{Represents}
 use Rattle.match_turns.proofs.FuncletReturnSteps.{funclet_returns_are_matched}
 use Rattle.match_turns.proofs.FinallyCallSteps.{block_calls_are_matched}
 use Rattle.match_turns.proofs.OperationSteps.{operations, retries}
@@ -35,12 +16,9 @@ use Rattle.match_turns.proofs.ServiceSteps.{information_is_matched, puts_are_mat
 use Rattle.match_turns.proofs.RaiseCall.{raises_are_matched}
 use Rattle.match_turns.proofs.LocalUnwindCall.{local_unwinds_are_matched}
 use Rattle.match_turns.proofs.BodyContinuation.{bodies_continue}
-use Rattle.c_operations.specs.declared.field.Field.{Field}
 use Rattle.c_operations.specs.declared.built_in.BuiltIn.{BuiltIn}
 use Rattle.c_operations.specs.declared.built_in.BuiltIn.TheVariants.{Put, Protect, RaiseException}
-use Rattle.image_runs.specs.SoundImages.{IsSoundImage}
 use Rattle.image_runs.specs.StepMatches.{StepMatches}
-use Rattle.image_runs.specs.AgreementStates.{RepresentsWhereSet}
 use Rattle.image_runs.specs.RunLaws.{AgreementSimulates}
 use Rattle.image_runs.proofs.AgreementFacts.{known, known_next}
 use Rattle.image_runs.proofs.AgreementSteps.{moves_as, matched_as, carried}

@@ -1,25 +1,9 @@
 -- A step that is matched from the actual configuration is matched.
 use Rattle.std.proofs.Common.{◌≡◌, ◌+◌, ◌*◌, List, ◌++◌, length, inl, inr, sym, ap, ◌∙◌, arith}
-use Rattle.seh_num.specs.declared.event.Event.{Event}
-use Rattle.x64_machine.specs.Effect.{State}
-use Rattle.virtual_unwind.specs.CallerOf.{Functions}
-use Rattle.host_model.specs.declared.funclet.Funclet.{Funclet}
-use Rattle.source_meaning.specs.declared.ended.Ended.{Ended}
+use Rattle.image_runs.specs.Words.{Event, State, Functions, Funclet, Ended, Instruction, LinearProgram, Configuration, Finished, Next, act, ImagePlan, Moves, Fails, IsMatched, Marks, AreAlike, AgreeOnSet, StepsAgree, Sites, turns_left, turns_per_step, Represents, RepresentsWhereSet}
 use Rattle.source_meaning.specs.declared.ended.Ended.TheVariants as source
-use Rattle.linear_code.specs.declared.instruction.Instruction.{Instruction}
-use Rattle.linear_code.specs.Program.{LinearProgram}
-use Rattle.linear_machine.specs.Frames.{Configuration, Finished, Next}
-use Rattle.linear_machine.specs.Instructions.{act}
-use Rattle.match_stack.specs.ImagePlan.{ImagePlan}
-use Rattle.match_runs.specs.Matched.{Moves, Exits, Dies, Fails, IsMatched}
-use Rattle.lowering_locals.specs.Marks.{Marks}
-use Rattle.lowering_locals.specs.Alike.{AreAlike}
-use Rattle.lowering_locals.specs.Agreement.{AgreeOnSet, StepsAgree}
-use Rattle.match_bodies.specs.CodeSites.{Sites}
-use Rattle.match_bodies.specs.Bodies.{held_below, turns_left}
-use Rattle.match_bodies.specs.StepLaws.{turns_per_step}
-use Rattle.match_turns.specs.DispatchOutcome.{Represents}
-use Rattle.image_runs.specs.AgreementStates.{RepresentsWhereSet}
+use Rattle.match_runs.specs.Matched.{Exits, Dies}
+use Rattle.match_bodies.specs.Bodies.{held_below}
 
 -- as many temporaries are held
 pub same_left : (marks : Marks) (c d : Configuration) → AreAlike marks c d

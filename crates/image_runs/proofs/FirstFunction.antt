@@ -3,34 +3,15 @@ use Rattle.std.proofs.Common.{◌≡◌, ℕ, ◌+◌, ◌-◌, ◌*◌, ◌^◌
 use Rattle.std.specs.Prelude.{slice_get}
 use Rattle.std.proofs.lemmas.List.{append-nil}
 use Rattle.std.proofs.lemmas.Option.{slice_get_within}
-use Rattle.host_layout.specs.declared.range.TheConstants.{STACK_START, STACK_END}
-use Rattle.flat_memory.specs.Memory.{Memory, number_at}
-use Rattle.flat_memory.specs.declared.protection.Protection.{Protection}
-use Rattle.x64_instr.specs.declared.register.Reg.TheVariants.{Rsp}
-use Rattle.x64_machine.specs.Effect.{State, register}
-use Rattle.virtual_unwind.specs.Undone.{word}
-use Rattle.virtual_unwind.specs.CallerOf.{Functions, distance}
-use Rattle.host_model.specs.declared.funclet.Funclet.{Funclet}
+use Rattle.image_runs.specs.Words.{STACK_START, STACK_END, Memory, number_at, Protection, Rsp, State, register, word, Functions, distance, Funclet, LinearProgram, LinearBody, LinearFunction, FunctionBody, body_of, Layout, Instr, parameters_code, machine, context_below, ImagePlan, IsWellFormed, Sites, arguments_code, IsLayoutIf, IsMachineMemory, IsProgramImage, slots_end, RepresentsAt, LARGEST_FRAME}
 use Rattle.host_model.specs.Funclets.{arrivals}
-use Rattle.linear_code.specs.Program.{LinearProgram, LinearBody, LinearFunction}
-use Rattle.linear_machine.specs.Frames.{FunctionBody, body_of}
-use Rattle.template_code.specs.declared.layout.Layout.{Layout}
-use Rattle.x64_instr.specs.declared.instruction.Instr.{Instr}
-use Rattle.template_code.specs.Calls.{parameters_code}
-use Rattle.x64_templates.specs.Straight.{machine}
 use Rattle.x64_templates.proofs.PlacedCode.{same_number}
-use Rattle.match_stack.specs.WalkLaws.{context_below}
-use Rattle.match_stack.specs.ImagePlan.{ImagePlan}
 use Rattle.match_stack.specs.ItemMatches.{home_end, HoldsWords}
 use Rattle.match_stack.specs.StackRecords.{On}
-use Rattle.match_stack.specs.DispatchStates.{IsWellFormed}
 use Rattle.match_runs.specs.Shadow.{AllKeep}
 use Rattle.match_runs.specs.Comes.{Comes}
 use Rattle.lowering_invariants.specs.SmallNumbers.{AreSmall}
-use Rattle.match_bodies.specs.CodeSites.{Sites, function_arguments, arguments_code}
-use Rattle.match_bodies.specs.Layouts.{IsLayoutIf}
-use Rattle.match_bodies.specs.ProgramImages.{IsMachineMemory, IsProgramImage}
-use Rattle.match_bodies.specs.Bodies.{slots_end, RepresentsAt}
+use Rattle.match_bodies.specs.CodeSites.{function_arguments}
 use Rattle.match_bodies.proofs.SilentTurns.{enters_silently}
 use Rattle.match_bodies.proofs.InstructionEffects.{others_of}
 use Rattle.match_bodies.proofs.RoutineWalks.{enters_steps, Beneath, AllPlain}
@@ -47,7 +28,6 @@ use Rattle.match_turns.proofs.FunctionLocals.{words_at, words_count, words_small
 use Rattle.image_runs.proofs.FunctionEntry.{IsCalled}
 use Rattle.image_runs.proofs.FunctionEntry as entering
 use Rattle.image_runs.proofs.FrameEntries as entries
-use Rattle.template_code.specs.declared.layout.TheConstants.{LARGEST_FRAME}
 
 module _ (t : Functions) (fs : List Funclet) (program : LinearProgram) (p : ImagePlan) (q : Sites)
     (image : IsProgramImage t fs program p q) (s : State) (source : Memory) (f : ℕ)

@@ -2,26 +2,12 @@
 use Rattle.std.proofs.Common.{◌≡◌, ℕ, ◌+◌, ◌-◌, ◌<◌, ◌≤◌, Bool, true, false, Some, List, length, refl, sym, ap, subst, ◌∙◌, arith, inl, inr, length-drop}
 use Rattle.std.specs.Prelude.{nat_le, if◌then◌else◌}
 use Rattle.std.proofs.lemmas.Bool.{cases_lt, le-leb}
-use Rattle.host_layout.specs.declared.range.TheConstants.{STACK_START, STACK_END}
-use Rattle.flat_memory.specs.Memory.{Memory}
-use Rattle.x64_instr.specs.declared.instruction.Instr.{Instr}
-use Rattle.x64_machine.specs.Effect.{State}
-use Rattle.virtual_unwind.specs.CallerOf.{Functions}
-use Rattle.host_model.specs.declared.funclet.Funclet.{Funclet}
-use Rattle.linear_code.specs.Program.{LinearProgram, LinearBody, LinearFunction}
-use Rattle.linear_machine.specs.Frames.{FunctionBody, body_of}
-use Rattle.template_code.specs.declared.layout.Layout.{Layout}
-use Rattle.template_code.specs.Bytes.{sizes}
-use Rattle.template_code.specs.Calls.{enter_code, parameters_code}
+use Rattle.image_runs.specs.Words.{STACK_START, STACK_END, Memory, Instr, State, Functions, Funclet, LinearProgram, LinearBody, LinearFunction, FunctionBody, body_of, Layout, sizes, parameters_code, MachineView, HasCode, ImagePlan, Sites, IsLayoutIf, IsProgramImage, seen_by_templates}
+use Rattle.template_code.specs.Calls.{enter_code}
 use Rattle.template_code.specs.Probing.{enter_large}
-use Rattle.x64_templates.specs.Straight.{MachineView}
-use Rattle.x64_templates.specs.Runs.{HasCode}
-use Rattle.match_stack.specs.ImagePlan.{ImagePlan}
-use Rattle.match_bodies.specs.CodeSites.{Sites, making}
+use Rattle.match_bodies.specs.CodeSites.{making}
 use Rattle.match_bodies.proofs.FrameMaking.{making_steps}
-use Rattle.match_bodies.specs.Layouts.{IsFunctionLayout, IsLeafLayout, IsLayoutIf}
-use Rattle.match_bodies.specs.ProgramImages.{IsProgramImage}
-use Rattle.match_bodies.specs.BodyViews.{seen_by_templates}
+use Rattle.match_bodies.specs.Layouts.{IsFunctionLayout, IsLeafLayout}
 use Rattle.match_bodies.proofs.StackWords.{may_read_written}
 use Rattle.match_turns.proofs.FunctionParameters.{with_home, home_parameters}
 use Rattle.match_turns.proofs.FunctionEntryCode.{making_frame, HasEntry, has_entry}

@@ -2,10 +2,7 @@
 use Rattle.std.proofs.Common.{◌≡◌, ℕ, ◌+◌, ◌<◌, ◌==◌, Bool, true, false, not, length, Some, refl, ap, ◌∙◌, arith}
 use Rattle.std.specs.Prelude.{◌&&◌, nat_le, slice_get}
 use Rattle.std.proofs.lemmas.Bool.{ne_eqb}
-use Rattle.c_checked.specs.Program.{Program}
-use Rattle.linear_code.specs.Program.{LinearBody, LinearFunclet}
-use Rattle.linear_machine.specs.Frames.{function_body}
-use Rattle.seh_ir.specs.Lowered.{lowered}
+use Rattle.image_runs.specs.Words.{Program, LinearBody, LinearFunclet, function_body, lowered, IsLinkable}
 use Rattle.lowering_invariants.specs.Slots.{IsSmallFunclet}
 use Rattle.lowering_invariants.proofs.Small.{lowered_is_small}
 use Rattle.lowering_invariants.proofs.Lowered.{lowered_is_whole}
@@ -15,7 +12,6 @@ use Rattle.image_link.proofs.Images.{images_are_small}
 use Rattle.image_tables.proofs.RegionRanges.{lowered_has_regions}
 use Rattle.image_tables.proofs.FuncletNumbers.{lowered_names_funclets}
 use Rattle.image_states.specs.Compiled.{IsFuncletSized}
-use Rattle.image_runs.specs.SoundImages.{IsLinkable}
 use Rattle.image_runs.specs.ImageLaws.{LoweredIsCompiled}
 use Rattle.image_runs.proofs.FuncletOwners.{is_owned}
 use Rattle.image_runs.proofs.FuncletRegions.{all_named}

@@ -1,31 +1,16 @@
 -- The run of a linked image is that of the machine on its tables.
 use Rattle.std.proofs.Common.{◌≡◌, ℕ, ◌+◌, ◌*◌, zero, List, [], refl, sym, ap, subst, ◌∙◌}
 use Rattle.std.specs.Prelude.{ℤ, Result, slice_get, get_or, Some}
+use Rattle.image_runs.specs.Words.{image_of, Entry, or_none, start, funclets, host, run, Program, meaning, LinearFunction, LinearProgram, nothing, HasBytes, MainBegins, lowered, ShowsAll, ShowsNoMore, linked, functions_of, funclets_of, plan_of, sites_of, IsLinkable}
 use Rattle.pe_image.specs.declared.refusal.ImageErr.{ImageErr}
 use Rattle.pe_image.specs.Image.{Image}
 use Rattle.pe_image.specs.Reading.{IsImage}
-use Rattle.pe_write.specs.Program.{image_of}
-use Rattle.eh_tables.specs.Tables.{Entry, or_none}
-use Rattle.host_model.specs.Loading.{start}
-use Rattle.host_model.specs.Funclets.{funclets}
-use Rattle.host_model.specs.HostStep.{host}
-use Rattle.host_model.specs.Machine.{run, machine_of, machine}
-use Rattle.c_checked.specs.Program.{Program}
-use Rattle.source_meaning.specs.Meaning.{meaning}
-use Rattle.linear_code.specs.Program.{LinearFunction, LinearProgram}
+use Rattle.host_model.specs.Machine.{machine_of, machine}
 use Rattle.linear_machine.specs.Run as code
 use Rattle.lowering_invariants.proofs.Ready.{continues}
-use Rattle.image_link.specs.Routines.{nothing}
-use Rattle.image_states.specs.StartLaws.{HasBytes}
-use Rattle.image_runs.specs.MainStart.{MainBegins}
 use Rattle.image_runs.proofs.FirstState.{mains_begin}
 use Rattle.std.proofs.lemmas.Option.{slice_get-get_or}
-use Rattle.seh_ir.specs.Lowered.{lowered}
-use Rattle.match_runs.specs.Laws.{ShowsAll, ShowsNoMore}
-use Rattle.image_link.specs.Linked.{linked}
 use Rattle.image_tables.proofs.Table.{tables_are_read}
-use Rattle.image_states.specs.Plans.{functions_of, funclets_of, plan_of, sites_of}
-use Rattle.image_runs.specs.SoundImages.{IsLinkable}
 use Rattle.image_runs.proofs.ImageCode.{lowered_is_compiled}
 use Rattle.image_runs.proofs.SoundImages.{lowered_has_image}
 use Rattle.image_runs.specs.ImageRuns.{LinkedImagesShowAll, LinkedImagesShowNoMore}

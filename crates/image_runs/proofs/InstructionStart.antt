@@ -1,26 +1,12 @@
 -- Where an instruction begins, a state is within it.
 use Rattle.std.proofs.Common.{◌≡◌, ◌≤◌, Some, List, [], refl, sym, ap, subst, ◌∙◌, arith}
 use Rattle.std.specs.Prelude.{slice_get}
-use Rattle.x64_machine.specs.Effect.{State}
-use Rattle.virtual_unwind.specs.CallerOf.{Functions}
-use Rattle.host_model.specs.declared.funclet.Funclet.{Funclet}
-use Rattle.linear_code.specs.declared.instruction.Instruction.{Instruction}
+use Rattle.image_runs.specs.Words.{State, Functions, Funclet, Instruction, LinearProgram, Configuration, instruction_in, instruction_at, sizes, template, IsReturn, ImagePlan, InCode, Sites, links_of, IsProgramImage, RepresentsAt, IsWithinInstruction}
 use Rattle.linear_code.specs.declared.instruction.Instruction.TheVariants as instructions
-use Rattle.linear_code.specs.Program.{LinearProgram}
-use Rattle.linear_machine.specs.Frames.{Configuration}
-use Rattle.linear_machine.specs.Run.{instruction_in, instruction_at}
-use Rattle.template_code.specs.Bytes.{sizes}
-use Rattle.template_code.specs.Template.{template}
 use Rattle.template_code.proofs.Sizes.{template_sizes}
-use Rattle.x64_templates.specs.Epilogues.{IsReturn}
-use Rattle.match_stack.specs.ImagePlan.{ImagePlan, InCode}
-use Rattle.match_bodies.specs.CodeSites.{Sites, links_of}
-use Rattle.match_bodies.specs.ProgramImages.{IsProgramImage}
-use Rattle.match_bodies.specs.Bodies.{RepresentsAt}
 use Rattle.match_bodies.proofs.TemplateSizes.{template_some, first_in_code}
 use Rattle.match_bodies.proofs.TemplateRuns.{get_or_is}
 use Rattle.match_turns.proofs.OperationCode.{is_some}
-use Rattle.image_runs.specs.InstructionStates.{IsWithinInstruction}
 use Rattle.image_runs.specs.WalkLaws.{BeginningsAreWithin}
 
 module _ (t : Functions) (fs : List Funclet) (program : LinearProgram) (p : ImagePlan) (q : Sites)

@@ -3,32 +3,15 @@
 use Rattle.std.proofs.Common.{◌≡◌, ℕ, ◌+◌, ◌-◌, ◌^◌, ◌<◌, ◌≤◌, false, Some, None, Ok, List, [], ◌∷◌, length, refl, sym, ap, subst, ◌∙◌, arith}
 use Rattle.std.specs.Prelude.{nat_lt, Option}
 use Rattle.std.specs.List.{AllByRecursion}
-use Rattle.host_layout.specs.declared.range.TheConstants.{STACK_START}
-use Rattle.flat_memory.specs.Memory.{Memory}
-use Rattle.x64_instr.specs.declared.instruction.Instr.{Instr}
-use Rattle.x64_machine.specs.declared.context.Context.{Context}
-use Rattle.x64_machine.specs.Contexts.{context_of}
-use Rattle.x64_machine.specs.Effect.{State}
-use Rattle.eh_tables.specs.Tables.{Entry}
-use Rattle.virtual_unwind.specs.Contexts.{rsp}
-use Rattle.virtual_unwind.specs.CallerOf.{Functions, distance}
+use Rattle.image_runs.specs.Words.{STACK_START, Memory, Instr, Context, context_of, State, Entry, rsp, Functions, distance, word, Funclet, LinearProgram, LinearBody, Frame, body_of, Item, Waits, Configuration, StackItem, Framed, Leaf, FrameIsAt, IsStack, ImagePlan, InCode, Activation, BodyWaits, Linked, Sites, HasProgram, IsResumed, IsProgramImage, IsWithinInstruction, WalkGives}
 use Rattle.virtual_unwind.specs.Tail.{tail_at}
-use Rattle.virtual_unwind.specs.Undone.{word}
-use Rattle.host_model.specs.declared.funclet.Funclet.{Funclet}
 use Rattle.linear_code.specs.declared.program.Region.{Region}
-use Rattle.linear_code.specs.Program.{LinearProgram, LinearBody}
-use Rattle.linear_machine.specs.Frames.{Frame, body_of, Item, Waits, Configuration}
 use Rattle.linear_machine.specs.Regions.{holds, regions_of}
-use Rattle.match_stack.specs.Stack.{StackFrame, StackItem, Framed, Leaf, FrameIsAt, IsStack}
-use Rattle.match_stack.specs.ImagePlan.{ImagePlan, InCode}
-use Rattle.match_stack.specs.ItemMatches.{Activation, HasSpace, below_end, BodyWaits, Linked}
+use Rattle.match_stack.specs.Stack.{StackFrame}
+use Rattle.match_stack.specs.ItemMatches.{HasSpace, below_end}
 use Rattle.match_stack.specs.ListLaws as linked
 use Rattle.match_stack.proofs.ListKeeping.{kept_by_other_memories}
-use Rattle.match_bodies.specs.CodeSites.{Sites}
-use Rattle.match_bodies.specs.ProgramImages.{HasProgram, IsResumed, IsProgramImage}
 use Rattle.match_bodies.proofs.BodyResumption.{frame_size}
-use Rattle.image_runs.specs.InstructionStates.{IsWithinInstruction}
-use Rattle.image_runs.specs.LiveFrames.{WalkGives}
 use Rattle.image_runs.specs.WalkLaws.{WalksGiveTheFramesWithin}
 use Rattle.image_runs.proofs.LiveFrames.{as_many, are_frames}
 use Rattle.image_runs.proofs.WalkFrames.{frames, gives}

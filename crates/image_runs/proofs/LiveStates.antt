@@ -2,17 +2,8 @@
 use Rattle.std.proofs.Common.{◌≡◌, ◌<◌, inl, inr, arith}
 use Rattle.std.proofs.lemmas.Bool.{ne_eqb}
 use Rattle.std.specs.Prelude.{List}
-use Rattle.x64_machine.specs.Effect.{State}
-use Rattle.virtual_unwind.specs.CallerOf.{Functions}
-use Rattle.host_model.specs.declared.funclet.Funclet.{Funclet}
-use Rattle.linear_code.specs.Program.{LinearProgram}
-use Rattle.linear_machine.specs.Frames.{Configuration}
-use Rattle.match_stack.specs.ImagePlan.{ImagePlan}
+use Rattle.image_runs.specs.Words.{State, Functions, Funclet, LinearProgram, Configuration, ImagePlan, Sites, IsProgramImage, InBody, Represents}
 use Rattle.match_runs.specs.Comes.{IsLive}
-use Rattle.match_bodies.specs.CodeSites.{Sites}
-use Rattle.match_bodies.specs.ProgramImages.{IsProgramImage}
-use Rattle.match_bodies.specs.Bodies.{InBody}
-use Rattle.match_turns.specs.DispatchOutcome.{Represents}
 
 module _ (t : Functions) (fs : List Funclet) (program : LinearProgram) (p : ImagePlan) (q : Sites)
     (image : IsProgramImage t fs program p q) where

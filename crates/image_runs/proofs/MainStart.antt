@@ -2,29 +2,14 @@
 use Rattle.std.proofs.Common.{◌≡◌, ℕ, zero, suc, ◌^◌, ◌<◌, ◌≤◌, Bool, true, false, Some, ℤ, pos, negsuc, List, [], ◌∷◌, length, get_or, refl, sym, ap, subst, arith}
 use Rattle.std.specs.Prelude.{slice_get, nat_eq, replicate, if◌then◌else◌}
 use Rattle.std.proofs.lemmas.Option.{slice_get_within}
+use Rattle.image_runs.specs.Words.{Memory, Cpu, State, Functions, Funclet, first_cpu, LinearProgram, LinearFunction, FunctionBody, body_of, function_body, InRegisters, ImagePlan, CanContinue, IsWellFormed, Sites, IsProgramImage, seen_by_templates, first_stack, IsFirst, MainBegins}
 use Rattle.seh_num.specs.declared.width.Width.TheVariants.{W64}
 use Rattle.seh_num.specs.Widths.{wrapped}
-use Rattle.flat_memory.specs.Memory.{Memory}
-use Rattle.x64_machine.specs.declared.cpu.Cpu.{Cpu}
-use Rattle.x64_machine.specs.Effect.{State}
-use Rattle.virtual_unwind.specs.CallerOf.{Functions}
 use Rattle.seh_records.specs.Laws.{AllSmall}
-use Rattle.host_model.specs.declared.funclet.Funclet.{Funclet}
-use Rattle.host_model.specs.Loading.{first_cpu}
 use Rattle.source_meaning.specs.Source.{first_memory}
-use Rattle.linear_code.specs.Program.{LinearProgram, LinearFunction}
-use Rattle.linear_machine.specs.Frames.{FunctionBody, body_of, function_body}
 use Rattle.linear_machine.specs.Run.{main_arguments, start}
-use Rattle.x64_templates.specs.EntryStates.{InRegisters}
-use Rattle.match_stack.specs.ImagePlan.{ImagePlan}
-use Rattle.lowering_invariants.specs.Ready.{CanContinue}
-use Rattle.match_stack.specs.DispatchStates.{IsWellFormed}
-use Rattle.match_bodies.specs.CodeSites.{Sites}
-use Rattle.match_bodies.specs.ProgramImages.{IsProgramImage}
-use Rattle.match_bodies.specs.BodyViews.{seen_by_templates}
 use Rattle.match_bodies.specs.ConfigurationFacts.{IsWellMade}
 use Rattle.match_bodies.proofs.StepNeeds.{label_in}
-use Rattle.image_runs.specs.MainStart.{first_stack, IsFirst, MainBegins}
 use Rattle.image_runs.specs.MainLaws.{MainIsBegun}
 use Rattle.image_runs.proofs.FunctionEntry.{IsCalled}
 use Rattle.image_runs.proofs.FirstFunction as begun

@@ -1,10 +1,8 @@
 -- A run of a compiled image ends only as its program does.
 use Rattle.std.proofs.Common.{◌≡◌, Option, Some, None, subst}
-use Rattle.seh_num.specs.declared.end.RunEnd.{RunEnd}
+use Rattle.image_runs.specs.Words.{RunEnd, Ended, run_end_of}
 use Rattle.seh_num.specs.declared.end.RunEnd.TheVariants as ends
-use Rattle.source_meaning.specs.declared.ended.Ended.{Ended}
 use Rattle.source_meaning.specs.declared.ended.Ended.TheVariants as source
-use Rattle.match_runs.specs.Ends.{run_end_of}
 use Rattle.image_runs.proofs.ImageMeaning.{compiled_show_nothing_more}
 use Rattle.image_runs.specs.RunWalks.{IsOfProgram}
 use Rattle.image_runs.specs.WalkedLaws.{RunsEndAsPrograms}

@@ -1,21 +1,11 @@
 -- Whole runs, by way of linear code.
 use Rattle.std.proofs.Common.{◌≡◌, ℕ, ◌+◌, ◌*◌, true, Option, Some, None, List, [], ◌++◌, refl, sym, ap, ◌∙◌, arith}
 use Rattle.std.proofs.lemmas.List.{append_assoc}
-use Rattle.seh_num.specs.declared.event.Event.{Event}
-use Rattle.seh_num.specs.declared.end.RunEnd.{RunEnd}
-use Rattle.seh_num.specs.Shown.{Shown}
-use Rattle.host_model.specs.HostStep.{host}
-use Rattle.host_model.specs.Machine.{run}
-use Rattle.source_meaning.specs.declared.ended.Ended.{Ended}
-use Rattle.source_meaning.specs.Meaning.{meaning, is_calm}
+use Rattle.image_runs.specs.Words.{Event, RunEnd, Shown, host, run, Ended, meaning, Seen, Running, Finished, Stuck, seen, lowered, steps_per_turn_of, run_end_of, HasRule, ShowsAll, ShowsNoMore}
+use Rattle.source_meaning.specs.Meaning.{is_calm}
 use Rattle.source_meaning.specs.Laws.{IsPrefixOf}
-use Rattle.linear_machine.specs.Frames.{Seen, Running, Finished, Stuck}
-use Rattle.linear_machine.specs.Run.{seen, linear_meaning}
-use Rattle.seh_ir.specs.Lowered.{lowered}
-use Rattle.lowering_follows.specs.StepsPerTurn.{steps_per_turn_of}
+use Rattle.linear_machine.specs.Run.{linear_meaning}
 use Rattle.lowering_follows.proofs.ProgramLowering.{lowered_follows, lowered_shows_no_more}
-use Rattle.match_runs.specs.Ends.{run_end_of, HasRule}
-use Rattle.match_runs.specs.Laws.{ShowsAll, ShowsNoMore}
 use Rattle.match_runs.proofs.Programs.{programs_all, programs_no_more, enough}
 use Rattle.match_runs.proofs.Shadowed.{programs_walk_the_shadow}
 use Rattle.image_runs.specs.MatchLaws.{turns_per_step, MatchedRunsShowAll, MatchedRunsShowNoMore, MatchedRunsWalkTheShadow}

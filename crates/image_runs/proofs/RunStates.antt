@@ -1,18 +1,10 @@
 -- A run that is matched step by step passes a state for each step.
 use Rattle.std.proofs.Common.{◌≡◌, inl, inr, ℕ, zero, suc, List, refl, subst, ◌∙◌}
 use Rattle.std.specs.Prelude.{Option, Some, None}
-use Rattle.x64_machine.specs.Effect.{State}
-use Rattle.virtual_unwind.specs.CallerOf.{Functions}
-use Rattle.host_model.specs.declared.funclet.Funclet.{Funclet}
-use Rattle.linear_code.specs.declared.instruction.Instruction.{Instruction}
-use Rattle.linear_code.specs.Program.{LinearProgram}
-use Rattle.linear_machine.specs.Frames.{Configuration, Seen, Running, Finished, Stuck}
-use Rattle.linear_machine.specs.Instructions.{act}
-use Rattle.linear_machine.specs.Run.{instruction_at, exec}
-use Rattle.match_runs.specs.Ends.{HasRule}
-use Rattle.match_runs.specs.Matched.{IsMatched, Simulates}
+use Rattle.image_runs.specs.Words.{State, Functions, Funclet, Instruction, LinearProgram, Configuration, Seen, Running, Finished, Stuck, act, instruction_at, exec, HasRule, IsMatched, IsRunning}
+use Rattle.match_runs.specs.Matched.{Simulates}
 use Rattle.match_runs.proofs.Steps.{at_instruction, at_none, first_has_rule}
-use Rattle.image_runs.specs.RunStates.{IsRunning, HasNextStep, Passes}
+use Rattle.image_runs.specs.RunStates.{HasNextStep, Passes}
 
 running_has_rule : (x : Seen) → IsRunning x → HasRule x
 running_has_rule (Running es) h = tt

@@ -2,33 +2,17 @@
 use Rattle.std.proofs.Common.{◌≡◌, inl, zero, refl, subst, ap, []}
 use Rattle.std.specs.Prelude.{ℕ, ℤ, slice_get, get_or, Option, Some}
 use Rattle.std.proofs.lemmas.Option.{slice_get-get_or}
-use Rattle.pe_write.specs.Program.{image_of}
-use Rattle.x64_machine.specs.Effect.{State}
+use Rattle.image_runs.specs.Words.{image_of, State, Program, LinearFunction, LinearProgram, Configuration, seen, exec, lowered, ReadsNoUnset, started_with, turns_left, turns_per_step, nothing, linked, functions_of, funclets_of, plan_of, sites_of, HasBytes, MainBegins, IsLinkable, IsSoundImage, RepresentsWhereSet, IsRunning}
 use Rattle.host_model.specs.Loading as images
-use Rattle.c_checked.specs.Program.{Program}
-use Rattle.linear_code.specs.Program.{LinearFunction, LinearProgram}
-use Rattle.linear_machine.specs.Frames.{Configuration, with_some}
-use Rattle.linear_machine.specs.Run.{start, seen, exec}
+use Rattle.linear_machine.specs.Frames.{with_some}
+use Rattle.linear_machine.specs.Run.{start}
 use Rattle.lowering_invariants.proofs.Ready.{continues}
-use Rattle.seh_ir.specs.Lowered.{lowered}
-use Rattle.lowering_locals.specs.Reads.{ReadsNoUnset}
-use Rattle.lowering_locals.specs.UnsetLaws.{started_with}
 use Rattle.lowering_locals.proofs.AgreementSteps.{agreement_at_start}
-use Rattle.match_bodies.specs.Bodies.{turns_left}
-use Rattle.match_bodies.specs.StepLaws.{turns_per_step}
-use Rattle.image_link.specs.Routines.{nothing}
-use Rattle.image_link.specs.Linked.{linked}
-use Rattle.image_states.specs.Plans.{functions_of, funclets_of, plan_of, sites_of}
-use Rattle.image_states.specs.StartLaws.{HasBytes}
-use Rattle.image_runs.specs.MainStart.{MainBegins}
 use Rattle.image_runs.proofs.FirstState.{mains_begin}
-use Rattle.image_runs.specs.SoundImages.{IsLinkable, IsSoundImage}
 use Rattle.image_runs.proofs.ImageCode.{lowered_is_compiled}
 use Rattle.image_runs.proofs.SoundImages.{lowered_has_image}
-use Rattle.image_runs.specs.AgreementStates.{RepresentsWhereSet}
 use Rattle.image_runs.proofs.AgreementFacts.{known}
 use Rattle.image_runs.proofs.AgreementSimulation.{agreement_simulates}
-use Rattle.image_runs.specs.RunStates.{IsRunning}
 use Rattle.image_runs.proofs.RunStates.{passes}
 use Rattle.image_runs.proofs.ReturnFrames.{linked_returns_wait}
 use Rattle.image_runs.proofs.StateWalks.{walks_give_the_frames}

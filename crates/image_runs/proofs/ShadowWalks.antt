@@ -3,52 +3,21 @@ use Rattle.std.proofs.Common.{◌≡◌, ℕ, zero, ◌+◌, ◌*◌, ◌<◌, �
 use Rattle.std.specs.Prelude.{ℤ, pos, slice_get}
 use Rattle.std.proofs.lemmas.Nat.{mul-le}
 use Rattle.std.proofs.lemmas.Option.{slice_get_within}
-use Rattle.seh_num.specs.Shown.{Shown}
-use Rattle.seh_num.specs.declared.end.RunEnd.{RunEnd}
-use Rattle.x64_instr.specs.declared.register.Reg.TheVariants.{Rsp, Rbx, Rbp, Rsi, Rdi, R12, R13, R14, R15}
-use Rattle.x64_machine.specs.declared.cpu.Cpu.{Cpu}
-use Rattle.x64_machine.specs.declared.context.Context.{Context}
-use Rattle.x64_machine.specs.Contexts.{context_of}
-use Rattle.x64_machine.specs.Effect.{State, register}
-use Rattle.pe_write.specs.Program.{image_of}
-use Rattle.eh_tables.specs.Tables.{Entry, or_none}
-use Rattle.virtual_unwind.specs.Undone.{word}
-use Rattle.virtual_unwind.specs.CallerOf.{Functions}
-use Rattle.host_model.specs.declared.funclet.Funclet.{Funclet}
-use Rattle.host_model.specs.Funclets.{funclets}
-use Rattle.host_model.specs.Loading.{start}
+use Rattle.image_runs.specs.Words.{Shown, RunEnd, Rsp, Cpu, Context, context_of, State, register, image_of, Entry, or_none, word, Functions, Funclet, funclets, start, Program, LinearProgram, LinearFunction, FunctionBody, body_of, function_body, lowered, steps_per_turn_of, CanContinue, ReadsNoUnset, context_below, state, ImagePlan, Sites, turns_left, IsProgramImage, linked, steps_per_turn_in, program_of, functions_of, funclets_of, plan_of, sites_of, IsLinkable, first_stack, IsFirst, IsImageOf}
+use Rattle.x64_instr.specs.declared.register.Reg.TheVariants.{Rbx, Rbp, Rsi, Rdi, R12, R13, R14, R15}
 use Rattle.host_model.specs.Machine.{machine}
-use Rattle.c_checked.specs.Program.{Program}
 use Rattle.source_meaning.specs.Meaning.{Calm}
-use Rattle.linear_code.specs.Program.{LinearProgram, LinearFunction}
-use Rattle.linear_machine.specs.Frames.{FunctionBody, body_of, function_body}
 use Rattle.linear_machine.specs.Run as code
-use Rattle.seh_ir.specs.Lowered.{lowered}
-use Rattle.lowering_follows.specs.StepsPerTurn.{steps_per_turn_of}
-use Rattle.lowering_invariants.specs.Ready.{CanContinue}
 use Rattle.lowering_invariants.proofs.Ready.{continues}
-use Rattle.lowering_locals.specs.Reads.{ReadsNoUnset}
-use Rattle.match_stack.specs.WalkLaws.{context_below}
-use Rattle.match_stack.specs.PlainWalks.{state}
-use Rattle.match_stack.specs.ImagePlan.{ImagePlan}
 use Rattle.match_runs.specs.Shadow.{caller_at, WalkGives}
 use Rattle.match_runs.specs.Shadowed.{first_shadow, WalkGivesShadow}
 use Rattle.match_runs.proofs.Shadows.{at_end}
 use Rattle.image_runs.proofs.RunMatches as runs
-use Rattle.match_bodies.specs.CodeSites.{Sites}
-use Rattle.match_bodies.specs.Bodies.{turns_left}
-use Rattle.match_bodies.specs.ProgramImages.{IsProgramImage}
 use Rattle.match_bodies.proofs.BodyCallers.{gives_caller}
 use Rattle.match_bodies.proofs.StackWords.{word_is}
 use Rattle.match_bodies.proofs.StepNeeds.{label_in}
-use Rattle.image_link.specs.Linked.{linked}
 use Rattle.image_tables.proofs.Table.{tables_are_read}
-use Rattle.text_bounds.specs.StepsPerTurnLaws.{steps_per_turn_in, program_of}
 use Rattle.text_bounds.proofs.StepsPerTurn.{steps_per_turn_are_bounded}
-use Rattle.image_states.specs.Plans.{functions_of, funclets_of, plan_of, sites_of}
-use Rattle.image_runs.specs.SoundImages.{IsLinkable}
-use Rattle.image_runs.specs.MainStart.{first_stack, IsFirst}
-use Rattle.image_runs.specs.ImageMeaning.{IsImageOf}
 use Rattle.image_runs.specs.ShadowWalks.{WalksTheShadow, ImagesWalkTheShadow, CompiledWalkTheShadow, AcceptedWalkTheShadow}
 use Rattle.image_runs.proofs.FirstState.{first_states_start}
 use Rattle.image_runs.proofs.ImageCode.{lowered_is_compiled}

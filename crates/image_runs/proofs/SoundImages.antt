@@ -1,19 +1,14 @@
 -- All that steps of the machine ask of the image of a sound program.
 use Rattle.std.proofs.Common.{◌≡◌, ℕ, ◌<◌, [], ◌∷◌, length, get_or, Some, refl, sym, ap, ◌∙◌, arith, length-append}
 use Rattle.std.proofs.lemmas.Option.{slice_get-get_or}
-use Rattle.c_checked.specs.Program.{Program}
+use Rattle.image_runs.specs.Words.{Program, Local, Temporary, LinearBody, LinearFunction, LinearProgram, FunctionBody, function_body, body_of, scope_of, lowered, nothing, Field, functions_of, funclets_of, plan_of, sites_of, IsLinkable, IsSoundImage}
 use Rattle.linear_code.specs.declared.instruction.Instruction.TheVariants as instructions
 use Rattle.linear_code.specs.declared.program.FuncletKind.{FuncletKind}
 use Rattle.linear_code.specs.declared.program.FuncletKind.TheVariants.{Filter, Finally}
-use Rattle.linear_code.specs.declared.slot.Slot.TheVariants.{Local, Temporary}
-use Rattle.linear_code.specs.Program.{LinearBody, LinearFunction, LinearProgram}
-use Rattle.linear_machine.specs.Frames.{FunctionBody, function_body, body_of}
 use Rattle.linear_machine.specs.Unwinding.{flag_in, flag_of}
 use Rattle.lowering_expressions.specs.Scope.{finally_scope}
 use Rattle.lowering_expressions.specs.Expressions.{constant, expression_code}
 use Rattle.seh_ir.specs.Statements.{statements_code}
-use Rattle.seh_ir.specs.Lowered.{scope_of, lowered}
-use Rattle.image_link.specs.Routines.{nothing}
 use Rattle.match_turns.specs.CallOutcome.{FunctionsApart}
 use Rattle.lowering_invariants.proofs.CallRegions.{has_same_regions}
 use Rattle.lowering_invariants.proofs.Flags.{has_flags}
@@ -27,14 +22,11 @@ use Rattle.lowering_invariants.proofs.Room.{body_small, has_room}
 use Rattle.lowering_invariants.proofs.TurnStack.{all_at}
 use Rattle.lowering_invariants.specs.Slots.{IsField, IsPlain}
 use Rattle.x64_templates.specs.Exceptions as exceptions
-use Rattle.c_operations.specs.declared.field.Field.{Field}
 use Rattle.c_operations.specs.declared.field.Field.TheVariants as fields
 use Rattle.match_turns.specs.FilterInformation.{FiltersReadInformation}
 use Rattle.match_turns.specs.FuncletEntry.{FlagsFit}
-use Rattle.image_states.specs.Plans.{functions_of, funclets_of, plan_of, sites_of}
 use Rattle.image_states.proofs.Images.{images_are_programs}
 use Rattle.image_states.proofs.Leaves.{leaves_call_nothing, functions_apart}
-use Rattle.image_runs.specs.SoundImages.{IsLinkable, IsSoundImage}
 use Rattle.image_runs.specs.ImageLaws.{LoweredHasImage}
 use Rattle.image_runs.proofs.ImageCode.{lowered_is_compiled}
 

@@ -1,39 +1,17 @@
 -- In every state that represents a configuration the walk gives the live frames.
 use Rattle.std.proofs.Common.{◌≡◌, ◌⊎◌, inl, inr, ℕ, ◌+◌, ◌^◌, ◌<◌, ◌≤◌, Bool, true, false, Some, List, [], ◌∷◌, ◌++◌, refl, sym, ap, ◌∙◌, arith}
 use Rattle.std.specs.Prelude.{slice_get}
-use Rattle.x64_instr.specs.declared.register.Reg.TheVariants.{Rsp}
-use Rattle.x64_instr.specs.declared.instruction.Instr.{Instr}
-use Rattle.x64_machine.specs.Contexts.{context_of}
-use Rattle.x64_machine.specs.Effect.{State, register}
-use Rattle.virtual_unwind.specs.CallerOf.{Functions}
-use Rattle.virtual_unwind.specs.Undone.{word}
-use Rattle.host_model.specs.declared.funclet.Funclet.{Funclet}
-use Rattle.linear_code.specs.declared.slot.Slot.{Slot}
-use Rattle.linear_code.specs.declared.slot.Slot.TheVariants.{Temporary}
-use Rattle.linear_code.specs.declared.instruction.Instruction.{Instruction}
+use Rattle.image_runs.specs.Words.{Rsp, Instr, context_of, State, register, Functions, word, Funclet, Slot, Temporary, Instruction, LinearProgram, Waits, Configuration, instruction_in, instruction_at, sizes, template, IsReturn, context_below, ImagePlan, Activation, activations_below, Sites, links_of, HasProgram, IsResumed, IsProgramImage, InBody, RepresentsAt, IsKnown, Represents, IsReturning, WalkGives}
 use Rattle.linear_code.specs.declared.instruction.Instruction.TheVariants as instructions
-use Rattle.linear_code.specs.Program.{LinearProgram}
-use Rattle.linear_machine.specs.Frames.{Waits, Configuration}
-use Rattle.linear_machine.specs.Run.{instruction_in, instruction_at}
-use Rattle.template_code.specs.Bytes.{sizes}
 use Rattle.template_code.specs.Slots.{operands_code, finish_code}
-use Rattle.template_code.specs.Template.{template}
 use Rattle.template_code.proofs.Sizes.{template_sizes}
-use Rattle.x64_templates.specs.Epilogues.{IsReturn}
-use Rattle.match_stack.specs.WalkLaws.{context_below}
-use Rattle.match_stack.specs.ImagePlan.{ImagePlan}
-use Rattle.match_stack.specs.ItemMatches.{Activation, activations_below, locals_of}
+use Rattle.match_stack.specs.ItemMatches.{locals_of}
 use Rattle.match_stack.proofs.ListEnds.{in_stack}
-use Rattle.match_bodies.specs.CodeSites.{Sites, links_of}
-use Rattle.match_bodies.specs.ProgramImages.{HasProgram, IsResumed, IsProgramImage}
-use Rattle.match_bodies.specs.Bodies.{InBody, RepresentsAt}
 use Rattle.match_bodies.proofs.TemplateSizes.{template_some}
 use Rattle.match_bodies.proofs.StackTop.{leaf_layout, OnTop, others_of, framed_top, leaf_top, body_on_top}
-use Rattle.match_bodies.specs.ConfigurationFacts.{IsKnown}
-use Rattle.match_turns.specs.DispatchOutcome.{WorksOn, Represents}
+use Rattle.match_turns.specs.DispatchOutcome.{WorksOn}
 use Rattle.match_turns.proofs.OperationCode.{some_finish, is_some}
-use Rattle.image_runs.specs.ReturnFrames.{IsReturning, ReturnsWait}
-use Rattle.image_runs.specs.LiveFrames.{WalkGives}
+use Rattle.image_runs.specs.ReturnFrames.{ReturnsWait}
 use Rattle.image_runs.specs.WalkLaws.{WalksGiveTheFrames}
 use Rattle.image_runs.proofs.WalkFrames.{frames, gives}
 use Rattle.image_runs.proofs.LiveFrames.{as_many, are_frames}

@@ -1,19 +1,16 @@
 -- The program of an accepted text is sound, and names each local where it is declared.
 use Rattle.std.proofs.Common.{ℕ, ◌+◌, List, arith}
 use Rattle.std.proofs.lemmas.Nat.{mul-le}
+use Rattle.image_runs.specs.Words.{lowered, steps_per_turn_of, steps_per_turn_in, program_of, IsLinkable}
 use Rattle.c_syntax.specs.Limits.{Within}
 use Rattle.c_syntax.specs.Program.{ExternalDeclaration}
 use Rattle.c_resolved.specs.Accepted.{Accepted}
 use Rattle.c_resolved.proofs.SoundPrograms.{accepted_is_sound}
 use Rattle.c_resolved.proofs.ProgramScopes.{resolved_is_scoped}
-use Rattle.seh_ir.specs.Lowered.{lowered}
-use Rattle.lowering_follows.specs.StepsPerTurn.{steps_per_turn_of}
 use Rattle.text_bounds.proofs.StatementNesting.{resolved_is_shallow}
-use Rattle.text_bounds.specs.StepsPerTurnLaws.{steps_per_turn_in, program_of}
 use Rattle.text_bounds.proofs.StepsPerTurn.{steps_per_turn_are_bounded}
 use Rattle.lowering_locals.proofs.ProgramSets.{scoped_reads_no_unset}
 use Rattle.image_link.specs.Fits.{FitsProgram}
-use Rattle.image_runs.specs.SoundImages.{IsLinkable}
 use Rattle.image_runs.proofs.ImageMeaning.{compiled_realise, compiled_show_nothing_more}
 use Rattle.image_runs.specs.AcceptedLaws.{AcceptedReadsNoUnset, AcceptedRealise, AcceptedShowNothingMore}
 

@@ -1,12 +1,6 @@
 -- A walk over a stack gives its frames.
 use Rattle.std.proofs.Common.{◌≡◌, ℕ, zero, suc, ◌<◌, Some, List, [], ◌∷◌, length, ap, ◌∙◌, arith}
-use Rattle.flat_memory.specs.Memory.{Memory}
-use Rattle.x64_machine.specs.declared.context.Context.{Context}
-use Rattle.x64_machine.specs.Contexts.{context_of}
-use Rattle.virtual_unwind.specs.Contexts.{rsp}
-use Rattle.virtual_unwind.specs.CallerOf.{Functions}
-use Rattle.match_stack.specs.Stack.{StackItem, Framed, Leaf, Searching, Unwinding, IsStack, after_frame, after_leaf}
-use Rattle.match_stack.specs.PlainWalks.{state}
+use Rattle.image_runs.specs.Words.{Memory, Context, context_of, rsp, Functions, StackItem, Framed, Leaf, Searching, Unwinding, IsStack, after_frame, after_leaf, state}
 use Rattle.match_stack.proofs.ItemVisits.{frame_is_visited, leaf_is_visited, search_is_passed, unwinding_is_passed, stack_is_over}
 use Rattle.match_runs.specs.Walked.{LiveFrame, with_frame, given_by, walked}
 

@@ -1,27 +1,12 @@
 -- Whole runs of images.
 use Rattle.std.proofs.Common.{◌≡◌, ℕ, ◌+◌, ◌*◌, inl, refl}
 use Rattle.std.specs.Prelude.{List, slice_get, ℤ, Some}
-use Rattle.x64_machine.specs.Effect.{State}
-use Rattle.virtual_unwind.specs.CallerOf.{Functions}
-use Rattle.host_model.specs.declared.funclet.Funclet.{Funclet}
-use Rattle.c_checked.specs.Program.{Program}
-use Rattle.c_checked.specs.Sound.{IsSound}
-use Rattle.linear_code.specs.Program.{LinearFunction}
+use Rattle.image_runs.specs.Words.{State, Functions, Funclet, Program, IsSound, LinearFunction, ImagePlan, lowered, ReadsNoUnset, started_with, Sites, turns_left, turns_per_step, IsSoundImage, MainBegins, RepresentsWhereSet}
 use Rattle.linear_machine.specs.Run.{start}
-use Rattle.match_stack.specs.ImagePlan.{ImagePlan}
-use Rattle.seh_ir.specs.Lowered.{lowered}
 use Rattle.match_runs.specs.Laws.{RunBegins}
 use Rattle.match_runs.proofs.Steps.{follows}
-use Rattle.lowering_locals.specs.Reads.{ReadsNoUnset}
-use Rattle.lowering_locals.specs.UnsetLaws.{started_with}
 use Rattle.lowering_locals.proofs.AgreementSteps.{agreement_at_start}
 use Rattle.image_runs.proofs.RunMatches as runs
-use Rattle.match_bodies.specs.CodeSites.{Sites}
-use Rattle.match_bodies.specs.Bodies.{turns_left}
-use Rattle.match_bodies.specs.StepLaws.{turns_per_step}
-use Rattle.image_runs.specs.SoundImages.{IsSoundImage}
-use Rattle.image_runs.specs.MainStart.{MainBegins}
-use Rattle.image_runs.specs.AgreementStates.{RepresentsWhereSet}
 use Rattle.image_runs.specs.RunLaws.{ImagesShowAll, ImagesShowNoMore}
 use Rattle.image_runs.proofs.AgreementSimulation.{agreement_simulates}
 

@@ -21,3 +21,4 @@ pub mod TextRuns
 pub mod ShadowWalks
 pub mod FrameCallers
 pub mod MatchLaws
+pub mod Words

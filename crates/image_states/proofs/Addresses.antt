@@ -2,38 +2,19 @@
 use Rattle.std.proofs.Common.{◌≡◌, ◌≢◌, ℕ, zero, suc, ◌+◌, ◌<◌, ◌≤◌, true, false, not, leb, ltb, List, [], ◌∷◌, ◌++◌, length, get_or, Some, refl, ap, subst, ◌∙◌, arith, inl, inr, length-append}
 use Rattle.std.specs.Prelude.{◌&&◌}
 use Rattle.std.proofs.lemmas.Bool.{or_right, and_from, and_right, not_from_false, cases_lt, le-leb, lt-ltb, le-ltb}
-use Rattle.host_layout.specs.declared.range.TheConstants.{IMAGE_BASE, IMAGE_RANGE_END}
-use Rattle.source_meaning.specs.Source.{is_between, is_data, data_end, is_reserved}
-use Rattle.linear_code.specs.Program.{LinearBody, LinearFunclet, LinearProgram}
-use Rattle.linear_machine.specs.Frames.{BodyName, body_of}
-use Rattle.linear_code.specs.declared.instruction.Instruction.{Instruction}
-use Rattle.template_code.specs.declared.layout.Layout.{Layout}
-use Rattle.x64_encode.specs.Chosen.{modrm}
-use Rattle.template_code.specs.Bytes.{size, sizes}
-use Rattle.template_code.specs.Probing.{check_stack}
-use Rattle.template_code.specs.Template.{body_size, offset_of}
+use Rattle.image_states.specs.Words.{IMAGE_BASE, IMAGE_RANGE_END, is_between, is_data, data_end, is_reserved, LinearBody, LinearFunclet, LinearProgram, BodyName, body_of, Instruction, Layout, modrm, size, sizes, check_stack, body_size, offset_of, FitsProgram, RoutineView, funclet_frame, funclet, routines, IsFrameNear, routine_size, entry_size, routine_bytes, check_stack_at, bounds, text_begin, first, total, linked, Placed, end_of, site_of, image_base, template_at, funclet_begin, functions_of, funclets_of, routine_of, address_of, plan_of, sites_of, HasWholeImage}
 use Rattle.template_code.proofs.Sizes.{offset_next}
 use Rattle.x64_emit.proofs.Nearby.{some_instruction}
-use Rattle.image_link.specs.Fits.{FitsProgram}
-use Rattle.image_link.specs.Routines.{RoutineView, funclet_frame, funclet, routines}
-use Rattle.image_link.specs.Near.{IsFrameNear}
-use Rattle.image_link.specs.Text.{routine_size, entry_size, routine_bytes, check_stack_at, bounds}
-use Rattle.image_link.specs.Linked.{text_begin, first, total, linked}
 use Rattle.image_link.proofs.Images.{no_routine}
 use Rattle.image_link.proofs.Bounds.{bounds_least, bounds_below}
-use Rattle.image_tables.specs.RoutinePlaces.{Placed, end_of, site_of}
 use Rattle.image_tables.proofs.Labels.{template_some}
 use Rattle.image_tables.proofs.Infos.{taking_few}
 use Rattle.image_tables.proofs.Prologues.{entry_least}
 use Rattle.image_tables.proofs.Table.{text_is, end_inside}
-use Rattle.image_tables.specs.CodeInMemory.{image_base, template_at}
 use Rattle.image_tables.proofs.CodeInMemory.{IsThere, there, routine_length}
-use Rattle.image_tables.specs.RegionRows.{funclet_begin}
 use Rattle.image_tables.proofs.RoutineRows.{bounds_rise}
 use Rattle.image_tables.proofs.Shape.{no_funclet, as_long, begin_is, funclet_is, funclet_size}
 use Rattle.match_bodies.specs.ProgramImages.{IsInImage}
-use Rattle.image_states.specs.Plans.{functions_of, funclets_of, routine_of, address_of, plan_of, sites_of}
-use Rattle.image_states.specs.Compiled.{HasWholeImage}
 use Rattle.image_states.proofs.Places.{IsBody, is_body}
 
 -- ---- what no access of the source reaches

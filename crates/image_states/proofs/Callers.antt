@@ -4,52 +4,24 @@ use Rattle.std.specs.Prelude.{slice_get}
 use Rattle.std.specs.List.{AllByRecursion}
 use Rattle.std.proofs.lemmas.Bool.{ne_eqb, lt-ltb, le-ltb, lt-leb}
 use Rattle.std.proofs.lemmas.List.{append-nil}
-use Rattle.flat_memory.specs.Memory.{Memory}
-use Rattle.x64_instr.specs.declared.register.Reg.TheVariants.{Rax}
-use Rattle.x64_instr.specs.declared.instruction.Instr.{Instr}
+use Rattle.image_states.specs.Words.{Memory, Rax, Instr, chosen, Context, Entry, Functions, distance, entry_of, of_entry, tail_at, left, framed, filter_return, finally_return, IsExecutableAt, Slot, Instruction, LinearBody, LinearProgram, BodyName, body_of, FrameLayout, taking_size, Layout, spelled, size, sizes, fetch, code_from, IsInstructionNear, IsFrameNear, argument_code, entry_size, check_stack_at, routine_code, Placed, body_begin, end_of, site_of, placed, image_base, template_at, links, begin_of, making_size, give_back, code_of, HasProgram, FindsReturn, functions_of, funclets_of, routine_of, plan_of, sites_of, HasWholeImage}
 use Rattle.x64_instr.specs.declared.instruction.Instr.TheVariants as instrs
-use Rattle.x64_encode.specs.Chosen.{chosen}
-use Rattle.x64_machine.specs.declared.context.Context.{Context}
-use Rattle.eh_tables.specs.Tables.{Entry}
-use Rattle.virtual_unwind.specs.CallerOf.{Functions, distance, entry_of, of_entry, by_distance, in_prologue, run_or, past_prologue}
-use Rattle.virtual_unwind.specs.Tail.{tail_at, left}
+use Rattle.virtual_unwind.specs.CallerOf.{by_distance, in_prologue, run_or, past_prologue}
 use Rattle.virtual_unwind.specs.Undone.{operations}
-use Rattle.seh_walk.specs.Walk.{framed, filter_return, finally_return}
-use Rattle.frame_rules.specs.Bytes.{IsExecutableAt}
 use Rattle.frame_rules.proofs.Bytes.{never_empty}
-use Rattle.linear_code.specs.declared.slot.Slot.{Slot}
-use Rattle.linear_code.specs.declared.instruction.Instruction.{Instruction}
 use Rattle.linear_code.specs.declared.instruction.Instruction.TheVariants as instructions
-use Rattle.linear_code.specs.Program.{LinearBody, LinearProgram}
-use Rattle.linear_machine.specs.Frames.{BodyName, body_of}
-use Rattle.frame_layout.specs.declared.frame.FrameLayout.{FrameLayout}
-use Rattle.frame_layout.specs.Layout.{taking_size}
-use Rattle.template_code.specs.declared.layout.Layout.{Layout}
-use Rattle.template_code.specs.Bytes.{spelled, size, sizes}
-use Rattle.template_code.specs.Slots.{fetch}
 use Rattle.template_code.specs.Calls.{epilogue, return_code}
-use Rattle.template_code.specs.Template.{code_from}
 use Rattle.template_code.proofs.Sizes.{sizes_append, template_sizes}
-use Rattle.x64_emit.specs.Near.{IsInstructionNear}
-use Rattle.image_link.specs.Near.{IsFrameNear}
-use Rattle.image_link.specs.Text.{argument_code, entry_size, check_stack_at, routine_code}
 use Rattle.image_link.specs.Text as texts
 use Rattle.image_link.proofs.Entries.{entry_sizes, routine_small}
-use Rattle.image_tables.specs.RoutinePlaces.{Placed, body_begin, end_of, site_of, placed}
 use Rattle.image_tables.specs.Entries as tables
 use Rattle.image_tables.proofs.Lookups.{some_same, none_some}
 use Rattle.image_tables.proofs.Prologues.{prologue_sizes, entry_least}
-use Rattle.image_tables.specs.CodeInMemory.{image_base, template_at, links}
 use Rattle.image_tables.proofs.Arguments.{arguments_inner}
 use Rattle.image_tables.proofs.CodeInMemory.{executable_split, code_split, IsTemplate, template_there}
 use Rattle.image_tables.proofs.BodyInstructions.{Inner, AllInner, inner_at, fetch_inner}
 use Rattle.image_tables.proofs.Layouts.{size_of, sized}
 use Rattle.image_tables.proofs.BodyFrames.{no_epilogue, away, found_in, none_in}
-use Rattle.match_bodies.specs.CodeSites.{begin_of, making_size, give_back, code_of}
-use Rattle.match_bodies.specs.ProgramImages.{HasProgram}
-use Rattle.match_bodies.specs.Callers.{FindsReturn}
-use Rattle.image_states.specs.Plans.{functions_of, funclets_of, routine_of, plan_of, sites_of}
-use Rattle.image_states.specs.Compiled.{HasWholeImage}
 use Rattle.image_states.proofs.Addresses.{place, here}
 use Rattle.image_states.proofs.Entering.{frame_same, code_same}
 use Rattle.image_states.proofs.Framed.{executable_of}

@@ -2,50 +2,26 @@
 use Rattle.std.proofs.Common.{◌≡◌, ◌≢◌, ℕ, ◌+◌, ◌-◌, ◌^◌, ◌<◌, ◌≤◌, true, ltb, leb, List, [], ◌∷◌, ◌++◌, length, Option, Some, None, refl, sym, ap, subst, ◌∙◌, arith}
 use Rattle.std.specs.Prelude.{slice_get}
 use Rattle.std.proofs.lemmas.Bool.{le-ltb, and_right}
-use Rattle.flat_memory.specs.Memory.{Memory}
-use Rattle.x64_instr.specs.declared.register.Reg.TheVariants.{Rax}
-use Rattle.x64_instr.specs.declared.instruction.Instr.{Instr}
-use Rattle.x64_encode.specs.Chosen.{modrm}
-use Rattle.eh_tables.specs.Answer.{Table}
-use Rattle.eh_tables.specs.Tables.{Entry, entry_or, holding, or_none}
-use Rattle.c_operations.specs.declared.built_in.BuiltIn.{BuiltIn}
-use Rattle.c_operations.specs.declared.built_in.BuiltIn.TheVariants.{Put, Protect, RaiseException}
-use Rattle.virtual_unwind.specs.CallerOf.{Functions, distance, entry_of, of_entry}
-use Rattle.virtual_unwind.specs.Tail.{left}
-use Rattle.seh_walk.specs.Walk.{framed, filter_return, finally_return}
-use Rattle.linear_code.specs.declared.slot.Slot.{Slot}
+use Rattle.image_states.specs.Words.{Memory, Rax, Instr, modrm, Table, Entry, BuiltIn, Put, Protect, RaiseException, Functions, distance, entry_of, of_entry, left, framed, filter_return, finally_return, Slot, LinearBody, LinearProgram, BodyName, body_of, FrameLayout, size, sizes, fetch, check_stack, RoutineView, routines, SiteView, routine_size, argument_code, check_stack_at, first, total, Placed, end_of, site_of, infos_begin, image_base, template_at, begin_of, making_size, give_back, FindsReturn, functions_of, funclets_of, is_leaf, routine_of, address_of, plan_of, sites_of, HasWholeImage, IsNear}
+use Rattle.eh_tables.specs.Tables.{entry_or, holding, or_none}
 use Rattle.linear_code.specs.declared.instruction.Instruction.TheVariants as instructions
-use Rattle.linear_code.specs.Program.{LinearBody, LinearProgram}
-use Rattle.linear_machine.specs.Frames.{BodyName, body_of}
-use Rattle.frame_layout.specs.declared.frame.FrameLayout.{FrameLayout}
 use Rattle.frame_layout.proofs.Sizes.{takes_thirteen}
-use Rattle.template_code.specs.Bytes.{size, sizes}
-use Rattle.template_code.specs.Slots.{fetch}
-use Rattle.template_code.specs.Probing.{check_stack}
-use Rattle.image_link.specs.Routines.{RoutineView, routines}
-use Rattle.image_link.specs.Text.{SiteView, routine_size, argument_code, thunks_at, check_stack_at}
+use Rattle.image_link.specs.Text.{thunks_at}
 use Rattle.image_link.specs.Tables.{info_bytes}
-use Rattle.image_link.specs.Linked.{first, total}
 use Rattle.x64_emit.specs.Linking.{thunk_of}
-use Rattle.image_tables.specs.RoutinePlaces.{Placed, end_of, placed_from, site_of, infos_begin}
+use Rattle.image_tables.specs.RoutinePlaces.{placed_from}
 use Rattle.image_tables.specs.Entries as tables
 use Rattle.image_tables.proofs.Lookups.{thunks_are_held_by_none}
 use Rattle.image_tables.proofs.Infos.{taking_few}
 use Rattle.image_tables.proofs.Table.{tables_are_read, end_inside}
-use Rattle.image_tables.specs.CodeInMemory.{image_base, template_at}
 use Rattle.image_tables.proofs.Layouts.{size_of, sized}
 use Rattle.image_tables.proofs.BodyFrames.{away}
-use Rattle.match_bodies.specs.CodeSites.{begin_of, making_size, give_back}
 use Rattle.match_bodies.specs.ProgramImages.{FindsCallers, FindsCallersOutside}
-use Rattle.match_bodies.specs.Callers.{FindsReturn}
-use Rattle.image_states.specs.Plans.{functions_of, funclets_of, is_leaf, routine_of, address_of, plan_of, sites_of}
-use Rattle.image_states.specs.Compiled.{HasWholeImage}
 use Rattle.image_states.proofs.Addresses.{place, label_rises, label_inside}
 use Rattle.image_states.proofs.Entering.{arguments_same}
 use Rattle.image_states.proofs.Framed.{framed_of}
 use Rattle.image_states.proofs.Popping.{by_popping}
 use Rattle.image_states.proofs.Callers.{leaf_at, making_at, near, argument_at, argument_found, making_is, return_found, end_found}
-use Rattle.x64_emit.specs.Near.{IsNear}
 
 -- ---- where no entry is
 

@@ -4,36 +4,18 @@ use Rattle.std.specs.Prelude.{slice_get}
 use Rattle.std.specs.List.{AllByRecursion}
 use Rattle.image_tables.proofs.Lookups.{some_same, none_some}
 use Rattle.std.proofs.lemmas.Bool.{false≢true}
-use Rattle.flat_memory.specs.Memory.{Memory}
-use Rattle.x64_instr.specs.declared.instruction.Instr.{Instr}
+use Rattle.image_states.specs.Words.{Memory, Instr, rsp, word, FrameIsAt, IsExecutableAt, Instruction, LinearBody, LinearProgram, BodyName, body_of, FrameLayout, taking_size, spelled, sizes, IsCodeAt, routine_code, IsInstructionNear, site_of, image_base, template_at, links, HasProgram, links_of, begin_of, code_of, functions_of, funclets_of, is_leaf, or_none, routine_of, address_of, plan_of, sites_of, HasWholeImage}
 use Rattle.eh_tables.specs.declared.code.UnwindOperation.TheVariants.{Allocate}
 use Rattle.eh_tables.specs.declared.code.UnwindCode.{UnwindCode}
-use Rattle.virtual_unwind.specs.Contexts.{rsp}
-use Rattle.virtual_unwind.specs.Undone.{word}
-use Rattle.match_stack.specs.Stack.{FrameIsAt}
-use Rattle.frame_rules.specs.Bytes.{IsExecutableAt}
-use Rattle.linear_code.specs.declared.instruction.Instruction.{Instruction}
 use Rattle.linear_code.specs.declared.instruction.Instruction.TheVariants as instructions
-use Rattle.linear_code.specs.Program.{LinearBody, LinearProgram}
-use Rattle.linear_machine.specs.Frames.{BodyName, body_of}
-use Rattle.frame_layout.specs.declared.frame.FrameLayout.{FrameLayout}
-use Rattle.frame_layout.specs.Layout.{taking_size}
-use Rattle.template_code.specs.Bytes.{spelled, sizes}
-use Rattle.x64_templates.specs.Placed.{IsCodeAt}
 use Rattle.x64_templates.specs.Epilogues as epilogues
-use Rattle.image_link.specs.Text.{routine_code}
 use Rattle.image_link.proofs.Entries.{routine_small}
-use Rattle.x64_emit.specs.Near.{IsInstructionNear}
-use Rattle.image_tables.specs.RoutinePlaces.{site_of}
 use Rattle.image_tables.specs.Entries as tables
-use Rattle.image_tables.specs.CodeInMemory.{image_base, template_at, links, IsReturn, IsInBody}
+use Rattle.image_tables.specs.CodeInMemory.{IsReturn, IsInBody}
 use Rattle.image_tables.specs.FrameLaws.{stack_frame}
 use Rattle.image_tables.proofs.Layouts.{size_of, sized}
 use Rattle.image_tables.proofs.BodyFrames.{frame_is_at, leaves_are_at}
-use Rattle.match_bodies.specs.ProgramImages.{frame_with, HasProgram, IsResumed, FramesAreWaiting, HasAllocation, LeavesAreWaiting}
-use Rattle.match_bodies.specs.CodeSites.{links_of, begin_of, code_of}
-use Rattle.image_states.specs.Plans.{functions_of, funclets_of, is_leaf, or_none, routine_of, address_of, plan_of, sites_of}
-use Rattle.image_states.specs.Compiled.{HasWholeImage}
+use Rattle.match_bodies.specs.ProgramImages.{frame_with, IsResumed, FramesAreWaiting, HasAllocation, LeavesAreWaiting}
 use Rattle.image_states.proofs.Addresses.{place, here, label_inside}
 use Rattle.image_states.proofs.Entering.{moved, code_same}
 use Rattle.image_states.proofs.Shifts.{template_moved}

@@ -1,18 +1,9 @@
 -- The image of a compiled program has its bodies where the plan says.
 use Rattle.std.proofs.Common.{◌≡◌, ℕ, ◌+◌, ◌<◌, length, Some, sym, ap, subst, ◌∙◌, arith}
 use Rattle.std.proofs.lemmas.Bool.{lt-ltb, ltb-true}
-use Rattle.linear_code.specs.Program.{LinearBody, LinearProgram}
-use Rattle.linear_machine.specs.Frames.{BodyName, body_of}
-use Rattle.template_code.specs.Bytes.{sizes}
-use Rattle.template_code.specs.Template.{body_size, offset_of}
-use Rattle.image_link.specs.Text.{check_stack_at}
+use Rattle.image_states.specs.Words.{LinearBody, LinearProgram, BodyName, body_of, sizes, body_size, offset_of, check_stack_at, Placed, end_of, site_of, image_base, begin_of, entry_code, functions_of, funclets_of, routine_of, address_of, plan_of, sites_of, HasWholeImage}
 use Rattle.image_link.proofs.Entries.{entry_sizes}
-use Rattle.image_tables.specs.RoutinePlaces.{Placed, end_of, site_of}
-use Rattle.image_tables.specs.CodeInMemory.{image_base}
-use Rattle.match_bodies.specs.CodeSites.{begin_of, entry_code}
 use Rattle.match_bodies.specs.ProgramImages.{HasAddresses}
-use Rattle.image_states.specs.Plans.{functions_of, funclets_of, routine_of, address_of, plan_of, sites_of}
-use Rattle.image_states.specs.Compiled.{HasWholeImage}
 use Rattle.image_states.specs.StateLaws.{ImagesArePrograms}
 use Rattle.image_states.proofs.Addresses.{InImage, check_stack_inside, place, here, label_rises, body_inside, not_first}
 use Rattle.image_states.proofs.Slots.{laid_out}

@@ -3,9 +3,8 @@ use Rattle.std.proofs.Common.{◌≡◌, ◌≢◌, ℕ, zero, suc, ◌+◌, ◌
 use Rattle.std.specs.Prelude.{◌||◌}
 use Rattle.std.specs.List.{AllByRecursion}
 use Rattle.std.proofs.lemmas.Bool.{lt-ltb, le-ltb, eq-eqb, ne_eqb, cases_lt}
-use Rattle.x64_machine.specs.declared.cpu.Cpu.{Cpu}
-use Rattle.host_model.specs.declared.funclet.Funclet.{Funclet}
-use Rattle.host_model.specs.Funclets.{if_same, if_below, inserted, by_kind, if_here, arrivals}
+use Rattle.image_states.specs.Words.{Cpu, Funclet, inserted, by_kind, arrivals}
+use Rattle.host_model.specs.Funclets.{if_same, if_below, if_here}
 
 abbrev pub Mask : Type 0
 Mask = ℕ → Bool

@@ -3,25 +3,14 @@ use Rattle.std.proofs.Common.{◌≡◌, ◌≢◌, ℕ, zero, suc, ◌+◌, ◌
 use Rattle.std.specs.Prelude.{slice_get, ◌&&◌, nat_le}
 use Rattle.std.proofs.lemmas.Option.{slice_get_within}
 use Rattle.std.proofs.lemmas.Bool.{and_parts, or_parts, true≢false, false≢true}
-use Rattle.linear_code.specs.declared.instruction.Instruction.{Instruction}
+use Rattle.image_states.specs.Words.{Instruction, LinearBody, LinearFunction, LinearFunclet, LinearProgram, BodyName, FunctionBody, FuncletBody, function_body, funclet_body, body_of, RoutineView, leaf_if, routines, has_call, bounds, routine_size, first, site_of, image_base, address_or, funclet_begin, is_leaf, routine_of, plan_of, HasWholeImage}
 use Rattle.linear_code.specs.declared.instruction.Instruction.TheVariants as instructions
-use Rattle.linear_code.specs.Program.{LinearBody, LinearFunction, LinearFunclet, LinearProgram}
-use Rattle.linear_machine.specs.Frames.{BodyName, FunctionBody, FuncletBody, function_body, funclet_body, body_of}
 use Rattle.lowering_invariants.specs.ReturnRegions.{is_call}
-use Rattle.image_link.specs.Routines.{RoutineView, leaf_if, routines, has_call}
 use Rattle.image_link.specs.Routines as link
-use Rattle.image_link.specs.Text.{bounds, routine_size}
-use Rattle.image_link.specs.Linked.{first}
 use Rattle.image_link.proofs.Images.{no_routine}
-use Rattle.image_tables.specs.RoutinePlaces.{site_of}
 use Rattle.image_tables.proofs.Lookups.{some_same, none_some}
-use Rattle.image_tables.specs.CodeInMemory.{image_base}
-use Rattle.x64_emit.specs.Linking.{address_or}
-use Rattle.image_tables.specs.RegionRows.{funclet_begin}
 use Rattle.image_tables.proofs.RoutineRows.{bounds_rise}
 use Rattle.image_tables.proofs.Shape.{as_long, begin_is}
-use Rattle.image_states.specs.Plans.{is_leaf, routine_of, plan_of}
-use Rattle.image_states.specs.Compiled.{HasWholeImage}
 use Rattle.image_states.specs.StateLaws.{LeavesCallNothing, FunctionsApart}
 use Rattle.image_states.proofs.Places.{is_function, is_funclet}
 use Rattle.image_states.proofs.Addresses.{place, label_below}

@@ -1,27 +1,19 @@
 -- Templates are the same wherever everything is moved by as much.
 use Rattle.std.proofs.Common.{◌≡◌, ℕ, ◌+◌, ◌-◌, ◌^◌, ◌<◌, ◌≤◌, List, [], ◌∷◌, ◌++◌, None, refl, ap, arith}
 use Rattle.std.specs.List.{AllByRecursion}
-use Rattle.seh_num.specs.declared.width.Width.TheVariants.{W64}
-use Rattle.x64_instr.specs.declared.register.Reg.TheVariants.{Rax, Rcx, Rdx, Rsp}
+use Rattle.image_states.specs.Words.{W64, Rax, Rcx, Rsp, Instr, modrm, BuiltIn, Slot, Temporary, Instruction, Layout, size, sizes, fetch, template_size, code_from, IsInstructionNear}
+use Rattle.x64_instr.specs.declared.register.Reg.TheVariants.{Rdx}
 use Rattle.x64_instr.specs.declared.operand.Base.TheVariants as bases
 use Rattle.x64_instr.specs.declared.instruction.Condition.TheVariants as conditions
 use Rattle.x64_instr.specs.declared.instruction.Target.TheVariants.{Relative}
-use Rattle.x64_instr.specs.declared.instruction.Instr.{Instr}
 use Rattle.x64_instr.specs.declared.instruction.Instr.TheVariants as instrs
-use Rattle.x64_encode.specs.Chosen.{modrm, opcode_register}
-use Rattle.c_operations.specs.declared.built_in.BuiltIn.{BuiltIn}
-use Rattle.linear_code.specs.declared.slot.Slot.{Slot}
-use Rattle.linear_code.specs.declared.slot.Slot.TheVariants.{Temporary}
-use Rattle.linear_code.specs.declared.instruction.Instruction.{Instruction}
+use Rattle.x64_encode.specs.Chosen.{opcode_register}
 use Rattle.linear_code.specs.declared.instruction.Instruction.TheVariants as instructions
-use Rattle.template_code.specs.declared.layout.Layout.{Layout}
-use Rattle.template_code.specs.Bytes.{size, sizes}
 use Rattle.template_code.specs.Operations.{move}
-use Rattle.template_code.specs.Slots.{fetch, keep}
+use Rattle.template_code.specs.Slots.{keep}
 use Rattle.template_code.specs.Jumps.{distance, jump, jump_equal, call, compare_zero, test_code}
 use Rattle.template_code.specs.Calls.{arguments_code, call_code, clear_result, passing_code, finally_arguments, address_to}
-use Rattle.template_code.specs.Template.{Links, template, template_size, code_from}
-use Rattle.x64_emit.specs.Near.{IsInstructionNear}
+use Rattle.template_code.specs.Template.{Links, template}
 use Rattle.x64_emit.specs.Rooms.{code_room}
 use Rattle.x64_emit.proofs.Nearby.{test_small, arguments_small, passing_small, instruction_in_room}
 

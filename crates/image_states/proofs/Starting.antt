@@ -2,19 +2,12 @@
 use Rattle.std.proofs.Common.{◌≡◌, ◌+◌, ◌^◌, Bool, true, leb, List, [], ◌∷◌, Option, None, refl, ap, ◌∙◌, arith}
 use Rattle.std.specs.Prelude.{option_map}
 use Rattle.std.proofs.lemmas.Bool.{le-leb}
-use Rattle.pe_image.specs.Image.{Image}
-use Rattle.pe_image.specs.Imports.{Import}
-use Rattle.pe_write.specs.Program.{ImageContents, image_of}
+use Rattle.image_states.specs.Words.{Image, Import, ImageContents, image_of, Table, Entry, LinearProgram, linked, HasWholeImage}
 use Rattle.pe_write.proofs.Programs.{listed}
-use Rattle.eh_tables.specs.Answer.{Table}
-use Rattle.eh_tables.specs.Tables.{Entry}
 use Rattle.host_model.specs.declared.refusal.LoadErr.{LoadErr}
 use Rattle.host_model.specs.declared.refusal.LoadErr.TheVariants as refusals
 use Rattle.host_model.specs.Loading.{reason_unless, first_of, of_tables, table_refusal, has_place, place_refusal, first_unknown, import_refusal, is_code, has_entry, entry_refusal, load_refusal}
-use Rattle.linear_code.specs.Program.{LinearProgram}
-use Rattle.image_link.specs.Linked.{linked}
 use Rattle.image_tables.proofs.Table.{is, tables_are_read}
-use Rattle.image_states.specs.Compiled.{HasWholeImage}
 use Rattle.image_states.specs.StartLaws.{ImagesStart, ImagesLoad}
 use Rattle.image_states.proofs.Sections.{covered, above, here, past}
 use Rattle.image_states.proofs.Data.{globals, text, tables, infos, functions, agrees, stack_writes, arena_alone, data_alone}

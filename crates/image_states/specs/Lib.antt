@@ -2,3 +2,4 @@ pub mod Plans
 pub mod Compiled
 pub mod StateLaws
 pub mod StartLaws
+pub mod Words

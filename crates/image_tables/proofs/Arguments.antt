@@ -1,18 +1,13 @@
 -- What a routine does with what it is called with is code of a body.
 use Rattle.std.proofs.Common.{ℕ, zero, suc, ◌+◌, Bool, true, false, cond, ltb, [], ◌∷◌, Option, Some, None, refl, arith}
-use Rattle.seh_num.specs.declared.width.Width.TheVariants.{W32}
-use Rattle.x64_instr.specs.declared.register.Reg.TheVariants.{Rax, Rcx, Rsp}
-use Rattle.linear_code.specs.declared.slot.Slot.TheVariants.{Local}
-use Rattle.template_code.specs.declared.layout.Layout.{Layout}
+use Rattle.image_tables.specs.Words.{W32, Rax, Rcx, Rsp, Local, Layout, fetched, keep, local_at, IsNear, argument_code}
 use Rattle.template_code.specs.Operations.{move}
-use Rattle.template_code.specs.Slots.{fetched, keep, local_at}
 use Rattle.template_code.specs.Calls.{keep_register, parameter_register, stack_parameter, parameter_code, parameters_code}
-use Rattle.x64_emit.specs.Near.{IsNear}
 use Rattle.x64_emit.specs.Entries.{keep_base, IsParentNear}
 use Rattle.image_link.specs.declared.routine.Entry.{Entry}
 use Rattle.image_link.specs.declared.routine.Entry.TheVariants as entries
 use Rattle.image_link.specs.Near.{IsEntryNear}
-use Rattle.image_link.specs.Text.{base_of, argument_code}
+use Rattle.image_link.specs.Text.{base_of}
 use Rattle.image_tables.proofs.BodyInstructions.{AllInner, inner_both, signed, keep_inner}
 
 parameter_inner : (y : Layout) (i : ℕ) (few : Bool) → IsNear (local_at y i)

@@ -4,46 +4,25 @@ use Rattle.std.specs.Prelude.{slice_get}
 use Rattle.std.specs.List.{AllByRecursion}
 use Rattle.std.proofs.lemmas.Bool.{and_from, ne_eqb, le-ltb}
 use Rattle.std.proofs.lemmas.List.{append-nil}
-use Rattle.flat_memory.specs.Memory.{Memory}
-use Rattle.x64_instr.specs.declared.instruction.Instr.{Instr}
-use Rattle.x64_encode.specs.Chosen.{chosen}
+use Rattle.image_tables.specs.Words.{Memory, Instr, chosen, Table, Entry, holding, or_none, Other, FetchedInstr, role_of, spell, IsExecutableAt, image_of, Instruction, LinearProgram, FrameLayout, taking_size, spelled, size, sizes, template, code_from, IsInstructionNear, FitsProgram, IsFrameNear, entry_code, entry_size, check_stack_at, routine_code, text_begin, linked, Placed, end_of, body_begin, site_of, placed, HasRegions, entries, image_base, links}
 use Rattle.x64_machine.specs.declared.context.Context.{Context}
 use Rattle.x64_encode.proofs.Lengths.{longest}
-use Rattle.eh_tables.specs.Answer.{Table}
-use Rattle.eh_tables.specs.Tables.{Entry, holding, or_none}
 use Rattle.virtual_unwind.specs.CallerOf.{distance, entry_of}
-use Rattle.virtual_unwind.specs.declared.tail.Role.TheVariants.{Other}
 use Rattle.virtual_unwind.specs.declared.tail.Role.{Role}
-use Rattle.virtual_unwind.specs.Tail.{FetchedInstr, fetched_at, role_of, by_role, from_item, tail, tail_at}
+use Rattle.virtual_unwind.specs.Tail.{fetched_at, by_role, from_item, tail, tail_at}
 use Rattle.virtual_unwind.specs.Contexts.{rsp}
 use Rattle.virtual_unwind.specs.Undone.{word}
 use Rattle.seh_walk.specs.Walk.{filter_return, finally_return}
 use Rattle.host_model.specs.Machine.{functions_in}
 use Rattle.match_stack.specs.Stack.{FrameIsAt, LeafIsAt}
-use Rattle.frame_rules.specs.Bytes.{spell, IsExecutableAt}
 use Rattle.frame_rules.proofs.Bytes.{never_empty, items_are_at}
-use Rattle.pe_write.specs.Program.{image_of}
-use Rattle.linear_code.specs.declared.instruction.Instruction.{Instruction}
-use Rattle.linear_code.specs.Program.{LinearProgram}
-use Rattle.frame_layout.specs.declared.frame.FrameLayout.{FrameLayout}
-use Rattle.frame_layout.specs.Layout.{taking_size}
-use Rattle.template_code.specs.Bytes.{spelled, size, sizes}
-use Rattle.template_code.specs.Template.{template, code_from}
 use Rattle.template_code.proofs.Sizes.{sizes_append, template_sizes}
-use Rattle.x64_emit.specs.Near.{IsInstructionNear}
-use Rattle.image_link.specs.Fits.{FitsProgram}
-use Rattle.image_link.specs.Near.{IsFrameNear}
-use Rattle.image_link.specs.Text.{entry_code, entry_size, check_stack_at, routine_code}
-use Rattle.image_link.specs.Linked.{text_begin, linked}
 use Rattle.image_link.proofs.Entries.{entry_sizes, routine_small}
-use Rattle.image_tables.specs.RoutinePlaces.{Placed, end_of, body_begin, site_of, placed}
-use Rattle.image_tables.specs.RegionRanges.{HasRegions}
-use Rattle.image_tables.specs.Entries.{entries}
 use Rattle.image_tables.specs.Entries as tables
 use Rattle.image_tables.proofs.Lookups.{some_same, none_some, entries_are_held, leaves_are_held_by_none}
 use Rattle.image_tables.proofs.Prologues.{entry_least}
 use Rattle.image_tables.proofs.Table.{tables_are_read}
-use Rattle.image_tables.specs.CodeInMemory.{image_base, template_at, links, IsInBody}
+use Rattle.image_tables.specs.CodeInMemory.{template_at, IsInBody}
 use Rattle.image_tables.specs.FrameLaws.{stack_frame, BodiesHaveFrames, LeavesHaveReturns}
 use Rattle.image_tables.proofs.CodeInMemory.{executable_split, code_split, IsThere, there, routine_is_at, template_there}
 use Rattle.image_tables.proofs.BodyInstructions.{Inner, AllInner, inner_at}

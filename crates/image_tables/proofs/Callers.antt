@@ -1,36 +1,22 @@
 -- The caller of every frame is found, by the function table of the image.
 use Rattle.std.proofs.Common.{◌≡◌, ◌≢◌, ℕ, ◌+◌, ◌^◌, ◌<◌, ◌≤◌, true, List, [], ◌∷◌, ◌++◌, length, Option, Some, None, refl, sym, ap, subst, ◌∙◌, arith, inl, inr}
-use Rattle.flat_memory.specs.Memory.{Memory}
-use Rattle.x64_encode.specs.Chosen.{modrm}
+use Rattle.image_tables.specs.Words.{Memory, modrm, Entry, holding, or_none, FetchedInstr, bytes, items, Body, following, is_body, IsRight, HasItems, image_of, RaiseException, CSpecificHandler, LocalUnwind, Protect, Put, LinearProgram, FitsProgram, thunk_at, first, linked, end_of, site_of, HasRegions, entries, image_base, function_of}
 use Rattle.x64_machine.specs.Contexts.{context_of}
 use Rattle.x64_machine.specs.Effect.{State}
 use Rattle.eh_tables.specs.Tables as reading
-use Rattle.eh_tables.specs.Tables.{Entry, entries_of, holding, or_none}
-use Rattle.virtual_unwind.specs.Tail.{FetchedInstr}
+use Rattle.eh_tables.specs.Tables.{entries_of}
 use Rattle.virtual_unwind.specs.CallerOf.{caller_in, caller_of, distance}
 use Rattle.frame_rules.specs.Frame.{left_to}
-use Rattle.frame_rules.specs.Prologue.{bytes, items}
-use Rattle.frame_rules.specs.Body.{Body, following, is_body}
-use Rattle.frame_rules.specs.Rules.{FramedFunction, IsRight, IsFound}
+use Rattle.frame_rules.specs.Rules.{FramedFunction, IsFound}
 use Rattle.frame_rules.specs.Rules as rules
-use Rattle.frame_rules.specs.States.{registers, return_address, IsEntry, InBody, HasItems}
+use Rattle.frame_rules.specs.States.{registers, return_address, IsEntry, InBody}
 use Rattle.frame_rules.proofs.Callers.{entries_are_found, leaves_are_found}
-use Rattle.pe_write.specs.Program.{image_of}
 use Rattle.host_layout.specs.declared.imported.ImportedService.{ImportedService}
-use Rattle.host_layout.specs.declared.imported.ImportedService.TheVariants.{RaiseException, CSpecificHandler, LocalUnwind, Protect, Put}
-use Rattle.linear_code.specs.Program.{LinearProgram}
-use Rattle.image_link.specs.Fits.{FitsProgram}
-use Rattle.image_link.specs.Text.{thunk_at}
-use Rattle.image_link.specs.Linked.{first, linked}
 use Rattle.image_link.proofs.Entries.{routine_small}
-use Rattle.image_tables.specs.RoutinePlaces.{end_of, site_of}
-use Rattle.image_tables.specs.RegionRanges.{HasRegions}
-use Rattle.image_tables.specs.Entries.{entries}
 use Rattle.image_tables.specs.Entries as tables
 use Rattle.image_tables.proofs.Lookups.{entries_are_held, leaves_are_held_by_none, thunks_are_held_by_none}
 use Rattle.image_tables.proofs.Table.{table, table_entries, tables_are_read}
-use Rattle.image_tables.specs.CodeInMemory.{image_base}
-use Rattle.image_tables.specs.Functions.{function_of, leaf, thunk_of, probe}
+use Rattle.image_tables.specs.Functions.{leaf, thunk_of, probe}
 use Rattle.image_tables.specs.FrameLaws.{FindsCaller, FramesAreFound, LeavesAreFound, ThunksAreFound, ProbesAreFound}
 use Rattle.image_tables.proofs.CodeInMemory.{there}
 use Rattle.image_tables.proofs.Layouts.{size_of}

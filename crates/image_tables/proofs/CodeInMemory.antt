@@ -3,30 +3,15 @@ use Rattle.std.proofs.Common.{◌≡◌, ℕ, zero, suc, ◌+◌, ◌≤◌, Lis
 use Rattle.std.specs.Prelude.{slice_get}
 use Rattle.std.specs.List.{AllByRecursion}
 use Rattle.std.proofs.lemmas.Grind.{flat_map-append}
-use Rattle.flat_memory.specs.Memory.{Memory}
-use Rattle.x64_instr.specs.declared.instruction.Instr.{Instr}
-use Rattle.x64_encode.specs.Chosen.{chosen, modrm}
-use Rattle.frame_rules.specs.Bytes.{IsExecutableAt}
-use Rattle.linear_code.specs.declared.instruction.Instruction.{Instruction}
-use Rattle.linear_code.specs.Program.{LinearProgram}
-use Rattle.template_code.specs.declared.layout.Layout.{Layout}
-use Rattle.template_code.specs.Bytes.{spelled, size, sizes}
-use Rattle.template_code.specs.Template.{Links, template, template_size, body_size, offset_of, code_from}
+use Rattle.image_tables.specs.Words.{Memory, Instr, chosen, modrm, IsExecutableAt, Instruction, LinearProgram, Layout, spelled, size, sizes, Links, template, template_size, body_size, code_from, FitsProgram, RoutineView, routines, IsRoutineNear, SiteView, routine_size, entry_code, entry_size, check_stack_at, routine_code, routines_bytes, info_bytes, text_begin, first, linked, Placed, placed_from, site_of, infos_begin, placed, image_base, HasText, IsNear}
+use Rattle.template_code.specs.Template.{offset_of}
 use Rattle.template_code.proofs.Sizes.{sizes_spelled, sizes_append, template_sizes, body_sizes}
 use Rattle.x64_emit.specs.Linking.{links_of}
-use Rattle.image_link.specs.Fits.{FitsProgram}
-use Rattle.image_link.specs.Routines.{RoutineView, routines}
-use Rattle.image_link.specs.Near.{IsRoutineNear}
-use Rattle.image_link.specs.Text.{SiteView, routine_size, routine_room, room, entry_code, entry_size, addresses, check_stack_at, front_code, routine_code, routine_bytes, routines_bytes}
-use Rattle.image_link.specs.Tables.{info_bytes}
-use Rattle.image_link.specs.Linked.{text_begin, first, linked}
+use Rattle.image_link.specs.Text.{routine_room, room, addresses, front_code, routine_bytes}
 use Rattle.image_link.proofs.Entries.{entry_sizes, routine_small}
 use Rattle.image_link.proofs.Images.{has_places}
 use Rattle.image_link.proofs.Nearness.{routines_near}
-use Rattle.image_tables.specs.RoutinePlaces.{Placed, placed_from, site_of, infos_begin, placed}
 use Rattle.image_tables.proofs.Lookups.{some_same, none_some}
-use Rattle.image_tables.specs.CodeInMemory.{image_base, HasText}
-use Rattle.x64_emit.specs.Near.{IsNear}
 
 -- ---- bytes
 

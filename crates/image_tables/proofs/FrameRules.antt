@@ -3,48 +3,25 @@ use Rattle.std.proofs.Common.{◌≡◌, ℕ, ◌+◌, ◌^◌, ◌<◌, Bool, t
 use Rattle.std.specs.Prelude.{slice_get}
 use Rattle.std.specs.List.{flat_map}
 use Rattle.std.proofs.lemmas.Bool.{ne_eqb}
-use Rattle.flat_memory.specs.Memory.{Memory}
-use Rattle.x64_instr.specs.declared.instruction.Instr.{Instr}
-use Rattle.eh_tables.specs.declared.code.UnwindOperation.{UnwindOperation}
+use Rattle.image_tables.specs.Words.{Memory, Instr, UnwindOperation, Nothing, FetchedInstr, bytes, items, Body, following, is_body, FramePlan, IsPlan, spelled_by, operations_of, HasItems, IsRight, spell, IsExecutableAt, prologue_code, LinearProgram, FrameLayout, plan_of, info_of, taking_size, spelled, distance, code_from, FitsProgram, IsFrameNear, routine_size, frame_code, argument_code, check_stack_at, routine_code, text_begin, linked, routines, Placed, end_of, body_begin, site_of, placed, image_base, HasText, links, function_of, IsNear}
 use Rattle.eh_tables.specs.declared.code.UnwindOperation.TheVariants.{Allocate}
-use Rattle.eh_tables.specs.declared.unwind_info.Trailer.TheVariants.{Nothing}
-use Rattle.virtual_unwind.specs.Tail.{FetchedInstr}
 use Rattle.frame_rules.specs.Codes.{are_allowed}
-use Rattle.frame_rules.specs.Prologue.{bytes, items}
-use Rattle.frame_rules.specs.Body.{Body, following, is_body}
-use Rattle.frame_rules.specs.Plan.{FramePlan, IsPlan, spelled_by, allocation_then, operations_of, instructions_of, steps_of}
+use Rattle.frame_rules.specs.Plan.{allocation_then, instructions_of, steps_of}
 use Rattle.frame_rules.specs.Plan as rules
-use Rattle.frame_rules.specs.States.{HasItems}
-use Rattle.frame_rules.specs.Rules.{IsRight}
-use Rattle.frame_rules.specs.Bytes.{spell, IsExecutableAt, prologue_code}
 use Rattle.frame_rules.proofs.Bytes.{spells_all, items_are_at, plans_are_encodable}
 use Rattle.frame_rules.proofs.Emitting.{plans_are_right}
-use Rattle.linear_code.specs.Program.{LinearProgram}
-use Rattle.frame_layout.specs.declared.frame.FrameLayout.{FrameLayout}
-use Rattle.frame_layout.specs.Layout.{plan_of, info_of, taking_size}
 use Rattle.frame_layout.proofs.Sizes.{describes}
-use Rattle.template_code.specs.Bytes.{spelled}
-use Rattle.template_code.specs.Jumps.{distance}
-use Rattle.template_code.specs.Template.{code_from}
 use Rattle.x64_emit.proofs.Nearby.{near_signed}
-use Rattle.image_link.specs.Fits.{FitsProgram}
-use Rattle.image_link.specs.Near.{IsFrameNear}
-use Rattle.image_link.specs.Text.{routine_size, frame_code, argument_code, check_stack_at, routine_code}
-use Rattle.image_link.specs.Linked.{text_begin, linked}
 use Rattle.image_link.proofs.Entries.{entry_small, routine_small}
 use Rattle.image_link.proofs.Images.{site_near, has_places}
 use Rattle.image_link.proofs.Nearness.{routines_near}
-use Rattle.image_link.specs.Routines.{routines}
-use Rattle.image_tables.specs.RoutinePlaces.{Placed, end_of, body_begin, site_of, placed}
-use Rattle.image_tables.specs.CodeInMemory.{image_base, HasText, links}
-use Rattle.image_tables.specs.Functions.{plan, rest_of, function_of}
+use Rattle.image_tables.specs.Functions.{plan, rest_of}
 use Rattle.image_tables.specs.FrameLaws.{IsFramed, FunctionsAreInMemory, FunctionsKeepTheRules}
 use Rattle.image_tables.proofs.CodeInMemory.{IsThere, there, code_length, routine_is_at}
 use Rattle.image_tables.proofs.Arguments.{arguments_inner}
 use Rattle.image_tables.proofs.Layouts.{size_of, sized}
 use Rattle.image_tables.proofs.Links.{links_near}
 use Rattle.image_tables.proofs.Rest.{with_size, IsFine, fine_inner, fine_both, body_fine, encodable_both, spelled_both}
-use Rattle.x64_emit.specs.Near.{IsNear}
 
 -- ---- plans
 

@@ -2,26 +2,19 @@
 use Rattle.std.proofs.Common.{◌≡◌, ℕ, suc, inl, ◌+◌, ◌-◌, ◌*◌, ◌/◌, ◌^◌, ◌<◌, true, false, ltb, leb, List, [], ◌∷◌, length, get_or, Some, refl, sym, ap, ◌∙◌, arith}
 use Rattle.std.specs.List.{AllByRecursion}
 use Rattle.std.proofs.lemmas.Bool.{lt-ltb, le-ltb, le-leb}
+use Rattle.image_tables.specs.Words.{Memory, Section, Image, Import, services, imported, ImageContents, image_of, sections_of, rdata_at, text_at, sizes_of, IsExecutableAt, LinearProgram, FitsProgram, text_begin, linked, routines, image_base}
 use Rattle.flat_memory.specs.declared.protection.Protection.{Protection}
 use Rattle.flat_memory.specs.Protections.{is_writable}
-use Rattle.flat_memory.specs.Memory.{Memory, may_write}
-use Rattle.pe_image.specs.Image.{Section, Image}
-use Rattle.pe_image.specs.Imports.{Import}
-use Rattle.pe_write.specs.ImportTables.{services, imported}
-use Rattle.pe_write.specs.Program.{ImageContents, image_of, sections_of, imports_of, rdata_at, text_at, sizes_of}
+use Rattle.flat_memory.specs.Memory.{may_write}
+use Rattle.pe_write.specs.Program.{imports_of}
 use Rattle.pe_write.proofs.Programs.{listed}
 use Rattle.host_model.specs.Loading.{section_of, mode_in, byte_in, stored_byte, with_slots, mapped}
 use Rattle.host_model.specs.Slots.{IsBeside}
 use Rattle.host_model.proofs.Slots.{slots-beside}
-use Rattle.frame_rules.specs.Bytes.{IsExecutableAt}
-use Rattle.linear_code.specs.Program.{LinearProgram}
-use Rattle.image_link.specs.Fits.{FitsProgram}
-use Rattle.image_link.specs.Linked.{text_begin, data_size, linked}
-use Rattle.image_link.specs.Routines.{routines}
+use Rattle.image_link.specs.Linked.{data_size}
 use Rattle.image_link.proofs.Images.{rdata_fits, has_places}
 use Rattle.image_link.proofs.Nearness.{routines_near}
 use Rattle.image_tables.proofs.Table.{is, rdata_is}
-use Rattle.image_tables.specs.CodeInMemory.{image_base}
 use Rattle.image_tables.specs.FrameLaws.{ImagesHaveText, TextsAreFixed}
 
 module _ (p : LinearProgram) (fits : FitsProgram p) where

@@ -3,24 +3,12 @@ use Rattle.std.proofs.Common.{◌≡◌, ℕ, ◌+◌, ◌-◌, ◌*◌, ◌/◌
 use Rattle.std.specs.Prelude.{◌||◌, if◌then◌else◌}
 use Rattle.std.specs.List.{flat_map}
 use Rattle.std.proofs.lemmas.Bool.{cases_lt}
-use Rattle.seh_num.specs.Widths.{if_set}
-use Rattle.pe_image.specs.Image.{Image}
-use Rattle.eh_tables.specs.declared.scope.ScopeRecord.{ScopeRecord}
+use Rattle.image_tables.specs.Words.{if_set, Image, ScopeRecord, Nothing, is_c_handler, unwind_bytes, Region, FrameLayout, info_of, taking_size, CSpecificHandler, RoutineView, SiteView, own_addresses, thunk_at, is_finally, has_except, has_finally, trailer, scope_records, scope_table, info_if, info_bytes, has_rows}
 use Rattle.eh_tables.specs.declared.unwind_info.Trailer.{Trailer}
-use Rattle.eh_tables.specs.declared.unwind_info.Trailer.TheVariants.{Nothing}
-use Rattle.eh_tables.specs.Handler.{is_c_handler}
 use Rattle.eh_tables.specs.ReadAgain.{IsUnwindInfo, HasTrailer, has_c_handler, parent_of}
 use Rattle.pe_image.specs.Numbers.{u16, u32}
-use Rattle.eh_tables.specs.Written.{slot, is_small, is_short, allocation, header, padded, unwind_bytes, trailer_bytes, scope_record_bytes, CanBeWritten, IsTrailer}
-use Rattle.linear_code.specs.declared.program.Region.{Region}
-use Rattle.frame_layout.specs.declared.frame.FrameLayout.{FrameLayout}
-use Rattle.frame_layout.specs.Layout.{info_of, taking_size}
+use Rattle.eh_tables.specs.Written.{slot, is_small, is_short, allocation, header, padded, trailer_bytes, scope_record_bytes, CanBeWritten, IsTrailer}
 use Rattle.frame_layout.proofs.Sizes.{takes_four, takes_seven, takes_thirteen, can_be_written}
-use Rattle.host_layout.specs.declared.imported.ImportedService.TheVariants.{CSpecificHandler}
-use Rattle.image_link.specs.Routines.{RoutineView}
-use Rattle.image_link.specs.Text.{SiteView, own_addresses, thunk_at}
-use Rattle.image_link.specs.Tables.{is_finally, has_except, has_finally, trailer, scope_records, scope_table, info_if, info_bytes}
-use Rattle.image_tables.specs.Entries.{has_rows}
 
 -- ---- what follows the codes
 

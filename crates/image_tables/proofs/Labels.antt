@@ -1,21 +1,11 @@
 -- Where the instructions of a body begin: each takes some bytes.
 use Rattle.std.proofs.Common.{ℕ, zero, suc, ◌+◌, ◌<◌, ◌≤◌, List, [], ◌∷◌, ◌++◌, length, Option, Some, None, arith}
-use Rattle.x64_instr.specs.declared.register.Reg.TheVariants.{Rax, Rcx, Rsp}
-use Rattle.x64_encode.specs.Chosen.{modrm, opcode_register}
-use Rattle.linear_code.specs.declared.slot.Slot.{Slot}
-use Rattle.linear_code.specs.declared.slot.Slot.TheVariants.{Local, Temporary}
-use Rattle.linear_code.specs.declared.instruction.Instruction.{Instruction}
+use Rattle.image_tables.specs.Words.{Rax, Rcx, Rsp, modrm, opcode_register, Slot, Local, Temporary, Instruction, Layout, size, sizes, before, fetched, temporary_at, local_at, fetch_local, keep_local, fetch, keep, operands_code, finish_code, compare_zero, jump_equal, test_code, finally_arguments, epilogue, template_size, body_size, label_list, address_or}
 use Rattle.linear_code.specs.declared.instruction.Instruction.TheVariants as instructions
-use Rattle.template_code.specs.declared.layout.Layout.{Layout}
-use Rattle.template_code.specs.Bytes.{size, sizes}
-use Rattle.template_code.specs.Operations.{before}
-use Rattle.template_code.specs.Slots.{fetched, put_back, temporary_at, local_at, fetch_local, keep_local, fetch, keep, operands_code, finish_code}
-use Rattle.template_code.specs.Jumps.{compare_zero, jump_equal, test_code, separator_code}
-use Rattle.template_code.specs.Calls.{clear_result, finally_arguments, epilogue}
-use Rattle.template_code.specs.Template.{template_size, body_size}
+use Rattle.template_code.specs.Slots.{put_back}
+use Rattle.template_code.specs.Jumps.{separator_code}
+use Rattle.template_code.specs.Calls.{clear_result}
 use Rattle.template_code.proofs.Sizes.{sizes_append, call_size, jump_size, passing_call_size}
-use Rattle.x64_emit.specs.Bodies.{label_list}
-use Rattle.x64_emit.specs.Linking.{address_or}
 
 -- ---- templates
 

@@ -2,12 +2,8 @@
 use Rattle.std.proofs.Common.{◌≡◌, ℕ, suc, ◌==◌, Bool, true, false, not, List, [], ◌∷◌, ◌++◌, map, Option, Some, None, refl}
 use Rattle.std.specs.Prelude.{slice_get, ◌&&◌}
 use Rattle.std.specs.List.{AllByRecursion}
-use Rattle.linear_code.specs.Program.{LinearFunction, LinearFunclet, LinearProgram}
-use Rattle.frame_layout.specs.declared.frame.FrameLayout.{FrameLayout}
-use Rattle.image_link.specs.Routines.{RoutineView, is_leaf, leaf_if, functions_from, funclet, routines}
-use Rattle.image_tables.specs.RoutinePlaces.{Placed, site_of, infos_begin, placed}
+use Rattle.image_tables.specs.Words.{LinearFunction, LinearFunclet, LinearProgram, FrameLayout, RoutineView, is_leaf, leaf_if, functions_from, funclet, routines, Placed, site_of, infos_begin, placed, first}
 use Rattle.image_tables.proofs.Lookups.{placed_has}
-use Rattle.image_link.specs.Linked.{first}
 
 abbrev pub size_of : Option FrameLayout → ℕ
 size_of None = 0

@@ -1,23 +1,16 @@
 -- What the code of a routine refers to is in the image.
 use Rattle.std.proofs.Common.{ℕ, ◌+◌, ◌≤◌, length, arith}
-use Rattle.c_operations.specs.declared.built_in.BuiltIn.{BuiltIn}
+use Rattle.image_tables.specs.Words.{BuiltIn, LinearProgram, FitsProgram, routines, entry_size, own_addresses, text_begin, linked, Placed, site_of, links, IsNear, MOST_IMAGE}
 use Rattle.c_operations.specs.declared.built_in.BuiltIn.TheVariants.{Put, Protect, RaiseException}
-use Rattle.linear_code.specs.Program.{LinearProgram}
 use Rattle.x64_emit.specs.Linking.{thunk_of}
-use Rattle.image_link.specs.Fits.{FitsProgram}
-use Rattle.image_link.specs.Routines.{routines}
-use Rattle.image_link.specs.Text.{entry_size, own_addresses, thunks_at}
-use Rattle.image_link.specs.Linked.{text_begin, linked}
+use Rattle.image_link.specs.Text.{thunks_at}
 use Rattle.image_link.proofs.Entries.{entry_small, routine_small, labels_near}
 use Rattle.image_link.proofs.Images.{site_near, has_places}
 use Rattle.image_link.proofs.Nearness.{routines_near}
-use Rattle.image_tables.specs.RoutinePlaces.{Placed, site_of}
 use Rattle.image_tables.proofs.RowBounds.{below_at}
-use Rattle.image_tables.specs.CodeInMemory.{links}
 use Rattle.image_tables.proofs.CodeInMemory.{IsThere}
 use Rattle.image_tables.proofs.Templates.{AreLinksNear}
-use Rattle.x64_emit.specs.Near.{IsNear, near_end}
-use Rattle.host_layout.specs.declared.limit.TheConstants.{MOST_IMAGE}
+use Rattle.x64_emit.specs.Near.{near_end}
 
 thunk_near : (text : ℕ) (f : BuiltIn) → text ≤ MOST_IMAGE → IsNear (thunk_of (thunks_at text) f)
 thunk_near text Put lt = omega arith

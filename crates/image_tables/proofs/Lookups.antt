@@ -3,15 +3,8 @@ use Rattle.std.proofs.Common.{◌≡◌, ℕ, zero, suc, ◌+◌, ◌<◌, ◌�
 use Rattle.std.specs.Prelude.{slice_get}
 use Rattle.std.specs.List.{AllByRecursion}
 use Rattle.std.proofs.lemmas.Bool.{and_from, and_left, and_right, lt-ltb, le-leb, lt-leb, le-ltb, false≢true}
-use Rattle.eh_tables.specs.Tables.{Entry, entry_or, holding}
-use Rattle.frame_layout.specs.declared.frame.FrameLayout.{FrameLayout}
-use Rattle.image_link.specs.Routines.{RoutineView}
-use Rattle.image_link.specs.Text.{SiteView, routine_size}
-use Rattle.image_link.specs.Tables.{info_bytes}
-use Rattle.image_link.specs.Linked.{first}
-use Rattle.image_link.specs.Routines.{routines}
-use Rattle.image_tables.specs.RoutinePlaces.{Placed, end_of, placed_from, site_of, infos_begin}
-use Rattle.image_tables.specs.Entries.{entry_of, entry_if, entries_of}
+use Rattle.image_tables.specs.Words.{Entry, holding, FrameLayout, RoutineView, SiteView, routine_size, info_bytes, first, routines, Placed, end_of, placed_from, site_of, infos_begin, entry_of, entry_if, entries_of}
+use Rattle.eh_tables.specs.Tables.{entry_or}
 use Rattle.image_tables.specs.TableLaws.{EntriesAreHeld, LeavesAreHeldByNone, ThunksAreHeldByNone}
 
 abbrev or_else : {A : Type 0} → A → Option A → A

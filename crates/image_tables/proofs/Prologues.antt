@@ -1,18 +1,9 @@
 -- How many bytes of a routine come before its body.
 use Rattle.std.proofs.Common.{◌≡◌, ℕ, ◌+◌, ◌<◌, ◌≤◌, Bool, true, false, leb, List, [], ◌∷◌, length, Option, Some, refl, sym, ap, ◌∙◌, arith}
-use Rattle.x64_instr.specs.declared.instruction.Instr.{Instr}
-use Rattle.x64_encode.specs.Chosen.{chosen}
-use Rattle.frame_rules.specs.Prologue.{bytes}
-use Rattle.frame_rules.specs.Plan.{allocating, spelled_by}
-use Rattle.frame_rules.specs.Bytes.{spell, prologue_code}
-use Rattle.frame_layout.specs.declared.frame.FrameLayout.{FrameLayout}
-use Rattle.frame_layout.specs.Layout.{plan_of, taking_size}
+use Rattle.image_tables.specs.Words.{Instr, chosen, bytes, spelled_by, spell, prologue_code, FrameLayout, plan_of, taking_size, size, sizes, RoutineView, IsRoutineNear, frame_code, argument_code, entry_size}
+use Rattle.frame_rules.specs.Plan.{allocating}
 use Rattle.frame_layout.proofs.Sizes.{code_is}
-use Rattle.template_code.specs.Bytes.{size, sizes}
 use Rattle.template_code.proofs.Sizes.{sizes_append}
-use Rattle.image_link.specs.Routines.{RoutineView}
-use Rattle.image_link.specs.Near.{IsRoutineNear}
-use Rattle.image_link.specs.Text.{frame_code, argument_code, entry_size}
 use Rattle.image_link.proofs.Entries.{entry_sizes}
 
 -- the sizes of fetched instructions

@@ -3,15 +3,9 @@ use Rattle.std.proofs.Common.{◌≡◌, ℕ, ◌+◌, ◌%◌, ◌==◌, Bool, 
 use Rattle.std.specs.Prelude.{◌&&◌, nat_lt}
 use Rattle.std.specs.List.{count_by}
 use Rattle.std.proofs.lemmas.List.Sums.{sum_by-cons}
-use Rattle.eh_tables.specs.declared.scope.ScopeRecord.{ScopeRecord}
-use Rattle.seh_num.specs.Widths.{if_set}
-use Rattle.linear_code.specs.declared.program.Region.{Region}
-use Rattle.linear_code.specs.declared.program.RegionKind.{RegionKind}
+use Rattle.image_tables.specs.Words.{ScopeRecord, if_set, Region, RegionKind, LinearProgram, is_finally, handler_address, site_of, handlers, is_always, funclet_in, named, funclet_begin, AreRows}
 use Rattle.linear_code.specs.declared.program.RegionKind.TheVariants as kinds
-use Rattle.linear_code.specs.Program.{LinearProgram}
-use Rattle.image_link.specs.Tables.{is_finally, handler_address}
-use Rattle.image_tables.specs.RoutinePlaces.{site_of}
-use Rattle.image_tables.specs.RegionRows.{is_finally_row, is_always_row, handlers, is_always, funclet_in, named, funclet_begin, AreRows}
+use Rattle.image_tables.specs.RegionRows.{is_finally_row, is_always_row}
 
 pub rows_both : (p : LinearProgram) (a b : List ScopeRecord) (rs qs : List Region) → AreRows p a rs
     → AreRows p b qs → AreRows p (a ++ b) (rs ++ qs)

@@ -3,28 +3,14 @@ use Rattle.std.proofs.Common.{◌≡◌, ◌≢◌, ℕ, zero, suc, ◌+◌, ◌
 use Rattle.std.specs.Prelude.{slice_get, ◌&&◌, nat_le}
 use Rattle.std.specs.List.{AllByRecursion}
 use Rattle.std.proofs.lemmas.Bool.{and_parts, ne_eqb, eqb-true}
-use Rattle.eh_tables.specs.Tables.{Entry}
-use Rattle.linear_code.specs.declared.program.Region.{Region}
-use Rattle.linear_code.specs.declared.program.RegionKind.{RegionKind}
+use Rattle.image_tables.specs.Words.{Entry, Region, RegionKind, Instruction, LinearFunction, LinearFunclet, LinearProgram, FrameLayout, Layout, body_size, label_list, address_or, function_bodies, funclet_bodies, RoutineView, is_leaf, leaf_if, functions_from, funclet, routines, IsRoutineNear, SiteView, routine_size, entry_size, bounds, is_finally, handler_address, jump_target, scope_records, info_bytes, Placed, end_of, placed_from, site_of, scopes_of, entry_if, entries_of, rows_of, regions_in, regions, is_always, AreRows}
 use Rattle.linear_code.specs.declared.program.RegionKind.TheVariants as kinds
-use Rattle.linear_code.specs.declared.instruction.Instruction.{Instruction}
-use Rattle.linear_code.specs.Program.{LinearBody, LinearFunction, LinearFunclet, LinearProgram}
-use Rattle.frame_layout.specs.declared.frame.FrameLayout.{FrameLayout}
-use Rattle.template_code.specs.declared.layout.Layout.{Layout}
-use Rattle.template_code.specs.Template.{body_size}
-use Rattle.x64_emit.specs.Bodies.{label_list}
-use Rattle.x64_emit.specs.Linking.{address_or}
-use Rattle.image_link.specs.Fits.{function_bodies, funclet_bodies}
-use Rattle.image_link.specs.Routines.{RoutineView, has_call, is_leaf, leaf_if, functions_from, funclet, routines}
-use Rattle.image_link.specs.Near.{IsRoutineNear}
-use Rattle.image_link.specs.Text.{SiteView, routine_size, entry_size, bounds}
-use Rattle.image_link.specs.Tables.{is_finally, handler_address, jump_target, scope_records, info_bytes}
+use Rattle.linear_code.specs.Program.{LinearBody}
+use Rattle.image_link.specs.Routines.{has_call}
 use Rattle.image_link.proofs.Bounds.{bounds_least}
-use Rattle.image_tables.specs.RoutinePlaces.{Placed, end_of, placed_from, site_of}
-use Rattle.image_tables.specs.Entries.{scopes_of, entry_if, entries_of}
 use Rattle.image_tables.proofs.Labels.{label_least}
 use Rattle.image_tables.proofs.Table.{framed_room}
-use Rattle.image_tables.specs.RegionRows.{rows_of, AreInOrder, regions_in, regions, is_always, AreRows}
+use Rattle.image_tables.specs.RegionRows.{AreInOrder}
 use Rattle.image_tables.proofs.RegionRows.{rows_both}
 
 -- ---- the rows of a routine

@@ -2,21 +2,12 @@
 use Rattle.std.proofs.Common.{◌≡◌, ℕ, zero, suc, ◌+◌, ◌^◌, ◌<◌, ◌≤◌, Bool, true, List, [], ◌∷◌, length, get_or, Ok, refl, ap, ◌∙◌, arith}
 use Rattle.std.specs.List.{AllByRecursion}
 use Rattle.std.proofs.lemmas.Bool.{lt-ltb}
-use Rattle.seh_num.specs.Answers.{◌>>=◌, unless}
+use Rattle.image_tables.specs.Words.{◌>>=◌, ScopeRecord, Region, RegionKind, Instruction, Layout, body_size, label_list, address_or, handler_address, jump_target, scope_record, scope_records, IsRange}
+use Rattle.seh_num.specs.Answers.{unless}
 use Rattle.eh_tables.specs.declared.refusal.TableErr.TheVariants as refusals
-use Rattle.eh_tables.specs.declared.scope.ScopeRecord.{ScopeRecord}
 use Rattle.eh_tables.specs.ReadAgain.{IsScopeRecord}
 use Rattle.eh_tables.specs.Scopes.{is_within, checked}
-use Rattle.linear_code.specs.declared.program.Region.{Region}
-use Rattle.linear_code.specs.declared.program.RegionKind.{RegionKind}
 use Rattle.linear_code.specs.declared.program.RegionKind.TheVariants as kinds
-use Rattle.linear_code.specs.declared.instruction.Instruction.{Instruction}
-use Rattle.template_code.specs.declared.layout.Layout.{Layout}
-use Rattle.template_code.specs.Template.{body_size}
-use Rattle.x64_emit.specs.Bodies.{label_list}
-use Rattle.x64_emit.specs.Linking.{address_or}
-use Rattle.image_link.specs.Tables.{handler_address, jump_target, scope_record, scope_records}
-use Rattle.image_tables.specs.RegionRanges.{IsRange}
 use Rattle.image_tables.proofs.Labels.{label_most, labels_rise}
 
 -- ---- rows that pass

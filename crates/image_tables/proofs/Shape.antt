@@ -4,25 +4,15 @@ use Rattle.std.specs.Prelude.{◌&&◌, nat_lt}
 use Rattle.std.specs.List.{AllByRecursion}
 use Rattle.std.proofs.lemmas.Bool.{ne_eqb, eq-eqb, false≢true, cases_lt}
 use Rattle.std.proofs.lemmas.List.{length-map, get_or-map}
-use Rattle.linear_code.specs.declared.program.Region.{Region}
+use Rattle.image_tables.specs.Words.{Region, LinearFunction, LinearFunclet, LinearProgram, FitsProgram, RoutineView, functions_from, funclet, routines, IsFrameNear, IsRoutineNear, routine_size, bounds, thunk_at, CSpecificHandler, has_except, has_finally, trailer, first, site_of, infos_begin, placed, entry_of, entries, AreDifferent, rows_of, handlers, regions, named, funclet_begin, AreRows}
 use Rattle.linear_code.specs.declared.program.FuncletKind.TheVariants.{Filter}
-use Rattle.linear_code.specs.Program.{LinearFunction, LinearFunclet, LinearProgram}
-use Rattle.image_link.specs.Fits.{FitsProgram}
-use Rattle.image_link.specs.Routines.{RoutineView, functions_from, nothing, funclet_frame, funclet, routines}
-use Rattle.image_link.specs.Near.{IsFrameNear, IsRoutineNear}
-use Rattle.image_link.specs.Text.{routine_size, bounds, thunk_at}
-use Rattle.host_layout.specs.declared.imported.ImportedService.TheVariants.{CSpecificHandler}
+use Rattle.image_link.specs.Routines.{nothing, funclet_frame}
 use Rattle.eh_tables.specs.Written.{trailer_flags}
-use Rattle.image_link.specs.Tables.{has_except, has_finally, trailer}
-use Rattle.image_link.specs.Linked.{first}
 use Rattle.image_link.proofs.Images.{no_routine}
 use Rattle.image_link.proofs.Nearness.{routines_near}
 use Rattle.x64_emit.proofs.Nearby.{all_at}
-use Rattle.image_tables.specs.RoutinePlaces.{site_of, infos_begin, placed}
-use Rattle.image_tables.specs.Entries.{entry_of, entries}
 use Rattle.image_tables.proofs.Lookups.{placed_has, entries_are_held}
 use Rattle.image_tables.proofs.Table.{framed_room}
-use Rattle.image_tables.specs.RegionRows.{AreDifferent, rows_of, handlers, regions, named, funclet_begin, AreRows}
 use Rattle.image_tables.specs.ShapeLaws.{BeginsEntry, HasShape, TablesHaveShape, HandlersDiffer, EntriesAreFlagged, FramesAreSmall}
 use Rattle.image_tables.proofs.RegionRows.{as_many, finally_count, always_count, handlers_are, searched_by, unwound_by}
 use Rattle.image_tables.proofs.RoutineRows.{AreFar, routines_bare, routines_regions, all_rows, in_order, bounds_rise, is_placed}

@@ -3,51 +3,32 @@ use Rattle.std.proofs.Common.{◌*◌, ◌≡◌, ℕ, zero, suc, ◌+◌, ◌%�
 use Rattle.std.specs.Prelude.{◌&&◌}
 use Rattle.std.specs.List.{AllByRecursion}
 use Rattle.std.proofs.lemmas.List.{map-append, length-map}
-use Rattle.pe_image.specs.Image.{Image, stored}
+use Rattle.image_tables.specs.Words.{Image, stored, is_c_handler, Table, Entry, or_none, ◌>>=◌, unwind_bytes, RaiseException, CSpecificHandler, LocalUnwind, Protect, Put, ImageContents, CanBeImage, sizes_of, text_at, rdata_at, xdata_at, Region, LinearFunction, LinearFunclet, LinearProgram, FrameLayout, info_of, spelled, thunk, distance, Instr, chosen, body_size, FitsProgram, RoutineView, is_leaf, leaf_if, functions_from, funclet, routines, IsFrameNear, IsRoutineNear, SiteView, routine_size, entry_size, own_addresses, thunk_at, routines_bytes, bounds, trailer, scope_record, scope_records, scope_table, info_if, info_bytes, first, linked, Placed, end_of, placed_from, site_of, infos_begin, placed, HasRanges, HasRegions, scopes_of, has_rows, entry_if, entries_of, entries, MOST_IMAGE}
 use Rattle.eh_tables.specs.declared.range.RuntimeFunction.{RuntimeFunction}
 use Rattle.eh_tables.specs.ReadAgain.{IsStoredAt, IsRuntimeFunction, WrittenEntry, HasScopes, IsEntryWritten, AreInOrder, as_read, ranges_of, info_written}
-use Rattle.eh_tables.specs.Handler.{is_c_handler}
-use Rattle.eh_tables.specs.Answer.{Table}
-use Rattle.eh_tables.specs.Tables.{Entry, Tables, directory, all_entries, or_none, tables}
+use Rattle.eh_tables.specs.Tables.{Tables, directory, all_entries, tables}
 use Rattle.eh_tables.specs.Tables as reading
-use Rattle.seh_num.specs.Answers.{◌>>=◌}
-use Rattle.eh_tables.specs.Written.{unwind_bytes, scope_bytes, table_bytes}
+use Rattle.eh_tables.specs.Written.{scope_bytes, table_bytes}
 use Rattle.eh_tables.proofs.TablesAgain.{reads_ranges}
 use Rattle.eh_tables.proofs.WholeAgain.{reads_table}
-use Rattle.host_layout.specs.declared.imported.ImportedService.TheVariants.{RaiseException, CSpecificHandler, LocalUnwind, Protect, Put}
 use Rattle.pe_write.specs.Program as images
-use Rattle.pe_write.specs.Program.{ImageContents, CanBeImage, sizes_of, text_at, rdata_at, xdata_at}
 use Rattle.pe_write.proofs.Programs.{listed}
-use Rattle.linear_code.specs.declared.program.Region.{Region}
-use Rattle.linear_code.specs.Program.{LinearFunction, LinearFunclet, LinearProgram}
-use Rattle.frame_layout.specs.declared.frame.FrameLayout.{FrameLayout}
-use Rattle.frame_layout.specs.Layout.{info_of}
-use Rattle.template_code.specs.Bytes.{spelled, thunk}
-use Rattle.template_code.specs.Jumps.{distance}
-use Rattle.x64_instr.specs.declared.instruction.Instr.{Instr}
-use Rattle.x64_encode.specs.Chosen.{chosen}
 use Rattle.template_code.specs.Probing.{check_stack}
-use Rattle.template_code.specs.Template.{body_size}
-use Rattle.image_link.specs.Fits.{FitsProgram}
-use Rattle.image_link.specs.Routines.{RoutineView, is_leaf, leaf_if, functions_from, funclet, routines}
-use Rattle.image_link.specs.Near.{IsFrameNear, IsRoutineNear}
-use Rattle.image_link.specs.Text.{SiteView, routine_size, entry_size, own_addresses, thunk_at, service_thunk, routines_bytes, bounds}
-use Rattle.image_link.specs.Tables.{trailer, scope_record, scope_records, scope_table, info_if, info_bytes_of, info_bytes, infos, infos_room, range_if, ranges}
-use Rattle.image_link.specs.Linked.{first, total, linked}
+use Rattle.image_link.specs.Text.{service_thunk}
+use Rattle.image_link.specs.Tables.{info_bytes_of, infos, infos_room, range_if, ranges}
+use Rattle.image_link.specs.Linked.{total}
 use Rattle.image_link.proofs.Bounds.{text_length}
 use Rattle.image_link.proofs.Images.{is_program, tables_fit, rdata_fits, has_places, no_routine}
 use Rattle.image_link.proofs.Infos.{info_small}
 use Rattle.image_link.proofs.Nearness.{routines_near}
-use Rattle.image_tables.specs.RoutinePlaces.{Placed, end_of, placed_from, site_of, infos_begin, placed}
-use Rattle.image_tables.specs.RegionRanges.{IsRange as IsRegionRange, HasRanges, HasRegions}
-use Rattle.image_tables.specs.Entries.{scopes_of, has_rows, unwind_of, entry_if, entries_of, entries}
+use Rattle.image_tables.specs.RegionRanges.{IsRange as IsRegionRange}
+use Rattle.image_tables.specs.Entries.{unwind_of}
 use Rattle.image_tables.specs.TableLaws.{TablesAreRead}
 use Rattle.image_tables.proofs.ImagePieces.{text_there, xdata_there, pdata_there}
 use Rattle.image_tables.proofs.Handlers.{handler_is_c, thunk_bytes}
 use Rattle.image_tables.proofs.RowBounds.{AreBelow, checked_is, rows_within, rows_small}
 use Rattle.image_tables.proofs.Infos.{is_trailer, has_trailer, no_parent, handled, taking_few, can_be, is_info, unwind_some, info_aligned}
 use Rattle.image_tables.proofs.Prologues.{entry_least}
-use Rattle.host_layout.specs.declared.limit.TheConstants.{MOST_IMAGE}
 
 -- ---- the entries as they are written
 

@@ -1,21 +1,12 @@
 -- Each machine instruction of a template that is no return is one of a body.
 use Rattle.std.proofs.Common.{ℕ, zero, suc, ◌+◌, ◌-◌, ◌*◌, ◌^◌, ◌<◌, [], ◌∷◌, ◌++◌, refl, arith}
-use Rattle.x64_instr.specs.declared.register.Reg.TheVariants.{Rax, Rcx}
-use Rattle.x64_encode.specs.Chosen.{modrm, opcode_register}
-use Rattle.c_operations.specs.declared.built_in.BuiltIn.{BuiltIn}
+use Rattle.image_tables.specs.Words.{Rax, Rcx, modrm, opcode_register, BuiltIn, Temporary, Instruction, Layout, size, sizes, before, work, temporary_at, fetch, keep, operands_code, finish_code, compare_zero, jump_equal, test_code, finally_arguments, Links, template, IsInstructionNear, IsNear}
 use Rattle.c_operations.specs.declared.field.Field.{Field}
 use Rattle.c_operations.specs.declared.field.Field.TheVariants.{ExceptionCode, ExceptionFlags, NumberParameters, ExceptionInformation}
-use Rattle.linear_code.specs.declared.slot.Slot.TheVariants.{Temporary}
-use Rattle.linear_code.specs.declared.instruction.Instruction.{Instruction}
 use Rattle.linear_code.specs.declared.instruction.Instruction.TheVariants as instructions
-use Rattle.template_code.specs.declared.layout.Layout.{Layout}
-use Rattle.template_code.specs.Bytes.{size, sizes}
-use Rattle.template_code.specs.Operations.{before, work}
-use Rattle.template_code.specs.Slots.{temporary_at, fetch, keep, operands_code, finish_code}
-use Rattle.template_code.specs.Jumps.{call, compare_zero, jump_equal, test_code}
-use Rattle.template_code.specs.Calls.{arguments_code, begin_call, call_code, passing_code, finally_arguments, field_load}
-use Rattle.template_code.specs.Template.{Links, template}
-use Rattle.x64_emit.specs.Near.{IsFieldNear, IsInstructionNear, IsNear}
+use Rattle.template_code.specs.Jumps.{call}
+use Rattle.template_code.specs.Calls.{arguments_code, begin_call, call_code, passing_code, field_load}
+use Rattle.x64_emit.specs.Near.{IsFieldNear}
 use Rattle.x64_emit.proofs.Nearby.{near_signed, test_small, arguments_small, passing_small}
 use Rattle.image_tables.specs.CodeInMemory.{IsReturn}
 use Rattle.image_tables.proofs.BodyInstructions.{AllInner, inner_both, signed, fetch_inner, fetch_second, keep_inner, before_inner, work_inner}

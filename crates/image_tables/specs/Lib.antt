@@ -9,3 +9,4 @@ pub mod Functions
 pub mod FrameLaws
 pub mod RegionRows
 pub mod ShapeLaws
+pub mod Words

@@ -2,21 +2,13 @@
 use Rattle.std.proofs.Common.{◌≡◌, ◌≤◌, ℕ, zero, suc, ◌+◌, [], subst, arith}
 use Rattle.std.specs.Prelude.{◌-◌, slice_get, Some}
 use Rattle.seh_num.specs.declared.event.Event.TheVariants as events
-use Rattle.c_checked.specs.Program.{Program, Function}
-use Rattle.linear_code.specs.Program.{LinearProgram, LinearFunction}
-use Rattle.linear_machine.specs.Frames.{deeper}
-use Rattle.linear_machine.specs.Unwinding.{begin_finally}
-use Rattle.linear_machine.specs.Searching.{begin_filter}
-use Rattle.linear_machine.specs.Run.{exec}
+use Rattle.lowering_follows.specs.Words.{Program, Function, LinearProgram, LinearFunction, deeper, begin_finally, begin_filter, exec, raise, expression_weight, lvalue_weight, optional_weight, statement_weight, statements_weight, FunctionPlaced}
 use Rattle.linear_machine.proofs.Stretch.{at, conf}
 use Rattle.linear_machine.proofs.SingleTurns.{stopped, shown_deep}
-use Rattle.linear_machine.specs.Searching.{raise}
-use Rattle.lowering_follows.specs.Weights.{expression_weight, lvalue_weight, optional_weight, statement_weight, statements_weight}
 use Rattle.lowering_follows.proofs.TaskClaims.{Runs, shown_more, shown_none, shown_raise}
 use Rattle.lowering_follows.proofs.TaskSteps.{eval_next, locate_next, raised_next, retry_next, filter_next}
 use Rattle.lowering_follows.proofs.BodyClaims.{BodyRuns}
 use Rattle.lowering_follows.proofs.BodyNext.{body_next}
-use Rattle.lowering_follows.specs.StatementPlaces.{FunctionPlaced}
 use Rattle.lowering_follows.proofs.Functions.{call_runs}
 
 module _ (program : Program) (linear : LinearProgram) (rate body : ℕ)

@@ -3,41 +3,19 @@
 use Rattle.std.proofs.Common.{◌≡◌, ◌⊎◌, inl, inr, ◌≤◌, ℕ, ◌+◌, List, [], ◌∷◌, length, refl, ◌∙◌, arith}
 use Rattle.std.proofs.lemmas.Bool.{or_left}
 use Rattle.std.specs.Prelude.{◌-◌, Bool, true, false, Option, Some, None}
-use Rattle.c_checked.specs.Expression.{Expression}
-use Rattle.c_checked.specs.Statement.{Statement, Statements}
-use Rattle.c_checked.specs.Program.{Program}
-use Rattle.source_meaning.specs.State.{State, Outcome, with_value}
-use Rattle.source_meaning.specs.Tasks.{Context, Eval, Run, ForIteration, DoIteration, TryBody, RunFinally}
-use Rattle.source_meaning.specs.Expressions.{no_exception}
-use Rattle.source_meaning.specs.Meaning.{within}
-use Rattle.linear_code.specs.declared.slot.Slot.TheVariants.{Temporary}
+use Rattle.lowering_follows.specs.Words.{Expression, Statement, Statements, Program, State, Outcome, with_value, Context, Eval, Run, ForIteration, DoIteration, TryBody, RunFinally, no_exception, within, Temporary, Region, LinearProgram, BodyName, FuncletBody, body_of, Item, Store, Configuration, Seen, Next, pick, deeper, holds, begin_finally, unwind_body, end_finally, end_body, instruction_in, Names, LoweringContext, OfFilter, Nowhere, Jumps, Unwinds, expression_size, statement_size, statements_size, statement_notes, statements_notes, expression_code, ExpressionFits, expression_weight, optional_weight, statement_weight, statements_weight, HasAt, Placed, AllPlaced, ForPlaced, DoPlaced, FinallyPlaced, for_end, do_end}
 use Rattle.linear_code.specs.declared.instruction.Instruction.TheVariants as instructions
-use Rattle.linear_code.specs.declared.program.Region.{Region}
-use Rattle.linear_code.specs.Program.{LinearProgram}
-use Rattle.linear_machine.specs.Frames.{BodyName, FuncletBody, body_of, Item, Store, Configuration, Seen, Next, pick, deeper}
 use Rattle.linear_machine.specs.Frames as machine
-use Rattle.linear_machine.specs.Regions.{holds, leads_to, stops}
-use Rattle.linear_machine.specs.Unwinding.{begin_finally, arrive, leave_region, unwind_body}
-use Rattle.linear_machine.specs.Instructions.{end_finally, end_body}
-use Rattle.linear_machine.specs.Run.{instruction_in}
+use Rattle.linear_machine.specs.Regions.{leads_to, stops}
+use Rattle.linear_machine.specs.Unwinding.{arrive, leave_region}
 use Rattle.linear_machine.proofs.Stretch.{at, Site, conf, Way, Never, To, Out, Ways, Kept, Price, price, Join, unwound, Claim, value_ways, normal_ways}
 use Rattle.linear_machine.proofs.StretchJoins.{then_value, claim_kept}
 use Rattle.linear_machine.proofs.Walks.{Around, around_part, IsExcept, except_left, lands}
-use Rattle.lowering_expressions.specs.declared.scope.Names.{Names}
-use Rattle.lowering_expressions.specs.declared.scope.LoweringContext.{LoweringContext}
-use Rattle.lowering_expressions.specs.declared.scope.ExceptionSource.TheVariants.{OfFilter}
-use Rattle.lowering_expressions.specs.declared.scope.Way.TheVariants.{Nowhere, Jumps, Unwinds}
 use Rattle.lowering_expressions.specs.declared.scope.Way as jumps
-use Rattle.lowering_sizes.specs.Sizes.{expression_size, statement_size, statements_size, statement_notes, statements_notes}
-use Rattle.lowering_expressions.specs.Expressions.{expression_code}
-use Rattle.lowering_follows.specs.Fits.{ExpressionFits}
-use Rattle.lowering_follows.specs.Weights.{expression_weight, optional_weight, statement_weight, statements_weight}
 use Rattle.lowering_follows.proofs.Stores.{Shape, NotesKept, everywhere, below_slot, kept_itself, kept_through, kept_fewer}
-use Rattle.lowering_follows.specs.Places.{HasAt}
 use Rattle.lowering_follows.proofs.Environments.{KeptFrom, Env, env_later, env_among}
 use Rattle.lowering_follows.proofs.TaskClaims.{pushed, Within, Runs}
 use Rattle.lowering_follows.proofs.Raises.{IsFunclet}
-use Rattle.lowering_follows.specs.StatementPlaces.{Placed, AllPlaced, ForPlaced, DoPlaced, FinallyPlaced, for_end, do_end}
 
 -- ---- ways out
 

@@ -2,33 +2,17 @@
 use Rattle.std.proofs.Common.{◌≡◌, ◌≤◌, ℕ, zero, suc, ◌+◌, List, [], ◌∷◌, ◌++◌, length, refl, ap, sym, subst, ◌∙◌, arith}
 use Rattle.std.specs.Prelude.{◌-◌, Bool, Some, None}
 use Rattle.seh_num.specs.declared.event.Event.TheVariants as events
-use Rattle.c_checked.specs.Statement.{Statements}
-use Rattle.c_checked.specs.Program.{Program}
-use Rattle.source_meaning.specs.State.{State, Value, Normal, Returned, Broke, Continued, LeftTry, Target, End, Outcome, Gives, emit, hold, let_go, and_then}
-use Rattle.source_meaning.specs.Tasks.{Context, Run, ForIteration, DoIteration, TryBody, RunFinally}
-use Rattle.source_meaning.specs.Expressions.{of_test, no_exception, all}
-use Rattle.source_meaning.specs.Meaning.{perform, within}
+use Rattle.lowering_follows.specs.Words.{Statements, Program, State, Value, Normal, Returned, Broke, Continued, LeftTry, Target, End, Outcome, Gives, emit, hold, let_go, and_then, Context, Run, ForIteration, DoIteration, TryBody, RunFinally, of_test, no_exception, all, perform, within, LinearProgram, FuncletBody, Item, Store, Configuration, Finished, with_some, set_local, local_of, deeper, begin_finally, end_funclet, end_finally, exec, Names, finally_names, finally_scope, statement_size, statements_size, statements_notes, expression_weight, optional_weight, statement_weight, statements_weight, HasAt, HasFunclet, FinallyPlaced, for_end, do_end}
 use Rattle.linear_code.specs.declared.slot.Slot.TheVariants.{Local}
 use Rattle.linear_code.specs.declared.instruction.Instruction.TheVariants as instructions
 use Rattle.linear_code.specs.declared.program.FuncletKind.TheVariants as kinds
-use Rattle.linear_code.specs.Program.{LinearProgram}
-use Rattle.linear_machine.specs.Frames.{FuncletBody, Item, Store, Configuration, Finished, with_some, set_local, local_of, deeper}
-use Rattle.linear_machine.specs.Unwinding.{begin_finally}
-use Rattle.linear_machine.specs.Instructions.{end_funclet, end_finally}
-use Rattle.linear_machine.specs.Run.{exec}
 use Rattle.linear_machine.proofs.Stretch.{Part, at, Site, conf, Ways, Kept, price, Targets, Claim, normal_ways}
 use Rattle.linear_machine.proofs.StretchJoins.{more, reaches_after, targets_more, finishes_more, stops_more}
 use Rattle.linear_machine.proofs.SingleTurns.{stepped, fetch, prefix_self, sooner, counted_claim, deep_claim, shown_deep}
-use Rattle.lowering_expressions.specs.declared.scope.Names.{Names}
-use Rattle.lowering_expressions.specs.Scope.{finally_names, finally_scope}
-use Rattle.lowering_sizes.specs.Sizes.{statement_size, statements_size, statements_notes}
-use Rattle.lowering_follows.specs.Weights.{expression_weight, optional_weight, statement_weight, statements_weight}
 use Rattle.lowering_follows.proofs.Stores.{Shape}
-use Rattle.lowering_follows.specs.Places.{HasAt}
 use Rattle.lowering_follows.proofs.Places.{has_at}
 use Rattle.lowering_follows.proofs.TaskClaims.{Runs, shown_more, shown_none}
 use Rattle.lowering_follows.proofs.Raises.{targets_out, IsFunclet}
-use Rattle.lowering_follows.specs.StatementPlaces.{HasFunclet, FinallyPlaced, for_end, do_end}
 use Rattle.lowering_follows.proofs.BodyClaims.{finally_site, statement_ways, Stays, Surroundings, BodyRuns}
 use Rattle.lowering_follows.proofs.BodySequences.{all_runs}
 use Rattle.lowering_follows.proofs.BodySteps.{for_runs, do_runs}

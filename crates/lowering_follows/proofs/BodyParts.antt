@@ -3,39 +3,23 @@ use Rattle.std.proofs.Common.{◌≡◌, ◌<◌, ◌≤◌, ℕ, zero, suc, ◌
 use Rattle.std.specs.Prelude.{set, Option, Some, None}
 use Rattle.c_operations.specs.declared.operation.Operation.TheVariants as operations
 use Rattle.c_operations.specs.declared.operation.Pure.TheVariants as pures
-use Rattle.c_checked.specs.Expression.{Expression}
-use Rattle.c_checked.specs.Program.{Program}
-use Rattle.source_meaning.specs.State.{State, Value, Normal, Returned, Broke, Continued, LeftTry, Target, End, Outcome, Gives}
+use Rattle.lowering_follows.specs.Words.{Expression, Program, State, Value, Normal, Returned, Broke, Continued, LeftTry, Target, End, Outcome, Gives, Context, optional, in_loop, within, Temporary, Compute, Separator, LinearProgram, Store, Finished, with_some, set_local, end_body, exec, LoweringContext, Nowhere, Jumps, Unwinds, expression_size, discarded_size, declared_size, copy, expression_code, jump_code, return_code, leave_code, discarded_code, expression_weight, optional_weight, HasAt, IsWay, IsPlace, OptionalFits, DeclaredPlaced}
 use Rattle.source_meaning.specs.State as model
-use Rattle.source_meaning.specs.Tasks.{Context}
-use Rattle.source_meaning.specs.Statements.{optional, declare, in_loop}
-use Rattle.source_meaning.specs.Meaning.{within}
-use Rattle.linear_code.specs.declared.slot.Slot.TheVariants.{Temporary, Local}
+use Rattle.source_meaning.specs.Statements.{declare}
+use Rattle.linear_code.specs.declared.slot.Slot.TheVariants.{Local}
 use Rattle.linear_code.specs.declared.instruction.Instruction.TheVariants as instructions
-use Rattle.linear_code.specs.declared.instruction.Instruction.TheVariants.{Compute, LocalUnwind, Separator}
-use Rattle.linear_code.specs.Program.{LinearProgram}
-use Rattle.linear_machine.specs.Frames.{Store, Finished, with_some, set_local}
-use Rattle.linear_machine.specs.Instructions.{end_body}
-use Rattle.linear_machine.specs.Run.{exec}
+use Rattle.linear_code.specs.declared.instruction.Instruction.TheVariants.{LocalUnwind}
 use Rattle.linear_machine.proofs.Stretch.{Part, at, Site, conf, Ways, Price, price, Join, Arrives, Claim, first_ways, joins}
 use Rattle.linear_machine.proofs.StretchJoins.{Passes, Joined, more, after, arrives_more, targets_more, finishes_more, stops_more}
 use Rattle.linear_machine.proofs.SingleTurns.{first, stepped, still, fetch, prefix_self}
-use Rattle.lowering_expressions.specs.declared.scope.LoweringContext.{LoweringContext}
-use Rattle.lowering_expressions.specs.declared.scope.Way.TheVariants.{Nowhere, Jumps, Unwinds}
 use Rattle.lowering_expressions.specs.declared.scope.Way as jumps
 use Rattle.lowering_expressions.specs.Scope as scopes
-use Rattle.lowering_sizes.specs.Sizes.{expression_size, discarded_size, declared_size}
-use Rattle.lowering_expressions.specs.Expressions.{copy, expression_code}
-use Rattle.seh_ir.specs.Statements.{jump_code, return_code, leave_code, discarded_code}
-use Rattle.lowering_follows.specs.Weights.{expression_weight, optional_weight}
 use Rattle.lowering_follows.proofs.Stores.{Shape, at_list, below_slot, local_set_alike, kept_set, kept_through}
-use Rattle.lowering_follows.specs.Places.{HasAt}
 use Rattle.lowering_follows.proofs.Places.{has_front, has_after}
 use Rattle.lowering_follows.proofs.Lengths.{expression_length}
 use Rattle.lowering_follows.proofs.TaskClaims.{Runs}
 use Rattle.lowering_follows.proofs.Turns.{put_local_turn, jump_turn}
 use Rattle.lowering_follows.proofs.Raises.{unwound_is}
-use Rattle.lowering_follows.specs.StatementPlaces.{IsWay, IsPlace, OptionalFits, DeclaredPlaced}
 use Rattle.lowering_follows.proofs.BodyClaims.{own_target, exit_way, jump_way, leave_way, statement_ways, Stays, Surroundings, BodyRuns, statement_eval}
 
 set_again : (xs : List ℕ) (x v : ℕ) → set (set xs x v) x v ≡ set xs x v

@@ -1,22 +1,11 @@
 -- Statements in order.
 use Rattle.std.proofs.Common.{◌≡◌, ◌≤◌, ℕ, ◌+◌, List, [], refl, subst, arith}
 use Rattle.std.specs.Prelude.{max}
-use Rattle.c_checked.specs.Statement.{Statements, Empty, Then}
-use Rattle.c_checked.specs.Program.{Program}
-use Rattle.source_meaning.specs.State.{State, Normal, Outcome, Gives, and_then}
-use Rattle.source_meaning.specs.Tasks.{Context, Run}
-use Rattle.source_meaning.specs.Expressions.{all}
-use Rattle.source_meaning.specs.Meaning.{within}
-use Rattle.linear_code.specs.Program.{LinearProgram}
-use Rattle.linear_machine.specs.Frames.{Store}
+use Rattle.lowering_follows.specs.Words.{Statements, Empty, Then, Program, State, Normal, Outcome, Gives, and_then, Context, Run, all, within, LinearProgram, Store, LoweringContext, statement_size, statements_size, statements_notes, statement_notes, statement_weight, statements_weight, AllPlaced}
 use Rattle.linear_machine.proofs.Stretch.{at, Site, conf, Ways, Price, price, Claim, joins}
 use Rattle.linear_machine.proofs.StretchJoins.{then_normal}
 use Rattle.linear_machine.proofs.SingleTurns.{still, prefix_self}
-use Rattle.lowering_expressions.specs.declared.scope.LoweringContext.{LoweringContext}
-use Rattle.lowering_sizes.specs.Sizes.{statement_size, statements_size, statements_notes, statement_notes}
-use Rattle.lowering_follows.specs.Weights.{statement_weight, statements_weight}
 use Rattle.lowering_follows.proofs.Stores.{Shape}
-use Rattle.lowering_follows.specs.StatementPlaces.{AllPlaced}
 use Rattle.lowering_follows.proofs.BodyClaims.{Inner, inner_part, statement_ways, Stays, Surroundings, surroundings_less, BodyRuns}
 
 pub max_left : (a b : ℕ) → a ≤ max a b

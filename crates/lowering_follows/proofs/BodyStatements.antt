@@ -1,36 +1,19 @@
 -- Statements, after their step.
 use Rattle.std.proofs.Common.{◌≡◌, ◌≤◌, ℕ, ◌+◌, List, [], ◌∷◌, length, refl, sym, subst, arith}
 use Rattle.std.specs.Prelude.{◌-◌, max, nat_eq, Option, Some, None}
-use Rattle.c_checked.specs.Expression.{Expression}
-use Rattle.c_checked.specs.Statement.{Declared, Filter, Statement, Declare, Block, Evaluate, If, IfElse, For, DoWhile, Return, Break, Continue, Leave, TryExcept, TryFinally, Statements}
-use Rattle.c_checked.specs.Program.{Program}
-use Rattle.source_meaning.specs.State.{Exception, State, Normal, Returned, Outcome, Gives, choose, and_then}
-use Rattle.source_meaning.specs.Tasks.{Context, Handler, Run, ForIteration, DoIteration, TryBody, RunFinally}
-use Rattle.source_meaning.specs.Expressions.{all}
-use Rattle.source_meaning.specs.Statements.{optional, declare_each, landing, finally_after, statement}
-use Rattle.source_meaning.specs.Meaning.{within}
-use Rattle.linear_code.specs.declared.slot.Slot.TheVariants.{Temporary}
-use Rattle.linear_code.specs.declared.instruction.Instruction.TheVariants.{JumpIfZero}
-use Rattle.linear_code.specs.declared.program.Region.{Region}
+use Rattle.lowering_follows.specs.Words.{Expression, Declared, Filter, Statement, Declare, Block, Evaluate, If, IfElse, For, DoWhile, Return, Break, Continue, Leave, TryExcept, TryFinally, Statements, Program, Exception, State, Normal, Returned, Outcome, Gives, choose, and_then, Context, Handler, Run, ForIteration, DoIteration, TryBody, RunFinally, all, optional, landing, finally_after, within, Temporary, JumpIfZero, Region, LinearProgram, BodyName, Store, set_local, LoweringContext, except_names, in_try, in_except, in_guarded, expression_size, discarded_size, declared_size, all_declared_size, returned_size, statement_size, statements_size, statement_notes, statements_notes, except_kind, region, expression_code, expression_weight, optional_weight, statement_weight, statements_weight, AllDeclaredPlaced, Placed, for_end, do_end}
+use Rattle.source_meaning.specs.Statements.{declare_each, statement}
 use Rattle.linear_code.specs.declared.program.RegionKind.TheVariants as regions
-use Rattle.linear_code.specs.Program.{LinearProgram}
-use Rattle.linear_machine.specs.Frames.{BodyName, Store, set_local}
 use Rattle.linear_machine.proofs.Stretch.{at, Site, conf, Ways, Price, price, found, joins}
 use Rattle.linear_machine.proofs.StretchJoins.{more, then_normal}
 use Rattle.linear_machine.proofs.SingleTurns.{chosen}
-use Rattle.lowering_expressions.specs.declared.scope.LoweringContext.{LoweringContext}
-use Rattle.lowering_expressions.specs.Scope.{except_names, in_try, in_except, in_guarded}
-use Rattle.lowering_sizes.specs.Sizes.{expression_size, discarded_size, declared_size, all_declared_size, returned_size, statement_size, statements_size, statement_notes, statements_notes}
-use Rattle.seh_ir.specs.Regions.{except_kind, region}
-use Rattle.lowering_expressions.specs.Expressions.{expression_code}
-use Rattle.lowering_follows.specs.Weights.{expression_weight, optional_weight, declared_weight, all_declared_weight, statement_weight, statements_weight}
+use Rattle.lowering_follows.specs.Weights.{declared_weight, all_declared_weight}
 use Rattle.lowering_follows.proofs.Stores.{Shape, Alike, below_slot}
 use Rattle.lowering_follows.proofs.Places.{has_front, has_after}
 use Rattle.lowering_follows.proofs.Lengths.{expression_length}
 use Rattle.lowering_follows.proofs.Turns.{constant_turn, jump_turn, test_turn}
 use Rattle.lowering_follows.proofs.TaskClaims.{Runs}
 use Rattle.lowering_follows.proofs.Environments.{same_length}
-use Rattle.lowering_follows.specs.StatementPlaces.{AllDeclaredPlaced, Placed, for_end, do_end}
 use Rattle.lowering_follows.proofs.BodyClaims.{Inner, inner_part, Stays, Surroundings, surroundings_less, BodyRuns, statement_eval}
 use Rattle.lowering_follows.proofs.BodySequences.{max_left, max_right, all_runs}
 use Rattle.lowering_follows.proofs.BodyParts.{Ks, S, G, ends_at, continue_from, here, normal_then, discard_then, leaves_by, breaks_by, ends_try, declared_runs}

@@ -1,33 +1,18 @@
 -- Statements, and iterations of loops, after their step.
 use Rattle.std.proofs.Common.{◌≡◌, inl, ◌≤◌, ℕ, ◌+◌, List, [], ◌∷◌, refl, sym, arith}
 use Rattle.std.specs.Prelude.{nat_eq, Option, Some, None}
-use Rattle.c_checked.specs.Expression.{Expression}
-use Rattle.c_checked.specs.Statement.{Statement}
-use Rattle.c_checked.specs.Program.{Program}
-use Rattle.source_meaning.specs.State.{State, Normal, Outcome, Gives, choose, with_value}
-use Rattle.source_meaning.specs.Tasks.{Context, Eval, Run, ForIteration, DoIteration}
-use Rattle.source_meaning.specs.Statements.{optional, in_loop, for_iteration, do_iteration}
-use Rattle.source_meaning.specs.Meaning.{within}
-use Rattle.linear_code.specs.declared.slot.Slot.TheVariants.{Temporary}
-use Rattle.linear_code.specs.declared.instruction.Instruction.TheVariants.{JumpIfZero}
-use Rattle.linear_code.specs.declared.program.Region.{Region}
-use Rattle.linear_code.specs.Program.{LinearProgram}
-use Rattle.linear_machine.specs.Frames.{BodyName, Store}
+use Rattle.lowering_follows.specs.Words.{Expression, Statement, Program, State, Normal, Outcome, Gives, choose, with_value, Context, Eval, Run, ForIteration, DoIteration, optional, in_loop, within, Temporary, JumpIfZero, Region, LinearProgram, BodyName, Store, LoweringContext, expression_size, discarded_size, condition_size, statement_size, statement_notes, expression_code, expression_weight, optional_weight, statement_weight, ForPlaced, DoPlaced, for_end, do_end}
+use Rattle.source_meaning.specs.Statements.{for_iteration, do_iteration}
 use Rattle.linear_machine.proofs.Stretch.{at, Site, conf, Ways, Price, price, joins}
 use Rattle.linear_machine.proofs.StretchJoins.{more}
 use Rattle.linear_machine.proofs.SingleTurns.{chosen}
 use Rattle.linear_machine.proofs.Walks.{Around, around_part, holds_yes}
-use Rattle.lowering_expressions.specs.declared.scope.LoweringContext.{LoweringContext}
 use Rattle.lowering_expressions.specs.Scope as scopes
-use Rattle.lowering_sizes.specs.Sizes.{expression_size, discarded_size, condition_size, statement_size, statement_notes}
-use Rattle.lowering_expressions.specs.Expressions.{expression_code}
-use Rattle.lowering_follows.specs.Weights.{expression_weight, optional_weight, statement_weight}
 use Rattle.lowering_follows.proofs.Stores.{Shape}
 use Rattle.lowering_follows.proofs.Places.{has_front, has_after}
 use Rattle.lowering_follows.proofs.Lengths.{expression_length}
 use Rattle.lowering_follows.proofs.Turns.{jump_turn, test_turn}
 use Rattle.lowering_follows.proofs.TaskClaims.{Runs}
-use Rattle.lowering_follows.specs.StatementPlaces.{ForPlaced, DoPlaced, for_end, do_end}
 use Rattle.lowering_follows.proofs.BodyClaims.{Lands, Inner, exit_part, Surroundings, BodyRuns, statement_eval}
 use Rattle.lowering_follows.proofs.BodyParts.{Ks, S, G, starts_at, continue_from, separator_turn, here, discard_then, loop_ends}
 

@@ -4,53 +4,26 @@ use Rattle.std.proofs.lemmas.Bool.{eq-eqb}
 use Rattle.std.proofs.lemmas.List.{length_push, take_at, drop_at}
 use Rattle.std.specs.Prelude.{Bool, take, nat_eq, get_or, slice_get, if◌then◌else◌, Some, None}
 use Rattle.std.specs.Prelude.{is_some}
-use Rattle.seh_num.specs.declared.width.Width.TheVariants.{W64}
+use Rattle.lowering_follows.specs.Words.{W64, Arguments, Done, Program, State, Value, Outcome, Gives, Context, of_test, within, Instruction, LinearProgram, Store, Seen, exec, Names, expression_size, expression_code, node_code, NodeFits, expression_weight, node_weight, HasAt, W32, signed, BuiltIn, Put, Protect, RaiseException, Function, Exception, set_memory, emit, and_then, Raise, enter, LinearFunction, Waits, deeper, with_some, raise, count_of, begin_function, arguments_size, argument_count, arguments_code, ArgumentsFit}
 use Rattle.c_checked.specs.Expression as nodes
-use Rattle.c_checked.specs.Expression.{Arguments, Done, Next}
-use Rattle.c_checked.specs.Program.{Program}
-use Rattle.source_meaning.specs.State.{State, Value, Outcome, Gives}
-use Rattle.source_meaning.specs.Tasks.{Context}
-use Rattle.source_meaning.specs.Expressions.{of_test}
-use Rattle.source_meaning.specs.Meaning.{within}
-use Rattle.linear_code.specs.declared.instruction.Instruction.{Instruction}
-use Rattle.linear_code.specs.Program.{LinearProgram}
-use Rattle.linear_machine.specs.Frames.{Store, Seen}
-use Rattle.linear_machine.specs.Run.{exec}
+use Rattle.c_checked.specs.Expression.{Next}
 use Rattle.linear_machine.proofs.Stretch.{Part, Site, conf, price, joins}
 use Rattle.linear_machine.proofs.StretchJoins.{more}
-use Rattle.lowering_expressions.specs.declared.scope.Names.{Names}
-use Rattle.lowering_sizes.specs.Sizes.{expression_size}
-use Rattle.lowering_expressions.specs.Expressions.{expression_code, node_code}
-use Rattle.lowering_follows.specs.Fits.{NodeFits}
-use Rattle.lowering_follows.specs.Weights.{expression_weight, node_weight}
 use Rattle.lowering_follows.proofs.Stores.{Shape}
-use Rattle.lowering_follows.specs.Places.{HasAt}
 use Rattle.lowering_follows.proofs.Places.{has_at, has_front, has_after}
 use Rattle.lowering_follows.proofs.Lengths.{expression_length}
 use Rattle.lowering_follows.proofs.TaskClaims.{pushed, Around, Runs}
 use Rattle.lowering_follows.proofs.NodeParts.{Kp, Wv, From, from_at, here_value}
 use Rattle.lowering_follows.proofs.Nodes.{NodeRuns, operand_runs}
 use Rattle.seh_num.specs.declared.event.Event.TheVariants as events
-use Rattle.seh_num.specs.declared.width.Width.TheVariants.{W32}
-use Rattle.seh_num.specs.Widths.{signed}
 use Rattle.flat_memory.specs.Memory.{protected, rights_asked}
-use Rattle.c_operations.specs.declared.built_in.BuiltIn.{BuiltIn}
-use Rattle.c_operations.specs.declared.built_in.BuiltIn.TheVariants.{Put, Protect, RaiseException}
-use Rattle.c_checked.specs.Program.{Function}
-use Rattle.source_meaning.specs.State.{Exception, set_memory, emit, and_then}
-use Rattle.source_meaning.specs.Tasks.{Raise}
-use Rattle.source_meaning.specs.Expressions.{raised, each, enter, call_built_in}
+use Rattle.source_meaning.specs.Expressions.{raised, each, call_built_in}
 use Rattle.linear_code.specs.declared.instruction.Instruction.TheVariants.{Call, CallBuiltIn}
-use Rattle.linear_code.specs.Program.{LinearFunction}
-use Rattle.linear_machine.specs.Frames.{AfterCall, Waits, deeper, with_some, last_temporaries}
-use Rattle.linear_machine.specs.Searching.{raise}
-use Rattle.linear_machine.specs.Instructions.{count_of, begin_function, waiting, built_in}
+use Rattle.linear_machine.specs.Frames.{AfterCall, last_temporaries}
+use Rattle.linear_machine.specs.Instructions.{waiting, built_in}
 use Rattle.linear_machine.proofs.Stretch.{frame_of}
 use Rattle.linear_machine.proofs.StretchJoins.{then_plain}
 use Rattle.linear_machine.proofs.SingleTurns.{fetch, first, stepped, prefix_self}
-use Rattle.lowering_sizes.specs.Sizes.{arguments_size}
-use Rattle.lowering_expressions.specs.Expressions.{argument_count, arguments_code}
-use Rattle.lowering_follows.specs.Fits.{ArgumentsFit}
 use Rattle.lowering_follows.specs.Weights.{arguments_weight}
 use Rattle.lowering_follows.proofs.Stores.{memory_alike}
 

@@ -2,31 +2,16 @@
 use Rattle.std.proofs.Common.{◌≡◌, ◌≤◌, ℕ, ◌+◌, List, [], ◌∷◌, ◌++◌, length, refl, ap, sym, subst, ◌∙◌, arith, append_assoc}
 use Rattle.std.proofs.lemmas.List.{length_push}
 use Rattle.std.specs.Prelude.{Bool, Some}
-use Rattle.c_operations.specs.declared.operation.Operation.{Operation}
+use Rattle.lowering_follows.specs.Words.{Operation, Conversion, Expression, Lvalue, Local, Global, Indirection, Element, Program, State, Value, Outcome, Gives, with_value, Context, Eval, converted, operate, read, write, within, Temporary, Instruction, LinearProgram, Store, with_temporary, Names, address_count, read_size, conversion_size, expression_size, locate_size, node_size, constant, combine, copy, conversion_code, expression_code, read_code, write_code, locate_code, node_code, NodeFits, expression_weight, lvalue_weight, node_weight, HasAt}
 use Rattle.c_operations.specs.declared.operation.Pure.TheVariants as pures
-use Rattle.c_checked.specs.declared.expression.Conversion.{Conversion}
 use Rattle.c_checked.specs.declared.expression.Fixity.{Fixity}
 use Rattle.c_checked.specs.declared.expression.Fixity.TheVariants.{Postfix, Prefix}
 use Rattle.c_checked.specs.Expression as nodes
-use Rattle.c_checked.specs.Expression.{Expression, Lvalue, Local, Global, Indirection, Element}
-use Rattle.c_checked.specs.Program.{Program}
-use Rattle.source_meaning.specs.State.{State, Value, Outcome, Gives, with_value}
-use Rattle.source_meaning.specs.Tasks.{Context, Eval}
-use Rattle.source_meaning.specs.Expressions.{converted, incremented_value, operate, read, write}
-use Rattle.source_meaning.specs.Meaning.{within}
-use Rattle.linear_code.specs.declared.slot.Slot.TheVariants.{Temporary}
-use Rattle.linear_code.specs.declared.instruction.Instruction.{Instruction}
-use Rattle.linear_code.specs.Program.{LinearProgram}
-use Rattle.linear_machine.specs.Frames.{Store, with_temporary}
+use Rattle.source_meaning.specs.Expressions.{incremented_value}
 use Rattle.linear_machine.proofs.Stretch.{Part, at, Site, conf, price, joins}
 use Rattle.linear_machine.proofs.StretchJoins.{more, then_value}
-use Rattle.lowering_expressions.specs.declared.scope.Names.{Names}
-use Rattle.lowering_sizes.specs.Sizes.{address_count, read_size, conversion_size, expression_size, locate_size, node_size}
-use Rattle.lowering_expressions.specs.Expressions.{constant, combine, copy, chosen_of, conversion_code, expression_code, read_code, write_code, locate_code, node_code}
-use Rattle.lowering_follows.specs.Fits.{NodeFits}
-use Rattle.lowering_follows.specs.Weights.{expression_weight, lvalue_weight, node_weight}
+use Rattle.lowering_expressions.specs.Expressions.{chosen_of}
 use Rattle.lowering_follows.proofs.Stores.{Shape}
-use Rattle.lowering_follows.specs.Places.{HasAt}
 use Rattle.lowering_follows.proofs.Places.{has_front, has_after}
 use Rattle.lowering_follows.proofs.Lengths.{conversion_length, read_length, expression_length, locate_length}
 use Rattle.lowering_follows.proofs.TaskClaims.{located, pushed, Operands, Around, Runs}

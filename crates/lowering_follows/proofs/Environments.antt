@@ -2,27 +2,12 @@
 -- and which handlers a search meets.
 use Rattle.std.proofs.Common.{◌≡◌, ◌≤◌, ℕ, suc, ◌+◌, List, [], ◌∷◌, ◌++◌, length, refl, ap, ◌∙◌}
 use Rattle.std.specs.Prelude.{Bool, true, false, get_or, slice_get, Option, Some, None}
-use Rattle.c_checked.specs.Expression.{Expression}
-use Rattle.c_checked.specs.Statement.{Filter, Always, Funclet}
-use Rattle.c_checked.specs.Program.{Program}
-use Rattle.source_meaning.specs.State.{Exception, State}
-use Rattle.source_meaning.specs.Tasks.{Context, Handler}
-use Rattle.source_meaning.specs.Expressions.{of_test}
-use Rattle.linear_code.specs.declared.slot.Slot.TheVariants.{Temporary}
+use Rattle.lowering_follows.specs.Words.{Expression, Filter, Always, Funclet, Program, Exception, State, Context, Handler, of_test, Temporary, LinearProgram, LinearFunclet, FuncletBody, Store, ExceptionSource, Names, NoException, OfFilter, KeptIn, expression_code, ExpressionFits, expression_weight, HasAt}
 use Rattle.linear_code.specs.declared.instruction.Instruction.TheVariants.{Return}
 use Rattle.linear_code.specs.declared.program.FuncletKind.TheVariants as kinds
-use Rattle.linear_code.specs.Program.{LinearProgram, LinearFunclet}
-use Rattle.linear_machine.specs.Frames.{FuncletBody, Store}
 use Rattle.linear_machine.specs.Frames as machine
 use Rattle.linear_machine.proofs.Stretch.{Site, found}
-use Rattle.lowering_expressions.specs.declared.scope.ExceptionSource.{ExceptionSource}
-use Rattle.lowering_expressions.specs.declared.scope.Names.{Names}
-use Rattle.lowering_expressions.specs.declared.scope.ExceptionSource.TheVariants.{NoException, OfFilter, KeptIn}
-use Rattle.lowering_expressions.specs.Expressions.{expression_code}
-use Rattle.lowering_follows.specs.Fits.{ExpressionFits}
-use Rattle.lowering_follows.specs.Weights.{expression_weight}
 use Rattle.lowering_follows.proofs.Stores.{at_list, Shape, Alike, Places, NotesKept}
-use Rattle.lowering_follows.specs.Places.{HasAt}
 
 -- ---- codes and flags
 

@@ -1,44 +1,23 @@
 -- A `__finally` block runs for every result of the body on its way out.
 use Rattle.std.proofs.Common.{◌≡◌, inl, inr, ◌<◌, ◌≤◌, ℕ, suc, ◌+◌, List, [], ◌∷◌, ◌++◌, length, refl, ap, sym, ◌∙◌, arith}
 use Rattle.std.specs.Prelude.{◌-◌, Bool, true, false, Some, None}
-use Rattle.c_checked.specs.Statement.{Statements}
-use Rattle.c_checked.specs.Program.{Program}
-use Rattle.source_meaning.specs.State.{State, Result, Value, Normal, Returned, Broke, Continued, LeftTry, Target, End, Outcome, Gives, and_then}
-use Rattle.source_meaning.specs.Tasks.{Context, RunFinally}
-use Rattle.source_meaning.specs.Statements.{finally_after}
-use Rattle.source_meaning.specs.Meaning.{within}
-use Rattle.linear_code.specs.declared.slot.Slot.TheVariants.{Temporary}
-use Rattle.linear_code.specs.declared.instruction.Instruction.TheVariants.{CallFinally, Separator}
+use Rattle.lowering_follows.specs.Words.{Statements, Program, State, Value, Normal, Returned, Broke, Continued, LeftTry, Target, End, Outcome, Gives, and_then, Context, RunFinally, finally_after, within, Temporary, CallFinally, Separator, Region, LinearProgram, Item, Waits, Store, Configuration, Finished, Next, with_some, deeper, handlers_in, handlers, begin_finally, target_past, unwind, target_of, end_body, instruction_in, exec, Names, LoweringContext, Nowhere, Jumps, in_guarded, region, statements_notes, statements_weight, HasAt, HasFunclet, FinallyPlaced}
+use Rattle.source_meaning.specs.State.{Result}
 use Rattle.linear_code.specs.declared.instruction.Instruction.TheVariants as instructions
-use Rattle.linear_code.specs.declared.program.Region.{Region}
 use Rattle.linear_code.specs.declared.program.RegionKind.TheVariants as regions
 use Rattle.linear_code.specs.declared.program.FuncletKind.TheVariants as kinds
-use Rattle.linear_code.specs.Program.{LinearProgram}
-use Rattle.linear_machine.specs.Frames.{Item, Waits, Unwinds, Store, Configuration, Finished, Next, with_some, deeper}
+use Rattle.linear_machine.specs.Frames.{Unwinds}
 use Rattle.linear_machine.specs.Frames as machine
-use Rattle.linear_machine.specs.Regions.{handlers_in, handlers}
-use Rattle.linear_machine.specs.Unwinding.{flag_in, flag_of, begin_finally, run_finally, target_past, unwind}
-use Rattle.linear_machine.specs.Searching.{target_of}
-use Rattle.linear_machine.specs.Instructions.{end_body}
-use Rattle.linear_machine.specs.Run.{instruction_in, exec}
+use Rattle.linear_machine.specs.Unwinding.{flag_in, flag_of, run_finally}
 use Rattle.linear_machine.proofs.Stretch.{Part, at, Site, frame_of, conf, Way, Never, To, Out, Ways, Kept, Price, price, Join, found, Reaches, unwound, Arrives, Claim, normal_ways, joins}
 use Rattle.linear_machine.proofs.StretchJoins.{more, after, reaches_after, targets_more, finishes_more, stops_more, then_held}
 use Rattle.linear_machine.proofs.SingleTurns.{onto, still, stepped, first, fetch, prefix_self}
 use Rattle.linear_machine.proofs.Walks.{Outward, starts}
-use Rattle.lowering_expressions.specs.declared.scope.Names.{Names}
-use Rattle.lowering_expressions.specs.declared.scope.LoweringContext.{LoweringContext}
-use Rattle.lowering_expressions.specs.declared.scope.Way.TheVariants.{Nowhere, Jumps}
 use Rattle.lowering_expressions.specs.declared.scope.Way.TheVariants.{Unwinds as UnwindsTo}
-use Rattle.lowering_expressions.specs.Scope.{in_guarded}
 use Rattle.lowering_expressions.specs.declared.scope.Way as jumps
 use Rattle.lowering_expressions.specs.Scope as scopes
-use Rattle.seh_ir.specs.Regions.{region}
-use Rattle.lowering_sizes.specs.Sizes.{statements_notes}
-use Rattle.lowering_follows.specs.Weights.{statements_weight}
 use Rattle.lowering_follows.proofs.Stores.{Shape}
-use Rattle.lowering_follows.specs.Places.{HasAt}
 use Rattle.lowering_follows.proofs.Raises.{unwound_is, IsFunclet}
-use Rattle.lowering_follows.specs.StatementPlaces.{HasFunclet, FinallyPlaced}
 use Rattle.lowering_follows.proofs.BodyClaims.{JumpFits, ExitFits, Inner, comes_there, own_target, finally_site, exit_way, jump_way, statement_ways, Stays, Surroundings, BodyRuns}
 use Rattle.lowering_follows.proofs.Tries.{within_region}
 use Rattle.lowering_follows.proofs.TryEnds.{outward}

@@ -2,7 +2,7 @@
 use Rattle.std.proofs.Common.{◌≡◌, ℕ, ◌+◌, List, [], ◌∷◌, ◌++◌, length, refl, ap, subst, ◌∙◌, arith}
 use Rattle.std.proofs.lemmas.Bool.{eqb-true}
 use Rattle.std.specs.Prelude.{Bool, true, ◌&&◌}
-use Rattle.c_checked.specs.Sound.{count_up}
+use Rattle.lowering_follows.specs.Words.{count_up}
 use Rattle.lowering_follows.proofs.SoundExpressions.{both_left, both_right}
 
 -- ---- counting

@@ -3,41 +3,19 @@ use Rattle.std.proofs.Common.{◌≡◌, ◌<◌, ◌≤◌, ℕ, zero, suc, ◌
 use Rattle.std.proofs.lemmas.List.{length-replicate}
 use Rattle.std.proofs.lemmas.Option.{slice_get_within}
 use Rattle.std.specs.Prelude.{◌-◌, Bool, false, take, replicate, get_or, slice_get, Option, Some, None}
-use Rattle.c_checked.specs.Statement.{Filter, Always, Funclet}
-use Rattle.c_checked.specs.Program.{Program, Function}
-use Rattle.source_meaning.specs.State.{State, Value, Normal, Returned, Broke, Continued, LeftTry, Target, End, Outcome, Gives}
-use Rattle.source_meaning.specs.Tasks.{Context, Handler}
-use Rattle.source_meaning.specs.Expressions.{no_exception, all, ended_call, enter}
-use Rattle.source_meaning.specs.Meaning.{within}
-use Rattle.linear_code.specs.declared.slot.Slot.TheVariants.{Temporary}
+use Rattle.lowering_follows.specs.Words.{Filter, Always, Funclet, Program, Function, State, Value, Normal, Returned, Broke, Continued, LeftTry, Target, End, Outcome, Gives, Context, Handler, no_exception, all, ended_call, enter, within, Temporary, LinearProgram, LinearFunction, FunctionBody, Item, Waits, Store, Finished, with_some, deeper, regions_at, handlers_in, handlers, target_past, unwind, target_of, begin_function, exec, Names, LoweringContext, Nowhere, Jumps, statements_size, statements_notes, constant, own_locals, scope_of, statements_weight, HasAt, FunctionPlaced}
 use Rattle.linear_code.specs.declared.instruction.Instruction.TheVariants as instructions
-use Rattle.linear_code.specs.Program.{LinearProgram, LinearFunction}
-use Rattle.linear_machine.specs.Frames.{FunctionBody, Item, Waits, Store, Finished, with_some, deeper}
 use Rattle.linear_machine.specs.Frames as machine
-use Rattle.linear_machine.specs.Regions.{regions_at, handlers_in, handlers}
-use Rattle.linear_machine.specs.Unwinding.{target_past, unwind}
-use Rattle.linear_machine.specs.Searching.{target_of}
-use Rattle.linear_machine.specs.Instructions.{begin_function}
-use Rattle.linear_machine.specs.Run.{exec}
 use Rattle.linear_machine.proofs.Stretch.{Part, at, Site, frame_of, conf, Picked, Ways, Kept, price, found, Reaches, Claim, value_ways}
 use Rattle.linear_machine.proofs.StretchJoins.{more, reaches_after, reaches_more, finishes_more, stops_more}
 use Rattle.linear_machine.proofs.SingleTurns.{stepped, fetch, prefix_self, sooner, deep_claim}
 use Rattle.linear_machine.proofs.Walks.{handlers_below, leaves}
-use Rattle.lowering_expressions.specs.declared.scope.Names.{Names}
-use Rattle.lowering_expressions.specs.declared.scope.LoweringContext.{LoweringContext}
-use Rattle.lowering_expressions.specs.declared.scope.Way.TheVariants.{Nowhere, Jumps}
-use Rattle.lowering_sizes.specs.Sizes.{statements_size, statements_notes}
-use Rattle.lowering_expressions.specs.Expressions.{constant}
-use Rattle.seh_ir.specs.Lowered.{own_locals, scope_of}
-use Rattle.lowering_follows.specs.Weights.{statements_weight}
 use Rattle.lowering_follows.proofs.Stores.{at_push_old, Shape, FrameAlike, Places, NotesKept, everywhere, below_slot, kept_itself, kept_through, get_push_new, get_pushed, push_alike, take_alike, call_kept}
-use Rattle.lowering_follows.specs.Places.{HasAt}
 use Rattle.lowering_follows.proofs.Places.{has_at}
 use Rattle.lowering_follows.proofs.Turns.{constant_turn}
 use Rattle.lowering_follows.proofs.Environments.{FlagBound, HowFits, Match, match_kept}
 use Rattle.lowering_follows.proofs.TaskClaims.{pushed, Within, Around}
 use Rattle.lowering_follows.proofs.Raises.{unwound_is}
-use Rattle.lowering_follows.specs.StatementPlaces.{FunctionPlaced}
 use Rattle.lowering_follows.proofs.BodyClaims.{statement_ways, Stays, Surroundings, BodyRuns}
 use Rattle.lowering_follows.proofs.BodySequences.{all_runs}
 

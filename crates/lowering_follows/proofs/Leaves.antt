@@ -1,30 +1,14 @@
 -- Constants, codes, flags and fields in expressions.
 use Rattle.std.proofs.Common.{◌≡◌, ◌<◌, ◌≤◌, ℕ, suc, ◌+◌, ◌^◌, List, [], ◌∷◌, ◌++◌, length, refl, ap, sym, subst, ◌∙◌, arith}
 use Rattle.std.specs.Prelude.{Bool, Option, Some, None}
-use Rattle.c_operations.specs.declared.field.Field.{Field}
+use Rattle.lowering_follows.specs.Words.{Field, Size, Node, Program, State, Value, Outcome, Gives, Context, of_test, field_of, Temporary, Instruction, Information, LinearProgram, Store, with_temporary, exec, Names, ExceptionSource, NoException, OfFilter, KeptIn, constant, copy, node_code, NodeFits, HasAt}
 use Rattle.c_operations.specs.declared.field.Field.TheVariants as fields
-use Rattle.c_operations.specs.declared.operation.Size.{Size}
 use Rattle.c_checked.specs.Expression as nodes
-use Rattle.c_checked.specs.Expression.{Node}
-use Rattle.c_checked.specs.Program.{Program}
-use Rattle.source_meaning.specs.State.{State, Value, Outcome, Gives}
-use Rattle.source_meaning.specs.Tasks.{Context}
-use Rattle.source_meaning.specs.Expressions.{of_test, field_of}
-use Rattle.linear_code.specs.declared.slot.Slot.TheVariants.{Temporary, Local as LocalSlot}
-use Rattle.linear_code.specs.declared.instruction.Instruction.{Instruction}
-use Rattle.linear_code.specs.declared.instruction.Instruction.TheVariants.{Information}
-use Rattle.linear_code.specs.Program.{LinearProgram}
-use Rattle.linear_machine.specs.Frames.{Store, with_temporary}
+use Rattle.linear_code.specs.declared.slot.Slot.TheVariants.{Local as LocalSlot}
 use Rattle.linear_machine.specs.Frames as machine
-use Rattle.linear_machine.specs.Run.{exec}
 use Rattle.linear_machine.proofs.Stretch.{Part, Site, conf}
-use Rattle.lowering_expressions.specs.declared.scope.Names.{Names}
-use Rattle.lowering_expressions.specs.declared.scope.ExceptionSource.{ExceptionSource}
-use Rattle.lowering_expressions.specs.declared.scope.ExceptionSource.TheVariants.{NoException, OfFilter, KeptIn}
-use Rattle.lowering_expressions.specs.Expressions.{constant, copy, code_code, abnormal_code, node_code}
-use Rattle.lowering_follows.specs.Fits.{NodeFits}
+use Rattle.lowering_expressions.specs.Expressions.{code_code, abnormal_code}
 use Rattle.lowering_follows.proofs.Stores.{Shape, everywhere}
-use Rattle.lowering_follows.specs.Places.{HasAt}
 use Rattle.lowering_follows.proofs.Environments.{CodeBound, FlagBound, IsNoted}
 use Rattle.lowering_follows.proofs.TaskClaims.{pushed, Around, Runs}
 use Rattle.lowering_follows.proofs.Turns.{constant_turn, fetch_local_turn, information_turn}

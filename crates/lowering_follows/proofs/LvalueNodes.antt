@@ -2,24 +2,10 @@
 use Rattle.std.proofs.Common.{◌≡◌, ◌≤◌, ℕ, ◌+◌, List, [], ◌∷◌, ◌++◌, length, refl, sym, subst, arith}
 use Rattle.std.specs.Prelude.{Bool}
 use Rattle.c_checked.specs.Expression as nodes
-use Rattle.c_checked.specs.Expression.{Expression, Node, Lvalue, Local, Global, Indirection, Element}
-use Rattle.c_checked.specs.Program.{Program}
-use Rattle.source_meaning.specs.State.{State, Outcome, with_value}
-use Rattle.source_meaning.specs.Tasks.{Context, Eval, Locate}
-use Rattle.source_meaning.specs.Expressions.{read, write}
-use Rattle.source_meaning.specs.Meaning.{within}
-use Rattle.linear_code.specs.declared.instruction.Instruction.{Instruction}
-use Rattle.linear_code.specs.Program.{LinearProgram}
-use Rattle.linear_machine.specs.Frames.{Store}
+use Rattle.lowering_follows.specs.Words.{Expression, Node, Lvalue, Local, Global, Indirection, Element, Program, State, Outcome, with_value, Context, Eval, Locate, read, write, within, Instruction, LinearProgram, Store, Names, address_count, read_size, expression_size, locate_size, expression_code, read_code, write_code, locate_code, node_code, LvalueFits, NodeFits, expression_weight, lvalue_weight, node_weight, HasAt}
 use Rattle.linear_machine.proofs.Stretch.{Part, at, Site, conf, price, Claim}
 use Rattle.linear_machine.proofs.StretchJoins.{more}
-use Rattle.lowering_expressions.specs.declared.scope.Names.{Names}
-use Rattle.lowering_sizes.specs.Sizes.{address_count, read_size, expression_size, locate_size}
-use Rattle.lowering_expressions.specs.Expressions.{expression_code, read_code, write_code, locate_code, node_code}
-use Rattle.lowering_follows.specs.Fits.{LvalueFits, NodeFits}
-use Rattle.lowering_follows.specs.Weights.{expression_weight, lvalue_weight, node_weight}
 use Rattle.lowering_follows.proofs.Stores.{Shape}
-use Rattle.lowering_follows.specs.Places.{HasAt}
 use Rattle.lowering_follows.proofs.Places.{has_front, has_after}
 use Rattle.lowering_follows.proofs.Lengths.{expression_length, locate_length}
 use Rattle.lowering_follows.proofs.TaskClaims.{located, pushed, with_address, Operands, Around, Runs}

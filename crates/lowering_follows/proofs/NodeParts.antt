@@ -3,36 +3,12 @@ use Rattle.std.proofs.Common.{◌≡◌, ◌<◌, ◌≤◌, ℕ, suc, ◌+◌, 
 use Rattle.std.proofs.lemmas.List.{length_push}
 use Rattle.std.proofs.lemmas.Nat.{mul-mod}
 use Rattle.std.specs.Prelude.{◌%◌, Bool, true, false, nat_eq, if◌then◌else◌, Some}
-use Rattle.seh_num.specs.declared.width.Width.TheVariants.{W64}
-use Rattle.seh_num.specs.Widths.{low}
-use Rattle.c_operations.specs.declared.operation.Operation.{Operation}
+use Rattle.lowering_follows.specs.Words.{W64, low, Operation, Long, width, extended, result_of, Conversion, Kept, Extend, Scale, Expression, Lvalue, Program, State, Value, Normal, Returned, Broke, Continued, LeftTry, Target, End, Outcome, Gives, with_value, Context, Eval, Locate, converted, operate, locate, read, within, Temporary, Compute, LinearProgram, Store, Seen, pick, with_some, with_temporary, is_constant, exec, Names, read_size, conversion_size, expression_size, locate_size, constant, choice_code, conversion_code, expression_code, read_code, locate_code, ExpressionFits, LvalueFits, expression_weight, lvalue_weight, HasAt}
 use Rattle.c_operations.specs.declared.operation.Pure.TheVariants as pures
-use Rattle.c_operations.specs.declared.operation.Size.TheVariants.{Long}
-use Rattle.c_operations.specs.Numbers.{width, extended, result_of}
-use Rattle.c_checked.specs.declared.expression.Conversion.{Conversion}
-use Rattle.c_checked.specs.declared.expression.Conversion.TheVariants.{Kept, Extend, Scale}
-use Rattle.c_checked.specs.Expression.{Expression, Lvalue}
-use Rattle.c_checked.specs.Program.{Program}
-use Rattle.source_meaning.specs.State.{State, Value, Normal, Returned, Broke, Continued, LeftTry, Target, End, Outcome, Gives, with_value}
-use Rattle.source_meaning.specs.Tasks.{Context, Eval, Locate}
-use Rattle.source_meaning.specs.Expressions.{converted, operate, locate, read}
-use Rattle.source_meaning.specs.Meaning.{within}
-use Rattle.linear_code.specs.declared.slot.Slot.TheVariants.{Temporary}
-use Rattle.linear_code.specs.declared.instruction.Instruction.TheVariants.{Compute}
-use Rattle.linear_code.specs.Program.{LinearProgram}
-use Rattle.linear_machine.specs.Frames.{Store, Seen, pick, with_some, with_temporary}
-use Rattle.linear_machine.specs.Instructions.{is_constant}
-use Rattle.linear_machine.specs.Run.{exec}
 use Rattle.linear_machine.proofs.Stretch.{Part, at, Site, conf, Ways, price, Claim, value_ways, joins}
 use Rattle.linear_machine.proofs.StretchJoins.{more, then_value}
 use Rattle.linear_machine.proofs.SingleTurns.{first, still, fetch, prefix_self}
-use Rattle.lowering_expressions.specs.declared.scope.Names.{Names}
-use Rattle.lowering_sizes.specs.Sizes.{read_size, conversion_size, expression_size, locate_size}
-use Rattle.lowering_expressions.specs.Expressions.{constant, choice_code, conversion_code, expression_code, read_code, locate_code}
-use Rattle.lowering_follows.specs.Fits.{ExpressionFits, LvalueFits}
-use Rattle.lowering_follows.specs.Weights.{expression_weight, lvalue_weight}
 use Rattle.lowering_follows.proofs.Stores.{Shape}
-use Rattle.lowering_follows.specs.Places.{HasAt}
 use Rattle.lowering_follows.proofs.Places.{has_at}
 use Rattle.lowering_follows.proofs.TaskClaims.{located, pushed, with_address, Operands, Within, Around, SameOperation', Runs}
 use Rattle.lowering_follows.proofs.Turns.{changing, combining, computed_gives, pure_turn, constant_turn, jump_turn, test_turn}

@@ -2,35 +2,15 @@
 use Rattle.std.proofs.Common.{◌≡◌, ◌<◌, ◌≤◌, ℕ, ◌+◌, ◌^◌, List, [], ◌∷◌, ◌++◌, length, refl, ap, sym, subst, ◌∙◌, arith}
 use Rattle.std.proofs.lemmas.List.{length_push}
 use Rattle.std.specs.Prelude.{Bool, true, false, not, nat_eq, if◌then◌else◌}
-use Rattle.c_operations.specs.declared.operation.Operation.{Operation}
+use Rattle.lowering_follows.specs.Words.{Operation, Pure, result_of, Expression, Node, Program, State, Value, Outcome, Gives, choose, with_value, Context, Eval, of_test, operate, within, Temporary, Instruction, Jump, JumpIfZero, LinearProgram, Store, with_temporary, is_constant, Names, unary_size, expression_size, node_size, constant, combine, copy, unary_code, choice_code, expression_code, node_code, ExpressionFits, NodeFits, expression_weight, node_weight, HasAt}
 use Rattle.c_operations.specs.declared.operation.Operation.TheVariants as operations
-use Rattle.c_operations.specs.declared.operation.Pure.{Pure}
 use Rattle.c_operations.specs.declared.operation.Pure.TheVariants as pures
-use Rattle.c_operations.specs.Numbers.{result_of}
 use Rattle.c_checked.specs.Expression as nodes
-use Rattle.c_checked.specs.Expression.{Expression, Node}
-use Rattle.c_checked.specs.Program.{Program}
-use Rattle.source_meaning.specs.State.{State, Value, Outcome, Gives, choose, with_value}
-use Rattle.source_meaning.specs.Tasks.{Context, Eval}
 use Rattle.source_meaning.specs.Expressions as model
-use Rattle.source_meaning.specs.Expressions.{of_test, operate}
-use Rattle.source_meaning.specs.Meaning.{within}
-use Rattle.linear_code.specs.declared.slot.Slot.TheVariants.{Temporary}
-use Rattle.linear_code.specs.declared.instruction.Instruction.{Instruction}
-use Rattle.linear_code.specs.declared.instruction.Instruction.TheVariants.{Jump, JumpIfZero}
-use Rattle.linear_code.specs.Program.{LinearProgram}
-use Rattle.linear_machine.specs.Frames.{Store, with_temporary}
-use Rattle.linear_machine.specs.Instructions.{is_constant}
 use Rattle.linear_machine.proofs.Stretch.{Part, at, Site, conf, price, value_ways}
 use Rattle.linear_machine.proofs.StretchJoins.{more}
 use Rattle.linear_machine.proofs.SingleTurns.{chosen}
-use Rattle.lowering_expressions.specs.declared.scope.Names.{Names}
-use Rattle.lowering_sizes.specs.Sizes.{unary_size, expression_size, node_size}
-use Rattle.lowering_expressions.specs.Expressions.{constant, combine, copy, unary_code, choice_code, expression_code, node_code}
-use Rattle.lowering_follows.specs.Fits.{ExpressionFits, NodeFits}
-use Rattle.lowering_follows.specs.Weights.{expression_weight, node_weight}
 use Rattle.lowering_follows.proofs.Stores.{Shape}
-use Rattle.lowering_follows.specs.Places.{HasAt}
 use Rattle.lowering_follows.proofs.Places.{has_at, has_front, has_after}
 use Rattle.lowering_follows.proofs.Lengths.{expression_length}
 use Rattle.lowering_follows.proofs.TaskClaims.{pushed, Operands, Around, Runs}

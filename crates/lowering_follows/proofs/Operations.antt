@@ -2,41 +2,22 @@
 use Rattle.std.proofs.Common.{◌≡◌, ◌≤◌, ℕ, suc, ◌+◌, List, [], ◌∷◌, ◌++◌, length, refl, ap, sym, subst, ◌∙◌, arith, append-nil}
 use Rattle.std.proofs.lemmas.List.{length_push}
 use Rattle.std.specs.Prelude.{Bool, false, slice_get, Some}
+use Rattle.lowering_follows.specs.Words.{W32, W64, Operation, Long, width, extended, result_of, performed, Lvalue, Local, Global, Indirection, Element, Program, Exception, State, Value, Outcome, Gives, set_memory, with_value, and_then, Context, Eval, Raise, Retry, is_reserved, operate, locate, read, write, within, Temporary, Compute, LinearProgram, Store, Configuration, with_temporary, raise, is_constant, computed, exec, Names, address_count, read_size, expression_size, locate_size, combine, expression_code, read_code, write_code, locate_code, LvalueFits, expression_weight, lvalue_weight, HasAt}
 use Rattle.seh_num.specs.declared.width.Width.{Width}
-use Rattle.seh_num.specs.declared.width.Width.TheVariants.{W8, W16, W32, W64}
-use Rattle.c_operations.specs.declared.operation.Operation.{Operation}
+use Rattle.seh_num.specs.declared.width.Width.TheVariants.{W8, W16}
 use Rattle.c_operations.specs.declared.operation.Operation.TheVariants.{Pure, Load, Store as StoreTo}
 use Rattle.c_operations.specs.declared.operation.Pure.TheVariants as pures
-use Rattle.c_operations.specs.declared.operation.Size.TheVariants.{Long}
-use Rattle.c_operations.specs.Numbers.{width, extended, result_of}
 use Rattle.c_operations.specs.Performed as performing
-use Rattle.c_operations.specs.Performed.{performed}
 use Rattle.c_checked.specs.declared.expression.Access.{Access}
-use Rattle.c_checked.specs.Expression.{Lvalue, Local, Global, Indirection, Element}
-use Rattle.c_checked.specs.Program.{Program}
-use Rattle.source_meaning.specs.State.{Exception, State, Value, Outcome, Gives, set_memory, local_of, set_local, with_value, and_then}
-use Rattle.source_meaning.specs.Tasks.{Context, Eval, Raise, Retry}
-use Rattle.source_meaning.specs.Source.{is_reserved}
-use Rattle.source_meaning.specs.Expressions.{value_width, value_of, tried, operate, locate, load, read, write}
-use Rattle.source_meaning.specs.Meaning.{within}
-use Rattle.linear_code.specs.declared.slot.Slot.TheVariants.{Temporary}
-use Rattle.linear_code.specs.declared.instruction.Instruction.TheVariants.{Compute}
-use Rattle.linear_code.specs.Program.{LinearProgram}
-use Rattle.linear_machine.specs.Frames.{Store, Configuration, SameOperation, with_temporary}
+use Rattle.source_meaning.specs.State.{local_of, set_local}
+use Rattle.source_meaning.specs.Expressions.{value_width, value_of, tried, load}
+use Rattle.linear_machine.specs.Frames.{SameOperation}
 use Rattle.linear_machine.specs.Frames as machine
-use Rattle.linear_machine.specs.Searching.{raise}
-use Rattle.linear_machine.specs.Instructions.{is_constant, computed}
-use Rattle.linear_machine.specs.Run.{exec}
 use Rattle.linear_machine.proofs.Stretch.{Part, at, Site, conf, Kept, Ways, Price, price, Claim, value_ways, joins}
 use Rattle.linear_machine.proofs.StretchJoins.{more, then_value, then_plain}
 use Rattle.linear_machine.proofs.SingleTurns.{first, still, stepped, prefix_self}
-use Rattle.lowering_expressions.specs.declared.scope.Names.{Names}
-use Rattle.lowering_sizes.specs.Sizes.{address_count, read_size, expression_size, locate_size}
-use Rattle.lowering_expressions.specs.Expressions.{size_of, combine, expression_code, load_code, read_code, write_code, locate_code}
-use Rattle.lowering_follows.specs.Fits.{LvalueFits}
-use Rattle.lowering_follows.specs.Weights.{expression_weight, lvalue_weight}
+use Rattle.lowering_expressions.specs.Expressions.{size_of, load_code}
 use Rattle.lowering_follows.proofs.Stores.{Shape, memory_alike, local_set_alike, everywhere, kept_through, kept_set}
-use Rattle.lowering_follows.specs.Places.{HasAt}
 use Rattle.lowering_follows.proofs.Places.{has_front, has_after}
 use Rattle.lowering_follows.proofs.Lengths.{expression_length}
 use Rattle.lowering_follows.proofs.TaskClaims.{located, pushed, with_address, Operands, Within, Around, SameOperation', Runs}

@@ -1,10 +1,6 @@
 -- Instructions at places of a body, inside their regions.
 use Rattle.std.proofs.Common.{◌≡◌, ℕ, ◌+◌, List, [], ◌∷◌, ◌++◌, length, ap, subst, arith}
-use Rattle.linear_code.specs.declared.instruction.Instruction.{Instruction}
-use Rattle.linear_code.specs.declared.program.Region.{Region}
-use Rattle.linear_code.specs.Program.{LinearProgram}
-use Rattle.linear_machine.specs.Frames.{BodyName}
-use Rattle.lowering_follows.specs.Places.{HasAt}
+use Rattle.lowering_follows.specs.Words.{Instruction, Region, LinearProgram, BodyName, HasAt}
 
 module _ (linear : LinearProgram) (body : BodyName) (regions : List Region) where
   pub has_at : (pc pc' : ℕ) (is : List Instruction) → pc ≡ pc' → HasAt linear body regions pc is

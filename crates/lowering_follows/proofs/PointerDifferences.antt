@@ -3,44 +3,24 @@ use Rattle.std.proofs.Common.{◌≡◌, ◌<◌, ◌≤◌, ℕ, zero, suc, ◌
 use Rattle.std.proofs.lemmas.Bool.{lt-ltb, ltb-true, ltb-false}
 use Rattle.std.proofs.lemmas.List.{length_push}
 use Rattle.std.specs.Prelude.{◌-◌, ◌/◌, nat_lt, negsuc, ◌-ℤ◌, int_div, neg_ℤ, Bool, true, false, if◌then◌else◌, ℤ, pos}
-use Rattle.seh_num.specs.declared.width.Width.TheVariants.{W64}
-use Rattle.seh_num.specs.Widths.{low}
+use Rattle.lowering_follows.specs.Words.{W64, low, Expression, Program, State, Value, Gives, Context, Temporary, LinearProgram, Store, with_temporary, exec, Names, expression_size, constant, combine, node_code, NodeFits, expression_weight, node_weight, HasAt, signed, wrapped, Long, result_of, performed, is_reserved, Memory, computed}
 use Rattle.c_operations.specs.declared.operation.Operation.TheVariants as operations
 use Rattle.c_operations.specs.declared.operation.Pure.TheVariants as pures
 use Rattle.c_checked.specs.Expression as nodes
-use Rattle.c_checked.specs.Expression.{Expression}
-use Rattle.c_checked.specs.Program.{Program}
-use Rattle.source_meaning.specs.State.{State, Value, Gives}
-use Rattle.source_meaning.specs.Tasks.{Context}
-use Rattle.linear_code.specs.declared.slot.Slot.TheVariants.{Temporary}
-use Rattle.linear_code.specs.Program.{LinearProgram}
-use Rattle.linear_machine.specs.Frames.{Store, with_temporary}
-use Rattle.linear_machine.specs.Run.{exec}
 use Rattle.linear_machine.proofs.Stretch.{Site, conf}
-use Rattle.lowering_expressions.specs.declared.scope.Names.{Names}
-use Rattle.lowering_sizes.specs.Sizes.{expression_size}
-use Rattle.lowering_expressions.specs.Expressions.{constant, combine, node_code}
-use Rattle.lowering_follows.specs.Fits.{NodeFits}
-use Rattle.lowering_follows.specs.Weights.{expression_weight, node_weight}
 use Rattle.lowering_follows.proofs.Stores.{Shape}
-use Rattle.lowering_follows.specs.Places.{HasAt}
 use Rattle.lowering_follows.proofs.TaskClaims.{pushed, Around, Runs}
 use Rattle.lowering_follows.proofs.Turns.{combining, pure_turn, constant_turn}
 use Rattle.lowering_follows.proofs.Operations.{push_put}
 use Rattle.lowering_follows.proofs.NodeParts.{Kp, turn, here_other}
 use Rattle.lowering_follows.proofs.Nodes.{NodeRuns}
-use Rattle.seh_num.specs.Widths.{limit, half, signed, wrapped}
+use Rattle.seh_num.specs.Widths.{limit, half}
 use Rattle.seh_num.specs.Division.{is_signed, divided_signed}
 use Rattle.seh_num.proofs.Quotients.{divided}
-use Rattle.c_operations.specs.declared.operation.Size.TheVariants.{Long}
 use Rattle.c_operations.specs.declared.operation.Signedness.TheVariants.{Signed}
-use Rattle.c_operations.specs.Numbers.{result_of}
 use Rattle.c_operations.specs.Performed as performing
-use Rattle.c_operations.specs.Performed.{performed, signed_part}
+use Rattle.c_operations.specs.Performed.{signed_part}
 use Rattle.source_meaning.specs.Expressions.{apart}
-use Rattle.source_meaning.specs.Source.{is_reserved}
-use Rattle.flat_memory.specs.Memory.{Memory}
-use Rattle.linear_machine.specs.Instructions.{computed}
 use Rattle.lowering_follows.proofs.Turns.{computed_gives, computes}
 use Rattle.lowering_follows.proofs.Nodes.{two_runs}
 

@@ -2,24 +2,13 @@
 use Rattle.std.proofs.Common.{◌≡◌, ℕ, inr, zero, suc, ◌+◌, ◌≤◌, List, [], ◌∷◌, length, refl, ap, subst, ◌∙◌, arith, length-append}
 use Rattle.std.proofs.lemmas.Option.{slice_get-map}
 use Rattle.std.specs.Prelude.{true, ◌||◌, slice_get, option_map, Option, Some, None}
-use Rattle.c_operations.specs.declared.operation.Size.{Size}
-use Rattle.c_operations.specs.declared.operation.Size.TheVariants.{Int, Long}
-use Rattle.c_checked.specs.Program.{Program, Function}
+use Rattle.lowering_follows.specs.Words.{Size, Int, Long, Program, Function, are_sizes, funclets, count_up, function_sound, Temporary, FunctionBody, body_of, Owner, statements_size, constant, statements_code, statements_regions, statements_funclets, own_locals, scope_of, FunctionPlaced, statements_weight}
 use Rattle.c_checked.specs.Sound as sound
-use Rattle.c_checked.specs.Sound.{are_sizes, some_sizes, funclets, count_up, function_sound, functions_sound, main_sound}
-use Rattle.linear_code.specs.declared.slot.Slot.TheVariants.{Temporary}
+use Rattle.c_checked.specs.Sound.{some_sizes, functions_sound, main_sound}
 use Rattle.linear_code.specs.declared.instruction.Instruction.TheVariants as instructions
-use Rattle.linear_machine.specs.Frames.{FunctionBody, function_body, body_of}
-use Rattle.seh_ir.specs.declared.funclets.Owner.{Owner}
-use Rattle.lowering_sizes.specs.Sizes.{statements_size}
-use Rattle.lowering_expressions.specs.Expressions.{constant}
-use Rattle.seh_ir.specs.Statements.{statements_code}
-use Rattle.seh_ir.specs.Regions.{statements_regions}
-use Rattle.seh_ir.specs.Funclets.{statements_funclets}
-use Rattle.seh_ir.specs.Lowered.{own_locals, all_locals, scope_of, lowered_function, lowered_funclets, all_funclets, lowered}
+use Rattle.linear_machine.specs.Frames.{function_body}
+use Rattle.seh_ir.specs.Lowered.{all_locals, lowered_function, lowered_funclets, all_funclets, lowered}
 use Rattle.seh_ir.proofs.StatementCodes.{statements_length}
-use Rattle.lowering_follows.specs.StatementPlaces.{FunctionPlaced}
-use Rattle.lowering_follows.specs.Weights.{statements_weight}
 use Rattle.lowering_follows.proofs.WholeProgram.{linked_follows}
 use Rattle.lowering_follows.specs.StepsPerTurn.{weight_of, steps_per_turn_of}
 use Rattle.lowering_follows.specs.LoweringLaws.{LoweredIsLinked, LoweredFollows, LoweredShowsNoMore}

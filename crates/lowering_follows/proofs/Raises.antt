@@ -1,38 +1,21 @@
 -- A raise asks the handlers that a search finds, in order.
 use Rattle.std.proofs.Common.{◌≡◌, ◌<◌, ◌≤◌, ℕ, suc, ◌+◌, ◌^◌, List, [], ◌∷◌, ◌++◌, length, refl, ap, sym, subst, ◌∙◌, arith, append_assoc}
 use Rattle.std.specs.Prelude.{Bool, true, false, nat_eq, nat_lt, slice_get, Option, Some, None}
-use Rattle.seh_num.specs.declared.width.Width.TheVariants.{W32}
+use Rattle.lowering_follows.specs.Words.{W32, low, signed, Expression, Filter, Always, Funclet, Program, Exception, State, Value, Normal, Returned, Broke, Continued, LeftTry, Target, End, Outcome, Gives, choose, emit, hold, let_go, with_value, Context, Handler, Eval, Raise, RunFilter, raise_event, within, Temporary, LinearProgram, LinearFunclet, FuncletBody, Resumption, Item, Waits, Store, Finished, Next, pick, with_some, deeper, regions_at, handlers_in, handlers, target_past, unwind_body, unwind, target_of, begin_filter, raise, resumed, answered, end_funclet, exec, Names, expression_size, expression_code, expression_weight, HasAt}
 use Rattle.seh_num.specs.declared.event.Event.TheVariants as events
-use Rattle.seh_num.specs.Widths.{low, signed}
-use Rattle.c_checked.specs.Expression.{Expression}
-use Rattle.c_checked.specs.Statement.{Filter, Always, Funclet}
-use Rattle.c_checked.specs.Program.{Program}
-use Rattle.source_meaning.specs.State.{Exception, State, Value, Normal, Returned, Broke, Continued, LeftTry, Target, End, Outcome, Gives, choose, emit, hold, let_go, with_value}
-use Rattle.source_meaning.specs.Tasks.{Context, Handler, Eval, Raise, RunFilter}
 use Rattle.source_meaning.specs.Raises as source
-use Rattle.source_meaning.specs.Raises.{noncontinuable, raise_event}
-use Rattle.source_meaning.specs.Meaning.{within}
-use Rattle.linear_code.specs.declared.slot.Slot.TheVariants.{Temporary}
+use Rattle.source_meaning.specs.Raises.{noncontinuable}
 use Rattle.linear_code.specs.declared.instruction.Instruction.TheVariants.{Return}
 use Rattle.linear_code.specs.declared.program.FuncletKind.TheVariants as kinds
-use Rattle.linear_code.specs.Program.{LinearProgram, LinearFunclet}
-use Rattle.linear_machine.specs.Frames.{FuncletBody, Resumption, Item, Waits, Searches, Store, Finished, Next, pick, with_some, deeper}
+use Rattle.linear_machine.specs.Frames.{Searches}
 use Rattle.linear_machine.specs.Frames as machine
-use Rattle.linear_machine.specs.Regions.{regions_at, handlers_in, handlers}
-use Rattle.linear_machine.specs.Unwinding.{target_past, left_store, unwind_body, unwind}
-use Rattle.linear_machine.specs.Searching.{target_of, accept, begin_filter, consult, search, raise, resumed, answered}
-use Rattle.linear_machine.specs.Instructions.{end_funclet}
-use Rattle.linear_machine.specs.Run.{exec}
+use Rattle.linear_machine.specs.Unwinding.{left_store}
+use Rattle.linear_machine.specs.Searching.{accept, consult, search}
 use Rattle.linear_machine.proofs.Stretch.{Part, at, Site, frame_of, conf, Picked, Kept, price, Price, Join, Ways, found, Reaches, unwound, Targets, Claim, value_ways, normal_ways, joins}
 use Rattle.linear_machine.proofs.StretchJoins.{more, after, then_value, targets_more, finishes_more, stops_more}
 use Rattle.linear_machine.proofs.SingleTurns.{prefix_self, still, stepped, fetch, sooner, deep_claim}
 use Rattle.linear_machine.proofs.Walks.{picked_at, handlers_below, leaves}
-use Rattle.lowering_expressions.specs.declared.scope.Names.{Names}
-use Rattle.lowering_sizes.specs.Sizes.{expression_size}
-use Rattle.lowering_expressions.specs.Expressions.{expression_code}
-use Rattle.lowering_follows.specs.Weights.{expression_weight}
 use Rattle.lowering_follows.proofs.Stores.{Shape, everywhere}
-use Rattle.lowering_follows.specs.Places.{HasAt}
 use Rattle.lowering_follows.proofs.Places.{has_front, has_after}
 use Rattle.lowering_follows.proofs.Lengths.{expression_length}
 use Rattle.lowering_follows.proofs.Environments.{CodeBound, FilterFits, HowFits, Match, same_length}

@@ -2,22 +2,13 @@
 use Rattle.std.proofs.Common.{◌≡◌, ◌<◌, ℕ, suc, ◌^◌, List, [], ◌∷◌, length, refl, sym, ap, subst, ◌∙◌, arith}
 use Rattle.std.proofs.lemmas.Bool.{ltb-true}
 use Rattle.std.specs.Prelude.{Bool, true, false, ◌&&◌, slice_get, Option, Some, None}
-use Rattle.c_operations.specs.declared.built_in.BuiltIn.{BuiltIn}
-use Rattle.c_operations.specs.declared.built_in.BuiltIn.TheVariants.{Put, Protect, RaiseException}
-use Rattle.c_operations.specs.declared.operation.Operation.{Operation}
+use Rattle.lowering_follows.specs.Words.{BuiltIn, Put, Protect, RaiseException, Operation, Pure, Size, Int, Long, Conversion, Expression, On, Node, Lvalue, Local, Global, Indirection, Element, Arguments, Done, Program, Function, are_sizes, is_constant, count_of, argument_count, ExpressionFits, LvalueFits, ArgumentsFit, NodeFits}
 use Rattle.c_operations.specs.declared.operation.Operation.TheVariants as operations
-use Rattle.c_operations.specs.declared.operation.Pure.{Pure}
 use Rattle.c_operations.specs.declared.operation.Pure.TheVariants as pures
-use Rattle.c_operations.specs.declared.operation.Size.{Size}
-use Rattle.c_operations.specs.declared.operation.Size.TheVariants.{Int, Long}
-use Rattle.c_checked.specs.declared.expression.Conversion.{Conversion}
 use Rattle.c_checked.specs.Expression as nodes
-use Rattle.c_checked.specs.Expression.{Expression, On, Node, Lvalue, Local, Global, Indirection, Element, Arguments, Done, Next}
-use Rattle.c_checked.specs.Program.{Program, Function}
-use Rattle.c_checked.specs.Sound.{TypingContext, is_number, are_sizes, size_after, unary_takes, takes, built_in_takes, constant_fits, amount_fits, change_fits, call_fits, expression_size, lvalue_size, argument_sizes, expression_sound, node_sound, lvalue_sound, arguments_sound}
-use Rattle.linear_machine.specs.Instructions.{is_constant, count_of}
-use Rattle.lowering_expressions.specs.Expressions.{argument_count}
-use Rattle.lowering_follows.specs.Fits.{IsCalled, ExpressionFits, LvalueFits, ArgumentsFit, NodeFits}
+use Rattle.c_checked.specs.Expression.{Next}
+use Rattle.c_checked.specs.Sound.{TypingContext, is_number, size_after, unary_takes, takes, built_in_takes, constant_fits, amount_fits, change_fits, call_fits, expression_size, lvalue_size, argument_sizes, expression_sound, node_sound, lvalue_sound, arguments_sound}
+use Rattle.lowering_follows.specs.Fits.{IsCalled}
 
 -- ---- tests of several parts
 

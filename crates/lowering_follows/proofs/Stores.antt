@@ -5,10 +5,8 @@ use Rattle.std.proofs.lemmas.Bool.{cases_eq, cases_lt}
 use Rattle.std.proofs.lemmas.List.{get_or-set_same, get_or-set_other, length-take, length_push}
 use Rattle.std.proofs.lemmas.Option.{slice_get_within}
 use Rattle.std.specs.Prelude.{get_or, set, take, slice_get, Some, None}
-use Rattle.flat_memory.specs.Memory.{Memory}
-use Rattle.source_meaning.specs.State.{State}
+use Rattle.lowering_follows.specs.Words.{Memory, State, Store, set_local}
 use Rattle.source_meaning.specs.State as model
-use Rattle.linear_machine.specs.Frames.{Store, set_local}
 
 -- ---- lists of lists
 

@@ -1,36 +1,12 @@
 -- What is claimed of each kind of task inside expressions.
 use Rattle.std.proofs.Common.{◌≡◌, ◌≤◌, ℕ, zero, ◌+◌, List, [], ◌∷◌, ◌++◌, length, sym, ◌∙◌, append-nil, append_assoc}
 use Rattle.std.specs.Prelude.{Bool, false, slice_get, Some, None}
-use Rattle.seh_num.specs.declared.event.Event.{Event}
-use Rattle.flat_memory.specs.Memory.{Memory}
-use Rattle.c_operations.specs.declared.operation.Operation.{Operation}
-use Rattle.c_operations.specs.Performed.{performed}
-use Rattle.c_checked.specs.Expression.{Expression, Lvalue, Local, Global, Indirection, Element}
-use Rattle.c_checked.specs.Program.{Program, Function}
-use Rattle.source_meaning.specs.Source.{is_reserved}
-use Rattle.source_meaning.specs.State.{Exception, State}
-use Rattle.source_meaning.specs.Tasks.{Context, Handler, Eval, Locate, Raise, RunFilter, Retry}
-use Rattle.source_meaning.specs.Raises.{raise_event}
-use Rattle.source_meaning.specs.Expressions.{enter}
-use Rattle.source_meaning.specs.Meaning.{within}
-use Rattle.linear_code.specs.declared.slot.Slot.TheVariants.{Temporary}
+use Rattle.lowering_follows.specs.Words.{Event, Memory, Operation, performed, Expression, Lvalue, Local, Global, Indirection, Element, Program, Function, is_reserved, Exception, State, Context, Handler, Eval, Locate, Raise, RunFilter, Retry, raise_event, enter, within, Temporary, LinearProgram, LinearFunction, Resumption, Waits, Store, Configuration, deeper, with_temporary, regions_at, handlers, begin_filter, raise, resumed, answered, begin_function, is_constant, exec, Names, expression_size, locate_size, expression_code, locate_code, ExpressionFits, LvalueFits, expression_weight, lvalue_weight, HasAt}
 use Rattle.linear_code.specs.declared.instruction.Instruction.TheVariants as instructions
-use Rattle.linear_code.specs.Program.{LinearProgram, LinearFunction}
-use Rattle.linear_machine.specs.Frames.{Resumption, Waits, Store, Configuration, deeper, with_temporary}
 use Rattle.linear_machine.specs.Frames as machine
-use Rattle.linear_machine.specs.Regions.{regions_at, handlers}
-use Rattle.linear_machine.specs.Searching.{begin_filter, raise, resumed, answered}
-use Rattle.linear_machine.specs.Instructions.{begin_function, is_constant}
-use Rattle.linear_machine.specs.Run.{exec}
 use Rattle.linear_machine.proofs.RunLengths.{events_of, search_shows}
 use Rattle.linear_machine.proofs.Stretch.{Part, at, Site, frame_of, conf, Kept, value_ways, normal_ways, price, Claim}
-use Rattle.lowering_expressions.specs.declared.scope.Names.{Names}
-use Rattle.lowering_sizes.specs.Sizes.{expression_size, locate_size}
-use Rattle.lowering_expressions.specs.Expressions.{expression_code, locate_code}
-use Rattle.lowering_follows.specs.Fits.{ExpressionFits, LvalueFits}
-use Rattle.lowering_follows.specs.Weights.{expression_weight, lvalue_weight}
 use Rattle.lowering_follows.proofs.Stores.{Shape, everywhere}
-use Rattle.lowering_follows.specs.Places.{HasAt}
 use Rattle.lowering_follows.proofs.Environments.{FilterFits, KeptFrom, Env}
 
 -- the temporaries after a place was located: its address, and of a local nothing

@@ -2,34 +2,15 @@
 use Rattle.std.proofs.Common.{◌≡◌, ◌≤◌, ℕ, zero, suc, ◌+◌, List, [], ◌∷◌, length, arith}
 use Rattle.std.specs.Prelude.{Bool, false, slice_get, Some}
 use Rattle.seh_num.specs.declared.event.Event.TheVariants as events
-use Rattle.c_operations.specs.declared.operation.Operation.{Operation}
+use Rattle.lowering_follows.specs.Words.{Operation, Expression, On, Node, Lvalue, Program, Function, Exception, State, Value, Gives, Context, Handler, Eval, Locate, Raise, RunFilter, Retry, converted, operate, locate, perform, within, Temporary, LinearProgram, LinearFunction, Resumption, Store, deeper, regions_at, begin_filter, raise, is_constant, exec, Names, conversion_size, expression_size, locate_size, node_size, conversion_code, expression_code, locate_code, node_code, ExpressionFits, LvalueFits, NodeFits, expression_weight, lvalue_weight, node_weight, HasAt}
 use Rattle.c_checked.specs.Expression as nodes
-use Rattle.c_checked.specs.Expression.{Expression, On, Node, Lvalue}
-use Rattle.c_checked.specs.Program.{Program, Function}
-use Rattle.source_meaning.specs.State.{Exception, State, Value, Gives}
-use Rattle.source_meaning.specs.Tasks.{Context, Handler, Eval, Locate, Raise, RunFilter, Retry}
 use Rattle.source_meaning.specs.Expressions as model
-use Rattle.source_meaning.specs.Expressions.{converted, operate, locate}
-use Rattle.source_meaning.specs.Meaning.{perform, within}
-use Rattle.linear_code.specs.declared.slot.Slot.TheVariants.{Temporary}
 use Rattle.linear_code.specs.declared.instruction.Instruction.TheVariants as instructions
-use Rattle.linear_code.specs.Program.{LinearProgram, LinearFunction}
-use Rattle.linear_machine.specs.Frames.{Resumption, Store, deeper}
 use Rattle.linear_machine.specs.Frames as machine
-use Rattle.linear_machine.specs.Regions.{regions_at}
-use Rattle.linear_machine.specs.Searching.{begin_filter, raise}
-use Rattle.linear_machine.specs.Instructions.{is_constant}
-use Rattle.linear_machine.specs.Run.{exec}
 use Rattle.linear_machine.proofs.Stretch.{at, Site, conf, price, Claim, normal_ways, joins}
 use Rattle.linear_machine.proofs.StretchJoins.{more, then_value}
 use Rattle.linear_machine.proofs.SingleTurns.{counted_claim, shown_deep}
-use Rattle.lowering_expressions.specs.declared.scope.Names.{Names}
-use Rattle.lowering_sizes.specs.Sizes.{conversion_size, expression_size, locate_size, node_size}
-use Rattle.lowering_expressions.specs.Expressions.{conversion_code, expression_code, locate_code, node_code}
-use Rattle.lowering_follows.specs.Fits.{ExpressionFits, LvalueFits, NodeFits}
-use Rattle.lowering_follows.specs.Weights.{expression_weight, lvalue_weight, node_weight}
 use Rattle.lowering_follows.proofs.Stores.{Shape, everywhere}
-use Rattle.lowering_follows.specs.Places.{HasAt}
 use Rattle.lowering_follows.proofs.Places.{has_front, has_after}
 use Rattle.lowering_follows.proofs.Lengths.{node_length}
 use Rattle.lowering_follows.proofs.Environments.{FilterFits}

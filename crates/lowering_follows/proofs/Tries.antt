@@ -2,32 +2,18 @@
 -- out.
 use Rattle.std.proofs.Common.{◌≡◌, ◌⊎◌, inl, inr, ◌<◌, ◌≤◌, ℕ, ◌+◌, List, ◌∷◌, ◌++◌, length, refl, ap, sym, subst, ◌∙◌, arith}
 use Rattle.std.specs.Prelude.{Bool, slice_get, Option, Some, None}
-use Rattle.c_checked.specs.Statement.{Filter, Always, Funclet}
-use Rattle.c_checked.specs.Program.{Program}
-use Rattle.source_meaning.specs.State.{Exception, State, Value, Normal, Returned, Broke, Continued, LeftTry, Target, End, Outcome, Gives}
-use Rattle.source_meaning.specs.Tasks.{Context, Handler}
-use Rattle.source_meaning.specs.Expressions.{of_test}
-use Rattle.linear_code.specs.declared.program.Region.{Region}
+use Rattle.lowering_follows.specs.Words.{Filter, Always, Funclet, Program, Exception, State, Value, Normal, Returned, Broke, Continued, LeftTry, Target, End, Outcome, Gives, Context, Handler, of_test, Region, LinearProgram, BodyName, Store, set_local, Names, ExceptionSource, LoweringContext, NoException, OfFilter, KeptIn, Nowhere, Jumps, Unwinds, except_names, filter_names, finally_names, in_try, in_except, in_guarded, except_kind, region, FilterPlaced}
 use Rattle.linear_code.specs.declared.program.RegionKind.{RegionKind}
 use Rattle.linear_code.specs.declared.program.RegionKind.TheVariants as regions
-use Rattle.linear_code.specs.Program.{LinearProgram}
-use Rattle.linear_machine.specs.Frames.{BodyName, Unwinds, Store, set_local}
+use Rattle.linear_machine.specs.Frames.{Unwinds}
 use Rattle.linear_machine.specs.Frames as machine
 use Rattle.linear_machine.specs.Regions.{handlers_of}
 use Rattle.linear_machine.proofs.Stretch.{Part, Site, Picked, Kept, Price, found, Arrives, Claim}
 use Rattle.linear_machine.proofs.Walks.{BlockAt, IsExcept, around_part}
-use Rattle.lowering_expressions.specs.declared.scope.Names.{Names}
-use Rattle.lowering_expressions.specs.declared.scope.ExceptionSource.{ExceptionSource}
-use Rattle.lowering_expressions.specs.declared.scope.LoweringContext.{LoweringContext}
-use Rattle.lowering_expressions.specs.declared.scope.ExceptionSource.TheVariants.{NoException, OfFilter, KeptIn}
-use Rattle.lowering_expressions.specs.declared.scope.Way.TheVariants.{Nowhere, Jumps, Unwinds}
-use Rattle.lowering_expressions.specs.Scope.{except_names, filter_names, finally_names, in_try, in_except, in_guarded}
 use Rattle.lowering_expressions.specs.declared.scope.Way as jumps
 use Rattle.lowering_expressions.specs.Scope as scopes
-use Rattle.seh_ir.specs.Regions.{except_kind, region}
 use Rattle.lowering_follows.proofs.Stores.{Shape, NotesKept, below_slot, kept_set, kept_through, kept_fewer, kept_itself, note_read, note_set_alike}
 use Rattle.lowering_follows.proofs.Environments.{CodeBound, code_kept, code_among, flag_kept, flag_among, Match, match_kept, match_among}
-use Rattle.lowering_follows.specs.StatementPlaces.{FilterPlaced}
 use Rattle.lowering_follows.proofs.BodyClaims.{JumpFits, ExitFits, Inner, exit_way, jump_way, leave_way, statement_ways, Stays, Surroundings}
 
 -- inside one region more

@@ -3,33 +3,16 @@ use Rattle.std.proofs.Common.{◌≡◌, ◌⊎◌, inl, inr, ◌<◌, ◌≤◌
 use Rattle.std.proofs.lemmas.Bool.{eq-eqb, ne_eqb}
 use Rattle.std.specs.Prelude.{Bool, true, false, nat_eq, Some, None}
 use Rattle.seh_num.specs.declared.event.Event.TheVariants as events
-use Rattle.c_checked.specs.Statement.{Filter}
-use Rattle.c_checked.specs.Program.{Program}
-use Rattle.source_meaning.specs.State.{Exception, State, Value, Normal, Returned, Broke, Continued, LeftTry, Target, End, Outcome, Gives, choose, emit}
-use Rattle.source_meaning.specs.Tasks.{Context}
-use Rattle.source_meaning.specs.Statements.{landing}
+use Rattle.lowering_follows.specs.Words.{Filter, Program, Exception, State, Value, Normal, Returned, Broke, Continued, LeftTry, Target, End, Outcome, Gives, choose, emit, Context, landing, Jump, Landing, Region, LinearProgram, Store, Configuration, Finished, with_some, set_local, handlers_in, handlers, target_past, unwind, target_of, exec, Names, LoweringContext, Nowhere, Jumps, Unwinds, in_try, except_kind, region, HasAt}
 use Rattle.linear_code.specs.declared.slot.Slot.TheVariants.{Local}
-use Rattle.linear_code.specs.declared.instruction.Instruction.TheVariants.{Jump, Landing}
-use Rattle.linear_code.specs.declared.program.Region.{Region}
-use Rattle.linear_code.specs.Program.{LinearProgram}
-use Rattle.linear_machine.specs.Frames.{Unwinds, Store, Configuration, Finished, with_some, set_local}
+use Rattle.linear_machine.specs.Frames.{Unwinds}
 use Rattle.linear_machine.specs.Frames as machine
-use Rattle.linear_machine.specs.Regions.{handlers_in, handlers}
-use Rattle.linear_machine.specs.Unwinding.{target_past, unwind}
-use Rattle.linear_machine.specs.Searching.{target_of}
-use Rattle.linear_machine.specs.Run.{exec}
 use Rattle.linear_machine.proofs.Stretch.{Part, at, Site, conf, Picked, Kept, Price, price, found, Reaches, unwound, Arrives, Claim}
 use Rattle.linear_machine.proofs.StretchJoins.{after, reaches_after, reaches_more, arrives_more, finishes_more, stops_more}
 use Rattle.linear_machine.proofs.SingleTurns.{onto, stepped, first, fetch, prefix_self, sooner}
 use Rattle.linear_machine.proofs.Walks.{Around, Inside, Outward, FindsRegions, finds_own, picked_less, picked_inside, skips, lands}
-use Rattle.lowering_expressions.specs.declared.scope.Names.{Names}
-use Rattle.lowering_expressions.specs.declared.scope.LoweringContext.{LoweringContext}
-use Rattle.lowering_expressions.specs.declared.scope.Way.TheVariants.{Nowhere, Jumps, Unwinds}
-use Rattle.lowering_expressions.specs.Scope.{in_try}
 use Rattle.lowering_expressions.specs.declared.scope.Way as jumps
-use Rattle.seh_ir.specs.Regions.{except_kind, region}
 use Rattle.lowering_follows.proofs.Stores.{Shape}
-use Rattle.lowering_follows.specs.Places.{HasAt}
 use Rattle.lowering_follows.proofs.Turns.{jump_turn}
 use Rattle.lowering_follows.proofs.BodyClaims.{JumpFits, ExitFits, Inner, own_target, exit_way, jump_way, statement_ways}
 use Rattle.lowering_follows.proofs.Tries.{within_region, is_except, is_block, picked_of, elsewhere}

@@ -3,29 +3,15 @@ use Rattle.std.proofs.Common.{◌≡◌, ◌<◌, ◌≤◌, ℕ, zero, suc, ◌
 use Rattle.std.proofs.lemmas.Bool.{le-leb}
 use Rattle.std.proofs.lemmas.List.{take_at, length_push}
 use Rattle.std.specs.Prelude.{Bool, true, false, nat_eq, nat_le, if◌then◌else◌, slice_get, take, Some, None}
-use Rattle.seh_num.specs.declared.width.Width.TheVariants.{W64}
-use Rattle.seh_num.specs.Widths.{low}
-use Rattle.c_operations.specs.declared.field.Field.{Field}
-use Rattle.c_operations.specs.declared.operation.Operation.{Operation}
+use Rattle.lowering_follows.specs.Words.{W64, low, Field, Operation, Pure, result_of, performed, State, Context, field_of, is_reserved, Temporary, Compute, Information, Jump, JumpIfZero, LinearProgram, Store, Next, Seen, pick, with_some, with_temporary, local_of, set_local, is_constant, computed, exec, HasAt}
 use Rattle.c_operations.specs.declared.operation.Operation.TheVariants as operations
-use Rattle.c_operations.specs.declared.operation.Pure.{Pure}
 use Rattle.c_operations.specs.declared.operation.Pure.TheVariants as pures
-use Rattle.c_operations.specs.Numbers.{result_of}
 use Rattle.c_operations.specs.Performed as performing
-use Rattle.c_operations.specs.Performed.{performed}
-use Rattle.source_meaning.specs.State.{State}
-use Rattle.source_meaning.specs.Tasks.{Context}
-use Rattle.source_meaning.specs.Expressions.{field_of}
-use Rattle.source_meaning.specs.Source.{is_reserved}
-use Rattle.linear_code.specs.declared.slot.Slot.TheVariants.{Local, Temporary}
-use Rattle.linear_code.specs.declared.instruction.Instruction.TheVariants.{Compute, Information, Jump, JumpIfZero}
-use Rattle.linear_code.specs.Program.{LinearProgram}
-use Rattle.linear_machine.specs.Frames.{Store, Next, Seen, pick, with_some, with_temporary, local_of, set_local, with_temporaries, forth}
-use Rattle.linear_machine.specs.Instructions.{is_constant, operand, computed}
-use Rattle.linear_machine.specs.Run.{exec}
+use Rattle.linear_code.specs.declared.slot.Slot.TheVariants.{Local}
+use Rattle.linear_machine.specs.Frames.{with_temporaries, forth}
+use Rattle.linear_machine.specs.Instructions.{operand}
 use Rattle.linear_machine.proofs.Stretch.{Site, conf}
 use Rattle.linear_machine.proofs.SingleTurns.{fetch}
-use Rattle.lowering_follows.specs.Places.{HasAt}
 use Rattle.lowering_follows.proofs.TaskClaims.{Operands}
 
 -- ---- temporaries

@@ -3,42 +3,27 @@ use Rattle.std.proofs.Common.{◌≡◌, ◌⊎◌, inl, inr, ◌<◌, ◌≤◌
 use native.Mathlib.Nat.{mul-add, mul_comm, mul-one}
 use Rattle.std.proofs.lemmas.Bool.{cases_lt, ne_eqb}
 use Rattle.std.specs.Prelude.{false, nat_eq, if◌then◌else◌, replicate, slice_get, ℤ, Some, None}
-use Rattle.seh_num.specs.declared.event.Event.{Event}
-use Rattle.seh_num.specs.declared.width.Width.TheVariants.{W32, W64}
-use Rattle.seh_num.specs.Widths.{signed, wrapped}
-use Rattle.c_operations.specs.declared.operation.Size.{Size}
-use Rattle.c_checked.specs.Program.{Program, Function}
+use Rattle.lowering_follows.specs.Words.{Event, W32, W64, signed, wrapped, Size, Program, Function, State, Value, Normal, Returned, Broke, Continued, LeftTry, Target, End, Outcome, Gives, choose, Context, no_exception, all, ended_call, enter, within, Temporary, LinearProgram, LinearFunction, FunctionBody, Store, Configuration, Seen, Finished, with_some, begin_function, exec, statements_size, statements_notes, constant, own_locals, scope_of, statements_weight, HasAt, FunctionPlaced}
 use Rattle.source_meaning.specs.declared.ended.Ended.{Ended}
 use Rattle.source_meaning.specs.declared.ended.Ended.TheVariants.{Exit}
 use Rattle.source_meaning.specs.Source.{first_memory}
-use Rattle.source_meaning.specs.State.{State, Value, Normal, Returned, Broke, Continued, LeftTry, Target, End, Outcome, Gives, choose, deeper}
-use Rattle.source_meaning.specs.Tasks.{Context}
-use Rattle.source_meaning.specs.Expressions.{no_exception, all, ended_call, enter}
+use Rattle.source_meaning.specs.State.{deeper}
 use Rattle.source_meaning.specs.Meaning as source
-use Rattle.source_meaning.specs.Meaning.{within, does, for_parameters, outside, ran, shows, meaning}
+use Rattle.source_meaning.specs.Meaning.{does, for_parameters, outside, ran, shows, meaning}
 use Rattle.source_meaning.specs.Laws.{IsPrefixOf}
 use Rattle.source_meaning.proofs.RemainingSteps.{enters_within}
-use Rattle.linear_code.specs.declared.slot.Slot.TheVariants.{Temporary}
 use Rattle.linear_code.specs.declared.instruction.Instruction.TheVariants as instructions
-use Rattle.linear_code.specs.Program.{LinearProgram, LinearFunction}
-use Rattle.linear_machine.specs.Frames.{FunctionBody, Store, Configuration, Seen, Running, Finished, Stuck, with_some}
-use Rattle.linear_machine.specs.Instructions.{begin_function}
-use Rattle.linear_machine.specs.Run.{main_arguments, start, seen, shown, exec}
+use Rattle.linear_machine.specs.Frames.{Running, Stuck}
+use Rattle.linear_machine.specs.Run.{main_arguments, start, seen, shown}
 use Rattle.linear_machine.proofs.RunLengths.{events_of, More, longer}
 use Rattle.linear_machine.proofs.Stretch.{Part, at, Site, conf, Kept, price, Claim, Stops, Prefix}
 use Rattle.linear_machine.proofs.SingleTurns.{fetch}
-use Rattle.lowering_sizes.specs.Sizes.{statements_size, statements_notes}
-use Rattle.lowering_expressions.specs.Expressions.{constant}
-use Rattle.seh_ir.specs.Lowered.{own_locals, scope_of}
 use Rattle.lowering_follows.specs.FollowLaws.{Follows, NoMore, LinkedFollows}
-use Rattle.lowering_follows.specs.Weights.{statements_weight}
 use Rattle.lowering_follows.proofs.Stores.{Shape, FrameAlike, Alike, below_slot, kept_itself, push_alike}
-use Rattle.lowering_follows.specs.Places.{HasAt}
 use Rattle.lowering_follows.proofs.Places.{has_at}
 use Rattle.lowering_follows.proofs.Turns.{constant_turn}
 use Rattle.lowering_follows.proofs.BodyClaims.{statement_ways, Stays, Surroundings}
 use Rattle.lowering_follows.proofs.BodySequences.{all_runs}
-use Rattle.lowering_follows.specs.StatementPlaces.{FunctionPlaced}
 use Rattle.lowering_follows.proofs.Functions.{begins_alike}
 use Rattle.lowering_follows.proofs.AllClaims.{both}
 

@@ -5,3 +5,4 @@ pub mod StatementPlaces
 pub mod FollowLaws
 pub mod StepsPerTurn
 pub mod LoweringLaws
+pub mod Words

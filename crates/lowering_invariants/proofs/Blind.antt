@@ -2,35 +2,18 @@
 use Rattle.std.proofs.Common.{◌≡◌, ℕ, ◌+◌, ◌<◌, true, false, List, [], ◌∷◌, map, refl, subst, arith}
 use Rattle.std.specs.List.{AllByRecursion}
 use Rattle.std.specs.Prelude.{slice_get, Option, Some, None}
-use Rattle.c_operations.specs.declared.field.Field.{Field}
-use Rattle.c_checked.specs.Program.{Program, Function}
-use Rattle.c_checked.specs.Sound.{funclets, functions_sound}
-use Rattle.c_checked.specs.Statement.{Statements}
-use Rattle.linear_code.specs.declared.slot.Slot.{Slot}
-use Rattle.linear_code.specs.declared.slot.Slot.TheVariants.{Local, Temporary}
-use Rattle.linear_code.specs.declared.instruction.Instruction.{Instruction}
+use Rattle.lowering_invariants.specs.Words.{Field, Program, Function, funclets, functions_sound, Statements, Slot, Local, Temporary, Instruction, FuncletKind, LinearBody, LinearFunction, LinearFunclet, BodyName, FunctionBody, FuncletBody, function_body, funclet_body, body_of, Names, LoweringContext, finally_scope, constant, statements_code, own_locals, all_locals, scope_of, lowered_function, lowered_funclets, all_funclets, lowered, IsBlind, statements_notes, ExpressionFits}
 use Rattle.linear_code.specs.declared.instruction.Instruction.TheVariants as instructions
-use Rattle.linear_code.specs.declared.program.FuncletKind.{FuncletKind}
 use Rattle.linear_code.specs.declared.program.FuncletKind.TheVariants as kinds
-use Rattle.linear_code.specs.Program.{LinearBody, LinearFunction, LinearFunclet}
-use Rattle.linear_machine.specs.Frames.{BodyName, FunctionBody, FuncletBody, function_body, funclet_body, body_of}
-use Rattle.lowering_expressions.specs.declared.scope.Names.{Names}
-use Rattle.lowering_expressions.specs.declared.scope.LoweringContext.{LoweringContext}
-use Rattle.lowering_expressions.specs.Scope.{finally_scope}
-use Rattle.lowering_expressions.specs.Expressions.{constant}
-use Rattle.seh_ir.specs.Statements.{statements_code}
-use Rattle.seh_ir.specs.Lowered.{own_locals, all_locals, scope_of, lowered_function, lowered_funclets, all_funclets, lowered}
 use Rattle.lowering_follows.proofs.SoundExpressions.{both_left, both_right}
 use Rattle.lowering_invariants.proofs.PlainExpressions.{all_append}
 use Rattle.lowering_invariants.proofs.TurnStack.{same_it, all_at}
-use Rattle.lowering_invariants.specs.Blind.{IsBlind, IsFilterBody}
+use Rattle.lowering_invariants.specs.Blind.{IsFilterBody}
 use Rattle.lowering_invariants.specs.PlaceLaws.{LoweredInformsFilters}
 use Rattle.lowering_invariants.proofs.BlindExpressions.{AllBlind, IsOutside, expression_blind}
 use Rattle.seh_ir.proofs.EveryInstruction.{HoldsOfInstructions, statements_all}
 use Rattle.seh_ir.proofs.EveryFunclet.{any_numbers, HoldsOfFunclets, all_funclets_every}
 use Rattle.lowering_follows.proofs.SoundStatements.{StatementsFit, function_fits}
-use Rattle.lowering_sizes.specs.Sizes.{statements_notes}
-use Rattle.lowering_follows.specs.Fits.{ExpressionFits}
 
 -- the code of a funclet is such, unless it is a filter's
 abbrev IsBlindUnless : FuncletKind → List Instruction → Type 0

@@ -1,16 +1,8 @@
 -- Outside a filter the code of an expression reads nothing of an exception.
 use Rattle.std.proofs.Common.{◌≡◌, ℕ, List, true, false}
 use Rattle.std.specs.List.{AllByRecursion}
-use Rattle.c_checked.specs.Expression.{Expression}
-use Rattle.c_checked.specs.Program.{Program}
-use Rattle.linear_code.specs.declared.instruction.Instruction.{Instruction}
-use Rattle.lowering_expressions.specs.declared.scope.ExceptionSource.{ExceptionSource}
-use Rattle.lowering_expressions.specs.declared.scope.ExceptionSource.TheVariants.{NoException, OfFilter, KeptIn}
-use Rattle.lowering_expressions.specs.declared.scope.Names.{Names}
-use Rattle.lowering_expressions.specs.Expressions.{code_code, expression_code}
-use Rattle.lowering_follows.specs.Fits.{ExpressionFits}
+use Rattle.lowering_invariants.specs.Words.{Expression, Program, Instruction, ExceptionSource, NoException, OfFilter, KeptIn, Names, code_code, expression_code, ExpressionFits, IsBlind}
 use Rattle.lowering_invariants.proofs.EveryExpression.{HoldsOfOperations, expression_every}
-use Rattle.lowering_invariants.specs.Blind.{IsBlind}
 
 abbrev pub AllBlind : List Instruction → Type 0
 AllBlind code = AllByRecursion IsBlind code

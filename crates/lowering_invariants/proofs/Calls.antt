@@ -3,21 +3,10 @@
 use Rattle.std.proofs.Common.{ℕ, ◌+◌, List, ◌++◌}
 use Rattle.std.specs.List.{AllByRecursion}
 use Rattle.std.specs.Prelude.{Bool}
-use Rattle.c_operations.specs.declared.operation.Operation.{Operation}
+use Rattle.lowering_invariants.specs.Words.{Operation, Expression, Program, Temporary, Instruction, LinearProgram, BodyName, ExceptionSource, NoException, OfFilter, KeptIn, Names, code_code, expression_code, IsCalled, ExpressionFits, IsCallee, IsInstructionOf}
 use Rattle.c_operations.specs.declared.operation.Operation.TheVariants as operations
-use Rattle.c_checked.specs.Expression.{Expression}
-use Rattle.c_checked.specs.Program.{Program}
-use Rattle.linear_code.specs.declared.slot.Slot.TheVariants.{Temporary}
-use Rattle.linear_code.specs.declared.instruction.Instruction.{Instruction}
-use Rattle.linear_code.specs.Program.{LinearProgram}
-use Rattle.linear_machine.specs.Frames.{BodyName}
-use Rattle.lowering_expressions.specs.declared.scope.ExceptionSource.{ExceptionSource}
-use Rattle.lowering_expressions.specs.declared.scope.ExceptionSource.TheVariants.{NoException, OfFilter, KeptIn}
-use Rattle.lowering_expressions.specs.declared.scope.Names.{Names}
-use Rattle.lowering_expressions.specs.Expressions.{code_code, expression_code}
-use Rattle.lowering_follows.specs.Fits.{IsCalled, ExpressionFits}
 use Rattle.lowering_invariants.proofs.PlainExpressions.{all_append}
-use Rattle.lowering_invariants.specs.Bodies.{ReadsWell, IsCallee, IsInstructionOf}
+use Rattle.lowering_invariants.specs.Bodies.{ReadsWell}
 use Rattle.lowering_invariants.proofs.EveryExpression.{HoldsOfOperations, expression_every}
 
 -- an operation on one temporary and the next

@@ -2,22 +2,12 @@
 -- that hold as many as they leave.
 use Rattle.std.proofs.Common.{◌≡◌, ℕ, ◌+◌, ◌-◌, List, [], ◌∷◌, ◌++◌, refl, sym, ap, ◌∙◌, arith}
 use Rattle.std.specs.Prelude.{Option, Some, None}
-use Rattle.c_operations.specs.declared.operation.Pure.{Pure}
+use Rattle.lowering_invariants.specs.Words.{Pure, Conversion, Kept, Extend, Scale, Expression, On, Node, Lvalue, Global, Indirection, Element, Arguments, Done, Temporary, Instruction, ExceptionSource, NoException, OfFilter, KeptIn, Names, address_count, locate_size, read_size, conversion_size, expression_size, constant, combine, conversion_code, unary_code, choice_code, code_code, abnormal_code, read_code, write_code, address_code, expression_code, locate_code, arguments_code, node_code, after}
 use Rattle.c_operations.specs.declared.operation.Pure.TheVariants as pures
-use Rattle.c_checked.specs.declared.expression.Conversion.{Conversion}
-use Rattle.c_checked.specs.declared.expression.Conversion.TheVariants.{Kept, Extend, Scale}
 use Rattle.c_checked.specs.Expression as nodes
-use Rattle.c_checked.specs.Expression.{Expression, On, Node, Lvalue, Global, Indirection, Element, Arguments, Done, Next}
-use Rattle.linear_code.specs.declared.slot.Slot.TheVariants.{Temporary}
-use Rattle.linear_code.specs.declared.instruction.Instruction.{Instruction}
+use Rattle.c_checked.specs.Expression.{Next}
 use Rattle.linear_code.specs.declared.instruction.Instruction.TheVariants as instructions
-use Rattle.lowering_expressions.specs.declared.scope.ExceptionSource.{ExceptionSource}
-use Rattle.lowering_expressions.specs.declared.scope.ExceptionSource.TheVariants.{NoException, OfFilter, KeptIn}
-use Rattle.lowering_expressions.specs.declared.scope.Names.{Names}
-use Rattle.lowering_sizes.specs.Sizes.{address_count, locate_size, read_size, conversion_size, expression_size}
-use Rattle.lowering_expressions.specs.Expressions.{constant, combine, conversion_code, unary_code, choice_code, code_code, abnormal_code, read_code, write_code, address_code, expression_code, locate_code, arguments_code, node_code}
 use Rattle.lowering_expressions.proofs.Codes.{expression_length, locate_length, conversion_length, read_length}
-use Rattle.lowering_invariants.specs.Depths.{after}
 use Rattle.lowering_invariants.proofs.Scans.{past, past_to, past_both, Scans, scan_start, scan_moved, scan_front, scan_back, scan_end, Leads, AllLead, lead_both, lead_moved}
 
 -- ---- depths

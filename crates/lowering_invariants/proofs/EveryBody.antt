@@ -2,15 +2,7 @@
 use Rattle.std.proofs.Common.{◌≡◌, ℕ, List, [], ◌∷◌, map, refl, subst}
 use Rattle.std.specs.List.{AllByRecursion}
 use Rattle.std.specs.Prelude.{slice_get, Option, Some, None}
-use Rattle.c_checked.specs.Expression.{Expression}
-use Rattle.c_checked.specs.Program.{Program, Function}
-use Rattle.c_checked.specs.Statement.{Statements}
-use Rattle.linear_code.specs.Program.{LinearBody, LinearFunction, LinearFunclet}
-use Rattle.linear_machine.specs.Frames.{BodyName, FunctionBody, FuncletBody, function_body, funclet_body, body_of}
-use Rattle.seh_ir.specs.declared.funclets.Owner.{Owner}
-use Rattle.lowering_expressions.specs.declared.scope.Names.{Names}
-use Rattle.seh_ir.specs.Funclets.{filter_funclet, finally_funclet}
-use Rattle.seh_ir.specs.Lowered.{lowered_function, all_funclets, lowered}
+use Rattle.lowering_invariants.specs.Words.{Expression, Program, Function, Statements, LinearBody, LinearFunction, LinearFunclet, BodyName, FunctionBody, FuncletBody, function_body, funclet_body, body_of, Owner, Names, filter_funclet, finally_funclet, lowered_function, all_funclets, lowered}
 use Rattle.lowering_invariants.proofs.TurnStack.{same_it, all_at}
 use Rattle.seh_ir.proofs.EveryFunclet.{funclets_any}
 

@@ -2,29 +2,13 @@
 use Rattle.std.proofs.Common.{◌≡◌, ℕ, ◌+◌, List, [], ◌∷◌, ◌++◌}
 use Rattle.std.specs.List.{AllByRecursion}
 use Rattle.std.specs.Prelude.{Bool, true, Option, Some, None}
-use Rattle.seh_num.specs.declared.width.Width.{Width}
-use Rattle.c_operations.specs.declared.built_in.BuiltIn.{BuiltIn}
-use Rattle.c_operations.specs.declared.field.Field.{Field}
-use Rattle.c_operations.specs.declared.operation.Operation.{Operation}
+use Rattle.lowering_invariants.specs.Words.{Width, BuiltIn, Field, Operation, Pure, Signed, Long, Access, Conversion, Kept, Extend, Scale, Expression, On, Node, Lvalue, Global, Indirection, Element, Arguments, Done, Program, Slot, Local, Temporary, Instruction, Names, address_count, locate_size, read_size, conversion_size, expression_size, constant, copy, change, combine, conversion_code, unary_code, choice_code, code_code, abnormal_code, load_code, read_code, write_code, address_code, chosen_of, expression_code, locate_code, arguments_code, node_code, IsCalled, ExpressionFits, LvalueFits, ArgumentsFit, NodeFits}
 use Rattle.c_operations.specs.declared.operation.Operation.TheVariants as operations
-use Rattle.c_operations.specs.declared.operation.Pure.{Pure}
 use Rattle.c_operations.specs.declared.operation.Pure.TheVariants as pures
-use Rattle.c_operations.specs.declared.operation.Signedness.TheVariants.{Signed}
-use Rattle.c_operations.specs.declared.operation.Size.TheVariants.{Long}
-use Rattle.c_checked.specs.declared.expression.Access.{Access}
-use Rattle.c_checked.specs.declared.expression.Conversion.{Conversion}
-use Rattle.c_checked.specs.declared.expression.Conversion.TheVariants.{Kept, Extend, Scale}
 use Rattle.c_checked.specs.Expression as nodes
-use Rattle.c_checked.specs.Expression.{Expression, On, Node, Lvalue, Global, Indirection, Element, Arguments, Done, Next}
-use Rattle.c_checked.specs.Program.{Program}
-use Rattle.linear_code.specs.declared.slot.Slot.{Slot}
-use Rattle.linear_code.specs.declared.slot.Slot.TheVariants.{Local, Temporary}
-use Rattle.linear_code.specs.declared.instruction.Instruction.{Instruction}
+use Rattle.c_checked.specs.Expression.{Next}
 use Rattle.linear_code.specs.declared.instruction.Instruction.TheVariants as instructions
-use Rattle.lowering_expressions.specs.declared.scope.Names.{Names}
-use Rattle.lowering_sizes.specs.Sizes.{address_count, locate_size, read_size, conversion_size, expression_size}
-use Rattle.lowering_expressions.specs.Expressions.{constant, copy, change, combine, conversion_code, unary_code, choice_code, code_code, abnormal_code, load_code, read_code, store_code, write_code, address_code, chosen_of, expression_code, locate_code, arguments_code, node_code}
-use Rattle.lowering_follows.specs.Fits.{IsCalled, ExpressionFits, LvalueFits, ArgumentsFit, NodeFits}
+use Rattle.lowering_expressions.specs.Expressions.{store_code}
 use Rattle.lowering_invariants.proofs.PlainExpressions.{all_append}
 
 -- it holds of operations on temporaries and locals, of memory, and of jumps

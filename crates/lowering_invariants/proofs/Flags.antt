@@ -2,11 +2,7 @@
 use Rattle.std.proofs.Common.{◌≡◌, ℕ, refl, ◌+◌, ◌≤◌, List, [], ◌∷◌, subst, arith}
 use Rattle.std.specs.List.{AllByRecursion}
 use Rattle.std.specs.Prelude.{None}
-use Rattle.c_checked.specs.Program.{Function}
-use Rattle.linear_code.specs.Program.{LinearFunclet}
-use Rattle.lowering_sizes.specs.Sizes.{statements_notes}
-use Rattle.seh_ir.specs.declared.funclets.Owner.{Owner}
-use Rattle.seh_ir.specs.Lowered.{all_locals, scope_of, lowered_funclets, all_funclets, lowered}
+use Rattle.lowering_invariants.specs.Words.{Function, LinearFunclet, statements_notes, Owner, all_locals, scope_of, lowered_funclets, all_funclets, lowered}
 use Rattle.lowering_invariants.specs.Slots.{HasFlag}
 use Rattle.lowering_invariants.proofs.PlainExpressions.{all_append}
 use Rattle.lowering_invariants.proofs.TurnStack.{all_at}

@@ -4,25 +4,15 @@ use Rattle.std.proofs.lemmas.List.{length-map}
 use Rattle.std.proofs.lemmas.Option.{slice_get-map, slice_get_within}
 use Rattle.std.specs.List.{AllByRecursion}
 use Rattle.std.specs.Prelude.{true, slice_get, option_map, Option, Some, None}
-use Rattle.c_checked.specs.Program.{Program, Function}
+use Rattle.lowering_invariants.specs.Words.{Program, Function, IsSound, funclets, count_up, function_sound, functions_sound, Temporary, LinearBody, LinearFunction, LinearFunclet, FunctionBody, FuncletBody, function_body, funclet_body, body_of, Owner, constant, statements_code, own_locals, all_locals, scope_of, lowered_function, lowered_funclets, all_funclets, lowered, IsCalled, IsCallee, IsBodyOf, AreBodies}
 use Rattle.c_checked.specs.Sound as sound
-use Rattle.c_checked.specs.Sound.{IsSound, funclets, count_up, function_sound, functions_sound}
-use Rattle.linear_code.specs.declared.slot.Slot.TheVariants.{Temporary}
 use Rattle.linear_code.specs.declared.instruction.Instruction.TheVariants as instructions
-use Rattle.linear_code.specs.Program.{LinearBody, LinearFunction, LinearFunclet}
-use Rattle.linear_machine.specs.Frames.{FunctionBody, FuncletBody, function_body, funclet_body, body_of}
 use Rattle.linear_machine.proofs.Ranges.{Range, part_of, both_parts, no_part, one_part}
-use Rattle.seh_ir.specs.declared.funclets.Owner.{Owner}
-use Rattle.lowering_expressions.specs.Expressions.{constant}
-use Rattle.seh_ir.specs.Statements.{statements_code}
-use Rattle.seh_ir.specs.Lowered.{own_locals, all_locals, scope_of, lowered_function, lowered_funclets, all_funclets, lowered}
-use Rattle.lowering_follows.specs.Fits.{IsCalled}
 use Rattle.seh_ir.proofs.FuncletCounts.{statements_count}
 use Rattle.lowering_follows.proofs.FuncletNumbers.{count_front, count_back}
 use Rattle.lowering_follows.proofs.Segments.{IsSegmentAt, front, back, whole_is_at}
 use Rattle.lowering_follows.proofs.SoundExpressions.{both_left, both_right}
 use Rattle.lowering_follows.proofs.ProgramLowering.{lowered_is_linked}
-use Rattle.lowering_invariants.specs.Bodies.{IsCallee, IsBodyOf, AreBodies}
 use Rattle.lowering_invariants.specs.TypeLaws.{LoweredIsWhole}
 use Rattle.lowering_invariants.proofs.Calls.{append}
 use Rattle.lowering_invariants.proofs.TurnStack.{same_it, all_at}

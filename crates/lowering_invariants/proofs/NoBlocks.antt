@@ -3,23 +3,12 @@ use Rattle.std.proofs.Common.{◌≡◌, ℕ, ◌+◌, List, [], ◌∷◌, ◌+
 use Rattle.std.specs.List.{AllByRecursion}
 use Rattle.std.specs.Prelude.{false, Option}
 use Rattle.c_operations.specs.declared.operation.Operation.TheVariants as operations
-use Rattle.c_operations.specs.declared.operation.Pure.{Pure}
+use Rattle.lowering_invariants.specs.Words.{Pure, Signed, Long, Conversion, Expression, On, Node, Lvalue, Global, Indirection, Element, Arguments, Done, Temporary, Instruction, ExceptionSource, NoException, OfFilter, KeptIn, Names, address_count, locate_size, read_size, conversion_size, expression_size, constant, copy, combine, conversion_code, unary_code, choice_code, code_code, abnormal_code, read_code, write_code, address_code, chosen_of, expression_code, locate_code, arguments_code, node_code, runs_blocks}
 use Rattle.c_operations.specs.declared.operation.Pure.TheVariants as pures
-use Rattle.c_operations.specs.declared.operation.Signedness.TheVariants.{Signed}
-use Rattle.c_operations.specs.declared.operation.Size.TheVariants.{Long}
-use Rattle.c_checked.specs.declared.expression.Conversion.{Conversion}
 use Rattle.c_checked.specs.Expression as nodes
-use Rattle.c_checked.specs.Expression.{Expression, On, Node, Lvalue, Global, Indirection, Element, Arguments, Done, Next}
-use Rattle.linear_code.specs.declared.slot.Slot.TheVariants.{Temporary}
-use Rattle.linear_code.specs.declared.instruction.Instruction.{Instruction}
-use Rattle.lowering_expressions.specs.declared.scope.ExceptionSource.{ExceptionSource}
-use Rattle.lowering_expressions.specs.declared.scope.ExceptionSource.TheVariants.{NoException, OfFilter, KeptIn}
-use Rattle.lowering_expressions.specs.declared.scope.Names.{Names}
-use Rattle.lowering_sizes.specs.Sizes.{address_count, locate_size, read_size, conversion_size, expression_size}
-use Rattle.lowering_expressions.specs.Expressions.{constant, copy, combine, conversion_code, unary_code, choice_code, code_code, abnormal_code, read_code, write_code, address_code, chosen_of, expression_code, locate_code, arguments_code, node_code}
+use Rattle.c_checked.specs.Expression.{Next}
 use Rattle.lowering_invariants.proofs.PlainExpressions.{all_append}
 use Rattle.lowering_invariants.proofs.EveryExpression.{HoldsOfOperations, conversion_every, unary_every, choice_every, read_every, write_every, address_every, flag_every}
-use Rattle.lowering_invariants.specs.BlockSeparators.{runs_blocks}
 
 abbrev pub RunsNoBlock : Instruction → Type 0
 RunsNoBlock i = runs_blocks i ≡ false

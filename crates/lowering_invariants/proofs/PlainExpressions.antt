@@ -2,35 +2,17 @@
 use Rattle.std.proofs.Common.{◌≡◌, ℕ, suc, ◌+◌, ◌*◌, ◌<◌, ◌≤◌, List, [], ◌∷◌, ◌++◌, length, arith}
 use Rattle.std.specs.List.{AllByRecursion}
 use Rattle.std.specs.Prelude.{Bool, slice_get, Option, Some, None}
-use Rattle.c_operations.specs.declared.built_in.BuiltIn.{BuiltIn}
-use Rattle.c_operations.specs.declared.field.Field.{Field}
+use Rattle.lowering_invariants.specs.Words.{BuiltIn, Field, Operation, Pure, Signed, Long, Access, Conversion, Kept, Extend, Scale, Expression, On, Node, Lvalue, Global, Indirection, Element, Arguments, Done, Program, Function, Local, Temporary, Instruction, count_of, ExceptionSource, NoException, OfFilter, KeptIn, Names, address_count, locate_size, read_size, conversion_size, expression_size, instruction_temporaries, instruction_passes, constant, copy, change, combine, conversion_code, unary_code, choice_code, code_code, abnormal_code, load_code, read_code, write_code, address_code, chosen_of, expression_code, locate_code, arguments_code, node_code, ExpressionFits, LvalueFits, ArgumentsFit, NodeFits, expression_nesting, expression_reads, IsPlain}
 use Rattle.c_operations.specs.declared.field.Field.TheVariants as fields
-use Rattle.c_operations.specs.declared.operation.Operation.{Operation}
 use Rattle.c_operations.specs.declared.operation.Operation.TheVariants as operations
-use Rattle.c_operations.specs.declared.operation.Pure.{Pure}
 use Rattle.c_operations.specs.declared.operation.Pure.TheVariants as pures
-use Rattle.c_operations.specs.declared.operation.Signedness.TheVariants.{Signed}
-use Rattle.c_operations.specs.declared.operation.Size.TheVariants.{Long}
-use Rattle.c_checked.specs.declared.expression.Access.{Access}
-use Rattle.c_checked.specs.declared.expression.Conversion.{Conversion}
-use Rattle.c_checked.specs.declared.expression.Conversion.TheVariants.{Kept, Extend, Scale}
 use Rattle.c_checked.specs.declared.expression.Fixity.{Fixity}
 use Rattle.c_checked.specs.declared.expression.Fixity.TheVariants.{Postfix, Prefix}
 use Rattle.c_checked.specs.Expression as nodes
-use Rattle.c_checked.specs.Expression.{Expression, On, Node, Lvalue, Global, Indirection, Element, Arguments, Done, Next}
-use Rattle.c_checked.specs.Program.{Program, Function}
-use Rattle.linear_code.specs.declared.slot.Slot.TheVariants.{Local, Temporary}
-use Rattle.linear_code.specs.declared.instruction.Instruction.{Instruction}
-use Rattle.linear_machine.specs.Instructions.{count_of}
-use Rattle.lowering_expressions.specs.declared.scope.ExceptionSource.{ExceptionSource}
-use Rattle.lowering_expressions.specs.declared.scope.ExceptionSource.TheVariants.{NoException, OfFilter, KeptIn}
-use Rattle.lowering_expressions.specs.declared.scope.Names.{Names}
-use Rattle.lowering_sizes.specs.Sizes.{address_count, locate_size, read_size, conversion_size, expression_size}
-use Rattle.seh_ir.specs.Slots.{instruction_temporaries, instruction_passes}
-use Rattle.lowering_expressions.specs.Expressions.{size_of, constant, copy, change, combine, conversion_code, unary_code, choice_code, code_code, abnormal_code, load_code, read_code, write_code, address_code, argument_count, chosen_of, expression_code, locate_code, arguments_code, node_code}
-use Rattle.lowering_follows.specs.Fits.{ExpressionFits, LvalueFits, ArgumentsFit, NodeFits}
-use Rattle.lowering_invariants.specs.Nesting.{parameters_for, expression_nesting, lvalue_nesting, arguments_nesting, node_nesting, expression_reads, lvalue_reads, arguments_read, node_reads}
-use Rattle.lowering_invariants.specs.Slots.{IsField, IsPlain}
+use Rattle.c_checked.specs.Expression.{Next}
+use Rattle.lowering_expressions.specs.Expressions.{size_of, argument_count}
+use Rattle.lowering_invariants.specs.Nesting.{parameters_for, lvalue_nesting, arguments_nesting, node_nesting, lvalue_reads, arguments_read, node_reads}
+use Rattle.lowering_invariants.specs.Slots.{IsField}
 
 pub all_append : {X : Type 0} (P : X → Type 0) (xs ys : List X) → AllByRecursion P xs
     → AllByRecursion P ys → AllByRecursion P (xs ++ ys)

@@ -3,32 +3,17 @@
 use Rattle.std.proofs.Common.{◌≡◌, ℕ, ◌+◌, ◌-◌, ◌*◌, ◌<◌, ◌≤◌, List, [], ◌∷◌, ◌++◌, length, sym, subst, arith}
 use Rattle.std.specs.List.{AllByRecursion}
 use Rattle.std.specs.Prelude.{Bool, true, false, slice_get, Option, Some, None}
-use Rattle.c_checked.specs.Expression.{Expression}
-use Rattle.c_checked.specs.Program.{Program, Function}
-use Rattle.c_checked.specs.Sound.{count_up}
-use Rattle.c_checked.specs.Statement.{Declared, Filter, Always, Funclet, Statement, Declare, Block, Evaluate, If, IfElse, For, DoWhile, Return, Break, Continue, Leave, TryExcept, TryFinally, Statements, Empty, Then}
-use Rattle.linear_code.specs.declared.slot.Slot.TheVariants.{Local, Temporary}
-use Rattle.linear_code.specs.declared.instruction.Instruction.{Instruction}
+use Rattle.lowering_invariants.specs.Words.{Expression, Program, Function, count_up, Declared, Filter, Always, Funclet, Statement, Declare, Block, Evaluate, If, IfElse, For, DoWhile, Return, Break, Continue, Leave, TryExcept, TryFinally, Statements, Empty, Then, Local, Temporary, Instruction, LinearProgram, statements_notes, Owner, Names, LoweringContext, except_names, filter_names, finally_names, finally_scope, temporaries_in, passed_in, expression_code, statements_code, filter_funclet, finally_funclet, expression_nesting, expression_reads, IsPlain, IsSmallBody, IsSmallFunclet, ExpressionFits}
 use Rattle.linear_code.specs.declared.instruction.Instruction.TheVariants as instructions
-use Rattle.linear_code.specs.Program.{LinearProgram}
-use Rattle.lowering_sizes.specs.Sizes.{statements_notes}
-use Rattle.seh_ir.specs.declared.funclets.Owner.{Owner}
-use Rattle.lowering_expressions.specs.declared.scope.Names.{Names}
-use Rattle.lowering_expressions.specs.declared.scope.LoweringContext.{LoweringContext}
-use Rattle.lowering_expressions.specs.Scope.{except_names, filter_names, finally_names, finally_scope}
-use Rattle.seh_ir.specs.Slots.{temporaries_in, passed_in, body_with}
-use Rattle.lowering_expressions.specs.Expressions.{expression_code}
-use Rattle.seh_ir.specs.Statements.{statements_code}
-use Rattle.seh_ir.specs.Funclets.{filter_funclet, finally_funclet}
+use Rattle.seh_ir.specs.Slots.{body_with}
 use Rattle.lowering_follows.proofs.FuncletNumbers.{counted}
 use Rattle.lowering_follows.proofs.SoundExpressions.{both_right}
-use Rattle.lowering_invariants.specs.Nesting.{expression_nesting, expression_reads, most_of_optional, most_of_declared, most_of_filter, most_of_statement, most_of}
-use Rattle.lowering_invariants.specs.Slots.{IsPlain, HasParent, IsSmallBody, IsSmallFunclet}
+use Rattle.lowering_invariants.specs.Nesting.{most_of_optional, most_of_declared, most_of_filter, most_of_statement, most_of}
+use Rattle.lowering_invariants.specs.Slots.{HasParent}
 use Rattle.lowering_invariants.proofs.PlainExpressions.{NamesAmong, Good, AllGood, append, kept_good, constant_good, expression_good}
 use Rattle.seh_ir.proofs.StatementParts.{OptionalHas, AllDeclaredHave, FilterHas, StatementHas, StatementsHave}
 use Rattle.seh_ir.proofs.EveryInstruction.{HoldsOfInstructions, statements_all}
 use Rattle.seh_ir.proofs.EveryFunclet.{HoldsOfFunclets}
-use Rattle.lowering_follows.specs.Fits.{ExpressionFits}
 
 -- ---- what all instructions of a body have, the body has
 

@@ -1,5 +1,5 @@
 -- What holds of each configuration that the linear code of a sound program comes to.
-use Rattle.seh_ir.specs.Lowered.{lowered}
+use Rattle.lowering_invariants.specs.Words.{lowered}
 use Rattle.lowering_invariants.specs.TypeLaws.{ReachedIsStacked, ReachedHasActivations, ReachedIsSmall, ReachedHasDepths}
 use Rattle.lowering_invariants.proofs.Lowered.{lowered_is_whole}
 use Rattle.lowering_invariants.proofs.TurnActivations.{reached_both}

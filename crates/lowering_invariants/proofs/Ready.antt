@@ -3,25 +3,10 @@ use Rattle.std.proofs.Common.{◌≡◌, ℕ, ◌+◌, ◌*◌, List, [], length
 use Rattle.std.proofs.lemmas.Bool.{eqb-true, leb-true}
 use Rattle.std.proofs.lemmas.Option.{slice_get_within}
 use Rattle.std.specs.Prelude.{Bool, true, false, nat_eq, nat_le, if◌then◌else◌, slice_get, Option, Some, None}
-use Rattle.seh_num.specs.declared.event.Event.{Event}
-use Rattle.c_checked.specs.Program.{Program}
-use Rattle.c_checked.specs.Sound.{IsSound}
-use Rattle.linear_code.specs.declared.slot.Slot.{Slot}
-use Rattle.linear_code.specs.declared.slot.Slot.TheVariants.{Local, Temporary}
-use Rattle.linear_code.specs.declared.instruction.Instruction.{Instruction}
+use Rattle.lowering_invariants.specs.Words.{Event, Program, IsSound, Slot, Local, Temporary, Instruction, LinearProgram, Configuration, Seen, Stuck, Next, pick, with_some, read, write, with_temporary, with_temporaries, last_temporaries, at_label, forth, flag_of, is_constant, operand, written, computed, tested, waiting, count_of, built_in, end_body, not_landed, act, performed, is_reserved, field_of, instruction_at, exec, start, lowered, IsReached}
 use Rattle.linear_code.specs.declared.instruction.Instruction.TheVariants as instructions
-use Rattle.linear_code.specs.Program.{LinearProgram}
-use Rattle.linear_machine.specs.Frames.{Configuration, Seen, Stuck, Next, pick, with_some, read, write, with_temporary, with_temporaries, last_temporaries, at_label, forth}
-use Rattle.linear_machine.specs.Unwinding.{flag_of}
-use Rattle.linear_machine.specs.Instructions.{is_constant, operand, written, computed, tested, waiting, count_of, built_in, end_body, not_landed, act}
-use Rattle.c_operations.specs.Performed.{performed}
-use Rattle.source_meaning.specs.Source.{is_reserved}
-use Rattle.source_meaning.specs.Expressions.{field_of}
-use Rattle.linear_machine.specs.Run.{instruction_at, exec, start}
-use Rattle.seh_ir.specs.Lowered.{lowered}
 use Rattle.lowering_follows.specs.StepsPerTurn.{steps_per_turn_of}
 use Rattle.lowering_follows.proofs.ProgramLowering.{lowered_shows_no_more}
-use Rattle.lowering_invariants.specs.Turns.{IsReached}
 use Rattle.lowering_invariants.specs.Ready.{IsHeld, IsNextSlot, IsRead, held, IsReady}
 use Rattle.lowering_invariants.specs.TypeLaws.{ReachedContinues}
 use Rattle.lowering_invariants.proofs.Turns.{there, come}

@@ -2,21 +2,19 @@
 use Rattle.std.proofs.Common.{◌≡◌, ℕ, zero, suc, ◌/◌, ◌%◌, ◌^◌, ◌<◌, refl, ap, subst, arith}
 use Rattle.std.proofs.Math.Nat.{div-le_self, mod-le}
 use Rattle.std.specs.Prelude.{Bool, true, false, cond, not, ◌==◌, nat_lt, if◌then◌else◌, ℤ, Option, Some, None, Result, Ok, Err}
-use Rattle.seh_num.specs.declared.width.Width.{Width}
-use Rattle.seh_num.specs.declared.width.Width.TheVariants.{W8, W16, W32, W64}
+use Rattle.lowering_invariants.specs.Words.{Width, W32, W64, low, signed, wrapped, Memory, Signed, Operation, OperationResult, Gives, Raises, Undefined, performed, IsSmallAccess}
+use Rattle.seh_num.specs.declared.width.Width.TheVariants.{W8, W16}
 use Rattle.seh_num.specs.declared.division.DivFault.{DivFault}
 use Rattle.seh_num.specs.declared.division.DivFault.TheVariants.{Zero, Overflow}
-use Rattle.seh_num.specs.Widths.{limit, low, signed, wrapped, bytes_of}
+use Rattle.seh_num.specs.Widths.{limit, bytes_of}
 use Rattle.seh_num.proofs.Below.{low_below, wrapped_below}
 use Rattle.seh_num.specs.Division.{divided_signed, divided_unsigned}
-use Rattle.flat_memory.specs.Memory.{Memory, next, first_refused, may_read, may_write, number_at, with_number, with_bytes}
-use Rattle.c_operations.specs.declared.operation.Signedness.TheVariants.{Unsigned, Signed}
-use Rattle.c_operations.specs.declared.operation.Operation.{Operation}
+use Rattle.flat_memory.specs.Memory.{next, first_refused, may_read, may_write, number_at, with_number, with_bytes}
+use Rattle.c_operations.specs.declared.operation.Signedness.TheVariants.{Unsigned}
 use Rattle.c_operations.specs.declared.operation.Operation.TheVariants as operations
 use Rattle.c_operations.specs.Numbers.{width}
-use Rattle.c_operations.specs.Performed.{OperationResult, Gives, Raises, Undefined, fault_of, signed_part, unsigned_part, unless_reserved, unless_refused, accessed, performed}
+use Rattle.c_operations.specs.Performed.{fault_of, signed_part, unsigned_part, unless_reserved, unless_refused, accessed}
 use Rattle.c_operations.proofs.SmallResults.{result_small}
-use Rattle.lowering_invariants.specs.SmallNumbers.{IsSmallAccess}
 
 -- ---- widths
 

@@ -3,28 +3,9 @@
 use Rattle.std.proofs.Common.{◌≡◌, ℕ, zero, suc, ◌+◌, ◌<◌, List, [], ◌∷◌, ◌++◌, length, filter, refl, sym, ap, subst, ◌∙◌, arith, append-nil}
 use Rattle.std.specs.List.{AllByRecursion}
 use Rattle.std.specs.Prelude.{Bool, true, false, cond, ◌&&◌, nat_le, nat_lt, slice_get, Some}
-use Rattle.c_checked.specs.Expression.{Expression}
-use Rattle.c_checked.specs.Program.{Program, Function}
-use Rattle.c_checked.specs.Statement.{Statements}
-use Rattle.linear_code.specs.declared.slot.Slot.TheVariants.{Local, Temporary}
-use Rattle.linear_code.specs.declared.instruction.Instruction.{Instruction}
-use Rattle.linear_code.specs.declared.instruction.Instruction.TheVariants.{Jump, JumpIfZero, LocalUnwind, Separator, Return}
-use Rattle.linear_code.specs.declared.program.Region.{Region}
-use Rattle.linear_code.specs.Program.{LinearBody}
-use Rattle.linear_machine.specs.Frames.{BodyName, body_of}
-use Rattle.linear_machine.specs.Regions.{holds}
-use Rattle.lowering_sizes.specs.Sizes.{statements_notes}
-use Rattle.seh_ir.specs.declared.funclets.Owner.{Owner}
-use Rattle.lowering_expressions.specs.declared.scope.Names.{Names}
-use Rattle.lowering_expressions.specs.declared.scope.Way.{Way}
-use Rattle.lowering_expressions.specs.declared.scope.Way.TheVariants.{Nowhere, Jumps, Unwinds}
-use Rattle.lowering_expressions.specs.declared.scope.LoweringContext.{LoweringContext}
-use Rattle.lowering_expressions.specs.Scope.{finally_scope}
-use Rattle.lowering_expressions.specs.Expressions.{constant, copy, expression_code}
-use Rattle.seh_ir.specs.Statements.{return_code, returned_code, statements_code}
-use Rattle.seh_ir.specs.Regions.{statements_regions}
-use Rattle.seh_ir.specs.Funclets.{filter_funclet, finally_funclet}
-use Rattle.seh_ir.specs.Lowered.{scope_of, lowered_function, lowered}
+use Rattle.lowering_invariants.specs.Words.{Expression, Program, Function, Statements, Local, Temporary, Instruction, Jump, JumpIfZero, Separator, Region, LinearBody, BodyName, body_of, holds, statements_notes, Owner, Names, Way, Nowhere, Jumps, LoweringContext, finally_scope, constant, copy, expression_code, return_code, returned_code, statements_code, statements_regions, filter_funclet, finally_funclet, scope_of, lowered_function, lowered}
+use Rattle.linear_code.specs.declared.instruction.Instruction.TheVariants.{LocalUnwind, Return}
+use Rattle.lowering_expressions.specs.declared.scope.Way.TheVariants.{Unwinds}
 use Rattle.seh_ir.proofs.StatementParts.{statements_have}
 use Rattle.seh_ir.proofs.EveryStatement.{WaysHave, IsPlaced, HoldsOfPieces, statements_every}
 use Rattle.seh_ir.proofs.AnyStatement.{HoldsOfAnyPieces, neutral_of}

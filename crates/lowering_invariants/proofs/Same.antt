@@ -2,17 +2,11 @@
 use Rattle.std.proofs.Common.{◌≡◌, ℕ, zero, suc, List, [], ◌∷◌, refl, ap}
 use Rattle.std.proofs.Math.Path.{fun_ext}
 use Rattle.std.specs.Prelude.{Bool, true, false, if◌then◌else◌, Option, Some, None}
-use Rattle.seh_num.specs.declared.event.Event.{Event}
+use Rattle.lowering_invariants.specs.Words.{Event, Memory, Region, RegionKind, Deep, Exception, BodyName, FunctionBody, FuncletBody, Frame, Handler, Target, Resumption, AfterCall, SameOperation, Item, Waits, Searches, Unwinds, Store, Configuration, Seen, Running, Finished}
 use Rattle.flat_memory.specs.declared.protection.Protection.{Protection}
 use Rattle.flat_memory.specs.declared.protection.Rights.{Rights}
 use Rattle.flat_memory.specs.declared.protection.Rights.TheVariants.{Nothing, Read, ReadWrite}
-use Rattle.flat_memory.specs.Memory.{Memory}
-use Rattle.linear_code.specs.declared.program.Region.{Region}
-use Rattle.linear_code.specs.declared.program.RegionKind.{RegionKind}
 use Rattle.linear_code.specs.declared.program.RegionKind.TheVariants as kinds
-use Rattle.source_meaning.specs.declared.ended.Ended.TheVariants.{Deep}
-use Rattle.source_meaning.specs.State.{Exception}
-use Rattle.linear_machine.specs.Frames.{BodyName, FunctionBody, FuncletBody, Frame, Handler, Target, Resumption, AfterCall, SameOperation, Item, Waits, Searches, Unwinds, Store, Configuration, Seen, Running, Finished}
 use Rattle.lowering_invariants.specs.TypeLaws.{SeenAlikeIsSame}
 
 -- two things that each test answers with the same number are the same

@@ -1,9 +1,8 @@
 -- Depths along a list of instructions, part by part.
 use Rattle.std.proofs.Common.{◌≡◌, ℕ, zero, suc, ◌+◌, List, [], ◌∷◌, ◌++◌, length, refl, sym, ap, subst, ◌∙◌, arith}
 use Rattle.std.specs.Prelude.{get_or, slice_get, Some}
-use Rattle.linear_code.specs.declared.instruction.Instruction.{Instruction}
+use Rattle.lowering_invariants.specs.Words.{Instruction, with_tested, after, depths, depth_at}
 use Rattle.linear_code.specs.declared.instruction.Instruction.TheVariants as instructions
-use Rattle.lowering_invariants.specs.Depths.{with_tested, after, depths, depth_at}
 use Rattle.lowering_invariants.proofs.TurnStack.{same_it}
 
 -- the depth after a list

@@ -4,40 +4,15 @@ use Rattle.std.proofs.lemmas.Bool.{eqb-true, eqb-false, leb-true}
 use Rattle.std.proofs.lemmas.List.{length-take-le}
 use Rattle.std.proofs.lemmas.Option.{slice_get_within}
 use Rattle.std.specs.Prelude.{Bool, true, false, nat_eq, nat_le, nat_lt, slice_get, take, if◌then◌else◌, get_or, Option, Some, None}
-use Rattle.seh_num.specs.declared.event.Event.{Event}
+use Rattle.lowering_invariants.specs.Words.{Event, W32, low, signed, BuiltIn, Put, Protect, RaiseException, Operation, OperationResult, Gives, Raises, Undefined, performed, Exception, is_reserved, field_of, raised, noncontinuable, raise_event, Slot, Local, Temporary, Instruction, Region, RegionKind, FuncletKind, LinearProgram, LinearBody, BodyName, FunctionBody, FuncletBody, body_of, Frame, Handler, Target, Resumption, AfterCall, SameOperation, Item, Waits, Searches, Unwinds, Store, Configuration, Seen, Finished, Stuck, Next, pick, read, write, with_temporary, with_temporaries, last_temporaries, set_local, at_label, forth, with_last, regions_at, regions_left, handlers, stops, flag_of, run_finally, arrive, target_past, left_store, leave_region, unwind_body, unwind, target_of, accept, consult, search, raise, resumed, answer, is_constant, operand, written, computed, tested, count_of, built_in, return, end_finally, end_funclet, end_body, not_landed, act, instruction_in, instruction_at, start, IsTurn, IsReached, IsWhole, MayWait, IsHandler, LandsAt, IsTarget, IsAbove, IsRaisedIn, AreHandlers, AreWaiting, IsStacked, with_written, after, depth_at}
 use Rattle.seh_num.specs.declared.event.Event.TheVariants as events
-use Rattle.seh_num.specs.declared.width.Width.TheVariants.{W32}
-use Rattle.seh_num.specs.Widths.{low, signed}
-use Rattle.c_operations.specs.declared.built_in.BuiltIn.{BuiltIn}
-use Rattle.c_operations.specs.declared.built_in.BuiltIn.TheVariants.{Put, Protect, RaiseException}
-use Rattle.c_operations.specs.declared.operation.Operation.{Operation}
-use Rattle.c_operations.specs.Performed.{OperationResult, Gives, Raises, Undefined, performed}
 use Rattle.source_meaning.specs.declared.ended.Ended.TheVariants as ends
-use Rattle.source_meaning.specs.State.{Exception}
-use Rattle.source_meaning.specs.Source.{is_reserved}
-use Rattle.source_meaning.specs.Expressions.{field_of, raised}
-use Rattle.source_meaning.specs.Raises.{noncontinuable, raise_event}
-use Rattle.linear_code.specs.declared.slot.Slot.{Slot}
-use Rattle.linear_code.specs.declared.slot.Slot.TheVariants.{Local, Temporary}
-use Rattle.linear_code.specs.declared.instruction.Instruction.{Instruction}
 use Rattle.linear_code.specs.declared.instruction.Instruction.TheVariants as instructions
-use Rattle.linear_code.specs.declared.program.Region.{Region}
-use Rattle.linear_code.specs.declared.program.RegionKind.{RegionKind}
 use Rattle.linear_code.specs.declared.program.RegionKind.TheVariants as kinds
-use Rattle.linear_code.specs.declared.program.FuncletKind.{FuncletKind}
 use Rattle.linear_code.specs.declared.program.FuncletKind.TheVariants as funclets
-use Rattle.linear_code.specs.Program.{LinearProgram, LinearBody}
-use Rattle.linear_machine.specs.Frames.{BodyName, FunctionBody, FuncletBody, body_of, Frame, Handler, Target, Resumption, AfterCall, SameOperation, Item, Waits, Searches, Unwinds, Store, Configuration, Seen, Finished, Stuck, Next, pick, read, write, with_temporary, with_temporaries, last_temporaries, set_local, at_label, forth, with_last}
-use Rattle.linear_machine.specs.Regions.{regions_at, regions_left, handlers, stops}
-use Rattle.linear_machine.specs.Unwinding.{flag_of, run_finally, arrive, target_past, left_store, leave_region, unwind_body, unwind}
-use Rattle.linear_machine.specs.Searching.{target_of, accept, consult, search, raise, resumed, answer}
-use Rattle.linear_machine.specs.Instructions.{is_constant, operand, written, computed, tested, count_of, built_in, return, end_finally, end_funclet, end_body, not_landed, act}
-use Rattle.linear_machine.specs.Run.{instruction_in, instruction_at, start}
 use Rattle.lowering_follows.proofs.SoundExpressions.{both_left}
-use Rattle.lowering_invariants.specs.Turns.{IsTurn, IsReached}
-use Rattle.lowering_invariants.specs.Bodies.{IsWhole}
-use Rattle.lowering_invariants.specs.Waiting.{IsAt, MayWait, IsHandler, LandsAt, IsTarget, IsAbove, IsCalledBy, IsRunFor, IsRaisedIn, AreHandlers, AreWaiting, IsStacked}
-use Rattle.lowering_invariants.specs.Depths.{with_written, after, depth_at, depth_in, taken, depth, WaitsDeep, AreDeep, HasDepths}
+use Rattle.lowering_invariants.specs.Waiting.{IsAt, IsCalledBy, IsRunFor}
+use Rattle.lowering_invariants.specs.Depths.{depth_in, taken, depth, WaitsDeep, AreDeep, HasDepths}
 use Rattle.lowering_invariants.proofs.Ready.{last_are, chosen, some_temporaries}
 use Rattle.lowering_invariants.proofs.Moves.{Turn, Halts, Moves, pick_turn, some_turn, deeper_turn, kept, kept_by_all}
 use Rattle.lowering_invariants.proofs.Scans.{Leads, depth_next, leads_at}

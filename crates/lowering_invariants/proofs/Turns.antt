@@ -1,12 +1,7 @@
 -- What is seen after several turns.
 use Rattle.std.proofs.Common.{◌≡◌, ℕ, zero, suc, ◌+◌, refl, ap, ◌∙◌, arith}
 use Rattle.std.specs.Prelude.{List, Option, Some, None}
-use Rattle.seh_num.specs.declared.event.Event.{Event}
-use Rattle.linear_code.specs.Program.{LinearProgram}
-use Rattle.linear_machine.specs.Frames.{Configuration, Seen, Stuck, with_some}
-use Rattle.linear_machine.specs.Instructions.{act}
-use Rattle.linear_machine.specs.Run.{instruction_at, exec}
-use Rattle.lowering_invariants.specs.Turns.{IsTurn, Comes}
+use Rattle.lowering_invariants.specs.Words.{Event, LinearProgram, Configuration, Seen, Stuck, with_some, act, instruction_at, exec, IsTurn, Comes}
 
 -- where a test for something doesn't end the run, it is there
 pub record There {A : Type 0} (o : Option A) (go : A → Seen) : Type 0 where

@@ -3,26 +3,12 @@
 use Rattle.std.proofs.Common.{◌≡◌, ℕ, ◌+◌, ◌<◌, List, [], ◌∷◌, ◌++◌, length, arith, length-append}
 use Rattle.std.specs.List.{AllByRecursion}
 use Rattle.std.specs.Prelude.{false, slice_get, Some}
-use Rattle.c_checked.specs.Expression.{Expression}
-use Rattle.c_checked.specs.Program.{Function}
-use Rattle.c_checked.specs.Statement.{Statements}
-use Rattle.linear_code.specs.declared.slot.Slot.TheVariants.{Local, Temporary}
-use Rattle.linear_code.specs.declared.instruction.Instruction.{Instruction}
+use Rattle.lowering_invariants.specs.Words.{Expression, Function, Statements, Local, Temporary, Instruction, statements_size, statements_notes, Owner, Names, LoweringContext, finally_scope, constant, expression_code, statements_code, filter_funclet, finally_funclet, scope_of, lowered_function, runs_blocks}
 use Rattle.linear_code.specs.declared.instruction.Instruction.TheVariants as instructions
-use Rattle.lowering_sizes.specs.Sizes.{statements_size, statements_notes}
-use Rattle.seh_ir.specs.declared.funclets.Owner.{Owner}
-use Rattle.lowering_expressions.specs.declared.scope.Names.{Names}
-use Rattle.lowering_expressions.specs.declared.scope.LoweringContext.{LoweringContext}
-use Rattle.lowering_expressions.specs.Scope.{finally_scope}
-use Rattle.lowering_expressions.specs.Expressions.{constant, expression_code}
-use Rattle.seh_ir.specs.Statements.{statements_code}
-use Rattle.seh_ir.specs.Funclets.{filter_funclet, finally_funclet}
-use Rattle.seh_ir.specs.Lowered.{scope_of, lowered_function}
 use Rattle.seh_ir.proofs.StatementCodes.{statements_length}
 use Rattle.lowering_invariants.proofs.PlainExpressions.{all_append}
 use Rattle.lowering_invariants.proofs.EveryBody.{every_body}
 use Rattle.lowering_invariants.proofs.TurnStack.{all_at}
-use Rattle.lowering_invariants.specs.BlockSeparators.{runs_blocks}
 use Rattle.lowering_invariants.specs.UnwindLabels.{StaysInside}
 use Rattle.lowering_invariants.specs.PlaceLaws.{LoweredStaysInside}
 use Rattle.lowering_invariants.proofs.NoBlocks.{RunNoBlocks, expression_no_blocks}

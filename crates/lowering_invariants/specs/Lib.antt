@@ -16,3 +16,4 @@ pub mod CallRegions
 pub mod UnwindLabels
 pub mod Blind
 pub mod PlaceLaws
+pub mod Words

@@ -2,20 +2,11 @@
 use Rattle.std.proofs.Common.{◌≡◌, ℕ, zero, ◌+◌, ◌-◌, List, [], ◌∷◌, ◌++◌, length, refl, sym, ap, subst, ◌∙◌}
 use Rattle.std.specs.List.{AllByRecursion}
 use Rattle.std.specs.Prelude.{false, nat_lt, slice_get, replicate, Option, Some}
-use Rattle.source_meaning.specs.declared.ended.Ended.TheVariants.{Deep}
+use Rattle.lowering_locals.specs.Words.{Deep, LinearProgram, LinearFunction, Frame, Waits, Configuration, Seen, Finished, Next, pick, with_some, deeper, last_temporaries, begin_function, waiting, act, instruction_at, instruction_in, start, main_arguments, body_of, Marks, next_marks, AreAlike, GoAlike, start_marks, called}
 use Rattle.linear_code.specs.declared.instruction.Instruction.TheVariants as instructions
-use Rattle.linear_code.specs.Program.{LinearProgram, LinearFunction}
-use Rattle.linear_machine.specs.Frames.{Frame, Waits, Configuration, Seen, Finished, Next, pick, with_some, deeper, last_temporaries}
-use Rattle.linear_machine.specs.Instructions.{begin_function, waiting, act}
-use Rattle.linear_machine.specs.Run.{instruction_at, instruction_in, start, main_arguments}
-use Rattle.linear_machine.specs.Frames.{body_of}
 use Rattle.lowering_invariants.specs.Turns.{IsReached}
 use Rattle.lowering_invariants.specs.SmallNumbers.{AreSmall, HasSmallNumbers}
 use Rattle.lowering_invariants.proofs.TurnNumbers.{stays_small, reached_small}
-use Rattle.lowering_locals.specs.Marks.{Marks, next_marks}
-use Rattle.lowering_locals.specs.Alike.{AreAlike, GoAlike}
-use Rattle.lowering_locals.specs.Reads.{start_marks}
-use Rattle.lowering_locals.specs.UnsetLaws.{called}
 use Rattle.lowering_locals.specs.Agreement.{AgreementContinues, AgreementAtCall, AgreementAtStart, AgreeingAreSmall}
 use Rattle.lowering_locals.proofs.Lists.{as_long}
 use Rattle.lowering_locals.proofs.Alike.{is_over, steps_are_alike, calls_are_alike, starts_are_alike, marked_is_reached, marked_continues}

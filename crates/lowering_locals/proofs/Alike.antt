@@ -2,18 +2,12 @@
 use Rattle.std.proofs.Common.{◌≡◌, ℕ, zero, suc, ◌-◌, List, ◌∷◌, refl, sym, ap, subst, ◌∙◌}
 use Rattle.std.proofs.lemmas.List.{length-replicate}
 use Rattle.std.specs.Prelude.{replicate}
-use Rattle.linear_code.specs.declared.instruction.Instruction.{Instruction}
+use Rattle.lowering_locals.specs.Words.{Instruction, LinearProgram, Waits, Configuration, waiting, act, main_arguments, IsTurn, Marks, next_marks, AreActivationsAlike, AreAlike, GoAlike, ComesMarked, called}
 use Rattle.linear_code.specs.declared.instruction.Instruction.TheVariants as instructions
-use Rattle.linear_code.specs.Program.{LinearProgram}
-use Rattle.linear_machine.specs.Frames.{Waits, Configuration}
-use Rattle.linear_machine.specs.Instructions.{waiting, act}
-use Rattle.linear_machine.specs.Run.{exec, main_arguments}
-use Rattle.lowering_invariants.specs.Turns.{IsTurn, Comes}
+use Rattle.linear_machine.specs.Run.{exec}
+use Rattle.lowering_invariants.specs.Turns.{Comes}
 use Rattle.lowering_invariants.proofs.Same.{alike_is_same}
-use Rattle.lowering_locals.specs.Marks.{Marks, next_marks}
-use Rattle.lowering_locals.specs.Alike.{AreActivationsAlike, AreAlike, GoAlike}
-use Rattle.lowering_locals.specs.Reads.{ComesMarked}
-use Rattle.lowering_locals.specs.UnsetLaws.{StepsAreAlike, CallsAreAlike, called, called_with, StartsAreAlike, MarkedIsReached, MarkedContinues}
+use Rattle.lowering_locals.specs.UnsetLaws.{StepsAreAlike, CallsAreAlike, called_with, StartsAreAlike, MarkedIsReached, MarkedContinues}
 use Rattle.lowering_locals.proofs.Lists.{as_long, begun_alike}
 use Rattle.lowering_locals.proofs.TurnPairs.{over, Both, Halt, Move, ends_or_moves}
 use Rattle.lowering_locals.proofs.Steps.{Led, called_alike, act_both}

@@ -1,10 +1,6 @@
 -- What holds of a configuration holds of one that is alike.
 use Rattle.std.proofs.Common.{ℕ, List, [], ◌∷◌, ◌∙◌, subst}
-use Rattle.linear_code.specs.Program.{LinearProgram}
-use Rattle.lowering_invariants.specs.Activations.{AreActivations, HasActivations, owners_of}
-use Rattle.linear_machine.specs.Frames.{Waits}
-use Rattle.lowering_locals.specs.Marks.{Marks}
-use Rattle.lowering_locals.specs.Alike.{AreActivationsAlike}
+use Rattle.lowering_locals.specs.Words.{LinearProgram, AreActivations, HasActivations, owners_of, Waits, Marks, AreActivationsAlike}
 use Rattle.lowering_locals.specs.UnsetLaws.{AlikeHasActivations}
 use Rattle.lowering_locals.proofs.Lists.{locals_long}
 use Rattle.lowering_locals.proofs.Alike.{is_over}

@@ -2,19 +2,11 @@
 use Rattle.std.proofs.Common.{◌≡◌, ◌⊎◌, inl, inr, ℕ, ◌+◌, ◌<◌, ◌≤◌, List, length, subst, arith}
 use Rattle.std.proofs.lemmas.Bool.{cases_lt}
 use Rattle.std.specs.Prelude.{true, Option, Some, None}
-use Rattle.c_checked.specs.Sound.{Inside, statement_sound}
-use Rattle.c_checked.specs.Statement.{Statement, Declare, Block, Evaluate, If, IfElse, For, DoWhile, Return, Break, Continue, Leave, TryExcept, TryFinally, Statements}
-use Rattle.linear_code.specs.Program.{LinearProgram}
-use Rattle.linear_machine.specs.Frames.{BodyName}
-use Rattle.lowering_sizes.specs.Sizes.{statements_size}
-use Rattle.lowering_expressions.specs.declared.scope.Names.{Names}
-use Rattle.lowering_expressions.specs.declared.scope.Way.{Way}
-use Rattle.lowering_expressions.specs.declared.scope.Way.TheVariants.{Nowhere, Jumps, Unwinds}
-use Rattle.lowering_expressions.specs.Scope.{filter_names, finally_names, unwound}
+use Rattle.lowering_locals.specs.Words.{Inside, statement_sound, Statement, Declare, Block, Evaluate, If, IfElse, For, DoWhile, Return, Break, Continue, Leave, TryExcept, TryFinally, Statements, LinearProgram, BodyName, statements_size, Names, Way, Nowhere, Jumps, filter_names, finally_names, SeenNames, with_local, IsPart, after_statement, statements_sets, set_in}
+use Rattle.lowering_expressions.specs.declared.scope.Way.TheVariants.{Unwinds}
+use Rattle.lowering_expressions.specs.Scope.{unwound}
 use Rattle.lowering_follows.proofs.Segments.{IsSegmentAt}
-use Rattle.c_checked.specs.LocalScopes.{SeenNames, with_local, IsPart, after_statement}
 use Rattle.c_checked.proofs.ScopeTests.{sees_own, sees_before, itself, within}
-use Rattle.lowering_locals.specs.Places.{statements_sets, set_in}
 use Rattle.lowering_locals.proofs.StraightCode.{is_same_back}
 use Rattle.lowering_locals.proofs.ExpressionSets.{IsAround}
 use Rattle.lowering_locals.proofs.SetLists.{statements_long, statements_above, above_at}

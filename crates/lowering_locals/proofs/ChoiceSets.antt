@@ -2,24 +2,12 @@
 use Rattle.std.proofs.Common.{◌≡◌, ℕ, suc, ◌+◌, List, ◌∷◌, ◌++◌, subst, arith}
 use Rattle.std.proofs.lemmas.List.{length-replicate}
 use Rattle.std.specs.Prelude.{true, replicate, Option}
-use Rattle.c_checked.specs.Expression.{Expression}
-use Rattle.c_checked.specs.Statement.{Statement, If, IfElse, Return, Statements, Then}
-use Rattle.linear_code.specs.declared.slot.Slot.TheVariants.{Temporary}
-use Rattle.linear_code.specs.declared.instruction.Instruction.{Instruction}
-use Rattle.linear_code.specs.declared.instruction.Instruction.TheVariants.{Jump, JumpIfZero}
-use Rattle.linear_code.specs.Program.{LinearProgram}
-use Rattle.linear_machine.specs.Frames.{BodyName}
-use Rattle.lowering_sizes.specs.Sizes.{expression_size, returned_size, statement_size, statements_size}
-use Rattle.lowering_expressions.specs.declared.scope.LoweringContext.{LoweringContext}
-use Rattle.lowering_expressions.specs.Expressions.{expression_code}
-use Rattle.seh_ir.specs.Statements.{returned_code, return_code, statement_code, statements_code}
+use Rattle.lowering_locals.specs.Words.{Expression, Statement, If, IfElse, Return, Statements, Then, Temporary, Instruction, Jump, LinearProgram, BodyName, expression_size, returned_size, statement_size, statements_size, LoweringContext, expression_code, returned_code, return_code, statement_code, statements_code, SeenNames, IsPart, after_statement, expression_within, optional_within, locals_at, statement_sets, statements_sets, set_in}
+use Rattle.linear_code.specs.declared.instruction.Instruction.TheVariants.{JumpIfZero}
 use Rattle.lowering_expressions.proofs.Codes.{expression_length}
 use Rattle.seh_ir.proofs.StatementCodes.{returned_length, statement_length}
 use Rattle.lowering_follows.proofs.Segments.{IsSegmentAt, front, back}
-use Rattle.c_checked.specs.LocalScopes.{SeenNames, IsPart, after_statement, expression_within, optional_within}
 use Rattle.c_checked.proofs.ScopeTests.{itself, within}
-use Rattle.lowering_locals.specs.Sets.{locals_at}
-use Rattle.lowering_locals.specs.Places.{statement_sets, statements_sets, set_in}
 use Rattle.lowering_locals.proofs.StraightCode.{is_same, head_recorded, even_part, even_list, AllLead, both_lead}
 use Rattle.lowering_locals.proofs.ExpressionSets.{IsAround}
 use Rattle.lowering_locals.proofs.SetLists.{statement_long, statements_long, grows, statement_first, statements_first, begins}

@@ -2,9 +2,8 @@
 use Rattle.std.proofs.Common.{◌≡◌, ℕ, List, [], ◌∷◌, ◌++◌, length, refl, sym, ap, ◌∙◌, append_assoc, append-nil}
 use Rattle.std.proofs.Math.Seq.{drop-append_seam}
 use Rattle.std.specs.Prelude.{Bool, true, false, drop}
-use Rattle.seh_num.specs.declared.event.Event.{Event}
+use Rattle.lowering_locals.specs.Words.{Event, begins_block}
 use Rattle.seh_num.specs.declared.event.Event.TheVariants as events
-use Rattle.lowering_locals.specs.Marks.{begins_block}
 
 ends_with_block : (more : List Event) (k : ℕ) (abnormal : Bool)
     → begins_block (more ++ events.Finally k abnormal ∷ []) ≡ true

@@ -2,20 +2,12 @@
 use Rattle.std.proofs.Common.{◌≡◌, inl, inr, ℕ, ◌+◌, ◌<◌, List, [], ◌∷◌, length, filter, refl, sym, subst, arith}
 use Rattle.std.specs.List.{AllByRecursion}
 use Rattle.std.specs.Prelude.{Bool, true, false, cond, Option, Some, None}
-use Rattle.linear_code.specs.declared.program.Region.{Region}
-use Rattle.linear_code.specs.declared.program.RegionKind.{RegionKind}
+use Rattle.lowering_locals.specs.Words.{Region, RegionKind, LinearProgram, LinearBody, BodyName, FunctionBody, FuncletBody, body_of, Frame, Handler, Target, Item, Waits, Searches, Unwinds, holds, regions_at, regions_left, handlers, target_past, target_of, Marks, SeenNames, IsPart, Guards, IsSetMap, Marked, here, IsHandler, IsTarget, AreRegions, AreHandlers, AreKept, AreCovered}
 use Rattle.linear_code.specs.declared.program.RegionKind.TheVariants as kinds
-use Rattle.linear_code.specs.Program.{LinearProgram, LinearBody}
-use Rattle.linear_machine.specs.Frames.{BodyName, FunctionBody, FuncletBody, body_of, Frame, Handler, Target, Item, Waits, Searches, Unwinds}
-use Rattle.linear_machine.specs.Regions.{holds, regions_of, regions_at, regions_left, handlers_of, handlers_in, handlers}
-use Rattle.linear_machine.specs.Unwinding.{target_past}
-use Rattle.linear_machine.specs.Searching.{target_of}
+use Rattle.linear_machine.specs.Regions.{regions_of, handlers_of, handlers_in}
 use Rattle.lowering_invariants.proofs.PlainExpressions.{all_append}
 use Rattle.lowering_invariants.proofs.TurnStack.{same_it, all_map}
-use Rattle.lowering_locals.specs.Marks.{Marks}
-use Rattle.c_checked.specs.LocalScopes.{SeenNames, IsPart}
-use Rattle.lowering_locals.specs.Sets.{Guards, IsSetMap}
-use Rattle.lowering_locals.specs.Lives.{Marked, here, IsHandler, IsTarget, AreRegions, AreLeft, AreHandlers, AreKept, AreCovered}
+use Rattle.lowering_locals.specs.Lives.{AreLeft}
 
 -- what holds of those that pass a test
 passed : {X : Type 0} (P : X → Type 0) (test : X → Bool) (xs : List X)

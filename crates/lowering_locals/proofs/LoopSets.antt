@@ -2,26 +2,13 @@
 use Rattle.std.proofs.Common.{◌≡◌, ℕ, suc, ◌+◌, ◌≤◌, List, [], ◌∷◌, ◌++◌, length, refl, sym, subst, arith}
 use Rattle.std.proofs.lemmas.List.{length-replicate}
 use Rattle.std.specs.Prelude.{true, replicate, Option}
-use Rattle.c_checked.specs.Expression.{Expression}
+use Rattle.lowering_locals.specs.Words.{Expression, all_declared_sound, Declared, Statement, For, DoWhile, Instruction, Jump, Separator, LinearProgram, BodyName, expression_size, discarded_size, condition_size, all_declared_size, statement_size, LoweringContext, in_loop, expression_code, discarded_code, condition_code, all_declared_code, statement_code, SeenNames, IsPart, after_all_declared, after_statement, expression_within, optional_within, all_declared_within, locals_at, statement_sets, all_declared_sets, set_in}
 use Rattle.c_checked.specs.Sound as sound
-use Rattle.c_checked.specs.Sound.{all_declared_sound}
-use Rattle.c_checked.specs.Statement.{Declared, Statement, For, DoWhile}
-use Rattle.linear_code.specs.declared.instruction.Instruction.{Instruction}
-use Rattle.linear_code.specs.declared.instruction.Instruction.TheVariants.{Jump, Separator}
-use Rattle.linear_code.specs.Program.{LinearProgram}
-use Rattle.linear_machine.specs.Frames.{BodyName}
-use Rattle.lowering_sizes.specs.Sizes.{expression_size, discarded_size, condition_size, all_declared_size, statement_size}
-use Rattle.lowering_expressions.specs.declared.scope.LoweringContext.{LoweringContext}
-use Rattle.lowering_expressions.specs.Scope.{in_loop}
-use Rattle.lowering_expressions.specs.Expressions.{expression_code}
-use Rattle.seh_ir.specs.Statements.{discarded_code, condition_code, all_declared_code, repeated, statement_code}
+use Rattle.seh_ir.specs.Statements.{repeated}
 use Rattle.lowering_expressions.proofs.Codes.{expression_length}
 use Rattle.seh_ir.proofs.StatementCodes.{discarded_length, condition_length, all_declared_length, statement_length}
 use Rattle.lowering_follows.proofs.Segments.{IsSegmentAt, front, back}
-use Rattle.c_checked.specs.LocalScopes.{SeenNames, IsPart, after_all_declared, after_statement, expression_within, optional_within, all_declared_within}
 use Rattle.c_checked.proofs.ScopeTests.{within}
-use Rattle.lowering_locals.specs.Sets.{locals_at}
-use Rattle.lowering_locals.specs.Places.{statement_sets, all_declared_sets, set_in}
 use Rattle.lowering_locals.proofs.StraightCode.{is_same, Even, even_part, even_list, AllLead, both_lead}
 use Rattle.lowering_locals.proofs.ExpressionSets.{IsAround}
 use Rattle.lowering_locals.proofs.SetLists.{all_declared_long, statement_long, grows, all_grow, statement_first, begins}

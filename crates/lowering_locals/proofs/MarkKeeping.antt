@@ -2,10 +2,8 @@
 use Rattle.std.proofs.Common.{◌≡◌, ℕ, zero, suc, ◌<◌, List, [], ◌∷◌, ◌++◌, length, refl, sym, ap, subst, ◌∙◌, arith}
 use Rattle.std.proofs.lemmas.List.{length-set}
 use Rattle.std.specs.Prelude.{Bool, true, false, slice_get, slice_set, take, replicate, Option, Some, None}
-use Rattle.lowering_locals.specs.Marks.{Marks, marks_of, set_mark, with_mark}
+use Rattle.lowering_locals.specs.Words.{Marks, marks_of, set_mark, with_mark, IsSame, AreLocalsAlike, AreActivationsAlike, Marked}
 use Rattle.lowering_invariants.proofs.TurnStack.{same_it}
-use Rattle.lowering_locals.specs.Alike.{IsSame, AreLocalsAlike, AreActivationsAlike}
-use Rattle.lowering_locals.specs.Lives.{Marked}
 
 -- ---- one activation
 

@@ -3,31 +3,19 @@ use Rattle.std.proofs.Common.{◌≡◌, ◌⊎◌, inl, inr, ℕ, ◌+◌, ◌<
 use Rattle.std.proofs.lemmas.Bool.{ltb-true}
 use Rattle.std.proofs.lemmas.List.{length-replicate}
 use Rattle.std.specs.Prelude.{true, replicate, Option, Some, None}
-use Rattle.c_checked.specs.Expression.{Expression}
+use Rattle.lowering_locals.specs.Words.{Expression, all_declared_sound, Declared, Local, Temporary, Instruction, LinearProgram, BodyName, expression_size, discarded_size, condition_size, returned_size, declared_size, all_declared_size, ExceptionSource, NoException, OfFilter, KeptIn, Names, Way, Nowhere, Jumps, expression_code, return_code, discarded_code, returned_code, condition_code, all_declared_code, SeenNames, with_local, IsPart, expression_within, optional_within, after_declared, after_all_declared, all_declared_within, locals_at, Leads, initialiser_size, declared_sets, all_declared_sets, set_in}
 use Rattle.c_checked.specs.Sound as sound
-use Rattle.c_checked.specs.Sound.{declared_sound, all_declared_sound}
-use Rattle.c_checked.specs.Statement.{Declared}
-use Rattle.linear_code.specs.declared.slot.Slot.TheVariants.{Local, Temporary}
-use Rattle.linear_code.specs.declared.instruction.Instruction.{Instruction}
+use Rattle.c_checked.specs.Sound.{declared_sound}
 use Rattle.linear_code.specs.declared.instruction.Instruction.TheVariants as instructions
-use Rattle.linear_code.specs.Program.{LinearProgram}
-use Rattle.linear_machine.specs.Frames.{BodyName}
-use Rattle.lowering_sizes.specs.Sizes.{expression_size, discarded_size, condition_size, returned_size, declared_size, all_declared_size}
-use Rattle.lowering_expressions.specs.declared.scope.ExceptionSource.{ExceptionSource}
-use Rattle.lowering_expressions.specs.declared.scope.ExceptionSource.TheVariants.{NoException, OfFilter, KeptIn}
-use Rattle.lowering_expressions.specs.declared.scope.Names.{Names}
-use Rattle.lowering_expressions.specs.declared.scope.Way.{Way}
-use Rattle.lowering_expressions.specs.declared.scope.Way.TheVariants.{Nowhere, Jumps, Unwinds}
-use Rattle.lowering_expressions.specs.Expressions.{copy, expression_code}
-use Rattle.seh_ir.specs.Statements.{jump_code, return_code, leave_code, discarded_code, returned_code, condition_code, initialiser_code, declared_code, all_declared_code}
+use Rattle.lowering_expressions.specs.declared.scope.Way.TheVariants.{Unwinds}
+use Rattle.lowering_expressions.specs.Expressions.{copy}
+use Rattle.seh_ir.specs.Statements.{jump_code, leave_code, initialiser_code, declared_code}
 use Rattle.lowering_expressions.proofs.Codes.{expression_length}
 use Rattle.seh_ir.proofs.StatementCodes.{discarded_length, declared_length}
 use Rattle.lowering_follows.proofs.Segments.{IsSegmentAt, front, back}
 use Rattle.lowering_invariants.proofs.PlainExpressions.{all_append}
-use Rattle.c_checked.specs.LocalScopes.{SeenNames, with_local, IsPart, expression_within, optional_within, after_declared, after_all_declared, declared_within, all_declared_within}
+use Rattle.c_checked.specs.LocalScopes.{declared_within}
 use Rattle.c_checked.proofs.ScopeTests.{both_left, both_right, seen_cases, sees_before, part_with, within}
-use Rattle.lowering_locals.specs.Sets.{locals_at, Leads}
-use Rattle.lowering_locals.specs.Places.{initialiser_size, declared_sets, all_declared_sets, set_in}
 use Rattle.lowering_locals.proofs.StraightCode.{is_same, is_same_back, head_recorded, Even, even_part, even_list, Fine, AllFine, AllLead, both_lead, straight}
 use Rattle.lowering_locals.proofs.ExpressionSets.{CodeIn, FlagIn, IsAround, expression_fine}
 use Rattle.lowering_locals.proofs.SetLists.{declared_long, all_declared_long, replicate_first, all_declared_first, begins, initialiser_is}

@@ -4,30 +4,15 @@ use Rattle.std.proofs.Common.{◌≡◌, ℕ, ◌+◌, ◌-◌, List, [], ◌∷
 use Rattle.std.proofs.lemmas.List.{length-drop, length-replicate}
 use Rattle.std.specs.Prelude.{Bool, true, false, nat_eq, take, drop, get_or, replicate, slice_get, if◌then◌else◌, Option, Some, None}
 use Rattle.std.specs.Prelude.{is_some}
-use Rattle.seh_num.specs.declared.event.Event.{Event}
+use Rattle.lowering_locals.specs.Words.{Event, W32, signed, BuiltIn, Put, Protect, RaiseException, Operation, OperationResult, Gives, Raises, Undefined, performed, is_reserved, of_test, field_of, raised, Slot, Local, Temporary, Instruction, LinearProgram, LinearFunction, FunctionBody, Item, Waits, AfterCall, SameOperation, Store, Configuration, Seen, Finished, Stuck, Next, pick, with_some, deeper, read, with_temporary, with_temporaries, last_temporaries, set_local, at_label, forth, with_last, is_constant, operand, written, computed, tested, waiting, begin_function, count_of, built_in, end_body, not_landed, act, Marks, flag_set, with_mark, first_marks, outcome_of, local_in, local_given, marks_left, next_marks, AreActivationsAlike, AreLocalsAlike, IsSet, AreOperandsSet, ReadsSet}
 use Rattle.seh_num.specs.declared.event.Event.TheVariants as events
-use Rattle.seh_num.specs.declared.width.Width.TheVariants.{W32, W64}
-use Rattle.seh_num.specs.Widths.{signed}
+use Rattle.seh_num.specs.declared.width.Width.TheVariants.{W64}
 use Rattle.flat_memory.specs.Memory.{protected, rights_asked}
-use Rattle.c_operations.specs.declared.built_in.BuiltIn.{BuiltIn}
-use Rattle.c_operations.specs.declared.built_in.BuiltIn.TheVariants.{Put, Protect, RaiseException}
-use Rattle.c_operations.specs.declared.operation.Operation.{Operation}
-use Rattle.c_operations.specs.Performed.{OperationResult, Gives, Raises, Undefined, performed}
 use Rattle.source_meaning.specs.declared.ended.Ended.TheVariants as ends
-use Rattle.source_meaning.specs.Source.{is_reserved}
-use Rattle.source_meaning.specs.Expressions.{of_test, field_of, raised, no_exception}
-use Rattle.linear_code.specs.declared.slot.Slot.{Slot}
-use Rattle.linear_code.specs.declared.slot.Slot.TheVariants.{Local, Temporary}
-use Rattle.linear_code.specs.declared.instruction.Instruction.{Instruction}
+use Rattle.source_meaning.specs.Expressions.{no_exception}
 use Rattle.linear_code.specs.declared.instruction.Instruction.TheVariants as instructions
-use Rattle.linear_code.specs.Program.{LinearProgram, LinearFunction}
-use Rattle.linear_machine.specs.Frames.{FunctionBody, Item, Waits, AfterCall, SameOperation, Store, Configuration, Seen, Finished, Stuck, Next, pick, with_some, deeper, read, with_temporary, with_temporaries, last_temporaries, set_local, at_label, forth, with_last}
-use Rattle.linear_machine.specs.Instructions.{is_constant, operand, written, computed, tested, waiting, begin_function, count_of, built_in, end_body, not_landed, act}
 use Rattle.lowering_invariants.proofs.TurnStack.{same_it}
 use Rattle.lowering_invariants.proofs.Ready.{last_are}
-use Rattle.lowering_locals.specs.Marks.{Marks, flag_set, with_mark, first_marks, outcome_of, local_in, local_given, marks_left, next_marks}
-use Rattle.lowering_locals.specs.Alike.{AreActivationsAlike, AreLocalsAlike}
-use Rattle.lowering_locals.specs.Reads.{IsSet, AreOperandsSet, ReadsSet}
 use Rattle.lowering_locals.proofs.Lists.{set_in, Alive, same_read, as_long, one_more, begun_alike, whole_alive, set_alive}
 use Rattle.lowering_locals.proofs.Events.{Adds, adds_none, adds_one, no_block_events}
 use Rattle.lowering_locals.proofs.TurnPairs.{over_store, over, Both, Halt, Move, pick_both, some_both, deeper_both}

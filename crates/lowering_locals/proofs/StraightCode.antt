@@ -3,19 +3,12 @@ use Rattle.std.proofs.Common.{◌≡◌, ◌⊎◌, inl, inr, ℕ, zero, suc, �
 use Rattle.std.proofs.lemmas.Bool.{cases_lt}
 use Rattle.std.specs.List.{AllByRecursion}
 use Rattle.std.specs.Prelude.{Bool, true, false, replicate, slice_get, Some}
-use Rattle.linear_code.specs.declared.slot.Slot.{Slot}
-use Rattle.linear_code.specs.declared.slot.Slot.TheVariants.{Local, Temporary}
-use Rattle.linear_code.specs.declared.instruction.Instruction.{Instruction}
+use Rattle.lowering_locals.specs.Words.{Slot, Local, Temporary, Instruction, LinearProgram, BodyName, is_constant, SeenNames, IsPart, with_slot, ReadsIn, OperandsIn, IsLocalOf, locals_at, Leads, set_in}
 use Rattle.linear_code.specs.declared.instruction.Instruction.TheVariants as instructions
-use Rattle.linear_code.specs.Program.{LinearProgram}
-use Rattle.linear_machine.specs.Frames.{BodyName}
-use Rattle.linear_machine.specs.Instructions.{is_constant}
 use Rattle.lowering_follows.proofs.Segments.{IsSegmentAt}
 use Rattle.lowering_invariants.proofs.TurnStack.{same_it}
-use Rattle.c_checked.specs.LocalScopes.{SeenNames, IsPart}
 use Rattle.c_checked.proofs.ScopeTests.{sees_before}
-use Rattle.lowering_locals.specs.Sets.{with_slot, ReadsIn, OperandsIn, IsLocalOf, locals_at, Leads}
-use Rattle.lowering_locals.specs.Places.{none_seen, set_in}
+use Rattle.lowering_locals.specs.Places.{none_seen}
 
 -- ---- what is recorded at a place
 

@@ -8,3 +8,4 @@ pub mod Lives
 pub mod SetLaws
 pub mod Places
 pub mod ScopedLaws
+pub mod Words

@@ -2,8 +2,7 @@
 use Rattle.std.proofs.Common.{◌≡◌, ℕ, zero, suc, ◌<◌, Some, List, [], ◌∷◌, ◌++◌, length, refl, sym, ap, subst, ◌∙◌, arith, inl, inr}
 use Rattle.std.specs.Prelude.{slice_get, slice_set}
 use Rattle.std.proofs.lemmas.Bool.{cases_eq}
-use Rattle.match_stack.specs.ItemMatches.{Activation, locals_of}
-use Rattle.match_bodies.specs.SlotStores.{with_values}
+use Rattle.match_bodies.specs.Words.{Activation, locals_of, with_values}
 use Rattle.match_bodies.proofs.ActivationPlaces.{locals_count}
 use Rattle.match_bodies.proofs.ActivationKeeping.{first_changes, later_changes}
 

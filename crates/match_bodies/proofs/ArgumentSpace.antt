@@ -1,25 +1,11 @@
 -- The home space and the places of further arguments at the bottom of a caller's frame are its
 -- callee's (Microsoft x64 ABI, "Stack allocation"): a change of them leaves the list as it is.
 use Rattle.std.proofs.Common.{◌≡◌, ℕ, ◌+◌, ◌*◌, ◌≤◌, true, false, Option, Some, None, List, [], ◌∷◌, refl, sym, subst, ◌∙◌, arith, inr}
-use Rattle.host_layout.specs.declared.range.TheConstants.{STACK_START, STACK_END}
-use Rattle.flat_memory.specs.Memory.{Memory}
-use Rattle.x64_machine.specs.declared.context.Context.{Context}
-use Rattle.virtual_unwind.specs.Contexts.{rsp}
-use Rattle.virtual_unwind.specs.CallerOf.{Functions}
-use Rattle.host_model.specs.declared.funclet.Funclet.{Funclet}
-use Rattle.template_code.specs.declared.layout.Layout.{Layout}
-use Rattle.linear_code.specs.Program.{LinearProgram, LinearBody}
-use Rattle.linear_machine.specs.Frames.{BodyName, FunctionBody, FuncletBody, body_of, Frame, Item, Waits, Searches, Unwinds}
-use Rattle.match_stack.specs.Stack.{StackFrame, StackItem, Framed, Leaf, Searching, Unwinding, IsStack, after_frame}
+use Rattle.match_bodies.specs.Words.{STACK_START, STACK_END, Memory, Context, rsp, Functions, Funclet, Layout, LinearProgram, LinearBody, BodyName, FunctionBody, FuncletBody, body_of, Frame, Item, Waits, Searches, Unwinds, StackFrame, StackItem, Framed, Leaf, Searching, Unwinding, IsStack, after_frame, ImagePlan, Activation, activations_below, temporaries_end, HasActivation, HasPointers, IsAbove, Linked, IsLinkedStack, IsFunctionLayout, IsLayoutIf, IsLaidOut, AreLaidOut, KeepsStackBut}
 use Rattle.match_stack.proofs.ItemVisits.{set_head}
-use Rattle.match_stack.specs.ImagePlan.{ImagePlan}
-use Rattle.match_stack.specs.ItemMatches.{Activation, activations_below, temporaries_end, HasActivation, HasPointers, IsAbove, Linked}
-use Rattle.match_stack.specs.ListLaws.{IsLinkedStack}
 use Rattle.match_stack.proofs.ListEnds.{words_fit, end_within, in_stack}
 use Rattle.match_stack.proofs.ListMemories.{ReadsSame, higher, frame_above, words_kept, list_kept}
 use Rattle.match_stack.proofs.ListKeeping.{reads_other}
-use Rattle.match_bodies.specs.Layouts.{IsFunctionLayout, IsLayoutIf, IsLaidOut, AreLaidOut}
-use Rattle.match_bodies.specs.SlotStores.{KeepsStackBut}
 
 module _ (m m' : Memory) (t : Functions) (fs : List Funclet) (program : LinearProgram)
     (p : ImagePlan) (layouts : AreLaidOut program p) (room : ℕ) where

@@ -1,22 +1,10 @@
 -- A walk gives a body's caller, and where it finds the return address at the body's instructions.
 use Rattle.std.proofs.Common.{◌≡◌, ◌<◌, Some, List, ◌∷◌, length, subst, arith, inl, inr}
 use Rattle.std.proofs.lemmas.Option.{slice_get_cases}
-use Rattle.flat_memory.specs.Memory.{Memory}
-use Rattle.x64_machine.specs.declared.context.Context.{Context}
-use Rattle.virtual_unwind.specs.CallerOf.{Functions}
-use Rattle.host_model.specs.declared.funclet.Funclet.{Funclet}
-use Rattle.linear_code.specs.Program.{LinearProgram, LinearBody}
-use Rattle.linear_machine.specs.Frames.{BodyName, body_of}
-use Rattle.match_stack.specs.PlainWalks.{state}
-use Rattle.match_stack.specs.ImagePlan.{ImagePlan}
-use Rattle.match_runs.specs.Shadow.{GivesCallers}
+use Rattle.match_bodies.specs.Words.{Memory, Context, Functions, Funclet, LinearProgram, LinearBody, BodyName, body_of, state, ImagePlan, GivesCallers, Sites, HasCaller, FindsReturn, HasProgram, IsProgramImage, setting_of}
 use Rattle.match_runs.proofs.Shadows.{past_frame}
-use Rattle.match_bodies.specs.CodeSites.{Sites}
-use Rattle.match_bodies.specs.Callers.{HasCaller, FindsReturn}
-use Rattle.match_bodies.specs.ProgramImages.{HasProgram, IsProgramImage}
 use Rattle.match_bodies.proofs.ReturnAddresses.{label_found}
 use Rattle.std.specs.Prelude.{ℕ}
-use Rattle.match_bodies.specs.Setting.{setting_of}
 
 -- a walk that comes to a frame gives its caller, and then what it gives from there
 pub gives_caller : (t : Functions) (m : Memory) (c caller : Context) (cs : List Context)

@@ -3,37 +3,13 @@ use Rattle.std.proofs.Common.{◌≡◌, ℕ, ◌+◌, ◌^◌, ◌<◌, ◌≤�
 use Rattle.std.specs.Prelude.{slice_set, slice_get}
 use Rattle.std.specs.List.{AllByRecursion}
 use Rattle.std.proofs.lemmas.List.{length-set}
-use Rattle.seh_num.specs.declared.event.Event.{Event}
-use Rattle.host_layout.specs.declared.range.TheConstants.{STACK_END}
-use Rattle.flat_memory.specs.Memory.{Memory}
-use Rattle.x64_instr.specs.declared.register.Reg.TheVariants.{Rsp}
-use Rattle.x64_machine.specs.declared.context.Context.{Context}
-use Rattle.x64_machine.specs.Contexts.{context_of}
-use Rattle.x64_machine.specs.Effect.{State, register}
+use Rattle.match_bodies.specs.Words.{Event, STACK_END, Memory, Rsp, Context, context_of, State, register, rsp, Functions, word, Funclet, Layout, Region, LinearProgram, LinearBody, LinearFunclet, BodyName, FunctionBody, FuncletBody, Frame, Item, Waits, Searches, Unwinds, body_of, holds, regions_of, StackFrame, StackItem, Framed, Leaf, FrameIsAt, after_frame, after_leaf, context_below, ImagePlan, InCode, Activation, activations_below, HoldsWords, HasActivation, temporaries_end, home_end, HasSpace, below_end, BodyWaits, HasPointers, IsAbove, FuncletIsAbove, On, Sites, IsLaidOut, IsProgramImage, slots_end, last_temporary, InBody}
 use Rattle.eh_tables.specs.declared.code.UnwindCode.{UnwindCode}
 use Rattle.eh_tables.specs.declared.code.UnwindOperation.{UnwindOperation}
 use Rattle.eh_tables.specs.declared.code.UnwindOperation.TheVariants.{Allocate}
 use Rattle.eh_tables.specs.Tables.{Entry}
-use Rattle.virtual_unwind.specs.Contexts.{rsp}
-use Rattle.virtual_unwind.specs.CallerOf.{Functions}
-use Rattle.virtual_unwind.specs.Undone.{word}
-use Rattle.host_model.specs.declared.funclet.Funclet.{Funclet}
-use Rattle.template_code.specs.declared.layout.Layout.{Layout}
-use Rattle.linear_code.specs.declared.program.Region.{Region}
-use Rattle.linear_code.specs.Program.{LinearProgram, LinearBody, LinearFunclet}
-use Rattle.linear_machine.specs.Frames.{BodyName, FunctionBody, FuncletBody, Frame, Item, Waits, Searches, Unwinds, body_of}
-use Rattle.linear_machine.specs.Regions.{holds, regions_of}
-use Rattle.match_stack.specs.Stack.{StackFrame, StackItem, Framed, Leaf, FrameIsAt, after_frame, after_leaf}
-use Rattle.match_stack.specs.WalkLaws.{context_below}
 use Rattle.match_stack.proofs.ItemVisits.{set_head}
-use Rattle.match_stack.specs.ImagePlan.{ImagePlan, InCode}
-use Rattle.match_stack.specs.ItemMatches.{Activation, activations_below, HoldsWords, HasActivation, temporaries_end, home_end, HasSpace, below_end, BodyWaits, HasPointers, IsAbove, FuncletIsAbove}
-use Rattle.match_stack.specs.StackRecords.{On}
 use Rattle.match_stack.specs.HostUnwind.{on_top}
-use Rattle.match_bodies.specs.CodeSites.{Sites}
-use Rattle.match_bodies.specs.Layouts.{IsLaidOut}
-use Rattle.match_bodies.specs.ProgramImages.{IsProgramImage}
-use Rattle.match_bodies.specs.Bodies.{slots_end, last_temporary, InBody}
 use Rattle.match_bodies.proofs.StackContexts.{on_moved}
 use Rattle.match_bodies.proofs.StackTop.{leaf_layout}
 

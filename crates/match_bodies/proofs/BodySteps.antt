@@ -1,33 +1,16 @@
 -- Each step within a body is matched.
 use Rattle.std.proofs.Common.{◌≡◌, ℕ, zero, ◌<◌, ◌^◌, Bool, true, false, Option, Some, None, refl, sym, ap, ◌∙◌, arith}
-use Rattle.x64_machine.specs.Effect.{State}
-use Rattle.c_operations.specs.declared.operation.Operation.{Operation}
-use Rattle.c_operations.specs.Performed.{Gives, performed}
-use Rattle.source_meaning.specs.Source.{is_reserved}
-use Rattle.linear_code.specs.declared.slot.Slot.{Slot}
-use Rattle.linear_code.specs.declared.slot.Slot.TheVariants.{Local}
-use Rattle.linear_code.specs.declared.instruction.Instruction.{Instruction}
+use Rattle.match_bodies.specs.Words.{State, Operation, Gives, performed, is_reserved, Slot, Local, Instruction, LinearProgram, IsSlot, Configuration, is_constant, operand, act, instruction_at, exec, HasRule, Moves, turns_left, counts_of, IsWellMade, IsKnown, Setting, setting_of, RepresentsAt}
 use Rattle.linear_code.specs.declared.instruction.Instruction.TheVariants as instructions
-use Rattle.linear_code.specs.Program.{LinearProgram}
-use Rattle.linear_code.specs.Meaning.{IsSlot}
-use Rattle.linear_machine.specs.Frames.{Configuration}
-use Rattle.linear_machine.specs.Instructions.{is_constant, operand, act}
-use Rattle.linear_machine.specs.Run.{instruction_at, exec}
-use Rattle.match_runs.specs.Ends.{HasRule}
-use Rattle.match_runs.specs.Matched.{Moves}
 use Rattle.lowering_invariants.specs.Ready as ready
 use Rattle.lowering_invariants.specs.Waiting.{LandsWell}
 use Rattle.lowering_invariants.specs.SmallNumbers.{IsSmallCode}
-use Rattle.match_bodies.specs.Bodies.{turns_left}
-use Rattle.match_bodies.specs.BodyViews.{counts_of}
-use Rattle.match_bodies.specs.ConfigurationFacts.{IsWellMade, IsKnown}
 use Rattle.match_bodies.specs.StepLaws.{turns_per_step, Completes, IsWithinBody, StepsWithinBodiesAreMatched}
 use Rattle.match_bodies.proofs.TemplateRuns.{code, slots, has_slots}
 use Rattle.match_bodies.proofs.PlainSteps.{is_read, jump_step, separator_step, jump_if_zero_step}
 use Rattle.match_bodies.proofs.ComputeStep.{same_constant, outcome_here, compute_step}
 use Rattle.match_bodies.proofs.LandingStep.{landing_step}
 use Rattle.match_bodies.proofs.StepNeeds.{counted_here, around_here, code_at, held_here, goes_inside, ready_here}
-use Rattle.match_bodies.specs.Setting.{Setting, setting_of, RepresentsAt}
 
 some_number : (x y : ℕ) → Some x ≡ Some y → x ≡ y
 some_number x y e = cc

@@ -1,23 +1,12 @@
 -- The running body has a view: its slots as templates see them hold linear code's numbers.
 use Rattle.std.proofs.Common.{◌≡◌, ℕ, ◌+◌, ◌*◌, ◌≤◌, Bool, true, false, Some, None, List, [], ◌∷◌, length, refl, sym, ap, subst, ◌∙◌, arith, inl, inr}
 use Rattle.std.specs.Prelude.{◌⊎◌, slice_get, slice_index, drop, replicate}
-use Rattle.host_layout.specs.declared.range.TheConstants.{STACK_START, STACK_END}
-use Rattle.x64_instr.specs.declared.register.Reg.TheVariants.{Rsp}
-use Rattle.x64_machine.specs.Effect.{State, register}
-use Rattle.linear_code.specs.Program.{LinearBody}
+use Rattle.match_bodies.specs.Words.{STACK_START, STACK_END, Rsp, State, register, LinearBody, BodyName, FunctionBody, FuncletBody, body_of, Configuration, machine, context_below, locals_of, activations_below, temporaries_end, HasActivation, IsLinkedStack, IsFunctionLayout, IsLeafLayout, IsFuncletLayout, IsLayoutIf, IsLaidOut, IsFuncletPlan, slots_end, last_temporary, FrameHolds, seen_by_templates, counts_of, frame_at, state_of, Setting, RepresentsAt}
 use Rattle.linear_machine.specs.Frames as linear
-use Rattle.linear_machine.specs.Frames.{BodyName, FunctionBody, FuncletBody, body_of, Configuration}
-use Rattle.x64_templates.specs.Straight.{machine}
-use Rattle.match_stack.specs.WalkLaws.{context_below}
-use Rattle.match_stack.specs.ItemMatches.{locals_of, activations_below, temporaries_end, HasActivation}
 use Rattle.match_stack.proofs.ListEnds.{in_stack}
-use Rattle.match_stack.specs.ListLaws.{IsLinkedStack}
-use Rattle.match_bodies.specs.Layouts.{IsFunctionLayout, IsLeafLayout, IsFuncletLayout, IsLayoutIf, IsLaidOut, IsFuncletPlan}
-use Rattle.match_bodies.specs.Bodies.{slots_end, last_temporary}
-use Rattle.x64_templates.specs.Runs.{Roomy, FrameHolds}
-use Rattle.match_bodies.specs.BodyViews.{seen_by_templates, counts_of, frame_at, state_of, HasSlotsOf}
+use Rattle.x64_templates.specs.Runs.{Roomy}
+use Rattle.match_bodies.specs.BodyViews.{HasSlotsOf}
 use Rattle.match_bodies.proofs.SlotPlaces.{SlotsPlaced, function_placed, leaf_placed, funclet_placed, room_of, holds_of, local_is, temporary_is}
-use Rattle.match_bodies.specs.Setting.{Setting, RepresentsAt}
 
 -- a state is made of its registers
 pub registers_are : (rs : List ℕ) → length rs ≡ 16

@@ -3,40 +3,20 @@
 use Rattle.std.proofs.Common.{◌≡◌, ℕ, ◌+◌, ◌-◌, ◌≤◌, Bool, true, false, Some, None, Ok, List, [], ◌∷◌, ◌++◌, length, refl, sym, ap, subst, ◌∙◌, arith, append_assoc}
 use Rattle.std.specs.Prelude.{slice_get, slice_index}
 use Rattle.std.proofs.lemmas.List.{append-nil}
-use Rattle.flat_memory.specs.Memory.{Memory}
-use Rattle.x64_instr.specs.declared.register.Reg.TheVariants.{Rsp}
+use Rattle.match_bodies.specs.Words.{Memory, Rsp, Instr, Context, State, register, with_rip, word, Instruction, LinearBody, BodyName, body_of, size, sizes, thunk, IsNear, call, template, IsReturn, Steps, HasCode, HasThunk, StackItem, Framed, Leaf, ItemIsAt, OwnedBy, context_after, context_below, is_call, KeepsShadow, AllKeep, links_of, frame_with, FindsReturn, Setting, IsResumed}
 use Rattle.x64_instr.specs.declared.operand.Base.TheVariants as bases
 use Rattle.x64_instr.specs.declared.operand.RegisterOrMemory.TheVariants as places
 use Rattle.x64_instr.specs.declared.instruction.Target.TheVariants.{Indirect}
-use Rattle.x64_instr.specs.declared.instruction.Instr.{Instr}
-use Rattle.x64_machine.specs.declared.context.Context.{Context}
-use Rattle.x64_machine.specs.Effect.{State, register, with_rip}
-use Rattle.virtual_unwind.specs.Undone.{word}
-use Rattle.linear_code.specs.declared.instruction.Instruction.{Instruction}
-use Rattle.linear_code.specs.Program.{LinearBody}
-use Rattle.linear_machine.specs.Frames.{BodyName, body_of}
-use Rattle.template_code.specs.Bytes.{size, sizes, thunk}
-use Rattle.template_code.specs.Jumps.{IsNear, call}
-use Rattle.template_code.specs.Template.{template}
-use Rattle.x64_templates.specs.Epilogues.{IsReturn}
-use Rattle.x64_templates.specs.Runs.{Steps, HasCode}
-use Rattle.x64_templates.specs.Thunks.{HasThunk}
 use Rattle.x64_templates.proofs.PlacedCode.{thunk_encodable}
 use Rattle.x64_templates.proofs.Computes.{code_split}
-use Rattle.match_stack.specs.Stack.{StackItem, Framed, Leaf, ItemIsAt, OwnedBy, context_after}
-use Rattle.match_stack.specs.WalkLaws.{context_below}
-use Rattle.match_runs.specs.Shadow.{is_call, KeepsShadow, AllKeep}
 use Rattle.match_runs.proofs.Shadows.{straight, keep_first}
-use Rattle.match_bodies.specs.CodeSites.{links_of}
-use Rattle.match_bodies.specs.ProgramImages.{frame_with}
-use Rattle.match_bodies.specs.Callers.{FindsReturn}
 use Rattle.match_bodies.proofs.InstructionEffects.{others_of, Calls, jumps}
 use Rattle.match_bodies.proofs.SilentTurns.{program_kept}
 use Rattle.match_bodies.proofs.StackTop.{leaf_layout}
 use Rattle.match_bodies.proofs.RoutineWalks.{read_here, effect_here, StepsTo, steps_split, keeps_split, Beneath, beneath_stays, callers_above, AllPlain, Finds, Ran, ran}
 use Rattle.match_bodies.proofs.ShadowTurns.{gives_here, called, beneath_called, call_keeps_shadow, beneath_callee}
 use Rattle.match_bodies.proofs.ReturnAddresses.{resumed_found, within_found, template_there}
-use Rattle.match_bodies.specs.Setting.{Setting, HasProgram, IsResumed}
+use Rattle.match_bodies.specs.Setting.{HasProgram}
 
 module _ (setting : Setting) where
   open setting use {functions as t, funclets as fs, program, plan as p, sites as q, image}

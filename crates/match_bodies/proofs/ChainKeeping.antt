@@ -1,13 +1,8 @@
 -- What a chain of steps keeps.
 use Rattle.std.proofs.Common.{◌≡◌, ℕ, zero, suc, ◌^◌, ◌<◌, false, List, [], ◌∷◌, length, refl, ap, subst, ◌∙◌, arith}
-use Rattle.flat_memory.specs.declared.protection.Protection.{Protection}
-use Rattle.flat_memory.specs.Protections.{is_writable}
-use Rattle.flat_memory.specs.Memory.{may_write}
-use Rattle.x64_machine.specs.Effect.{State}
+use Rattle.match_bodies.specs.Words.{Protection, is_writable, may_write, State, Steps, Reaches, Enters, IsWellFormed}
 use Rattle.seh_records.specs.Laws.{AllSmall}
 use Rattle.x64_templates.specs.Straight.{AreSmall}
-use Rattle.x64_templates.specs.Runs.{Steps, Reaches, Enters}
-use Rattle.match_stack.specs.DispatchStates.{IsWellFormed}
 
 -- protections, and bytes that may not be written; and registers are as many, and small
 pub record Keeps (s u : State) : Type 0 where

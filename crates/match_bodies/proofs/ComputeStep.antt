@@ -2,46 +2,24 @@
 use Rattle.std.proofs.Common.{◌≡◌, ℕ, zero, ◌+◌, ◌≤◌, Bool, true, false, Option, Some, None, List, [], ◌∷◌, ◌++◌, length, take, refl, sym, ap, subst, ◌∙◌, arith, length-append, length-take-le}
 use Rattle.std.specs.Prelude.{nat_le, slice_get, slice_set, if◌then◌else◌}
 use Rattle.std.proofs.lemmas.Bool.{leb-true, le-leb}
-use Rattle.flat_memory.specs.Memory.{Memory}
-use Rattle.x64_machine.specs.Effect.{State}
-use Rattle.c_operations.specs.declared.operation.Operation.{Operation}
+use Rattle.match_bodies.specs.Words.{Memory, State, Operation, Gives, performed, is_reserved, Slot, Local, Temporary, BodyState, with_slot, IsSlot, LinearBody, Configuration, Next, read, with_temporaries, forth, with_some, is_constant, operand, written, act, exec, sizes, Reg, Rax, Rcx, Layout, before, local_at, fetch_local, fetch, finish_code, compute_code, template_size, HasRule, Moves, HaveRoom, turns_left, counts_of, Setting, RepresentsAt}
 use Rattle.c_operations.specs.declared.operation.Operation.TheVariants as operations
 use Rattle.c_operations.specs.declared.operation.Pure.TheVariants.{Constant}
-use Rattle.c_operations.specs.Performed.{OperationResult, Gives, performed}
-use Rattle.source_meaning.specs.Source.{is_reserved}
-use Rattle.linear_code.specs.declared.slot.Slot.{Slot}
-use Rattle.linear_code.specs.declared.slot.Slot.TheVariants.{Local, Temporary}
+use Rattle.c_operations.specs.Performed.{OperationResult}
 use Rattle.linear_code.specs.declared.instruction.Instruction.TheVariants as instructions
-use Rattle.linear_code.specs.BodyState.{BodyState, with_slot}
-use Rattle.linear_code.specs.Meaning.{IsSlot, kept}
-use Rattle.linear_code.specs.Program.{LinearBody}
+use Rattle.linear_code.specs.Meaning.{kept}
 use Rattle.linear_machine.specs.Frames as linear
-use Rattle.linear_machine.specs.Frames.{Configuration, Next, read, with_temporaries, forth, with_some}
-use Rattle.linear_machine.specs.Instructions.{is_constant, operand, written, computed, act}
-use Rattle.linear_machine.specs.Run.{exec}
-use Rattle.template_code.specs.Bytes.{sizes}
-use Rattle.x64_instr.specs.declared.register.Reg.{Reg}
-use Rattle.x64_instr.specs.declared.register.Reg.TheVariants.{Rax, Rcx}
-use Rattle.template_code.specs.declared.layout.Layout.{Layout}
-use Rattle.template_code.specs.Operations.{before}
-use Rattle.template_code.specs.Slots.{local_at, fetch_local, fetch, finish_code, compute_code}
-use Rattle.template_code.specs.Template.{template_size}
+use Rattle.linear_machine.specs.Instructions.{computed}
 use Rattle.template_code.proofs.Lengths.{compute_length}
 use Rattle.x64_templates.specs.Runs.{Computed}
 use Rattle.x64_templates.proofs.Computes.{compute_run}
-use Rattle.match_runs.specs.Ends.{HasRule}
-use Rattle.match_runs.specs.Matched.{Moves}
-use Rattle.lowering_invariants.specs.Room.{HaveRoom}
 use Rattle.lowering_invariants.specs.Ready as ready
-use Rattle.match_bodies.specs.Bodies.{turns_left}
-use Rattle.match_bodies.specs.BodyViews.{counts_of}
 use Rattle.match_bodies.proofs.BodyViews.{IsCounted, count, room_here, holds_here, slots_here, locals_here}
 use Rattle.match_bodies.proofs.TemplateSlots.{Leaves}
 use Rattle.match_bodies.proofs.TemplateRuns.{code, frame, slots, v, sp_is, has_slots, template_here, next_address, Surroundings}
 use Rattle.match_bodies.proofs.SlotWrites.{locals_after, temporaries_after, FitsAfter, local_after, temporary_after, locals_count_after, one_more}
 use Rattle.match_bodies.proofs.TemplateKeeping.{compute_keeps}
 use Rattle.match_bodies.proofs.PlainSteps.{at_other, same_store, GoesInside, from_here, label_small, is_read, moves_to}
-use Rattle.match_bodies.specs.Setting.{Setting, RepresentsAt}
 
 -- the size of its template, and that it isn't empty
 compute_size : (y : Layout) (to : Slot) (o : Operation) (first second : Slot)

@@ -2,33 +2,16 @@
 -- stored.
 use Rattle.std.proofs.Common.{◌≡◌, ℕ, zero, suc, ◌+◌, ◌*◌, ◌^◌, ◌<◌, ◌≤◌, Bool, true, false, Option, Some, None, List, [], ◌∷◌, ◌++◌, length, refl, sym, ap, subst, ◌∙◌, arith, inl, inr, append_assoc}
 use Rattle.std.specs.Prelude.{◌⊎◌, nat_lt, if◌then◌else◌}
-use Rattle.x64_instr.specs.declared.register.Reg.{Reg}
-use Rattle.x64_instr.specs.declared.register.Reg.TheVariants.{Rax, Rdx, Rsp}
-use Rattle.x64_instr.specs.declared.instruction.Instr.{Instr}
-use Rattle.x64_machine.specs.Effect.{State, register}
-use Rattle.virtual_unwind.specs.CallerOf.{Functions}
-use Rattle.host_model.specs.declared.funclet.Funclet.{Funclet}
-use Rattle.linear_code.specs.Program.{LinearProgram, LinearBody}
-use Rattle.linear_machine.specs.Frames.{BodyName, body_of}
-use Rattle.template_code.specs.declared.layout.Layout.{Layout}
-use Rattle.template_code.specs.Bytes.{sizes}
-use Rattle.template_code.specs.Slots.{fetched, temporary_at, local_at}
-use Rattle.template_code.specs.Calls.{keep_register, parameter_register, stack_parameter, parameter_code, parameters_code, passing_code, arguments_code}
-use Rattle.x64_templates.specs.Runs.{HasCode}
+use Rattle.match_bodies.specs.Words.{Reg, Rax, Rsp, Instr, State, register, Functions, Funclet, LinearProgram, LinearBody, BodyName, body_of, Layout, sizes, fetched, local_at, keep_register, HasCode, StackItem, ImagePlan, AllKeep, Sites, begin_of, making_size, HasProgram, IsProgramImage, FindsReturn, LARGEST_FRAME, setting_of}
+use Rattle.x64_instr.specs.declared.register.Reg.TheVariants.{Rdx}
+use Rattle.template_code.specs.Slots.{temporary_at}
+use Rattle.template_code.specs.Calls.{parameter_register, stack_parameter, parameter_code, parameters_code, passing_code, arguments_code}
 use Rattle.x64_templates.proofs.Computes.{code_split}
 use Rattle.x64_templates.proofs.Encoded.{near}
-use Rattle.match_stack.specs.Stack.{StackItem}
-use Rattle.match_stack.specs.ImagePlan.{ImagePlan}
-use Rattle.match_runs.specs.Shadow.{AllKeep}
 use Rattle.match_bodies.specs.CodeSites as sites
-use Rattle.match_bodies.specs.CodeSites.{Sites, begin_of, making_size}
-use Rattle.match_bodies.specs.ProgramImages.{HasProgram, IsProgramImage}
-use Rattle.match_bodies.specs.Callers.{FindsReturn}
 use Rattle.match_bodies.proofs.RoutineWalks.{StepsTo, steps_split, keeps_split, Beneath, IsPlain, AllPlain, Finds, ran}
 use Rattle.match_bodies.proofs.ReturnAddresses.{argument_found}
 use Rattle.match_bodies.proofs.FrameMaking.{making_steps, frame_there, made_by}
-use Rattle.template_code.specs.declared.layout.TheConstants.{LARGEST_FRAME}
-use Rattle.match_bodies.specs.Setting.{setting_of}
 
 -- ---- what entries and calls are made of
 

@@ -2,32 +2,14 @@
 -- of its turns.
 use Rattle.std.proofs.Common.{◌≡◌, ℕ, zero, suc, ◌+◌, ◌^◌, ◌<◌, false, Ok, List, ◌∷◌, ◌++◌, inl, inr, length, get_or, refl, sym, ap, subst, ◌∙◌, arith}
 use Rattle.std.specs.Prelude.{slice_set}
-use Rattle.flat_memory.specs.Memory.{Memory, executable}
-use Rattle.x64_instr.specs.declared.register.Reg.TheVariants.{Rsp}
-use Rattle.x64_instr.specs.declared.instruction.Instr.{Instr}
+use Rattle.match_bodies.specs.Words.{Memory, executable, Rsp, Instr, leading, Context, kept_of, context_of, State, register, Functions, word, Funclet, LinearProgram, size, sizes, Reaches, HasCode, state, ImagePlan, GivesCallers, WalkGives, KeepsShadow, AllKeep, Sites, FindsReturn, HasProgram}
 use Rattle.x64_instr.specs.declared.instruction.Instr.TheVariants as instrs
-use Rattle.x64_instr.specs.Spelling.{leading}
-use Rattle.x64_machine.specs.declared.context.Context.{Context}
-use Rattle.x64_machine.specs.Contexts.{kept_of, context_of}
-use Rattle.x64_machine.specs.Effect.{State, register}
-use Rattle.virtual_unwind.specs.CallerOf.{Functions}
-use Rattle.virtual_unwind.specs.Undone.{word}
-use Rattle.host_model.specs.declared.funclet.Funclet.{Funclet}
-use Rattle.linear_code.specs.Program.{LinearProgram}
-use Rattle.template_code.specs.Bytes.{size, sizes}
-use Rattle.x64_templates.specs.Runs.{Reaches, HasCode}
 use Rattle.x64_templates.specs.Keeping.{is_call, Flows, StoresOnce}
 use Rattle.x64_templates.specs.Chains.{AllTurns, IsInside, IsTurnOf}
 use Rattle.x64_templates.proofs.PlacedCode.{Encodable}
 use Rattle.x64_templates.proofs.Chains.{all_turns}
-use Rattle.match_stack.specs.PlainWalks.{state}
-use Rattle.match_stack.specs.ImagePlan.{ImagePlan}
 use Rattle.match_runs.specs.Shadow as shadows
-use Rattle.match_runs.specs.Shadow.{GivesCallers, WalkGives, KeepsShadow, AllKeep}
 use Rattle.match_runs.proofs.Shadows.{HeadAbove, straight}
-use Rattle.match_bodies.specs.CodeSites.{Sites}
-use Rattle.match_bodies.specs.Callers.{FindsReturn}
-use Rattle.match_bodies.specs.ProgramImages.{HasProgram}
 use Rattle.match_bodies.proofs.BodyCallers.{gives_caller}
 
 no_call : (i : Instr) → is_call i ≡ false → shadows.calls i ≡ false

@@ -2,42 +2,27 @@
 use Rattle.std.proofs.Common.{◌≡◌, ℕ, ◌+◌, ◌-◌, ◌^◌, ◌<◌, ◌≤◌, Bool, true, false, List, [], ◌∷◌, ◌++◌, length, Some, refl, sym, ap, subst, ◌∙◌, arith, inl}
 use Rattle.std.specs.Prelude.{nat_le, if◌then◌else◌}
 use Rattle.std.proofs.lemmas.Bool.{lt-ltb, le-leb, lt-leb, leb-true, leb-false}
-use Rattle.flat_memory.specs.Memory.{Memory}
-use Rattle.seh_num.specs.declared.width.Width.TheVariants.{W8, W32, W64}
-use Rattle.x64_instr.specs.declared.register.Reg.TheVariants.{Rax, Rsp, R11}
+use Rattle.match_bodies.specs.Words.{Memory, W32, W64, Rax, Rsp, Instr, is_encodable, State, register, with_rip, word, LinearBody, BodyName, body_of, size, sizes, IsNear, call, enter_code, check_stack, code_from, Steps, HasCode, StackItem, is_call, KeepsShadow, AllKeep, links_of, begin_of, making, making_size, frame_code, arguments_code, entry_code, FindsReturn, LARGEST_FRAME, Setting}
+use Rattle.seh_num.specs.declared.width.Width.TheVariants.{W8}
+use Rattle.x64_instr.specs.declared.register.Reg.TheVariants.{R11}
 use Rattle.x64_instr.specs.declared.operand.RegisterOrMemory.TheVariants as places
 use Rattle.x64_instr.specs.declared.operand.Operand.TheVariants as operands
 use Rattle.x64_instr.specs.declared.instruction.Operation.TheVariants as arithmetic
-use Rattle.x64_instr.specs.declared.instruction.Instr.{Instr}
 use Rattle.x64_instr.specs.declared.instruction.Instr.TheVariants as instrs
-use Rattle.x64_encode.specs.Chosen.{is_encodable, opcode_register}
-use Rattle.x64_machine.specs.Effect.{State, register, with_rip}
-use Rattle.virtual_unwind.specs.Undone.{word}
-use Rattle.linear_code.specs.Program.{LinearBody}
-use Rattle.linear_machine.specs.Frames.{BodyName, body_of}
-use Rattle.template_code.specs.Bytes.{size, sizes}
-use Rattle.template_code.specs.Jumps.{IsNear, call}
-use Rattle.template_code.specs.Calls.{enter_code}
+use Rattle.x64_encode.specs.Chosen.{opcode_register}
 use Rattle.template_code.specs.Operations.{above}
-use Rattle.template_code.specs.Probing.{first_touch, check_stack, enter_large}
-use Rattle.template_code.specs.Template.{code_from}
+use Rattle.template_code.specs.Probing.{first_touch, enter_large}
 use Rattle.template_code.proofs.Sizes.{call_size}
-use Rattle.x64_templates.specs.Runs.{Steps, HasCode}
 use Rattle.x64_templates.proofs.Computes.{code_split}
 use Rattle.x64_templates.proofs.Encoded.{near}
-use Rattle.match_stack.specs.Stack.{StackItem}
-use Rattle.match_runs.specs.Shadow.{is_call, KeepsShadow, AllKeep}
 use Rattle.match_runs.proofs.Shadows.{keep_first}
-use Rattle.match_bodies.specs.CodeSites.{links_of, begin_of, making, making_size, frame_code, arguments_code, entry_code}
-use Rattle.match_bodies.specs.Callers.{FindsReturn}
 use Rattle.match_bodies.proofs.StackTop.{leaf_layout}
 use Rattle.match_bodies.proofs.InstructionEffects.{is_probing, falls, falls_by_rax, puts_rax}
 use Rattle.match_bodies.proofs.SilentTurns.{program_kept}
 use Rattle.match_bodies.proofs.RoutineWalks.{read_here, effect_here, code_next, StepsTo, Beneath, Finds, ran}
 use Rattle.match_bodies.proofs.ShadowTurns.{shifts, called, beneath_called, call_keeps_shadow, Probing, probes, probe_returns}
 use Rattle.match_bodies.proofs.ReturnAddresses.{argument_found}
-use Rattle.template_code.specs.declared.layout.TheConstants.{LARGEST_FRAME}
-use Rattle.match_bodies.specs.Setting.{Setting, HasProgram}
+use Rattle.match_bodies.specs.Setting.{HasProgram}
 
 -- so many instructions make a frame, those of `__chkstk` among them
 abbrev pub making_steps : Bool → ℕ → ℕ

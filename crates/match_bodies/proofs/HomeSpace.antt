@@ -1,20 +1,7 @@
 -- The home space at the bottom of a caller's frame is its callee's (Microsoft x64 ABI, "Stack
 -- allocation"): a change of it leaves the list as it is.
 use Rattle.std.proofs.Common.{◌≡◌, ◌+◌, ◌≤◌, false, List, [], ◌∷◌, arith}
-use Rattle.host_layout.specs.declared.range.TheConstants.{STACK_START}
-use Rattle.flat_memory.specs.Memory.{Memory}
-use Rattle.x64_machine.specs.declared.context.Context.{Context}
-use Rattle.virtual_unwind.specs.Contexts.{rsp}
-use Rattle.virtual_unwind.specs.CallerOf.{Functions}
-use Rattle.host_model.specs.declared.funclet.Funclet.{Funclet}
-use Rattle.linear_code.specs.Program.{LinearProgram}
-use Rattle.linear_machine.specs.Frames.{Item, Waits, Searches, Unwinds}
-use Rattle.match_stack.specs.Stack.{StackItem, Framed, Leaf, Searching, Unwinding}
-use Rattle.match_stack.specs.ImagePlan.{ImagePlan}
-use Rattle.match_stack.specs.ItemMatches.{Activation}
-use Rattle.match_stack.specs.ListLaws.{IsLinkedStack}
-use Rattle.match_bodies.specs.Layouts.{AreLaidOut}
-use Rattle.match_bodies.specs.SlotStores.{KeepsStackBut}
+use Rattle.match_bodies.specs.Words.{STACK_START, Memory, Context, rsp, Functions, Funclet, LinearProgram, Item, Waits, Searches, Unwinds, StackItem, Framed, Leaf, Searching, Unwinding, ImagePlan, Activation, IsLinkedStack, AreLaidOut, KeepsStackBut}
 use Rattle.match_bodies.proofs.ArgumentSpace.{outgoing_is_free}
 
 -- a body that waits at the top has a frame; where nothing waits, there is nothing to keep

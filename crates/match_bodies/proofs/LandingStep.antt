@@ -2,35 +2,19 @@
 use Rattle.std.proofs.Common.{◌≡◌, ℕ, ◌+◌, ◌^◌, ◌<◌, ◌≤◌, Option, Some, None, [], ◌∷◌, ◌++◌, length, take, refl, sym, ap, subst, ◌∙◌, arith}
 use Rattle.std.specs.Prelude.{slice_get, slice_set, if◌then◌else◌}
 use Rattle.std.proofs.lemmas.Bool.{le-leb}
-use Rattle.x64_instr.specs.declared.register.Reg.TheVariants.{Rax}
-use Rattle.x64_machine.specs.Effect.{State, register}
-use Rattle.linear_code.specs.declared.slot.Slot.{Slot}
-use Rattle.linear_code.specs.declared.slot.Slot.TheVariants.{Local, Temporary}
+use Rattle.match_bodies.specs.Words.{Rax, State, register, Slot, Local, Temporary, BodyState, with_slot, LinearBody, Configuration, Next, with_temporaries, forth, with_some, written, act, Layout, sizes, local_at, keep_local, keep, template_size, machine, ReachesBody, Moves, HaveRoom, turns_left, Setting, RepresentsAt}
 use Rattle.linear_code.specs.declared.instruction.Instruction.TheVariants as instructions
-use Rattle.linear_code.specs.BodyState.{BodyState, with_slot}
-use Rattle.linear_code.specs.Program.{LinearBody}
 use Rattle.linear_machine.specs.Frames as linear
-use Rattle.linear_machine.specs.Frames.{Configuration, Next, with_temporaries, forth, with_some}
-use Rattle.linear_machine.specs.Instructions.{written, not_landed, act}
-use Rattle.template_code.specs.declared.layout.Layout.{Layout}
-use Rattle.template_code.specs.Bytes.{sizes}
-use Rattle.template_code.specs.Slots.{local_at, keep_local, keep}
-use Rattle.template_code.specs.Template.{template_size}
+use Rattle.linear_machine.specs.Instructions.{not_landed}
 use Rattle.template_code.proofs.Lengths.{keep_length}
-use Rattle.x64_templates.specs.Straight.{machine}
-use Rattle.x64_templates.specs.Runs.{ReachesBody}
 use Rattle.x64_templates.proofs.Returns.{call_ends}
-use Rattle.match_runs.specs.Matched.{Moves}
-use Rattle.lowering_invariants.specs.Room.{HaveRoom}
 use Rattle.lowering_invariants.specs.Ready.{IsNextSlot}
-use Rattle.match_bodies.specs.Bodies.{turns_left}
 use Rattle.match_bodies.proofs.BodyViews.{IsCounted, room_here, holds_here, locals_here}
 use Rattle.match_bodies.proofs.TemplateRuns.{code, frame, slots, v, sp_is, has_slots, template_here, next_address, Surroundings}
 use Rattle.match_bodies.proofs.SlotWrites.{locals_after, temporaries_after, FitsAfter, one_more}
 use Rattle.match_bodies.proofs.TemplateKeeping.{landing_keeps}
 use Rattle.match_bodies.proofs.PlainSteps.{at_other, same_store, GoesInside, from_here, label_small, moves_to}
 use Rattle.match_bodies.proofs.ComputeStep.{leaves_stored}
-use Rattle.match_bodies.specs.Setting.{Setting, RepresentsAt}
 
 landing_size : (y : Layout) (to : Slot) → template_size y (instructions.Landing to)
     ≡ sizes (keep y to)

@@ -1,17 +1,8 @@
 -- A memory in which no byte of the image has changed is the machine's, as before.
 use Rattle.std.proofs.Common.{◌≡◌, ℕ, List, sym, ap, ◌∙◌}
-use Rattle.flat_memory.specs.declared.protection.Protection.{Protection}
-use Rattle.flat_memory.specs.Protections.{is_writable}
-use Rattle.flat_memory.specs.Memory.{Memory}
-use Rattle.virtual_unwind.specs.CallerOf.{Functions}
+use Rattle.match_bodies.specs.Words.{Protection, is_writable, Memory, Functions, Funclet, is_reserved, LinearProgram, Agrees, ImagePlan, Sites, IsProgramImage}
 use Rattle.seh_records.specs.Laws.{AreBytes}
-use Rattle.host_model.specs.declared.funclet.Funclet.{Funclet}
-use Rattle.source_meaning.specs.Source.{is_reserved}
-use Rattle.linear_code.specs.Program.{LinearProgram}
-use Rattle.x64_templates.specs.Frames.{Agrees}
-use Rattle.match_stack.specs.ImagePlan.{ImagePlan}
-use Rattle.match_bodies.specs.CodeSites.{Sites}
-use Rattle.match_bodies.specs.ProgramImages.{IsMachineMemory, IsProgramImage}
+use Rattle.match_bodies.specs.ProgramImages.{IsMachineMemory}
 use Rattle.match_bodies.proofs.ProgramKeeping.{KeepsImage, program_stays}
 
 module _ (t : Functions) (fs : List Funclet) (program : LinearProgram) (p : ImagePlan) (q : Sites)

@@ -1,43 +1,17 @@
 -- The next instruction of a body begins, in the memory that a template leaves.
 use Rattle.std.proofs.Common.{◌≡◌, ℕ, ◌+◌, ◌*◌, ◌<◌, ◌≤◌, true, Option, Some, None, Ok, List, [], ◌∷◌, length, refl, sym, ap, subst, ◌∙◌, arith, inl, inr}
 use Rattle.std.specs.Prelude.{◌⊎◌, slice_get}
-use Rattle.host_layout.specs.declared.range.TheConstants.{STACK_START, STACK_END}
-use Rattle.seh_num.specs.declared.event.Event.{Event}
-use Rattle.flat_memory.specs.Memory.{Memory}
-use Rattle.x64_instr.specs.declared.register.Reg.TheVariants.{Rax, Rsp}
-use Rattle.x64_machine.specs.Effect.{State, register}
-use Rattle.virtual_unwind.specs.Undone.{Answer, word}
-use Rattle.linear_code.specs.declared.slot.Slot.TheVariants.{Local, Temporary}
-use Rattle.linear_code.specs.BodyState.{BodyState}
-use Rattle.linear_code.specs.Program.{LinearBody, LinearFunclet}
-use Rattle.linear_machine.specs.Frames.{BodyName, FunctionBody, FuncletBody, body_of, Frame, Item, Waits, Searches, Unwinds, Configuration}
-use Rattle.x64_machine.specs.declared.context.Context.{Context}
-use Rattle.template_code.specs.declared.layout.Layout.{Layout}
-use Rattle.x64_templates.specs.Runs.{FrameHolds}
-use Rattle.x64_machine.specs.Contexts.{context_of}
-use Rattle.linear_machine.specs.Regions.{holds, regions_of}
-use Rattle.match_stack.specs.ImagePlan.{InCode}
-use Rattle.match_stack.specs.WalkLaws.{context_below}
-use Rattle.match_stack.specs.ItemMatches.{Activation, locals_of, activations_below, HoldsWords, IsActivation, HasActivation, HasPointers, FuncletIsAbove, IsAbove, BodyWaits, HasSpace, below_end, home_end}
-use Rattle.match_stack.specs.ListLaws.{IsLinkedStack}
+use Rattle.match_bodies.specs.Words.{STACK_START, STACK_END, Event, Memory, Rax, Rsp, State, register, word, Local, Temporary, BodyState, LinearBody, LinearFunclet, BodyName, FunctionBody, FuncletBody, body_of, Frame, Item, Waits, Searches, Unwinds, Configuration, Context, Layout, FrameHolds, context_of, holds, regions_of, InCode, context_below, Activation, locals_of, activations_below, HoldsWords, IsActivation, HasActivation, HasPointers, FuncletIsAbove, IsAbove, BodyWaits, HasSpace, below_end, home_end, IsLinkedStack, IsData, On, IsWellFormed, IsFunctionLayout, IsLayoutIf, slots_end, counts_of, frame_at, with_values, KeepsStackBut, OwnerHasFrame, InTemporaries, InLocals, last_temporary, Setting, RepresentsAt}
+use Rattle.virtual_unwind.specs.Undone.{Answer}
 use Rattle.match_stack.proofs.ListKeeping.{kept_by_other_memories}
-use Rattle.match_stack.specs.StackRecords.{IsData, On}
-use Rattle.match_stack.specs.DispatchStates.{IsWellFormed}
 use Rattle.match_bodies.proofs.ProgramKeeping.{program_stays}
-use Rattle.match_bodies.specs.Layouts.{IsFunctionLayout, IsLayoutIf}
-use Rattle.match_bodies.specs.Bodies.{slots_end}
-use Rattle.match_bodies.specs.BodyViews.{counts_of, frame_at}
-use Rattle.match_bodies.specs.SlotStores.{with_values, KeepsStackBut, OwnerHasFrame}
 use Rattle.match_bodies.proofs.HomeSpace.{CallerHasFrame, home_is_free}
-use Rattle.x64_templates.specs.Frames.{InTemporaries, InLocals}
-use Rattle.match_bodies.specs.Bodies.{last_temporary}
 use Rattle.match_bodies.proofs.SlotPlaces.{KeepsSlot, SlotsPlaced}
 use Rattle.match_bodies.proofs.BodyViews.{IsCounted, placed, count, sp_low, frame_top, last_room, AsFunction, AsLeaf, AsFunclet, kind}
 use Rattle.match_bodies.proofs.ActivationKeeping.{first_changes, still_is, with_count}
 use Rattle.match_bodies.proofs.LocalStores.{activations_are_stored}
 use Rattle.match_bodies.proofs.TemplateChanges.{words_are, Changed, slot_word, word_beside, no_more_code, stays_data, stack_kept, stack_kept_but, stack_written, image_kept}
 use Rattle.match_bodies.proofs.TemplateSlots.{get_index, same_regions, Leaves}
-use Rattle.match_bodies.specs.Setting.{Setting, RepresentsAt}
 
 module _ (setting : Setting) where
   open setting use {functions as t, funclets as fs, program, plan as p, sites as q, image}

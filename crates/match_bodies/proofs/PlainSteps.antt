@@ -3,32 +3,13 @@ use Rattle.std.proofs.Common.{◌≡◌, ℕ, zero, suc, ◌+◌, ◌*◌, ◌^�
 use Rattle.std.specs.Prelude.{nat_eq, slice_get, slice_index, slice_set}
 use Rattle.std.proofs.lemmas.List.{append-nil}
 use Rattle.std.proofs.lemmas.Option.{slice_get_within}
-use Rattle.seh_num.specs.declared.event.Event.{Event}
-use Rattle.flat_memory.specs.Memory.{Memory}
-use Rattle.x64_machine.specs.Effect.{State}
-use Rattle.linear_code.specs.declared.slot.Slot.{Slot}
-use Rattle.linear_code.specs.declared.slot.Slot.TheVariants.{Local, Temporary}
-use Rattle.linear_code.specs.declared.instruction.Instruction.{Instruction}
+use Rattle.match_bodies.specs.Words.{Event, Memory, State, Slot, Local, Temporary, Instruction, BodyState, IsSlot, LinearBody, body_of, Configuration, Next, local_of, read, forth, with_some, act, Layout, machine, InstructionDone, ReachesBody, template, template_size, body_size, offset_of, counts_of, locals_of, Moves, HaveRoom, links_of, turns_left, with_values, Setting, RepresentsAt}
 use Rattle.linear_code.specs.declared.instruction.Instruction.TheVariants as instructions
-use Rattle.linear_code.specs.BodyState.{BodyState}
 use Rattle.linear_code.specs.Meaning as meanings
-use Rattle.linear_code.specs.Meaning.{JumpsTo, IsSlot}
+use Rattle.linear_code.specs.Meaning.{JumpsTo}
 use Rattle.lowering_invariants.specs.Ready.{IsHeld}
-use Rattle.linear_code.specs.Program.{LinearBody}
-use Rattle.linear_machine.specs.Frames.{body_of, Configuration, Next, local_of, read, at_label, forth, with_last, pick, with_some}
-use Rattle.linear_machine.specs.Instructions.{tested, act}
-use Rattle.template_code.specs.declared.layout.Layout.{Layout}
-use Rattle.x64_templates.specs.Straight.{machine}
-use Rattle.x64_templates.specs.InstructionRuns.{InstructionDone}
-use Rattle.x64_templates.specs.Runs.{ReachesBody}
-use Rattle.template_code.specs.Template.{template, template_size, body_size, offset_of}
-use Rattle.match_bodies.specs.BodyViews.{counts_of}
-use Rattle.match_stack.specs.ItemMatches.{locals_of}
-use Rattle.match_runs.specs.Matched.{Moves}
-use Rattle.lowering_invariants.specs.Room.{HaveRoom}
-use Rattle.match_bodies.specs.CodeSites.{links_of}
-use Rattle.match_bodies.specs.Bodies.{turns_left}
-use Rattle.match_bodies.specs.SlotStores.{with_values}
+use Rattle.linear_machine.specs.Frames.{at_label, with_last, pick}
+use Rattle.linear_machine.specs.Instructions.{tested}
 use Rattle.match_bodies.proofs.ActivationPlaces.{locals_count}
 use Rattle.match_bodies.proofs.ActivationStores.{activated, same_activations}
 use Rattle.match_bodies.proofs.BodyViews.{IsCounted, placed, count, slots_here, locals_here}
@@ -36,7 +17,6 @@ use Rattle.match_bodies.proofs.TemplateSlots.{Leaves}
 use Rattle.match_bodies.proofs.TemplateRuns.{code, frame, slots, v, same_state, done, has_slots, next_address, Surroundings, to_label}
 use Rattle.match_bodies.proofs.TemplateShadows.{RunsKeep}
 use Rattle.match_bodies.proofs.TemplateKeeping.{separator_keeps, jump_keeps, jump_if_zero_keeps}
-use Rattle.match_bodies.specs.Setting.{Setting, RepresentsAt}
 
 -- an instruction of a body begins within it
 offset_most : (y : Layout) (body : List Instruction) (number : ℕ)

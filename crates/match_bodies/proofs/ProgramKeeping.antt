@@ -1,30 +1,13 @@
 -- The program stays in a memory in which no byte of the image has changed.
 use Rattle.std.proofs.Common.{◌≡◌, ℕ, ◌+◌, ◌<◌, ◌≤◌, true, Some, List, [], ◌∷◌, length, sym, ap, subst, ◌∙◌, arith}
+use Rattle.match_bodies.specs.Words.{Service, address_of, Protection, is_readable, is_writable, Memory, Functions, Funclet, Instr, is_reserved, LinearProgram, LinearBody, BodyName, body_of, spelled, sizes, thunk, check_stack, code_from, body_size, HasCode, HasThunk, ImagePlan, Sites, links_of, begin_of, entry_code, code_of, service_of, HasService, HasProgram, IsProgramImage}
 use Rattle.host_layout.specs.declared.range.TheConstants.{IMAGE_BASE, IMAGE_RANGE_END}
-use Rattle.host_layout.specs.declared.service.Service.{Service}
 use Rattle.host_layout.specs.declared.service.Service.TheVariants as services
-use Rattle.host_layout.specs.Services.{address_of}
-use Rattle.flat_memory.specs.declared.protection.Protection.{Protection}
-use Rattle.flat_memory.specs.Protections.{is_readable, is_writable}
-use Rattle.flat_memory.specs.Memory.{Memory}
-use Rattle.virtual_unwind.specs.CallerOf.{Functions}
-use Rattle.host_model.specs.declared.funclet.Funclet.{Funclet}
-use Rattle.x64_instr.specs.declared.instruction.Instr.{Instr}
-use Rattle.source_meaning.specs.Source.{is_reserved}
-use Rattle.linear_code.specs.Program.{LinearProgram, LinearBody}
-use Rattle.linear_machine.specs.Frames.{BodyName, body_of}
-use Rattle.template_code.specs.Bytes.{spelled, sizes, thunk}
-use Rattle.template_code.specs.Probing.{check_stack}
-use Rattle.template_code.specs.Template.{code_from, body_size}
 use Rattle.template_code.proofs.Sizes.{sizes_spelled, sizes_append, body_sizes}
 use Rattle.x64_templates.specs.Placed.{IsCodeAt}
-use Rattle.x64_templates.specs.Runs.{HasCode}
-use Rattle.x64_templates.specs.Thunks.{HasThunk}
 use Rattle.x64_templates.proofs.PlacedCode.{same_number}
 use Rattle.x64_templates.proofs.Services.{thunk_size}
-use Rattle.match_stack.specs.ImagePlan.{ImagePlan}
-use Rattle.match_bodies.specs.CodeSites.{Sites, links_of, begin_of, entry_code, code_of}
-use Rattle.match_bodies.specs.ProgramImages.{service_of, IsInImage, HasService, HasProgram, IsProgramImage}
+use Rattle.match_bodies.specs.ProgramImages.{IsInImage}
 
 -- bytes of a range, and what may be done there
 pub record SameThere (m m' : Memory) (from to : ℕ) : Type 0 where

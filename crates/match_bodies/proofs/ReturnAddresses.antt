@@ -3,32 +3,15 @@ use Rattle.std.proofs.Common.{◌≡◌, ℕ, ◌+◌, ◌<◌, ◌≤◌, Bool,
 use Rattle.std.specs.Prelude.{slice_get, slice_set}
 use Rattle.std.proofs.lemmas.Option.{slice_get_cases, slice_get_within, get_or_from_slice_get}
 use Rattle.std.proofs.lemmas.List.{append-nil}
-use Rattle.flat_memory.specs.Memory.{Memory}
-use Rattle.x64_instr.specs.declared.register.Reg.TheVariants.{Rax}
-use Rattle.x64_instr.specs.declared.instruction.Instr.{Instr}
-use Rattle.x64_machine.specs.declared.context.Context.{Context}
-use Rattle.virtual_unwind.specs.Contexts.{rsp}
-use Rattle.virtual_unwind.specs.Undone.{word}
-use Rattle.linear_code.specs.declared.instruction.Instruction.{Instruction}
+use Rattle.match_bodies.specs.Words.{Memory, Rax, Instr, Context, rsp, word, Instruction, LinearBody, BodyName, body_of, sizes, fetch, template, offset_of, code_from, IsReturn, HasCode, after_leaf, links_of, begin_of, making_size, frame_code, arguments_code, entry_code, frame_with, caller_above, HasCaller, FindsReturn, Setting, IsResumed}
 use Rattle.linear_code.specs.declared.instruction.Instruction.TheVariants as instructions
-use Rattle.linear_code.specs.Program.{LinearBody}
-use Rattle.linear_machine.specs.Frames.{BodyName, body_of}
-use Rattle.template_code.specs.Bytes.{sizes}
-use Rattle.template_code.specs.Slots.{fetch}
-use Rattle.template_code.specs.Template.{template, offset_of, code_from}
 use Rattle.template_code.proofs.Sizes.{sizes_append, template_sizes}
-use Rattle.x64_templates.specs.Epilogues.{IsReturn}
-use Rattle.x64_templates.specs.Runs.{HasCode}
 use Rattle.x64_templates.proofs.Computes.{code_split}
 use Rattle.x64_templates.proofs.Linked.{template_placed}
-use Rattle.match_stack.specs.Stack.{after_leaf}
 use Rattle.match_stack.proofs.ItemVisits.{frame_is_visited, leaf_is_visited}
-use Rattle.match_bodies.specs.CodeSites.{links_of, begin_of, making_size, frame_code, arguments_code, entry_code}
-use Rattle.match_bodies.specs.ProgramImages.{frame_with}
-use Rattle.match_bodies.specs.Callers.{caller_above, HasCaller, FindsReturn}
 use Rattle.match_bodies.proofs.StackTop.{leaf_layout}
 use Rattle.match_bodies.proofs.TemplateSizes.{template_some}
-use Rattle.match_bodies.specs.Setting.{Setting, HasProgram, IsResumed}
+use Rattle.match_bodies.specs.Setting.{HasProgram}
 
 record First (code : List Instr) : Type 0 where
   item : Instr

@@ -3,34 +3,20 @@
 use Rattle.std.proofs.Common.{◌≡◌, ℕ, zero, suc, ◌+◌, ◌^◌, ◌<◌, Option, Some, None, List, [], ◌∷◌, length, refl, sym, ap, subst, ◌∙◌, arith, inl, length-append}
 use Rattle.std.specs.Prelude.{slice_get}
 use Rattle.std.proofs.lemmas.List.{append-nil}
-use Rattle.flat_memory.specs.Memory.{Memory}
-use Rattle.x64_instr.specs.declared.register.Reg.TheVariants.{Rax, Rsp}
-use Rattle.x64_instr.specs.declared.instruction.Instr.{Instr}
+use Rattle.match_bodies.specs.Words.{Memory, Rax, Rsp, Instr, State, register, with_rip, Slot, Local, Temporary, LinearBody, BodyName, body_of, Layout, size, sizes, fetch, fetch_local, local_at, epilogue, HasCode, StackItem, is_call, AllKeep, FindsReturn, Setting}
 use Rattle.x64_instr.specs.declared.instruction.Instr.TheVariants as instrs
-use Rattle.x64_machine.specs.Effect.{State, register, with_rip}
-use Rattle.linear_code.specs.declared.slot.Slot.{Slot}
-use Rattle.linear_code.specs.declared.slot.Slot.TheVariants.{Local, Temporary}
 use Rattle.linear_code.specs.declared.instruction.Instruction.TheVariants as instructions
-use Rattle.linear_code.specs.Program.{LinearBody}
-use Rattle.linear_machine.specs.Frames.{BodyName, body_of}
-use Rattle.template_code.specs.declared.layout.Layout.{Layout}
-use Rattle.template_code.specs.Bytes.{size, sizes}
-use Rattle.template_code.specs.Slots.{fetch, fetch_local, local_at}
-use Rattle.template_code.specs.Calls.{epilogue, return_code}
-use Rattle.x64_templates.specs.Runs.{HasCode}
+use Rattle.template_code.specs.Calls.{return_code}
 use Rattle.x64_templates.proofs.Computes.{code_split}
 use Rattle.x64_templates.proofs.Encoded.{Fine, near}
-use Rattle.match_stack.specs.Stack.{StackItem}
-use Rattle.match_runs.specs.Shadow.{is_call, AllKeep}
 use Rattle.match_runs.proofs.Shadows.{keep_first}
 use Rattle.match_bodies.specs.CodeSites.{give_back}
-use Rattle.match_bodies.specs.Callers.{FindsReturn}
 use Rattle.match_bodies.proofs.InstructionEffects.{rises}
 use Rattle.match_bodies.proofs.SilentTurns.{program_kept}
 use Rattle.match_bodies.proofs.RoutineWalks.{read_here, effect_here, code_next, StepsTo, steps_split, keeps_split, Beneath, AllPlain, Finds, Ran, ran}
 use Rattle.match_bodies.proofs.ShadowTurns.{shifts, return_keeps_shadow}
 use Rattle.match_bodies.proofs.ReturnAddresses.{template_there}
-use Rattle.match_bodies.specs.Setting.{Setting, HasProgram}
+use Rattle.match_bodies.specs.Setting.{HasProgram}
 
 -- what a return fetches
 fetch_local_plain : (d e : ℕ) (o : Option ℕ) (k : ℕ) → Fine (fetch_local o Rax k)

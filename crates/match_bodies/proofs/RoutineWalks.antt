@@ -2,37 +2,14 @@
 use Rattle.std.proofs.Common.{◌≡◌, ℕ, zero, suc, ◌+◌, ◌%◌, ◌^◌, ◌<◌, ◌≤◌, Bool, true, false, List, [], ◌∷◌, ◌++◌, length, Option, Some, None, Ok, refl, sym, ap, subst, ◌∙◌, arith, inl, inr}
 use Rattle.std.specs.Prelude.{◌⊎◌, slice_index}
 use Rattle.std.proofs.lemmas.Bool.{cases_lt}
-use Rattle.flat_memory.specs.declared.protection.Protection.{Protection}
-use Rattle.flat_memory.specs.Protections.{is_readable, is_writable}
-use Rattle.flat_memory.specs.Memory.{Memory, executable, may_read, may_write, first_refused, number_at, with_bytes, access}
-use Rattle.x64_instr.specs.declared.register.Reg.{Reg}
-use Rattle.x64_instr.specs.declared.register.Reg.TheVariants.{Rsp}
-use Rattle.x64_instr.specs.declared.instruction.Instr.{Instr}
-use Rattle.x64_instr.specs.Spelling.{leading}
-use Rattle.x64_encode.specs.Chosen.{chosen, is_encodable}
+use Rattle.match_bodies.specs.Words.{Protection, is_readable, is_writable, Memory, executable, may_read, may_write, first_refused, number_at, with_bytes, access, Reg, Rsp, Instr, leading, chosen, is_encodable, Context, context_of, State, register, with_rip, effect, rsp, Functions, word, readable, Funclet, LinearProgram, spelled, size, sizes, keep_register, Steps, Reaches, Enters, HasCode, StackItem, IsStack, Owned, context_below, state, ImagePlan, is_call, GivesCallers, WalkGives, AllKeep, Sites, HasProgram, caller_above, HasCaller, FindsReturn}
 use Rattle.x64_encode.proofs.Lengths.{longest}
-use Rattle.x64_machine.specs.declared.context.Context.{Context}
-use Rattle.x64_machine.specs.Contexts.{context_of}
-use Rattle.x64_machine.specs.Effect.{State, register, with_rip, effect, step}
-use Rattle.virtual_unwind.specs.Contexts.{rsp}
-use Rattle.virtual_unwind.specs.CallerOf.{Functions}
-use Rattle.virtual_unwind.specs.Undone.{word, readable}
-use Rattle.host_model.specs.declared.funclet.Funclet.{Funclet}
-use Rattle.linear_code.specs.Program.{LinearProgram}
-use Rattle.template_code.specs.Bytes.{spelled, size, sizes}
-use Rattle.template_code.specs.Calls.{keep_register}
-use Rattle.x64_templates.specs.Runs.{Steps, Reaches, Enters, HasCode}
+use Rattle.x64_machine.specs.Effect.{step}
 use Rattle.x64_templates.proofs.PlacedCode.{same_number, bytes_kept, outside_page, bytes_split, spells, reads}
-use Rattle.match_stack.specs.Stack.{StackItem, IsStack, Owned, Agree}
-use Rattle.match_stack.specs.WalkLaws.{context_below}
-use Rattle.match_stack.specs.PlainWalks.{state}
+use Rattle.match_stack.specs.Stack.{Agree}
 use Rattle.match_stack.proofs.StackKeeping.{kept_by_other_stores, nothing_below_is_owned}
-use Rattle.match_stack.specs.ImagePlan.{ImagePlan}
-use Rattle.match_runs.specs.Shadow.{is_call, calls, GivesCallers, WalkGives, AllKeep}
+use Rattle.match_runs.specs.Shadow.{calls}
 use Rattle.match_runs.proofs.Shadows.{past_frame, straight, keep_first}
-use Rattle.match_bodies.specs.CodeSites.{Sites}
-use Rattle.match_bodies.specs.ProgramImages.{HasProgram}
-use Rattle.match_bodies.specs.Callers.{caller_above, HasCaller, FindsReturn}
 use Rattle.match_bodies.proofs.StackWalks.{callers, on_stack}
 use Rattle.match_bodies.proofs.InstructionEffects.{others_of, is_idle, idle_leaves, idle_calls_nothing, store_leaves}
 use Rattle.match_bodies.proofs.SilentTurns.{program_kept}

@@ -1,27 +1,11 @@
 -- Calls, returns, and the making of frames keep the shadow.
 use Rattle.std.proofs.Common.{◌≡◌, ℕ, ◌+◌, ◌^◌, ◌<◌, ◌≤◌, true, false, List, ◌∷◌, length, Ok, refl, sym, ap, subst, ◌∙◌, arith, inl, inr}
-use Rattle.flat_memory.specs.Memory.{Memory, executable, number_at}
-use Rattle.x64_instr.specs.declared.register.Reg.TheVariants.{Rax, Rsp}
-use Rattle.x64_instr.specs.declared.instruction.Instr.{Instr}
+use Rattle.match_bodies.specs.Words.{Memory, executable, number_at, Rax, Rsp, Instr, leading, is_encodable, Context, context_of, State, register, with_rip, effect, Functions, word, Funclet, size, IsNear, call, Steps, HasCode, StackItem, ItemIsAt, IsStack, OwnedBy, Owned, context_after, context_below, state, is_call, GivesCallers, WalkGives, KeepsShadow, caller_above, HasCaller, FindsReturn}
 use Rattle.x64_instr.specs.declared.instruction.Instr.TheVariants as instrs
-use Rattle.x64_instr.specs.Spelling.{leading}
-use Rattle.x64_encode.specs.Chosen.{is_encodable}
-use Rattle.x64_machine.specs.declared.context.Context.{Context}
-use Rattle.x64_machine.specs.Contexts.{context_of}
-use Rattle.x64_machine.specs.Effect.{State, register, with_rip, effect}
-use Rattle.virtual_unwind.specs.CallerOf.{Functions}
-use Rattle.virtual_unwind.specs.Undone.{word}
-use Rattle.host_model.specs.declared.funclet.Funclet.{Funclet}
-use Rattle.template_code.specs.Bytes.{size}
-use Rattle.template_code.specs.Jumps.{IsNear, call, distance}
+use Rattle.template_code.specs.Jumps.{distance}
 use Rattle.template_code.proofs.Sizes.{call_size, arrives, short}
-use Rattle.x64_templates.specs.Runs.{Steps, HasCode}
-use Rattle.match_stack.specs.Stack.{StackItem, ItemIsAt, IsStack, OwnedBy, Owned, context_after}
-use Rattle.match_stack.specs.WalkLaws.{context_below}
-use Rattle.match_stack.specs.PlainWalks.{state}
-use Rattle.match_runs.specs.Shadow.{is_call, caller_at, GivesCallers, WalkGives, KeepsShadow}
+use Rattle.match_runs.specs.Shadow.{caller_at}
 use Rattle.match_runs.proofs.Shadows.{past_frame, HeadAbove, straight, call_keeps, return_keeps}
-use Rattle.match_bodies.specs.Callers.{caller_above, HasCaller, FindsReturn}
 use Rattle.match_bodies.proofs.StackWalks.{callers, on_stack, stack_rises}
 use Rattle.match_bodies.proofs.InstructionEffects.{others_of, is_probing, probing_is_idle, idle_leaves, idle_calls_nothing, rax_stays, Sets, Calls, calls, Returns, returns, word_loads}
 use Rattle.match_bodies.proofs.RoutineWalks.{read_here, effect_here, word_number, Beneath, beneath_stays, callers_above}

@@ -4,47 +4,23 @@ use Rattle.std.proofs.Common.{◌≡◌, ◌≢◌, ℕ, zero, suc, ◌+◌, ◌
 use Rattle.std.specs.Prelude.{slice_get}
 use Rattle.std.proofs.lemmas.Bool.{le-leb, ne_eqb}
 use Rattle.std.proofs.lemmas.Option.{slice_get_cases}
-use Rattle.seh_num.specs.declared.width.Width.TheVariants.{W64}
-use Rattle.seh_num.specs.declared.event.Event.{Event}
-use Rattle.host_layout.specs.declared.service.Service.{Service}
+use Rattle.match_bodies.specs.Words.{W64, Event, Service, address_of, Protection, is_readable, is_writable, Memory, executable, may_write, Rsp, Instr, leading, chosen, State, Functions, distance, Funclet, arrivals, LinearProgram, LinearFunclet, FuncletBody, body_of, spelled, thunk, enter_code, check_stack, code_from, Steps, Reaches, Enters, HasCode, HasThunk, ImagePlan, AllKeep, Comes, Sites, begin_of, making, frame_code, arguments_code, entry_code, links_of, code_of, service_of, HasService, HasProgram, IsProgramImage}
 use Rattle.host_layout.specs.declared.service.Service.TheVariants as services
-use Rattle.host_layout.specs.Services.{address_of}
-use Rattle.flat_memory.specs.declared.protection.Protection.{Protection}
-use Rattle.flat_memory.specs.Protections.{is_readable, is_writable}
-use Rattle.flat_memory.specs.Memory.{Memory, executable, may_write}
-use Rattle.x64_instr.specs.declared.register.Reg.TheVariants.{Rsp}
 use Rattle.x64_instr.specs.declared.operand.RegisterOrMemory.TheVariants as places
 use Rattle.x64_instr.specs.declared.operand.Operand.TheVariants as operands
 use Rattle.x64_instr.specs.declared.instruction.Operation.TheVariants as operations
-use Rattle.x64_instr.specs.declared.instruction.Instr.{Instr}
 use Rattle.x64_instr.specs.declared.instruction.Instr.TheVariants as instrs
-use Rattle.x64_instr.specs.Spelling.{leading}
-use Rattle.x64_encode.specs.Chosen.{chosen}
 use Rattle.x64_encode.proofs.Lengths.{longest}
 use Rattle.x64_machine.specs.declared.cpu.Cpu.{Cpu}
-use Rattle.x64_machine.specs.Effect.{State}
-use Rattle.virtual_unwind.specs.CallerOf.{Functions, distance}
-use Rattle.host_model.specs.declared.funclet.Funclet.{Funclet}
-use Rattle.host_model.specs.Funclets.{arrivals}
 use Rattle.host_model.specs.Dispatch.{no_flags}
-use Rattle.linear_code.specs.Program.{LinearProgram, LinearFunclet}
-use Rattle.linear_machine.specs.Frames.{FuncletBody, body_of, funclet_body}
-use Rattle.template_code.specs.Bytes.{spelled, thunk}
-use Rattle.template_code.specs.Calls.{enter_code}
-use Rattle.template_code.specs.Probing.{check_stack}
-use Rattle.template_code.specs.Template.{code_from}
+use Rattle.linear_machine.specs.Frames.{funclet_body}
 use Rattle.x64_templates.specs.Straight.{takes_frame}
-use Rattle.x64_templates.specs.Runs.{Steps, Runs, Reaches, Enters, HasCode}
-use Rattle.x64_templates.specs.Thunks.{HasThunk}
+use Rattle.x64_templates.specs.Runs.{Runs}
 use Rattle.x64_templates.proofs.PlacedCode.{bytes_kept, bytes_split, spells, reads, same_number}
 use Rattle.x64_templates.proofs.Computes.{code_split}
 use Rattle.x64_templates.proofs.Encoded.{near}
-use Rattle.match_stack.specs.ImagePlan.{ImagePlan}
-use Rattle.match_runs.specs.Shadow.{AllKeep}
-use Rattle.match_runs.specs.Comes.{IsLive, Comes}
+use Rattle.match_runs.specs.Comes.{IsLive}
 use Rattle.match_runs.proofs.Turns.{comes_by_step, comes_then}
-use Rattle.match_bodies.specs.CodeSites.{Sites, begin_of, making, frame_code, arguments_code, entry_code, links_of, code_of}
-use Rattle.match_bodies.specs.ProgramImages.{service_of, HasService, HasProgram, IsProgramImage}
 
 -- ---- code outlasts whatever changes no protection and no byte that may not be written
 

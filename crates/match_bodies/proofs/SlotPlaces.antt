@@ -2,29 +2,12 @@
 use Rattle.std.proofs.Common.{◌≡◌, ℕ, zero, suc, ◌+◌, ◌*◌, ◌^◌, ◌<◌, ◌≤◌, true, Option, Some, None, Ok, List, [], ◌∷◌, ◌++◌, length, refl, sym, ap, subst, ◌∙◌, arith, inl, inr}
 use Rattle.std.specs.Prelude.{◌⊎◌, slice_get, slice_index, nat_le, nat_lt}
 use Rattle.std.proofs.lemmas.Bool.{le-leb, lt-ltb}
-use Rattle.host_layout.specs.declared.range.TheConstants.{STACK_START, STACK_END}
-use Rattle.flat_memory.specs.Memory.{Memory, may_write, number_at}
-use Rattle.virtual_unwind.specs.Contexts.{rsp}
-use Rattle.virtual_unwind.specs.Undone.{word}
-use Rattle.virtual_unwind.specs.CallerOf.{Functions}
-use Rattle.host_model.specs.declared.funclet.Funclet.{Funclet}
-use Rattle.source_meaning.specs.Source.{is_reserved}
-use Rattle.linear_code.specs.BodyState.{Counts}
-use Rattle.linear_code.specs.Program.{LinearProgram, LinearBody}
+use Rattle.match_bodies.specs.Words.{STACK_START, STACK_END, Memory, may_write, number_at, rsp, word, Functions, Funclet, is_reserved, Counts, LinearProgram, LinearBody, FunctionBody, FuncletBody, Configuration, local_of, Layout, InTemporaries, InLocals, Agrees, IsBytes, Context, Item, StackItem, IsLinkedStack, ImagePlan, Activation, locals_of, HoldsWords, HasActivation, home_end, IsFunctionLayout, IsLeafLayout, IsFuncletLayout}
 use Rattle.linear_machine.specs.Frames as linear
-use Rattle.linear_machine.specs.Frames.{FunctionBody, FuncletBody, Configuration, local_of}
-use Rattle.template_code.specs.declared.layout.Layout.{Layout}
-use Rattle.x64_templates.specs.Frames.{InTemporaries, InLocals, HasBase, SlotsHaveRoom, MemoryKeepsBase, KeepsReserved, Agrees, IsBytes, HoldsBody}
+use Rattle.x64_templates.specs.Frames.{HasBase, SlotsHaveRoom, MemoryKeepsBase, KeepsReserved, HoldsBody}
 use Rattle.x64_templates.specs.EntryStates.{body_in_memory}
 use Rattle.x64_templates.proofs.Entries.{holds_body_in_memory}
-use Rattle.x64_machine.specs.declared.context.Context.{Context}
-use Rattle.linear_machine.specs.Frames.{Item}
-use Rattle.match_stack.specs.Stack.{StackItem}
-use Rattle.match_stack.specs.ListLaws.{IsLinkedStack}
-use Rattle.match_stack.specs.ImagePlan.{ImagePlan}
-use Rattle.match_stack.specs.ItemMatches.{Activation, locals_of, HoldsWords, HasActivation, home_end}
 use Rattle.match_stack.proofs.ListEnds.{words_fit, in_stack}
-use Rattle.match_bodies.specs.Layouts.{IsFunctionLayout, IsLeafLayout, IsFuncletLayout}
 use Rattle.match_bodies.proofs.ActivationPlaces.{activations_are_at, got_last, locals_count, words_shorter}
 use Rattle.match_bodies.proofs.StackWords.{word_is, word_in}
 

@@ -2,9 +2,7 @@
 use Rattle.std.proofs.Common.{◌≡◌, ◌≢◌, ℕ, zero, suc, ◌+◌, ◌<◌, ◌≤◌, cond, Some, List, [], ◌∷◌, ◌++◌, length, take, refl, sym, ap, subst, ◌∙◌, arith, inl, inr, length-append, length-take-le}
 use Rattle.std.specs.Prelude.{◌⊎◌, slice_get, slice_index, slice_set}
 use Rattle.std.proofs.lemmas.Bool.{cases_eq, eq-eqb, ne_eqb}
-use Rattle.linear_code.specs.declared.slot.Slot.{Slot}
-use Rattle.linear_code.specs.declared.slot.Slot.TheVariants.{Local, Temporary}
-use Rattle.linear_code.specs.BodyState.{with_slot}
+use Rattle.match_bodies.specs.Words.{Slot, Local, Temporary, with_slot}
 
 -- the numbers of the locals, and the temporaries, after a store into a slot
 abbrev pub locals_after : List ℕ → Slot → ℕ → List ℕ

@@ -1,18 +1,6 @@
 -- Of a context the list rests on RIP and RSP alone.
 use Rattle.std.proofs.Common.{◌≡◌, ℕ, ◌+◌, List, [], ◌∷◌, length, drop, get_or, refl, sym, ap, subst, arith}
-use Rattle.flat_memory.specs.Memory.{Memory}
-use Rattle.x64_machine.specs.declared.context.Context.{Context}
-use Rattle.virtual_unwind.specs.Contexts.{rsp}
-use Rattle.virtual_unwind.specs.CallerOf.{Functions}
-use Rattle.host_model.specs.declared.funclet.Funclet.{Funclet}
-use Rattle.linear_code.specs.Program.{LinearProgram}
-use Rattle.linear_machine.specs.Frames.{Frame, Item, Waits, Searches, Unwinds}
-use Rattle.match_stack.specs.Stack.{StackFrame, StackItem, Framed, Leaf, Searching, Unwinding, FrameIsAt, LeafIsAt, IsStack}
-use Rattle.match_stack.specs.WalkLaws.{context_below}
-use Rattle.match_stack.specs.ImagePlan.{ImagePlan}
-use Rattle.match_stack.specs.ItemMatches.{Activation, activations_below, BodyWaits, Linked}
-use Rattle.match_stack.specs.ListLaws.{IsLinkedStack}
-use Rattle.match_stack.specs.StackRecords.{On}
+use Rattle.match_bodies.specs.Words.{Memory, Context, rsp, Functions, Funclet, LinearProgram, Frame, Item, Waits, Searches, Unwinds, StackFrame, StackItem, Framed, Leaf, Searching, Unwinding, FrameIsAt, LeafIsAt, IsStack, context_below, ImagePlan, Activation, activations_below, BodyWaits, Linked, IsLinkedStack, On}
 
 frame_moved : (t : Functions) (m : Memory) (rip sp : ℕ) (os os' : List ℕ) (f : StackFrame)
     → length os' ≡ 8 → FrameIsAt t m (context_below rip sp os) f

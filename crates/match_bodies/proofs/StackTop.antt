@@ -1,24 +1,10 @@
 -- A body that runs is on top of what waits below it, as one that waits.
 use Rattle.std.proofs.Common.{◌≡◌, ℕ, ◌+◌, Bool, true, false, List, [], ◌∷◌, refl, sym, ap, subst, ◌∙◌, arith}
-use Rattle.x64_instr.specs.declared.register.Reg.TheVariants.{Rsp, Rbx, Rbp, Rsi, Rdi, R12, R13, R14, R15}
-use Rattle.x64_machine.specs.Contexts.{context_of}
-use Rattle.x64_machine.specs.Effect.{State, register}
-use Rattle.virtual_unwind.specs.CallerOf.{Functions}
-use Rattle.virtual_unwind.specs.Undone.{word}
-use Rattle.host_model.specs.declared.funclet.Funclet.{Funclet}
-use Rattle.linear_code.specs.Program.{LinearProgram, LinearBody}
-use Rattle.linear_machine.specs.Frames.{BodyName, FunctionBody, FuncletBody, Waits, Configuration}
-use Rattle.linear_machine.specs.Regions.{regions_of}
-use Rattle.match_stack.specs.Stack.{StackItem, Framed, Leaf, LeafIsAt}
-use Rattle.match_stack.specs.WalkLaws.{context_below}
-use Rattle.match_stack.specs.ImagePlan.{ImagePlan, IsGiven}
-use Rattle.match_stack.specs.ItemMatches.{Activation, activations_below, BodyWaits}
+use Rattle.match_bodies.specs.Words.{Rsp, context_of, State, register, Functions, word, Funclet, LinearProgram, LinearBody, BodyName, FunctionBody, FuncletBody, Waits, Configuration, regions_of, StackItem, Framed, Leaf, LeafIsAt, context_below, ImagePlan, Activation, activations_below, BodyWaits, On, Sites, IsLayoutIf, IsLeafLayout, IsLaidOut, HasProgram, IsProgramImage, frame_with, slots_end, last_temporary, InBody}
+use Rattle.x64_instr.specs.declared.register.Reg.TheVariants.{Rbx, Rbp, Rsi, Rdi, R12, R13, R14, R15}
+use Rattle.match_stack.specs.ImagePlan.{IsGiven}
 use Rattle.match_stack.proofs.ListEnds.{in_stack}
-use Rattle.match_stack.specs.StackRecords.{On}
-use Rattle.match_bodies.specs.CodeSites.{Sites}
-use Rattle.match_bodies.specs.Layouts.{IsLayoutIf, IsLeafLayout, IsLaidOut}
-use Rattle.match_bodies.specs.ProgramImages.{HasProgram, IsResumed, IsFramed, IsProgramImage, frame_with}
-use Rattle.match_bodies.specs.Bodies.{slots_end, last_temporary, InBody}
+use Rattle.match_bodies.specs.ProgramImages.{IsResumed, IsFramed}
 
 module _ (t : Functions) (fs : List Funclet) (program : LinearProgram) (p : ImagePlan) (q : Sites)
   where

@@ -1,17 +1,7 @@
 -- What a walk gives of a stack, and chains of instructions that keep the shadow.
 use Rattle.std.proofs.Common.{◌≡◌, ℕ, zero, suc, ◌+◌, List, [], ◌∷◌, sym, subst, arith}
-use Rattle.flat_memory.specs.Memory.{Memory}
-use Rattle.x64_machine.specs.declared.context.Context.{Context}
-use Rattle.x64_machine.specs.Contexts.{context_of}
-use Rattle.x64_machine.specs.Effect.{State}
-use Rattle.virtual_unwind.specs.Contexts.{rsp}
-use Rattle.virtual_unwind.specs.CallerOf.{Functions}
-use Rattle.host_model.specs.declared.funclet.Funclet.{Funclet}
-use Rattle.x64_templates.specs.Runs.{Reaches}
-use Rattle.match_stack.specs.Stack.{StackItem, Framed, Leaf, Searching, Unwinding, IsStack, after_frame, after_leaf, caller_frame, caller_of_leaf}
-use Rattle.match_stack.specs.PlainWalks.{state}
+use Rattle.match_bodies.specs.Words.{Memory, Context, context_of, State, rsp, Functions, Funclet, Reaches, StackItem, Framed, Leaf, Searching, Unwinding, IsStack, after_frame, after_leaf, caller_frame, caller_of_leaf, state, GivesCallers, AllKeep}
 use Rattle.match_stack.proofs.ItemVisits.{set_head, frame_is_visited, leaf_is_visited, search_is_passed, unwinding_is_passed}
-use Rattle.match_runs.specs.Shadow.{GivesCallers, AllKeep}
 pub use Rattle.match_bodies.specs.Callers.{callers}
 use Rattle.match_runs.proofs.Shadows.{past_frame, past_host, at_end, HeadAbove, head_above, keep_first}
 

@@ -1,13 +1,10 @@
 -- Words of the stack, and the numbers that are in its bytes.
 use Rattle.std.proofs.Common.{◌≡◌, ℕ, zero, suc, ◌+◌, ◌*◌, ◌^◌, ◌<◌, ◌≤◌, true, false, Option, Some, None, Ok, List, [], ◌∷◌, refl, ap, subst, ◌∙◌, arith}
 use Rattle.std.specs.Prelude.{slice_get}
-use Rattle.flat_memory.specs.Memory.{Memory, may_read, may_write, first_refused, number_at, access}
+use Rattle.match_bodies.specs.Words.{Memory, may_read, may_write, first_refused, number_at, access, is_readable, is_writable, word, readable, HoldsWords}
 use Rattle.flat_memory.specs.declared.protection.Rights.{Rights}
 use Rattle.flat_memory.specs.declared.protection.Rights.TheVariants.{Nothing, Read, ReadWrite}
-use Rattle.flat_memory.specs.Protections.{is_readable, is_writable}
-use Rattle.virtual_unwind.specs.Undone.{word, readable}
 use Rattle.x64_templates.proofs.PlacedCode.{all_may}
-use Rattle.match_stack.specs.ItemMatches.{HoldsWords}
 
 -- what may be written may be read
 pub reads_what_writes : (r : Rights) → is_writable r ≡ true → is_readable r ≡ true

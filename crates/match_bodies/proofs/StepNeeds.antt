@@ -3,28 +3,21 @@
 use Rattle.std.proofs.Common.{◌≡◌, ℕ, zero, suc, ◌+◌, ◌≤◌, Bool, true, false, Option, Some, None, List, [], ◌∷◌, ◌++◌, length, refl, sym, ap, subst, ◌∙◌, arith, length-append}
 use Rattle.std.specs.Prelude.{slice_get}
 use Rattle.std.proofs.lemmas.Option.{slice_get_within}
-use Rattle.x64_machine.specs.Effect.{State}
-use Rattle.linear_code.specs.declared.instruction.Instruction.{Instruction}
+use Rattle.match_bodies.specs.Words.{State, Instruction, LinearProgram, LinearBody, BodyName, FunctionBody, FuncletBody, body_of, Frame, Item, Waits, Searches, Unwinds, Configuration, instruction_at, Activation, activations_below, IsFuncletPlan, OwnerHasFrame, IsWellMade, IsKnown, Setting, RepresentsAt}
 use Rattle.linear_code.specs.declared.instruction.Instruction.TheVariants as instructions
-use Rattle.linear_code.specs.Program.{LinearProgram, LinearBody, LinearFunction}
+use Rattle.linear_code.specs.Program.{LinearFunction}
 use Rattle.linear_machine.specs.Frames as linear
-use Rattle.linear_machine.specs.Frames.{BodyName, FunctionBody, FuncletBody, body_of, Frame, Item, Waits, Searches, Unwinds, Configuration}
-use Rattle.linear_machine.specs.Run.{instruction_in, instruction_at}
-use Rattle.match_stack.specs.ItemMatches.{Activation, activations_below}
+use Rattle.linear_machine.specs.Run.{instruction_in}
 use Rattle.lowering_invariants.specs.Bodies.{function_of, owner_of}
 use Rattle.lowering_invariants.specs.Waiting.{IsAt, IsCalledBy, IsAbove, AreWaiting}
 use Rattle.lowering_invariants.specs.Activations.{with_own, owners_of, WorksOn, IsActivationOf, AreActivations}
 use Rattle.lowering_invariants.specs.Depths.{depth_in, depth_at}
 use Rattle.lowering_invariants.specs.Ready.{IsReady}
-use Rattle.match_bodies.specs.Layouts.{IsFuncletPlan}
-use Rattle.match_bodies.specs.SlotStores.{OwnerHasFrame}
-use Rattle.match_bodies.specs.ConfigurationFacts.{IsWellMade, IsKnown}
 use Rattle.match_bodies.proofs.ActivationPlaces.{locals_count}
 use Rattle.match_bodies.proofs.HomeSpace.{CallerHasFrame}
 use Rattle.match_bodies.proofs.BodyViews.{IsCounted}
 use Rattle.match_bodies.proofs.TemplateRuns.{code, Surroundings}
 use Rattle.match_bodies.proofs.PlainSteps.{GoesInside}
-use Rattle.match_bodies.specs.Setting.{Setting, RepresentsAt}
 
 -- ---- lists
 

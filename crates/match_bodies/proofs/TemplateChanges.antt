@@ -1,21 +1,10 @@
 -- After a run of a template the next instruction begins, with other numbers in the body's slots.
 use Rattle.std.proofs.Common.{◌≡◌, ℕ, suc, ◌+◌, ◌*◌, ◌<◌, ◌≤◌, Bool, true, false, Some, Ok, List, [], ◌∷◌, length, refl, sym, ap, subst, ◌∙◌, arith, inl, inr}
 use Rattle.std.specs.Prelude.{◌⊎◌, slice_get}
-use Rattle.host_layout.specs.declared.range.TheConstants.{STACK_START, STACK_END}
-use Rattle.flat_memory.specs.declared.protection.Protection.{Protection}
-use Rattle.flat_memory.specs.Protections.{is_writable}
-use Rattle.flat_memory.specs.Memory.{Memory, may_write, number_at}
-use Rattle.x64_machine.specs.Effect.{State}
-use Rattle.virtual_unwind.specs.Undone.{word}
-use Rattle.source_meaning.specs.Source.{is_reserved}
-use Rattle.linear_code.specs.BodyState.{Counts}
-use Rattle.template_code.specs.declared.layout.Layout.{Layout}
-use Rattle.x64_templates.specs.Frames.{InTemporaries, InLocals, Changes}
+use Rattle.match_bodies.specs.Words.{STACK_START, STACK_END, Protection, is_writable, Memory, may_write, number_at, State, word, is_reserved, Counts, Layout, InTemporaries, InLocals, Activation, HoldsWords, IsData, KeepsStackBut}
+use Rattle.x64_templates.specs.Frames.{Changes}
 use Rattle.x64_templates.proofs.PlacedCode.{same_number}
 use Rattle.match_stack.specs.ListLaws.{KeepsStack}
-use Rattle.match_stack.specs.ItemMatches.{Activation, HoldsWords}
-use Rattle.match_stack.specs.StackRecords.{IsData}
-use Rattle.match_bodies.specs.SlotStores.{KeepsStackBut}
 use Rattle.match_bodies.proofs.StackWords.{may_read_written, word_is, word_of}
 use Rattle.match_bodies.proofs.SlotPlaces.{SlotsPlaced, stack_is_reserved, in_stack_slots}
 use Rattle.match_bodies.proofs.ProgramKeeping.{KeepsImage}

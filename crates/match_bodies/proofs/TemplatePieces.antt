@@ -1,28 +1,13 @@
 -- A piece of a body's template keeps the shadow.
 use Rattle.std.proofs.Common.{◌≡◌, ℕ, ◌+◌, ◌^◌, ◌<◌, Some, List, ◌∷◌, ◌++◌, length, get_or, refl, sym, ap, subst, ◌∙◌, arith, append_assoc}
 use Rattle.std.specs.Prelude.{slice_get}
-use Rattle.flat_memory.specs.Memory.{Memory}
-use Rattle.x64_instr.specs.declared.register.Reg.TheVariants.{Rsp}
-use Rattle.x64_instr.specs.declared.instruction.Instr.{Instr}
-use Rattle.x64_machine.specs.declared.context.Context.{Context}
-use Rattle.x64_machine.specs.Contexts.{kept_of}
-use Rattle.x64_machine.specs.Effect.{State, register}
-use Rattle.linear_code.specs.declared.instruction.Instruction.{Instruction}
-use Rattle.linear_code.specs.Program.{LinearBody}
-use Rattle.linear_machine.specs.Frames.{BodyName, body_of}
-use Rattle.template_code.specs.Bytes.{sizes}
-use Rattle.template_code.specs.Template.{template}
+use Rattle.match_bodies.specs.Words.{Memory, Rsp, Instr, Context, kept_of, State, register, Instruction, LinearBody, BodyName, body_of, sizes, template, Reaches, HasCode, IsReturn, AllKeep, links_of, FindsReturn, Setting}
 use Rattle.template_code.proofs.Sizes.{sizes_append}
-use Rattle.x64_templates.specs.Runs.{Reaches, HasCode}
-use Rattle.x64_templates.specs.Epilogues.{IsReturn}
 use Rattle.x64_templates.proofs.Computes.{code_split}
 use Rattle.x64_templates.proofs.Flows.{IsFlow}
-use Rattle.match_runs.specs.Shadow.{AllKeep}
-use Rattle.match_bodies.specs.CodeSites.{links_of}
-use Rattle.match_bodies.specs.Callers.{FindsReturn}
 use Rattle.match_bodies.proofs.ReturnAddresses.{within_found, template_there}
 use Rattle.match_bodies.proofs.FlowKeeping.{IsBelow, from_state, flow_keeps}
-use Rattle.match_bodies.specs.Setting.{Setting, HasProgram}
+use Rattle.match_bodies.specs.Setting.{HasProgram}
 
 module _ (setting : Setting) (name : BodyName) (b : LinearBody) (label : ℕ) (i : Instruction)
     (there : body_of setting.program name ≡ Some b) (at : slice_get b.code label ≡ Some i) where

@@ -3,40 +3,22 @@ use Rattle.std.proofs.Common.{◌≡◌, ℕ, zero, suc, ◌+◌, ◌^◌, ◌<�
 use Rattle.std.specs.Prelude.{slice_get, slice_index, drop}
 use Rattle.std.specs.List.{AllByRecursion}
 use Rattle.std.proofs.lemmas.Option.{slice_get_within, get_or_from_slice_get}
-use Rattle.seh_num.specs.declared.event.Event.{Event}
-use Rattle.x64_instr.specs.declared.register.Reg.TheVariants.{Rsp}
-use Rattle.x64_machine.specs.Effect.{State, register}
-use Rattle.virtual_unwind.specs.CallerOf.{distance}
-use Rattle.host_model.specs.Funclets.{arrivals}
-use Rattle.linear_code.specs.declared.instruction.Instruction.{Instruction}
+use Rattle.match_bodies.specs.Words.{Event, Rsp, State, register, distance, arrivals, Instruction, BodyState, LinearBody, BodyName, FuncletBody, Configuration, Layout, template, template_size, code_from, offset_of, MachineView, machine, HasCode, ReachesBody, InstructionDone, Comes, HaveRoom, links_of, begin_of, entry_code, seen_by_templates, counts_of, frame_at, state_of, OwnerHasFrame, Setting, RepresentsAt}
 use Rattle.linear_code.specs.declared.instruction.Instruction.TheVariants as instructions
-use Rattle.linear_code.specs.BodyState.{BodyState}
 use Rattle.linear_code.specs.Meaning.{HasSlots, step}
-use Rattle.linear_code.specs.Program.{LinearBody}
-use Rattle.linear_machine.specs.Frames.{BodyName, FuncletBody, Configuration}
-use Rattle.template_code.specs.declared.layout.Layout.{Layout}
-use Rattle.template_code.specs.Template.{template, template_size, code_from, offset_of}
 use Rattle.template_code.proofs.Sizes.{offset_next}
-use Rattle.x64_templates.specs.Straight.{MachineView, machine}
 use Rattle.x64_templates.specs.CallStates.{sp_of}
-use Rattle.x64_templates.specs.Runs.{HasCode, FramePlace, ReachesBody}
+use Rattle.x64_templates.specs.Runs.{FramePlace}
 use Rattle.x64_templates.proofs.Computes.{code_split}
-use Rattle.x64_templates.specs.InstructionRuns.{InstructionDone}
 use Rattle.x64_templates.proofs.InstructionRuns.{body_instruction_run}
 use Rattle.x64_templates.proofs.Linked.{template_placed}
-use Rattle.match_runs.specs.Comes.{Comes}
-use Rattle.lowering_invariants.specs.Room.{HaveRoom}
-use Rattle.match_bodies.specs.CodeSites.{links_of, begin_of, entry_code}
 use Rattle.match_bodies.proofs.SilentTurns.{reaches_silently}
-use Rattle.match_bodies.specs.BodyViews.{seen_by_templates, counts_of, frame_at, state_of}
-use Rattle.match_bodies.specs.SlotStores.{OwnerHasFrame}
 use Rattle.match_bodies.proofs.HomeSpace.{CallerHasFrame}
 use Rattle.match_bodies.proofs.TemplateShadows.{kept_by_rest, is_after, ends_at, RunsKeep}
 use Rattle.match_bodies.proofs.BodyViews.{IsCounted, is_machine, room_here, holds_here, placed}
 use Rattle.match_bodies.proofs.ChainKeeping.{reaches_keeps, stays_well_formed}
 use Rattle.match_bodies.proofs.TemplateSlots.{Leaves}
 use Rattle.match_bodies.proofs.NextInstruction.{further, Ran, represents_next}
-use Rattle.match_bodies.specs.Setting.{Setting, RepresentsAt}
 
 -- ---- registers
 

@@ -4,43 +4,21 @@ use Rattle.std.proofs.Common.{◌≡◌, ℕ, suc, ◌+◌, ◌^◌, ◌<◌, �
 use Rattle.std.specs.Prelude.{slice_get, slice_index}
 use Rattle.std.proofs.lemmas.List.{append-nil}
 use Rattle.std.proofs.lemmas.Option.{slice_get_within, get_or_from_slice_get}
-use Rattle.flat_memory.specs.Memory.{Memory}
-use Rattle.x64_instr.specs.declared.register.Reg.TheVariants.{Rsp}
-use Rattle.x64_instr.specs.declared.instruction.Instr.{Instr}
-use Rattle.x64_machine.specs.declared.context.Context.{Context}
-use Rattle.x64_machine.specs.Contexts.{kept_of}
-use Rattle.x64_machine.specs.Effect.{State, register}
-use Rattle.linear_code.specs.declared.instruction.Instruction.{Instruction}
+use Rattle.match_bodies.specs.Words.{Memory, Rsp, Instr, Context, kept_of, State, register, Instruction, BodyState, LinearBody, FuncletBody, Configuration, is_reserved, Layout, sizes, template, template_size, Agrees, IsBytes, Reaches, IsReturn, WalkGives, AllKeep, links_of, FindsReturn, counts_of, state_of, OwnerHasFrame, Setting, RepresentsAt}
 use Rattle.linear_code.specs.declared.instruction.Instruction.TheVariants as instructions
-use Rattle.linear_code.specs.BodyState.{BodyState}
-use Rattle.linear_code.specs.Program.{LinearBody}
-use Rattle.linear_machine.specs.Frames.{FuncletBody, Configuration}
-use Rattle.source_meaning.specs.Source.{is_reserved}
-use Rattle.template_code.specs.declared.layout.Layout.{Layout}
-use Rattle.template_code.specs.Bytes.{sizes}
-use Rattle.template_code.specs.Template.{template, template_size}
 use Rattle.template_code.proofs.Sizes.{offset_next}
-use Rattle.x64_templates.specs.Frames.{Agrees, IsBytes}
-use Rattle.x64_templates.specs.Runs.{Reaches}
-use Rattle.x64_templates.specs.Epilogues.{IsReturn}
 use Rattle.x64_templates.proofs.Bodies.{holds_same, changes_same}
 use Rattle.x64_templates.proofs.Flows.{IsFlow}
 use Rattle.x64_templates.proofs.InstructionRuns.{LabelsNear, body_most, labels_near}
-use Rattle.match_runs.specs.Shadow.{WalkGives, AllKeep}
-use Rattle.match_bodies.specs.CodeSites.{links_of}
-use Rattle.match_bodies.specs.Callers.{FindsReturn}
 use Rattle.match_bodies.proofs.StackWalks.{callers, on_stack, keep_then}
 use Rattle.match_bodies.proofs.SilentTurns.{program_kept}
 use Rattle.match_bodies.proofs.BodyCallers.{begin_finds}
 use Rattle.match_bodies.proofs.FlowKeeping.{caller_by, IsBelow, from_state}
 use Rattle.match_bodies.proofs.TemplatePieces.{piece_finds, piece_keeps}
-use Rattle.match_bodies.specs.BodyViews.{counts_of, state_of}
-use Rattle.match_bodies.specs.SlotStores.{OwnerHasFrame}
 use Rattle.match_bodies.proofs.HomeSpace.{CallerHasFrame}
 use Rattle.match_bodies.proofs.ChainKeeping.{Keeps}
 use Rattle.match_bodies.proofs.BodyViews.{IsCounted, placed, count, frame_top, room_here, holds_here, slots_here, locals_here}
 use Rattle.match_bodies.proofs.NextInstruction.{Ran, returns, new_on}
-use Rattle.match_bodies.specs.Setting.{Setting, RepresentsAt}
 
 some_length : (code : List Instr) → 1 ≤ length code
     → (item : Instr) × (left : List Instr) × (code ≡ item ∷ left)

@@ -1,30 +1,13 @@
 -- Where an instruction begins, RIP is in its code: each template has a byte at least.
 use Rattle.std.proofs.Common.{◌≡◌, ℕ, suc, ◌+◌, ◌*◌, ◌%◌, ◌<◌, ◌≤◌, List, ◌++◌, length, get_or, Option, Some, None, ap, ◌∙◌, arith, length-append}
-use Rattle.seh_num.specs.declared.width.Width.{Width}
-use Rattle.x64_instr.specs.declared.register.Reg.{Reg}
-use Rattle.x64_instr.specs.declared.register.Reg.TheVariants.{Rax, Rcx, Rsp}
-use Rattle.x64_instr.specs.declared.operand.RegisterOrMemory.{RegisterOrMemory}
+use Rattle.match_bodies.specs.Words.{Width, Reg, Rax, Rcx, Rsp, RegisterOrMemory, Functions, Funclet, Slot, Local, Temporary, Instruction, LinearProgram, LinearBody, BodyName, body_of, Layout, size, sizes, before, fetched, local_at, fetch_local, keep_local, fetch, keep, operands_code, finish_code, epilogue, template_size, ImagePlan, InCode, Sites, IsProgramImage}
 use Rattle.x64_encode.specs.declared.writing.Opcode.{Opcode}
 use Rattle.x64_encode.specs.declared.writing.Opcode.TheVariants as opcodes
 use Rattle.x64_encode.specs.Chosen.{prefixes, modrm_bits, opcode_bytes, place_bytes, modrm}
-use Rattle.virtual_unwind.specs.CallerOf.{Functions}
-use Rattle.host_model.specs.declared.funclet.Funclet.{Funclet}
-use Rattle.linear_code.specs.declared.slot.Slot.{Slot}
-use Rattle.linear_code.specs.declared.slot.Slot.TheVariants.{Local, Temporary}
-use Rattle.linear_code.specs.declared.instruction.Instruction.{Instruction}
 use Rattle.linear_code.specs.declared.instruction.Instruction.TheVariants as instructions
-use Rattle.linear_code.specs.Program.{LinearProgram, LinearBody}
-use Rattle.linear_machine.specs.Frames.{BodyName, body_of}
-use Rattle.template_code.specs.declared.layout.Layout.{Layout}
-use Rattle.template_code.specs.Bytes.{size, sizes}
-use Rattle.template_code.specs.Operations.{before}
-use Rattle.template_code.specs.Slots.{fetched, put_back, local_at, fetch_local, keep_local, fetch, keep, operands_code, finish_code}
-use Rattle.template_code.specs.Calls.{epilogue, finally_arguments}
-use Rattle.template_code.specs.Template.{template_size}
+use Rattle.template_code.specs.Slots.{put_back}
+use Rattle.template_code.specs.Calls.{finally_arguments}
 use Rattle.template_code.proofs.Sizes.{sizes_append, call_size, jump_size, jump_if_zero_size, call_code_size, passing_call_size, offset_next}
-use Rattle.match_stack.specs.ImagePlan.{ImagePlan, InCode}
-use Rattle.match_bodies.specs.CodeSites.{Sites}
-use Rattle.match_bodies.specs.ProgramImages.{IsProgramImage}
 
 -- ---- bytes
 

@@ -1,12 +1,8 @@
 -- What templates leave in the slots of a body.
 use Rattle.std.proofs.Common.{◌≡◌, ℕ, zero, suc, ◌<◌, ◌≤◌, Some, List, [], ◌∷◌, length, refl, arith}
 use Rattle.std.specs.Prelude.{slice_get, slice_index}
-use Rattle.linear_code.specs.declared.slot.Slot.TheVariants.{Local, Temporary}
-use Rattle.linear_code.specs.BodyState.{BodyState}
-use Rattle.linear_code.specs.Program.{LinearBody}
+use Rattle.match_bodies.specs.Words.{Local, Temporary, BodyState, LinearBody, Region, holds}
 use Rattle.std.specs.List.{AllByRecursion}
-use Rattle.linear_code.specs.declared.program.Region.{Region}
-use Rattle.linear_machine.specs.Regions.{holds}
 use Rattle.match_bodies.proofs.BodyViews.{count}
 
 -- ---- the numbers of locals

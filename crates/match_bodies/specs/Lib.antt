@@ -8,3 +8,4 @@ pub mod BodyViews
 pub mod SlotStores
 pub mod ConfigurationFacts
 pub mod StepLaws
+pub mod Words

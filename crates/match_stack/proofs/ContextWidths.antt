@@ -1,16 +1,7 @@
 -- Contexts whose registers are numbers of 64 bits, along a list.
 use Rattle.std.proofs.Common.{◌≡◌, ℕ, zero, suc, ◌+◌, ◌^◌, ◌<◌, List, [], ◌∷◌, length, refl, arith}
 use Rattle.std.specs.Prelude.{slice_index, slice_set}
-use Rattle.flat_memory.specs.Memory.{Memory}
-use Rattle.x64_machine.specs.declared.cpu.Cpu.{Cpu}
-use Rattle.x64_machine.specs.declared.context.Context.{Context}
-use Rattle.x64_machine.specs.Contexts.{context_of}
-use Rattle.virtual_unwind.specs.Contexts.{rsp}
-use Rattle.virtual_unwind.specs.CallerOf.{Functions}
-use Rattle.seh_records.specs.declared.dispatch.DispatchRecord.{DispatchRecord}
-use Rattle.seh_records.specs.Laws.{RecordFits, AllSmall}
-use Rattle.match_stack.specs.Stack.{StackFrame, FrameIsAt, LeafIsAt, after_frame, after_leaf}
-use Rattle.match_stack.specs.HostSearch.{IsWide}
+use Rattle.match_stack.specs.Words.{Memory, Cpu, Context, context_of, rsp, Functions, DispatchRecord, RecordFits, AllSmall, StackFrame, FrameIsAt, LeafIsAt, after_frame, after_leaf, IsWide}
 
 small_set : (kept : List ℕ) (v : ℕ) → IsWide kept → v < 2 ^ 64 → IsWide (slice_set kept 0 v)
 small_set [] v s lt = absurd (let e = s.count in omega arith)

@@ -1,23 +1,7 @@
 -- A suspended search or unwinding is one item more.
 use Rattle.std.proofs.Common.{ℕ, ◌^◌, ◌<◌, List, ◌∷◌, refl, sym, subst, ◌∙◌, arith}
-use Rattle.flat_memory.specs.Memory.{Memory, with_bytes}
-use Rattle.x64_machine.specs.declared.context.Context.{Context}
-use Rattle.x64_machine.specs.Contexts.{context_of}
-use Rattle.virtual_unwind.specs.Contexts.{rsp}
-use Rattle.virtual_unwind.specs.CallerOf.{Functions}
-use Rattle.seh_records.specs.declared.dispatch.DispatchRecord.{DispatchRecord}
-use Rattle.seh_records.specs.Record.{placed}
-use Rattle.seh_walk.specs.Walk.{filter_return, finally_return}
-use Rattle.host_model.specs.declared.funclet.Funclet.{Funclet}
-use Rattle.linear_code.specs.Program.{LinearProgram}
-use Rattle.linear_machine.specs.Frames.{Item, Searches, Unwinds}
-use Rattle.match_stack.specs.Stack.{StackItem, Searching, Unwinding}
-use Rattle.match_stack.specs.WalkLaws.{context_below}
-use Rattle.match_stack.specs.ImagePlan.{ImagePlan}
-use Rattle.match_stack.specs.ItemMatches.{Activation}
-use Rattle.match_stack.specs.ListLaws.{IsLinkedStack}
+use Rattle.match_stack.specs.Words.{Memory, with_bytes, Context, context_of, rsp, Functions, DispatchRecord, placed, filter_return, finally_return, Funclet, LinearProgram, Item, Searches, Unwinds, StackItem, Searching, Unwinding, context_below, ImagePlan, Activation, IsLinkedStack, On, RecordHasRoom}
 use Rattle.match_stack.proofs.ListKeeping.{misplaced_same, kept_by_stores_below}
-use Rattle.match_stack.specs.StackRecords.{On, RecordHasRoom}
 use Rattle.match_stack.specs.RecordLaws.{RecordLeavesTheList, SearchIsOneMore, UnwindingIsOneMore}
 use Rattle.match_stack.proofs.RecordMemory.{bytes, pushed_is, keeps_above, data_pushed, record_pushed, pointers_pushed, placed_keeps_above, data_placed}
 

@@ -1,40 +1,17 @@
 -- Where a search or an unwinding begins, or continues.
 use Rattle.std.proofs.Common.{◌≡◌, inl, ℕ, zero, suc, ◌+◌, ◌-◌, ◌%◌, ◌^◌, ◌<◌, ◌≤◌, Bool, true, Option, Some, None, List, [], ◌∷◌, length, refl, ap, subst, ◌∙◌, arith}
 use Rattle.std.specs.Prelude.{not, ◌==◌, slice_index, replicate}
-use Rattle.seh_num.specs.declared.event.Code.{Code}
-use Rattle.seh_num.specs.declared.event.Event.{Event}
+use Rattle.match_stack.specs.Words.{Code, Event, Memory, Cpu, Context, context_of, State, rsp, Functions, DispatchRecord, placed, misplaced, RecordFits, AllSmall, RECORD_SIZE, is_search, Funclet, with_event, if_placed, unwinds_on, Exception, noncontinuable, LinearProgram, Frame, Item, Waits, handlers, StackItem, Framed, Leaf, Searching, Unwinding, ImagePlan, Activation, HasSpace, below_end, record_room, Onward, Linked, On, RecordHasRoom, IsWellFormed}
 use Rattle.seh_num.specs.declared.event.Event.TheVariants as events
-use Rattle.flat_memory.specs.Memory.{Memory}
-use Rattle.x64_machine.specs.declared.cpu.Cpu.{Cpu}
-use Rattle.x64_machine.specs.declared.context.Context.{Context}
-use Rattle.x64_machine.specs.Contexts.{context_of}
-use Rattle.x64_machine.specs.Effect.{State}
-use Rattle.virtual_unwind.specs.Contexts.{rsp}
-use Rattle.virtual_unwind.specs.CallerOf.{Functions}
 use Rattle.seh_records.specs.declared.dispatch.Kind.{Kind}
 use Rattle.seh_records.specs.declared.dispatch.Kind.TheVariants.{Search, ExceptionUnwind, LocalUnwind}
-use Rattle.seh_records.specs.declared.dispatch.DispatchRecord.{DispatchRecord}
-use Rattle.seh_records.specs.Record.{placed, misplaced, place_below}
-use Rattle.seh_records.specs.Laws.{RecordFits, AllSmall}
-use Rattle.seh_records.specs.declared.layout.TheConstants.{RECORD_SIZE}
-use Rattle.seh_walk.specs.Walk.{is_search}
-use Rattle.host_model.specs.declared.funclet.Funclet.{Funclet}
-use Rattle.host_model.specs.Turns.{with_event}
-use Rattle.host_model.specs.Dispatch.{place_of, parameters, count, new_record, if_placed, if_finally, accepting, accepted, again, to_target, jumping, searches_on, unwinds_on}
-use Rattle.source_meaning.specs.State.{Exception}
-use Rattle.source_meaning.specs.Raises.{noncontinuable, raise_event}
-use Rattle.linear_code.specs.Program.{LinearProgram}
-use Rattle.linear_machine.specs.Frames.{Frame, Item, Waits}
-use Rattle.linear_machine.specs.Regions.{handlers}
-use Rattle.match_stack.specs.Stack.{StackItem, Framed, Leaf, Searching, Unwinding}
-use Rattle.match_stack.specs.ImagePlan.{ImagePlan}
-use Rattle.match_stack.specs.ItemMatches.{Activation, HasSpace, below_end, record_room, Onward, Linked}
+use Rattle.seh_records.specs.Record.{place_below}
+use Rattle.host_model.specs.Dispatch.{place_of, parameters, count, new_record, if_finally, accepting, accepted, again, to_target, jumping, searches_on}
+use Rattle.source_meaning.specs.Raises.{raise_event}
 use Rattle.match_stack.proofs.ListKeeping.{misplaced_same}
-use Rattle.match_stack.specs.StackRecords.{On, RecordHasRoom}
 use Rattle.match_stack.proofs.DispatchItems.{record_leaves_the_list}
 use Rattle.match_stack.proofs.ContextWidths.{wide_of}
 use Rattle.match_stack.proofs.SearchHandlers.{at_first_row}
-use Rattle.match_stack.specs.DispatchStates.{IsWellFormed}
 use Rattle.match_stack.specs.DispatchSteps.{placed_in, AsksHost, IsException, RaiseSearches, LocalUnwindUnwinds, AcceptanceUnwinds, AnswersContinue, FinallyReturnsUnwind}
 
 -- ---- records

@@ -1,12 +1,8 @@
 -- An entry's flags hide no record that would be asked.
 use Rattle.std.proofs.Common.{◌≡◌, ◌⊎◌, inl, inr, ℕ, zero, suc, ◌+◌, Bool, true, false, cond, Some, None, List, [], ◌∷◌, drop, refl, sym, ap, ◌∙◌}
-use Rattle.eh_tables.specs.declared.scope.ScopeRecord.{ScopeRecord}
-use Rattle.eh_tables.specs.Infos.{Info}
-use Rattle.virtual_unwind.specs.CallerOf.{Functions}
-use Rattle.seh_walk.specs.Asked.{AskedRecord, holds, holding, rows_from, is_end, is_searched, is_unwound, asked_by, searched, unwound, until, until_if, first_with_jump_target, first_finally}
-use Rattle.host_model.specs.declared.funclet.Funclet.{Funclet}
-use Rattle.linear_code.specs.Program.{LinearProgram}
-use Rattle.match_stack.specs.ImagePlan.{ImagePlan, AllFinally, AllExcept, IsFlagged}
+use Rattle.match_stack.specs.Words.{ScopeRecord, Info, Functions, AskedRecord, holding, rows_from, is_end, unwound, until, until_if, first_with_jump_target, first_finally, Funclet, LinearProgram, ImagePlan, IsFlagged}
+use Rattle.seh_walk.specs.Asked.{holds, is_searched, is_unwound, asked_by, searched}
+use Rattle.match_stack.specs.ImagePlan.{AllFinally, AllExcept}
 
 module _ (t : Functions) (fs : List Funclet) (program : LinearProgram) (p : ImagePlan) where
   finally_dropped : (row : ℕ) (xs : List ScopeRecord) → AllFinally t fs program p xs

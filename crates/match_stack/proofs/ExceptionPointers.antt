@@ -2,13 +2,10 @@
 use Rattle.std.proofs.Common.{◌≡◌, ℕ, ◌+◌, ◌-◌, ◌*◌, ◌/◌, ◌%◌, ◌^◌, ◌<◌, ◌≤◌, false, Option, None, Ok, get_or, sym, ap, ◌∙◌, arith}
 use Rattle.std.specs.Prelude.{nat_lt, ◌&&◌}
 use Rattle.std.proofs.lemmas.Bool.{lt-ltb, le-leb}
-use Rattle.flat_memory.specs.Memory.{Memory, first_refused, may_read, number_at, with_number, distance, access}
+use Rattle.match_stack.specs.Words.{Memory, first_refused, may_read, number_at, with_number, access, word, readable, DispatchRecord, with_block, block_byte, placed, words, RECORD_SIZE}
+use Rattle.flat_memory.specs.Memory.{distance}
 use Rattle.flat_memory.proofs.Stores.{among, stored_is_loaded}
-use Rattle.virtual_unwind.specs.Undone.{word, readable}
-use Rattle.seh_records.specs.declared.dispatch.DispatchRecord.{DispatchRecord}
-use Rattle.seh_records.specs.Words.{with_block, block_byte, byte_of}
-use Rattle.seh_records.specs.Record.{placed, words}
-use Rattle.seh_records.specs.declared.layout.TheConstants.{RECORD_SIZE}
+use Rattle.seh_records.specs.Words.{byte_of}
 use Rattle.match_stack.proofs.MemoryReads.{number_same}
 
 module _ (m : Memory) (at : ℕ) (r : DispatchRecord) (top : at + RECORD_SIZE < 2 ^ 64) where

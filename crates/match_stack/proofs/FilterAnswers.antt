@@ -2,26 +2,12 @@
 use Rattle.std.proofs.Common.{◌≡◌, ◌⊎◌, inl, inr, ℕ, ◌%◌, ◌^◌, Bool, true, false, List, refl, ap, ◌∙◌, arith}
 use Rattle.std.specs.Prelude.{nat_eq, nat_lt, nat_le, not, ◌==◌, ℤ, pos, ◌-ℤ◌, if◌then◌else◌}
 use Rattle.std.proofs.lemmas.Bool.{leb-true, leb-false, le-ltb, lt-ltb}
-use Rattle.seh_num.specs.declared.width.Width.TheVariants.{W32}
+use Rattle.match_stack.specs.Words.{W32, low, context_of, State, register, rsp, Functions, DispatchRecord, Funclet, with_event, Exception, LinearProgram, Handler, Resumption, Configuration, Next, pick, noncontinuable, StackItem, ImagePlan, Activation}
 use Rattle.seh_num.specs.declared.event.Event.TheVariants as events
-use Rattle.seh_num.specs.Widths.{low, half, limit, signed}
+use Rattle.seh_num.specs.Widths.{half, limit, signed}
 use Rattle.x64_instr.specs.declared.register.Reg.TheVariants.{Rax}
-use Rattle.x64_machine.specs.Contexts.{context_of}
-use Rattle.x64_machine.specs.Effect.{State, register}
-use Rattle.virtual_unwind.specs.Contexts.{rsp}
-use Rattle.virtual_unwind.specs.CallerOf.{Functions}
-use Rattle.seh_records.specs.declared.dispatch.DispatchRecord.{DispatchRecord}
-use Rattle.host_model.specs.declared.funclet.Funclet.{Funclet}
-use Rattle.host_model.specs.Turns.{with_event}
 use Rattle.host_model.specs.Dispatch.{eax, filter_returned, if_searching, by_answer, by_sign, continued}
-use Rattle.source_meaning.specs.State.{Exception}
-use Rattle.linear_code.specs.Program.{LinearProgram}
-use Rattle.linear_machine.specs.Frames.{Handler, Resumption, Configuration, Next, pick}
 use Rattle.linear_machine.specs.Searching.{search, accept, raise, resumed}
-use Rattle.source_meaning.specs.Raises.{noncontinuable}
-use Rattle.match_stack.specs.Stack.{StackItem}
-use Rattle.match_stack.specs.ImagePlan.{ImagePlan}
-use Rattle.match_stack.specs.ItemMatches.{Activation}
 use Rattle.match_stack.specs.DispatchSteps.{SearchIsAnswered, AnswersAs}
 use Rattle.match_stack.specs.FilterReturns.{filter_turn, with_answer, answered, linear_answer, AsksTheNext, AskedTakesOver, ContinuesException, IsRaisedAnew, FilterReturns}
 use Rattle.match_stack.proofs.DispatchSteps.{answers_continue}

@@ -2,20 +2,10 @@
 use Rattle.std.proofs.Common.{◌≡◌, ◌⊎◌, inl, inr, ℕ, suc, ◌+◌, Bool, true, false, cond, Option, Some, None, List, [], ◌∷◌, drop, refl, ap, ◌∙◌, arith}
 use Rattle.std.specs.Prelude.{filter, ◌==◌, ◌++◌}
 use Rattle.std.specs.List.{AllByRecursion}
-use Rattle.eh_tables.specs.declared.scope.ScopeRecord.{ScopeRecord}
-use Rattle.virtual_unwind.specs.CallerOf.{Functions, distance}
+use Rattle.match_stack.specs.Words.{ScopeRecord, Functions, distance, holding, first_with_jump_target, Funclet, row_before, Region, RegionKind, LinearProgram, BodyName, holds, handlers_in, ImagePlan, InCode, IsHandlerRow, IsOfKind, AreRegions, NoHandler, FirstHandler}
 use Rattle.seh_walk.specs.Asked as rows
-use Rattle.seh_walk.specs.Asked.{holding, first_with_jump_target}
-use Rattle.host_model.specs.declared.funclet.Funclet.{Funclet}
-use Rattle.host_model.specs.Dispatch.{row_before}
-use Rattle.linear_code.specs.declared.program.Region.{Region}
-use Rattle.linear_code.specs.declared.program.RegionKind.{RegionKind}
 use Rattle.linear_code.specs.declared.program.RegionKind.TheVariants as kinds
-use Rattle.linear_code.specs.Program.{LinearProgram}
-use Rattle.linear_machine.specs.Frames.{BodyName}
-use Rattle.linear_machine.specs.Regions.{holds, handlers_of, handlers_in}
-use Rattle.match_stack.specs.ImagePlan.{ImagePlan, InCode, IsHandlerRow, IsOfKind, AreRegions}
-use Rattle.match_stack.specs.FrameHandlers.{NoHandler, FirstHandler}
+use Rattle.linear_machine.specs.Regions.{handlers_of}
 use Rattle.match_stack.specs.ListLaws.{SearchFindsTheHandlers}
 use Rattle.match_stack.proofs.ScopeRows.{row_before_dropped, regions_dropped, dropped_again, all_dropped}
 

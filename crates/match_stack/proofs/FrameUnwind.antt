@@ -4,21 +4,12 @@ use Rattle.std.proofs.Common.{◌≡◌, ◌≢◌, ◌⊎◌, inl, inr, ℕ, su
 use Rattle.std.specs.Prelude.{filter, ◌==◌, ◌&&◌, ◌||◌}
 use Rattle.std.specs.List.{AllByRecursion}
 use Rattle.std.proofs.lemmas.Bool.{eq-eqb, ne_eqb}
-use Rattle.eh_tables.specs.declared.scope.ScopeRecord.{ScopeRecord}
-use Rattle.virtual_unwind.specs.CallerOf.{Functions, distance}
+use Rattle.match_stack.specs.Words.{ScopeRecord, Functions, distance, AskedRecord, holding, is_end, until, first_finally, Funclet, row_before, Region, RegionKind, LinearProgram, Target, Waits, Unwinds, Store, Configuration, Seen, Next, pick, holds, left_store, unwind_body, ImagePlan, InCode, IsOfKind, AreRegions, NoBlock, Arrives, FirstBlock}
 use Rattle.seh_walk.specs.Asked as rows
-use Rattle.seh_walk.specs.Asked.{AskedRecord, holding, is_end, until, first_finally}
-use Rattle.host_model.specs.declared.funclet.Funclet.{Funclet}
-use Rattle.host_model.specs.Dispatch.{row_before}
-use Rattle.linear_code.specs.declared.program.Region.{Region}
-use Rattle.linear_code.specs.declared.program.RegionKind.{RegionKind}
 use Rattle.linear_code.specs.declared.program.RegionKind.TheVariants as kinds
-use Rattle.linear_code.specs.Program.{LinearProgram}
-use Rattle.linear_machine.specs.Frames.{Target, Waits, Unwinds, Store, Configuration, Seen, Next, pick}
-use Rattle.linear_machine.specs.Regions.{holds, leads_to, stops}
-use Rattle.linear_machine.specs.Unwinding.{arrive, left_store, run_finally, leave_region, unwind_body}
-use Rattle.match_stack.specs.ImagePlan.{ImagePlan, InCode, IsFinallyRow, IsOfKind, AreRegions, target_rva}
-use Rattle.match_stack.specs.FrameHandlers.{NoBlock, Arrives, FirstBlock}
+use Rattle.linear_machine.specs.Regions.{leads_to, stops}
+use Rattle.linear_machine.specs.Unwinding.{arrive, run_finally, leave_region}
+use Rattle.match_stack.specs.ImagePlan.{IsFinallyRow, target_rva}
 use Rattle.match_stack.specs.ListLaws.{UnwindingRunsTheBlocks, UnwindingStopsAtTheTarget}
 use Rattle.match_stack.proofs.ScopeRows.{row_before_dropped, regions_dropped, dropped_again, all_dropped}
 

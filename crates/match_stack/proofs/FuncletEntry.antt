@@ -4,31 +4,14 @@ use Rattle.std.specs.Prelude.{nat_eq, slice_index, slice_set}
 use Rattle.std.proofs.Math.ListN.{length-set}
 use Rattle.std.proofs.lemmas.List.{get_or-set_same, get_or-set_other}
 use Rattle.std.proofs.lemmas.Bool.{eqb-true, eqb-false}
-use Rattle.flat_memory.specs.Memory.{Memory}
-use Rattle.x64_instr.specs.declared.register.Reg.TheVariants.{Rcx, Rdx, Rsp}
-use Rattle.x64_machine.specs.declared.context.Context.{Context}
-use Rattle.x64_machine.specs.Contexts.{context_of}
-use Rattle.x64_machine.specs.Effect.{State, register}
-use Rattle.virtual_unwind.specs.Contexts.{rsp}
-use Rattle.virtual_unwind.specs.Undone.{word}
-use Rattle.virtual_unwind.specs.CallerOf.{Functions}
-use Rattle.seh_records.specs.declared.dispatch.DispatchRecord.{DispatchRecord}
-use Rattle.seh_records.specs.Record.{placed, return_address_at}
-use Rattle.seh_records.specs.Laws.{RecordFits, AllSmall}
-use Rattle.host_model.specs.declared.funclet.Funclet.{Funclet}
-use Rattle.host_model.specs.Dispatch.{entered, in_hand}
-use Rattle.linear_code.specs.Program.{LinearProgram}
-use Rattle.linear_machine.specs.Frames.{BodyName, Item}
-use Rattle.match_stack.specs.Stack.{StackItem, Framed, Leaf, Searching, Unwinding, IsStack, after_frame, after_leaf}
-use Rattle.match_stack.specs.WalkLaws.{context_below}
+use Rattle.match_stack.specs.Words.{Memory, Rcx, Rsp, Context, context_of, State, register, rsp, word, Functions, DispatchRecord, placed, return_address_at, RecordFits, AllSmall, Funclet, entered, in_hand, LinearProgram, BodyName, Item, StackItem, Framed, Leaf, Searching, Unwinding, IsStack, after_frame, after_leaf, context_below, ImagePlan, Activation, Reaches, IsData, On, RecordHasRoom, pushed, IsWellFormed}
+use Rattle.x64_instr.specs.declared.register.Reg.TheVariants.{Rdx}
 use Rattle.match_stack.proofs.ItemVisits.{set_head}
-use Rattle.match_stack.specs.ImagePlan.{ImagePlan, IsFunclet}
-use Rattle.match_stack.specs.ItemMatches.{Activation, Reaches}
+use Rattle.match_stack.specs.ImagePlan.{IsFunclet}
 use Rattle.match_stack.proofs.ListKeeping.{reaches_above}
-use Rattle.match_stack.specs.StackRecords.{IsData, On, RecordHasRoom, pushed}
 use Rattle.match_stack.proofs.RecordMemory.{IsPlace, place_of, bytes, pushed_is, keeps_above, word_pushed}
 use Rattle.match_stack.specs.HostSearch.{CanBeKept}
-use Rattle.match_stack.specs.DispatchStates.{IsWellFormed, Arrives}
+use Rattle.match_stack.specs.DispatchStates.{Arrives}
 
 -- ---- registers
 

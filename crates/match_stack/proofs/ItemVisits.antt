@@ -2,24 +2,14 @@
 use Rattle.std.proofs.Common.{◌≡◌, ℕ, ◌+◌, ◌-◌, ◌%◌, ◌^◌, ◌<◌, ◌≤◌, true, Option, Some, None, Ok, List, [], ◌∷◌, length, refl, ap, ◌∙◌, arith}
 use Rattle.std.specs.Prelude.{nat_lt, nat_eq, not, slice_index, slice_set}
 use Rattle.std.proofs.lemmas.Bool.{lt-ltb}
-use Rattle.flat_memory.specs.Memory.{Memory}
-use Rattle.x64_instr.specs.declared.instruction.Instr.{Instr}
-use Rattle.x64_machine.specs.declared.context.Context.{Context}
-use Rattle.x64_machine.specs.Contexts.{context_of}
+use Rattle.match_stack.specs.Words.{Memory, Instr, Context, context_of, Info, Entry, rsp, word, Functions, distance, fetched, RECORD_SIZE, WalkState, walk_in, filter_return, finally_return, StackFrame, FrameIsAt, LeafIsAt, after_frame, after_leaf, caller_frame, caller_of_leaf, state}
 use Rattle.seh_num.specs.Answers.{◌>>=◌}
 use Rattle.eh_tables.specs.declared.code.UnwindCode.{UnwindCode}
 use Rattle.eh_tables.specs.declared.code.UnwindOperation.TheVariants.{Allocate}
-use Rattle.eh_tables.specs.Infos.{Info}
-use Rattle.eh_tables.specs.Tables.{Entry}
-use Rattle.virtual_unwind.specs.Contexts.{rsp, rsp_raised}
-use Rattle.virtual_unwind.specs.Undone.{Answer, word, popped, operations}
-use Rattle.virtual_unwind.specs.CallerOf.{Functions, CallerFrame, distance, base_if, unwound, found, in_body, by_distance, past_prologue, of_entry, rising, risen, caller_in}
-use Rattle.seh_records.specs.Record.{fetched}
-use Rattle.seh_records.specs.declared.layout.TheConstants.{RECORD_SIZE}
-use Rattle.seh_walk.specs.declared.walk.WalkState.{WalkState}
-use Rattle.seh_walk.specs.Walk.{visited, if_over, if_filter, if_finally, framed, past_filter, past_finally, if_search, above, if_above, walk_in, saved_in, filter_return, finally_return}
-use Rattle.match_stack.specs.Stack.{StackFrame, FrameIsAt, LeafIsAt, after_frame, after_leaf, caller_frame, caller_of_leaf}
-use Rattle.match_stack.specs.PlainWalks.{state}
+use Rattle.virtual_unwind.specs.Contexts.{rsp_raised}
+use Rattle.virtual_unwind.specs.Undone.{Answer, popped, operations}
+use Rattle.virtual_unwind.specs.CallerOf.{CallerFrame, base_if, unwound, found, in_body, by_distance, past_prologue, of_entry, rising, risen, caller_in}
+use Rattle.seh_walk.specs.Walk.{visited, if_over, if_filter, if_finally, framed, past_filter, past_finally, if_search, above, if_above, saved_in}
 use Rattle.match_stack.specs.WalkLaws.{FrameIsVisited, LeafIsVisited, SearchIsPassed, UnwindingIsPassed, StackIsOver}
 
 pub set_head : (kept : List ℕ) (v : ℕ) → 0 < length kept → slice_index (slice_set kept 0 v) 0 ≡ v

@@ -1,19 +1,7 @@
 -- The list ends in the stack, and each of its parts below that.
 use Rattle.std.proofs.Common.{ℕ, ◌+◌, ◌*◌, ◌≤◌, List, [], ◌∷◌, length, arith}
-use Rattle.host_layout.specs.declared.range.TheConstants.{STACK_END}
-use Rattle.flat_memory.specs.Memory.{Memory}
-use Rattle.x64_machine.specs.declared.context.Context.{Context}
-use Rattle.x64_machine.specs.Contexts.{context_of}
-use Rattle.virtual_unwind.specs.Contexts.{rsp}
-use Rattle.virtual_unwind.specs.CallerOf.{Functions}
-use Rattle.host_model.specs.declared.funclet.Funclet.{Funclet}
-use Rattle.template_code.specs.declared.layout.Layout.{Layout}
-use Rattle.linear_code.specs.Program.{LinearProgram}
-use Rattle.linear_machine.specs.Frames.{BodyName, FunctionBody, FuncletBody, Item, Waits, Searches, Unwinds}
-use Rattle.match_stack.specs.Stack.{StackItem, Framed, Leaf, Searching, Unwinding, IsStack, after_frame, after_leaf}
+use Rattle.match_stack.specs.Words.{STACK_END, Memory, Context, context_of, rsp, Functions, Funclet, Layout, LinearProgram, BodyName, FunctionBody, FuncletBody, Item, Waits, Searches, Unwinds, StackItem, Framed, Leaf, Searching, Unwinding, IsStack, after_frame, after_leaf, ImagePlan, Activation, activations_below, HoldsWords, temporaries_end, HasActivation, Linked}
 use Rattle.match_stack.proofs.StackKeeping.{rises}
-use Rattle.match_stack.specs.ImagePlan.{ImagePlan}
-use Rattle.match_stack.specs.ItemMatches.{Activation, activations_below, HoldsWords, temporaries_end, HasActivation, Linked}
 
 -- ---- slots
 

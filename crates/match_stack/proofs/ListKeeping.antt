@@ -3,23 +3,12 @@
 use Rattle.std.proofs.Common.{◌≡◌, ℕ, ◌+◌, ◌^◌, ◌<◌, ◌≤◌, Bool, true, false, cond, Option, Some, Ok, List, refl, sym, ap, ◌∙◌, arith}
 use Rattle.std.specs.Prelude.{nat_lt}
 use Rattle.std.proofs.lemmas.Bool.{ltb-false}
-use Rattle.host_layout.specs.declared.range.TheConstants.{STACK_START, STACK_END}
-use Rattle.flat_memory.specs.declared.protection.Protection.{Protection}
-use Rattle.flat_memory.specs.Protections.{is_readable, is_writable}
-use Rattle.flat_memory.specs.Memory.{Memory, with_bytes, first_refused, may_read, may_write}
-use Rattle.virtual_unwind.specs.Contexts.{rsp}
-use Rattle.virtual_unwind.specs.Undone.{word}
-use Rattle.virtual_unwind.specs.CallerOf.{Functions}
-use Rattle.seh_records.specs.Record.{misplaced, return_address_at}
+use Rattle.match_stack.specs.Words.{STACK_START, STACK_END, Protection, is_readable, Memory, with_bytes, first_refused, may_read, may_write, rsp, word, Functions, misplaced, return_address_at, RECORD_SIZE, PLACED_SIZE, Funclet, LinearProgram, BodyName, FunctionBody, FuncletBody, ImagePlan, Activation, Reaches, KeepsAbove}
+use Rattle.flat_memory.specs.Protections.{is_writable}
 use Rattle.seh_records.proofs.Unmoved.{fetched_by_its_bytes}
-use Rattle.seh_records.specs.declared.layout.TheConstants.{RECORD_SIZE, PLACED_SIZE}
-use Rattle.host_model.specs.declared.funclet.Funclet.{Funclet}
-use Rattle.linear_code.specs.Program.{LinearProgram}
-use Rattle.linear_machine.specs.Frames.{BodyName, FunctionBody, FuncletBody}
 use Rattle.match_stack.proofs.MemoryReads.{SameCode, tail_at_same, refused_same, word_kept, word_same}
-use Rattle.match_stack.specs.ImagePlan.{ImagePlan}
-use Rattle.match_stack.specs.ItemMatches.{Activation, Leads, Reaches}
-use Rattle.match_stack.specs.ListLaws.{KeepsAbove, KeptByStoresBelow, KeptByOtherMemories}
+use Rattle.match_stack.specs.ItemMatches.{Leads}
+use Rattle.match_stack.specs.ListLaws.{KeptByStoresBelow, KeptByOtherMemories}
 use Rattle.match_stack.proofs.ListMemories.{ReadsSame, list_kept}
 
 -- ---- stores below the stack pointer

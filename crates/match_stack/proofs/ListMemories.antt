@@ -1,27 +1,9 @@
 -- The list is in each memory that reads the same in the stack, from its stack pointer up, and has
 -- the same code.
 use Rattle.std.proofs.Common.{◌≡◌, ℕ, ◌+◌, ◌≤◌, Bool, true, false, Ok, List, [], ◌∷◌, ◌∙◌, arith}
-use Rattle.host_layout.specs.declared.range.TheConstants.{STACK_END}
-use Rattle.flat_memory.specs.Memory.{Memory}
-use Rattle.x64_machine.specs.declared.context.Context.{Context}
-use Rattle.x64_machine.specs.Contexts.{context_of}
-use Rattle.virtual_unwind.specs.Contexts.{rsp}
-use Rattle.virtual_unwind.specs.Undone.{word}
-use Rattle.virtual_unwind.specs.Tail.{tail_at}
-use Rattle.virtual_unwind.specs.CallerOf.{Functions}
-use Rattle.seh_records.specs.declared.dispatch.DispatchRecord.{DispatchRecord}
-use Rattle.seh_records.specs.Record.{misplaced, fetched}
-use Rattle.seh_records.specs.declared.layout.TheConstants.{RECORD_SIZE}
-use Rattle.seh_walk.specs.Walk.{filter_return, finally_return}
-use Rattle.host_model.specs.declared.funclet.Funclet.{Funclet}
-use Rattle.template_code.specs.declared.layout.Layout.{Layout}
-use Rattle.linear_code.specs.Program.{LinearProgram}
-use Rattle.linear_machine.specs.Frames.{BodyName, FunctionBody, FuncletBody, Frame, Item, Waits, Searches, Unwinds}
-use Rattle.match_stack.specs.Stack.{StackFrame, StackItem, Framed, Leaf, Searching, Unwinding, FrameIsAt, LeafIsAt, RecordIsAt, IsStack, after_frame, after_leaf}
+use Rattle.match_stack.specs.Words.{STACK_END, Memory, Context, context_of, rsp, word, tail_at, Functions, DispatchRecord, misplaced, fetched, RECORD_SIZE, filter_return, finally_return, Funclet, Layout, LinearProgram, BodyName, FunctionBody, FuncletBody, Frame, Item, Waits, Searches, Unwinds, StackFrame, StackItem, Framed, Leaf, Searching, Unwinding, FrameIsAt, LeafIsAt, RecordIsAt, IsStack, after_frame, after_leaf, ImagePlan, Activation, activations_below, HoldsWords, temporaries_end, HasActivation, FrameWaits, LeafWaits, Linked, IsLinkedStack}
 use Rattle.match_stack.proofs.ItemVisits.{set_head}
-use Rattle.match_stack.specs.ImagePlan.{ImagePlan}
-use Rattle.match_stack.specs.ItemMatches.{Activation, activations_below, HoldsWords, home_end, temporaries_end, HasActivation, HasPointers, BodyWaits, FrameWaits, LeafWaits, IsOwnRecord, Linked}
-use Rattle.match_stack.specs.ListLaws.{IsLinkedStack}
+use Rattle.match_stack.specs.ItemMatches.{home_end, HasPointers, BodyWaits, IsOwnRecord}
 use Rattle.match_stack.proofs.ListEnds.{words_fit, end_within, in_stack}
 
 -- what a memory reads as another does, from an address up to another

@@ -1,12 +1,9 @@
 -- Code and words read the same in memories that agree on their bytes.
 use Rattle.std.proofs.Common.{◌≡◌, ℕ, zero, suc, ◌+◌, ◌*◌, ◌%◌, ◌^◌, ◌<◌, ◌≤◌, Bool, true, false, cond, Option, Some, List, [], ◌∷◌, refl, sym, ap, ◌∙◌, arith}
-use Rattle.flat_memory.specs.declared.protection.Protection.{Protection}
-use Rattle.flat_memory.specs.Protections.{is_readable}
-use Rattle.flat_memory.specs.Memory.{Memory, with_bytes, next, executable, number_at, access, first_refused, may_read}
-use Rattle.x64_instr.specs.declared.instruction.Instr.{Instr}
+use Rattle.match_stack.specs.Words.{Protection, is_readable, Memory, with_bytes, number_at, access, first_refused, may_read, Instr, word, readable, tail_at}
+use Rattle.flat_memory.specs.Memory.{next, executable}
 use Rattle.x64_instr.specs.Spelling.{leading}
-use Rattle.virtual_unwind.specs.Undone.{word, readable}
-use Rattle.virtual_unwind.specs.Tail.{FetchedInstr, item_of, fetched_at, from_item, tail, tail_at}
+use Rattle.virtual_unwind.specs.Tail.{FetchedInstr, item_of, fetched_at, from_item, tail}
 
 -- ---- code
 

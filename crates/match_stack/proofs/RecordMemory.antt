@@ -2,24 +2,18 @@
 use Rattle.std.proofs.Common.{◌≡◌, ◌⊎◌, inl, inr, ℕ, ◌+◌, ◌-◌, ◌*◌, ◌/◌, ◌%◌, ◌^◌, ◌<◌, ◌≤◌, Bool, true, false, cond, Option, Some, None, Ok, refl, sym, ap, subst, ◌∙◌, arith}
 use Rattle.std.specs.Prelude.{nat_lt, nat_le, ◌&&◌}
 use Rattle.std.proofs.lemmas.Bool.{cases_lt, ltb-false}
-use Rattle.host_layout.specs.declared.range.TheConstants.{STACK_START, STACK_END}
-use Rattle.flat_memory.specs.Memory.{Memory, with_bytes, first_refused, may_read, may_write, with_number, is_among, distance, number_at, access, unless_refused}
+use Rattle.match_stack.specs.Words.{STACK_START, STACK_END, Memory, with_bytes, first_refused, may_read, may_write, with_number, number_at, access, word, readable, DispatchRecord, with_block, block_byte, misplaced, placed, fetched, return_address_at, words, RECORD_SIZE, PLACED_SIZE, KeepsAbove, IsData, RecordHasRoom, pushed}
+use Rattle.flat_memory.specs.Memory.{is_among, distance, unless_refused}
 use Rattle.flat_memory.specs.Laws.{IsApart}
 use Rattle.flat_memory.proofs.Stores.{untouched, stored_is_loaded, writable_is_readable}
-use Rattle.virtual_unwind.specs.Undone.{word, readable}
-use Rattle.seh_records.specs.declared.dispatch.DispatchRecord.{DispatchRecord}
-use Rattle.seh_records.specs.Words.{with_block, block_byte}
-use Rattle.seh_records.specs.Record.{misplaced, placed, fetched, return_address_at, words}
 use Rattle.seh_records.specs.Laws.{AreBytes}
 use Rattle.seh_records.proofs.Runs.{none_front, none_within}
 use Rattle.seh_records.proofs.Places.{writable}
 use Rattle.seh_records.proofs.Placed.{placed_is_fetched, placing_leaves_others}
 use Rattle.seh_records.proofs.Unmoved.{fetched_by_its_bytes}
-use Rattle.seh_records.specs.declared.layout.TheConstants.{RECORD_SIZE, PLACED_SIZE}
 use Rattle.match_stack.proofs.MemoryReads.{word_kept}
 use Rattle.match_stack.proofs.ExceptionPointers.{placed_points}
-use Rattle.match_stack.specs.ListLaws.{KeepsAbove}
-use Rattle.match_stack.specs.StackRecords.{IsData, RecordHasRoom, IsUntouched, pushed}
+use Rattle.match_stack.specs.StackRecords.{IsUntouched}
 use Rattle.match_stack.specs.RecordLaws.{PushedRecordLeavesOthers, ReturnAddressIsPushed}
 
 -- where a record may be placed

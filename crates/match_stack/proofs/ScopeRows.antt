@@ -3,14 +3,7 @@ use Rattle.std.proofs.Common.{◌≡◌, ℕ, zero, suc, ◌+◌, ◌≤◌, Lis
 use Rattle.std.specs.List.{AllByRecursion}
 use Rattle.std.proofs.Math.Seq.{drop-nil}
 use Rattle.std.proofs.lemmas.List.{drop-drop}
-use Rattle.eh_tables.specs.declared.scope.ScopeRecord.{ScopeRecord}
-use Rattle.virtual_unwind.specs.CallerOf.{Functions}
-use Rattle.host_model.specs.declared.funclet.Funclet.{Funclet}
-use Rattle.host_model.specs.Dispatch.{row_before}
-use Rattle.linear_code.specs.declared.program.Region.{Region}
-use Rattle.linear_code.specs.Program.{LinearProgram}
-use Rattle.linear_machine.specs.Frames.{BodyName}
-use Rattle.match_stack.specs.ImagePlan.{ImagePlan, AreRegions}
+use Rattle.match_stack.specs.Words.{ScopeRecord, Functions, Funclet, row_before, Region, LinearProgram, BodyName, ImagePlan, AreRegions}
 
 pub row_before_dropped : (row off : ℕ) (xs : List ScopeRecord) (q : ScopeRecord)
     → row_before (drop row xs) (suc off) ≡ Some q → row_before xs (suc (row + off)) ≡ Some q

@@ -2,34 +2,17 @@
 use Rattle.std.proofs.Common.{◌≡◌, ◌⊎◌, inl, inr, ℕ, suc, ◌+◌, ◌%◌, ◌^◌, ◌<◌, ◌≤◌, Option, Some, None, List, [], ◌∷◌, ◌++◌, length, refl, sym, ap, subst, ◌∙◌, arith}
 use Rattle.std.specs.Prelude.{filter, drop}
 use Rattle.std.proofs.Math.Seq.{drop-nil}
-use Rattle.flat_memory.specs.Memory.{Memory}
-use Rattle.x64_machine.specs.declared.context.Context.{Context}
-use Rattle.x64_machine.specs.Contexts.{context_of}
-use Rattle.eh_tables.specs.declared.scope.ScopeRecord.{ScopeRecord}
-use Rattle.eh_tables.specs.Tables.{Entry}
-use Rattle.virtual_unwind.specs.Contexts.{rsp}
-use Rattle.virtual_unwind.specs.CallerOf.{Functions, distance}
-use Rattle.seh_walk.specs.Asked.{rows_from, first_with_jump_target}
-use Rattle.seh_search.specs.declared.search_result.SearchResult.{SearchResult}
+use Rattle.match_stack.specs.Words.{Memory, Context, context_of, ScopeRecord, Entry, rsp, Functions, distance, rows_from, first_with_jump_target, SearchResult, search, Funclet, row_before, Region, LinearProgram, BodyName, FunctionBody, FuncletBody, body_of, Frame, Handler, Item, Waits, Searches, Unwinds, holds, regions_of, handlers_in, handlers, StackFrame, StackItem, Framed, Leaf, Searching, Unwinding, FrameIsAt, LeafIsAt, IsStack, after_frame, after_leaf, state, asked_row, chosen_or, plain_search, ImagePlan, AreRegions, IsFlagged, IsHandlerRow, Gives, Activation, activations_below, HasActivation, Reaches, FrameWaits, LeafWaits, regions_from, IsAtRow, Onward, Aimed, Linked, NoHandler, FirstHandler, left_from, IsWide, FindsHandler, SearchedAs}
 use Rattle.seh_search.specs.declared.search_result.SearchResult.TheVariants as searches
-use Rattle.seh_search.specs.Search.{by_handler, chosen, search}
-use Rattle.host_model.specs.declared.funclet.Funclet.{Funclet}
-use Rattle.host_model.specs.Dispatch.{row_before, rows_of}
-use Rattle.linear_code.specs.declared.program.Region.{Region}
-use Rattle.linear_code.specs.Program.{LinearProgram}
-use Rattle.linear_machine.specs.Frames.{BodyName, FunctionBody, FuncletBody, body_of, Frame, Handler, Item, Waits, Searches, Unwinds}
-use Rattle.linear_machine.specs.Regions.{holds, regions_of, handlers_in, handlers}
-use Rattle.match_stack.specs.Stack.{StackFrame, StackItem, Framed, Leaf, Searching, Unwinding, FrameIsAt, LeafIsAt, IsStack, after_frame, after_leaf}
-use Rattle.match_stack.specs.PlainWalks.{state, asked_row, chosen_or, plain_search}
+use Rattle.seh_search.specs.Search.{by_handler, chosen}
+use Rattle.host_model.specs.Dispatch.{rows_of}
 use Rattle.match_stack.proofs.StackKeeping.{rises}
 use Rattle.match_stack.proofs.ListWalks.{search_is_of_the_list}
-use Rattle.match_stack.specs.ImagePlan.{ImagePlan, AreRegions, IsFlagged, IsEntryOf, IsGiven, IsHandlerRow, Gives}
-use Rattle.match_stack.specs.ItemMatches.{Activation, IsActivation, activations_below, HasActivation, Reaches, FrameWaits, LeafWaits, regions_from, IsAtRow, Onward, Aimed, Linked}
-use Rattle.match_stack.specs.FrameHandlers.{NoHandler, FirstHandler}
-use Rattle.match_stack.specs.ListLaws.{IsInstruction, left_from}
+use Rattle.match_stack.specs.ImagePlan.{IsEntryOf, IsGiven}
+use Rattle.match_stack.specs.ItemMatches.{IsActivation}
+use Rattle.match_stack.specs.ListLaws.{IsInstruction}
 use Rattle.match_stack.proofs.ScopeRows.{row_before_short}
 use Rattle.match_stack.proofs.FrameSearch.{search_finds_the_handlers}
-use Rattle.match_stack.specs.HostSearch.{IsWide, FindsHandler, SearchedAs}
 use Rattle.match_stack.specs.SearchLaws.{SearchIsTheLists, SearchContinues}
 use Rattle.match_stack.proofs.ContextWidths.{wide_after, wide_after_leaf, wide_saved, wide_walk}
 use Rattle.match_stack.proofs.EntryFlags.{searched_all}

@@ -1,38 +1,16 @@
 -- A turn that searches does what linear code's search does.
 use Rattle.std.proofs.Common.{◌≡◌, ◌⊎◌, inl, inr, ℕ, ◌+◌, ◌%◌, ◌^◌, ◌<◌, ◌≤◌, true, Option, Some, None, List, [], ◌∷◌, refl, sym, ap, ◌∙◌, arith}
-use Rattle.seh_num.specs.declared.event.Code.{Code}
+use Rattle.match_stack.specs.Words.{Code, Rcx, Rsp, Cpu, context_of, State, register, rsp, Functions, DispatchRecord, return_address_at, RecordFits, is_search, filter_return, walk_in, steps, SearchResult, search, Funclet, Turn, Continues, arrived, in_hand, if_placed, entered, Exception, LinearProgram, Handler, Resumption, Item, Waits, Searches, Configuration, StackItem, Searching, ImagePlan, Activation, RecordHasRoom, FindsHandler, SearchedAs, IsWellFormed}
 use Rattle.seh_num.specs.declared.end.RunEnd.TheVariants as ends
-use Rattle.x64_instr.specs.declared.register.Reg.TheVariants.{Rcx, Rsp}
-use Rattle.x64_machine.specs.declared.cpu.Cpu.{Cpu}
-use Rattle.x64_machine.specs.Contexts.{context_of}
-use Rattle.x64_machine.specs.Effect.{State, register}
-use Rattle.virtual_unwind.specs.Contexts.{rsp}
-use Rattle.virtual_unwind.specs.CallerOf.{Functions}
-use Rattle.seh_records.specs.declared.dispatch.DispatchRecord.{DispatchRecord}
-use Rattle.seh_records.specs.Record.{return_address_at}
-use Rattle.seh_records.specs.Laws.{RecordFits}
-use Rattle.seh_walk.specs.Walk.{is_search, filter_return, walk_in, steps}
-use Rattle.seh_search.specs.declared.search_result.SearchResult.{SearchResult}
-use Rattle.seh_search.specs.Search.{search}
-use Rattle.host_model.specs.declared.funclet.Funclet.{Funclet}
-use Rattle.host_model.specs.Turns.{Turn, Continues, Ends}
-use Rattle.host_model.specs.Funclets.{arrived}
-use Rattle.host_model.specs.Dispatch.{in_hand, if_placed, entered, after_search}
-use Rattle.source_meaning.specs.State.{Exception}
-use Rattle.linear_code.specs.Program.{LinearProgram}
-use Rattle.linear_machine.specs.Frames.{Handler, Resumption, Item, Waits, Searches, Configuration}
+use Rattle.host_model.specs.Turns.{Ends}
+use Rattle.host_model.specs.Dispatch.{after_search}
 use Rattle.linear_machine.specs.Searching.{consult}
-use Rattle.match_stack.specs.Stack.{StackItem, Searching}
-use Rattle.match_stack.specs.ImagePlan.{ImagePlan}
-use Rattle.match_stack.specs.ItemMatches.{Activation}
 use Rattle.match_stack.proofs.ListEnds.{in_stack}
-use Rattle.match_stack.specs.StackRecords.{RecordHasRoom}
 use Rattle.match_stack.proofs.RecordMemory.{IsPlace, place_of, pushed_record_leaves_others}
 use Rattle.match_stack.proofs.DispatchItems.{search_is_one_more}
-use Rattle.match_stack.specs.HostSearch.{Asks, Accepts, FindsHandler, SearchedAs}
+use Rattle.match_stack.specs.HostSearch.{Asks, Accepts}
 use Rattle.match_stack.proofs.ContextWidths.{wide_saved}
 use Rattle.match_stack.proofs.SearchHandlers.{search_continues}
-use Rattle.match_stack.specs.DispatchStates.{IsWellFormed}
 use Rattle.match_stack.specs.SearchOutcomes.{FilterBegins, TakesOver, NobodyTakesOver}
 use Rattle.match_stack.specs.TurnLaws.{IsSearching, SearchTurns}
 use Rattle.match_stack.proofs.FuncletEntry.{with_record, fits_in_hand, few_items, entered_stack, entered_first, arrives}

@@ -1,15 +1,8 @@
 -- A stack outlives what changes none of its bytes.
 use Rattle.std.proofs.Common.{◌≡◌, ℕ, ◌+◌, ◌<◌, ◌≤◌, Bool, true, false, List, [], ◌∷◌, ◌++◌, refl, ◌∙◌, arith, inl, inr}
-use Rattle.flat_memory.specs.Memory.{Memory, with_bytes}
-use Rattle.x64_machine.specs.declared.context.Context.{Context}
-use Rattle.x64_machine.specs.Contexts.{context_of}
-use Rattle.virtual_unwind.specs.Contexts.{rsp}
-use Rattle.virtual_unwind.specs.CallerOf.{Functions}
-use Rattle.seh_records.specs.declared.dispatch.DispatchRecord.{DispatchRecord}
+use Rattle.match_stack.specs.Words.{Memory, with_bytes, Context, context_of, rsp, Functions, DispatchRecord, RECORD_SIZE, filter_return, finally_return, StackItem, Framed, Leaf, Searching, Unwinding, RecordIsAt, IsStack, IsBetween, after_frame}
 use Rattle.seh_records.proofs.Unmoved.{fetched_by_its_bytes}
-use Rattle.seh_records.specs.declared.layout.TheConstants.{RECORD_SIZE}
-use Rattle.seh_walk.specs.Walk.{filter_return, finally_return}
-use Rattle.match_stack.specs.Stack.{StackItem, Framed, Leaf, Searching, Unwinding, RecordIsAt, ItemIsAt, IsStack, OwnedBy, IsBetween, after_frame, context_after, context_at}
+use Rattle.match_stack.specs.Stack.{ItemIsAt, OwnedBy, context_after, context_at}
 use Rattle.match_stack.specs.WalkLaws.{KeptByOtherStores, NothingBelowIsOwned, SlotsAreFree}
 use Rattle.match_stack.proofs.ItemVisits.{set_head}
 use Rattle.match_stack.proofs.MemoryReads.{tail_at_same, word_same}

@@ -3,41 +3,19 @@ use Rattle.std.proofs.Common.{◌≡◌, ◌≢◌, ◌⊎◌, inl, inr, ℕ, su
 use Rattle.std.specs.Prelude.{nat_eq}
 use Rattle.std.proofs.lemmas.Bool.{le-ltb, eq-eqb, ne_eqb}
 use Rattle.std.proofs.lemmas.List.{take_at}
-use Rattle.seh_num.specs.declared.event.Event.{Event}
-use Rattle.flat_memory.specs.Memory.{Memory}
-use Rattle.x64_machine.specs.declared.context.Context.{Context}
-use Rattle.x64_machine.specs.Contexts.{context_of}
-use Rattle.virtual_unwind.specs.Contexts.{rsp}
-use Rattle.virtual_unwind.specs.CallerOf.{Functions, distance}
-use Rattle.seh_walk.specs.Asked.{AskedRecord, rows_from, unwound, until, until_if, first_finally}
-use Rattle.seh_unwind.specs.declared.unwind_result.UnwindResult.{UnwindResult}
+use Rattle.match_stack.specs.Words.{Event, Memory, Context, context_of, rsp, Functions, distance, AskedRecord, rows_from, unwound, until, until_if, first_finally, UnwindResult, if_past, if_target, by_row, Funclet, arrivals, row_before, Layout, Region, LinearProgram, BodyName, FunctionBody, FuncletBody, body_of, Frame, Target, Item, Waits, Searches, Unwinds, Store, Seen, Next, pick, regions_of, left_store, unwind_body, StackFrame, StackItem, Framed, Leaf, Searching, Unwinding, FrameIsAt, LeafIsAt, IsStack, after_frame, after_leaf, caller_frame, caller_of_leaf, state, decided_or, plain_unwind, ImagePlan, Gives, Activation, activations_below, HasActivation, FrameWaits, LeafWaits, regions_from, IsAtRow, Aimed, Linked, NoBlock, Arrives, FirstBlock, left_from, IsWide, store_of, Course, RunsBlock, UnwoundAs}
 use Rattle.seh_unwind.specs.declared.unwind_result.UnwindResult.TheVariants as unwinds
-use Rattle.seh_unwind.specs.Unwind.{if_past, if_target, by_row}
-use Rattle.host_model.specs.declared.funclet.Funclet.{Funclet}
-use Rattle.host_model.specs.Funclets.{arrivals}
-use Rattle.host_model.specs.Dispatch.{row_before}
-use Rattle.template_code.specs.declared.layout.Layout.{Layout}
-use Rattle.linear_code.specs.declared.program.Region.{Region}
-use Rattle.linear_code.specs.Program.{LinearProgram}
-use Rattle.linear_machine.specs.Frames.{BodyName, FunctionBody, FuncletBody, body_of, Frame, Target, Item, Waits, Searches, Unwinds, Store, Seen, Next, pick}
-use Rattle.linear_machine.specs.Regions.{regions_of}
 use Rattle.linear_machine.specs.Unwinding as linear
-use Rattle.linear_machine.specs.Unwinding.{target_past, left_store, unwind_body}
-use Rattle.match_stack.specs.Stack.{StackFrame, StackItem, Framed, Leaf, Searching, Unwinding, FrameIsAt, LeafIsAt, IsStack, after_frame, after_leaf, caller_frame, caller_of_leaf}
-use Rattle.match_stack.specs.PlainWalks.{state, decided_or, plain_unwind}
+use Rattle.linear_machine.specs.Unwinding.{target_past}
 use Rattle.match_stack.proofs.StackKeeping.{rises}
 use Rattle.match_stack.proofs.ListWalks.{unwinding_is_of_the_list}
-use Rattle.match_stack.specs.ImagePlan.{ImagePlan, Gives}
-use Rattle.match_stack.specs.ItemMatches.{Activation, locals_of, activations_below, HasActivation, FrameWaits, LeafWaits, IsAbove, regions_from, IsAtRow, Aimed, AimedHere, Linked}
-use Rattle.match_stack.specs.FrameHandlers.{NoBlock, Arrives, FirstBlock}
-use Rattle.match_stack.specs.ListLaws.{left_from}
+use Rattle.match_stack.specs.ItemMatches.{locals_of, IsAbove, AimedHere}
 use Rattle.match_stack.proofs.ScopeRows.{row_before_short}
 use Rattle.match_stack.proofs.FrameUnwind.{unwinding_runs_the_blocks, unwinding_stops_at_the_target}
-use Rattle.match_stack.specs.HostSearch.{IsWide}
 use Rattle.match_stack.proofs.ContextWidths.{wide_after, wide_after_leaf, wide_saved, wide_walk}
 use Rattle.match_stack.proofs.EntryFlags.{unwound_all}
 use Rattle.match_stack.proofs.SearchHandlers.{at_first_row, none_from, body_reaches, entry_of_body, flags_of_body, few_of_body, instruction_of_body}
-use Rattle.match_stack.specs.HostUnwind.{store_of, on_top, Course, RunsBlock, UnwoundAs}
+use Rattle.match_stack.specs.HostUnwind.{on_top}
 use Rattle.match_stack.specs.UnwindLaws.{UnwindingIsTheLists}
 
 -- the locals that are left are those of the activations below

@@ -1,39 +1,17 @@
 -- A turn that unwinds does what linear code's unwinding does.
 use Rattle.std.proofs.Common.{◌≡◌, ◌⊎◌, inl, inr, ℕ, zero, suc, ◌+◌, ◌^◌, ◌<◌, ◌≤◌, Option, Some, None, List, [], ◌∷◌, ◌++◌, length, refl, sym, ap, subst, ◌∙◌, arith}
 use Rattle.std.specs.Prelude.{not, ◌==◌, slice_index}
-use Rattle.seh_num.specs.declared.width.Width.TheVariants.{W32}
-use Rattle.seh_num.specs.declared.event.Code.{Code}
-use Rattle.seh_num.specs.declared.event.Event.{Event}
+use Rattle.match_stack.specs.Words.{W32, Code, Event, low, Context, State, rsp, Functions, distance, DispatchRecord, RecordFits, AllSmall, finally_return, walk_in, steps, UnwindResult, unwind, Funclet, Turn, Continues, arrivals, arrived, in_hand, if_placed, entered, unwinds_on, LinearProgram, Waits, Unwinds, Seen, Next, StackItem, Unwinding, ImagePlan, HasSpace, below_end, record_room, RecordHasRoom, IsWide, store_of, Course, RunsBlock, UnwoundAs, IsWellFormed}
 use Rattle.seh_num.specs.declared.event.Event.TheVariants as events
-use Rattle.seh_num.specs.Widths.{low}
-use Rattle.x64_machine.specs.declared.context.Context.{Context}
-use Rattle.x64_machine.specs.Effect.{State}
-use Rattle.virtual_unwind.specs.Contexts.{rsp}
-use Rattle.virtual_unwind.specs.CallerOf.{Functions, distance}
-use Rattle.seh_records.specs.declared.dispatch.DispatchRecord.{DispatchRecord}
-use Rattle.seh_records.specs.Laws.{RecordFits, AllSmall}
-use Rattle.seh_walk.specs.Walk.{finally_return, walk_in, steps}
-use Rattle.seh_unwind.specs.declared.unwind_result.UnwindResult.{UnwindResult}
-use Rattle.seh_unwind.specs.Unwind.{unwind}
-use Rattle.host_model.specs.declared.funclet.Funclet.{Funclet}
-use Rattle.host_model.specs.Turns.{Turn, Continues}
-use Rattle.host_model.specs.Funclets.{arrivals, arrived}
-use Rattle.host_model.specs.Dispatch.{in_hand, if_placed, entered, landed, at_landing, by_purpose, after_unwind, unwinds_on}
-use Rattle.linear_code.specs.Program.{LinearProgram}
-use Rattle.linear_machine.specs.Frames.{Waits, Unwinds, Seen, Next}
+use Rattle.host_model.specs.Dispatch.{landed, at_landing, by_purpose, after_unwind}
 use Rattle.linear_machine.specs.Unwinding as linear
-use Rattle.match_stack.specs.Stack.{StackItem, Unwinding}
-use Rattle.match_stack.specs.ImagePlan.{ImagePlan}
-use Rattle.match_stack.specs.ItemMatches.{HasSpace, below_end, record_room, HasPurpose}
+use Rattle.match_stack.specs.ItemMatches.{HasPurpose}
 use Rattle.match_stack.proofs.ListEnds.{in_stack}
-use Rattle.match_stack.specs.StackRecords.{RecordHasRoom}
 use Rattle.match_stack.proofs.RecordMemory.{pushed_record_leaves_others}
 use Rattle.match_stack.proofs.DispatchItems.{unwinding_is_one_more}
-use Rattle.match_stack.specs.HostSearch.{IsWide}
 use Rattle.match_stack.proofs.ContextWidths.{wide_walk}
-use Rattle.match_stack.specs.HostUnwind.{store_of, Course, RunsBlock, Lands, UnwoundAs}
+use Rattle.match_stack.specs.HostUnwind.{Lands}
 use Rattle.match_stack.proofs.UnwindBlocks.{unwinding_is_the_lists}
-use Rattle.match_stack.specs.DispatchStates.{IsWellFormed}
 use Rattle.match_stack.specs.UnwindOutcomes.{landing_value, landing_events, Unwound, BlockBegins, LandsThere}
 use Rattle.match_stack.specs.TurnLaws.{IsUnwinding, UnwindTurns}
 use Rattle.match_stack.proofs.FuncletEntry.{with_record, fits_in_hand, few_items, entered_first, entered_frame, arrives}

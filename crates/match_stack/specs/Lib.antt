@@ -17,3 +17,4 @@ pub mod UnwindOutcomes
 pub mod TurnLaws
 pub mod DispatchSteps
 pub mod FilterReturns
+pub mod Words

@@ -1,12 +1,8 @@
 -- What is known where a body calls a function.
 use Rattle.std.proofs.Common.{◌≡◌, ◌≢◌, ℕ, ◌+◌, ◌<◌, ◌≤◌, false, Some, length}
 use Rattle.std.specs.Prelude.{slice_get}
-use Rattle.x64_machine.specs.Effect.{State}
+use Rattle.match_turns.specs.Words.{State, LinearFunction, Configuration, HaveRoom, Setting, RepresentsAt}
 use Rattle.linear_code.specs.declared.instruction.Instruction.TheVariants as instructions
-use Rattle.linear_code.specs.Program.{LinearFunction}
-use Rattle.linear_machine.specs.Frames.{Configuration}
-use Rattle.lowering_invariants.specs.Room.{HaveRoom}
-use Rattle.match_bodies.specs.Setting.{Setting, RepresentsAt}
 use Rattle.match_bodies.proofs.BodyViews.{IsCounted}
 
 -- the instruction of a call begins: linear code, the machine beside it, and the callee

@@ -1,14 +1,7 @@
 -- A body continues wherever an exception of it is continued: after its call, or at the same
 -- operation.
 use Rattle.std.proofs.Common.{ℕ, List, inl}
-use Rattle.x64_machine.specs.Effect.{State}
-use Rattle.virtual_unwind.specs.CallerOf.{Functions}
-use Rattle.host_model.specs.declared.funclet.Funclet.{Funclet}
-use Rattle.linear_code.specs.Program.{LinearProgram}
-use Rattle.linear_machine.specs.Frames.{AfterCall, SameOperation, Configuration}
-use Rattle.match_stack.specs.ImagePlan.{ImagePlan}
-use Rattle.match_runs.specs.Comes.{LeadsTo}
-use Rattle.match_bodies.specs.CodeSites.{Sites}
+use Rattle.match_turns.specs.Words.{State, Functions, Funclet, LinearProgram, AfterCall, SameOperation, Configuration, ImagePlan, LeadsTo, Sites}
 use Rattle.match_bodies.specs.Bodies.{RepresentsAt}
 use Rattle.match_turns.specs.DispatchOutcome.{Represents}
 use Rattle.match_turns.proofs.OperationSteps.{continuations}

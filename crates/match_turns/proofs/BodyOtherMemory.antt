@@ -1,21 +1,12 @@
 -- The same body in another memory, whose stack is the same from RSP up.
 use Rattle.std.proofs.Common.{◌≡◌, ℕ, ◌+◌, ◌≤◌, false, sym, ap, ◌∙◌, arith}
-use Rattle.host_layout.specs.declared.range.TheConstants.{STACK_START, STACK_END}
-use Rattle.flat_memory.specs.Memory.{Memory}
-use Rattle.x64_instr.specs.declared.register.Reg.TheVariants.{Rsp}
-use Rattle.x64_machine.specs.Contexts.{context_of}
-use Rattle.x64_machine.specs.Effect.{State, register}
-use Rattle.linear_machine.specs.Frames.{Configuration}
-use Rattle.match_stack.specs.WalkLaws.{context_below}
-use Rattle.match_stack.specs.ItemMatches.{activations_below, temporaries_end, BodyWaits}
-use Rattle.match_stack.specs.ListLaws.{KeepsStack}
+use Rattle.match_turns.specs.Words.{STACK_START, STACK_END, Memory, Rsp, context_of, State, register, Configuration, context_below, activations_below, BodyWaits, KeepsStack, slots_end, last_temporary, Setting, IsMachineMemory, RepresentsAt}
+use Rattle.match_stack.specs.ItemMatches.{temporaries_end}
 use Rattle.match_stack.proofs.ListEnds.{end_within}
 use Rattle.match_stack.proofs.ListMemories.{ReadsSame, body_kept, pointers_kept}
 use Rattle.match_stack.proofs.ListKeeping.{reads_other, kept_by_other_memories}
-use Rattle.match_bodies.specs.Bodies.{slots_end, last_temporary}
 use Rattle.match_bodies.proofs.BodyViews.{IsCounted, sp_low, frame_top}
 use Rattle.match_bodies.proofs.StepNeeds.{some_is}
-use Rattle.match_bodies.specs.Setting.{Setting, IsMachineMemory, RepresentsAt}
 
 -- the stack from further up
 pub higher_stack : (m m' : Memory) (low high : ℕ) → low ≤ high → KeepsStack m m' low

@@ -1,18 +1,9 @@
 -- A built-in function is called: RAX is cleared, the arguments are passed, and the thunk leads to
 -- the service.
 use Rattle.std.proofs.Common.{◌≡◌, ℕ, ◌+◌, ◌≤◌, [], ◌∷◌, refl, ap, subst, arith}
-use Rattle.x64_encode.specs.Chosen.{opcode_register}
-use Rattle.x64_machine.specs.declared.cpu.Flags.{Flags}
+use Rattle.match_turns.specs.Words.{opcode_register, Flags, Temporary, BodyState, size, sizes, keep, IsNear, return_at, begin_call, call_code, clear_result, MachineView, machine, sp_of, with_four, pushed, HasBelow, Reaches, HasCode, FramePlace, Roomy, FrameHolds}
 use Rattle.x64_machine.specs.Effect.{effect}
-use Rattle.linear_code.specs.declared.slot.Slot.TheVariants.{Temporary}
-use Rattle.linear_code.specs.BodyState.{BodyState}
-use Rattle.template_code.specs.Bytes.{size, sizes}
-use Rattle.template_code.specs.Slots.{keep}
-use Rattle.template_code.specs.Jumps.{IsNear}
-use Rattle.template_code.specs.Calls.{return_at, begin_call, call_code, clear_result, call_built_in_code}
-use Rattle.x64_templates.specs.Straight.{MachineView, machine}
-use Rattle.x64_templates.specs.CallStates.{sp_of, with_four, pushed, HasBelow}
-use Rattle.x64_templates.specs.Runs.{Reaches, HasCode, FramePlace, Roomy, FrameHolds}
+use Rattle.template_code.specs.Calls.{call_built_in_code}
 use Rattle.x64_templates.specs.Thunks.{HasThunk}
 use Rattle.x64_templates.proofs.PlacedCode.{reaches_then}
 use Rattle.x64_templates.proofs.Computes.{code_split}

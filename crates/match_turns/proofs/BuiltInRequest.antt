@@ -2,46 +2,13 @@
 -- the list.
 use Rattle.std.proofs.Common.{◌≡◌, ℕ, ◌+◌, ◌-◌, ◌%◌, ◌^◌, ◌<◌, ◌≤◌, Some, List, [], ◌∷◌, length, Ok, refl, sym, ap, subst, ◌∙◌, arith, length-set, set}
 use Rattle.std.specs.Prelude.{◌==◌, false, slice_get, take}
-use Rattle.seh_num.specs.declared.width.Width.TheVariants.{W64}
-use Rattle.flat_memory.specs.Memory.{loaded}
+use Rattle.match_turns.specs.Words.{W64, loaded, IMAGE_BASE, IMAGE_RANGE_END, STACK_START, STACK_END, address_of, Rsp, Instr, opcode_register, Cpu, State, register, BuiltIn, Put, Protect, RaiseException, Temporary, BodyState, LinearBody, Configuration, regions_of, body_of, waiting, instruction_at, Layout, size, sizes, put_back, keep, temporary_at, call, IsNear, arguments_code, return_at, begin_call, clear_result, template, template_size, MachineView, machine, pushed, Reaches, HasCode, KeepsAbove, IsWellFormed, IsLive, Comes, links_of, service_of, IsWellMade, IsKnown, Setting, InBody, IsMachineMemory, IsResumed, RepresentsAt}
 use Rattle.std.proofs.lemmas.List.{length-drop}
-use Rattle.host_layout.specs.declared.range.TheConstants.{IMAGE_BASE, IMAGE_RANGE_END, STACK_START, STACK_END}
-use Rattle.host_layout.specs.Services.{address_of}
-use Rattle.x64_instr.specs.declared.register.Reg.TheVariants.{Rsp}
-use Rattle.x64_instr.specs.declared.instruction.Instr.{Instr}
-use Rattle.x64_encode.specs.Chosen.{opcode_register}
-use Rattle.x64_machine.specs.declared.cpu.Cpu.{Cpu}
-use Rattle.x64_machine.specs.Effect.{State, register}
-use Rattle.c_operations.specs.declared.built_in.BuiltIn.{BuiltIn}
-use Rattle.c_operations.specs.declared.built_in.BuiltIn.TheVariants.{Put, Protect, RaiseException}
-use Rattle.linear_code.specs.declared.slot.Slot.TheVariants.{Temporary}
 use Rattle.linear_code.specs.declared.instruction.Instruction.TheVariants as instructions
-use Rattle.linear_code.specs.BodyState.{BodyState}
-use Rattle.linear_code.specs.Program.{LinearBody}
-use Rattle.linear_machine.specs.Frames.{Configuration}
-use Rattle.linear_machine.specs.Regions.{regions_of}
-use Rattle.linear_machine.specs.Frames.{body_of}
-use Rattle.linear_machine.specs.Instructions.{waiting}
-use Rattle.linear_machine.specs.Run.{instruction_at}
-use Rattle.template_code.specs.declared.layout.Layout.{Layout}
-use Rattle.template_code.specs.Bytes.{size, sizes}
-use Rattle.template_code.specs.Slots.{put_back, keep, temporary_at}
-use Rattle.template_code.specs.Jumps.{call, IsNear}
-use Rattle.template_code.specs.Calls.{arguments_code, return_at, begin_call, clear_result}
-use Rattle.template_code.specs.Template.{template, template_size}
 use Rattle.template_code.proofs.Sizes.{sizes_append, call_size, template_sizes}
-use Rattle.x64_templates.specs.Straight.{MachineView, machine}
-use Rattle.x64_templates.specs.CallStates.{pushed}
-use Rattle.x64_templates.specs.Runs.{Reaches, HasCode}
-use Rattle.match_stack.specs.ListLaws.{KeepsAbove}
-use Rattle.match_stack.specs.DispatchStates.{IsWellFormed}
 use Rattle.match_stack.proofs.FuncletEntry.{set_small}
-use Rattle.match_runs.specs.Comes.{IsLive, Comes}
-use Rattle.match_bodies.specs.CodeSites.{links_of}
-use Rattle.match_bodies.specs.ProgramImages.{service_of}
 use Rattle.match_bodies.proofs.TemplateSizes.{template_some}
 use Rattle.match_bodies.proofs.SilentTurns.{reaches_silently}
-use Rattle.match_bodies.specs.ConfigurationFacts.{IsWellMade, IsKnown}
 use Rattle.match_bodies.proofs.StepNeeds.{counted_here, code_at}
 use Rattle.match_bodies.proofs.ChainKeeping.{reaches_keeps, stays_well_formed}
 use Rattle.match_bodies.proofs.TemplateRuns.{frame, slots, v, same_state, template_here, has_slots, next_address, sp_is}
@@ -55,7 +22,6 @@ use Rattle.match_turns.proofs.DispatchMemory.{memory_untouched}
 use Rattle.match_turns.proofs.ReturnAddressPush as pushing
 use Rattle.match_turns.proofs.HostPage.{host_silent}
 use Rattle.match_turns.proofs.BodySavedState.{first_words, in_body}
-use Rattle.match_bodies.specs.Setting.{Setting, InBody, IsMachineMemory, IsResumed, RepresentsAt}
 
 -- the services are in the host's page
 service_low : (f : BuiltIn) → (1 ≤ address_of (service_of f))

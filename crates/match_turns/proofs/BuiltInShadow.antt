@@ -1,28 +1,9 @@
 -- Each turn of a call of a built-in function, up to its service, keeps the shadow.
 use Rattle.std.proofs.Common.{◌≡◌, ℕ, ◌+◌, ◌-◌, Some, List, [], ◌∷◌, ◌++◌, refl, arith, inl}
 use Rattle.std.specs.Prelude.{slice_get}
-use Rattle.host_layout.specs.Services.{address_of}
-use Rattle.flat_memory.specs.Memory.{Memory}
-use Rattle.x64_instr.specs.declared.register.Reg.TheVariants.{Rsp}
-use Rattle.x64_instr.specs.declared.instruction.Instr.{Instr}
-use Rattle.x64_encode.specs.Chosen.{opcode_register}
-use Rattle.x64_machine.specs.Effect.{State, register}
-use Rattle.c_operations.specs.declared.built_in.BuiltIn.{BuiltIn}
-use Rattle.c_operations.specs.declared.built_in.BuiltIn.TheVariants.{Put, Protect, RaiseException}
-use Rattle.linear_code.specs.declared.slot.Slot.TheVariants.{Temporary}
+use Rattle.match_turns.specs.Words.{address_of, Memory, Rsp, Instr, opcode_register, State, register, BuiltIn, Put, Protect, RaiseException, Temporary, Configuration, Layout, size, sizes, put_back, keep, temporary_at, IsNear, call, arguments_code, return_at, clear_result, Reaches, AllKeep, HaveRoom, service_of, FindsReturn, Setting, IsResumed, RepresentsAt}
 use Rattle.linear_code.specs.declared.instruction.Instruction.TheVariants as instructions
-use Rattle.linear_machine.specs.Frames.{Configuration}
-use Rattle.template_code.specs.declared.layout.Layout.{Layout}
-use Rattle.template_code.specs.Bytes.{size, sizes}
-use Rattle.template_code.specs.Slots.{put_back, keep, temporary_at}
-use Rattle.template_code.specs.Jumps.{IsNear, call}
-use Rattle.template_code.specs.Calls.{arguments_code, return_at, clear_result}
 use Rattle.template_code.proofs.Sizes.{sizes_append, call_size}
-use Rattle.x64_templates.specs.Runs.{Reaches}
-use Rattle.match_runs.specs.Shadow.{AllKeep}
-use Rattle.lowering_invariants.specs.Room.{HaveRoom}
-use Rattle.match_bodies.specs.ProgramImages.{service_of}
-use Rattle.match_bodies.specs.Callers.{FindsReturn}
 use Rattle.match_bodies.proofs.InstructionEffects.{others_of}
 use Rattle.match_bodies.proofs.RoutineWalks.{StepsTo, reaches_steps, steps_split, keeps_split, AllPlain}
 use Rattle.match_bodies.proofs.EntryKeeping.{arguments_plain}
@@ -30,7 +11,6 @@ use Rattle.match_bodies.proofs.CallKeeping.{calls_keep, CalleeBegins, callee_beg
 use Rattle.match_bodies.proofs.BodyViews.{IsCounted, sp_low, room_here}
 use Rattle.match_bodies.proofs.TemplateRuns.{has_slots}
 use Rattle.match_turns.proofs.ReturnAddressPlace.{top_of, begins_beneath}
-use Rattle.match_bodies.specs.Setting.{Setting, IsResumed, RepresentsAt}
 
 clear_size : size clear_result ≡ 5
 unfolding size opcode_register

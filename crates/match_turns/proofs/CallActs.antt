@@ -3,11 +3,7 @@ use Rattle.std.proofs.Common.{◌≡◌, ℕ, zero, suc, ◌+◌, ◌-◌, ◌*�
 use Rattle.std.specs.Prelude.{slice_get, drop, if◌then◌else◌}
 use Rattle.std.proofs.lemmas.Bool.{eq-eqb}
 use Rattle.linear_code.specs.declared.instruction.Instruction.TheVariants as instructions
-use Rattle.linear_code.specs.Program.{LinearProgram, LinearFunction}
-use Rattle.linear_machine.specs.Frames.{Waits, Configuration, Next, with_some, deeper, last_temporaries}
-use Rattle.linear_machine.specs.Instructions.{begin_function, waiting, act}
-use Rattle.template_code.specs.declared.layout.Layout.{Layout}
-use Rattle.template_code.specs.Calls.{passing_code}
+use Rattle.match_turns.specs.Words.{LinearProgram, LinearFunction, Waits, Configuration, Next, with_some, deeper, last_temporaries, begin_function, waiting, act, Layout, passing_code}
 
 -- two turns for each argument that is passed on the stack
 pub passed_in : (y : Layout) (first i n : ℕ) → length (passing_code y first i n) ≡ 2 * n

@@ -4,43 +4,19 @@ use Rattle.std.proofs.Common.{◌≡◌, ℕ, ◌+◌, ◌-◌, ◌*◌, ◌<◌
 use Rattle.std.specs.Prelude.{◌⊎◌}
 use Rattle.std.proofs.lemmas.Bool.{cases_lt}
 use Rattle.std.proofs.lemmas.List.{length-drop}
-use Rattle.host_layout.specs.declared.range.TheConstants.{STACK_START, STACK_END}
-use Rattle.flat_memory.specs.Memory.{number_at, may_write}
-use Rattle.flat_memory.specs.declared.protection.Protection.{Protection}
-use Rattle.flat_memory.specs.Protections.{is_writable}
-use Rattle.x64_instr.specs.declared.register.Reg.TheVariants.{Rsp}
-use Rattle.x64_instr.specs.declared.instruction.Instr.{Instr}
-use Rattle.x64_machine.specs.declared.cpu.Flags.{Flags}
-use Rattle.x64_machine.specs.Effect.{State, register}
-use Rattle.linear_code.specs.declared.slot.Slot.{Slot}
-use Rattle.linear_code.specs.declared.slot.Slot.TheVariants.{Local, Temporary}
+use Rattle.match_turns.specs.Words.{STACK_START, STACK_END, number_at, may_write, Protection, is_writable, Rsp, Instr, Flags, State, register, Slot, Local, Temporary, IsSlot, BodyState, Layout, sizes, spelled, keep, IsNear, return_at, begin_call, call_code, passing_code, MachineView, machine, sp_of, with_four, pushed, HasBelow, InRegisters, slot_at, IsBytes, Agrees, HasCode, Reaches, FramePlace, counts_of, LARGEST_FRAME, Setting}
 use Rattle.linear_code.specs.declared.instruction.Instruction.TheVariants as instructions
-use Rattle.linear_code.specs.Meaning.{IsSlot}
-use Rattle.linear_code.specs.BodyState.{BodyState}
-use Rattle.template_code.specs.declared.layout.Layout.{Layout}
-use Rattle.template_code.specs.Bytes.{sizes, spelled}
-use Rattle.template_code.specs.Slots.{keep}
-use Rattle.template_code.specs.Jumps.{IsNear}
-use Rattle.template_code.specs.Calls.{return_at, begin_call, call_code, passing_code}
-use Rattle.x64_templates.specs.Straight.{MachineView, machine}
-use Rattle.x64_templates.specs.CallStates.{sp_of, with_four, pushed, HasBelow}
-use Rattle.x64_templates.specs.EntryStates.{InRegisters}
-use Rattle.x64_templates.specs.Frames.{slot_at, IsBytes, Agrees}
 use Rattle.x64_templates.specs.Returned.{CallBegun}
-use Rattle.x64_templates.specs.Runs.{HasCode, Reaches, FramePlace}
 use Rattle.x64_templates.proofs.PlacedCode.{bytes_kept, reaches_then, same_number}
 use Rattle.x64_templates.proofs.Computes.{Reached, code_split, runs_view}
 use Rattle.x64_templates.proofs.Calls.{call_begins}
 use Rattle.x64_templates.proofs.Passing.{passed_in_registers}
 use Rattle.x64_templates.proofs.Entries.{beside, pushed_agrees, pushed_bytes}
-use Rattle.match_bodies.specs.BodyViews.{counts_of}
 use Rattle.match_bodies.proofs.SlotPlaces.{KeepsSlot, stack_is_reserved}
 use Rattle.match_bodies.proofs.BodyViews.{AsFunction, AsFunclet, kind, placed, sp_low, frame_top, room_here, holds_here}
 use Rattle.match_bodies.proofs.TemplateRuns.{v, base, frame, slots, same_state, template_here, has_slots, sp_is}
 use Rattle.match_turns.proofs.CallStackArguments.{HasOutgoing, AllPassed, passes, passing_fine}
-use Rattle.template_code.specs.declared.layout.TheConstants.{LARGEST_FRAME}
 use Rattle.match_turns.proofs.AtCall.{AtCall}
-use Rattle.match_bodies.specs.Setting.{Setting}
 
 same_slot : (x z : ℕ) → Some x ≡ Some z → x ≡ z
 same_slot x z e = cc

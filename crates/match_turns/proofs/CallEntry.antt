@@ -5,47 +5,19 @@ use Rattle.std.specs.Prelude.{nat_lt, slice_get, drop}
 use Rattle.std.proofs.lemmas.Bool.{cases_lt, lt-ltb}
 use Rattle.std.proofs.lemmas.Option.{slice_get_within}
 use Rattle.std.proofs.lemmas.List.{append-nil, length-drop, length-take}
-use Rattle.host_layout.specs.declared.range.TheConstants.{STACK_START, STACK_END}
-use Rattle.flat_memory.specs.Memory.{Memory, may_write, number_at}
-use Rattle.flat_memory.specs.declared.protection.Protection.{Protection}
-use Rattle.x64_instr.specs.declared.register.Reg.TheVariants.{Rsp}
-use Rattle.x64_instr.specs.declared.instruction.Instr.{Instr}
-use Rattle.x64_machine.specs.Effect.{State, register}
-use Rattle.virtual_unwind.specs.CallerOf.{distance}
-use Rattle.virtual_unwind.specs.Undone.{word}
-use Rattle.host_model.specs.Funclets.{arrivals}
-use Rattle.linear_code.specs.declared.slot.Slot.TheVariants.{Temporary}
+use Rattle.match_turns.specs.Words.{STACK_START, STACK_END, Memory, may_write, number_at, Protection, Rsp, Instr, State, register, distance, word, arrivals, Temporary, LinearBody, FunctionBody, body_of, Waits, Configuration, instruction_in, waiting, Layout, sizes, put_back, keep, temporary_at, IsNear, call, return_at, arguments_code, passing_code, parameters_code, context_below, home_end, HoldsWords, return_of, ReturnsTo, On, AllKeep, Comes, AreSmall, function_arguments, FindsReturn, IsLayoutIf, turns_left, slots_end, KeepsStackBut, begun, LARGEST_FRAME, Setting, IsMachineMemory, IsResumed, RepresentsAt}
 use Rattle.linear_code.specs.declared.instruction.Instruction.TheVariants as instructions
-use Rattle.linear_code.specs.Program.{LinearBody}
-use Rattle.linear_machine.specs.Frames.{FunctionBody, body_of, Waits, Configuration}
-use Rattle.linear_machine.specs.Run.{instruction_in}
-use Rattle.linear_machine.specs.Instructions.{waiting}
-use Rattle.template_code.specs.declared.layout.Layout.{Layout}
-use Rattle.template_code.specs.Bytes.{sizes}
-use Rattle.template_code.specs.Slots.{put_back, keep, temporary_at}
-use Rattle.template_code.specs.Jumps.{IsNear, call}
-use Rattle.template_code.specs.Calls.{return_at, arguments_code, passing_code, passing_call_code, parameters_code}
+use Rattle.template_code.specs.Calls.{passing_call_code}
 use Rattle.template_code.proofs.Sizes.{sizes_append, call_size}
 use Rattle.x64_templates.proofs.PlacedCode.{same_number}
 use Rattle.x64_templates.proofs.Entries.{pushed_back}
-use Rattle.match_stack.specs.WalkLaws.{context_below}
-use Rattle.match_stack.specs.ItemMatches.{home_end, HoldsWords, return_of, ReturnsTo}
-use Rattle.match_stack.specs.StackRecords.{On}
-use Rattle.match_runs.specs.Shadow.{AllKeep}
-use Rattle.match_runs.specs.Comes.{Comes}
 use Rattle.match_runs.proofs.Turns.{comes_then}
-use Rattle.lowering_invariants.specs.SmallNumbers.{AreSmall}
 use Rattle.match_bodies.specs.CodeSites as sites
-use Rattle.match_bodies.specs.CodeSites.{function_arguments}
-use Rattle.match_bodies.specs.Callers.{FindsReturn}
 use Rattle.match_bodies.proofs.InstructionEffects.{others_of}
 use Rattle.match_bodies.proofs.RoutineWalks.{StepsTo, reaches_steps, enters_steps, AllPlain}
 use Rattle.match_bodies.proofs.EntryKeeping.{plain_both, arguments_plain, passing_plain, parameters_plain, entry_ran}
 use Rattle.match_bodies.proofs.CallKeeping.{calls_keep, CalleeBegins, callee_begins as callee_entered}
-use Rattle.match_bodies.specs.Layouts.{IsLayoutIf}
-use Rattle.match_bodies.specs.Bodies.{turns_left, slots_end}
 use Rattle.match_bodies.proofs.SilentTurns.{reaches_silently, enters_silently, program_reaches}
-use Rattle.match_bodies.specs.SlotStores.{KeepsStackBut}
 use Rattle.match_bodies.proofs.ActivationPlaces.{locals_count}
 use Rattle.match_bodies.proofs.ProgramKeeping.{KeepsImage}
 use Rattle.match_bodies.proofs.MemoryKeeping.{memory_stays}
@@ -53,7 +25,6 @@ use Rattle.match_bodies.proofs.ChainKeeping.{Keeps, keeps_then, enters_keeps, st
 use Rattle.match_bodies.proofs.SlotPlaces.{stack_is_reserved}
 use Rattle.match_bodies.proofs.BodyViews.{room_here, slots_here}
 use Rattle.match_bodies.proofs.StackWords.{may_read_written, word_of}
-use Rattle.match_turns.specs.CallOutcome.{begun}
 use Rattle.match_turns.proofs.ReturnAddressPlace.{top_of, begins_beneath}
 use Rattle.match_turns.proofs.FunctionFrame.{function_begins}
 use Rattle.match_turns.proofs.CallWaitingCaller as awaiting
@@ -61,9 +32,7 @@ use Rattle.match_turns.proofs.CallArguments as calling
 use Rattle.match_turns.proofs.FunctionParameters as entering
 use Rattle.match_turns.proofs.FunctionLocals.{words_at, words_count, words_small, arguments_then_words}
 use Rattle.match_turns.proofs.FunctionEntry as entries
-use Rattle.template_code.specs.declared.layout.TheConstants.{LARGEST_FRAME}
 use Rattle.match_turns.proofs.AtCall.{AtCall}
-use Rattle.match_bodies.specs.Setting.{Setting, IsMachineMemory, IsResumed, RepresentsAt}
 use Rattle.match_turns.proofs.CallActs.{passed_in, got_past}
 
 module _ {setting : Setting} (at_call : AtCall setting) where

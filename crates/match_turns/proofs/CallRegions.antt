@@ -2,16 +2,8 @@
 use Rattle.std.proofs.Common.{◌≡◌, ℕ, ◌+◌, Bool, true, false, cond, List, [], ◌∷◌, drop, filter, Some, refl, sym, ap, subst, ◌∙◌}
 use Rattle.std.specs.Prelude.{slice_get}
 use Rattle.std.specs.List.{AllByRecursion}
-use Rattle.virtual_unwind.specs.CallerOf.{Functions}
-use Rattle.host_model.specs.declared.funclet.Funclet.{Funclet}
-use Rattle.linear_code.specs.declared.instruction.Instruction.{Instruction}
-use Rattle.linear_code.specs.declared.program.Region.{Region}
-use Rattle.linear_code.specs.Program.{LinearProgram, LinearBody}
-use Rattle.linear_machine.specs.Frames.{BodyName, body_of}
-use Rattle.linear_machine.specs.Regions.{holds, regions_of}
-use Rattle.lowering_invariants.specs.ReturnRegions.{is_call, AllReturnsStayInRegions}
-use Rattle.match_stack.specs.ImagePlan.{ImagePlan}
-use Rattle.match_stack.specs.ItemMatches.{SameRegions}
+use Rattle.match_turns.specs.Words.{Functions, Funclet, Instruction, Region, LinearProgram, LinearBody, BodyName, body_of, holds, regions_of, AllReturnsStayInRegions, ImagePlan, SameRegions}
+use Rattle.lowering_invariants.specs.ReturnRegions.{is_call}
 
 module _ {A : Type 0} (f g : A → Bool) where
   abbrev passed : (A → Bool) → A → List A → Bool → List A

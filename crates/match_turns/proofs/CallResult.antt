@@ -4,46 +4,15 @@ use Rattle.std.proofs.Common.{◌≡◌, ℕ, zero, suc, ◌+◌, ◌^◌, ◌<�
 use Rattle.std.specs.Prelude.{◌⊎◌, slice_get, slice_index}
 use Rattle.std.proofs.lemmas.Bool.{eq-eqb, ne_eqb}
 use Rattle.std.proofs.lemmas.Option.{slice_get_within}
-use Rattle.seh_num.specs.declared.event.Event.{Event}
-use Rattle.flat_memory.specs.Memory.{Memory}
-use Rattle.x64_instr.specs.declared.register.Reg.TheVariants.{Rax, Rsp}
-use Rattle.x64_instr.specs.declared.instruction.Instr.{Instr}
-use Rattle.x64_machine.specs.declared.context.Context.{Context}
-use Rattle.x64_machine.specs.Effect.{State, register}
-use Rattle.virtual_unwind.specs.Contexts.{rsp}
-use Rattle.virtual_unwind.specs.CallerOf.{Functions, distance}
-use Rattle.host_model.specs.declared.funclet.Funclet.{Funclet}
-use Rattle.host_model.specs.Funclets.{arrivals}
-use Rattle.linear_code.specs.declared.slot.Slot.TheVariants.{Temporary}
-use Rattle.linear_code.specs.declared.instruction.Instruction.{Instruction}
-use Rattle.linear_code.specs.BodyState.{BodyState, with_slot}
-use Rattle.linear_code.specs.Program.{LinearProgram, LinearBody}
-use Rattle.linear_machine.specs.Frames.{BodyName, FuncletBody, body_of, Frame, Item, Waits, Configuration}
-use Rattle.template_code.specs.declared.layout.Layout.{Layout}
-use Rattle.template_code.specs.Bytes.{sizes}
-use Rattle.template_code.specs.Slots.{keep}
-use Rattle.template_code.specs.Template.{template, body_size, offset_of}
+use Rattle.match_turns.specs.Words.{Event, Memory, Rax, Rsp, Instr, Context, State, register, rsp, Functions, distance, Funclet, arrivals, Temporary, Instruction, BodyState, with_slot, LinearProgram, LinearBody, BodyName, FuncletBody, body_of, Frame, Item, Waits, Configuration, Layout, sizes, keep, template, body_size, offset_of, machine, HasCode, Reaches, ReachesBody, StackItem, ImagePlan, Activation, locals_of, On, on_top, IsWellFormed, AllKeep, HaveRoom, Sites, links_of, seen_by_templates, counts_of, OwnerHasFrame, with_values, Setting, IsMachineMemory}
 use Rattle.template_code.proofs.Sizes.{sizes_append, template_sizes}
-use Rattle.x64_templates.specs.Straight.{machine}
-use Rattle.x64_templates.specs.Runs.{HasCode, Reaches, ReachesBody}
 use Rattle.x64_templates.proofs.Computes.{code_split}
 use Rattle.x64_templates.specs.Epilogues.{IsReturn}
 use Rattle.x64_templates.proofs.Returns.{call_ends}
 use Rattle.x64_templates.proofs.Flows.{keep_flow}
-use Rattle.match_stack.specs.Stack.{StackItem}
-use Rattle.match_stack.specs.ImagePlan.{ImagePlan}
-use Rattle.match_stack.specs.ItemMatches.{Activation, locals_of}
-use Rattle.match_stack.specs.StackRecords.{On}
-use Rattle.match_stack.specs.HostUnwind.{on_top}
-use Rattle.match_stack.specs.DispatchStates.{IsWellFormed}
-use Rattle.match_runs.specs.Shadow.{AllKeep}
-use Rattle.lowering_invariants.specs.Room.{HaveRoom}
-use Rattle.match_bodies.specs.CodeSites.{Sites, links_of}
 use Rattle.match_bodies.specs.Bodies.{RepresentsAt}
 use Rattle.match_bodies.proofs.TemplateSizes.{first_in_code}
 use Rattle.match_bodies.proofs.BodyResumption.{again, waits_in_body}
-use Rattle.match_bodies.specs.BodyViews.{seen_by_templates, counts_of}
-use Rattle.match_bodies.specs.SlotStores.{OwnerHasFrame, with_values}
 use Rattle.match_bodies.proofs.ActivationPlaces.{locals_count}
 use Rattle.match_bodies.proofs.ActivationStores.{same_activations}
 use Rattle.match_bodies.proofs.HomeSpace.{CallerHasFrame}
@@ -53,7 +22,6 @@ use Rattle.match_bodies.proofs.TemplateSlots.{Leaves}
 use Rattle.match_bodies.proofs.NextInstruction.{Ran, represents_next}
 use Rattle.match_bodies.proofs.TemplateShadows.{kept_by_rest, is_here, is_after, ends_at, RunsKeep, one_piece}
 use Rattle.match_bodies.proofs.TemplateRuns.{code, y, v, frame, slots, template_here, next_address, sp_is, silent_at, dropped, Surroundings}
-use Rattle.match_bodies.specs.Setting.{Setting, IsMachineMemory}
 
 -- an instruction of a body begins within it
 pub offset_most : (y : Layout) (body : List Instruction) (number : ℕ)

@@ -2,37 +2,13 @@
 -- and the next instruction begins.
 use Rattle.std.proofs.Common.{◌≡◌, ℕ, ◌+◌, ◌-◌, ◌<◌, Some, None, List, [], ◌∷◌, ◌++◌, length, sym, arith, append_assoc}
 use Rattle.std.specs.Prelude.{slice_get}
-use Rattle.seh_num.specs.declared.event.Event.{Event}
-use Rattle.flat_memory.specs.Memory.{Memory}
-use Rattle.x64_instr.specs.declared.register.Reg.TheVariants.{Rax, Rsp}
-use Rattle.x64_instr.specs.declared.instruction.Instr.{Instr}
-use Rattle.x64_machine.specs.declared.context.Context.{Context}
-use Rattle.x64_machine.specs.Effect.{State, register}
-use Rattle.virtual_unwind.specs.Contexts.{rsp}
-use Rattle.linear_code.specs.declared.slot.Slot.TheVariants.{Temporary}
+use Rattle.match_turns.specs.Words.{Event, Memory, Rax, Rsp, Instr, Context, State, register, rsp, Temporary, HasSlots, LinearBody, body_of, Frame, Item, Waits, Layout, sizes, keep, call, arguments_code, return_at, begin_call, passing_code, template_size, StackItem, Activation, On, on_top, IsWellFormed, HaveRoom, counts_of, Setting, IsMachineMemory}
 use Rattle.linear_code.specs.declared.instruction.Instruction.TheVariants as instructions
-use Rattle.linear_code.specs.Meaning.{HasSlots}
-use Rattle.linear_code.specs.Program.{LinearBody}
-use Rattle.linear_machine.specs.Frames.{body_of, Frame, Item, Waits}
-use Rattle.template_code.specs.declared.layout.Layout.{Layout}
-use Rattle.template_code.specs.Bytes.{sizes}
-use Rattle.template_code.specs.Slots.{keep}
-use Rattle.template_code.specs.Jumps.{call}
-use Rattle.template_code.specs.Calls.{arguments_code, return_at, begin_call, passing_code}
-use Rattle.template_code.specs.Template.{template_size}
 use Rattle.template_code.proofs.Sizes.{sizes_append, call_size, passing_call_size}
-use Rattle.match_stack.specs.Stack.{StackItem}
-use Rattle.match_stack.specs.ItemMatches.{Activation}
-use Rattle.match_stack.specs.StackRecords.{On}
-use Rattle.match_stack.specs.HostUnwind.{on_top}
-use Rattle.match_stack.specs.DispatchStates.{IsWellFormed}
-use Rattle.lowering_invariants.specs.Room.{HaveRoom}
-use Rattle.match_bodies.specs.BodyViews.{counts_of}
 use Rattle.match_bodies.proofs.BodyViews.{IsCounted}
 use Rattle.match_bodies.proofs.TemplateRuns.{each}
 use Rattle.match_turns.proofs.CallResult.{IsSurrounded, answered}
 use Rattle.match_turns.proofs.CallResult as kept
-use Rattle.match_bodies.specs.Setting.{Setting, IsMachineMemory}
 
 -- where a call that passes arguments on the stack returns to
 abbrev pub returns_at : Layout → (first count at : ℕ) → ℕ

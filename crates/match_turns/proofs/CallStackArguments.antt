@@ -3,21 +3,11 @@
 use Rattle.std.proofs.Common.{◌≡◌, ℕ, zero, suc, ◌+◌, ◌*◌, ◌%◌, ◌^◌, ◌<◌, ◌≤◌, true, false, Option, Some, None, [], ◌∷◌, refl, sym, ap, subst, ◌∙◌, arith, inl, inr}
 use Rattle.std.specs.Prelude.{◌⊎◌}
 use Rattle.std.proofs.lemmas.Bool.{cases_eq, cases_lt}
-use Rattle.flat_memory.specs.Memory.{Memory, may_write, number_at, with_number, with_bytes}
-use Rattle.flat_memory.specs.declared.protection.Protection.{Protection}
-use Rattle.flat_memory.specs.Protections.{is_writable}
+use Rattle.match_turns.specs.Words.{Memory, may_write, number_at, with_number, with_bytes, Protection, is_writable, Rax, Rsp, Slot, Temporary, BodyState, temporary_at, keep_register, passing_code, MachineView, Executes, sp_of, slot_at, IsBytes, MemoryKeepsBase, FramePlace, Roomy, FrameHolds}
 use Rattle.flat_memory.proofs.Stores.{untouched, stored_is_loaded}
 use Rattle.x64_templates.proofs.Accesses.{digits}
-use Rattle.x64_instr.specs.declared.register.Reg.TheVariants.{Rax, Rsp}
-use Rattle.linear_code.specs.declared.slot.Slot.{Slot}
-use Rattle.linear_code.specs.declared.slot.Slot.TheVariants.{Temporary}
-use Rattle.linear_code.specs.BodyState.{BodyState}
-use Rattle.template_code.specs.Slots.{fetched, temporary_at}
-use Rattle.template_code.specs.Calls.{keep_register, passing_code}
-use Rattle.x64_templates.specs.Straight.{MachineView, Executes}
-use Rattle.x64_templates.specs.CallStates.{sp_of}
-use Rattle.x64_templates.specs.Frames.{slot_at, IsBytes, MemoryKeepsBase}
-use Rattle.x64_templates.specs.Runs.{FramePlace, Roomy, FrameHolds, IsThere}
+use Rattle.template_code.specs.Slots.{fetched}
+use Rattle.x64_templates.specs.Runs.{IsThere}
 use Rattle.x64_templates.proofs.PlacedCode.{all_may, same_number}
 use Rattle.x64_templates.proofs.Straight.{executes_then, executes_nothing}
 use Rattle.x64_templates.proofs.Cells.{put, slot_high, fetch_does}

@@ -2,29 +2,14 @@
 use Rattle.std.proofs.Common.{◌≡◌, ℕ, ◌+◌, ◌-◌, ◌<◌, ◌≤◌, Bool, true, false, Some, List, [], ◌∷◌, length, refl, sym, ap, subst, ◌∙◌, arith, inl, inr}
 use Rattle.std.specs.Prelude.{◌⊎◌, nat_lt, slice_get, get_or, drop}
 use Rattle.std.proofs.lemmas.Option.{slice_get_within, slice_get-get_or}
-use Rattle.x64_machine.specs.Effect.{State}
-use Rattle.source_meaning.specs.declared.ended.Ended.TheVariants.{Deep}
-use Rattle.linear_code.specs.declared.slot.Slot.{Slot}
-use Rattle.linear_code.specs.declared.slot.Slot.TheVariants.{Local, Temporary}
-use Rattle.linear_code.specs.declared.instruction.Instruction.{Instruction}
+use Rattle.match_turns.specs.Words.{State, Deep, Slot, Local, Temporary, Instruction, LinearBody, FunctionBody, FuncletBody, body_of, function_body, Item, Waits, Searches, Unwinds, Frame, Configuration, Next, Finished, pick, read, local_of, waiting, begin_function, instruction_at, Activation, IsMatched, function_of, IsInstructionOf, IsHeld, AreWaiting, with_own, owners_of, IsFuncletPlan, turns_left, IsWellMade, IsKnown, KnownNext, turns_per_step, OwnerHasFrame, Setting, setting_of, RepresentsAt}
 use Rattle.linear_code.specs.declared.instruction.Instruction.TheVariants as instructions
-use Rattle.linear_code.specs.Program.{LinearBody}
-use Rattle.linear_machine.specs.Frames.{FunctionBody, FuncletBody, body_of, function_body, Item, Waits, Searches, Unwinds, Frame, Configuration, Next, Finished, pick, read, local_of}
-use Rattle.linear_machine.specs.Instructions.{waiting, begin_function}
-use Rattle.linear_machine.specs.Run.{instruction_at}
-use Rattle.match_stack.specs.ItemMatches.{Activation}
-use Rattle.match_runs.specs.Matched.{Fails, IsMatched}
+use Rattle.match_runs.specs.Matched.{Fails}
 use Rattle.match_runs.proofs.Matches.{fails_at_once}
-use Rattle.lowering_invariants.specs.Bodies.{function_of, IsCallee, IsInstructionOf}
-use Rattle.lowering_invariants.specs.Ready.{IsHeld}
+use Rattle.lowering_invariants.specs.Bodies.{IsCallee}
 use Rattle.lowering_invariants.specs.Room.{PassesWell}
-use Rattle.lowering_invariants.specs.Waiting.{MayWait, IsCalledBy, IsAbove, AreWaiting}
-use Rattle.lowering_invariants.specs.Activations.{with_own, owners_of, WorksOn}
-use Rattle.match_bodies.specs.Layouts.{IsFuncletPlan}
-use Rattle.match_bodies.specs.Bodies.{turns_left}
-use Rattle.match_bodies.specs.ConfigurationFacts.{IsWellMade, IsKnown, KnownNext}
-use Rattle.match_bodies.specs.StepLaws.{turns_per_step}
-use Rattle.match_bodies.specs.SlotStores.{OwnerHasFrame}
+use Rattle.lowering_invariants.specs.Waiting.{MayWait, IsCalledBy, IsAbove}
+use Rattle.lowering_invariants.specs.Activations.{WorksOn}
 use Rattle.match_bodies.proofs.ActivationPlaces.{locals_count}
 use Rattle.match_bodies.proofs.StepNeeds.{some_is, label_in, body_there, owned_count, leaf_or_funclet, owner_waits, counted_here, code_at, ready_here}
 use Rattle.match_bodies.proofs.TemplateRuns.{each}
@@ -35,7 +20,6 @@ use Rattle.match_turns.proofs.FunctionReturn as returning
 use Rattle.match_turns.proofs.CallActs.{call_acts}
 use Rattle.match_turns.proofs.CallEntry as called
 use Rattle.match_turns.proofs.AtCall.{AtCall}
-use Rattle.match_bodies.specs.Setting.{Setting, setting_of, RepresentsAt}
 use Rattle.match_turns.specs.SettingOutcome.{CallBegins}
 
 module _ (setting : Setting) (made : IsWellMade setting.program setting.plan) where

@@ -3,34 +3,13 @@
 use Rattle.std.proofs.Common.{◌≡◌, ℕ, zero, suc, ◌+◌, ◌-◌, ◌*◌, ◌^◌, ◌<◌, ◌≤◌, false, Option, Some, None, List, [], ◌∷◌, ◌++◌, length, refl, sym, subst, ◌∙◌, arith}
 use Rattle.std.specs.Prelude.{slice_get, take}
 use Rattle.std.proofs.lemmas.List.{append_assoc}
-use Rattle.host_layout.specs.declared.range.TheConstants.{IMAGE_BASE, IMAGE_RANGE_END}
-use Rattle.flat_memory.specs.Memory.{Memory}
-use Rattle.x64_instr.specs.declared.register.Reg.TheVariants.{Rsp}
-use Rattle.x64_instr.specs.declared.instruction.Instr.{Instr}
-use Rattle.x64_machine.specs.Contexts.{context_of}
-use Rattle.x64_machine.specs.Effect.{State, register}
-use Rattle.linear_code.specs.declared.slot.Slot.TheVariants.{Temporary}
+use Rattle.match_turns.specs.Words.{IMAGE_BASE, IMAGE_RANGE_END, Memory, Rsp, Instr, context_of, State, register, Temporary, LinearBody, LinearFunclet, BodyName, FunctionBody, FuncletBody, body_of, Item, Waits, Searches, Unwinds, waiting, regions_of, Layout, sizes, put_back, keep, temporary_at, call, arguments_code, return_at, begin_call, passing_code, template_size, StackItem, context_below, HoldsWords, IsAbove, FuncletIsAbove, IsData, On, KeepsStackBut, Setting, InBody, IsResumed}
 use Rattle.linear_code.specs.declared.instruction.Instruction.TheVariants as instructions
-use Rattle.linear_code.specs.Program.{LinearBody, LinearFunclet}
-use Rattle.linear_machine.specs.Frames.{BodyName, FunctionBody, FuncletBody, body_of, Item, Waits, Searches, Unwinds}
-use Rattle.linear_machine.specs.Instructions.{waiting}
-use Rattle.linear_machine.specs.Regions.{regions_of}
-use Rattle.template_code.specs.declared.layout.Layout.{Layout}
-use Rattle.template_code.specs.Bytes.{sizes}
-use Rattle.template_code.specs.Slots.{put_back, keep, temporary_at}
-use Rattle.template_code.specs.Jumps.{call}
-use Rattle.template_code.specs.Calls.{arguments_code, return_at, begin_call, passing_code}
-use Rattle.template_code.specs.Template.{template_size}
 use Rattle.template_code.proofs.Sizes.{sizes_append, call_size}
-use Rattle.match_stack.specs.Stack.{StackItem}
-use Rattle.match_stack.specs.WalkLaws.{context_below}
-use Rattle.match_stack.specs.ItemMatches.{HoldsWords, IsAbove, FuncletIsAbove}
 use Rattle.match_stack.specs.ListLaws.{IsLinkedStack}
-use Rattle.match_stack.specs.StackRecords.{IsData, On}
 use Rattle.match_bodies.proofs.TemplateSizes.{template_some}
 use Rattle.match_bodies.proofs.StackContexts.{on_moved}
 use Rattle.match_bodies.proofs.StackTop.{body_on_top}
-use Rattle.match_bodies.specs.SlotStores.{KeepsStackBut}
 use Rattle.match_bodies.proofs.BodyViews.{sp_low}
 use Rattle.match_bodies.proofs.TemplateRuns.{next_address}
 use Rattle.match_turns.proofs.CallResult.{offset_most}
@@ -38,7 +17,6 @@ use Rattle.match_turns.proofs.CallReturn.{returns_at, call_template}
 use Rattle.match_turns.proofs.FunctionFrame.{same_itself}
 use Rattle.match_bodies.proofs.ArgumentSpace.{outgoing_is_free}
 use Rattle.match_turns.proofs.AtCall.{AtCall}
-use Rattle.match_bodies.specs.Setting.{Setting, InBody, IsResumed}
 
 kept_some : (y : Layout) (first : ℕ) → 1 ≤ sizes (keep y (Temporary first))
 unfolding template_size

@@ -2,22 +2,9 @@
 use Rattle.std.proofs.Common.{◌≡◌, ℕ, ◌<◌, ◌≤◌, true, false, List, refl, sym, ap, ◌∙◌, arith, inl, inr}
 use Rattle.std.specs.Prelude.{◌⊎◌, nat_le, nat_lt}
 use Rattle.std.proofs.lemmas.Bool.{cases_lt, le-leb, lt-ltb}
-use Rattle.host_layout.specs.declared.range.TheConstants.{STACK_START, STACK_END}
-use Rattle.flat_memory.specs.declared.protection.Protection.{Protection}
-use Rattle.flat_memory.specs.Protections.{is_writable}
-use Rattle.flat_memory.specs.Memory.{Memory, may_write}
-use Rattle.virtual_unwind.specs.CallerOf.{Functions}
-use Rattle.seh_records.specs.declared.dispatch.DispatchRecord.{DispatchRecord}
-use Rattle.seh_records.specs.Record.{placed}
+use Rattle.match_turns.specs.Words.{STACK_START, STACK_END, Protection, is_writable, Memory, may_write, Functions, DispatchRecord, placed, Funclet, is_reserved, LinearProgram, Agrees, ImagePlan, IsData, RecordHasRoom, IsUntouched, Sites}
 use Rattle.seh_records.proofs.Placed.{placing_leaves_others}
-use Rattle.host_model.specs.declared.funclet.Funclet.{Funclet}
-use Rattle.source_meaning.specs.Source.{is_reserved}
-use Rattle.linear_code.specs.Program.{LinearProgram}
-use Rattle.x64_templates.specs.Frames.{Agrees}
-use Rattle.match_stack.specs.ImagePlan.{ImagePlan}
-use Rattle.match_stack.specs.StackRecords.{IsData, RecordHasRoom, IsUntouched}
 use Rattle.match_stack.proofs.RecordMemory.{place_of, placed_keeps_above}
-use Rattle.match_bodies.specs.CodeSites.{Sites}
 use Rattle.match_bodies.specs.ProgramImages.{IsMachineMemory}
 use Rattle.match_bodies.proofs.SilentTurns.{KeepsCode, program_kept}
 

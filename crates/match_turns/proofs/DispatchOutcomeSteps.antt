@@ -2,31 +2,13 @@
 use Rattle.std.proofs.Common.{◌≡◌, ℕ, ◌+◌, ◌≤◌, Bool, true, false, List, [], ◌∷◌, ◌++◌, length, refl, ap, ◌∙◌, arith, inl, inr, append_assoc}
 use Rattle.std.specs.Prelude.{nat_lt}
 use Rattle.std.proofs.lemmas.List.{append-nil}
-use Rattle.seh_num.specs.declared.event.Event.{Event}
+use Rattle.match_turns.specs.Words.{Event, Context, State, Functions, Funclet, Turn, Continues, with_event, arrived, turn, Deep, Instruction, LinearProgram, Configuration, Seen, Finished, Next, pick, act, ImagePlan, KeepsShadow, IsLive, Comes, LeadsTo, IsMatched, Sites, turns_left, KnownNext, entry_turns, KeepsWith}
 use Rattle.seh_num.specs.declared.end.RunEnd.TheVariants as ends
-use Rattle.x64_machine.specs.declared.context.Context.{Context}
-use Rattle.x64_machine.specs.Effect.{State}
-use Rattle.virtual_unwind.specs.CallerOf.{Functions}
-use Rattle.host_model.specs.declared.funclet.Funclet.{Funclet}
-use Rattle.host_model.specs.Turns.{Turn, Continues, Ends, with_event}
-use Rattle.host_model.specs.Funclets.{arrived}
-use Rattle.host_model.specs.HostStep.{turn}
-use Rattle.source_meaning.specs.declared.ended.Ended.TheVariants.{Deep}
-use Rattle.linear_code.specs.declared.instruction.Instruction.{Instruction}
-use Rattle.linear_code.specs.Program.{LinearProgram}
-use Rattle.linear_machine.specs.Frames.{Configuration, Seen, Finished, Next, pick}
-use Rattle.linear_machine.specs.Instructions.{act}
-use Rattle.match_stack.specs.ImagePlan.{ImagePlan}
-use Rattle.match_runs.specs.Shadow.{KeepsShadow}
-use Rattle.match_runs.specs.Comes.{IsLive, Comes, LeadsTo}
-use Rattle.match_runs.specs.Matched.{IsMatched}
+use Rattle.host_model.specs.Turns.{Ends}
 use Rattle.match_runs.proofs.Turns.{comes_one}
 use Rattle.match_runs.proofs.Matches.{silently_before, silently_after}
-use Rattle.match_bodies.specs.CodeSites.{Sites}
-use Rattle.match_bodies.specs.Bodies.{turns_left, RepresentsAt}
-use Rattle.match_bodies.specs.ConfigurationFacts.{KnownNext}
-use Rattle.match_turns.specs.FuncletEntry.{entry_turns}
-use Rattle.match_turns.specs.DispatchOutcome.{with_events, Represents, ContinuesAs, EntersFunclet, EndsRun, Outcome, KeepsWith}
+use Rattle.match_bodies.specs.Bodies.{RepresentsAt}
+use Rattle.match_turns.specs.DispatchOutcome.{with_events, Represents, ContinuesAs, EntersFunclet, EndsRun, Outcome}
 
 -- an event that is shown first
 pub arrived_with : (t : Functions) (fs : List Funclet) (e : Event) (x : Turn)

@@ -1,55 +1,20 @@
 -- At the host's return addresses: a filter has answered, a `__finally` block has ended.
 use Rattle.std.proofs.Common.{◌≡◌, ℕ, zero, ◌+◌, ◌*◌, ◌≤◌, Bool, true, List, [], ◌∷◌, ◌++◌, Option, Some, None, refl, sym, ap, subst, ◌∙◌, arith, inl, inr, append_assoc, length-append}
 use Rattle.std.proofs.lemmas.List.{append-nil}
-use Rattle.seh_num.specs.declared.width.Width.TheVariants.{W32}
-use Rattle.seh_num.specs.declared.event.Event.{Event}
+use Rattle.match_turns.specs.Words.{W32, Event, signed, Rsp, Context, context_of, State, register, rsp, distance, DispatchRecord, placed, fetched, Turn, Continues, with_event, arrivals, arrived, accepted, searches_on, unwinds_on, finally_returned, Exception, noncontinuable, raise_event, Region, Handler, Target, Resumption, AfterCall, SameOperation, Waits, Unwinds, Item, Frame, Store, Seen, Next, Configuration, handlers, search, accept, resumed, unwind, end_finally, exec, StackItem, Unwinding, Activation, locals_of, On, RecordHasRoom, store_of, IsWellFormed, Unwound, placed_in, SearchIsAnswered, filter_turn, linear_answer, HasRule, WalkGives, callers, held_below, turns_left, FlagsFit, NoneLanded, Setting, IsMachineMemory, Continuations, Outcome, Shows}
 use Rattle.seh_num.specs.declared.event.Event.TheVariants as events
-use Rattle.seh_num.specs.Widths.{signed}
-use Rattle.x64_instr.specs.declared.register.Reg.TheVariants.{Rsp}
-use Rattle.x64_machine.specs.declared.context.Context.{Context}
-use Rattle.x64_machine.specs.Contexts.{context_of}
-use Rattle.x64_machine.specs.Effect.{State, register}
-use Rattle.virtual_unwind.specs.Contexts.{rsp}
-use Rattle.virtual_unwind.specs.CallerOf.{distance}
-use Rattle.seh_records.specs.declared.dispatch.DispatchRecord.{DispatchRecord}
-use Rattle.seh_records.specs.Record.{placed, fetched}
-use Rattle.host_model.specs.Turns.{Turn, Continues, with_event}
-use Rattle.host_model.specs.Funclets.{arrivals, arrived}
-use Rattle.host_model.specs.Dispatch.{eax, again, accepted, restored, searches_on, unwinds_on, finally_returned, if_unwinding}
-use Rattle.source_meaning.specs.State.{Exception}
-use Rattle.source_meaning.specs.Raises.{noncontinuable, raise_event}
-use Rattle.linear_code.specs.declared.program.Region.{Region}
-use Rattle.linear_machine.specs.Frames.{Handler, Target, Resumption, AfterCall, SameOperation, Waits, Unwinds, Item, Frame, Store, Seen, Next, Configuration}
-use Rattle.linear_machine.specs.Regions.{handlers}
-use Rattle.linear_machine.specs.Searching.{search, accept, resumed}
-use Rattle.linear_machine.specs.Unwinding.{unwind}
-use Rattle.linear_machine.specs.Instructions.{end_finally}
-use Rattle.linear_machine.specs.Run.{exec}
-use Rattle.match_stack.specs.Stack.{StackItem, Unwinding}
-use Rattle.match_stack.specs.ItemMatches.{Activation, locals_of}
+use Rattle.host_model.specs.Dispatch.{eax, again, restored, if_unwinding}
 use Rattle.match_stack.proofs.ListEnds.{in_stack}
-use Rattle.match_stack.specs.StackRecords.{On, RecordHasRoom}
-use Rattle.match_stack.specs.HostUnwind.{store_of}
-use Rattle.match_stack.specs.DispatchStates.{IsWellFormed}
-use Rattle.match_stack.specs.UnwindOutcomes.{Unwound}
-use Rattle.match_stack.specs.DispatchSteps.{placed_in, SearchIsAnswered, AnswersAs}
-use Rattle.match_stack.specs.FilterReturns.{filter_turn, with_answer, answered, linear_answer, AsksTheNext, AskedTakesOver, ContinuesException, IsRaisedAnew}
+use Rattle.match_stack.specs.DispatchSteps.{AnswersAs}
+use Rattle.match_stack.specs.FilterReturns.{with_answer, answered, AsksTheNext, AskedTakesOver, ContinuesException, IsRaisedAnew}
 use Rattle.match_stack.proofs.DispatchSteps.{answers_continue, finally_returns_unwind}
 use Rattle.match_stack.proofs.FilterAnswers.{filter_returns}
-use Rattle.match_runs.specs.Ends.{HasRule}
-use Rattle.match_runs.specs.Shadow.{WalkGives}
 use Rattle.match_runs.proofs.Shadows.{none_below}
-use Rattle.match_bodies.specs.Callers.{callers}
 use Rattle.match_bodies.proofs.StackWalks.{on_stack, stack_rises}
-use Rattle.match_bodies.specs.Bodies.{held_below, turns_left}
-use Rattle.match_turns.specs.FuncletEntry.{FlagsFit}
-use Rattle.match_turns.specs.DispatchOutcome.{NoneLanded}
 use Rattle.match_turns.proofs.DispatchMemory.{memory_untouched, placing}
 use Rattle.match_turns.proofs.DispatchOutcomeSteps.{arrived_with, with_one, with_two, with_none, outcome_same, outcome_more}
 use Rattle.match_turns.proofs.UnwindTurn.{unwound}
 use Rattle.match_turns.proofs.SearchTurn.{searched, taken_over}
-use Rattle.match_bodies.specs.Setting.{Setting, IsMachineMemory}
-use Rattle.match_turns.specs.SettingOutcome.{Continuations, Outcome, Shows}
 
 module _ (setting : Setting) (fits : FlagsFit setting.program) where
   open setting use {functions as t, funclets as fs, program, plan as p, sites as q, image}

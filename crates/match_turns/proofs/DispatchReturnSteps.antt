@@ -2,40 +2,10 @@
 -- block above an unwinding.
 use Rattle.std.proofs.Common.{◌≡◌, ℕ, zero, ◌+◌, ◌≤◌, List, [], ◌∷◌, ap, subst, arith}
 use Rattle.std.specs.Prelude.{◌==◌}
-use Rattle.x64_instr.specs.declared.register.Reg.TheVariants.{Rsp}
-use Rattle.x64_machine.specs.Contexts.{context_of}
-use Rattle.x64_machine.specs.Effect.{State, register}
-use Rattle.seh_records.specs.declared.dispatch.DispatchRecord.{DispatchRecord}
-use Rattle.seh_records.specs.Record.{fetched}
-use Rattle.seh_walk.specs.Walk.{filter_return, finally_return}
-use Rattle.host_model.specs.Funclets.{arrived}
-use Rattle.host_model.specs.Dispatch.{finally_returned}
-use Rattle.source_meaning.specs.State.{Exception}
-use Rattle.linear_code.specs.declared.instruction.Instruction.{Instruction}
-use Rattle.linear_code.specs.declared.program.Region.{Region}
-use Rattle.linear_machine.specs.Frames.{Frame, Handler, Target, Resumption, Item, Waits, Searches, Unwinds, Configuration, Next}
-use Rattle.linear_machine.specs.Instructions.{act, end_finally}
-use Rattle.linear_machine.specs.Run.{exec}
-use Rattle.match_stack.specs.Stack.{StackItem, Searching, Unwinding}
-use Rattle.match_stack.specs.ItemMatches.{Activation, locals_of}
-use Rattle.match_stack.specs.StackRecords.{On}
-use Rattle.match_stack.specs.DispatchStates.{IsWellFormed}
-use Rattle.match_stack.specs.DispatchSteps.{SearchIsAnswered}
-use Rattle.match_stack.specs.FilterReturns.{filter_turn, linear_answer}
-use Rattle.match_runs.specs.Comes.{IsLive, Comes}
-use Rattle.match_runs.specs.Ends.{HasRule}
-use Rattle.match_runs.specs.Matched.{IsMatched}
-use Rattle.match_bodies.specs.Callers.{callers}
+use Rattle.match_turns.specs.Words.{Rsp, context_of, State, register, DispatchRecord, fetched, filter_return, finally_return, arrived, finally_returned, Exception, Instruction, Region, Frame, Handler, Target, Resumption, Item, Waits, Searches, Unwinds, Configuration, Next, act, end_finally, exec, StackItem, Searching, Unwinding, Activation, locals_of, On, IsWellFormed, SearchIsAnswered, filter_turn, linear_answer, IsLive, Comes, HasRule, IsMatched, callers, held_below, turns_left, KnownNext, FlagsFit, NoneLanded, waiting_below, Setting, IsMachineMemory, Continuations, Represents}
 use Rattle.match_bodies.proofs.StackWalks.{on_stack}
-use Rattle.match_bodies.specs.Bodies.{held_below, turns_left}
-use Rattle.match_bodies.specs.ConfigurationFacts.{KnownNext}
-use Rattle.match_turns.specs.FuncletEntry.{FlagsFit}
-use Rattle.match_turns.specs.DispatchOutcome.{NoneLanded}
-use Rattle.match_turns.specs.TurnLaws.{waiting_below}
 use Rattle.match_turns.proofs.DispatchReturn.{filter_answered, finally_ended}
 use Rattle.match_turns.proofs.HostTurns.{filter_turns, finally_turns, filter_return_keeps, finally_return_keeps, matched_when_shown}
-use Rattle.match_bodies.specs.Setting.{Setting, IsMachineMemory}
-use Rattle.match_turns.specs.SettingOutcome.{Continuations, Represents}
 
 module _ (setting : Setting) (fits : FlagsFit setting.program) where
   open setting use {functions as t, funclets as fs, program, plan as p, sites as q}

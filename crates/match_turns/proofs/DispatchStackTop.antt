@@ -1,21 +1,7 @@
 -- What is on top of the machine's stack where a search or an unwinding waits: its record, at the
 -- host's return address.
 use Rattle.std.proofs.Common.{◌≡◌, List, [], ◌∷◌, refl}
-use Rattle.flat_memory.specs.Memory.{Memory}
-use Rattle.x64_machine.specs.declared.context.Context.{Context}
-use Rattle.virtual_unwind.specs.CallerOf.{Functions}
-use Rattle.seh_records.specs.declared.dispatch.DispatchRecord.{DispatchRecord}
-use Rattle.seh_walk.specs.Walk.{filter_return, finally_return}
-use Rattle.host_model.specs.declared.funclet.Funclet.{Funclet}
-use Rattle.source_meaning.specs.State.{Exception}
-use Rattle.linear_code.specs.declared.program.Region.{Region}
-use Rattle.linear_code.specs.Program.{LinearProgram}
-use Rattle.linear_machine.specs.Frames.{Handler, Target, Resumption, Item, Waits, Searches, Unwinds}
-use Rattle.match_stack.specs.Stack.{StackItem, Framed, Leaf, Searching, Unwinding, IsStack}
-use Rattle.match_stack.specs.ImagePlan.{ImagePlan}
-use Rattle.match_stack.specs.ItemMatches.{Activation, Linked}
-use Rattle.lowering_invariants.specs.Waiting.{AreWaiting}
-use Rattle.match_turns.specs.DispatchOutcome.{NoneLanded}
+use Rattle.match_turns.specs.Words.{Memory, Context, Functions, DispatchRecord, filter_return, finally_return, Funclet, Exception, Region, LinearProgram, Handler, Target, Resumption, Item, Waits, Searches, Unwinds, StackItem, Framed, Leaf, Searching, Unwinding, IsStack, ImagePlan, Activation, Linked, AreWaiting, NoneLanded}
 
 -- no body that waits has just taken over
 pub none_landed : (program : LinearProgram) (items : List Item) → AreWaiting program items

@@ -1,42 +1,15 @@
 -- A body asks the dispatcher: a raise and a local unwind.
 use Rattle.std.proofs.Common.{◌≡◌, ℕ, zero, ◌^◌, ◌<◌, ◌≤◌, Bool, true, List, [], ◌∷◌, ◌++◌, length, Option, None, sym, ap, subst, ◌∙◌, arith}
 use Rattle.std.proofs.lemmas.List.{append-nil}
-use Rattle.seh_num.specs.declared.event.Code.{Code}
-use Rattle.seh_num.specs.declared.event.Event.{Event}
-use Rattle.x64_machine.specs.declared.cpu.Cpu.{Cpu}
-use Rattle.x64_machine.specs.Contexts.{context_of}
-use Rattle.x64_machine.specs.Effect.{State}
-use Rattle.virtual_unwind.specs.Contexts.{rsp}
+use Rattle.match_turns.specs.Words.{Code, Event, Cpu, context_of, State, rsp, placed, arrived, raised, unwound_locally, searches_on, unwinds_on, Exception, raise_event, Target, Resumption, Waits, Store, Next, Configuration, handlers, raise, unwind, local_unwind, exec, StackItem, Activation, locals_of, Aimed, RecordHasRoom, store_of, placed_in, from_body, AsksHost, IsException, HasRule, callers, turns_left, FlagsFit, NoneLanded, Setting, IsMachineMemory, Outcome, Shows}
 use Rattle.seh_records.specs.declared.dispatch.Kind.TheVariants.{Search}
-use Rattle.seh_records.specs.Record.{placed}
-use Rattle.host_model.specs.Funclets.{arrived}
-use Rattle.host_model.specs.Dispatch.{place_of, new_record, raised, to_target, unwound_locally, searches_on, unwinds_on}
-use Rattle.source_meaning.specs.State.{Exception}
-use Rattle.source_meaning.specs.Raises.{raise_event}
-use Rattle.linear_machine.specs.Frames.{Target, Resumption, Waits, Store, Next, Configuration}
-use Rattle.linear_machine.specs.Regions.{handlers}
-use Rattle.linear_machine.specs.Searching.{raise}
-use Rattle.linear_machine.specs.Unwinding.{unwind}
-use Rattle.linear_machine.specs.Instructions.{local_unwind}
-use Rattle.linear_machine.specs.Run.{exec}
-use Rattle.match_stack.specs.Stack.{StackItem}
-use Rattle.match_stack.specs.ItemMatches.{Activation, locals_of, Aimed}
+use Rattle.host_model.specs.Dispatch.{place_of, new_record, to_target}
 use Rattle.match_stack.proofs.ListEnds.{in_stack}
-use Rattle.match_stack.specs.StackRecords.{RecordHasRoom}
-use Rattle.match_stack.specs.HostUnwind.{store_of}
-use Rattle.match_stack.specs.DispatchSteps.{placed_in, from_body, AsksHost, IsException}
 use Rattle.match_stack.proofs.DispatchSteps.{raise_searches, local_unwind_unwinds}
-use Rattle.match_runs.specs.Ends.{HasRule}
-use Rattle.match_bodies.specs.Callers.{callers}
-use Rattle.match_bodies.specs.Bodies.{turns_left}
-use Rattle.match_turns.specs.FuncletEntry.{FlagsFit}
-use Rattle.match_turns.specs.DispatchOutcome.{NoneLanded}
 use Rattle.match_turns.proofs.DispatchMemory.{memory_untouched, placing}
 use Rattle.match_turns.proofs.DispatchOutcomeSteps.{arrived_with, with_one, with_none, outcome_same}
 use Rattle.match_turns.proofs.UnwindTurn.{unwound}
 use Rattle.match_turns.proofs.SearchTurn.{searched}
-use Rattle.match_bodies.specs.Setting.{Setting, IsMachineMemory}
-use Rattle.match_turns.specs.SettingOutcome.{Outcome, Shows}
 
 -- linear code that has shown an event more
 abbrev pub having_shown : Event → Configuration → Configuration

@@ -2,44 +2,19 @@
 -- where it lands, and at its services.
 use Rattle.std.proofs.Common.{◌≡◌, ◌≢◌, ℕ, ◌+◌, ◌%◌, ◌^◌, ◌<◌, true, false, Option, Some, None, Ok, List, [], ◌∷◌, length, refl, sym, ap, subst, ◌∙◌, arith}
 use Rattle.std.specs.Prelude.{Result, slice_get, slice_index, slice_set}
-use Rattle.seh_num.specs.declared.width.Width.TheVariants.{W64}
+use Rattle.match_turns.specs.Words.{W64, RefusedAccess, Memory, loaded, Rdx, Rsp, Cpu, Context, kept_of, context_of, State, register, rsp, readable, word, DispatchRecord, filter_return, finally_return, Turn, at_landing, back, Exception, LinearFunclet, BodyName, FuncletBody, funclet_body, Handler, Resumption, Item, Configuration, StackItem, Framed, IsStack, context_below, state, parent_body, IsFunclet, Activation, Arrives, FilterBegins, Unwound, BlockBegins, LandsThere, IsUnwinding, drop_below, GivesCallers, WalkGives, callers, caller_above, FindsReturn, Setting, IsMachineMemory}
 use Rattle.seh_num.specs.declared.event.Event.TheVariants as events
-use Rattle.flat_memory.specs.declared.access.RefusedAccess.{RefusedAccess}
-use Rattle.flat_memory.specs.Memory.{Memory, loaded}
-use Rattle.x64_instr.specs.declared.register.Reg.TheVariants.{Rdx, Rsp, Rbx, Rbp, Rsi, Rdi, R12, R13, R14, R15}
-use Rattle.x64_machine.specs.declared.cpu.Cpu.{Cpu}
-use Rattle.x64_machine.specs.declared.context.Context.{Context}
-use Rattle.x64_machine.specs.Contexts.{kept_of, context_of}
-use Rattle.x64_machine.specs.Effect.{State, register}
-use Rattle.virtual_unwind.specs.Contexts.{rsp}
-use Rattle.virtual_unwind.specs.Undone.{readable, word}
-use Rattle.seh_records.specs.declared.dispatch.DispatchRecord.{DispatchRecord}
-use Rattle.seh_walk.specs.Walk.{filter_return, finally_return, steps}
-use Rattle.host_model.specs.Turns.{Turn}
-use Rattle.host_model.specs.Dispatch.{at_landing}
-use Rattle.host_model.specs.HostStep.{back}
-use Rattle.source_meaning.specs.State.{Exception}
-use Rattle.linear_code.specs.Program.{LinearFunclet}
-use Rattle.linear_machine.specs.Frames.{BodyName, FuncletBody, funclet_body, Handler, Resumption, Item, Configuration}
-use Rattle.match_stack.specs.Stack.{StackItem, Framed, IsStack, after_frame}
-use Rattle.match_stack.specs.WalkLaws.{context_below}
-use Rattle.match_stack.specs.PlainWalks.{state}
-use Rattle.match_stack.specs.ImagePlan.{parent_body, IsFunclet}
-use Rattle.match_stack.specs.ItemMatches.{Activation}
-use Rattle.match_stack.specs.DispatchStates.{Arrives}
-use Rattle.match_stack.specs.SearchOutcomes.{FilterBegins}
-use Rattle.match_stack.specs.UnwindOutcomes.{Unwound, BlockBegins, LandsThere}
-use Rattle.match_stack.specs.TurnLaws.{IsUnwinding}
+use Rattle.x64_instr.specs.declared.register.Reg.TheVariants.{Rbx, Rbp, Rsi, Rdi, R12, R13, R14, R15}
+use Rattle.seh_walk.specs.Walk.{steps}
+use Rattle.match_stack.specs.Stack.{after_frame}
 use Rattle.match_stack.proofs.FuncletEntry.{few_items}
-use Rattle.match_runs.specs.Shadow.{caller_at, drop_below, GivesCallers, WalkGives}
+use Rattle.match_runs.specs.Shadow.{caller_at}
 use Rattle.match_runs.proofs.Shadows.{none_below}
-use Rattle.match_bodies.specs.Callers.{callers, caller_above, FindsReturn}
 use Rattle.match_bodies.proofs.BodyResumption.{frame_size}
 use Rattle.match_bodies.proofs.StackWalks.{on_stack}
 use Rattle.match_bodies.proofs.UnwindWalks.{block_callers, landing_callers}
 use Rattle.match_bodies.proofs.BodyCallers.{gives_caller, begin_finds}
 use Rattle.match_bodies.proofs.StackWords.{word_is}
-use Rattle.match_bodies.specs.Setting.{Setting, IsMachineMemory}
 use Rattle.match_turns.specs.SettingOutcome.{WalkContinues}
 
 -- nine registers, one by one

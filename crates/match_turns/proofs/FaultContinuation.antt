@@ -1,31 +1,13 @@
 -- Where a fault is continued, the saved state is within the same operation.
 use Rattle.std.proofs.Common.{◌≡◌, ℕ, true, List, [], ◌∷◌, Some, refl, sym, ap, subst, arith}
 use Rattle.std.specs.Prelude.{slice_get}
-use Rattle.x64_machine.specs.declared.cpu.Cpu.{Cpu}
-use Rattle.x64_machine.specs.Contexts.{context_of}
-use Rattle.x64_machine.specs.Effect.{State}
-use Rattle.virtual_unwind.specs.CallerOf.{distance}
-use Rattle.host_model.specs.Funclets.{arrivals}
-use Rattle.linear_code.specs.declared.slot.Slot.TheVariants.{Temporary}
-use Rattle.linear_code.specs.declared.instruction.Instruction.{Instruction}
+use Rattle.match_turns.specs.Words.{Cpu, context_of, State, distance, arrivals, Temporary, Instruction, LinearBody, body_of, SameOperation, Waits, Configuration, StackItem, InCode, Activation, locals_of, On, IsWellFormed, WorksAgain, IsWellMade, template_size, Setting, InBody, IsMachineMemory, WorksOn}
 use Rattle.linear_code.specs.declared.instruction.Instruction.TheVariants as instructions
-use Rattle.linear_code.specs.Program.{LinearBody}
-use Rattle.linear_machine.specs.Frames.{body_of, SameOperation, Waits, Configuration}
-use Rattle.match_stack.specs.Stack.{StackItem}
-use Rattle.match_stack.specs.ImagePlan.{InCode}
-use Rattle.match_stack.specs.ItemMatches.{Activation, locals_of}
-use Rattle.match_stack.specs.StackRecords.{On}
-use Rattle.match_stack.specs.DispatchStates.{IsWellFormed}
-use Rattle.match_bodies.specs.ProgramImages.{WorksAgain}
 use Rattle.match_bodies.proofs.TemplateSizes.{address_next}
 use Rattle.match_bodies.proofs.BodyResumption.{waits_in_body, all_front}
-use Rattle.match_bodies.specs.ConfigurationFacts.{IsWellMade}
 use Rattle.match_bodies.proofs.TemplateRuns.{get_or_is}
 use Rattle.match_bodies.proofs.StepNeeds.{label_in, body_there}
 use Rattle.match_turns.proofs.OperationCode.{some_finish, whole_size, silent_within}
-use Rattle.template_code.specs.Template.{template_size}
-use Rattle.match_bodies.specs.Setting.{Setting, InBody, IsMachineMemory}
-use Rattle.match_turns.specs.SettingOutcome.{WorksOn}
 
 module _ (setting : Setting) (made : IsWellMade setting.program setting.plan)
     (s : State) (saved : Cpu) (is : List StackItem) (acts : List Activation) (c : Configuration)

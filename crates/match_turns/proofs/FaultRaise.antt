@@ -3,55 +3,22 @@
 use Rattle.std.proofs.Common.{◌≡◌, ℕ, zero, suc, ◌^◌, ◌<◌, Bool, true, false, List, [], ◌∷◌, ◌++◌, Option, Some, None, Err, refl, ap, subst, ◌∙◌, arith}
 use Rattle.std.specs.Prelude.{slice_index, replicate}
 use Rattle.std.proofs.lemmas.Bool.{ne_eqb}
-use Rattle.seh_num.specs.declared.event.Code.{Code}
-use Rattle.x64_instr.specs.declared.instruction.Instr.{Instr}
+use Rattle.match_turns.specs.Words.{Code, Instr, context_of, State, step, rsp, arrived, write_number, parameters, raised, Raises, Exception, raise_event, is_reserved, Operation, Slot, Temporary, Instruction, Layout, SameOperation, Configuration, Next, raise, act, exec, operands_code, finish_code, KeepsAbove, IsException, IsLive, HasRule, IsMatched, callers, turns_left, IsWellMade, IsKnown, KnownNext, seen_by_templates, FlagsFit, ComesTo, Setting, IsResumed, Represents, Shows, WorksOn}
 use Rattle.x64_machine.specs.declared.outcome.Stop.TheVariants as stops
-use Rattle.x64_machine.specs.Contexts.{context_of}
-use Rattle.x64_machine.specs.Effect.{State, step}
-use Rattle.virtual_unwind.specs.Contexts.{rsp}
 use Rattle.seh_records.specs.Laws.{AllSmall}
-use Rattle.host_model.specs.Funclets.{arrived}
-use Rattle.host_model.specs.Dispatch.{write_number, parameters, raised}
-use Rattle.c_operations.specs.Performed.{Raises}
-use Rattle.source_meaning.specs.State.{Exception}
-use Rattle.source_meaning.specs.Raises.{raise_event}
-use Rattle.source_meaning.specs.Source.{is_reserved}
-use Rattle.c_operations.specs.declared.operation.Operation.{Operation}
-use Rattle.linear_code.specs.declared.slot.Slot.{Slot}
-use Rattle.linear_code.specs.declared.slot.Slot.TheVariants.{Temporary}
-use Rattle.linear_code.specs.declared.instruction.Instruction.{Instruction}
 use Rattle.linear_code.specs.declared.instruction.Instruction.TheVariants as instructions
-use Rattle.template_code.specs.declared.layout.Layout.{Layout}
-use Rattle.linear_machine.specs.Frames.{SameOperation, Configuration, Next}
-use Rattle.linear_machine.specs.Searching.{raise}
-use Rattle.linear_machine.specs.Instructions.{act}
-use Rattle.linear_machine.specs.Run.{exec}
-use Rattle.template_code.specs.Slots.{operands_code, finish_code}
 use Rattle.x64_templates.specs.Runs.{Finished}
-use Rattle.match_stack.specs.ListLaws.{KeepsAbove}
 use Rattle.lowering_invariants.specs.SmallNumbers.{IsSmallAccess}
 use Rattle.lowering_invariants.proofs.Results.{IsSmallOutcome, outcome_small}
-use Rattle.match_stack.specs.DispatchSteps.{IsException}
-use Rattle.match_runs.specs.Comes.{IsLive}
-use Rattle.match_runs.specs.Ends.{HasRule}
-use Rattle.match_runs.specs.Matched.{IsMatched}
 use Rattle.match_runs.proofs.Turns.{comes_nowhere}
-use Rattle.match_bodies.specs.Callers.{callers}
 use Rattle.match_bodies.proofs.StackWalks.{on_stack}
-use Rattle.match_bodies.specs.Bodies.{turns_left}
-use Rattle.match_bodies.specs.ConfigurationFacts.{IsWellMade, IsKnown, KnownNext}
-use Rattle.match_bodies.specs.BodyViews.{seen_by_templates}
 use Rattle.match_bodies.proofs.BodyViews.{is_machine}
-use Rattle.match_turns.specs.FuncletEntry.{FlagsFit}
 use Rattle.match_turns.proofs.DispatchStart.{raised_as}
 use Rattle.match_turns.proofs.HostRequest.{Asks, asks_host}
 use Rattle.match_turns.proofs.HostTurns.{fault_turns, raised_keeps, matched_when_shown}
-use Rattle.match_turns.specs.OperationOutcome.{ComesTo}
 use Rattle.match_turns.proofs.OperationMeaning.{acts_as}
 use Rattle.match_turns.proofs.OperationCode.{some_finish, is_some}
 use Rattle.match_turns.proofs.OperationInProgress.{there, frame_here, slots_now, first_small, second_small, code_here, outcome, made_here, same_outcome}
-use Rattle.match_bodies.specs.Setting.{Setting, IsResumed}
-use Rattle.match_turns.specs.SettingOutcome.{Represents, Shows, WorksOn}
 
 -- ---- what a fault raises
 

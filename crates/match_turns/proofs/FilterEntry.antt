@@ -4,56 +4,28 @@ use Rattle.std.proofs.Common.{◌≡◌, ℕ, ◌+◌, ◌%◌, ◌^◌, ◌<◌
 use Rattle.std.proofs.lemmas.List.{append-nil}
 use Rattle.std.specs.Prelude.{nat_lt, slice_get}
 use Rattle.std.proofs.lemmas.Option.{slice_get_within}
-use Rattle.host_layout.specs.declared.range.TheConstants.{STACK_START, STACK_END}
-use Rattle.flat_memory.specs.Memory.{number_at}
+use Rattle.match_turns.specs.Words.{STACK_START, STACK_END, number_at, Rcx, Rdx, Rsp, Instr, word, State, register, Functions, Funclet, Exception, Instruction, LinearProgram, LinearBody, LinearFunclet, BodyName, FuncletBody, body_of, funclet_body, Handler, Resumption, Item, Waits, Searches, Configuration, begin_filter, instruction_in, Layout, sizes, keep_register, MachineView, machine, HasCode, Enters, parent_of, owner_of, ImagePlan, by_parent, parent_body, Activation, locals_of, IsActivation, HasSpace, below_end, context_below, IsWellFormed, Arrives, AllKeep, LeadsTo, Sites, parent_base, keep_argument, IsProgramImage, IsKnown, entry_turns, Setting, setting_of, IsMachineMemory, RepresentsAt}
 use Rattle.flat_memory.proofs.Stores.{stored_is_loaded}
-use Rattle.x64_instr.specs.declared.register.Reg.TheVariants.{Rcx, Rdx, Rsp}
-use Rattle.x64_instr.specs.declared.instruction.Instr.{Instr}
-use Rattle.virtual_unwind.specs.Undone.{word}
-use Rattle.x64_machine.specs.Effect.{State, register}
-use Rattle.virtual_unwind.specs.CallerOf.{Functions}
-use Rattle.host_model.specs.declared.funclet.Funclet.{Funclet}
-use Rattle.source_meaning.specs.State.{Exception}
-use Rattle.linear_code.specs.declared.instruction.Instruction.{Instruction}
 use Rattle.linear_code.specs.declared.program.FuncletKind.TheVariants as funclets
-use Rattle.linear_code.specs.Program.{LinearProgram, LinearBody, LinearFunclet}
-use Rattle.linear_machine.specs.Frames.{BodyName, FuncletBody, body_of, funclet_body, Handler, Resumption, Item, Waits, Searches, Configuration}
-use Rattle.linear_machine.specs.Searching.{begin_filter}
-use Rattle.linear_machine.specs.Run.{instruction_in}
-use Rattle.template_code.specs.declared.layout.Layout.{Layout}
-use Rattle.template_code.specs.Bytes.{sizes}
-use Rattle.template_code.specs.Calls.{keep_register}
-use Rattle.x64_templates.specs.Straight.{MachineView, machine}
-use Rattle.x64_templates.specs.Runs.{HasCode, Enters}
 use Rattle.x64_templates.proofs.PlacedCode.{enters_then, same_number}
 use Rattle.x64_templates.proofs.Computes.{Reached}
 use Rattle.x64_templates.proofs.Parameters.{kept_at}
 use Rattle.x64_templates.proofs.Funclets.{HasCell}
 use Rattle.x64_templates.proofs.FuncletEntries.{pointers_kept}
 use Rattle.x64_templates.proofs.FilterEntries.{Within, within_then, within_cell}
-use Rattle.lowering_invariants.specs.Bodies.{parent_of, owner_of}
-use Rattle.match_stack.specs.ImagePlan.{ImagePlan, by_parent, parent_body}
-use Rattle.match_stack.specs.ItemMatches.{Activation, locals_of, IsActivation, HasSpace, below_end, KeepsPointers}
-use Rattle.match_stack.specs.WalkLaws.{context_below}
-use Rattle.match_stack.specs.DispatchStates.{IsWellFormed, Arrives}
-use Rattle.match_runs.specs.Shadow.{AllKeep}
-use Rattle.match_runs.specs.Comes.{LeadsTo}
-use Rattle.match_bodies.specs.CodeSites.{Sites, parent_base, keep_argument}
-use Rattle.match_bodies.specs.ProgramImages.{IsProgramImage}
+use Rattle.match_stack.specs.ItemMatches.{KeepsPointers}
 use Rattle.match_bodies.proofs.SilentTurns.{enters_silently}
 use Rattle.match_bodies.proofs.RoutineWalks.{enters_steps}
 use Rattle.match_bodies.proofs.EntryKeeping.{plain_both, kept_plain}
 use Rattle.match_turns.proofs.FuncletShadow.{base_code, arguments_are, base_is_plain, funclet_ran}
 use Rattle.match_bodies.proofs.ActivationPlaces.{locals_count}
 use Rattle.match_bodies.proofs.ChainKeeping.{enters_keeps, stays_well_formed}
-use Rattle.match_bodies.specs.ConfigurationFacts.{IsKnown}
-use Rattle.match_turns.specs.FuncletEntry.{entry_turns, FiltersBegin}
+use Rattle.match_turns.specs.FuncletEntry.{FiltersBegin}
 use Rattle.match_turns.proofs.FuncletPrologue.{LeadsBy}
 use Rattle.match_turns.proofs.FuncletFrame.{ArrivesBelow, arrives_below, IsPlanned, funclet_planned, HasFrame, begins, word_within, stack_writable}
 use Rattle.match_turns.proofs.FuncletConfiguration.{IsFilterOfSome, filter_of_some, is_filter, parent_locals, leads_by}
 use Rattle.match_turns.proofs.DispatchSpace.{shallow_is, HasRecordSpace, search_space}
 use Rattle.match_turns.proofs.FuncletFirstTurns.{HasEntered, entered, first_small, silent_there}
-use Rattle.match_bodies.specs.Setting.{Setting, setting_of, IsMachineMemory, RepresentsAt}
 
 same_name : (a b : BodyName) → Some a ≡ Some b → a ≡ b
 same_name a b e = cc

@@ -1,40 +1,20 @@
 -- A filter reads a field of its exception.
 use Rattle.std.proofs.Common.{◌≡◌, ◌+◌, ◌<◌, ◌≤◌, length, Some, None, refl, ap, subst, arith}
 use Rattle.std.specs.Prelude.{slice_get}
-use Rattle.x64_machine.specs.Effect.{State}
-use Rattle.c_operations.specs.declared.field.Field.{Field}
-use Rattle.source_meaning.specs.Expressions.{field_of}
-use Rattle.linear_code.specs.declared.slot.Slot.{Slot}
-use Rattle.linear_code.specs.declared.slot.Slot.TheVariants.{Local, Temporary}
+use Rattle.match_turns.specs.Words.{State, Field, field_of, Slot, Local, Temporary, BodyState, with_slot, LinearBody, FuncletBody, Configuration, Next, act, Layout, sizes, template_size, machine, ReachesBody, IsField, Moves, HaveRoom, IsFuncletPlan, turns_left, IsFilterBody, Setting, RepresentsAt}
 use Rattle.linear_code.specs.declared.instruction.Instruction.TheVariants as instructions
-use Rattle.linear_code.specs.BodyState.{BodyState, with_slot}
-use Rattle.linear_code.specs.Program.{LinearBody}
 use Rattle.linear_machine.specs.Frames as linear
-use Rattle.linear_machine.specs.Frames.{FuncletBody, Configuration, Next}
-use Rattle.linear_machine.specs.Instructions.{act}
-use Rattle.template_code.specs.declared.layout.Layout.{Layout}
-use Rattle.template_code.specs.Bytes.{sizes}
 use Rattle.template_code.specs.Calls.{information_code}
-use Rattle.template_code.specs.Template.{template_size}
 use Rattle.template_code.proofs.Lengths.{keep_length}
-use Rattle.x64_templates.specs.Straight.{machine}
-use Rattle.x64_templates.specs.Runs.{ReachesBody}
-use Rattle.x64_templates.specs.Exceptions.{IsField}
 use Rattle.x64_templates.proofs.Information.{information_run}
-use Rattle.match_runs.specs.Matched.{Moves}
-use Rattle.lowering_invariants.specs.Room.{HaveRoom}
 use Rattle.lowering_invariants.specs.Ready.{IsNextSlot}
-use Rattle.match_bodies.specs.Layouts.{IsFuncletPlan}
-use Rattle.match_bodies.specs.Bodies.{turns_left}
 use Rattle.match_bodies.proofs.BodyViews.{IsCounted, room_here, holds_here}
 use Rattle.match_bodies.proofs.TemplateRuns.{code, frame, slots, v, sp_is, has_slots, template_here, next_address, Surroundings}
 use Rattle.match_bodies.proofs.SlotWrites.{locals_after, temporaries_after, FitsAfter, one_more}
 use Rattle.match_bodies.proofs.TemplateKeeping.{information_keeps}
 use Rattle.match_bodies.proofs.PlainSteps.{GoesInside, from_here, label_small, moves_to}
 use Rattle.match_bodies.proofs.ComputeStep.{stored, writes, leaves_stored}
-use Rattle.match_turns.specs.FilterInformation.{IsFilterBody}
 use Rattle.match_turns.proofs.FilterRecord.{pointers_here, reads_exception}
-use Rattle.match_bodies.specs.Setting.{Setting, RepresentsAt}
 
 information_size : (y : Layout) (to : Slot) (field : Field)
     → template_size y (instructions.Information to field) ≡ sizes (information_code y to field)

@@ -1,40 +1,14 @@
 -- A filter's frame leads to the record of its search, which carries its exception.
 use Rattle.std.proofs.Common.{◌≡◌, ℕ, ◌+◌, ◌^◌, ◌<◌, ◌≤◌, List, [], ◌∷◌, Some, Ok, refl, sym, subst, ◌∙◌, arith}
 use Rattle.std.specs.Prelude.{replicate}
-use Rattle.host_layout.specs.declared.range.TheConstants.{STACK_START, STACK_END}
-use Rattle.seh_num.specs.Widths.{bytes_of}
-use Rattle.flat_memory.specs.Memory.{Memory, number_at}
-use Rattle.x64_instr.specs.declared.register.Reg.TheVariants.{Rsp}
-use Rattle.x64_machine.specs.declared.context.Context.{Context}
-use Rattle.x64_machine.specs.Contexts.{context_of}
-use Rattle.x64_machine.specs.Effect.{State, register}
-use Rattle.virtual_unwind.specs.Contexts.{rsp}
-use Rattle.virtual_unwind.specs.Undone.{word}
-use Rattle.virtual_unwind.specs.CallerOf.{Functions}
-use Rattle.seh_records.specs.declared.dispatch.DispatchRecord.{DispatchRecord}
-use Rattle.seh_records.specs.Record.{fetched}
-use Rattle.seh_records.specs.Laws.{RecordFits}
-use Rattle.host_model.specs.declared.funclet.Funclet.{Funclet}
-use Rattle.c_operations.specs.declared.field.Field.{Field}
-use Rattle.c_operations.specs.declared.field.Field.TheVariants.{ExceptionCode, ExceptionFlags, NumberParameters, ExceptionInformation}
-use Rattle.source_meaning.specs.State.{Exception}
-use Rattle.source_meaning.specs.Expressions.{field_of}
+use Rattle.match_turns.specs.Words.{STACK_START, STACK_END, bytes_of, Memory, number_at, Rsp, Context, context_of, State, register, rsp, word, Functions, DispatchRecord, fetched, RecordFits, Funclet, Field, ExceptionCode, ExceptionFlags, NumberParameters, ExceptionInformation, Exception, field_of, LinearProgram, LinearFunclet, Frame, Handler, Resumption, Item, Waits, Searches, Unwinds, Configuration, field_at, field_width, IsField, StackItem, Framed, Leaf, Searching, Unwinding, IsStack, context_below, ImagePlan, Activation, activations_below, HasPointers, FuncletIsAbove, IsAbove, Linked, Sites, IsFilterBody}
 use Rattle.linear_code.specs.declared.program.FuncletKind.TheVariants as funclets
-use Rattle.linear_code.specs.Program.{LinearProgram, LinearFunclet}
-use Rattle.linear_machine.specs.Frames.{Frame, Handler, Resumption, Item, Waits, Searches, Unwinds, Configuration}
-use Rattle.template_code.specs.Calls.{field_at}
-use Rattle.x64_templates.specs.Exceptions.{field_width, IsField, MayRead, HasException}
+use Rattle.x64_templates.specs.Exceptions.{MayRead, HasException}
 use Rattle.x64_templates.proofs.Information.{field_number}
-use Rattle.match_stack.specs.Stack.{StackItem, Framed, Leaf, Searching, Unwinding, IsStack}
-use Rattle.match_stack.specs.WalkLaws.{context_below}
-use Rattle.match_stack.specs.ImagePlan.{ImagePlan}
-use Rattle.match_stack.specs.ItemMatches.{Activation, activations_below, HasPointers, FuncletIsAbove, IsAbove, Linked}
 use Rattle.match_stack.specs.ItemMatches as linked
 use Rattle.match_stack.proofs.ListEnds.{in_stack}
-use Rattle.match_bodies.specs.CodeSites.{Sites}
 use Rattle.match_bodies.specs.Bodies.{RepresentsAt}
 use Rattle.match_bodies.proofs.StackWords.{word_is, may_read_written}
-use Rattle.match_turns.specs.FilterInformation.{IsFilterBody}
 use Rattle.match_turns.proofs.RecordFields.{recorded_field, field_is_at, field_is, field_fits, field_small}
 
 -- below a filter its search is the first

@@ -4,44 +4,16 @@ use Rattle.std.proofs.Common.{◌≡◌, ℕ, ◌+◌, ◌-◌, ◌^◌, ◌<◌
 use Rattle.std.specs.Prelude.{slice_get, drop}
 use Rattle.std.proofs.lemmas.List.{length-drop, get_or-set_same}
 use Rattle.seh_num.specs.declared.event.Event.TheVariants as events
-use Rattle.host_layout.specs.declared.range.TheConstants.{STACK_START, STACK_END}
-use Rattle.x64_instr.specs.declared.register.Reg.TheVariants.{Rdx, Rsp}
+use Rattle.match_turns.specs.Words.{STACK_START, STACK_END, Rdx, Rsp, context_of, State, register, distance, word, arrivals, of_test, LinearBody, BodyName, FuncletBody, body_of, funclet_body, Waits, Configuration, instruction_in, Layout, sizes, IsNear, finally_arguments, MachineView, machine, pushed, HasBelow, Reaches, context_below, InCode, by_parent, parent_body, IsFunclet, HasActivation, return_of, ReturnsTo, KeepsAbove, On, IsWellFormed, AllKeep, Comes, AllReturnsStayInRegions, IsFinallyKind, parent_of, IsFuncletOf, HaveRoom, slots_end, Setting, InBody, IsMachineMemory, IsResumed, RepresentsAt}
 use Rattle.x64_instr.specs.declared.instruction.Instr.TheVariants as instrs
-use Rattle.x64_machine.specs.Contexts.{context_of}
-use Rattle.x64_machine.specs.Effect.{State, register}
-use Rattle.virtual_unwind.specs.CallerOf.{distance}
-use Rattle.virtual_unwind.specs.Undone.{word}
-use Rattle.host_model.specs.Funclets.{by_kind, arrivals}
-use Rattle.source_meaning.specs.Expressions.{of_test}
+use Rattle.host_model.specs.Funclets.{by_kind}
 use Rattle.linear_code.specs.declared.instruction.Instruction.TheVariants as instructions
 use Rattle.linear_code.specs.declared.program.FuncletKind.TheVariants as funclets
-use Rattle.linear_code.specs.Program.{LinearBody}
-use Rattle.linear_machine.specs.Frames.{BodyName, FuncletBody, body_of, funclet_body, Waits, Configuration}
-use Rattle.linear_machine.specs.Run.{instruction_in}
-use Rattle.template_code.specs.declared.layout.Layout.{Layout}
-use Rattle.template_code.specs.Bytes.{sizes}
-use Rattle.template_code.specs.Jumps.{IsNear}
-use Rattle.template_code.specs.Calls.{finally_arguments}
-use Rattle.x64_templates.specs.Straight.{MachineView, machine}
-use Rattle.x64_templates.specs.CallStates.{pushed, HasBelow}
-use Rattle.x64_templates.specs.Runs.{Reaches}
 use Rattle.x64_templates.proofs.Unwinds.{with_two, FinallyCalled, finally_begins}
 use Rattle.x64_templates.proofs.Entries.{pushed_back}
-use Rattle.match_stack.specs.WalkLaws.{context_below}
-use Rattle.match_stack.specs.ImagePlan.{InCode, by_parent, parent_body, IsFunclet}
 use Rattle.match_stack.specs.ItemMatches as linked
-use Rattle.match_stack.specs.ItemMatches.{HasActivation, return_of, ReturnsTo}
-use Rattle.match_stack.specs.ListLaws.{KeepsAbove}
 use Rattle.match_stack.proofs.ListKeeping.{reaches_above, kept_by_stores_below}
-use Rattle.match_stack.specs.StackRecords.{On}
 use Rattle.match_stack.proofs.SearchHandlers.{body_reaches}
-use Rattle.match_stack.specs.DispatchStates.{IsWellFormed}
-use Rattle.match_runs.specs.Shadow.{AllKeep}
-use Rattle.match_runs.specs.Comes.{Comes}
-use Rattle.lowering_invariants.specs.ReturnRegions.{AllReturnsStayInRegions}
-use Rattle.lowering_invariants.specs.Bodies.{IsFinallyKind, parent_of, IsFuncletOf}
-use Rattle.lowering_invariants.specs.Room.{HaveRoom}
-use Rattle.match_bodies.specs.Bodies.{slots_end}
 use Rattle.match_bodies.specs.ProgramImages.{is_finally}
 use Rattle.match_bodies.proofs.TemplateSizes.{first_in_code}
 use Rattle.match_bodies.proofs.StackContexts.{on_moved}
@@ -60,7 +32,6 @@ use Rattle.match_turns.proofs.FuncletFrame.{ArrivesBelow}
 use Rattle.match_turns.proofs.CallRegions.{apart_same}
 use Rattle.match_turns.proofs.DispatchMemory.{memory_untouched}
 use Rattle.match_turns.proofs.ReturnAddressPush as pushing
-use Rattle.match_bodies.specs.Setting.{Setting, InBody, IsMachineMemory, IsResumed, RepresentsAt}
 
 same_parents : (function : ℕ) (o : Option ℕ) → by_parent function o ≡ parent_of function o
 same_parents function None = refl

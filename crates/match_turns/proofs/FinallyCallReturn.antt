@@ -2,44 +2,17 @@
 use Rattle.std.proofs.Common.{◌≡◌, ℕ, zero, suc, ◌+◌, ◌<◌, ◌≤◌, Option, Some, None, List, [], ◌∷◌, length, get_or, refl, sym, ap, subst, ◌∙◌, arith}
 use Rattle.std.specs.Prelude.{slice_get, replicate}
 use Rattle.std.proofs.lemmas.List.{append-nil}
-use Rattle.x64_instr.specs.declared.register.Reg.TheVariants.{Rsp}
-use Rattle.x64_machine.specs.declared.context.Context.{Context}
-use Rattle.x64_machine.specs.Effect.{State, register}
-use Rattle.virtual_unwind.specs.CallerOf.{distance}
-use Rattle.host_model.specs.Funclets.{arrivals}
-use Rattle.linear_code.specs.declared.slot.Slot.{Slot}
-use Rattle.linear_code.specs.declared.instruction.Instruction.{Instruction}
+use Rattle.match_turns.specs.Words.{Rsp, Context, State, register, distance, arrivals, Slot, Instruction, LinearBody, LinearFunclet, BodyName, FuncletBody, body_of, Frame, Item, Waits, Configuration, Next, with_some, read, instruction_in, end_finally, end_funclet, end_body, act, Layout, sizes, call, finally_arguments, return_code, template_size, body_size, offset_of, HasBack, Reaches, context_below, AllReturnsStayInRegions, HaveRoom, InCode, Activation, locals_of, activations_below, return_of, ReturnsTo, On, IsWellFormed, Moves, links_of, held_below, turns_left, Setting, InBody, RepresentsAt}
 use Rattle.linear_code.specs.declared.instruction.Instruction.TheVariants as instructions
 use Rattle.linear_code.specs.declared.program.FuncletKind.TheVariants as funclets
-use Rattle.linear_code.specs.Program.{LinearBody, LinearFunclet}
-use Rattle.linear_machine.specs.Frames.{BodyName, FuncletBody, body_of, Frame, Item, Waits, Configuration, Next, with_some, read, forth}
-use Rattle.linear_machine.specs.Run.{instruction_in}
-use Rattle.linear_machine.specs.Instructions.{end_finally, end_funclet, end_body, act}
-use Rattle.template_code.specs.declared.layout.Layout.{Layout}
-use Rattle.template_code.specs.Bytes.{sizes}
-use Rattle.template_code.specs.Jumps.{call}
-use Rattle.template_code.specs.Calls.{finally_arguments, return_code}
-use Rattle.template_code.specs.Template.{template_size, body_size, offset_of}
+use Rattle.linear_machine.specs.Frames.{forth}
 use Rattle.template_code.proofs.Sizes.{sizes_append, call_size, template_sizes, offset_next}
-use Rattle.x64_templates.specs.CallStates.{HasBack}
-use Rattle.x64_templates.specs.Runs.{Reaches}
-use Rattle.match_stack.specs.WalkLaws.{context_below}
-use Rattle.lowering_invariants.specs.ReturnRegions.{AllReturnsStayInRegions}
-use Rattle.lowering_invariants.specs.Room.{HaveRoom}
-use Rattle.match_stack.specs.ImagePlan.{InCode}
-use Rattle.match_stack.specs.ItemMatches.{Activation, locals_of, activations_below, return_of, ReturnsTo}
-use Rattle.match_stack.specs.StackRecords.{On}
-use Rattle.match_stack.specs.DispatchStates.{IsWellFormed}
-use Rattle.match_runs.specs.Matched.{Moves}
-use Rattle.match_bodies.specs.CodeSites.{links_of}
-use Rattle.match_bodies.specs.Bodies.{held_below, turns_left}
 use Rattle.match_bodies.proofs.SilentTurns.{reaches_silently}
 use Rattle.match_bodies.proofs.BodyResumption.{again, waits_in_body, all_front}
 use Rattle.match_bodies.proofs.BodyViews.{IsCounted}
 use Rattle.match_bodies.proofs.TemplateRuns.{get_or_is}
 use Rattle.match_turns.proofs.BodyReturn as leaving
 use Rattle.match_turns.proofs.BodyReturn.{returns_soon}
-use Rattle.match_bodies.specs.Setting.{Setting, InBody, RepresentsAt}
 
 -- an instruction of a body begins within it
 pub offset_most : (y : Layout) (body : List Instruction) (number : ℕ)

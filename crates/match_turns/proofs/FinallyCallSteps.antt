@@ -2,33 +2,18 @@
 use Rattle.std.proofs.Common.{◌≡◌, ℕ, ◌+◌, Bool, true, false, Some, [], ◌∷◌, ◌++◌, length, refl, ap, ◌∙◌, arith, inl, inr}
 use Rattle.std.specs.Prelude.{nat_lt, slice_get}
 use Rattle.seh_num.specs.declared.event.Event.TheVariants as events
-use Rattle.x64_machine.specs.Effect.{State}
-use Rattle.source_meaning.specs.declared.ended.Ended.TheVariants.{Deep}
-use Rattle.linear_code.specs.declared.instruction.Instruction.{Instruction}
+use Rattle.match_turns.specs.Words.{State, Deep, Instruction, FuncletKind, LinearBody, Waits, Configuration, Finished, Next, pick, with_some, deeper, act, instruction_at, flag_of, begin_finally, IsMatched, LeadsTo, IsFinallyKind, IsInstructionOf, IsFuncletOf, turns_left, IsWellMade, IsKnown, KnownNext, turns_per_step, entry_turns, FlagsFit, Setting, setting_of, RepresentsAt}
 use Rattle.linear_code.specs.declared.instruction.Instruction.TheVariants as instructions
-use Rattle.linear_code.specs.declared.program.FuncletKind.{FuncletKind}
 use Rattle.linear_code.specs.declared.program.FuncletKind.TheVariants as funclets
-use Rattle.linear_code.specs.Program.{LinearBody}
-use Rattle.linear_machine.specs.Frames.{Waits, Configuration, Finished, Next, pick, with_some, deeper}
-use Rattle.linear_machine.specs.Instructions.{act}
-use Rattle.linear_machine.specs.Run.{instruction_at}
-use Rattle.linear_machine.specs.Unwinding.{flag_of, begin_finally}
-use Rattle.match_runs.specs.Matched.{IsMatched}
-use Rattle.match_runs.specs.Comes.{LeadsTo}
 use Rattle.match_runs.proofs.Matches.{silently_after, fails_at_once}
-use Rattle.lowering_invariants.specs.Bodies.{IsFinallyKind, IsInstructionOf, IsFuncletOf}
-use Rattle.match_bodies.specs.Bodies.{turns_left}
-use Rattle.match_bodies.specs.ConfigurationFacts.{IsWellMade, IsKnown, KnownNext}
-use Rattle.match_bodies.specs.StepLaws.{turns_per_step}
 use Rattle.match_bodies.proofs.ActivationPlaces.{locals_count}
 use Rattle.match_bodies.proofs.StepNeeds.{counted_here, code_at}
 use Rattle.match_bodies.proofs.TemplateRuns.{each}
-use Rattle.match_turns.specs.FuncletEntry.{entry_turns, FlagsFit, SeparatorsFollow}
+use Rattle.match_turns.specs.FuncletEntry.{SeparatorsFollow}
 use Rattle.match_turns.proofs.FinallyEntry.{block_leads}
 use Rattle.match_turns.proofs.DispatchSpace.{shallow_is}
 use Rattle.match_turns.specs.BlockLaws.{BlockCallsAreMatched}
 use Rattle.match_turns.proofs.FinallyCall as calling
-use Rattle.match_bodies.specs.Setting.{Setting, setting_of, RepresentsAt}
 
 -- a `__finally` block has a flag
 pub flag_there : (kind : FuncletKind) → IsFinallyKind kind

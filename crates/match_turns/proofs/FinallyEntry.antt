@@ -3,47 +3,22 @@ use Rattle.std.proofs.Common.{◌≡◌, ℕ, zero, suc, ◌+◌, ◌*◌, ◌<�
 use Rattle.std.specs.Prelude.{slice_get, slice_index, slice_set}
 use Rattle.std.proofs.lemmas.Option.{slice_get_within, slice_get_cases}
 use Rattle.std.proofs.lemmas.List.{append-nil}
-use Rattle.host_layout.specs.declared.range.TheConstants.{STACK_START, STACK_END}
-use Rattle.seh_num.specs.declared.width.Width.TheVariants.{W32}
-use Rattle.seh_num.specs.Widths.{low}
-use Rattle.seh_num.specs.declared.event.Event.{Event}
-use Rattle.flat_memory.specs.Memory.{Memory, number_at}
-use Rattle.x64_instr.specs.declared.register.Reg.TheVariants.{Rax, Rcx, Rdx, Rsp}
-use Rattle.x64_instr.specs.declared.instruction.Instr.{Instr}
-use Rattle.x64_machine.specs.Effect.{State, register}
-use Rattle.source_meaning.specs.Expressions.{of_test, no_exception}
-use Rattle.linear_code.specs.declared.slot.Slot.TheVariants.{Local}
-use Rattle.linear_code.specs.declared.program.FuncletKind.{FuncletKind}
+use Rattle.match_turns.specs.Words.{STACK_START, STACK_END, W32, low, Event, Memory, number_at, Rax, Rcx, Rdx, Rsp, Instr, State, register, of_test, no_exception, Local, FuncletKind, BodyState, with_slot, LinearBody, LinearFunclet, BodyName, FuncletBody, funclet_body, Item, Store, Configuration, flag_of, Layout, sizes, move, put_back, keep, local_at, machine, HasCode, Enters, FramePlace, ReachesBody, StackItem, is_encodable, IsFinallyKind, parent_of, function_of, owner_of, IsFuncletOf, owners_of, by_parent, Activation, locals_of, IsActivation, HasSpace, below_end, record_room, HasPointers, FuncletIsAbove, IsWellFormed, KeepsShadow, AllKeep, LeadsTo, parent_base, keep_argument, FindsReturn, with_values, OwnerHasFrame, IsKnown, entry_turns, FlagsFit, LARGEST_FRAME, Setting, HasProgram, IsMachineMemory, RepresentsAt}
 use Rattle.linear_code.specs.declared.program.FuncletKind.TheVariants as funclets
-use Rattle.linear_code.specs.BodyState.{BodyState, with_slot}
-use Rattle.linear_code.specs.Program.{LinearBody, LinearFunclet}
 use Rattle.linear_machine.specs.Frames as linear
-use Rattle.linear_machine.specs.Frames.{BodyName, FuncletBody, funclet_body, Item, Store, set_local, Configuration}
-use Rattle.linear_machine.specs.Unwinding.{flag_in, flag_of}
-use Rattle.template_code.specs.declared.layout.Layout.{Layout}
-use Rattle.template_code.specs.Bytes.{sizes}
-use Rattle.template_code.specs.Operations.{move}
-use Rattle.template_code.specs.Slots.{fetched, put_back, keep, keep_local, local_at}
+use Rattle.linear_machine.specs.Frames.{set_local}
+use Rattle.linear_machine.specs.Unwinding.{flag_in}
+use Rattle.template_code.specs.Slots.{fetched, keep_local}
 use Rattle.template_code.proofs.Sizes.{sizes_append}
-use Rattle.x64_templates.specs.Straight.{machine}
-use Rattle.x64_templates.specs.Runs.{Steps, HasCode, Enters, FramePlace, ReachesBody}
+use Rattle.x64_templates.specs.Runs.{Steps}
 use Rattle.x64_templates.proofs.Computes.{code_split}
 use Rattle.x64_templates.proofs.Encoded.{near}
-use Rattle.match_stack.specs.Stack.{StackItem}
-use Rattle.x64_encode.specs.Chosen.{is_encodable}
 use Rattle.x64_templates.proofs.PlacedCode.{enters_then}
 use Rattle.x64_templates.proofs.FuncletEntries.{flag_run}
 use Rattle.x64_templates.proofs.FilterEntries.{Within}
-use Rattle.lowering_invariants.specs.Bodies.{IsFinallyKind, parent_of, function_of, owner_of, IsFuncletOf}
-use Rattle.lowering_invariants.specs.Activations.{owners_of}
-use Rattle.match_stack.specs.ImagePlan.{by_parent}
-use Rattle.match_stack.specs.ItemMatches.{Activation, locals_of, IsActivation, HasSpace, below_end, record_room, HasPointers, FuncletIsAbove}
-use Rattle.match_stack.specs.DispatchStates.{IsWellFormed}
-use Rattle.match_runs.specs.Shadow.{is_call, KeepsShadow, AllKeep}
+use Rattle.match_runs.specs.Shadow.{is_call}
 use Rattle.match_runs.proofs.Shadows.{straight, keep_first}
-use Rattle.match_runs.specs.Comes.{LeadsTo}
-use Rattle.match_bodies.specs.CodeSites.{begin_of, making_size, parent_base, keep_argument, arguments_code}
-use Rattle.match_bodies.specs.Callers.{FindsReturn}
+use Rattle.match_bodies.specs.CodeSites.{begin_of, making_size, arguments_code}
 use Rattle.match_bodies.proofs.InstructionEffects.{others_of}
 use Rattle.match_bodies.proofs.SilentTurns.{program_kept, enters_silently}
 use Rattle.match_bodies.proofs.RoutineWalks.{Ran as MidRan, read_here, StepsTo, reaches_steps, enters_steps, keeps_split, Beneath, beneath_by, callers_above, Finds, ran}
@@ -52,7 +27,6 @@ use Rattle.match_bodies.proofs.ReturnAddresses.{label_found, argument_found}
 use Rattle.match_bodies.proofs.FrameMaking.{frame_there}
 use Rattle.match_bodies.proofs.EntryKeeping.{EntryRan}
 use Rattle.match_bodies.specs.BodyViews.{frame_at, state_of}
-use Rattle.match_bodies.specs.SlotStores.{with_values, OwnerHasFrame}
 use Rattle.match_bodies.proofs.ActivationPlaces.{locals_count}
 use Rattle.match_bodies.proofs.ActivationStores.{activated}
 use Rattle.match_bodies.proofs.ChainKeeping.{reaches_keeps, enters_keeps, stays_well_formed}
@@ -61,8 +35,6 @@ use Rattle.match_bodies.proofs.BodyViews.{IsCounted, frame_top, placed, count, r
 use Rattle.match_bodies.proofs.TemplateSlots.{Leaves}
 use Rattle.match_bodies.proofs.NextInstruction.{Ran, returns, new_on, represents_next}
 use Rattle.match_bodies.proofs.SlotWrites.{set_length, local_after}
-use Rattle.match_bodies.specs.ConfigurationFacts.{IsKnown}
-use Rattle.match_turns.specs.FuncletEntry.{entry_turns, FlagsFit}
 use Rattle.match_turns.proofs.FuncletPrologue.{LeadsBy}
 use Rattle.match_turns.proofs.FuncletFrame.{ArrivesBelow, IsPlanned, funclet_planned, HasFrame, first_frame, beginning, begins}
 use Rattle.match_turns.proofs.FuncletConfiguration.{HasLocals, activation_at, as_many, no_leaf, parent_locals, leads_by, locals_counted, owner_framed}
@@ -70,8 +42,6 @@ use Rattle.match_turns.proofs.FuncletFirstTurns.{HasEntered, entered, first_smal
 use Rattle.match_turns.proofs.ReturnAddressPlace.{top_of, begins_beneath}
 use Rattle.match_turns.proofs.FuncletShadow.{base_code, arguments_are, base_is_plain, funclet_ran}
 use Rattle.match_turns.proofs.FilterEntry.{has_first, parent_is}
-use Rattle.template_code.specs.declared.layout.TheConstants.{LARGEST_FRAME}
-use Rattle.match_bodies.specs.Setting.{Setting, HasProgram, IsMachineMemory, RepresentsAt}
 
 same_number : (a b : ℕ) → Some a ≡ Some b → a ≡ b
 same_number a b e = cc

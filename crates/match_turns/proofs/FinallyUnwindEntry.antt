@@ -1,20 +1,12 @@
 -- A `__finally` block begins that an unwinding runs.
 use Rattle.std.proofs.Common.{◌+◌, ◌≤◌, true, List, [], ◌∷◌, ◌++◌, length, ap, arith}
 use Rattle.seh_num.specs.declared.event.Event.TheVariants as events
-use Rattle.virtual_unwind.specs.CallerOf.{Functions}
-use Rattle.host_model.specs.declared.funclet.Funclet.{Funclet}
-use Rattle.linear_code.specs.Program.{LinearProgram}
-use Rattle.linear_machine.specs.Frames.{Waits, Unwinds}
-use Rattle.match_stack.specs.WalkLaws.{context_below}
-use Rattle.match_stack.specs.ImagePlan.{ImagePlan}
-use Rattle.match_bodies.specs.CodeSites.{Sites}
-use Rattle.match_bodies.specs.ProgramImages.{IsProgramImage}
+use Rattle.match_turns.specs.Words.{Functions, Funclet, LinearProgram, Waits, Unwinds, context_below, ImagePlan, Sites, IsProgramImage, FlagsFit, setting_of}
 use Rattle.match_bodies.proofs.ActivationPlaces.{locals_count}
-use Rattle.match_turns.specs.FuncletEntry.{FlagsFit, BlocksBegin}
+use Rattle.match_turns.specs.FuncletEntry.{BlocksBegin}
 use Rattle.match_turns.proofs.DispatchSpace.{shallow_is, unwind_space}
 use Rattle.match_turns.proofs.FuncletFrame.{arrives_below}
 use Rattle.match_turns.proofs.FinallyEntry.{block_leads}
-use Rattle.match_bodies.specs.Setting.{setting_of}
 
 pub blocks_begin : (t : Functions) (fs : List Funclet) (program : LinearProgram) (p : ImagePlan)
     (q : Sites) → IsProgramImage t fs program p q → FlagsFit program → BlocksBegin t fs program p q

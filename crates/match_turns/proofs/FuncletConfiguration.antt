@@ -1,24 +1,15 @@
 -- What is known of a funclet that begins, from the configuration in which it does.
 use Rattle.std.proofs.Common.{◌≡◌, ℕ, zero, suc, false, Option, Some, None, List, [], ◌∷◌, ◌++◌, length, refl, sym, ap, subst, ◌∙◌, arith, inl, inr, length-append}
 use Rattle.std.specs.Prelude.{slice_get}
-use Rattle.flat_memory.specs.Memory.{Memory}
-use Rattle.linear_code.specs.declared.program.RegionKind.{RegionKind}
+use Rattle.match_turns.specs.Words.{Memory, RegionKind, FuncletKind, LinearProgram, LinearBody, LinearFunclet, BodyName, FunctionBody, FuncletBody, body_of, function_body, funclet_body, Frame, Handler, Item, Waits, Searches, Unwinds, parent_of, function_of, owner_of, IsFuncletOf, with_own, owners_of, by_parent, Activation, activations_below, parent_base, IsFuncletPlan, OwnerHasFrame, Setting}
 use Rattle.linear_code.specs.declared.program.RegionKind.TheVariants as kinds
-use Rattle.linear_code.specs.declared.program.FuncletKind.{FuncletKind}
 use Rattle.linear_code.specs.declared.program.FuncletKind.TheVariants as funclets
-use Rattle.linear_code.specs.Program.{LinearProgram, LinearBody, LinearFunclet}
-use Rattle.linear_machine.specs.Frames.{BodyName, FunctionBody, FuncletBody, body_of, function_body, funclet_body, Frame, Handler, Item, Waits, Searches, Unwinds}
-use Rattle.lowering_invariants.specs.Bodies.{IsFilterKind, parent_of, function_of, owner_of, IsFuncletOf, IsKindOf}
+use Rattle.lowering_invariants.specs.Bodies.{IsFilterKind, IsKindOf}
 use Rattle.lowering_invariants.specs.Waiting.{Handles, IsHandler}
-use Rattle.lowering_invariants.specs.Activations.{with_own, owners_of, WorksOn, AreWorking, IsActivationOf, AreActivations}
-use Rattle.match_stack.specs.ImagePlan.{by_parent}
-use Rattle.match_stack.specs.ItemMatches.{Activation, activations_below, Leads}
-use Rattle.match_bodies.specs.CodeSites.{parent_base}
-use Rattle.match_bodies.specs.Layouts.{IsFuncletPlan}
-use Rattle.match_bodies.specs.SlotStores.{OwnerHasFrame}
+use Rattle.lowering_invariants.specs.Activations.{WorksOn, AreWorking, IsActivationOf, AreActivations}
+use Rattle.match_stack.specs.ItemMatches.{Leads}
 use Rattle.match_bodies.proofs.ActivationPlaces.{got_before, got_last}
 use Rattle.match_turns.proofs.FuncletPrologue.{LeadsBy}
-use Rattle.match_bodies.specs.Setting.{Setting}
 
 same_number : (a b : ℕ) → Some a ≡ Some b → a ≡ b
 same_number a b e = cc

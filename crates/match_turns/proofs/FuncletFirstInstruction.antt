@@ -3,35 +3,17 @@ use Rattle.std.proofs.Common.{◌≡◌, ℕ, ◌^◌, ◌<◌, ◌≤◌, Bool,
 use Rattle.std.specs.Prelude.{slice_get}
 use Rattle.std.proofs.lemmas.Bool.{le-leb}
 use Rattle.std.proofs.lemmas.Option.{slice_get_cases}
-use Rattle.seh_num.specs.declared.width.Width.TheVariants.{W64}
-use Rattle.flat_memory.specs.Memory.{Memory, executable}
-use Rattle.x64_instr.specs.declared.register.Reg.TheVariants.{Rsp}
+use Rattle.match_turns.specs.Words.{W64, Memory, executable, Rsp, Instr, leading, chosen, is_encodable, Cpu, State, distance, arrivals, no_flags, LinearFunclet, FuncletBody, body_of, funclet_body, size, enter_code, code_from, HasCode, making, frame_code, entry_code, links_of, IsFuncletPlan, Setting, HasProgram}
 use Rattle.x64_instr.specs.declared.operand.RegisterOrMemory.TheVariants as places
 use Rattle.x64_instr.specs.declared.operand.Operand.TheVariants as operands
 use Rattle.x64_instr.specs.declared.instruction.Operation.TheVariants as operations
-use Rattle.x64_instr.specs.declared.instruction.Instr.{Instr}
 use Rattle.x64_instr.specs.declared.instruction.Instr.TheVariants as instrs
-use Rattle.x64_instr.specs.Spelling.{leading}
-use Rattle.x64_encode.specs.Chosen.{chosen, is_encodable}
 use Rattle.x64_encode.proofs.Lengths.{longest}
-use Rattle.x64_machine.specs.declared.cpu.Cpu.{Cpu}
-use Rattle.x64_machine.specs.Effect.{State}
-use Rattle.virtual_unwind.specs.CallerOf.{distance}
-use Rattle.host_model.specs.Funclets.{arrivals}
-use Rattle.host_model.specs.Dispatch.{no_flags}
-use Rattle.linear_code.specs.Program.{LinearFunclet}
-use Rattle.linear_machine.specs.Frames.{FuncletBody, body_of, funclet_body}
-use Rattle.template_code.specs.Bytes.{size}
-use Rattle.template_code.specs.Calls.{enter_code}
-use Rattle.template_code.specs.Template.{code_from}
 use Rattle.x64_templates.specs.Straight.{takes_frame}
-use Rattle.x64_templates.specs.Runs.{HasCode}
 use Rattle.x64_templates.proofs.PlacedCode.{bytes_split, spells, reads}
 use Rattle.x64_templates.proofs.Computes.{code_split}
 use Rattle.x64_templates.proofs.Encoded.{near}
-use Rattle.match_bodies.specs.CodeSites.{making, frame_code, arguments_code, entry_code, links_of}
-use Rattle.match_bodies.specs.Layouts.{IsFuncletPlan}
-use Rattle.match_bodies.specs.Setting.{Setting, HasProgram}
+use Rattle.match_bodies.specs.CodeSites.{arguments_code}
 
 -- the first instruction of code that is somewhere is read there
 reads_first : (m : Memory) (at : ℕ) (j : Instr) → is_encodable j ≡ true → HasCode m at (j ∷ [])

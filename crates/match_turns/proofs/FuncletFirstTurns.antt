@@ -2,37 +2,18 @@
 use Rattle.std.proofs.Common.{◌≡◌, ℕ, ◌+◌, ◌-◌, ◌*◌, ◌^◌, ◌<◌, ◌≤◌, Some, None, List, [], ◌∷◌, ◌++◌, length, refl, sym, ap, subst, ◌∙◌, arith}
 use Rattle.std.specs.Prelude.{slice_index, drop, replicate}
 use Rattle.std.proofs.lemmas.Bool.{le-leb}
-use Rattle.host_layout.specs.declared.range.TheConstants.{STACK_START, STACK_END}
-use Rattle.flat_memory.specs.Memory.{Memory, number_at}
-use Rattle.x64_instr.specs.declared.register.Reg.TheVariants.{Rcx, Rdx, Rsp}
-use Rattle.x64_instr.specs.declared.instruction.Instr.{Instr}
-use Rattle.x64_machine.specs.declared.cpu.Flags.{Flags}
-use Rattle.x64_machine.specs.Effect.{State, register}
-use Rattle.virtual_unwind.specs.CallerOf.{distance}
-use Rattle.host_model.specs.Funclets.{arrivals}
-use Rattle.linear_machine.specs.Frames.{FuncletBody, body_of, funclet_body, Item}
-use Rattle.template_code.specs.declared.layout.Layout.{Layout}
-use Rattle.template_code.specs.Bytes.{sizes}
-use Rattle.template_code.specs.Calls.{enter_code}
-use Rattle.template_code.specs.Template.{code_from}
+use Rattle.match_turns.specs.Words.{STACK_START, STACK_END, Memory, number_at, Rcx, Rdx, Rsp, Instr, Flags, State, register, distance, arrivals, FuncletBody, body_of, funclet_body, Item, Layout, sizes, enter_code, code_from, MachineView, machine, sp_of, HasCode, Enters, Activation, below_end, record_room, links_of, making, frame_code, parent_base, keep_argument, funclet_arguments, entry_code, seen_by_templates, LARGEST_FRAME, Setting, HasProgram, IsMachineMemory}
 use Rattle.template_code.proofs.Sizes.{sizes_append}
-use Rattle.x64_templates.specs.Straight.{MachineView, machine}
-use Rattle.x64_templates.specs.CallStates.{sp_of}
-use Rattle.x64_templates.specs.Runs.{HasCode, Enters}
 use Rattle.x64_templates.proofs.Computes.{code_split}
 use Rattle.x64_templates.proofs.FilterEntries.{Within, within_keeps_code}
-use Rattle.match_stack.specs.ItemMatches.{Activation, below_end, record_room}
 use Rattle.match_stack.proofs.ListEnds.{in_stack}
 use Rattle.match_bodies.specs.CodeSites as sites
-use Rattle.match_bodies.specs.CodeSites.{links_of, making, frame_code, parent_base, keep_argument, funclet_arguments, arguments_code, entry_code}
-use Rattle.match_bodies.specs.BodyViews.{seen_by_templates}
+use Rattle.match_bodies.specs.CodeSites.{arguments_code}
 use Rattle.match_bodies.proofs.ActivationPlaces.{activations_are_at}
 use Rattle.match_bodies.proofs.BodyViews.{is_machine}
 use Rattle.match_bodies.proofs.TemplateRuns.{index_of, sp_seen}
 use Rattle.match_turns.proofs.FuncletPrologue.{LeadsBy, first_code, Made, HasRoom, made}
 use Rattle.match_turns.proofs.FuncletFrame.{ArrivesBelow, IsPlanned}
-use Rattle.template_code.specs.declared.layout.TheConstants.{LARGEST_FRAME}
-use Rattle.match_bodies.specs.Setting.{Setting, HasProgram, IsMachineMemory}
 
 dropped_count : (rs : List ℕ) → length rs ≡ 16 → length (drop 3 rs) ≡ 13
 dropped_count [] e = absurd (omega arith)

@@ -4,40 +4,14 @@ use Rattle.std.proofs.Common.{◌≡◌, ℕ, ◌+◌, ◌^◌, ◌<◌, ◌≤�
 use Rattle.std.specs.Prelude.{◌⊎◌, slice_get}
 use Rattle.std.specs.List.{AllByRecursion}
 use Rattle.std.proofs.lemmas.Bool.{cases_lt}
-use Rattle.host_layout.specs.declared.range.TheConstants.{STACK_START, STACK_END}
-use Rattle.seh_num.specs.declared.event.Event.{Event}
-use Rattle.flat_memory.specs.declared.protection.Protection.{Protection}
-use Rattle.flat_memory.specs.Protections.{is_writable}
-use Rattle.flat_memory.specs.Memory.{Memory, may_write, number_at}
-use Rattle.x64_instr.specs.declared.register.Reg.TheVariants.{Rcx, Rdx, Rsp}
-use Rattle.x64_machine.specs.Contexts.{context_of}
-use Rattle.x64_machine.specs.Effect.{State, register}
-use Rattle.virtual_unwind.specs.Undone.{word}
-use Rattle.virtual_unwind.specs.CallerOf.{Functions}
-use Rattle.host_model.specs.declared.funclet.Funclet.{Funclet}
-use Rattle.source_meaning.specs.State.{Exception}
-use Rattle.source_meaning.specs.Source.{is_reserved}
-use Rattle.linear_code.specs.declared.program.Region.{Region}
-use Rattle.linear_code.specs.Program.{LinearProgram, LinearFunclet}
-use Rattle.linear_machine.specs.Frames.{BodyName, FuncletBody, body_of, funclet_body, Frame, Item, Store, Configuration}
-use Rattle.linear_machine.specs.Regions.{holds, regions_of}
-use Rattle.template_code.specs.declared.layout.Layout.{Layout}
+use Rattle.match_turns.specs.Words.{STACK_START, STACK_END, Event, Protection, is_writable, Memory, may_write, number_at, Rcx, Rdx, Rsp, context_of, State, register, word, Functions, Funclet, Exception, is_reserved, Region, LinearProgram, LinearFunclet, BodyName, FuncletBody, body_of, funclet_body, Frame, Item, Store, Configuration, holds, regions_of, Layout, StackItem, context_below, ImagePlan, InCode, IsFunclet, Activation, locals_of, IsActivation, HasActivation, HoldsWords, HasSpace, below_end, HasPointers, FuncletIsAbove, BodyWaits, ReturnsTo, KeepsStack, On, IsWellFormed, Arrives, IsFuncletPlan, slots_end, last_temporary, Setting, InBody, IsMachineMemory, RepresentsAt}
 use Rattle.x64_templates.proofs.PlacedCode.{same_number}
 use Rattle.x64_templates.proofs.FilterEntries.{Within}
-use Rattle.match_stack.specs.Stack.{StackItem}
-use Rattle.match_stack.specs.WalkLaws.{context_below}
-use Rattle.match_stack.specs.ImagePlan.{ImagePlan, InCode, IsFunclet}
-use Rattle.match_stack.specs.ItemMatches.{Activation, locals_of, Reaches, IsActivation, HasActivation, HoldsWords, HasSpace, below_end, HasPointers, FuncletIsAbove, BodyWaits, ReturnsTo}
-use Rattle.match_stack.specs.ListLaws.{KeepsStack}
+use Rattle.match_stack.specs.ItemMatches.{Reaches}
 use Rattle.match_stack.proofs.ListKeeping.{kept_by_other_memories}
-use Rattle.match_stack.specs.StackRecords.{On}
-use Rattle.match_stack.specs.DispatchStates.{IsWellFormed, Arrives}
-use Rattle.match_bodies.specs.Layouts.{IsFuncletPlan}
-use Rattle.match_bodies.specs.Bodies.{slots_end, last_temporary}
 use Rattle.match_bodies.proofs.StackWords.{word_is, word_of, may_read_written}
 use Rattle.match_bodies.proofs.SlotPlaces.{stack_is_reserved}
 use Rattle.match_bodies.proofs.ProgramKeeping.{program_stays}
-use Rattle.match_bodies.specs.Setting.{Setting, InBody, IsMachineMemory, RepresentsAt}
 
 pub same_regions : (rs : List Region) (label : ℕ)
     → AllByRecursion (λ (r : Region). holds label r ≡ holds label r) rs

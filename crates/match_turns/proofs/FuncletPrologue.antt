@@ -1,22 +1,12 @@
 -- Where a funclet begins its frame is made, and the base is kept in it: RDX, or what the parent's
 -- frame in RDX keeps.
 use Rattle.std.proofs.Common.{◌≡◌, ℕ, ◌+◌, ◌-◌, ◌%◌, ◌^◌, ◌<◌, ◌≤◌, true, false, Option, Some, None, Ok, List, [], ◌∷◌, ◌++◌, length, refl, ap, subst, ◌∙◌, arith}
-use Rattle.flat_memory.specs.Memory.{Memory, may_read, may_write, first_refused, number_at, access}
-use Rattle.virtual_unwind.specs.Undone.{word, readable}
-use Rattle.x64_instr.specs.declared.register.Reg.TheVariants.{Rax, Rdx}
-use Rattle.x64_instr.specs.declared.instruction.Instr.{Instr}
-use Rattle.x64_machine.specs.declared.cpu.Flags.{Flags}
+use Rattle.match_turns.specs.Words.{Memory, may_read, may_write, first_refused, number_at, access, word, readable, Rax, Rdx, Instr, Flags, Answer, W64, low, sizes, enter_code, keep_register, MachineView, machine, Executes, sp_of, with_sp, moved, HasCode, Enters, keep_base}
 use Rattle.seh_num.specs.Answers.{◌>>=◌}
-use Rattle.x64_machine.specs.Effect.{Answer, load}
-use Rattle.seh_num.specs.declared.width.Width.TheVariants.{W64}
-use Rattle.seh_num.specs.Widths.{low}
-use Rattle.template_code.specs.Bytes.{sizes}
+use Rattle.x64_machine.specs.Effect.{load}
 use Rattle.template_code.specs.Slots.{fetched}
-use Rattle.template_code.specs.Calls.{enter_code, keep_register, keep_parents_base}
+use Rattle.template_code.specs.Calls.{keep_parents_base}
 use Rattle.template_code.proofs.Sizes.{sizes_append}
-use Rattle.x64_templates.specs.Straight.{MachineView, machine, Executes}
-use Rattle.x64_templates.specs.CallStates.{sp_of, with_sp, moved}
-use Rattle.x64_templates.specs.Runs.{HasCode, Enters}
 use Rattle.x64_templates.proofs.PlacedCode.{all_may, load_at, enters_then}
 use Rattle.x64_templates.proofs.Straight.{executes_one, executes_then}
 use Rattle.x64_templates.proofs.Cells.{put}
@@ -28,7 +18,6 @@ use Rattle.x64_templates.proofs.Parameters.{kept_at, keeps_register}
 use Rattle.x64_templates.proofs.Funclets.{HasCell, keeps_of_cell}
 use Rattle.x64_templates.proofs.FuncletEntries.{funclet_enters}
 use Rattle.x64_templates.proofs.FilterEntries.{Within, within_cell}
-use Rattle.match_bodies.specs.CodeSites.{keep_base}
 
 -- a word that is read may be read
 pub word_readable : (m : Memory) (at v : ℕ) → word m at ≡ Ok v

@@ -2,48 +2,18 @@
 -- RSP at the record.
 use Rattle.std.proofs.Common.{◌≡◌, ℕ, zero, ◌+◌, ◌<◌, ◌≤◌, Some, List, [], ◌∷◌, length, refl, sym, ap, subst, ◌∙◌, arith}
 use Rattle.std.specs.Prelude.{slice_get, replicate}
-use Rattle.seh_num.specs.declared.width.Width.TheVariants.{W32}
-use Rattle.seh_num.specs.Widths.{low}
-use Rattle.x64_instr.specs.declared.register.Reg.TheVariants.{Rsp}
-use Rattle.x64_machine.specs.Contexts.{context_of}
-use Rattle.x64_machine.specs.Effect.{State, register}
-use Rattle.source_meaning.specs.State.{Exception}
-use Rattle.linear_code.specs.declared.slot.Slot.{Slot}
+use Rattle.match_turns.specs.Words.{W32, low, Rsp, context_of, State, register, Exception, Slot, Region, LinearFunclet, FuncletBody, Frame, Handler, Target, Resumption, Item, Waits, Searches, Unwinds, Configuration, Next, with_some, read, answer, end_funclet, end_body, act, exec, return_code, StackItem, Searching, Unwinding, context_below, activations_below, On, SearchIsAnswered, linear_answer, Comes, HasRule, IsMatched, HaveRoom, AreWaiting, turns_left, KnownNext, FlagsFit, waiting_below, Setting, IsMachineMemory, RepresentsAt, Continuations, Represents}
 use Rattle.linear_code.specs.declared.instruction.Instruction.TheVariants as instructions
-use Rattle.linear_code.specs.declared.program.Region.{Region}
 use Rattle.linear_code.specs.declared.program.FuncletKind.TheVariants as funclets
-use Rattle.linear_code.specs.Program.{LinearFunclet}
-use Rattle.linear_machine.specs.Frames.{FuncletBody, Frame, Handler, Target, Resumption, Item, Waits, Searches, Unwinds, Configuration, Next, with_some, read}
-use Rattle.linear_machine.specs.Searching.{answer}
-use Rattle.linear_machine.specs.Instructions.{end_funclet, end_body, act}
-use Rattle.linear_machine.specs.Run.{exec}
-use Rattle.template_code.specs.Calls.{return_code}
-use Rattle.match_stack.specs.Stack.{StackItem, Searching, Unwinding}
-use Rattle.match_stack.specs.WalkLaws.{context_below}
-use Rattle.match_stack.specs.ItemMatches.{activations_below}
-use Rattle.match_stack.specs.StackRecords.{On}
-use Rattle.match_stack.specs.DispatchSteps.{SearchIsAnswered}
-use Rattle.match_stack.specs.FilterReturns.{linear_answer}
-use Rattle.match_runs.specs.Comes.{Comes}
-use Rattle.match_runs.specs.Ends.{HasRule}
-use Rattle.match_runs.specs.Matched.{IsMatched}
-use Rattle.lowering_invariants.specs.Room.{HaveRoom}
-use Rattle.lowering_invariants.specs.Waiting.{AreWaiting}
-use Rattle.match_bodies.specs.Bodies.{turns_left}
 use Rattle.match_bodies.proofs.StackContexts.{on_moved}
 use Rattle.match_bodies.proofs.SilentTurns.{reaches_silently}
-use Rattle.match_bodies.specs.ConfigurationFacts.{KnownNext}
 use Rattle.match_bodies.proofs.BodyViews.{IsCounted}
-use Rattle.match_turns.specs.FuncletEntry.{FlagsFit}
 use Rattle.match_turns.proofs.BodyReturn as leaving
 use Rattle.match_turns.proofs.BodyReturn.{returns_soon}
-use Rattle.match_turns.specs.TurnLaws.{waiting_below}
 use Rattle.match_turns.proofs.DispatchReturnSteps.{filter_step, finally_step}
 use Rattle.match_turns.proofs.HostPage.{host_silent}
 use Rattle.match_turns.proofs.FilterAnswer.{answer_low}
 use Rattle.match_turns.proofs.DispatchStackTop.{IsSearchOnTop, IsUnwindingOnTop, search_on_top, unwinding_on_top, none_landed}
-use Rattle.match_bodies.specs.Setting.{Setting, IsMachineMemory, RepresentsAt}
-use Rattle.match_turns.specs.SettingOutcome.{Continuations, Represents}
 
 module _ (setting : Setting) (roomy : HaveRoom setting.program) where
   open setting use {functions as t, funclets as fs, program, plan as p, sites as q, image}

@@ -1,26 +1,12 @@
 -- A funclet returns, by what waits below it.
 use Rattle.std.proofs.Common.{◌≡◌, ℕ, zero, Option, Some, None, List, [], ◌∷◌, refl, subst, inl}
 use Rattle.std.specs.Prelude.{slice_get}
-use Rattle.x64_machine.specs.Effect.{State}
-use Rattle.linear_code.specs.declared.slot.Slot.{Slot}
+use Rattle.match_turns.specs.Words.{State, Slot, LinearFunclet, FuncletBody, Item, Waits, Searches, Unwinds, Configuration, read, act, instruction_at, exec, FuncletIsAbove, IsAbove, HasRule, Moves, IsMatched, turns_left, IsWellMade, IsKnown, KnownNext, turns_per_step, FlagsFit, Setting, setting_of, RepresentsAt, Continuations, Represents}
 use Rattle.linear_code.specs.declared.instruction.Instruction.TheVariants as instructions
-use Rattle.linear_code.specs.Program.{LinearFunclet}
-use Rattle.linear_machine.specs.Frames.{FuncletBody, Item, Waits, Searches, Unwinds, Configuration, read}
-use Rattle.linear_machine.specs.Instructions.{act}
-use Rattle.linear_machine.specs.Run.{instruction_at, exec}
-use Rattle.match_stack.specs.ItemMatches.{FuncletIsAbove, IsAbove}
-use Rattle.match_runs.specs.Ends.{HasRule}
-use Rattle.match_runs.specs.Matched.{Moves, IsMatched}
-use Rattle.match_bodies.specs.Bodies.{turns_left}
-use Rattle.match_bodies.specs.ConfigurationFacts.{IsWellMade, IsKnown, KnownNext}
-use Rattle.match_bodies.specs.StepLaws.{turns_per_step}
 use Rattle.match_bodies.proofs.StepNeeds.{counted_here, code_at, ready_here}
-use Rattle.match_turns.specs.FuncletEntry.{FlagsFit}
 use Rattle.match_turns.proofs.FuncletSteps.{reads_some, returns_of_blocks_are_matched}
 use Rattle.match_turns.specs.EndLaws.{FuncletReturnsAreMatched}
 use Rattle.match_turns.proofs.FuncletReturn.{filter_returns, block_returns}
-use Rattle.match_bodies.specs.Setting.{Setting, setting_of, RepresentsAt}
-use Rattle.match_turns.specs.SettingOutcome.{Continuations, Represents}
 
 module _ (setting : Setting) (made : IsWellMade setting.program setting.plan)
     (fits : FlagsFit setting.program) (continues : Continuations setting) where

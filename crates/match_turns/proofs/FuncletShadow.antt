@@ -2,14 +2,8 @@
 use Rattle.std.proofs.Common.{◌≡◌, ℕ, ◌+◌, ◌^◌, ◌<◌, ◌≤◌, Option, Some, None, List, ◌++◌, length, refl, sym, ap, ◌∙◌, arith}
 use Rattle.std.specs.Prelude.{if◌then◌else◌}
 use Rattle.std.proofs.lemmas.Bool.{le-leb}
-use Rattle.host_layout.specs.declared.range.TheConstants.{STACK_START, STACK_END}
-use Rattle.flat_memory.specs.Memory.{Memory}
-use Rattle.x64_instr.specs.declared.register.Reg.TheVariants.{Rsp}
-use Rattle.x64_instr.specs.declared.instruction.Instr.{Instr}
-use Rattle.x64_machine.specs.Effect.{State, register}
-use Rattle.linear_machine.specs.Frames.{FuncletBody, funclet_body, Item}
-use Rattle.match_stack.specs.ItemMatches.{Activation}
-use Rattle.match_bodies.specs.CodeSites.{parent_base, keep_base, keep_argument, funclet_arguments, arguments_code}
+use Rattle.match_turns.specs.Words.{STACK_START, STACK_END, Memory, Rsp, Instr, State, register, FuncletBody, funclet_body, Item, Activation, parent_base, keep_base, keep_argument, funclet_arguments, Setting, IsMachineMemory}
+use Rattle.match_bodies.specs.CodeSites.{arguments_code}
 use Rattle.match_bodies.proofs.InstructionEffects.{others_of}
 use Rattle.match_bodies.proofs.RoutineWalks.{StepsTo, AllPlain}
 use Rattle.match_bodies.proofs.FrameMaking.{making_steps}
@@ -17,7 +11,6 @@ use Rattle.match_bodies.proofs.EntryKeeping.{EntryRan, entry_ran, base_plain}
 use Rattle.match_turns.proofs.FuncletPrologue.{LeadsBy}
 use Rattle.match_turns.proofs.FuncletFrame.{ArrivesBelow, IsPlanned}
 use Rattle.match_turns.proofs.ReturnAddressPlace.{arrives_beneath}
-use Rattle.match_bodies.specs.Setting.{Setting, IsMachineMemory}
 
 -- the parent's base is near, where it is kept in a frame
 pub near_parent : (m : Memory) (o : Option ℕ) (frame base : ℕ) → LeadsBy m o frame base → (away : ℕ)

@@ -1,21 +1,14 @@
 -- The steps that call a `__finally` block and return from it, by what is known of configurations.
 use Rattle.std.proofs.Common.{◌≡◌, ℕ, zero, suc, ◌<◌, Option, Some, None, List, [], ◌∷◌, length, refl, subst, arith}
 use Rattle.std.specs.Prelude.{slice_get, slice_index}
-use Rattle.linear_code.specs.declared.slot.Slot.{Slot}
-use Rattle.linear_code.specs.declared.slot.Slot.TheVariants.{Local, Temporary}
-use Rattle.linear_code.specs.declared.instruction.Instruction.{Instruction}
+use Rattle.match_turns.specs.Words.{Slot, Local, Temporary, Instruction, LinearProgram, LinearBody, FuncletBody, body_of, Frame, Waits, Configuration, read, local_of, instruction_in, IsHeld, AreWaiting, Setting, setting_of}
 use Rattle.linear_code.specs.declared.instruction.Instruction.TheVariants as instructions
-use Rattle.linear_code.specs.Program.{LinearProgram, LinearBody}
-use Rattle.linear_machine.specs.Frames.{FuncletBody, body_of, Frame, Waits, Configuration, read, local_of}
-use Rattle.linear_machine.specs.Run.{instruction_in}
-use Rattle.lowering_invariants.specs.Ready.{IsHeld}
-use Rattle.lowering_invariants.specs.Waiting.{IsAt, IsAbove, AreWaiting, IsBlockOf}
+use Rattle.lowering_invariants.specs.Waiting.{IsAt, IsAbove, IsBlockOf}
 use Rattle.match_bodies.proofs.StepNeeds.{counted_here, code_at, ready_here}
 use Rattle.match_turns.specs.FuncletLaws.{CalledFiltersBegin, CalledBlocksBegin, ReturnsOfBlocksAreMatched}
 use Rattle.match_turns.proofs.FilterEntry.{filters_begin}
 use Rattle.match_turns.proofs.FinallyUnwindEntry.{blocks_begin}
 use Rattle.match_turns.proofs.FinallyCallReturn.{return_of_block}
-use Rattle.match_bodies.specs.Setting.{Setting, setting_of}
 
 -- a slot that is held is read
 got_within : (vs : List ℕ) (i : ℕ) → i < length vs → slice_get vs i ≡ Some (slice_index vs i)

@@ -2,22 +2,9 @@
 use Rattle.std.proofs.Common.{◌≡◌, ℕ, ◌+◌, ◌-◌, ◌<◌, ◌≤◌, Bool, true, false, Some, List, length, refl, sym, ap, subst, ◌∙◌, arith, inl, inr}
 use Rattle.std.specs.Prelude.{nat_le, if◌then◌else◌}
 use Rattle.std.proofs.lemmas.Bool.{cases_lt, le-leb}
-use Rattle.host_layout.specs.declared.range.TheConstants.{STACK_START, STACK_END}
-use Rattle.x64_instr.specs.declared.register.Reg.TheVariants.{Rsp}
-use Rattle.x64_instr.specs.declared.instruction.Instr.{Instr}
-use Rattle.x64_machine.specs.Effect.{register}
+use Rattle.match_turns.specs.Words.{STACK_START, STACK_END, Rsp, Instr, register, LinearBody, FunctionBody, body_of, Layout, sizes, spelled, enter_code, parameters_code, check_stack, enter_large, HasBelow, HasCode, making, IsFunctionLayout, IsLeafLayout, IsLayoutIf, Setting}
 use Rattle.linear_code.specs.declared.instruction.Instruction.TheVariants as instructions
-use Rattle.linear_code.specs.Program.{LinearBody}
-use Rattle.linear_machine.specs.Frames.{FunctionBody, body_of}
-use Rattle.template_code.specs.declared.layout.Layout.{Layout}
-use Rattle.template_code.specs.Bytes.{sizes, spelled}
-use Rattle.template_code.specs.Calls.{enter_code, parameters_code}
-use Rattle.template_code.specs.Probing.{check_stack, enter_large}
-use Rattle.x64_templates.specs.CallStates.{HasBelow}
-use Rattle.x64_templates.specs.Runs.{HasCode}
 use Rattle.x64_templates.proofs.PlacedCode.{bytes_kept}
-use Rattle.match_bodies.specs.CodeSites.{making}
-use Rattle.match_bodies.specs.Layouts.{IsFunctionLayout, IsLeafLayout, IsLayoutIf}
 use Rattle.match_bodies.proofs.FrameMaking.{making_steps}
 use Rattle.match_bodies.proofs.StackWords.{may_read_written}
 use Rattle.match_turns.proofs.CallArguments as calling
@@ -26,7 +13,6 @@ use Rattle.match_turns.proofs.FunctionParameters as entering
 use Rattle.match_turns.proofs.FunctionEntryCode.{making_frame, HasEntry, has_entry}
 use Rattle.match_turns.proofs.FunctionPrologue.{Made, no_frame, small_frame, large_frame}
 use Rattle.match_turns.proofs.AtCall.{AtCall}
-use Rattle.match_bodies.specs.Setting.{Setting}
 
 module _ {setting : Setting} (at_call : AtCall setting) where
   open setting use {functions as t, funclets as fs, program, plan as p, sites as q, image}

@@ -1,22 +1,11 @@
 -- The code at a function's first byte: it makes the frame, and stores the arguments.
 use Rattle.std.proofs.Common.{◌≡◌, ℕ, ◌+◌, Bool, Some, List, ◌++◌, length, sym, ap, subst, ◌∙◌, arith}
 use Rattle.std.specs.Prelude.{slice_get}
-use Rattle.flat_memory.specs.Memory.{Memory}
-use Rattle.x64_instr.specs.declared.instruction.Instr.{Instr}
-use Rattle.virtual_unwind.specs.CallerOf.{Functions}
-use Rattle.host_model.specs.declared.funclet.Funclet.{Funclet}
-use Rattle.linear_code.specs.Program.{LinearProgram, LinearFunction}
-use Rattle.linear_machine.specs.Frames.{FunctionBody, function_body, body_of}
-use Rattle.template_code.specs.declared.layout.Layout.{Layout}
-use Rattle.template_code.specs.Bytes.{sizes}
-use Rattle.template_code.specs.Calls.{parameters_code}
-use Rattle.template_code.specs.Template.{code_from}
+use Rattle.match_turns.specs.Words.{Memory, Instr, Functions, Funclet, LinearProgram, LinearFunction, FunctionBody, function_body, body_of, Layout, sizes, parameters_code, code_from, HasCode, ImagePlan, Sites, links_of, frame_code, function_arguments, entry_code, IsProgramImage}
 use Rattle.template_code.proofs.Sizes.{sizes_append}
-use Rattle.x64_templates.specs.Runs.{HasCode}
 use Rattle.x64_templates.proofs.Computes.{code_split}
-use Rattle.match_stack.specs.ImagePlan.{ImagePlan}
-use Rattle.match_bodies.specs.CodeSites.{Sites, links_of, frame_code, function_arguments, arguments_code, entry_code}
-use Rattle.match_bodies.specs.ProgramImages.{HasProgram, IsProgramImage}
+use Rattle.match_bodies.specs.CodeSites.{arguments_code}
+use Rattle.match_bodies.specs.ProgramImages.{HasProgram}
 use Rattle.match_bodies.proofs.FrameMaking.{making_steps}
 
 abbrev pub making_frame : ImagePlan → Sites → ℕ → Bool → List Instr

@@ -3,16 +3,8 @@ use Rattle.std.proofs.Common.{◌≡◌, ℕ, zero, suc, ◌+◌, ◌-◌, ◌*�
 use Rattle.std.specs.Prelude.{◌⊎◌, slice_get}
 use Rattle.std.proofs.lemmas.Bool.{cases_eq, eq-eqb, ne_eqb}
 use Rattle.std.proofs.lemmas.Option.{slice_get_within}
-use Rattle.flat_memory.specs.Memory.{Memory, number_at}
-use Rattle.linear_code.specs.declared.slot.Slot.{Slot}
-use Rattle.linear_code.specs.declared.slot.Slot.TheVariants.{Local}
-use Rattle.linear_code.specs.BodyState.{with_slot}
-use Rattle.virtual_unwind.specs.Undone.{word}
-use Rattle.x64_templates.specs.EntryStates.{with_arguments}
-use Rattle.x64_templates.specs.Frames.{IsBytes}
+use Rattle.match_turns.specs.Words.{Memory, number_at, Slot, Local, with_slot, word, with_arguments, IsBytes, HoldsWords, AreSmall}
 use Rattle.x64_templates.proofs.Entries.{number_small}
-use Rattle.match_stack.specs.ItemMatches.{HoldsWords}
-use Rattle.lowering_invariants.specs.SmallNumbers.{AreSmall}
 use Rattle.match_bodies.proofs.TemplateChanges.{words_are}
 
 -- ---- arguments in locals

@@ -2,33 +2,16 @@
 use Rattle.std.proofs.Common.{◌≡◌, ℕ, zero, suc, ◌+◌, ◌-◌, ◌*◌, ◌^◌, ◌<◌, ◌≤◌, true, false, Some, None, List, ◌++◌, length, refl, sym, ap, subst, ◌∙◌, arith, inl, inr, length-append}
 use Rattle.std.specs.Prelude.{◌⊎◌, slice_index, nat_lt}
 use Rattle.std.proofs.lemmas.Bool.{cases_lt, lt-ltb, le-ltb}
-use Rattle.host_layout.specs.declared.range.TheConstants.{STACK_START, STACK_END}
-use Rattle.flat_memory.specs.Memory.{Memory, may_write, number_at}
-use Rattle.flat_memory.specs.declared.protection.Protection.{Protection}
-use Rattle.flat_memory.specs.Protections.{is_writable}
-use Rattle.x64_instr.specs.declared.register.Reg.TheVariants.{Rsp}
-use Rattle.x64_machine.specs.declared.cpu.Flags.{Flags}
-use Rattle.x64_machine.specs.Effect.{State, register}
-use Rattle.source_meaning.specs.Source.{is_reserved}
-use Rattle.linear_code.specs.declared.slot.Slot.TheVariants.{Local, Temporary}
+use Rattle.match_turns.specs.Words.{STACK_START, STACK_END, Memory, may_write, number_at, Protection, is_writable, Rsp, Flags, State, register, is_reserved, Local, Temporary, LinearBody, FunctionBody, body_of, function_body, Layout, sizes, spelled, IsNear, return_at, passing_code, parameters_code, MachineView, machine, HasBelow, with_arguments, HasBase, MemoryKeepsBase, IsBytes, Agrees, HasCode, Reaches, Enters, FramePlace, Roomy, ReachesBody, counts_of, LARGEST_FRAME, Setting}
 use Rattle.linear_code.specs.declared.instruction.Instruction.TheVariants as instructions
-use Rattle.linear_code.specs.Program.{LinearBody}
-use Rattle.linear_machine.specs.Frames.{FunctionBody, body_of, function_body}
-use Rattle.template_code.specs.declared.layout.Layout.{Layout}
-use Rattle.template_code.specs.Bytes.{sizes, spelled}
-use Rattle.template_code.specs.Jumps.{IsNear}
-use Rattle.template_code.specs.Calls.{return_at, passing_code, stack_parameter, parameter_code, parameters_code}
-use Rattle.x64_templates.specs.Straight.{MachineView, machine}
-use Rattle.x64_templates.specs.CallStates.{HasBelow}
-use Rattle.x64_templates.specs.EntryStates.{with_arguments, OnStack, IsFunctionFrame, body_in_memory, FreshFrame}
-use Rattle.x64_templates.specs.Frames.{InTemporaries, InLocals, HasBase, MemoryKeepsBase, KeepsReserved, IsBytes, Agrees}
-use Rattle.x64_templates.specs.Runs.{HasCode, Reaches, Enters, FramePlace, Roomy, ReachesBody}
+use Rattle.template_code.specs.Calls.{stack_parameter, parameter_code}
+use Rattle.x64_templates.specs.EntryStates.{OnStack, IsFunctionFrame, body_in_memory, FreshFrame}
+use Rattle.x64_templates.specs.Frames.{InTemporaries, InLocals, KeepsReserved}
 use Rattle.x64_templates.proofs.PlacedCode.{bytes_kept, same_number, enters_then}
 use Rattle.x64_templates.proofs.Entries.{pushed_agrees, pushed_bytes}
 use Rattle.x64_templates.proofs.Entering.{fresh_holds, parameters_run}
 use Rattle.match_bodies.specs.CodeSites.{arguments_code}
 use Rattle.match_bodies.proofs.FrameMaking.{making_steps}
-use Rattle.match_bodies.specs.BodyViews.{counts_of}
 use Rattle.match_bodies.proofs.SlotPlaces.{stack_is_reserved}
 use Rattle.match_bodies.proofs.StackWords.{may_read_written}
 use Rattle.match_bodies.proofs.BodyViews.{holds_here}
@@ -38,9 +21,7 @@ use Rattle.match_turns.proofs.CallArguments as calling
 use Rattle.match_turns.proofs.CallWaitingCaller.{back_near}
 use Rattle.match_turns.proofs.FunctionLocals.{argument_is}
 use Rattle.match_turns.proofs.FunctionPrologue.{Made}
-use Rattle.template_code.specs.declared.layout.TheConstants.{LARGEST_FRAME}
 use Rattle.match_turns.proofs.AtCall.{AtCall}
-use Rattle.match_bodies.specs.Setting.{Setting}
 
 -- ---- what a frame needs
 

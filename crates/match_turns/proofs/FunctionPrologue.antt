@@ -2,17 +2,8 @@
 -- all in a leaf function.
 use Rattle.std.proofs.Common.{◌≡◌, ◌≢◌, ℕ, zero, suc, ◌+◌, ◌-◌, ◌^◌, ◌<◌, ◌≤◌, List, length, get_or, set, refl, subst, ◌∙◌, arith, inl, inr, get_or-set_same, get_or-set_other, length-set}
 use Rattle.std.specs.Prelude.{◌⊎◌}
-use Rattle.x64_machine.specs.declared.cpu.Flags.{Flags}
-use Rattle.x64_machine.specs.Effect.{State}
-use Rattle.template_code.specs.Bytes.{sizes}
-use Rattle.template_code.specs.Jumps.{IsNear}
-use Rattle.template_code.specs.Calls.{enter_code}
-use Rattle.template_code.specs.Probing.{check_stack, enter_large}
+use Rattle.match_turns.specs.Words.{Flags, State, sizes, IsNear, enter_code, check_stack, enter_large, MachineView, machine, sp_of, with_sp, pushed, moved, HasBelow, InRegisters, HasCode, Reaches, Enters}
 use Rattle.template_code.proofs.Sizes.{call_size}
-use Rattle.x64_templates.specs.Straight.{MachineView, machine}
-use Rattle.x64_templates.specs.CallStates.{sp_of, with_sp, pushed, moved, HasBelow}
-use Rattle.x64_templates.specs.EntryStates.{InRegisters}
-use Rattle.x64_templates.specs.Runs.{HasCode, Reaches, Enters}
 use Rattle.x64_templates.proofs.Returns.{sp_moved, enter_run}
 use Rattle.x64_templates.proofs.Entries.{beside}
 use Rattle.x64_templates.proofs.LargeEntries.{enter_large_run}

@@ -3,40 +3,15 @@ use Rattle.std.proofs.Common.{◌≡◌, ◌≢◌, ℕ, ◌+◌, ◌<◌, Some,
 use Rattle.std.specs.Prelude.{get_or, slice_get, replicate}
 use Rattle.std.proofs.lemmas.List.{append-nil, length-drop}
 use Rattle.std.proofs.lemmas.Option.{slice_get-get_or}
-use Rattle.seh_num.specs.declared.width.Width.TheVariants.{W32}
-use Rattle.seh_num.specs.Widths.{signed}
-use Rattle.x64_instr.specs.declared.register.Reg.TheVariants.{Rsp}
-use Rattle.x64_machine.specs.declared.context.Context.{Context}
-use Rattle.x64_machine.specs.Effect.{State, register}
-use Rattle.virtual_unwind.specs.CallerOf.{distance}
-use Rattle.host_model.specs.Funclets.{arrivals}
-use Rattle.linear_code.specs.declared.slot.Slot.{Slot}
+use Rattle.match_turns.specs.Words.{W32, signed, Rsp, Context, State, register, distance, arrivals, Slot, LinearBody, LinearFunclet, FunctionBody, FuncletBody, body_of, funclet_body, Frame, Item, Waits, Store, Configuration, Finished, Next, with_some, read, instruction_in, left_store, end_body, act, Layout, return_code, MachineView, machine, HasBack, with_sp, moved, Returned, Reaches, context_below, Activation, activations_below, return_of, ReturnsTo, On, store_of, on_top, IsWellFormed, AllKeep, Moves, HaveRoom, held_below, turns_left, slots_end, Setting, RepresentsAt}
 use Rattle.linear_code.specs.declared.instruction.Instruction.TheVariants as instructions
 use Rattle.linear_code.specs.declared.program.FuncletKind.TheVariants as kinds
-use Rattle.linear_code.specs.Program.{LinearBody, LinearFunclet}
-use Rattle.linear_machine.specs.Frames.{FunctionBody, FuncletBody, body_of, funclet_body, Frame, Item, Waits, Store, Configuration, Finished, Next, with_some, read}
-use Rattle.linear_machine.specs.Run.{instruction_in}
-use Rattle.linear_machine.specs.Unwinding.{left_store}
-use Rattle.linear_machine.specs.Instructions.{return, end_body, act}
+use Rattle.linear_machine.specs.Instructions.{return}
 use Rattle.source_meaning.specs.declared.ended.Ended.TheVariants as ends
-use Rattle.template_code.specs.declared.layout.Layout.{Layout}
-use Rattle.template_code.specs.Calls.{return_code}
-use Rattle.x64_templates.specs.Straight.{MachineView, machine}
-use Rattle.x64_templates.specs.CallStates.{HasBack, with_sp, moved}
-use Rattle.x64_templates.specs.Returned.{Returned}
-use Rattle.x64_templates.specs.Runs.{Reaches}
 use Rattle.x64_templates.proofs.PlacedCode.{reaches_then}
 use Rattle.x64_templates.proofs.Returns.{sp_moved}
-use Rattle.match_stack.specs.WalkLaws.{context_below}
-use Rattle.match_stack.specs.ItemMatches.{Activation, activations_below, return_of, ReturnsTo}
-use Rattle.match_stack.specs.StackRecords.{On}
-use Rattle.match_stack.specs.HostUnwind.{store_of, on_top}
 use Rattle.match_stack.proofs.UnwindBlocks.{left_activations}
-use Rattle.match_stack.specs.DispatchStates.{IsWellFormed}
-use Rattle.match_runs.specs.Shadow.{AllKeep}
-use Rattle.match_runs.specs.Matched.{Moves, Exits}
-use Rattle.lowering_invariants.specs.Room.{HaveRoom}
-use Rattle.match_bodies.specs.Bodies.{held_below, turns_left, slots_end}
+use Rattle.match_runs.specs.Matched.{Exits}
 use Rattle.match_bodies.proofs.StackWalks.{keep_then}
 use Rattle.match_bodies.proofs.SilentTurns.{reaches_silently}
 use Rattle.match_bodies.proofs.ChainKeeping.{reaches_keeps, stays_well_formed}
@@ -45,7 +20,6 @@ use Rattle.match_bodies.proofs.TemplateRuns.{v, slots, same_state, index_of}
 use Rattle.match_turns.proofs.CallResult.{IsSurrounded, answered}
 use Rattle.match_turns.proofs.CallReturn.{returns_at, resumes}
 use Rattle.match_turns.proofs.BodyReturn as leaving
-use Rattle.match_bodies.specs.Setting.{Setting, RepresentsAt}
 
 module _ (setting : Setting) (roomy : HaveRoom setting.program) where
   open setting use {functions as t, funclets as fs, program, plan as p, sites as q, image}

@@ -1,12 +1,7 @@
 -- In the host's page no funclet begins.
 use Rattle.std.proofs.Common.{◌≡◌, ℕ, ◌<◌, ◌≤◌, [], length, ap, arith, inl, inr}
 use Rattle.std.proofs.lemmas.Option.{slice_get_cases}
-use Rattle.flat_memory.specs.Memory.{Memory}
-use Rattle.x64_machine.specs.declared.cpu.Cpu.{Cpu}
-use Rattle.virtual_unwind.specs.CallerOf.{distance}
-use Rattle.host_model.specs.Funclets.{arrivals}
-use Rattle.linear_machine.specs.Frames.{FuncletBody, funclet_body}
-use Rattle.match_bodies.specs.Setting.{Setting, HasProgram}
+use Rattle.match_turns.specs.Words.{Memory, Cpu, distance, arrivals, FuncletBody, funclet_body, Setting, HasProgram}
 
 module _ (setting : Setting) where
   open setting use {functions as t, funclets as fs, program, plan as p, image}

@@ -2,24 +2,12 @@
 use Rattle.std.proofs.Common.{◌≡◌, ℕ, ◌+◌, ◌^◌, ◌<◌, ◌≤◌, Bool, true, false, cond, List, ◌∷◌, Some, None, ap, ◌∙◌, arith}
 use Rattle.std.specs.Prelude.{nat_lt}
 use Rattle.std.proofs.lemmas.Bool.{le-ltb}
-use Rattle.host_layout.specs.declared.range.TheConstants.{STACK_START, STACK_END}
-use Rattle.flat_memory.specs.Memory.{Memory, first_refused, may_write, with_bytes}
-use Rattle.x64_machine.specs.declared.cpu.Cpu.{Cpu}
-use Rattle.x64_machine.specs.Contexts.{context_of}
-use Rattle.x64_machine.specs.Effect.{State}
-use Rattle.virtual_unwind.specs.Contexts.{rsp}
+use Rattle.match_turns.specs.Words.{STACK_START, STACK_END, Memory, first_refused, may_write, with_bytes, Cpu, context_of, State, rsp, Waits, Configuration, StackItem, Activation, KeepsAbove, IsWellFormed, AsksHost, Setting, HasProgram, InBody, IsMachineMemory, IsResumed}
 use Rattle.seh_records.specs.Record.{return_address_at, misplaced, place_below}
-use Rattle.linear_machine.specs.Frames.{Waits, Configuration}
 use Rattle.x64_templates.proofs.PlacedCode.{all_may}
-use Rattle.match_stack.specs.Stack.{StackItem}
-use Rattle.match_stack.specs.ItemMatches.{Activation}
-use Rattle.match_stack.specs.ListLaws.{KeepsAbove}
 use Rattle.match_stack.proofs.ListEnds.{in_stack}
 use Rattle.match_stack.proofs.ListKeeping.{kept_by_stores_below}
-use Rattle.match_stack.specs.DispatchStates.{IsWellFormed}
-use Rattle.match_stack.specs.DispatchSteps.{AsksHost}
 use Rattle.match_bodies.proofs.StackTop.{body_on_top}
-use Rattle.match_bodies.specs.Setting.{Setting, HasProgram, InBody, IsMachineMemory, IsResumed}
 
 -- in the stack, far enough above its start, a record can be placed
 pub record_fits : (m : Memory) (sp : ℕ) → STACK_START + 1592 ≤ sp → sp ≤ STACK_END

@@ -1,42 +1,11 @@
 -- The host's turns at its services, and steps of linear code that one of them matches.
 use Rattle.std.proofs.Common.{◌≡◌, ℕ, ◌+◌, ◌%◌, ◌≤◌, Bool, cond, List, [], ◌∷◌, ◌++◌, Option, None, Ok, Err, refl, ap, ◌∙◌}
 use Rattle.std.specs.Prelude.{Result}
-use Rattle.seh_num.specs.declared.width.Width.TheVariants.{W32, W64}
-use Rattle.seh_num.specs.declared.event.Code.{Code}
-use Rattle.seh_num.specs.declared.event.Event.{Event}
-use Rattle.seh_num.specs.Widths.{low}
+use Rattle.match_turns.specs.Words.{W32, W64, Code, Event, low, address_of, service_at, in_host_page, RefusedAccess, executable, loaded, Rcx, Rdx, Rsp, leading, Context, State, Answer, register, hosted, execute, step, Functions, distance, fetched, filter_return, finally_return, Funclet, Turn, arrivals, arrived, raised, unwound_locally, finally_returned, back, returned, turned, turn, Instruction, LinearProgram, Configuration, Seen, Next, act, ImagePlan, filter_turn, drop_below, started, served, WalkGives, KeepsShadow, IsLive, Comes, IsMatched, Sites, turns_left, KnownNext, entry_turns, KeepsWith}
 use Rattle.host_layout.specs.declared.service.Service.TheVariants as services
-use Rattle.host_layout.specs.Services.{address_of, service_at, in_host_page}
-use Rattle.flat_memory.specs.declared.access.RefusedAccess.{RefusedAccess}
-use Rattle.flat_memory.specs.Memory.{executable, loaded}
-use Rattle.x64_instr.specs.declared.register.Reg.TheVariants.{Rcx, Rdx, Rsp}
-use Rattle.x64_instr.specs.Spelling.{leading}
-use Rattle.x64_machine.specs.declared.context.Context.{Context}
 use Rattle.x64_machine.specs.declared.outcome.Stop.TheVariants as stops
-use Rattle.x64_machine.specs.Effect.{State, Answer, register, hosted, execute, step}
-use Rattle.virtual_unwind.specs.CallerOf.{Functions, distance}
-use Rattle.seh_records.specs.Record.{fetched}
-use Rattle.seh_walk.specs.Walk.{filter_return, finally_return}
-use Rattle.host_model.specs.declared.funclet.Funclet.{Funclet}
-use Rattle.host_model.specs.Turns.{Turn}
-use Rattle.host_model.specs.Funclets.{arrivals, arrived}
-use Rattle.host_model.specs.Dispatch.{raised, unwound_locally, finally_returned}
-use Rattle.host_model.specs.HostStep.{back, returned, turned, turn}
-use Rattle.linear_code.specs.declared.instruction.Instruction.{Instruction}
-use Rattle.linear_code.specs.Program.{LinearProgram}
-use Rattle.linear_machine.specs.Frames.{Configuration, Seen, Next}
-use Rattle.linear_machine.specs.Instructions.{act}
-use Rattle.match_stack.specs.ImagePlan.{ImagePlan}
-use Rattle.match_stack.specs.FilterReturns.{filter_turn}
-use Rattle.match_runs.specs.Shadow.{drop_below, started, served, WalkGives, KeepsShadow}
-use Rattle.match_runs.specs.Comes.{IsLive, Comes}
 use Rattle.match_runs.proofs.Shadows.{host_keeps, fault_keeps}
-use Rattle.match_runs.specs.Matched.{IsMatched}
-use Rattle.match_bodies.specs.CodeSites.{Sites}
-use Rattle.match_bodies.specs.Bodies.{turns_left}
-use Rattle.match_bodies.specs.ConfigurationFacts.{KnownNext}
-use Rattle.match_turns.specs.FuncletEntry.{entry_turns}
-use Rattle.match_turns.specs.DispatchOutcome.{Represents, Shows, KeepsWith}
+use Rattle.match_turns.specs.DispatchOutcome.{Represents, Shows}
 use Rattle.match_turns.proofs.DispatchOutcomeSteps.{outcome_same, matched_by_turn}
 
 module _ (t : Functions) (fs : List Funclet) where

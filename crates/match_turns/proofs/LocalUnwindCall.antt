@@ -4,71 +4,29 @@ use Rattle.std.proofs.Common.{◌≡◌, ℕ, zero, ◌+◌, ◌-◌, ◌%◌, �
 use Rattle.std.specs.Prelude.{slice_get}
 use Rattle.std.proofs.lemmas.List.{length-drop}
 use Rattle.std.proofs.lemmas.Option.{slice_get_within}
-use Rattle.seh_num.specs.declared.width.Width.TheVariants.{W64}
-use Rattle.host_layout.specs.declared.range.TheConstants.{IMAGE_BASE, IMAGE_RANGE_END, STACK_START, STACK_END}
+use Rattle.match_turns.specs.Words.{W64, IMAGE_BASE, IMAGE_RANGE_END, STACK_START, STACK_END, address_of, Memory, loaded, Rcx, Rsp, Instr, Context, Cpu, context_of, State, register, Functions, Funclet, arrived, unwound_locally, Local, Instruction, LinearProgram, LinearBody, Frame, Item, Waits, Configuration, body_of, local_unwind, act, instruction_at, exec, Layout, size, sizes, move, IsNear, MachineView, machine, pushed, Reaches, HasCode, StackItem, Framed, Leaf, ImagePlan, InCode, Activation, SameRegions, Aimed, Linked, KeepsAbove, IsWellFormed, AllKeep, Comes, HasRule, IsMatched, LandsWell, callers, links_of, turns_left, IsWellMade, IsKnown, KnownNext, turns_per_step, FlagsFit, NoneLanded, Setting, setting_of, InBody, IsMachineMemory, IsResumed, RepresentsAt, Represents}
 use Rattle.host_layout.specs.declared.service.Service.TheVariants as services
-use Rattle.host_layout.specs.Services.{address_of}
-use Rattle.flat_memory.specs.Memory.{Memory, loaded}
-use Rattle.x64_instr.specs.declared.register.Reg.TheVariants.{Rcx, Rsp}
-use Rattle.x64_instr.specs.declared.instruction.Instr.{Instr}
 use Rattle.x64_instr.specs.declared.instruction.Instr.TheVariants as instrs
 use Rattle.x64_encode.specs.Chosen.{modrm}
-use Rattle.x64_machine.specs.declared.context.Context.{Context}
-use Rattle.x64_machine.specs.declared.cpu.Cpu.{Cpu}
-use Rattle.x64_machine.specs.Contexts.{context_of}
-use Rattle.x64_machine.specs.Effect.{State, register}
-use Rattle.virtual_unwind.specs.CallerOf.{Functions}
-use Rattle.host_model.specs.declared.funclet.Funclet.{Funclet}
-use Rattle.host_model.specs.Funclets.{arrived}
-use Rattle.host_model.specs.Dispatch.{unwound_locally}
-use Rattle.linear_code.specs.declared.slot.Slot.TheVariants.{Local}
-use Rattle.linear_code.specs.declared.instruction.Instruction.{Instruction}
 use Rattle.linear_code.specs.declared.instruction.Instruction.TheVariants as instructions
-use Rattle.linear_code.specs.Program.{LinearProgram, LinearBody}
-use Rattle.linear_machine.specs.Frames.{Frame, Item, Waits, Configuration, body_of}
-use Rattle.linear_machine.specs.Instructions.{local_unwind, act}
-use Rattle.linear_machine.specs.Run.{instruction_at, exec}
-use Rattle.template_code.specs.declared.layout.Layout.{Layout}
-use Rattle.template_code.specs.Bytes.{size, sizes}
-use Rattle.template_code.specs.Operations.{move}
-use Rattle.template_code.specs.Jumps.{IsNear}
 use Rattle.template_code.specs.Calls.{address_to, local_unwind_code}
 use Rattle.template_code.proofs.Sizes.{address_size, call_size, short, template_sizes}
-use Rattle.x64_templates.specs.Straight.{MachineView, machine}
-use Rattle.x64_templates.specs.CallStates.{pushed}
-use Rattle.x64_templates.specs.Runs.{Reaches, HasCode}
 use Rattle.x64_templates.proofs.PlacedCode.{reaches_then}
 use Rattle.x64_templates.proofs.Services.{thunk_reaches, pushed_thunk}
 use Rattle.x64_templates.proofs.Unwinds.{with_two, local_unwind_begins}
-use Rattle.match_stack.specs.Stack.{StackItem, Framed, Leaf}
-use Rattle.match_stack.specs.ImagePlan.{ImagePlan, InCode}
-use Rattle.match_stack.specs.ItemMatches.{Activation, SameRegions, AimedHere, Aimed, Linked}
-use Rattle.match_stack.specs.ListLaws.{KeepsAbove}
-use Rattle.match_stack.specs.DispatchStates.{IsWellFormed}
+use Rattle.match_stack.specs.ItemMatches.{AimedHere}
 use Rattle.match_stack.proofs.FuncletEntry.{set_small}
-use Rattle.match_runs.specs.Shadow.{AllKeep}
-use Rattle.match_runs.specs.Comes.{Comes}
-use Rattle.match_runs.specs.Ends.{HasRule}
-use Rattle.match_runs.specs.Matched.{IsMatched}
-use Rattle.lowering_invariants.specs.Waiting.{LandsWell}
-use Rattle.match_bodies.specs.Callers.{callers}
-use Rattle.match_bodies.specs.CodeSites.{links_of}
-use Rattle.match_bodies.specs.Bodies.{turns_left}
 use Rattle.match_bodies.proofs.SilentTurns.{reaches_silently}
 use Rattle.match_bodies.proofs.InstructionEffects.{others_of}
 use Rattle.match_bodies.proofs.RoutineWalks.{StepsTo, reaches_steps, steps_split, keeps_split, AllPlain}
 use Rattle.match_bodies.proofs.CallKeeping.{calls_keep, CalleeBegins, callee_begins, thunk_keeps}
 use Rattle.match_bodies.proofs.BodyResumption.{all_front}
-use Rattle.match_bodies.specs.ConfigurationFacts.{IsWellMade, IsKnown, KnownNext}
-use Rattle.match_bodies.specs.StepLaws.{turns_per_step}
 use Rattle.match_bodies.proofs.StepNeeds.{some_is, counted_here, code_at}
 use Rattle.match_bodies.proofs.ChainKeeping.{reaches_keeps, stays_well_formed}
 use Rattle.match_bodies.proofs.TemplateRuns.{v, same_state, template_here, next_address, sp_is}
 use Rattle.match_bodies.proofs.BodyViews.{IsCounted, sp_low, frame_top}
 use Rattle.match_turns.proofs.ReturnAddressPlace.{top_of, begins_beneath}
 use Rattle.match_turns.proofs.CallResult.{offset_most}
-use Rattle.match_turns.specs.FuncletEntry.{FlagsFit}
-use Rattle.match_turns.specs.DispatchOutcome.{NoneLanded}
 use Rattle.match_turns.proofs.CallRegions.{apart_same}
 use Rattle.match_turns.proofs.DispatchStart.{unwound_to}
 use Rattle.match_turns.proofs.HostRequest.{Asks, asks_host}
@@ -81,8 +39,6 @@ use Rattle.match_turns.specs.LocalUnwindPlaces.{AreFollowed, StayInside}
 use Rattle.match_turns.specs.RaiseLaws.{LocalUnwindsAreMatched}
 use Rattle.match_turns.proofs.WaitingBodies.{none_landed_below}
 use Rattle.match_turns.proofs.BodySavedState.{in_body}
-use Rattle.match_bodies.specs.Setting.{Setting, setting_of, InBody, IsMachineMemory, IsResumed, RepresentsAt}
-use Rattle.match_turns.specs.SettingOutcome.{Represents}
 
 -- ---- sizes
 

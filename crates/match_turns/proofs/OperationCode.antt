@@ -2,47 +2,22 @@
 use Rattle.std.proofs.Common.{◌≡◌, ◌≢◌, ℕ, ◌+◌, ◌*◌, ◌^◌, ◌<◌, ◌≤◌, Bool, true, false, List, [], ◌∷◌, length, Option, Some, None, refl, sym, ap, subst, ◌∙◌, arith, inl, inr}
 use Rattle.std.specs.Prelude.{◌⊎◌, slice_get}
 use Rattle.std.proofs.lemmas.Option.{slice_get_cases}
-use Rattle.flat_memory.specs.Memory.{Memory, executable}
-use Rattle.x64_instr.specs.declared.instruction.Instr.{Instr}
-use Rattle.x64_instr.specs.Spelling.{leading}
-use Rattle.x64_encode.specs.Chosen.{chosen}
+use Rattle.match_turns.specs.Words.{Memory, executable, Instr, leading, chosen, Cpu, State, Functions, distance, Funclet, arrivals, no_flags, Operation, Slot, Instruction, HasSlots, LinearProgram, LinearBody, BodyName, FunctionBody, FuncletBody, body_of, Layout, spelled, sizes, keep, operands_code, finish_code, template, template_size, HasBase, HasCode, HaveRoom, ImagePlan, Sites, links_of, IsFunctionLayout, IsLeafLayout, IsLayoutIf, IsLaidOut, IsProgramImage, counts_of, setting_of}
 use Rattle.x64_encode.proofs.Lengths.{longest}
-use Rattle.x64_machine.specs.declared.cpu.Cpu.{Cpu}
-use Rattle.x64_machine.specs.Effect.{State}
-use Rattle.virtual_unwind.specs.CallerOf.{Functions, distance}
-use Rattle.host_model.specs.declared.funclet.Funclet.{Funclet}
-use Rattle.host_model.specs.Funclets.{arrivals}
-use Rattle.host_model.specs.Dispatch.{no_flags}
-use Rattle.c_operations.specs.declared.operation.Operation.{Operation}
-use Rattle.linear_code.specs.declared.slot.Slot.{Slot}
-use Rattle.linear_code.specs.declared.instruction.Instruction.{Instruction}
 use Rattle.linear_code.specs.declared.instruction.Instruction.TheVariants as instructions
 use Rattle.linear_code.specs.BodyState.{Counts}
-use Rattle.linear_code.specs.Meaning.{HasSlots}
-use Rattle.linear_code.specs.Program.{LinearProgram, LinearBody}
-use Rattle.linear_machine.specs.Frames.{BodyName, FunctionBody, FuncletBody, body_of}
-use Rattle.template_code.specs.declared.layout.Layout.{Layout}
-use Rattle.template_code.specs.Bytes.{spelled, sizes}
 use Rattle.template_code.specs.Operations.{work}
-use Rattle.template_code.specs.Slots.{keep, operands_code, finish_code}
-use Rattle.template_code.specs.Template.{template, template_size}
 use Rattle.template_code.proofs.Sizes.{sizes_append}
-use Rattle.x64_templates.specs.Frames.{HasBase, SlotsHaveRoom}
-use Rattle.x64_templates.specs.Runs.{HasCode}
+use Rattle.x64_templates.specs.Frames.{SlotsHaveRoom}
 use Rattle.x64_templates.proofs.PlacedCode.{bytes_split, spells, reads}
 use Rattle.x64_templates.proofs.Computes.{code_split}
 use Rattle.x64_templates.proofs.Encoded.{Fine, none_taking, finish_fine}
-use Rattle.lowering_invariants.specs.Room.{HaveRoom}
-use Rattle.match_stack.specs.ImagePlan.{ImagePlan}
-use Rattle.match_bodies.specs.CodeSites.{Sites, links_of}
-use Rattle.match_bodies.specs.Layouts.{IsFunctionLayout, IsLeafLayout, IsFuncletLayout, IsLayoutIf, IsLaidOut}
-use Rattle.match_bodies.specs.ProgramImages.{HasProgram, IsProgramImage}
+use Rattle.match_bodies.specs.Layouts.{IsFuncletLayout}
+use Rattle.match_bodies.specs.ProgramImages.{HasProgram}
 use Rattle.match_bodies.proofs.SilentTurns.{funclet_makes}
 use Rattle.match_bodies.proofs.ReturnAddresses.{template_there}
 use Rattle.match_bodies.proofs.TemplateSizes.{template_some}
-use Rattle.match_bodies.specs.BodyViews.{counts_of}
 use Rattle.match_bodies.proofs.TemplateRuns.{each}
-use Rattle.match_bodies.specs.Setting.{setting_of}
 
 -- ---- sizes
 

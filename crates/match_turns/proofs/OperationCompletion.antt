@@ -3,39 +3,13 @@ use Rattle.std.proofs.Common.{◌≡◌, ℕ, zero, ◌+◌, ◌*◌, ◌^◌, �
 use Rattle.std.specs.Prelude.{slice_index, slice_set}
 use Rattle.std.proofs.lemmas.List.{append-nil}
 use Rattle.std.proofs.lemmas.Option.{slice_get_within}
-use Rattle.flat_memory.specs.Memory.{Memory}
-use Rattle.x64_instr.specs.declared.register.Reg.TheVariants.{Rax, Rcx, Rsp}
-use Rattle.x64_instr.specs.declared.instruction.Instr.{Instr}
-use Rattle.x64_machine.specs.Effect.{State, register}
-use Rattle.c_operations.specs.Performed.{Gives}
-use Rattle.c_operations.specs.declared.operation.Operation.{Operation}
-use Rattle.linear_code.specs.declared.slot.Slot.{Slot}
-use Rattle.linear_code.specs.declared.slot.Slot.TheVariants.{Temporary}
-use Rattle.template_code.specs.declared.layout.Layout.{Layout}
-use Rattle.linear_code.specs.declared.instruction.Instruction.{Instruction}
+use Rattle.match_turns.specs.Words.{Memory, Rax, Rcx, Rsp, Instr, State, register, Gives, Operation, Slot, Temporary, Layout, Instruction, BodyState, with_slot, HasSlots, LinearBody, Configuration, Next, act, exec, sizes, operands_code, finish_code, machine, ReachesBody, FramePlace, locals_of, AllKeep, Comes, HasRule, Moves, turns_left, IsWellMade, IsKnown, seen_by_templates, counts_of, with_values, ComesTo, Setting, RepresentsAt, WorksOn}
 use Rattle.linear_code.specs.declared.instruction.Instruction.TheVariants as instructions
-use Rattle.linear_code.specs.BodyState.{BodyState, with_slot}
-use Rattle.linear_code.specs.Meaning.{HasSlots}
-use Rattle.linear_code.specs.Program.{LinearBody}
 use Rattle.linear_machine.specs.Frames as linear
-use Rattle.linear_machine.specs.Frames.{Configuration, Next}
-use Rattle.linear_machine.specs.Instructions.{written, act}
-use Rattle.linear_machine.specs.Run.{exec}
-use Rattle.template_code.specs.Bytes.{sizes}
-use Rattle.template_code.specs.Slots.{operands_code, finish_code}
+use Rattle.linear_machine.specs.Instructions.{written}
 use Rattle.template_code.proofs.Lengths.{compute_length}
-use Rattle.x64_templates.specs.Straight.{machine}
-use Rattle.x64_templates.specs.Runs.{ReachesBody, Finished, FramePlace}
-use Rattle.match_stack.specs.ItemMatches.{locals_of}
-use Rattle.match_runs.specs.Shadow.{AllKeep}
-use Rattle.match_runs.specs.Comes.{Comes}
-use Rattle.match_runs.specs.Ends.{HasRule}
-use Rattle.match_runs.specs.Matched.{Moves}
-use Rattle.match_bodies.specs.Bodies.{turns_left}
+use Rattle.x64_templates.specs.Runs.{Finished}
 use Rattle.match_bodies.proofs.SilentTurns.{reaches_silently}
-use Rattle.match_bodies.specs.ConfigurationFacts.{IsWellMade, IsKnown}
-use Rattle.match_bodies.specs.BodyViews.{seen_by_templates, counts_of}
-use Rattle.match_bodies.specs.SlotStores.{with_values}
 use Rattle.match_bodies.proofs.ActivationPlaces.{locals_count}
 use Rattle.match_bodies.proofs.ActivationStores.{activated}
 use Rattle.match_bodies.proofs.BodyViews.{IsCounted, is_machine, placed}
@@ -49,12 +23,9 @@ use Rattle.match_bodies.proofs.SlotWrites.{locals_after, temporaries_after, Fits
 use Rattle.match_bodies.proofs.PlainSteps.{at_other, label_small}
 use Rattle.match_bodies.proofs.ComputeStep.{stored, writes, fits_when_read, leaves_stored}
 use Rattle.match_bodies.proofs.StepNeeds.{held_here, goes_inside}
-use Rattle.match_turns.specs.OperationOutcome.{ComesTo}
 use Rattle.match_turns.proofs.OperationMeaning.{acts_as}
 use Rattle.match_turns.proofs.OperationCode.{some_finish, whole_size}
 use Rattle.match_turns.proofs.OperationInProgress as inside
-use Rattle.match_bodies.specs.Setting.{Setting, RepresentsAt}
-use Rattle.match_turns.specs.SettingOutcome.{WorksOn}
 
 some_length : (code : List Instr) → 1 ≤ sizes code → 1 ≤ length code
 some_length [] le = absurd (omega arith)

@@ -4,52 +4,20 @@ use Rattle.std.proofs.Common.{◌≡◌, ℕ, ◌+◌, ◌^◌, ◌<◌, ◌≤�
 use Rattle.std.specs.Prelude.{slice_get}
 use Rattle.std.specs.List.{AllByRecursion}
 use Rattle.std.proofs.lemmas.Option.{slice_get_within}
-use Rattle.host_layout.specs.declared.range.TheConstants.{STACK_END}
-use Rattle.x64_instr.specs.declared.register.Reg.TheVariants.{Rax, Rcx, Rsp}
-use Rattle.x64_machine.specs.declared.cpu.Cpu.{Cpu}
-use Rattle.x64_machine.specs.Effect.{State, register}
-use Rattle.virtual_unwind.specs.CallerOf.{Functions}
-use Rattle.virtual_unwind.specs.Undone.{word}
-use Rattle.host_model.specs.declared.funclet.Funclet.{Funclet}
-use Rattle.c_operations.specs.declared.operation.Operation.{Operation}
+use Rattle.match_turns.specs.Words.{STACK_END, Rax, Rcx, Rsp, Cpu, State, register, Functions, word, Funclet, Operation, OperationResult, performed, is_reserved, Slot, Temporary, Instruction, BodyState, Region, LinearProgram, LinearBody, body_of, Configuration, holds, regions_of, is_constant, operand, Layout, finish_code, MachineView, HasCode, FramePlace, context_below, ImagePlan, InCode, activations_below, home_end, below_end, HoldsWords, HasActivation, HasPointers, HasSpace, On, Sites, view_of, slots_end, last_temporary, IsWellMade, IsKnown, seen_by_templates, ComesTo, Setting, RepresentsAt, WorksOn}
 use Rattle.c_operations.specs.declared.operation.Operation.TheVariants as operations
-use Rattle.c_operations.specs.Performed.{OperationResult, performed}
-use Rattle.source_meaning.specs.Source.{is_reserved}
-use Rattle.linear_code.specs.declared.slot.Slot.{Slot}
-use Rattle.linear_code.specs.declared.slot.Slot.TheVariants.{Temporary}
-use Rattle.linear_code.specs.declared.instruction.Instruction.{Instruction}
 use Rattle.linear_code.specs.declared.instruction.Instruction.TheVariants as instructions
-use Rattle.linear_code.specs.BodyState.{BodyState}
-use Rattle.linear_code.specs.declared.program.Region.{Region}
-use Rattle.linear_code.specs.Program.{LinearProgram, LinearBody}
-use Rattle.linear_machine.specs.Frames.{body_of, Configuration}
-use Rattle.linear_machine.specs.Regions.{holds, regions_of}
-use Rattle.linear_machine.specs.Instructions.{is_constant, operand}
-use Rattle.template_code.specs.declared.layout.Layout.{Layout}
-use Rattle.template_code.specs.Slots.{finish_code}
-use Rattle.x64_templates.specs.Straight.{MachineView}
 use Rattle.x64_templates.specs.Implements.{IsReady, HasOperands}
-use Rattle.x64_templates.specs.Runs.{HasCode, Finished, FramePlace}
+use Rattle.x64_templates.specs.Runs.{Finished}
 use Rattle.x64_templates.proofs.Computes.{finish_run}
-use Rattle.match_stack.specs.WalkLaws.{context_below}
-use Rattle.match_stack.specs.ImagePlan.{ImagePlan, InCode}
-use Rattle.match_stack.specs.ItemMatches.{activations_below, home_end, below_end, HoldsWords, HasActivation, HasPointers, HasSpace}
-use Rattle.match_stack.specs.StackRecords.{On}
-use Rattle.match_bodies.specs.CodeSites.{Sites}
-use Rattle.match_bodies.specs.ProgramImages.{view_of}
-use Rattle.match_bodies.specs.Bodies.{slots_end, last_temporary, InBody}
+use Rattle.match_bodies.specs.Bodies.{InBody}
 use Rattle.match_bodies.proofs.TemplateSizes.{first_in_code}
-use Rattle.match_bodies.specs.ConfigurationFacts.{IsWellMade, IsKnown}
-use Rattle.match_bodies.specs.BodyViews.{seen_by_templates}
 use Rattle.match_bodies.proofs.BodyViews.{IsCounted, room_here, holds_here}
 use Rattle.match_bodies.proofs.TemplateRuns.{code, frame, slots, has_slots, sp_is, Surroundings}
 use Rattle.match_bodies.proofs.ComputeStep.{same_constant}
 use Rattle.match_bodies.proofs.StepNeeds.{some_is, label_in, counted_here, around_here, code_at}
-use Rattle.match_turns.specs.OperationOutcome.{ComesTo}
 use Rattle.match_turns.proofs.OperationMeaning.{nothing_landed}
 use Rattle.match_turns.proofs.OperationCode.{finish_is_at}
-use Rattle.match_bodies.specs.Setting.{Setting, RepresentsAt}
-use Rattle.match_turns.specs.SettingOutcome.{WorksOn}
 
 -- ---- the body, with RIP elsewhere in the same instruction
 

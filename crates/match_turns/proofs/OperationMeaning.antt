@@ -1,30 +1,14 @@
 -- What linear code does at an operation.
 use Rattle.std.proofs.Common.{◌≡◌, ℕ, zero, suc, ◌<◌, Bool, true, false, List, [], ◌∷◌, length, Option, Some, None, refl, sym, ap, ◌∙◌, arith}
 use Rattle.std.specs.Prelude.{slice_get, slice_index}
-use Rattle.seh_num.specs.declared.event.Code.{Code}
-use Rattle.flat_memory.specs.Memory.{Memory}
-use Rattle.c_operations.specs.declared.operation.Operation.{Operation}
+use Rattle.match_turns.specs.Words.{Code, Memory, Operation, OperationResult, Raises, Undefined, performed, is_reserved, Slot, Local, Temporary, Instruction, LinearProgram, Configuration, Next, local_of, read, with_some, is_constant, operand, act, instruction_at, IsTemporary, ReadsWell, IsHeld, IsReady, LandsWell, turns_left, turns_per_step, ComesTo}
 use Rattle.c_operations.specs.declared.operation.Operation.TheVariants as operations
 use Rattle.c_operations.specs.declared.operation.Pure.TheVariants.{Constant}
-use Rattle.c_operations.specs.Performed.{OperationResult, Raises, Undefined, performed}
 use Rattle.source_meaning.specs.declared.ended.Ended.TheVariants as source
-use Rattle.source_meaning.specs.Source.{is_reserved}
-use Rattle.linear_code.specs.declared.slot.Slot.{Slot}
-use Rattle.linear_code.specs.declared.slot.Slot.TheVariants.{Local, Temporary}
-use Rattle.linear_code.specs.declared.instruction.Instruction.{Instruction}
 use Rattle.linear_code.specs.declared.instruction.Instruction.TheVariants as instructions
-use Rattle.linear_code.specs.Program.{LinearProgram}
-use Rattle.linear_machine.specs.Frames.{Configuration, Next, local_of, read, with_some}
-use Rattle.linear_machine.specs.Instructions.{is_constant, operand, computed, act}
-use Rattle.linear_machine.specs.Run.{instruction_at}
-use Rattle.lowering_invariants.specs.Bodies.{IsTemporary, ReadsWell}
+use Rattle.linear_machine.specs.Instructions.{computed}
 use Rattle.lowering_invariants.specs.Ready as ready
-use Rattle.lowering_invariants.specs.Ready.{IsHeld, IsReady}
-use Rattle.lowering_invariants.specs.Waiting.{LandsWell}
 use Rattle.match_runs.proofs.Matches.{fails_at_once}
-use Rattle.match_bodies.specs.Bodies.{turns_left}
-use Rattle.match_bodies.specs.StepLaws.{turns_per_step}
-use Rattle.match_turns.specs.OperationOutcome.{ComesTo}
 use Rattle.match_turns.specs.FaultLaws.{UndefinedAccessesAreMatched}
 
 -- ---- operands

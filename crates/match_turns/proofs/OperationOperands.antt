@@ -1,39 +1,13 @@
 -- From where an operation begins to where its operands are in their registers.
 use Rattle.std.proofs.Common.{◌≡◌, ℕ, ◌+◌, ◌^◌, ◌<◌, ◌≤◌, false, Bool, List, [], ◌++◌, length, Some, refl, sym, ap, subst, ◌∙◌, arith, length-append}
 use Rattle.std.specs.Prelude.{slice_get, slice_index}
-use Rattle.flat_memory.specs.Memory.{Memory}
-use Rattle.x64_instr.specs.declared.register.Reg.TheVariants.{Rax, Rcx, Rsp}
-use Rattle.x64_instr.specs.declared.instruction.Instr.{Instr}
-use Rattle.x64_machine.specs.Effect.{State, register}
-use Rattle.virtual_unwind.specs.CallerOf.{distance}
-use Rattle.host_model.specs.Funclets.{arrivals}
-use Rattle.c_operations.specs.declared.operation.Operation.{Operation}
-use Rattle.linear_code.specs.declared.slot.Slot.{Slot}
-use Rattle.linear_code.specs.declared.slot.Slot.TheVariants.{Temporary}
-use Rattle.linear_code.specs.declared.instruction.Instruction.{Instruction}
+use Rattle.match_turns.specs.Words.{Memory, Rax, Rcx, Rsp, Instr, State, register, distance, arrivals, Operation, Slot, Temporary, Instruction, HasSlots, LinearBody, Configuration, is_constant, instruction_at, Layout, sizes, fetch, operands_code, finish_code, machine, Reaches, InCode, IsWellFormed, AllKeep, Comes, LeadsTo, view_of, WorksAgain, IsWellMade, IsKnown, counts_of, Setting, setting_of, RepresentsAt, WorksOn}
 use Rattle.linear_code.specs.declared.instruction.Instruction.TheVariants as instructions
-use Rattle.linear_code.specs.Meaning.{HasSlots}
-use Rattle.linear_code.specs.Program.{LinearBody}
-use Rattle.linear_machine.specs.Frames.{Configuration}
-use Rattle.linear_machine.specs.Instructions.{is_constant}
-use Rattle.linear_machine.specs.Run.{instruction_at}
-use Rattle.template_code.specs.declared.layout.Layout.{Layout}
-use Rattle.template_code.specs.Bytes.{sizes}
 use Rattle.template_code.specs.Operations.{before}
-use Rattle.template_code.specs.Slots.{fetch, operands_code, finish_code}
 use Rattle.template_code.proofs.Lengths.{before_length}
-use Rattle.x64_templates.specs.Straight.{machine}
-use Rattle.x64_templates.specs.Runs.{Reaches}
 use Rattle.x64_templates.proofs.Computes.{code_split, Begun, operands_run}
-use Rattle.match_stack.specs.ImagePlan.{InCode}
-use Rattle.match_stack.specs.DispatchStates.{IsWellFormed}
-use Rattle.match_runs.specs.Shadow.{AllKeep}
-use Rattle.match_runs.specs.Comes.{Comes, LeadsTo}
 use Rattle.lowering_invariants.specs.Ready as ready
-use Rattle.match_bodies.specs.ProgramImages.{view_of, WorksAgain}
 use Rattle.match_bodies.proofs.SilentTurns.{reaches_silently}
-use Rattle.match_bodies.specs.ConfigurationFacts.{IsWellMade, IsKnown}
-use Rattle.match_bodies.specs.BodyViews.{counts_of}
 use Rattle.match_bodies.proofs.BodyViews.{IsCounted, room_here, holds_here}
 use Rattle.match_bodies.proofs.TemplateShadows.{kept_by_rest, is_here}
 use Rattle.match_bodies.proofs.TemplateKeeping.{operands_keep}
@@ -44,8 +18,6 @@ use Rattle.match_bodies.proofs.StepNeeds.{counted_here, around_here, code_at, re
 use Rattle.match_turns.specs.FaultLaws.{fetch_turns, OperandsAreFetched}
 use Rattle.match_turns.proofs.OperationCode.{some_finish, whole_size, finish_is_at, silent_within}
 use Rattle.match_turns.proofs.OperationInProgress.{in_body_at, ready_same}
-use Rattle.match_bodies.specs.Setting.{Setting, setting_of, RepresentsAt}
-use Rattle.match_turns.specs.SettingOutcome.{WorksOn}
 
 -- two temporaries are fetched in one turn each
 few_operands : (y : Layout) (o : Operation) (first second : ℕ)

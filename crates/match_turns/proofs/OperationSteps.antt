@@ -1,45 +1,20 @@
 -- Each operation is matched, wherever the machine is.
 use Rattle.std.proofs.Common.{◌≡◌, ℕ, zero, ◌+◌, Bool, List, Option, Some, sym, subst, ◌∙◌, arith, inl, inr}
-use Rattle.seh_num.specs.declared.event.Code.{Code}
-use Rattle.x64_machine.specs.Effect.{State}
-use Rattle.virtual_unwind.specs.CallerOf.{Functions}
-use Rattle.host_model.specs.declared.funclet.Funclet.{Funclet}
-use Rattle.c_operations.specs.declared.operation.Operation.{Operation}
-use Rattle.c_operations.specs.Performed.{OperationResult, Gives, Raises, Undefined}
-use Rattle.source_meaning.specs.Source.{is_reserved}
-use Rattle.linear_code.specs.declared.slot.Slot.{Slot}
-use Rattle.linear_code.specs.declared.slot.Slot.TheVariants.{Local, Temporary}
-use Rattle.linear_code.specs.declared.instruction.Instruction.{Instruction}
+use Rattle.match_turns.specs.Words.{Code, State, Functions, Funclet, Operation, OperationResult, Gives, Raises, Undefined, is_reserved, Slot, Local, Temporary, Instruction, LinearProgram, Configuration, body_of, act, instruction_at, exec, ImagePlan, IsTemporary, ReadsWell, IsInstructionOf, IsReady, HasRule, Moves, IsMatched, Sites, turns_left, IsWellMade, IsKnown, KnownNext, turns_per_step, FlagsFit, ComesTo, Setting, setting_of, WorksOn}
 use Rattle.linear_code.specs.declared.instruction.Instruction.TheVariants as instructions
-use Rattle.linear_code.specs.Program.{LinearProgram}
-use Rattle.linear_machine.specs.Frames.{Configuration, body_of}
-use Rattle.linear_machine.specs.Instructions.{act}
-use Rattle.linear_machine.specs.Run.{instruction_at, exec}
-use Rattle.match_stack.specs.ImagePlan.{ImagePlan}
-use Rattle.lowering_invariants.specs.Bodies.{IsTemporary, ReadsWell, IsInstructionOf}
-use Rattle.lowering_invariants.specs.Ready.{IsReady}
-use Rattle.match_runs.specs.Ends.{HasRule}
-use Rattle.match_runs.specs.Matched.{Moves, IsMatched}
 use Rattle.match_runs.proofs.Matches.{matched_after, matched_slower}
 use Rattle.match_runs.proofs.Turns.{comes_nowhere}
-use Rattle.match_bodies.specs.CodeSites.{Sites}
-use Rattle.match_bodies.specs.Bodies.{turns_left, RepresentsAt}
-use Rattle.match_bodies.specs.ConfigurationFacts.{IsWellMade, IsKnown, KnownNext}
-use Rattle.match_bodies.specs.StepLaws.{turns_per_step}
+use Rattle.match_bodies.specs.Bodies.{RepresentsAt}
 use Rattle.match_bodies.proofs.TemplateRuns.{each}
 use Rattle.match_bodies.proofs.BodySteps.{within_body}
 use Rattle.match_bodies.proofs.StepNeeds.{some_is, label_in, body_there}
-use Rattle.match_turns.specs.FuncletEntry.{FlagsFit}
 use Rattle.match_turns.specs.DispatchOutcome.{Represents}
-use Rattle.match_turns.specs.OperationOutcome.{ComesTo}
 use Rattle.match_turns.specs.FaultLaws.{RetriesAreMatched, ContinuationsAtOperations, OperationsAreMatched}
 use Rattle.match_turns.proofs.OperationMeaning.{comes_to_something, undefined, not_constant, fault_reads}
 use Rattle.match_turns.proofs.OperationOperands.{fetched}
 use Rattle.match_turns.proofs.FaultRaise.{raised_at_once}
 use Rattle.match_turns.proofs.OperationCompletion.{completed}
 use Rattle.match_turns.proofs.FaultContinuation.{silent_there, works_on}
-use Rattle.match_bodies.specs.Setting.{Setting, setting_of}
-use Rattle.match_turns.specs.SettingOutcome.{WorksOn}
 
 -- the operation that an instruction is comes to this
 abbrev Meets : LinearProgram → Configuration → OperationResult → Instruction → Type 0

@@ -4,45 +4,17 @@ use Rattle.std.specs.Prelude.{nat_eq, replicate, slice_get, slice_index, if◌th
 use Rattle.std.proofs.lemmas.Bool.{eq-eqb}
 use Rattle.std.proofs.lemmas.List.{get_or-drop}
 use Rattle.std.proofs.lemmas.Option.{slice_get-get_or}
-use Rattle.seh_num.specs.declared.width.Width.TheVariants.{W32}
-use Rattle.seh_num.specs.declared.event.Code.{Code}
-use Rattle.seh_num.specs.Widths.{low}
-use Rattle.x64_instr.specs.declared.register.Reg.TheVariants.{Rcx, Rdx}
+use Rattle.match_turns.specs.Words.{W32, Code, low, Rcx, Rdx, address_of, context_of, State, register, arrived, raised, RaiseException, Exception, raise_event, Temporary, Instruction, LinearProgram, AfterCall, Configuration, Next, with_some, last_temporaries, raise, count_of, waiting, built_in, act, instruction_at, exec, IsException, HasRule, IsMatched, callers, turns_left, IsWellMade, IsKnown, KnownNext, turns_per_step, FlagsFit, Setting, setting_of, RepresentsAt, Represents}
 use Rattle.host_layout.specs.declared.service.Service.TheVariants as services
-use Rattle.host_layout.specs.Services.{address_of}
-use Rattle.x64_machine.specs.Contexts.{context_of}
-use Rattle.x64_machine.specs.Effect.{State, register}
-use Rattle.host_model.specs.Funclets.{arrived}
-use Rattle.host_model.specs.Dispatch.{raised}
-use Rattle.c_operations.specs.declared.built_in.BuiltIn.TheVariants.{RaiseException}
-use Rattle.source_meaning.specs.State.{Exception}
-use Rattle.source_meaning.specs.Raises.{raise_event}
 use Rattle.source_meaning.specs.Expressions as expressions
-use Rattle.linear_code.specs.declared.slot.Slot.TheVariants.{Temporary}
-use Rattle.linear_code.specs.declared.instruction.Instruction.{Instruction}
 use Rattle.linear_code.specs.declared.instruction.Instruction.TheVariants as instructions
-use Rattle.linear_code.specs.Program.{LinearProgram}
-use Rattle.linear_machine.specs.Frames.{AfterCall, Configuration, Next, with_some, last_temporaries}
-use Rattle.linear_machine.specs.Searching.{raise}
-use Rattle.linear_machine.specs.Instructions.{count_of, waiting, built_in, act}
-use Rattle.linear_machine.specs.Run.{instruction_at, exec}
-use Rattle.match_stack.specs.DispatchSteps.{IsException}
-use Rattle.match_runs.specs.Ends.{HasRule}
-use Rattle.match_runs.specs.Matched.{IsMatched}
-use Rattle.match_bodies.specs.Callers.{callers}
-use Rattle.match_bodies.specs.Bodies.{turns_left}
-use Rattle.match_bodies.specs.ConfigurationFacts.{IsWellMade, IsKnown, KnownNext}
-use Rattle.match_bodies.specs.StepLaws.{turns_per_step}
 use Rattle.match_bodies.proofs.StepNeeds.{counted_here, ready_here}
 use Rattle.match_bodies.proofs.BodyViews.{slots_here}
-use Rattle.match_turns.specs.FuncletEntry.{FlagsFit}
 use Rattle.match_turns.proofs.DispatchStart.{raised_as}
 use Rattle.match_turns.proofs.DispatchWalks.{service_walk}
 use Rattle.match_turns.proofs.HostTurns.{raise_turns, raise_keeps, matched_when_shown}
 use Rattle.match_turns.specs.RaiseLaws.{RaisesAreMatched}
 use Rattle.match_turns.proofs.BuiltInRequest as asking
-use Rattle.match_bodies.specs.Setting.{Setting, setting_of, RepresentsAt}
-use Rattle.match_turns.specs.SettingOutcome.{Represents}
 
 -- an argument, among the last temporaries
 argument_is : (ts : List ℕ) (first i : ℕ) → first + i < length ts

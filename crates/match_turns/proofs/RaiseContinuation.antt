@@ -2,57 +2,25 @@
 -- begins, with the result 0.
 use Rattle.std.proofs.Common.{◌≡◌, ℕ, suc, ◌+◌, ◌*◌, ◌≤◌, Bool, true, false, List, [], ◌∷◌, ◌++◌, length, Some, None, refl, sym, ap, subst, ◌∙◌, arith, length-append}
 use Rattle.std.specs.Prelude.{slice_get}
-use Rattle.x64_instr.specs.declared.register.Reg.TheVariants.{Rsp}
-use Rattle.x64_instr.specs.declared.instruction.Instr.{Instr}
-use Rattle.x64_machine.specs.declared.cpu.Cpu.{Cpu}
-use Rattle.x64_machine.specs.Contexts.{context_of}
-use Rattle.x64_machine.specs.Effect.{State}
-use Rattle.virtual_unwind.specs.CallerOf.{distance}
-use Rattle.host_model.specs.Funclets.{arrivals}
-use Rattle.c_operations.specs.declared.built_in.BuiltIn.TheVariants.{RaiseException}
-use Rattle.linear_code.specs.declared.slot.Slot.TheVariants.{Temporary}
-use Rattle.linear_code.specs.declared.instruction.Instruction.{Instruction}
+use Rattle.match_turns.specs.Words.{Rsp, Instr, Cpu, context_of, State, distance, arrivals, RaiseException, Temporary, Instruction, HasSlots, LinearProgram, LinearBody, BodyName, FunctionBody, FuncletBody, body_of, AfterCall, Waits, Configuration, resumed, Layout, sizes, put_back, keep, temporary_at, call, arguments_code, return_at, begin_call, clear_result, HasCode, StackItem, ImagePlan, Activation, locals_of, On, on_top, IsWellFormed, LeadsTo, IsLayoutIf, IsLaidOut, IsWellMade, IsKnown, counts_of, entry_turns, LARGEST_FRAME, Setting, setting_of, IsMachineMemory, RepresentsAt}
 use Rattle.linear_code.specs.declared.instruction.Instruction.TheVariants as instructions
-use Rattle.linear_code.specs.Meaning.{HasSlots}
-use Rattle.linear_code.specs.Program.{LinearProgram, LinearBody}
-use Rattle.linear_machine.specs.Frames.{BodyName, FunctionBody, FuncletBody, body_of, AfterCall, Waits, Configuration}
-use Rattle.linear_machine.specs.Searching.{resumed}
-use Rattle.template_code.specs.declared.layout.Layout.{Layout}
-use Rattle.template_code.specs.Bytes.{sizes}
-use Rattle.template_code.specs.Slots.{put_back, keep, temporary_at}
-use Rattle.template_code.specs.Jumps.{call}
-use Rattle.template_code.specs.Calls.{arguments_code, return_at, begin_call, clear_result}
 use Rattle.template_code.proofs.Sizes.{sizes_append, call_size}
-use Rattle.x64_templates.specs.Runs.{HasCode}
 use Rattle.x64_templates.proofs.Computes.{code_split}
 use Rattle.x64_templates.proofs.Encoded.{near}
-use Rattle.match_stack.specs.Stack.{StackItem}
-use Rattle.match_stack.specs.ImagePlan.{ImagePlan}
-use Rattle.match_stack.specs.ItemMatches.{Activation, locals_of}
-use Rattle.match_stack.specs.StackRecords.{On}
-use Rattle.match_stack.specs.HostUnwind.{on_top}
-use Rattle.match_stack.specs.DispatchStates.{IsWellFormed}
-use Rattle.match_runs.specs.Comes.{LeadsTo}
 use Rattle.lowering_invariants.specs.Depths.{depth_at, depth_in}
 use Rattle.lowering_invariants.proofs.Scans.{depth_next}
-use Rattle.match_bodies.specs.Layouts.{IsLayoutIf, IsLaidOut}
 use Rattle.match_bodies.specs.ProgramImages.{ReturnsThere}
 use Rattle.match_bodies.proofs.ReturnAddresses.{template_there}
 use Rattle.match_bodies.proofs.SilentTurns.{reaches_silently}
-use Rattle.match_bodies.specs.ConfigurationFacts.{IsWellMade, IsKnown}
-use Rattle.match_bodies.specs.BodyViews.{counts_of}
 use Rattle.match_bodies.proofs.ActivationPlaces.{locals_count}
 use Rattle.match_bodies.proofs.StepNeeds.{label_in, body_there, counted_here}
 use Rattle.match_bodies.proofs.TemplateRuns.{each}
 use Rattle.match_bodies.proofs.BodyViews.{IsCounted}
 use Rattle.match_turns.proofs.CallResult as kept
 use Rattle.match_turns.proofs.CallSteps.{surrounded}
-use Rattle.match_turns.specs.FuncletEntry.{entry_turns}
 use Rattle.match_turns.specs.RaiseLaws.{ContinuationsAfterCalls}
 use Rattle.match_turns.proofs.BuiltInRequest.{clear_size}
 use Rattle.match_turns.proofs.FuncletFirstInstruction.{silent_code}
-use Rattle.template_code.specs.declared.layout.TheConstants.{LARGEST_FRAME}
-use Rattle.match_bodies.specs.Setting.{Setting, setting_of, IsMachineMemory, RepresentsAt}
 
 -- the locals of an activation
 abbrev locals_in : List (List ℕ) → ℕ → List ℕ

@@ -2,25 +2,13 @@
 use Rattle.std.proofs.Common.{◌≡◌, ℕ, zero, suc, ◌+◌, ◌*◌, ◌%◌, ◌^◌, ◌<◌, Bool, true, false, cond, List, get_or, Option, Some, None, refl, sym, ap, ◌∙◌, arith}
 use Rattle.std.specs.Prelude.{not, ◌==◌, replicate, nat_eq}
 use Rattle.std.proofs.lemmas.Bool.{eqb-true, ne_eqb}
-use Rattle.seh_num.specs.Widths.{bytes_of}
-use Rattle.flat_memory.specs.Memory.{Memory, first_refused, may_read, number_at}
-use Rattle.virtual_unwind.specs.CallerOf.{Functions}
+use Rattle.match_turns.specs.Words.{bytes_of, Memory, first_refused, may_read, number_at, Functions, DispatchRecord, fetched, RecordFits, Funclet, parameters, write_number, Field, ExceptionCode, ExceptionFlags, NumberParameters, ExceptionInformation, Exception, of_test, field_of, LinearProgram, field_at, field_width, IsField, ImagePlan}
 use Rattle.seh_records.specs.declared.dispatch.Kind.{Kind}
-use Rattle.seh_records.specs.declared.dispatch.DispatchRecord.{DispatchRecord}
-use Rattle.seh_records.specs.Record.{fetched, if_readable, if_marked, of_kind, kind_of, recorded, word, mark}
-use Rattle.seh_records.specs.Laws.{RecordFits}
+use Rattle.seh_records.specs.Record.{if_readable, if_marked, of_kind, kind_of, recorded, word, mark}
 use Rattle.seh_records.proofs.Fetched.{word_in}
-use Rattle.host_model.specs.declared.funclet.Funclet.{Funclet}
-use Rattle.host_model.specs.Dispatch.{parameters, count, write_number}
-use Rattle.c_operations.specs.declared.field.Field.{Field}
-use Rattle.c_operations.specs.declared.field.Field.TheVariants.{ExceptionCode, ExceptionFlags, NumberParameters, ExceptionInformation}
-use Rattle.source_meaning.specs.State.{Exception}
-use Rattle.source_meaning.specs.Expressions.{of_test, count_of, parameter_of, field_of}
-use Rattle.linear_code.specs.Program.{LinearProgram}
-use Rattle.template_code.specs.Calls.{field_at}
-use Rattle.x64_templates.specs.Exceptions.{field_width, IsField}
+use Rattle.host_model.specs.Dispatch.{count}
+use Rattle.source_meaning.specs.Expressions.{count_of, parameter_of}
 use Rattle.x64_templates.proofs.Information.{field_number}
-use Rattle.match_stack.specs.ImagePlan.{ImagePlan}
 use Rattle.match_stack.specs.ItemMatches.{HasException}
 use Rattle.match_bodies.proofs.StepNeeds.{some_is}
 

@@ -1,18 +1,11 @@
 -- Where a body begins an instruction, and where a funclet is called, the list is above the return
 -- address.
 use Rattle.std.proofs.Common.{ℕ, ◌+◌, ◌≤◌, List, refl, sym, subst, arith}
-use Rattle.host_layout.specs.declared.range.TheConstants.{STACK_END}
-use Rattle.x64_instr.specs.declared.register.Reg.TheVariants.{Rsp}
-use Rattle.x64_machine.specs.Effect.{State, register}
-use Rattle.linear_machine.specs.Frames.{Item, Configuration}
-use Rattle.match_stack.specs.Stack.{IsStack}
-use Rattle.match_stack.specs.WalkLaws.{context_below}
-use Rattle.match_stack.specs.ItemMatches.{Activation}
+use Rattle.match_turns.specs.Words.{STACK_END, Rsp, State, register, Item, Configuration, IsStack, context_below, Activation, Setting, RepresentsAt}
 use Rattle.match_bodies.proofs.InstructionEffects.{others_of}
 use Rattle.match_bodies.proofs.RoutineWalks.{Beneath, beneath_by}
 use Rattle.match_bodies.proofs.BodyViews.{IsCounted, frame_top}
 use Rattle.match_turns.proofs.FuncletFrame.{ArrivesBelow}
-use Rattle.match_bodies.specs.Setting.{Setting, RepresentsAt}
 
 module _ (setting : Setting) where
   open setting use {functions as t, funclets as fs, program, plan as p}

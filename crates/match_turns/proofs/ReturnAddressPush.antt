@@ -3,18 +3,7 @@ use Rattle.std.proofs.Common.{◌≡◌, ℕ, ◌+◌, ◌-◌, ◌%◌, ◌^◌
 use Rattle.std.specs.Prelude.{◌⊎◌}
 use Rattle.std.proofs.lemmas.Bool.{cases_lt}
 use Rattle.std.proofs.lemmas.List.{get_or-set_same, length-set}
-use Rattle.seh_num.specs.declared.width.Width.TheVariants.{W64}
-use Rattle.host_layout.specs.declared.range.TheConstants.{STACK_START, STACK_END}
-use Rattle.flat_memory.specs.Memory.{may_read, may_write, number_at, with_number, access, loaded}
-use Rattle.x64_instr.specs.declared.register.Reg.TheVariants.{Rsp}
-use Rattle.x64_machine.specs.declared.cpu.Cpu.{Cpu}
-use Rattle.x64_machine.specs.declared.cpu.Flags.{Flags}
-use Rattle.x64_machine.specs.Effect.{State, register}
-use Rattle.host_model.specs.HostStep.{back}
-use Rattle.match_stack.specs.ListLaws.{KeepsAbove}
-use Rattle.match_stack.specs.StackRecords.{IsData, IsUntouched}
-use Rattle.x64_templates.specs.Straight.{MachineView, machine}
-use Rattle.x64_templates.specs.CallStates.{pushed, HasBelow, HasBack}
+use Rattle.match_turns.specs.Words.{W64, STACK_START, STACK_END, may_read, may_write, number_at, with_number, access, loaded, Rsp, Cpu, Flags, State, register, back, KeepsAbove, IsData, IsUntouched, MachineView, machine, pushed, HasBelow, HasBack}
 use Rattle.x64_templates.proofs.PlacedCode.{all_may}
 use Rattle.x64_templates.proofs.Entries.{beside, pushed_back, pushed_bytes}
 

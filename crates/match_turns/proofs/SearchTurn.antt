@@ -1,41 +1,19 @@
 -- A turn that searches: a filter begins, a handler takes over, or nobody does.
 use Rattle.std.proofs.Common.{◌≡◌, ℕ, zero, ◌+◌, ◌%◌, ◌^◌, ◌<◌, true, List, [], ◌∷◌, None, refl, sym, ap, subst, arith, inl, inr}
 use Rattle.seh_num.specs.declared.event.Event.TheVariants as events
-use Rattle.x64_machine.specs.Contexts.{context_of}
-use Rattle.x64_machine.specs.Effect.{State}
-use Rattle.virtual_unwind.specs.Contexts.{rsp}
-use Rattle.seh_records.specs.declared.dispatch.DispatchRecord.{DispatchRecord}
-use Rattle.seh_records.specs.Record.{placed}
-use Rattle.host_model.specs.Turns.{Turn}
-use Rattle.host_model.specs.Funclets.{arrived}
-use Rattle.host_model.specs.Dispatch.{accepting, accepted, searches_on, unwinds_on}
-use Rattle.source_meaning.specs.State.{Exception}
-use Rattle.linear_machine.specs.Frames.{Handler, Resumption, Waits, Store, Next, Configuration}
+use Rattle.match_turns.specs.Words.{context_of, State, rsp, DispatchRecord, placed, Turn, arrived, accepted, searches_on, unwinds_on, Exception, Handler, Resumption, Waits, Store, Next, Configuration, begin_filter, accept, unwind, exec, StackItem, Activation, locals_of, Aimed, RecordHasRoom, store_of, FilterBegins, placed_in, from_body, HasRule, callers, turns_left, FlagsFit, Setting, IsMachineMemory, EntersFunclet, Outcome}
+use Rattle.host_model.specs.Dispatch.{accepting}
 use Rattle.linear_machine.specs.Searching as linear
-use Rattle.linear_machine.specs.Searching.{target_of, begin_filter, accept}
-use Rattle.linear_machine.specs.Unwinding.{unwind}
-use Rattle.linear_machine.specs.Run.{exec}
-use Rattle.match_stack.specs.Stack.{StackItem}
-use Rattle.match_stack.specs.ItemMatches.{Activation, locals_of, Aimed}
+use Rattle.linear_machine.specs.Searching.{target_of}
 use Rattle.match_stack.proofs.ListEnds.{in_stack}
-use Rattle.match_stack.specs.StackRecords.{RecordHasRoom}
-use Rattle.match_stack.specs.HostUnwind.{store_of}
-use Rattle.match_stack.specs.SearchOutcomes.{FilterBegins}
 use Rattle.match_stack.specs.TurnLaws.{IsSearching}
-use Rattle.match_stack.specs.DispatchSteps.{placed_in, from_body}
 use Rattle.match_stack.proofs.SearchTurns.{search_turns}
 use Rattle.match_stack.proofs.DispatchSteps.{acceptance_unwinds}
-use Rattle.match_runs.specs.Ends.{HasRule}
-use Rattle.match_bodies.specs.Callers.{callers}
-use Rattle.match_bodies.specs.Bodies.{turns_left}
-use Rattle.match_turns.specs.FuncletEntry.{FlagsFit}
 use Rattle.match_turns.proofs.FuncletSteps.{called_filters_begin}
 use Rattle.match_turns.proofs.DispatchMemory.{memory_untouched, placing}
 use Rattle.match_turns.proofs.DispatchOutcomeSteps.{represents_there, outcome_same}
 use Rattle.match_turns.proofs.DispatchWalks.{filter_walk}
 use Rattle.match_turns.proofs.UnwindTurn.{unwound}
-use Rattle.match_bodies.specs.Setting.{Setting, IsMachineMemory}
-use Rattle.match_turns.specs.SettingOutcome.{EntersFunclet, Outcome}
 
 module _ (setting : Setting) (fits : FlagsFit setting.program) where
   open setting use {functions as t, funclets as fs, program, plan as p, sites as q, image}

@@ -3,35 +3,10 @@ use Rattle.std.proofs.Common.{◌≡◌, ℕ, zero, suc, ◌+◌, ◌^◌, ◌<�
 use Rattle.std.specs.Prelude.{slice_get}
 use Rattle.std.proofs.lemmas.Bool.{ne_eqb}
 use Rattle.std.proofs.lemmas.List.{length-set}
-use Rattle.x64_encode.specs.Chosen.{opcode_register}
-use Rattle.host_layout.specs.declared.range.TheConstants.{IMAGE_BASE, IMAGE_RANGE_END, STACK_START, STACK_END}
-use Rattle.host_layout.specs.Services.{address_of}
-use Rattle.seh_num.specs.declared.width.Width.TheVariants.{W64}
-use Rattle.flat_memory.specs.Memory.{loaded}
-use Rattle.x64_instr.specs.declared.register.Reg.TheVariants.{Rsp}
-use Rattle.x64_machine.specs.declared.cpu.Flags.{Flags}
-use Rattle.x64_machine.specs.Effect.{State, register}
-use Rattle.c_operations.specs.declared.built_in.BuiltIn.{BuiltIn}
-use Rattle.c_operations.specs.declared.built_in.BuiltIn.TheVariants.{Put, Protect, RaiseException}
-use Rattle.linear_code.specs.declared.slot.Slot.TheVariants.{Temporary}
-use Rattle.linear_code.specs.declared.instruction.Instruction.{Instruction}
+use Rattle.match_turns.specs.Words.{opcode_register, IMAGE_BASE, IMAGE_RANGE_END, STACK_START, STACK_END, address_of, W64, loaded, Rsp, Flags, State, register, BuiltIn, Put, Protect, RaiseException, Temporary, Instruction, BodyState, Configuration, Layout, size, sizes, keep, IsNear, call, arguments_code, return_at, begin_call, call_code, clear_result, template_size, body_size, offset_of, MachineView, machine, pushed, Reaches, HasCode, IsLive, Comes, HaveRoom, service_of, Setting, RepresentsAt}
 use Rattle.linear_code.specs.declared.instruction.Instruction.TheVariants as instructions
-use Rattle.linear_code.specs.BodyState.{BodyState}
-use Rattle.linear_machine.specs.Frames.{Configuration}
-use Rattle.template_code.specs.declared.layout.Layout.{Layout}
-use Rattle.template_code.specs.Bytes.{size, sizes}
-use Rattle.template_code.specs.Slots.{keep}
-use Rattle.template_code.specs.Jumps.{IsNear, call}
-use Rattle.template_code.specs.Calls.{arguments_code, return_at, begin_call, call_code, clear_result}
-use Rattle.template_code.specs.Template.{template_size, body_size, offset_of}
 use Rattle.template_code.proofs.Sizes.{sizes_append, call_size, call_code_size}
-use Rattle.x64_templates.specs.Straight.{MachineView, machine}
-use Rattle.x64_templates.specs.CallStates.{pushed}
-use Rattle.x64_templates.specs.Runs.{Reaches, HasCode}
 use Rattle.x64_templates.proofs.Computes.{code_split}
-use Rattle.match_runs.specs.Comes.{IsLive, Comes}
-use Rattle.lowering_invariants.specs.Room.{HaveRoom}
-use Rattle.match_bodies.specs.ProgramImages.{service_of}
 use Rattle.match_bodies.proofs.SilentTurns.{reaches_silently}
 use Rattle.match_bodies.proofs.BodyViews.{IsCounted, room_here, holds_here, sp_low, frame_top}
 use Rattle.match_bodies.proofs.TemplateRuns.{frame, slots, v, sp_is, same_state, has_slots, template_here, next_address}
@@ -39,7 +14,6 @@ use Rattle.match_turns.proofs.BuiltInCall.{ServiceReached, with_arguments_of, se
 use Rattle.match_turns.proofs.BuiltInShadow.{built_in_keeps}
 use Rattle.match_turns.proofs.HostPage.{host_silent}
 use Rattle.match_turns.proofs.ReturnAddressPush.{below, returns_there}
-use Rattle.match_bodies.specs.Setting.{Setting, RepresentsAt}
 
 clear_size : size clear_result ≡ 5
 unfolding size opcode_register

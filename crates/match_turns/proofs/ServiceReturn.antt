@@ -4,47 +4,16 @@ use Rattle.std.proofs.Common.{◌≡◌, ℕ, zero, suc, ◌+◌, ◌-◌, ◌%�
 use Rattle.std.specs.Prelude.{◌⊎◌, slice_get, slice_index}
 use Rattle.std.proofs.lemmas.List.{append-nil, length-set}
 use Rattle.std.proofs.lemmas.Option.{slice_get_within}
-use Rattle.seh_num.specs.declared.event.Event.{Event}
-use Rattle.flat_memory.specs.Memory.{Memory}
-use Rattle.x64_instr.specs.declared.register.Reg.TheVariants.{Rsp}
-use Rattle.x64_instr.specs.declared.instruction.Instr.{Instr}
-use Rattle.x64_machine.specs.declared.context.Context.{Context}
-use Rattle.x64_machine.specs.Contexts.{kept_of}
-use Rattle.x64_machine.specs.Effect.{State, register}
-use Rattle.virtual_unwind.specs.CallerOf.{distance}
-use Rattle.host_model.specs.Funclets.{arrivals}
-use Rattle.host_model.specs.Turns.{Continues}
-use Rattle.host_model.specs.HostStep.{turn}
-use Rattle.c_operations.specs.declared.built_in.BuiltIn.{BuiltIn}
-use Rattle.linear_code.specs.declared.slot.Slot.TheVariants.{Temporary}
+use Rattle.match_turns.specs.Words.{Event, Memory, Rsp, Instr, Context, kept_of, State, register, distance, arrivals, Continues, turn, BuiltIn, Temporary, BodyState, with_slot, LinearBody, Configuration, Next, act, sizes, keep, call, arguments_code, return_at, begin_call, clear_result, MachineView, machine, sp_of, ReachesBody, locals_of, KeepsAbove, KeepsStack, WalkGives, KeepsShadow, AllKeep, Comes, Moves, HaveRoom, turns_left, counts_of, with_values, OwnerHasFrame, Setting, HasProgram, IsMachineMemory, RepresentsAt}
 use Rattle.linear_code.specs.declared.instruction.Instruction.TheVariants as instructions
-use Rattle.linear_code.specs.BodyState.{BodyState, with_slot}
-use Rattle.linear_code.specs.Program.{LinearBody}
 use Rattle.linear_machine.specs.Frames as linear
-use Rattle.linear_machine.specs.Frames.{Configuration, Next}
-use Rattle.linear_machine.specs.Instructions.{act}
-use Rattle.template_code.specs.Bytes.{sizes}
-use Rattle.template_code.specs.Slots.{keep}
-use Rattle.template_code.specs.Jumps.{call}
-use Rattle.template_code.specs.Calls.{arguments_code, return_at, begin_call, clear_result}
 use Rattle.template_code.proofs.Sizes.{sizes_append, call_size}
-use Rattle.x64_templates.specs.Straight.{AreSmall, MachineView, machine}
-use Rattle.x64_templates.specs.CallStates.{sp_of}
-use Rattle.x64_templates.specs.Runs.{ReachesBody}
+use Rattle.x64_templates.specs.Straight.{AreSmall}
 use Rattle.x64_templates.proofs.Keeping.{index_other}
 use Rattle.x64_templates.proofs.Returns.{call_ends}
 use Rattle.x64_templates.proofs.Flows.{keep_flow}
-use Rattle.match_stack.specs.ItemMatches.{locals_of}
-use Rattle.match_stack.specs.ListLaws.{KeepsAbove, KeepsStack}
-use Rattle.match_runs.specs.Shadow.{WalkGives, KeepsShadow, AllKeep}
-use Rattle.match_runs.specs.Comes.{Comes}
-use Rattle.match_runs.specs.Matched.{Moves}
 use Rattle.match_runs.proofs.Turns.{comes_then}
-use Rattle.lowering_invariants.specs.Room.{HaveRoom}
-use Rattle.match_bodies.specs.Bodies.{turns_left}
 use Rattle.match_bodies.proofs.SilentTurns.{silent_here, reaches_silently, program_reaches}
-use Rattle.match_bodies.specs.BodyViews.{counts_of}
-use Rattle.match_bodies.specs.SlotStores.{with_values, OwnerHasFrame}
 use Rattle.match_bodies.proofs.ActivationPlaces.{locals_count}
 use Rattle.match_bodies.proofs.ActivationStores.{same_activations}
 use Rattle.match_bodies.proofs.BodyViews.{IsCounted, placed, room_here, holds_here, locals_here}
@@ -60,7 +29,6 @@ use Rattle.match_turns.proofs.ReturnAddressPush.{keeps_above, sp_there as return
 use Rattle.match_turns.proofs.BodyOtherMemory.{elsewhere, source_elsewhere, represents_elsewhere, same_activations as same_acts, same_code}
 use Rattle.match_turns.proofs.ServiceCall.{sp, given, back, at_service, flags_there, low, top, many, next_is, back_small, reaches, comes_there, live_there, returns, code_after}
 use Rattle.match_turns.proofs.ServiceShadow.{is_elsewhere, service_keeps, set_back}
-use Rattle.match_bodies.specs.Setting.{Setting, HasProgram, IsMachineMemory, RepresentsAt}
 
 -- numbers of 64 bits, with another of 64 bits among them
 small_set : (xs : List ℕ) (i v : ℕ) → AreSmall xs → v < 2 ^ 64 → AreSmall (set xs i v)

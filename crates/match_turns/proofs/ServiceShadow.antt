@@ -2,39 +2,16 @@
 -- the body again.
 use Rattle.std.proofs.Common.{◌≡◌, ℕ, ◌+◌, ◌^◌, ◌<◌, ◌≤◌, List, [], ◌∷◌, drop, Ok, Err, refl, ap, subst, ◌∙◌, arith}
 use Rattle.std.specs.Prelude.{Result, slice_index, slice_set, if◌then◌else◌}
-use Rattle.seh_num.specs.declared.width.Width.TheVariants.{W64}
-use Rattle.flat_memory.specs.declared.access.RefusedAccess.{RefusedAccess}
-use Rattle.host_layout.specs.Services.{address_of, service_at, in_host_page}
-use Rattle.flat_memory.specs.Memory.{Memory, executable, loaded}
-use Rattle.x64_instr.specs.declared.register.Reg.TheVariants.{Rsp}
-use Rattle.x64_instr.specs.Spelling.{leading}
-use Rattle.x64_machine.specs.declared.context.Context.{Context}
+use Rattle.match_turns.specs.Words.{W64, RefusedAccess, address_of, service_at, in_host_page, Memory, executable, loaded, Rsp, leading, Context, kept_of, context_of, State, register, hosted, execute, step, rsp, distance, readable, word, filter_return, finally_return, arrivals, BuiltIn, Put, Protect, RaiseException, Configuration, state, activations_below, KeepsStack, drop_below, started, served, GivesCallers, WalkGives, KeepsShadow, caller_above, service_of, Setting, HasProgram, RepresentsAt}
 use Rattle.x64_machine.specs.declared.outcome.Stop.TheVariants as stops
-use Rattle.x64_machine.specs.Contexts.{kept_of, context_of}
-use Rattle.x64_machine.specs.Effect.{State, register, hosted, execute, step}
-use Rattle.virtual_unwind.specs.Contexts.{rsp}
-use Rattle.virtual_unwind.specs.CallerOf.{distance}
-use Rattle.virtual_unwind.specs.Undone.{readable, word}
-use Rattle.seh_walk.specs.Walk.{filter_return, finally_return}
-use Rattle.host_model.specs.Funclets.{arrivals}
-use Rattle.c_operations.specs.declared.built_in.BuiltIn.{BuiltIn}
-use Rattle.c_operations.specs.declared.built_in.BuiltIn.TheVariants.{Put, Protect, RaiseException}
-use Rattle.linear_machine.specs.Frames.{Configuration}
 use Rattle.x64_templates.proofs.Keeping.{index_other}
-use Rattle.match_stack.specs.PlainWalks.{state}
-use Rattle.match_stack.specs.ItemMatches.{activations_below}
-use Rattle.match_stack.specs.ListLaws.{KeepsStack}
 use Rattle.match_stack.proofs.ListKeeping.{reads_other, kept_by_other_memories}
-use Rattle.match_runs.specs.Shadow.{drop_below, started, served, GivesCallers, WalkGives, KeepsShadow}
 use Rattle.match_runs.proofs.Shadows.{none_below, one_below, host_keeps}
-use Rattle.match_bodies.specs.Callers.{caller_above}
-use Rattle.match_bodies.specs.ProgramImages.{service_of}
 use Rattle.match_bodies.proofs.StackWalks.{on_stack}
 use Rattle.match_bodies.proofs.BodyCallers.{gives_caller}
 use Rattle.match_bodies.proofs.BodyViews.{IsCounted, sp_low, frame_top}
 use Rattle.match_bodies.proofs.TemplateShadows.{kept_here, caller_here, Below}
 use Rattle.match_turns.proofs.BodyOtherMemory.{higher_stack}
-use Rattle.match_bodies.specs.Setting.{Setting, HasProgram, RepresentsAt}
 
 -- at a service of a built-in function the host continues
 host_step : (f : BuiltIn) (s : State) → s.cpu.rip ≡ address_of (service_of f)

@@ -1,22 +1,12 @@
 -- Each of these steps is matched.
 use Rattle.std.proofs.Common.{◌≡◌, ℕ, ◌+◌, ◌<◌, Bool, true, false, Option, Some, None, length, refl, sym, ap, ◌∙◌}
 use Rattle.std.specs.Prelude.{slice_get}
-use Rattle.x64_machine.specs.Effect.{State}
-use Rattle.c_operations.specs.declared.built_in.BuiltIn.{BuiltIn}
-use Rattle.c_operations.specs.declared.built_in.BuiltIn.TheVariants.{Put, Protect}
-use Rattle.linear_code.specs.declared.slot.Slot.TheVariants.{Local}
-use Rattle.linear_code.specs.declared.instruction.Instruction.{Instruction}
+use Rattle.match_turns.specs.Words.{State, BuiltIn, Put, Protect, Local, Instruction, LinearProgram, Configuration, instruction_at, LandsWell, IsWellMade, IsKnown, Setting, setting_of, RepresentsAt}
 use Rattle.linear_code.specs.declared.instruction.Instruction.TheVariants as instructions
-use Rattle.linear_code.specs.Program.{LinearProgram}
-use Rattle.linear_machine.specs.Frames.{Configuration}
-use Rattle.linear_machine.specs.Run.{instruction_at}
-use Rattle.lowering_invariants.specs.Waiting.{LandsWell}
 use Rattle.match_bodies.proofs.StepNeeds.{some_is, counted_here, around_here, code_at, held_here, goes_inside, ready_here}
-use Rattle.match_bodies.specs.ConfigurationFacts.{IsWellMade, IsKnown}
 use Rattle.match_turns.specs.ServiceLaws.{InformationIsMatched, PutsAreMatched, ProtectsAreMatched}
 use Rattle.match_turns.proofs.ServiceTurns.{put_step, protect_step}
 use Rattle.match_turns.proofs.FilterInformationStep.{information_step}
-use Rattle.match_bodies.specs.Setting.{Setting, setting_of, RepresentsAt}
 
 -- only a landing follows what has landed
 abbrev is_landing : Instruction → Bool

@@ -4,34 +4,11 @@ use Rattle.std.specs.Prelude.{Result, slice_get, if◌then◌else◌, is_some}
 use Rattle.std.proofs.lemmas.Bool.{eq-eqb}
 use Rattle.std.proofs.lemmas.List.{append-nil}
 use Rattle.std.proofs.lemmas.Option.{slice_get-get_or}
-use Rattle.seh_num.specs.declared.width.Width.TheVariants.{W32, W64}
-use Rattle.seh_num.specs.declared.event.Event.{Event}
+use Rattle.match_turns.specs.Words.{W32, W64, Event, signed, address_of, service_at, in_host_page, RefusedAccess, Memory, executable, loaded, protected, rights_asked, Rcx, Rdx, Rsp, leading, State, register, hosted, execute, step, Functions, Funclet, Turn, Continues, arrived, back, returned, turned, turn, BuiltIn, Put, Protect, of_test, Temporary, LinearProgram, Configuration, Next, with_some, last_temporaries, count_of, built_in, waiting, act, KeepsStack, Moves, HaveRoom, turns_left, Setting, IsMachineMemory, RepresentsAt}
 use Rattle.seh_num.specs.declared.event.Event.TheVariants as events
-use Rattle.seh_num.specs.Widths.{signed}
 use Rattle.host_layout.specs.declared.service.Service.TheVariants as services
-use Rattle.host_layout.specs.Services.{address_of, service_at, in_host_page}
-use Rattle.flat_memory.specs.declared.access.RefusedAccess.{RefusedAccess}
-use Rattle.flat_memory.specs.Memory.{Memory, executable, loaded, protected, rights_asked}
-use Rattle.x64_instr.specs.declared.register.Reg.TheVariants.{Rcx, Rdx, Rsp}
-use Rattle.x64_instr.specs.Spelling.{leading}
-use Rattle.x64_machine.specs.Effect.{State, register, hosted, execute, step}
-use Rattle.virtual_unwind.specs.CallerOf.{Functions}
-use Rattle.host_model.specs.declared.funclet.Funclet.{Funclet}
-use Rattle.host_model.specs.Turns.{Turn, Continues}
-use Rattle.host_model.specs.Funclets.{arrived}
-use Rattle.host_model.specs.HostStep.{back, returned, answer_number, protecting, turned, turn}
-use Rattle.c_operations.specs.declared.built_in.BuiltIn.{BuiltIn}
-use Rattle.c_operations.specs.declared.built_in.BuiltIn.TheVariants.{Put, Protect}
-use Rattle.source_meaning.specs.Expressions.{of_test}
-use Rattle.linear_code.specs.declared.slot.Slot.TheVariants.{Temporary}
+use Rattle.host_model.specs.HostStep.{answer_number, protecting}
 use Rattle.linear_code.specs.declared.instruction.Instruction.TheVariants as instructions
-use Rattle.linear_code.specs.Program.{LinearProgram}
-use Rattle.linear_machine.specs.Frames.{Configuration, Next, with_some, last_temporaries}
-use Rattle.linear_machine.specs.Instructions.{count_of, built_in, waiting, act}
-use Rattle.match_stack.specs.ListLaws.{KeepsStack}
-use Rattle.match_runs.specs.Matched.{Moves}
-use Rattle.lowering_invariants.specs.Room.{HaveRoom}
-use Rattle.match_bodies.specs.Bodies.{turns_left}
 use Rattle.match_bodies.proofs.BodyViews.{IsCounted, slots_here}
 use Rattle.match_bodies.proofs.TemplateRuns.{Surroundings}
 use Rattle.match_turns.proofs.DispatchMemory.{memory_untouched}
@@ -39,7 +16,6 @@ use Rattle.match_turns.proofs.ReturnAddressPush.{pushed_untouched, pushed_data}
 use Rattle.match_turns.proofs.ArenaRights.{arena_memory, arena_stack}
 use Rattle.match_turns.proofs.ServiceCall.{sp, low, top, numbers, returns}
 use Rattle.match_turns.proofs.ServiceReturn.{with_given, to, there, memory_there, returned_to, answered, silent_back, served}
-use Rattle.match_bodies.specs.Setting.{Setting, IsMachineMemory, RepresentsAt}
 
 module _ (t : Functions) (fs : List Funclet) where
   -- what a step is where RIP is in the host's page

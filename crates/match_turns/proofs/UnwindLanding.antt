@@ -1,33 +1,14 @@
 -- An unwinding lands in a body, which continues at the label.
 use Rattle.std.proofs.Common.{◌≡◌, true, ℕ, ◌≤◌, List, [], ◌∷◌, ◌++◌, Option, Some, None, refl, sym, ap, subst, ◌∙◌, arith, inl}
 use Rattle.std.proofs.lemmas.List.{append-nil}
-use Rattle.seh_num.specs.declared.event.Event.{Event}
-use Rattle.flat_memory.specs.Memory.{Memory}
-use Rattle.x64_machine.specs.declared.context.Context.{Context}
-use Rattle.x64_machine.specs.Effect.{State}
-use Rattle.seh_records.specs.declared.dispatch.DispatchRecord.{DispatchRecord}
-use Rattle.host_model.specs.Turns.{Turn}
-use Rattle.host_model.specs.Dispatch.{at_landing}
-use Rattle.linear_machine.specs.Frames.{Frame, Target, Item, Waits, Configuration, Next}
+use Rattle.match_turns.specs.Words.{Event, Memory, Context, State, DispatchRecord, Turn, at_landing, Frame, Target, Item, Waits, Configuration, Next, arrive, StackItem, Framed, InCode, Activation, On, store_of, on_top, IsWellFormed, IsUnwinding, Unwound, LandsThere, LeadsTo, callers, turns_left, entry_turns, Setting, IsMachineMemory, RepresentsAt, Represents}
 use Rattle.linear_machine.specs.Unwinding as linear
-use Rattle.linear_machine.specs.Unwinding.{arrive}
-use Rattle.match_stack.specs.Stack.{StackFrame, StackItem, Framed}
-use Rattle.match_stack.specs.ImagePlan.{InCode}
-use Rattle.match_stack.specs.ItemMatches.{Activation}
-use Rattle.match_stack.specs.StackRecords.{On}
-use Rattle.match_stack.specs.HostUnwind.{store_of, on_top}
-use Rattle.match_stack.specs.DispatchStates.{IsWellFormed}
-use Rattle.match_stack.specs.TurnLaws.{IsUnwinding}
-use Rattle.match_stack.specs.UnwindOutcomes.{landing_value, landing_events, Unwound, LandsThere}
-use Rattle.match_runs.specs.Comes.{LeadsTo}
-use Rattle.match_bodies.specs.Callers.{callers}
-use Rattle.match_bodies.specs.Bodies.{turns_left}
+use Rattle.match_stack.specs.Stack.{StackFrame}
+use Rattle.match_stack.specs.UnwindOutcomes.{landing_value, landing_events}
 use Rattle.match_bodies.proofs.BodyResumption.{waits_in_body, no_front, all_front}
 use Rattle.match_bodies.proofs.TemplateSizes.{first_in_code}
-use Rattle.match_turns.specs.FuncletEntry.{entry_turns}
 use Rattle.match_turns.proofs.DispatchWalks.{landing_walk}
-use Rattle.match_bodies.specs.Setting.{Setting, IsMachineMemory, RepresentsAt}
-use Rattle.match_turns.specs.SettingOutcome.{ContinuesAs, Represents}
+use Rattle.match_turns.specs.SettingOutcome.{ContinuesAs}
 
 same_code : (a b : ℕ) → Some a ≡ Some b → a ≡ b
 same_code a b e = cc

@@ -2,35 +2,16 @@
 use Rattle.std.proofs.Common.{◌≡◌, ℕ, zero, ◌+◌, ◌*◌, ◌≤◌, Bool, true, false, List, [], ◌∷◌, length, Option, Some, None, refl, ap, subst, ◌∙◌, inl, inr}
 use Rattle.std.specs.Prelude.{nat_lt, slice_get}
 use Rattle.seh_num.specs.declared.event.Event.TheVariants as events
-use Rattle.x64_machine.specs.Effect.{State}
-use Rattle.seh_records.specs.declared.dispatch.DispatchRecord.{DispatchRecord}
-use Rattle.host_model.specs.Turns.{Turn}
-use Rattle.host_model.specs.Funclets.{arrived}
-use Rattle.host_model.specs.Dispatch.{unwinds_on}
-use Rattle.source_meaning.specs.declared.ended.Ended.TheVariants.{Deep}
-use Rattle.linear_machine.specs.Frames.{Frame, Item, Target, Waits, Unwinds, Seen, Finished, Next, pick, with_some, deeper}
+use Rattle.match_turns.specs.Words.{State, DispatchRecord, Turn, arrived, unwinds_on, Deep, Frame, Item, Target, Waits, Unwinds, Seen, Finished, Next, pick, with_some, deeper, flag_of, begin_finally, exec, StackItem, store_of, on_top, Unwound, BlockBegins, LandsThere, IsUnwinding, HasRule, callers, held_below, FlagsFit, NoneLanded, Setting, IsMachineMemory, EntersFunclet, Outcome}
 use Rattle.linear_machine.specs.Unwinding as linear
-use Rattle.linear_machine.specs.Unwinding.{flag_of, begin_finally}
-use Rattle.linear_machine.specs.Run.{exec}
-use Rattle.match_stack.specs.Stack.{StackItem}
-use Rattle.match_stack.specs.HostUnwind.{store_of, on_top}
-use Rattle.match_stack.specs.UnwindOutcomes.{Unwound, BlockBegins, LandsThere}
-use Rattle.match_stack.specs.TurnLaws.{IsUnwinding}
 use Rattle.match_stack.proofs.UnwindTurns.{unwind_turns}
-use Rattle.match_runs.specs.Ends.{HasRule}
-use Rattle.match_bodies.specs.Callers.{callers}
-use Rattle.match_bodies.specs.Bodies.{held_below}
-use Rattle.match_turns.specs.FuncletEntry.{FlagsFit}
 use Rattle.match_turns.proofs.FuncletSteps.{called_blocks_begin}
-use Rattle.match_turns.specs.DispatchOutcome.{NoneLanded}
 use Rattle.match_turns.proofs.DispatchMemory.{memory_untouched}
 use Rattle.match_turns.proofs.DispatchOutcomeSteps.{represents_there}
 use Rattle.match_turns.proofs.UnwindTurnsLeft.{counting, IsShort, counted_back, unwind_short}
 use Rattle.match_turns.proofs.LocalUnwindLanding.{noticing, IsBare, unmarked, unwind_bare}
 use Rattle.match_turns.proofs.DispatchWalks.{block_walk}
 use Rattle.match_turns.proofs.UnwindLanding.{landed, arrival, arrives_there, lands_as}
-use Rattle.match_bodies.specs.Setting.{Setting, IsMachineMemory}
-use Rattle.match_turns.specs.SettingOutcome.{EntersFunclet, Outcome}
 
 module _ (setting : Setting) (fits : FlagsFit setting.program) where
   open setting use {functions as t, funclets as fs, program, plan as p, sites as q, image}

@@ -1,17 +1,9 @@
 -- An unwinding comes to no more temporaries than wait in its list.
 use Rattle.std.proofs.Common.{◌≡◌, ℕ, zero, suc, ◌+◌, ◌*◌, ◌≤◌, Bool, true, false, List, [], ◌∷◌, ◌++◌, length, Option, Some, None, refl, arith}
 use Rattle.std.specs.Prelude.{replicate, nat_lt, nat_eq, slice_get}
-use Rattle.seh_num.specs.declared.event.Event.{Event}
+use Rattle.match_turns.specs.Words.{Event, Deep, Region, RegionKind, LinearProgram, Target, Item, Waits, Searches, Unwinds, Store, Configuration, Seen, Running, Finished, Stuck, Next, pick, with_some, deeper, regions_at, regions_left, stops, flag_of, begin_finally, arrive, target_past, left_store, leave_region, unwind_body, unwind, held_below, turns_left}
 use Rattle.seh_num.specs.declared.event.Event.TheVariants as events
-use Rattle.source_meaning.specs.declared.ended.Ended.TheVariants.{Deep}
-use Rattle.linear_code.specs.declared.program.Region.{Region}
-use Rattle.linear_code.specs.declared.program.RegionKind.{RegionKind}
 use Rattle.linear_code.specs.declared.program.RegionKind.TheVariants as kinds
-use Rattle.linear_code.specs.Program.{LinearProgram}
-use Rattle.linear_machine.specs.Frames.{Target, Item, Waits, Searches, Unwinds, Store, Configuration, Seen, Running, Finished, Stuck, Next, pick, with_some, deeper}
-use Rattle.linear_machine.specs.Regions.{regions_at, regions_left, stops}
-use Rattle.linear_machine.specs.Unwinding.{flag_of, begin_finally, arrive, target_past, left_store, leave_region, unwind_body, unwind}
-use Rattle.match_bodies.specs.Bodies.{held_below, turns_left}
 
 -- a run that shows as many events as turns are left
 abbrev pub counting : Next

@@ -1,9 +1,6 @@
 -- No body that waits has just taken over for an exception.
 use Rattle.std.specs.Prelude.{List, [], ◌∷◌}
-use Rattle.linear_code.specs.Program.{LinearProgram}
-use Rattle.linear_machine.specs.Frames.{Item, Waits, Searches, Unwinds}
-use Rattle.lowering_invariants.specs.Waiting.{AreWaiting}
-use Rattle.match_turns.specs.DispatchOutcome.{NoneLanded}
+use Rattle.match_turns.specs.Words.{LinearProgram, Item, Waits, Searches, Unwinds, AreWaiting, NoneLanded}
 
 pub none_landed_below : (program : LinearProgram) (items : List Item) → AreWaiting program items
     → NoneLanded items

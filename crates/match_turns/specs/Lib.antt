@@ -14,3 +14,4 @@ pub mod RaiseLaws
 pub mod OperationOutcome
 pub mod FaultLaws
 pub mod EndLaws
+pub mod Words

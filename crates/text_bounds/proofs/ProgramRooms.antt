@@ -1,18 +1,12 @@
 -- The code and the tables of a program take no more than the room of its functions.
 use Rattle.std.proofs.Common.{◌≡◌, ℕ, ◌+◌, ◌*◌, ◌≤◌, List, [], ◌∷◌, length, map, None, refl, arith, length-append}
-use Rattle.c_checked.specs.Program.{Function}
+use Rattle.text_bounds.specs.Words.{Function, Temporary, LinearFunclet, Owner, constant, statements_code, lowered_function, all_funclets, tables_room, function_bodies, funclet_bodies, functions_room}
 use Rattle.c_checked.specs.Sound as sound
 use Rattle.c_checked.specs.Sound.{funclets}
-use Rattle.linear_code.specs.declared.slot.Slot.TheVariants.{Temporary}
 use Rattle.linear_code.specs.declared.instruction.Instruction.TheVariants.{Return}
-use Rattle.linear_code.specs.Program.{LinearFunclet}
-use Rattle.seh_ir.specs.declared.funclets.Owner.{Owner}
-use Rattle.lowering_expressions.specs.Expressions.{constant}
-use Rattle.seh_ir.specs.Statements.{statements_code}
-use Rattle.seh_ir.specs.Lowered.{all_locals, scope_of, lowered_function, lowered_funclets, all_funclets}
+use Rattle.seh_ir.specs.Lowered.{all_locals, scope_of, lowered_funclets}
 use Rattle.seh_ir.proofs.FuncletCounts.{statements_count}
-use Rattle.image_link.specs.Fits.{room, tables_room, function_bodies, funclet_bodies}
-use Rattle.text_bounds.specs.Rooms.{functions_room}
+use Rattle.image_link.specs.Fits.{room}
 use Rattle.text_bounds.specs.RoomLaws.{LoweredIsBounded}
 use Rattle.text_bounds.proofs.ExpressionRooms.{room_append}
 use Rattle.text_bounds.proofs.StatementRooms.{funclets_room, funclets_append, statements_bound}

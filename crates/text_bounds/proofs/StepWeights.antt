@@ -1,11 +1,7 @@
 -- The program of a text begins at most three steps for each node without a turn.
 use Rattle.std.proofs.Common.{◌≡◌, ℕ, ◌*◌, ◌≤◌, refl, arith}
 use Rattle.std.specs.Prelude.{List, Option, Some, None}
-use Rattle.c_checked.specs.Expression.{Expression}
-use Rattle.c_syntax.specs.Program.{ExternalDeclaration}
-use Rattle.c_syntax.specs.Nodes.{nodes_of}
-use Rattle.c_resolved.specs.Program.{resolve}
-use Rattle.text_bounds.specs.Weights.{Weights, optional, NodesAdd, StatementsAdd}
+use Rattle.text_bounds.specs.Words.{Expression, ExternalDeclaration, nodes_of, resolve, Weights, optional, NodesAdd, StatementsAdd}
 use Rattle.text_bounds.proofs.StatementWeights.{weight_is_bounded}
 use Rattle.lowering_follows.specs.Weights.{expression_weight, node_weight, arguments_weight, optional_weight, all_declared_weight, statement_weight, statements_weight}
 use Rattle.lowering_follows.specs.StepsPerTurn.{weight_of}

@@ -1,10 +1,8 @@
 -- How many steps a turn of the linear code of an accepted text represents at most.
 use Rattle.std.proofs.Common.{◌≡◌, ℕ, ◌+◌, ◌*◌, ◌-◌, ◌≤◌, sym, ap, ◌∙◌, arith}
 use native.Mathlib.Nat.{mul-add}
-use Rattle.c_checked.specs.Program.{Program}
+use Rattle.text_bounds.specs.Words.{Program, LinearProgram, lowered}
 use Rattle.c_resolved.proofs.SoundPrograms.{accepted_is_sound}
-use Rattle.linear_code.specs.Program.{LinearProgram}
-use Rattle.seh_ir.specs.Lowered.{lowered}
 use Rattle.lowering_follows.specs.FollowLaws.{NoMore}
 use Rattle.lowering_follows.specs.StepsPerTurn.{steps_per_turn_of}
 use Rattle.lowering_follows.proofs.ProgramLowering.{lowered_follows, lowered_shows_no_more}

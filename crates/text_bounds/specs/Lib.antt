@@ -5,3 +5,4 @@ pub mod RoomLaws
 pub mod BoundLaws
 pub mod NestingLaws
 pub mod StepsPerTurnLaws
+pub mod Words

@@ -1,32 +1,19 @@
 -- Loads and stores of the source, which can fault.
 use Rattle.std.proofs.Common.{◌≡◌, ℕ, zero, suc, ◌+◌, ◌*◌, ◌/◌, ◌%◌, ◌^◌, ◌<◌, Bool, true, false, cond, [], ◌∷◌, Option, Some, None, Ok, Err, refl, sym, ap, ◌∙◌, arith}
 use Rattle.std.specs.Prelude.{not}
-use Rattle.seh_num.specs.declared.width.Width.{Width}
-use Rattle.seh_num.specs.declared.width.Width.TheVariants.{W8, W16, W32, W64}
-use Rattle.seh_num.specs.Widths.{bytes_of, low}
-use Rattle.flat_memory.specs.declared.protection.Protection.{Protection}
+use Rattle.x64_templates.specs.Words.{Width, W8, W16, W32, W64, bytes_of, low, Protection, is_readable, is_writable, Memory, next, first_refused, may_read, may_write, number_at, with_number, with_bytes, access, unless_refused, IsApart, Rax, Rcx, Instr, Flags, ◌>>=◌, granted, effect, Gives, MachineView, machine, Agrees, above, move, Implements}
 use Rattle.flat_memory.specs.declared.access.RefusedAccess.TheVariants as accesses
-use Rattle.flat_memory.specs.Protections.{is_readable, is_writable}
-use Rattle.flat_memory.specs.Memory.{Memory, next, distance, is_among, first_refused, may_read, may_write, number_at, with_number, with_bytes, refused, access, unless_refused}
+use Rattle.flat_memory.specs.Memory.{distance, is_among, refused}
 use Rattle.host_layout.specs.Ranges.{in_guard}
-use Rattle.flat_memory.specs.Laws.{IsApart}
 use Rattle.flat_memory.proofs.Stores.{untouched}
-use Rattle.x64_instr.specs.declared.register.Reg.TheVariants.{Rax, Rcx}
 use Rattle.x64_instr.specs.declared.operand.RegisterOrMemory.TheVariants as places
 use Rattle.x64_instr.specs.declared.operand.Operand.TheVariants as operands
-use Rattle.x64_instr.specs.declared.instruction.Instr.{Instr}
 use Rattle.x64_instr.specs.declared.instruction.Instr.TheVariants as instrs
-use Rattle.x64_machine.specs.declared.cpu.Flags.{Flags}
 use Rattle.x64_machine.specs.declared.outcome.Stop.TheVariants as stops
-use Rattle.seh_num.specs.Answers.{◌>>=◌}
-use Rattle.x64_machine.specs.Effect.{granted, refusal, effect}
+use Rattle.x64_machine.specs.Effect.{refusal}
 use Rattle.x64_machine.specs.Effect as machines
-use Rattle.c_operations.specs.Performed.{Gives}
 use Rattle.c_operations.specs.Performed as meaning
-use Rattle.x64_templates.specs.Straight.{MachineView, machine}
-use Rattle.x64_templates.specs.Frames.{Agrees}
-use Rattle.template_code.specs.Operations.{above, move, load}
-use Rattle.x64_templates.specs.Implements.{Implements}
+use Rattle.template_code.specs.Operations.{load}
 use Rattle.x64_templates.proofs.Straight.{executes_one, executes_then}
 use Rattle.x64_templates.proofs.Leaves.{allowed}
 

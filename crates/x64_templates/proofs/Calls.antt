@@ -1,25 +1,9 @@
 -- Calls, entries and returns.
 use Rattle.std.proofs.Common.{◌≡◌, ◌≢◌, ℕ, ◌+◌, ◌-◌, ◌%◌, ◌^◌, ◌<◌, ◌≤◌, List, [], ◌∷◌, get_or, set, None, Ok, refl, ap, ◌∙◌, arith, get_or-set_other}
-use Rattle.seh_num.specs.declared.width.Width.TheVariants.{W64}
-use Rattle.seh_num.specs.Widths.{low}
-use Rattle.flat_memory.specs.Memory.{first_refused, may_read, may_write, number_at}
-use Rattle.x64_instr.specs.declared.register.Reg.TheVariants.{Rcx, Rdx, Rsp, R8, R9}
-use Rattle.x64_instr.specs.declared.instruction.Target.TheVariants.{Relative}
-use Rattle.x64_instr.specs.declared.instruction.Instr.{Instr}
+use Rattle.x64_templates.specs.Words.{W64, low, first_refused, may_read, may_write, number_at, Rcx, Rdx, Rsp, R8, R9, Relative, Instr, Flags, ◌>>=◌, State, Answer, with_rip, load, store, effect, Temporary, BodyState, MachineView, machine, Executes, size, sizes, fetched, temporary_at, distance, call, IsNear, return_at, begin_call, sp_of, with_four, pushed, HasBelow, Reaches, HasCode, FramePlace, Roomy, FrameHolds}
 use Rattle.x64_instr.specs.declared.instruction.Instr.TheVariants as instrs
-use Rattle.x64_machine.specs.declared.cpu.Flags.{Flags}
-use Rattle.seh_num.specs.Answers.{◌>>=◌}
-use Rattle.x64_machine.specs.Effect.{State, Answer, with_rip, load, store, effect}
 use Rattle.x64_templates.proofs.PlacedCode.{all_may, store_at, load_at, reaches_then}
-use Rattle.linear_code.specs.declared.slot.Slot.TheVariants.{Temporary}
-use Rattle.linear_code.specs.BodyState.{BodyState}
-use Rattle.x64_templates.specs.Straight.{MachineView, machine, Executes}
-use Rattle.template_code.specs.Bytes.{size, sizes}
-use Rattle.template_code.specs.Slots.{fetched, temporary_at}
-use Rattle.template_code.specs.Jumps.{distance, call, IsNear}
-use Rattle.template_code.specs.Calls.{arguments_code, return_at, begin_call}
-use Rattle.x64_templates.specs.CallStates.{sp_of, with_four, pushed, HasBelow}
-use Rattle.x64_templates.specs.Runs.{Reaches, HasCode, FramePlace, Roomy, FrameHolds}
+use Rattle.template_code.specs.Calls.{arguments_code}
 use Rattle.x64_templates.proofs.Straight.{executes_one, executes_then}
 use Rattle.x64_templates.proofs.Cells.{may_read_slot, sp_address}
 use Rattle.x64_templates.proofs.Encoded.{Fine, near}

@@ -1,24 +1,9 @@
 -- Slots are brought to registers, and RAX is put into a slot.
 use Rattle.std.proofs.Common.{◌≡◌, ℕ, ◌+◌, ◌%◌, ◌^◌, ◌<◌, ◌≤◌, Bool, true, false, [], ◌∷◌, get_or, Option, Some, None, Ok, refl, sym, ap, ◌∙◌, arith, inl, inr}
 use Rattle.std.specs.Prelude.{◌⊎◌}
-use Rattle.seh_num.specs.declared.width.Width.TheVariants.{W64}
-use Rattle.seh_num.specs.Widths.{low}
-use Rattle.flat_memory.specs.Memory.{Memory, first_refused, may_read, may_write, number_at, with_number, with_bytes}
+use Rattle.x64_templates.specs.Words.{W64, low, Memory, first_refused, may_read, may_write, number_at, with_number, with_bytes, Reg, Rax, Rcx, Rsp, Flags, ◌>>=◌, Answer, load, store, Slot, Local, Temporary, BodyState, Counts, IsSlot, Layout, MachineView, machine, Executes, fetched, put_back, temporary_at, local_at, fetch_local, fetch, slot_at, InTemporaries, InLocals, HasBase, SlotsHaveRoom, MemoryKeepsBase, HoldsBody}
 use Rattle.flat_memory.proofs.Stores.{writable_is_readable}
-use Rattle.x64_instr.specs.declared.register.Reg.{Reg}
-use Rattle.x64_instr.specs.declared.register.Reg.TheVariants.{Rax, Rcx, Rsp}
-use Rattle.x64_machine.specs.declared.cpu.Flags.{Flags}
-use Rattle.seh_num.specs.Answers.{◌>>=◌}
-use Rattle.x64_machine.specs.Effect.{Answer, load, store}
 use Rattle.x64_templates.proofs.PlacedCode.{all_may, store_at, load_at}
-use Rattle.linear_code.specs.declared.slot.Slot.{Slot}
-use Rattle.linear_code.specs.declared.slot.Slot.TheVariants.{Local, Temporary}
-use Rattle.linear_code.specs.BodyState.{BodyState, Counts}
-use Rattle.linear_code.specs.Meaning.{IsSlot}
-use Rattle.template_code.specs.declared.layout.Layout.{Layout}
-use Rattle.x64_templates.specs.Straight.{MachineView, machine, Executes}
-use Rattle.template_code.specs.Slots.{fetched, put_back, temporary_at, local_at, fetch_local, fetch}
-use Rattle.x64_templates.specs.Frames.{slot_at, InTemporaries, InLocals, HasBase, SlotsHaveRoom, MemoryKeepsBase, HoldsBody}
 use Rattle.x64_templates.proofs.Straight.{executes_one, executes_then}
 
 -- RAX or RCX

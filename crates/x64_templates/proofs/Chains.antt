@@ -1,16 +1,9 @@
 -- A run over code that is placed at RIP passes its instructions one after another.
 use Rattle.std.proofs.Common.{◌≡◌, ℕ, zero, suc, ◌+◌, ◌%◌, ◌^◌, true, List, [], ◌∷◌, ◌++◌, length, Some, Ok, refl, ap, sym, subst, ◌∙◌, arith, append_assoc, inl, inr}
 use Rattle.std.specs.Prelude.{◌⊎◌}
-use Rattle.flat_memory.specs.Memory.{executable}
-use Rattle.x64_instr.specs.declared.instruction.Instr.{Instr}
-use Rattle.x64_instr.specs.Spelling.{leading}
-use Rattle.x64_encode.specs.Chosen.{chosen, is_encodable}
+use Rattle.x64_templates.specs.Words.{executable, Instr, leading, chosen, is_encodable, kept_of, State, Answer, with_rip, effect, size, sizes, spelled, Runs, Reaches, HasCode, keeps_registers, stores_nothing, StoresNothing, Flows, StoresOnce}
 use Rattle.x64_encode.proofs.Lengths.{longest}
-use Rattle.x64_machine.specs.Contexts.{kept_of}
-use Rattle.x64_machine.specs.Effect.{State, Answer, with_rip, effect, step}
-use Rattle.template_code.specs.Bytes.{size, sizes, spelled}
-use Rattle.x64_templates.specs.Runs.{Runs, Reaches, HasCode}
-use Rattle.x64_templates.specs.Keeping.{keeps_registers, stores_nothing, StoresNothing, Flows, StoresOnce}
+use Rattle.x64_machine.specs.Effect.{step}
 use Rattle.x64_templates.specs.Chains.{AllTurns, IsInside, IsTurnOf}
 use Rattle.x64_templates.proofs.PlacedCode.{Encodable, outside_page, bytes_split, bytes_kept, spells, reads}
 use Rattle.x64_templates.proofs.Keeping.{keeps, calls_nothing}

@@ -1,27 +1,14 @@
 -- Comparisons by the flags.
 use Rattle.std.proofs.Common.{◌≡◌, ℕ, ◌+◌, ◌-◌, ◌%◌, ◌^◌, ◌<◌, Bool, true, false, cond, List, [], ◌∷◌, Ok, ℤ, refl, ap, ◌∙◌, arith}
 use Rattle.std.specs.Prelude.{not, int_lt}
-use Rattle.seh_num.specs.declared.width.Width.{Width}
-use Rattle.seh_num.specs.declared.width.Width.TheVariants.{W8, W32}
-use Rattle.seh_num.specs.Widths.{low, signed}
-use Rattle.x64_instr.specs.declared.register.Reg.TheVariants.{Rax, Rcx}
+use Rattle.x64_templates.specs.Words.{Width, W8, W32, low, signed, Rax, Rcx, Instr, Flags, subtracted, holds, Size, Signedness, Unsigned, Signed, Relation, width, effects, MachineView, machine, Yields, size, sizes, compare}
 use Rattle.x64_instr.specs.declared.instruction.Condition.{Condition}
 use Rattle.x64_instr.specs.declared.instruction.Condition.TheVariants as conditions
-use Rattle.x64_instr.specs.declared.instruction.Instr.{Instr}
-use Rattle.x64_machine.specs.declared.cpu.Flags.{Flags}
-use Rattle.x64_machine.specs.Words.{subtracted}
-use Rattle.x64_machine.specs.Conditions.{holds}
 use Rattle.x64_machine.proofs.Numbers.{low_below, signed_twice}
 use Rattle.x64_machine.proofs.Differences.{difference_zero, signed_less}
-use Rattle.c_operations.specs.declared.operation.Size.{Size}
-use Rattle.c_operations.specs.declared.operation.Signedness.{Signedness}
-use Rattle.c_operations.specs.declared.operation.Signedness.TheVariants.{Unsigned, Signed}
-use Rattle.c_operations.specs.declared.operation.Relation.{Relation}
 use Rattle.c_operations.specs.declared.operation.Relation.TheVariants as relations
-use Rattle.c_operations.specs.Numbers.{width, is_less, are_equal, are_related}
-use Rattle.x64_templates.specs.Straight.{effects, MachineView, machine, Yields}
-use Rattle.template_code.specs.Bytes.{size, sizes}
-use Rattle.template_code.specs.Operations.{compared, compare, less, not_less}
+use Rattle.c_operations.specs.Numbers.{is_less, are_equal, are_related}
+use Rattle.template_code.specs.Operations.{compared, less, not_less}
 
 -- ---- what conditions say after a comparison
 

@@ -1,34 +1,14 @@
 -- The code of an operation does what the operation means.
 use Rattle.std.proofs.Common.{◌≡◌, ℕ, ◌+◌, ◌%◌, ◌^◌, ◌<◌, ◌≤◌, Bool, true, false, List, [], ◌∷◌, ◌++◌, length, get_or, Option, Some, Err, refl, sym, ap, subst, ◌∙◌, arith, length-append}
 use Rattle.std.proofs.lemmas.Grind.{flat_map-append}
-use Rattle.seh_num.specs.declared.event.Code.{Code}
-use Rattle.flat_memory.specs.Memory.{Memory, executable, with_number, with_bytes}
-use Rattle.x64_instr.specs.declared.register.Reg.TheVariants.{Rax, Rcx}
-use Rattle.x64_instr.specs.declared.instruction.Instr.{Instr}
-use Rattle.x64_instr.specs.Spelling.{IsEncoding, leading}
-use Rattle.x64_encode.specs.Chosen.{chosen}
+use Rattle.x64_templates.specs.Words.{Code, Memory, executable, with_number, with_bytes, Rax, Rcx, Instr, IsEncoding, leading, chosen, Flags, State, with_rip, effect, IsCodeAt, IsPlaced, spelled, Slot, Operation, BodyState, with_slot, OperationResult, Gives, Raises, Undefined, performed, step, kept, MachineView, machine, Executes, size, sizes, before, work, fetch, keep, operands_code, finish_code, compute_code, slot_at, IsBytes, IsReady, HasOperands, LeavesResult, Implements, Reaches, HasCode, FramePlace, Roomy, FrameHolds, IsThere, ReachesBody, Finished, Computed}
 use Rattle.x64_encode.proofs.Lengths.{longest}
-use Rattle.x64_machine.specs.declared.cpu.Flags.{Flags}
 use Rattle.x64_machine.specs.declared.outcome.Stop.TheVariants as stops
-use Rattle.x64_machine.specs.Effect.{State, with_rip, effect}
 use Rattle.x64_machine.specs.Effect as machines
-use Rattle.x64_templates.specs.Placed.{IsCodeAt, IsPlaced}
-use Rattle.template_code.specs.Bytes.{spelled}
 use Rattle.x64_templates.proofs.PlacedCode.{fetches, Encodable, outside_page, bytes_split, spells, leading-again, reaches_then}
-use Rattle.linear_code.specs.declared.slot.Slot.{Slot}
-use Rattle.c_operations.specs.declared.operation.Operation.{Operation}
 use Rattle.c_operations.specs.declared.operation.Operation.TheVariants as operations
 use Rattle.linear_code.specs.declared.instruction.Instruction.TheVariants as instructions
-use Rattle.linear_code.specs.BodyState.{BodyState, with_slot}
-use Rattle.c_operations.specs.Performed.{OperationResult, Gives, Raises, Undefined, performed}
-use Rattle.linear_code.specs.Meaning.{step, kept}
-use Rattle.x64_templates.specs.Straight.{MachineView, machine, Executes}
-use Rattle.template_code.specs.Bytes.{size, sizes}
-use Rattle.template_code.specs.Operations.{before, work}
-use Rattle.template_code.specs.Slots.{fetch, keep, operands_code, finish_code, compute_code}
-use Rattle.x64_templates.specs.Frames.{slot_at, IsBytes}
-use Rattle.x64_templates.specs.Implements.{IsReady, HasOperands, HeadFaults, LeavesResult, Implements}
-use Rattle.x64_templates.specs.Runs.{Reaches, HasCode, FramePlace, Roomy, FrameHolds, IsThere, ReachesBody, Finished, Computed}
+use Rattle.x64_templates.specs.Implements.{HeadFaults}
 use Rattle.x64_templates.proofs.Straight.{straight_runs, executes_nothing, executes_then}
 use Rattle.template_code.proofs.Sizes.{sizes_spelled, sizes_append}
 use Rattle.x64_templates.proofs.Divisions.{half_set}

@@ -4,30 +4,15 @@ use Rattle.std.specs.Prelude.{Result}
 use Rattle.std.proofs.Math.Nat.{div-le_self, mod-le}
 use Rattle.std.proofs.lemmas.Bool.{cases_lt, lt-ltb, le-ltb}
 use Rattle.std.proofs.lemmas.Int.{ints}
-use Rattle.seh_num.specs.declared.width.Width.{Width}
-use Rattle.seh_num.specs.declared.width.Width.TheVariants.{W8, W16, W32, W64}
-use Rattle.seh_num.specs.declared.division.DivFault.{DivFault}
+use Rattle.x64_templates.specs.Words.{Width, W8, W16, W32, W64, DivFault, limit, half, low, signed, wrapped, Memory, Rax, Rcx, Rdx, Instr, Flags, joined, with_quotient, effect, Size, Int, Long, Signedness, Unsigned, Signed, width, MachineView, machine, Executes, Agrees, move, high_half, LeavesResult, Implements}
 use Rattle.seh_num.specs.declared.division.DivFault.TheVariants as faults
-use Rattle.seh_num.specs.Widths.{limit, half, low, signed, wrapped}
 use Rattle.seh_num.specs.Division.{divided_signed, divided_unsigned}
-use Rattle.flat_memory.specs.Memory.{Memory}
-use Rattle.x64_instr.specs.declared.register.Reg.TheVariants.{Rax, Rcx, Rdx}
 use Rattle.x64_instr.specs.declared.operand.RegisterOrMemory.TheVariants as places
-use Rattle.x64_instr.specs.declared.instruction.Instr.{Instr}
 use Rattle.x64_instr.specs.declared.instruction.Instr.TheVariants as instrs
-use Rattle.x64_machine.specs.declared.cpu.Flags.{Flags}
-use Rattle.x64_machine.specs.Dividing.{joined, signed_double, wrapped_both}
-use Rattle.x64_machine.specs.Effect.{with_quotient, effect}
-use Rattle.c_operations.specs.declared.operation.Size.{Size}
-use Rattle.c_operations.specs.declared.operation.Size.TheVariants.{Int, Long}
-use Rattle.c_operations.specs.declared.operation.Signedness.{Signedness}
-use Rattle.c_operations.specs.declared.operation.Signedness.TheVariants.{Unsigned, Signed}
-use Rattle.c_operations.specs.Numbers.{width}
+use Rattle.x64_machine.specs.Dividing.{signed_double, wrapped_both}
 use Rattle.c_operations.specs.Performed.{signed_part, unsigned_part, quotient, remainder}
-use Rattle.x64_templates.specs.Straight.{MachineView, machine, Executes}
-use Rattle.x64_templates.specs.Frames.{Agrees}
-use Rattle.template_code.specs.Operations.{move, division, high_half}
-use Rattle.x64_templates.specs.Implements.{high_of, LeavesResult, Implements}
+use Rattle.template_code.specs.Operations.{division}
+use Rattle.x64_templates.specs.Implements.{high_of}
 use Rattle.x64_templates.proofs.Straight.{executes_one, executes_then}
 use Rattle.c_operations.proofs.SmallResults.{of_size}
 use Rattle.x64_machine.proofs.Numbers.{low_is, low_below, twice, signed_low, signed_high, signed_twice, wrapped_below}

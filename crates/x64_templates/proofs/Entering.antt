@@ -1,19 +1,10 @@
 -- A function begins: its frame holds its arguments.
 use Rattle.std.proofs.Common.{◌≡◌, ◌≢◌, ℕ, zero, suc, ◌+◌, ◌-◌, ◌^◌, ◌<◌, ◌≤◌, cond, List, [], ◌∷◌, length, get_or, set, refl, sym, subst, ◌∙◌, arith, inl, inr, get_or-set_other, length-append}
 use Rattle.std.proofs.lemmas.Bool.{cases_lt, lt-ltb, le-ltb}
-use Rattle.flat_memory.specs.Memory.{Memory}
-use Rattle.x64_instr.specs.declared.register.Reg.TheVariants.{Rax, Rsp}
-use Rattle.x64_machine.specs.declared.cpu.Flags.{Flags}
-use Rattle.x64_machine.specs.Effect.{State}
-use Rattle.linear_code.specs.BodyState.{BodyState}
-use Rattle.x64_templates.specs.Straight.{MachineView, machine}
-use Rattle.template_code.specs.Bytes.{sizes}
-use Rattle.template_code.specs.Slots.{fetched, local_at}
-use Rattle.template_code.specs.Calls.{parameter_register, keep_register, stack_parameter, parameter_code, parameters_code, enter_code, function_entry}
-use Rattle.x64_templates.specs.CallStates.{sp_of, with_sp, moved}
-use Rattle.x64_templates.specs.EntryStates.{with_arguments, InRegisters, OnStack, IsFunctionFrame, body_in_memory, FreshFrame}
+use Rattle.x64_templates.specs.Words.{Memory, Rax, Rsp, Flags, State, BodyState, MachineView, machine, sizes, fetched, local_at, parameter_register, keep_register, stack_parameter, parameter_code, parameters_code, enter_code, sp_of, with_sp, moved, with_arguments, InRegisters, OnStack, IsFunctionFrame, body_in_memory, FreshFrame, ChangesOwn, HasCode, FramePlace, Roomy, FrameHolds, ReachesBody, Enters}
+use Rattle.template_code.specs.Calls.{function_entry}
 use Rattle.x64_templates.proofs.PlacedCode.{enters_then}
-use Rattle.x64_templates.specs.Runs.{ChangesOwn, HasCode, FramePlace, Roomy, FrameHolds, ReachesBody, Enters, EntersBody}
+use Rattle.x64_templates.specs.Runs.{EntersBody}
 use Rattle.template_code.proofs.Sizes.{sizes_append}
 use Rattle.x64_templates.proofs.Encoded.{Fine, fine_both, near}
 use Rattle.x64_templates.proofs.Computes.{code_split, runs_view}

@@ -3,18 +3,11 @@ use Rattle.std.proofs.Common.{◌≡◌, ℕ, zero, suc, ◌+◌, ◌-◌, ◌*�
 use Rattle.std.specs.Prelude.{◌⊎◌}
 use Rattle.std.proofs.Math.Nat.{pow-suc}
 use Rattle.std.proofs.lemmas.Bool.{cases_lt}
-use Rattle.flat_memory.specs.Memory.{Memory, next, may_write, number_at, with_number}
+use Rattle.x64_templates.specs.Words.{Memory, next, may_write, number_at, with_number, ReadWrite, is_readable, is_writable, Counts, Layout, MachineView, slot_at, InTemporaries, InLocals, MemoryKeepsBase, KeepsReserved, Agrees, HoldsBody, IsBytes, pushed, HasBelow, HasBack, body_in_memory}
 use Rattle.flat_memory.proofs.Stores.{untouched, stored_is_loaded}
 use Rattle.flat_memory.specs.declared.protection.Rights.{Rights}
-use Rattle.flat_memory.specs.declared.protection.Rights.TheVariants.{Nothing, Read, ReadWrite}
-use Rattle.flat_memory.specs.Protections.{is_readable, is_writable}
-use Rattle.linear_code.specs.BodyState.{Counts}
-use Rattle.template_code.specs.declared.layout.Layout.{Layout}
-use Rattle.x64_templates.specs.Straight.{MachineView}
-use Rattle.x64_templates.specs.Frames.{slot_at, InTemporaries, InLocals, MemoryKeepsBase, KeepsReserved, Agrees, HoldsBody, IsBytes}
-use Rattle.x64_templates.specs.CallStates.{pushed, HasBelow, HasBack}
+use Rattle.flat_memory.specs.declared.protection.Rights.TheVariants.{Nothing, Read}
 use Rattle.x64_templates.proofs.Accesses.{digits}
-use Rattle.x64_templates.specs.EntryStates.{body_in_memory}
 
 -- ---- numbers in memory
 

@@ -1,24 +1,9 @@
 -- No template but that of a return has an instruction that could be in an epilogue, and sizes of
 -- slots are fixed where they are 128 bytes or more above their base.
 use Rattle.std.proofs.Common.{◌≡◌, ℕ, zero, suc, ◌+◌, ◌-◌, true, false, List, [], ◌∷◌, ◌++◌, refl, arith}
-use Rattle.x64_instr.specs.declared.register.Reg.TheVariants.{Rax}
-use Rattle.x64_instr.specs.declared.instruction.Instr.{Instr}
-use Rattle.linear_code.specs.declared.slot.Slot.{Slot}
-use Rattle.linear_code.specs.declared.slot.Slot.TheVariants.{Temporary}
-use Rattle.c_operations.specs.declared.field.Field.{Field}
-use Rattle.c_operations.specs.declared.field.Field.TheVariants.{ExceptionCode, ExceptionFlags, NumberParameters, ExceptionInformation}
-use Rattle.linear_code.specs.declared.instruction.Instruction.{Instruction}
+use Rattle.x64_templates.specs.Words.{Rax, Instr, Slot, Temporary, Field, ExceptionCode, ExceptionFlags, NumberParameters, ExceptionInformation, Instruction, Counts, IsSlot, HasSlots, Layout, begins_epilogue, sizes, fetch, keep, operands_code, finish_code, compare_zero, jump_equal, test_code, begin_call, field_load, Links, template, SlotsHaveRoom}
 use Rattle.linear_code.specs.declared.instruction.Instruction.TheVariants as instructions
-use Rattle.linear_code.specs.BodyState.{Counts}
-use Rattle.linear_code.specs.Meaning.{IsSlot, HasSlots}
-use Rattle.template_code.specs.declared.layout.Layout.{Layout}
-use Rattle.x64_templates.specs.Straight.{begins_epilogue}
-use Rattle.template_code.specs.Bytes.{sizes}
-use Rattle.template_code.specs.Slots.{fetch, keep, operands_code, finish_code}
-use Rattle.template_code.specs.Jumps.{compare_zero, jump_equal, test_code}
-use Rattle.template_code.specs.Calls.{begin_call, call_code, passing_code, field_load}
-use Rattle.template_code.specs.Template.{Links, template}
-use Rattle.x64_templates.specs.Frames.{SlotsHaveRoom}
+use Rattle.template_code.specs.Calls.{call_code, passing_code}
 use Rattle.x64_templates.proofs.Encoded.{Fine, fine_both, fetch_fine, keep_fine, operands_fine, finish_fine}
 use Rattle.x64_templates.specs.Epilogues.{NoEpilogue, IsReturn}
 

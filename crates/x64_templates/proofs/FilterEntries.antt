@@ -3,14 +3,9 @@
 use Rattle.std.proofs.Common.{◌≡◌, ℕ, ◌+◌, ◌^◌, ◌<◌, ◌≤◌, true, false, List, [], refl, sym, ◌∙◌, arith, inl, inr}
 use Rattle.std.specs.Prelude.{◌⊎◌}
 use Rattle.std.proofs.lemmas.Bool.{cases_lt}
-use Rattle.flat_memory.specs.Memory.{Memory, may_write, with_number}
+use Rattle.x64_templates.specs.Words.{Memory, may_write, with_number, Instr, spelled, MachineView, IsBytes, HasCode}
 use Rattle.flat_memory.proofs.Stores.{untouched}
-use Rattle.x64_instr.specs.declared.instruction.Instr.{Instr}
-use Rattle.template_code.specs.Bytes.{spelled}
 use Rattle.x64_templates.proofs.PlacedCode.{bytes_kept}
-use Rattle.x64_templates.specs.Straight.{MachineView}
-use Rattle.x64_templates.specs.Frames.{IsBytes}
-use Rattle.x64_templates.specs.Runs.{HasCode}
 use Rattle.x64_templates.proofs.Accesses.{digits}
 use Rattle.x64_templates.proofs.Parameters.{kept_at}
 

@@ -2,36 +2,11 @@
 -- registers, and at most one of them stores, but for a store of the source before its result is
 -- kept.
 use Rattle.std.proofs.Common.{ℕ, ◌+◌, ◌<◌, ◌^◌, Bool, true, false, List, [], ◌∷◌, ◌++◌, Option, Some, None, refl, inl, inr}
-use Rattle.seh_num.specs.declared.width.Width.{Width}
-use Rattle.seh_num.specs.declared.width.Width.TheVariants.{W8, W16, W32, W64}
-use Rattle.x64_instr.specs.declared.register.Reg.TheVariants.{Rax, Rcx, Rsp}
-use Rattle.x64_instr.specs.declared.instruction.Instr.{Instr}
-use Rattle.linear_code.specs.declared.slot.Slot.{Slot}
-use Rattle.linear_code.specs.declared.slot.Slot.TheVariants.{Local, Temporary}
-use Rattle.linear_code.specs.BodyState.{Counts}
-use Rattle.linear_code.specs.Meaning.{IsSlot}
-use Rattle.c_operations.specs.declared.field.Field.{Field}
-use Rattle.c_operations.specs.declared.field.Field.TheVariants.{ExceptionCode, ExceptionFlags, NumberParameters, ExceptionInformation}
-use Rattle.c_operations.specs.declared.operation.Size.{Size}
-use Rattle.c_operations.specs.declared.operation.Size.TheVariants.{Int, Long}
-use Rattle.c_operations.specs.declared.operation.Signedness.{Signedness}
-use Rattle.c_operations.specs.declared.operation.Signedness.TheVariants.{Unsigned, Signed}
-use Rattle.c_operations.specs.declared.operation.Relation.{Relation}
+use Rattle.x64_templates.specs.Words.{Width, W8, W16, W32, W64, Rax, Rcx, Rsp, Instr, Slot, Local, Temporary, Counts, IsSlot, Field, ExceptionCode, ExceptionFlags, NumberParameters, ExceptionInformation, Size, Int, Long, Signedness, Unsigned, Signed, Relation, Pure, Operation, Layout, sizes, compare, extended, pure_code, before, work, fetched, local_at, fetch_local, keep_local, fetch, keep, operands_code, jump_equal, jump_code, compare_zero, test_code, jump_if_zero_code, separator_code, IsNear, field_load, information_code, KeepsRegisters, StoresNothing, Flows, StoresOnce, SlotsHaveRoom, IsField}
 use Rattle.c_operations.specs.declared.operation.Relation.TheVariants as relations
-use Rattle.c_operations.specs.declared.operation.Pure.{Pure}
 use Rattle.c_operations.specs.declared.operation.Pure.TheVariants as pures
-use Rattle.c_operations.specs.declared.operation.Operation.{Operation}
 use Rattle.c_operations.specs.declared.operation.Operation.TheVariants as operations
-use Rattle.template_code.specs.declared.layout.Layout.{Layout}
-use Rattle.template_code.specs.Bytes.{sizes}
-use Rattle.template_code.specs.Operations.{compare, extended, pure_code, before, work}
-use Rattle.template_code.specs.Slots.{fetched, local_at, fetch_local, keep_local, fetch, keep, operands_code}
-use Rattle.template_code.specs.Jumps.{jump_equal, jump_code, compare_zero, test_code, jump_if_zero_code, separator_code, IsNear}
-use Rattle.template_code.specs.Calls.{field_load, information_code}
 use Rattle.template_code.proofs.Sizes.{short}
-use Rattle.x64_templates.specs.Keeping.{KeepsRegisters, StoresNothing, Flows, StoresOnce}
-use Rattle.x64_templates.specs.Frames.{SlotsHaveRoom}
-use Rattle.x64_templates.specs.Exceptions.{IsField}
 use Rattle.x64_templates.proofs.PlacedCode.{Encodable}
 use Rattle.x64_templates.proofs.Keeping.{keeps_both, nothing_both, nothing_keeps, flows, flows_to, once_after, nothing_once}
 use Rattle.x64_templates.proofs.Cells.{reg}

@@ -1,21 +1,7 @@
 -- A filter or a `__finally` block begins.
 use Rattle.std.proofs.Common.{◌≡◌, ℕ, ◌+◌, ◌-◌, ◌%◌, ◌^◌, ◌<◌, true, List, [], ◌∷◌, ◌++◌, length, Ok, refl, ap, subst, arith}
-use Rattle.seh_num.specs.declared.width.Width.TheVariants.{W32}
-use Rattle.seh_num.specs.Widths.{low}
-use Rattle.flat_memory.specs.Memory.{may_write}
-use Rattle.x64_instr.specs.declared.register.Reg.TheVariants.{Rax, Rcx}
-use Rattle.x64_instr.specs.declared.instruction.Instr.{Instr}
-use Rattle.x64_machine.specs.declared.cpu.Flags.{Flags}
+use Rattle.x64_templates.specs.Words.{W32, low, may_write, Rax, Rcx, Instr, Flags, Slot, BodyState, with_slot, MachineView, machine, sizes, move, keep, enter_code, keep_register, keep_base, sp_of, moved, HasCode, FramePlace, Roomy, FrameHolds, IsThere, ReachesBody, Enters}
 use Rattle.x64_templates.proofs.PlacedCode.{enters_then, all_may}
-use Rattle.linear_code.specs.declared.slot.Slot.{Slot}
-use Rattle.linear_code.specs.BodyState.{BodyState, with_slot}
-use Rattle.x64_templates.specs.Straight.{MachineView, machine}
-use Rattle.template_code.specs.Bytes.{sizes}
-use Rattle.template_code.specs.Operations.{move}
-use Rattle.template_code.specs.Slots.{keep}
-use Rattle.template_code.specs.Calls.{enter_code, keep_register, keep_base}
-use Rattle.x64_templates.specs.CallStates.{sp_of, moved}
-use Rattle.x64_templates.specs.Runs.{HasCode, FramePlace, Roomy, FrameHolds, IsThere, ReachesBody, Enters}
 use Rattle.x64_templates.proofs.Straight.{executes_one}
 use Rattle.template_code.proofs.Sizes.{sizes_append}
 use Rattle.x64_templates.proofs.Cells.{put}

@@ -1,13 +1,8 @@
 -- A filter or a `__finally` block shares the locals of its activation.
 use Rattle.std.proofs.Common.{◌≡◌, ℕ, ◌+◌, ◌%◌, ◌^◌, ◌<◌, ◌≤◌, true, [], Some, None, ◌∙◌, arith}
-use Rattle.flat_memory.specs.Memory.{Memory, may_write, first_refused, number_at}
+use Rattle.x64_templates.specs.Words.{Memory, may_write, first_refused, number_at, Rdx, MachineView, Executes, keep_base, sp_of, MemoryKeepsBase}
 use Rattle.flat_memory.proofs.Stores.{stored_is_loaded}
-use Rattle.x64_instr.specs.declared.register.Reg.TheVariants.{Rdx}
 use Rattle.x64_templates.proofs.PlacedCode.{all_may}
-use Rattle.x64_templates.specs.Straight.{MachineView, Executes}
-use Rattle.template_code.specs.Calls.{keep_base}
-use Rattle.x64_templates.specs.CallStates.{sp_of}
-use Rattle.x64_templates.specs.Frames.{MemoryKeepsBase}
 use Rattle.x64_templates.proofs.Parameters.{kept_at, keeps_register}
 
 -- ---- the base is kept where the block begins

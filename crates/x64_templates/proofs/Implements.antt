@@ -1,14 +1,7 @@
 -- Every operation does what it means.
 use Rattle.std.proofs.Common.{ℕ, ◌^◌, ◌<◌, Bool, refl}
-use Rattle.flat_memory.specs.Memory.{Memory}
-use Rattle.c_operations.specs.declared.operation.Pure.{Pure}
-use Rattle.c_operations.specs.declared.operation.Operation.{Operation}
+use Rattle.x64_templates.specs.Words.{Memory, Pure, Operation, performed, MachineView, Agrees, work, IsReady, Implements}
 use Rattle.c_operations.specs.declared.operation.Operation.TheVariants as operations
-use Rattle.c_operations.specs.Performed.{performed}
-use Rattle.x64_templates.specs.Straight.{MachineView}
-use Rattle.x64_templates.specs.Frames.{Agrees}
-use Rattle.template_code.specs.Operations.{work}
-use Rattle.x64_templates.specs.Implements.{IsReady, Implements}
 use Rattle.c_operations.proofs.SmallResults.{result_small}
 use Rattle.x64_templates.proofs.Pures.{pure_gives}
 use Rattle.x64_templates.proofs.Divisions.{quotient_implemented, remainder_implemented}

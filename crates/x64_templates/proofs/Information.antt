@@ -1,26 +1,9 @@
 -- A filter reads of its exception.
 use Rattle.std.proofs.Common.{◌≡◌, ℕ, ◌+◌, ◌*◌, ◌%◌, ◌^◌, ◌<◌, ◌≤◌, true, false, [], ◌∷◌, length, Option, None, Ok, refl, ap, subst, ◌∙◌, arith}
-use Rattle.seh_num.specs.declared.width.Width.{Width}
-use Rattle.seh_num.specs.declared.width.Width.TheVariants.{W32, W64}
-use Rattle.seh_num.specs.Widths.{bytes_of, low}
-use Rattle.flat_memory.specs.Memory.{Memory, may_read, number_at, access, first_refused}
-use Rattle.x64_instr.specs.declared.register.Reg.TheVariants.{Rax, Rsp}
-use Rattle.x64_instr.specs.declared.instruction.Instr.{Instr}
-use Rattle.x64_machine.specs.declared.cpu.Flags.{Flags}
-use Rattle.seh_num.specs.Answers.{◌>>=◌}
-use Rattle.x64_machine.specs.Effect.{Answer, granted, load, effect}
+use Rattle.x64_templates.specs.Words.{Width, W32, W64, bytes_of, low, Memory, may_read, number_at, access, first_refused, Rax, Rsp, Instr, Flags, ◌>>=◌, Answer, granted, load, effect, Slot, Field, ExceptionCode, ExceptionFlags, NumberParameters, ExceptionInformation, BodyState, with_slot, MachineView, machine, Executes, sizes, fetched, field_load, information_code, sp_of, IsField, HasCode, FramePlace, Roomy, FrameHolds, IsThere, ReachesBody}
 use Rattle.x64_templates.proofs.PlacedCode.{all_may}
-use Rattle.linear_code.specs.declared.slot.Slot.{Slot}
-use Rattle.c_operations.specs.declared.field.Field.{Field}
-use Rattle.c_operations.specs.declared.field.Field.TheVariants.{ExceptionCode, ExceptionFlags, NumberParameters, ExceptionInformation}
-use Rattle.linear_code.specs.BodyState.{BodyState, with_slot}
-use Rattle.x64_templates.specs.Straight.{MachineView, machine, Executes}
-use Rattle.template_code.specs.Bytes.{sizes}
-use Rattle.template_code.specs.Slots.{fetched}
-use Rattle.template_code.specs.Calls.{field_at, field_load, information_code}
-use Rattle.x64_templates.specs.CallStates.{sp_of}
-use Rattle.x64_templates.specs.Exceptions.{field_width, IsField, MayRead, HasException}
-use Rattle.x64_templates.specs.Runs.{HasCode, FramePlace, Roomy, FrameHolds, IsThere, ReachesBody}
+use Rattle.template_code.specs.Calls.{field_at}
+use Rattle.x64_templates.specs.Exceptions.{field_width, MayRead, HasException}
 use Rattle.x64_templates.proofs.Straight.{executes_one, executes_then}
 use Rattle.x64_templates.proofs.Cells.{put}
 use Rattle.x64_templates.proofs.Encoded.{Fine, near}

@@ -1,24 +1,8 @@
 -- Every instruction that needs no dispatcher does what it means, wherever its template is placed.
 use Rattle.std.proofs.Common.{◌≡◌, ℕ, zero, suc, ◌+◌, ◌^◌, ◌<◌, ◌≤◌, Bool, true, false, cond, eqb, List, [], ◌∷◌, length, get_or, Option, Some, None, refl, sym, subst, ◌∙◌, arith, length-append}
-use Rattle.x64_instr.specs.declared.register.Reg.TheVariants.{Rax}
-use Rattle.x64_machine.specs.declared.cpu.Flags.{Flags}
-use Rattle.linear_code.specs.declared.slot.Slot.{Slot}
-use Rattle.linear_code.specs.declared.slot.Slot.TheVariants.{Local, Temporary}
-use Rattle.c_operations.specs.declared.operation.Operation.{Operation}
-use Rattle.linear_code.specs.declared.instruction.Instruction.{Instruction}
+use Rattle.x64_templates.specs.Words.{Rax, Flags, Slot, Local, Temporary, Operation, Instruction, BodyState, with_slot, OperationResult, Gives, Raises, Undefined, performed, Next, JumpsTo, kept, step, HasSlots, Layout, MachineView, machine, size, sizes, work, fetch, keep, keep_local, local_at, operands_code, finish_code, compute_code, compare_zero, jump_equal, jump_if_zero_code, test_code, IsNear, Links, template, template_size, offset_of, code_from, HasCode, FramePlace, Roomy, FrameHolds, ReachesBody, Computed, InstructionDone}
 use Rattle.linear_code.specs.declared.instruction.Instruction.TheVariants as instructions
-use Rattle.linear_code.specs.BodyState.{BodyState, with_slot}
-use Rattle.c_operations.specs.Performed.{OperationResult, Gives, Raises, Undefined, performed}
-use Rattle.linear_code.specs.Meaning.{Next, JumpsTo, kept, step, HasSlots}
-use Rattle.template_code.specs.declared.layout.Layout.{Layout}
-use Rattle.x64_templates.specs.Straight.{MachineView, machine}
-use Rattle.template_code.specs.Bytes.{size, sizes}
-use Rattle.template_code.specs.Operations.{work}
-use Rattle.template_code.specs.Slots.{fetch, keep, keep_local, local_at, operands_code, finish_code, compute_code}
-use Rattle.template_code.specs.Jumps.{compare_zero, jump_equal, jump_if_zero_code, test_code, IsNear}
-use Rattle.template_code.specs.Template.{Links, nowhere, template, template_size, body_size, offset_of, code_from, HasLabels}
-use Rattle.x64_templates.specs.Runs.{HasCode, FramePlace, Roomy, FrameHolds, ReachesBody, Computed}
-use Rattle.x64_templates.specs.InstructionRuns.{InstructionDone}
+use Rattle.template_code.specs.Template.{nowhere, body_size, HasLabels}
 use Rattle.x64_templates.proofs.Cells.{sp_of}
 use Rattle.template_code.proofs.Lengths.{fetch_length, compute_length}
 use Rattle.x64_templates.proofs.Computes.{compute_run}

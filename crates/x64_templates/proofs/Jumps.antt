@@ -1,27 +1,11 @@
 -- Jumps come to their labels.
 use Rattle.template_code.proofs.Sizes.{arrives, short, jump_if_size}
 use Rattle.std.proofs.Common.{◌≡◌, ℕ, ◌+◌, ◌-◌, ◌%◌, ◌^◌, ◌<◌, Bool, true, false, cond, eqb, [], ◌∷◌, ◌++◌, length, Ok, refl, sym, ap, subst, ◌∙◌, arith, length-append}
-use Rattle.seh_num.specs.declared.width.Width.TheVariants.{W64}
-use Rattle.seh_num.specs.Widths.{low}
-use Rattle.flat_memory.specs.Memory.{Memory}
-use Rattle.x64_instr.specs.declared.register.Reg.TheVariants.{Rax}
+use Rattle.x64_templates.specs.Words.{W64, low, Memory, Rax, Relative, Instr, chosen, is_encodable, Flags, subtracted, State, effect, Slot, BodyState, takes_frame, MachineView, machine, size, sizes, fetch, distance, jump_equal, jump_code, compare_zero, test_code, jump_if_zero_code, separator_code, IsNear, IsBytes, Reaches, Enters, HasCode, FramePlace, Roomy, FrameHolds, IsThere, ReachesBody}
 use Rattle.x64_instr.specs.declared.instruction.Condition.TheVariants as conditions
-use Rattle.x64_instr.specs.declared.instruction.Target.TheVariants.{Relative}
-use Rattle.x64_instr.specs.declared.instruction.Instr.{Instr}
 use Rattle.x64_instr.specs.declared.instruction.Instr.TheVariants as instrs
-use Rattle.x64_encode.specs.Chosen.{chosen, is_encodable}
-use Rattle.x64_machine.specs.declared.cpu.Flags.{Flags}
-use Rattle.x64_machine.specs.Words.{subtracted}
-use Rattle.x64_machine.specs.Effect.{State, effect}
 use Rattle.x64_templates.proofs.PlacedCode.{bytes_split, reaches_then}
-use Rattle.linear_code.specs.declared.slot.Slot.{Slot}
-use Rattle.linear_code.specs.BodyState.{BodyState}
-use Rattle.x64_templates.specs.Straight.{takes_frame, MachineView, machine}
-use Rattle.template_code.specs.Bytes.{size, sizes}
-use Rattle.template_code.specs.Slots.{fetch}
-use Rattle.template_code.specs.Jumps.{distance, jump, jump_equal, jump_code, compare_zero, test_code, jump_if_zero_code, separator_code, IsNear}
-use Rattle.x64_templates.specs.Frames.{IsBytes}
-use Rattle.x64_templates.specs.Runs.{Reaches, Enters, HasCode, FramePlace, Roomy, FrameHolds, IsThere, ReachesBody}
+use Rattle.template_code.specs.Jumps.{jump}
 use Rattle.x64_templates.proofs.Straight.{one_runs, one_enters_frame}
 use Rattle.template_code.proofs.Sizes.{sizes_append}
 use Rattle.x64_templates.proofs.Cells.{put, sp_of, fetch_does}

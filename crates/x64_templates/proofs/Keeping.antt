@@ -1,31 +1,15 @@
 -- What instructions leave of RSP, the nonvolatile registers and memory.
 use Rattle.std.proofs.Common.{◌≡◌, ℕ, zero, suc, ◌<◌, ◌≤◌, Bool, true, false, cond, Result, Ok, Err, List, [], ◌∷◌, ◌++◌, refl, ap, subst, ◌∙◌, arith, inl, inr}
 use Rattle.std.specs.Prelude.{◌⊎◌, slice_index, slice_set}
-use Rattle.seh_num.specs.declared.width.Width.{Width}
-use Rattle.seh_num.specs.declared.width.Width.TheVariants.{W8}
-use Rattle.seh_num.specs.declared.division.DivFault.{DivFault}
-use Rattle.seh_num.specs.Widths.{low}
+use Rattle.x64_templates.specs.Words.{Width, W8, DivFault, low, Reg, Rax, Rcx, Rdx, R8, R9, R11, RegisterOrMemory, Operand, Unary, Direction, Instr, number, Cpu, kept_of, merged, multiplied, count_of, shifted, shift_flags, divided, joined, ◌>>=◌, State, Answer, granted, register, with_register, with_flags, address_of, store, read, operand, write, may_change, computed, change, is_compare, unary, unary_of, amount, shift_by, multiply, multiply_by, with_quotient, sign_of_rax, widened, condition_byte, effect, keeps_registers, stores_nothing, KeepsRegisters, StoresNothing, Flows, StoresOnce}
 use Rattle.flat_memory.specs.Memory.{stored, after_store}
-use Rattle.x64_instr.specs.declared.register.Reg.{Reg}
-use Rattle.x64_instr.specs.declared.register.Reg.TheVariants.{Rax, Rcx, Rdx, R8, R9, R10, R11}
-use Rattle.x64_instr.specs.declared.operand.RegisterOrMemory.{RegisterOrMemory}
+use Rattle.x64_instr.specs.declared.register.Reg.TheVariants.{R10}
 use Rattle.x64_instr.specs.declared.operand.RegisterOrMemory.TheVariants as places
-use Rattle.x64_instr.specs.declared.operand.Operand.{Operand}
 use Rattle.x64_instr.specs.declared.instruction.Operation.{Operation}
 use Rattle.x64_instr.specs.declared.instruction.Operation.TheVariants as operations
-use Rattle.x64_instr.specs.declared.instruction.Unary.{Unary}
-use Rattle.x64_instr.specs.declared.instruction.Direction.{Direction}
-use Rattle.x64_instr.specs.declared.instruction.Instr.{Instr}
 use Rattle.x64_instr.specs.declared.instruction.Instr.TheVariants as instrs
-use Rattle.x64_instr.specs.Registers.{number}
-use Rattle.x64_machine.specs.declared.cpu.Cpu.{Cpu}
-use Rattle.x64_machine.specs.Contexts.{kept_of}
-use Rattle.x64_machine.specs.Words.{merged, multiplied}
-use Rattle.x64_machine.specs.Shifts.{count_of, shifted, shift_flags}
-use Rattle.x64_machine.specs.Dividing.{divided, joined}
-use Rattle.seh_num.specs.Answers.{◌>>=◌}
-use Rattle.x64_machine.specs.Effect.{State, Answer, granted, register, with_register, with_flags, address_of, store, read, operand, write, may_change, computed, compare, change, is_compare, unary, unary_of, amount, shift_by, multiply, multiply_by, with_quotient, sign_of_rax, widened, condition_byte, effect}
-use Rattle.x64_templates.specs.Keeping.{is_volatile, is_volatile_or_memory, is_register, keeps_registers, stores_nothing, is_call, KeepsRegisters, StoresNothing, Flows, StoresOnce}
+use Rattle.x64_machine.specs.Effect.{compare}
+use Rattle.x64_templates.specs.Keeping.{is_volatile, is_volatile_or_memory, is_register, is_call}
 
 -- ---- registers
 

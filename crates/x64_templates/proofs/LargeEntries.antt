@@ -2,27 +2,14 @@
 use Rattle.std.proofs.Common.{◌≡◌, ℕ, ◌+◌, ◌-◌, ◌^◌, ◌<◌, ◌≤◌, true, false, ltb, List, [], ◌∷◌, length, set, Ok, refl, sym, ap, subst, ◌∙◌, arith, inl, inr, get_or-set_same, length-set}
 use Rattle.std.specs.Prelude.{◌⊎◌}
 use Rattle.std.proofs.lemmas.Bool.{cases_lt, lt-ltb}
-use Rattle.seh_num.specs.declared.width.Width.TheVariants.{W32, W64}
-use Rattle.seh_num.specs.Widths.{low}
-use Rattle.flat_memory.specs.Memory.{may_write}
-use Rattle.x64_instr.specs.declared.register.Reg.TheVariants.{Rax, Rsp}
+use Rattle.x64_templates.specs.Words.{W32, W64, low, may_write, Rax, Rsp, Instr, Flags, subtracted, effect, spelled, MachineView, machine, size, sizes, call, IsNear, sp_of, with_sp, pushed, HasBelow, moved, check_stack, Reaches, HasCode}
 use Rattle.x64_instr.specs.declared.operand.RegisterOrMemory.TheVariants as places
 use Rattle.x64_instr.specs.declared.operand.Operand.TheVariants as operands
 use Rattle.x64_instr.specs.declared.instruction.Operation.TheVariants as arithmetic
-use Rattle.x64_instr.specs.declared.instruction.Instr.{Instr}
 use Rattle.x64_instr.specs.declared.instruction.Instr.TheVariants as instrs
 use Rattle.x64_encode.specs.Chosen.{opcode_register}
-use Rattle.x64_machine.specs.declared.cpu.Flags.{Flags}
-use Rattle.x64_machine.specs.Words.{subtracted}
-use Rattle.x64_machine.specs.Effect.{effect}
-use Rattle.template_code.specs.Bytes.{spelled}
 use Rattle.x64_templates.proofs.PlacedCode.{bytes_kept, reaches_then}
-use Rattle.x64_templates.specs.Straight.{MachineView, machine}
-use Rattle.template_code.specs.Bytes.{size, sizes}
-use Rattle.template_code.specs.Jumps.{call, IsNear}
-use Rattle.x64_templates.specs.CallStates.{sp_of, with_sp, pushed, HasBelow, moved}
-use Rattle.template_code.specs.Probing.{check_stack, enter_large}
-use Rattle.x64_templates.specs.Runs.{Reaches, HasCode}
+use Rattle.template_code.specs.Probing.{enter_large}
 use Rattle.x64_templates.proofs.Cells.{put}
 use Rattle.x64_templates.proofs.Computes.{code_split}
 use Rattle.x64_templates.proofs.Jumps.{one_reaches}

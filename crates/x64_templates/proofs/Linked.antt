@@ -1,11 +1,7 @@
 -- Where the template of each instruction of a body is placed.
 use Rattle.template_code.proofs.Sizes.{template_sizes}
 use Rattle.std.proofs.Common.{◌≡◌, ℕ, zero, suc, ◌+◌, ◌<◌, List, [], ◌∷◌, length, get_or, subst, arith}
-use Rattle.flat_memory.specs.Memory.{Memory}
-use Rattle.linear_code.specs.declared.instruction.Instruction.{Instruction}
-use Rattle.template_code.specs.declared.layout.Layout.{Layout}
-use Rattle.template_code.specs.Template.{Links, template, template_size, offset_of, code_from}
-use Rattle.x64_templates.specs.Runs.{HasCode}
+use Rattle.x64_templates.specs.Words.{Memory, Instruction, Layout, Links, template, template_size, offset_of, code_from, HasCode}
 use Rattle.x64_templates.proofs.Computes.{code_split}
 
 -- the template of the instruction of a number is placed where the sizes of those before it say

@@ -2,25 +2,8 @@
 use Rattle.std.proofs.Common.{◌≡◌, ℕ, zero, suc, ◌+◌, ◌%◌, ◌^◌, ◌<◌, ◌≤◌, true, cond, [], ◌∷◌, None, refl, sym, ap, subst, ◌∙◌, arith, inl, inr}
 use Rattle.std.specs.Prelude.{◌⊎◌, slice_index}
 use Rattle.std.proofs.lemmas.Bool.{cases_lt, lt-ltb, le-ltb}
-use Rattle.seh_num.specs.declared.width.Width.TheVariants.{W64}
-use Rattle.seh_num.specs.Widths.{low}
-use Rattle.flat_memory.specs.declared.protection.Protection.{Protection}
-use Rattle.flat_memory.specs.Protections.{is_readable}
-use Rattle.flat_memory.specs.Memory.{Memory, first_refused, may_read, may_write, with_number, with_bytes}
-use Rattle.x64_instr.specs.declared.register.Reg.{Reg}
-use Rattle.x64_instr.specs.declared.register.Reg.TheVariants.{Rax, Rsp}
-use Rattle.x64_instr.specs.Registers.{number}
-use Rattle.x64_machine.specs.Effect.{store}
+use Rattle.x64_templates.specs.Words.{W64, low, Protection, is_readable, Memory, first_refused, may_read, may_write, with_number, with_bytes, Reg, Rax, Rsp, number, store, Local, BodyState, with_slot, MachineView, machine, Executes, fetched, local_at, parameter_register, keep_register, stack_parameter, parameter_code, parameters_code, sp_of, slot_at, InTemporaries, InLocals, with_arguments, InRegisters, OnStack, IsFunctionFrame, FramePlace, Roomy, FrameHolds, ChangesOwn}
 use Rattle.x64_templates.proofs.PlacedCode.{all_may, same_number, store_at}
-use Rattle.linear_code.specs.declared.slot.Slot.TheVariants.{Local}
-use Rattle.linear_code.specs.BodyState.{BodyState, with_slot}
-use Rattle.x64_templates.specs.Straight.{MachineView, machine, Executes}
-use Rattle.template_code.specs.Slots.{fetched, local_at}
-use Rattle.template_code.specs.Calls.{parameter_register, keep_register, stack_parameter, parameter_code, parameters_code}
-use Rattle.x64_templates.specs.CallStates.{sp_of}
-use Rattle.x64_templates.specs.Frames.{slot_at, InTemporaries, InLocals}
-use Rattle.x64_templates.specs.EntryStates.{with_arguments, InRegisters, OnStack, IsFunctionFrame}
-use Rattle.x64_templates.specs.Runs.{FramePlace, Roomy, FrameHolds, ChangesOwn}
 use Rattle.x64_templates.proofs.Straight.{executes_one, executes_then, executes_nothing}
 use Rattle.x64_templates.proofs.Cells.{put, from_sp, may_write_slot}
 use Rattle.x64_templates.proofs.Bodies.{holds_after, changes_slot, changes_then}

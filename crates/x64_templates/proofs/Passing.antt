@@ -1,13 +1,8 @@
 -- What a caller passes is what the callee finds.
 use Rattle.std.proofs.Common.{◌≡◌, ◌≢◌, ℕ, ◌+◌, ◌-◌, true, false, ltb, length, set, refl, ap, ◌∙◌, arith, get_or-set_same, get_or-set_other, length-set}
 use borrow.Author.Tests.{ltb-true, ltb-false}
-use Rattle.linear_code.specs.declared.slot.Slot.TheVariants.{Temporary}
-use Rattle.linear_code.specs.BodyState.{BodyState}
-use Rattle.x64_templates.specs.Straight.{MachineView}
-use Rattle.template_code.specs.Calls.{return_at}
-use Rattle.x64_templates.specs.CallStates.{with_four, pushed}
-use Rattle.x64_templates.specs.EntryStates.{passed, InRegisters}
-use Rattle.x64_templates.specs.Runs.{FramePlace}
+use Rattle.x64_templates.specs.Words.{Temporary, BodyState, MachineView, return_at, with_four, pushed, InRegisters, FramePlace}
+use Rattle.x64_templates.specs.EntryStates.{passed}
 
 -- the callee's view: the first four arguments in registers, and the return address pushed
 abbrev pub called_view : FramePlace → ℕ → MachineView → ℕ → BodyState → MachineView

@@ -5,22 +5,9 @@ use Rattle.std.specs.Int.Bits.{and_lt}
 use Rattle.std.proofs.Math.Nat.{div-le_self}
 use Rattle.std.proofs.lemmas.Int.{ints}
 use Rattle.std.proofs.lemmas.Nat.{or_lt, xor_lt}
-use Rattle.seh_num.specs.declared.width.Width.{Width}
-use Rattle.seh_num.specs.declared.width.Width.TheVariants.{W8, W16, W32, W64}
-use Rattle.seh_num.specs.Widths.{limit, half, low, signed, wrapped}
-use Rattle.x64_instr.specs.declared.instruction.Instr.{Instr}
-use Rattle.x64_machine.specs.declared.cpu.Flags.{Flags}
-use Rattle.x64_machine.specs.Words.{added, subtracted, multiplied}
-use Rattle.x64_machine.specs.Effect.{effect}
-use Rattle.c_operations.specs.declared.operation.Size.{Size}
-use Rattle.c_operations.specs.declared.operation.Size.TheVariants.{Int, Long}
-use Rattle.c_operations.specs.declared.operation.Signedness.{Signedness}
-use Rattle.c_operations.specs.declared.operation.Signedness.TheVariants.{Unsigned, Signed}
-use Rattle.c_operations.specs.declared.operation.Pure.{Pure}
+use Rattle.x64_templates.specs.Words.{Width, W8, W16, W32, W64, limit, half, low, signed, wrapped, Instr, Flags, added, subtracted, multiplied, effect, Size, Int, Long, Signedness, Unsigned, Signed, Pure, MachineView, machine, Yields, pure_code}
 use Rattle.c_operations.specs.declared.operation.Pure.TheVariants as pures
 use Rattle.c_operations.specs.Numbers.{shifted_right, result_of}
-use Rattle.x64_templates.specs.Straight.{MachineView, machine, Yields}
-use Rattle.template_code.specs.Operations.{pure_code}
 use Rattle.x64_templates.proofs.Straight.{executes_one, executes_nothing}
 use Rattle.x64_templates.proofs.Compares.{compares}
 

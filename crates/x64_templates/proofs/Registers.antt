@@ -1,34 +1,13 @@
 -- Registers stay as many as they are, and numbers of 64 bits.
 use Rattle.std.proofs.Common.{◌≡◌, ℕ, zero, suc, ◌+◌, ◌-◌, ◌%◌, ◌^◌, ◌<◌, Bool, true, false, cond, Option, Some, None, Ok, Err, refl, sym, ap, subst, ◌∙◌, arith}
 use Rattle.std.specs.Prelude.{Result}
-use Rattle.seh_num.specs.declared.width.Width.{Width}
-use Rattle.seh_num.specs.declared.width.Width.TheVariants.{W8, W64}
-use Rattle.seh_num.specs.declared.division.DivFault.{DivFault}
-use Rattle.seh_num.specs.Widths.{bytes_of, low}
-use Rattle.flat_memory.specs.Memory.{first_refused, may_write, access, unless_refused, with_number, with_bytes}
-use Rattle.x64_instr.specs.declared.register.Reg.{Reg}
-use Rattle.x64_instr.specs.declared.register.Reg.TheVariants.{Rax, Rdx, Rsp}
-use Rattle.x64_instr.specs.declared.operand.RegisterOrMemory.{RegisterOrMemory}
+use Rattle.x64_templates.specs.Words.{Width, W8, W64, DivFault, bytes_of, low, first_refused, may_write, access, unless_refused, with_number, with_bytes, Reg, Rax, Rdx, Rsp, RegisterOrMemory, Operand, Unary, Direction, Target, Instr, Cpu, multiplied, count_of, shifted, shift_flags, divided, joined, ◌>>=◌, State, Answer, granted, register, with_register, with_flags, with_rip, address_of, load, store, read, operand, write, may_change, computed, change, is_compare, unary, unary_of, amount, shift_by, multiply, multiply_by, with_quotient, sign_of_rax, widened, condition_byte, jumped, push, pop, target_of, effect, number, W16, W32, merged, holds}
 use Rattle.x64_instr.specs.declared.operand.RegisterOrMemory.TheVariants as places
-use Rattle.x64_instr.specs.declared.operand.Operand.{Operand}
 use Rattle.x64_instr.specs.declared.instruction.Operation.{Operation}
 use Rattle.x64_instr.specs.declared.instruction.Operation.TheVariants as operations
-use Rattle.x64_instr.specs.declared.instruction.Unary.{Unary}
-use Rattle.x64_instr.specs.declared.instruction.Direction.{Direction}
-use Rattle.x64_instr.specs.declared.instruction.Target.{Target}
-use Rattle.x64_instr.specs.declared.instruction.Instr.{Instr}
 use Rattle.x64_instr.specs.declared.instruction.Instr.TheVariants as instrs
-use Rattle.x64_machine.specs.declared.cpu.Cpu.{Cpu}
-use Rattle.x64_machine.specs.Words.{multiplied}
-use Rattle.x64_machine.specs.Shifts.{count_of, shifted, shift_flags}
-use Rattle.x64_machine.specs.Dividing.{divided, joined}
-use Rattle.seh_num.specs.Answers.{◌>>=◌}
-use Rattle.x64_machine.specs.Effect.{State, Answer, granted, register, with_register, with_flags, with_rip, address_of, load, store, read, operand, write, may_change, computed, compare, change, is_compare, unary, unary_of, amount, shift_by, multiply, multiply_by, with_quotient, sign_of_rax, widened, condition_byte, jumped, push, pop, target_of, effect}
+use Rattle.x64_machine.specs.Effect.{compare}
 use Rattle.std.specs.Prelude.{List, [], ◌∷◌, length, slice_index, slice_set}
-use Rattle.x64_instr.specs.Registers.{number}
-use Rattle.seh_num.specs.declared.width.Width.TheVariants.{W16, W32}
-use Rattle.x64_machine.specs.Words.{merged}
-use Rattle.x64_machine.specs.Conditions.{holds}
 use Rattle.x64_templates.specs.Straight.{AreSmall}
 use Rattle.x64_templates.proofs.Leaves.{bound}
 

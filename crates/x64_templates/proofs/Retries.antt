@@ -1,23 +1,9 @@
 -- A fault in a body, and the operation made again.
 use Rattle.std.proofs.Common.{◌≡◌, ℕ, suc, ◌+◌, ◌^◌, ◌<◌, ◌≤◌, Bool, List, ◌++◌, length, get_or, Option, Some, sym, ap, subst, ◌∙◌, arith, length-append}
-use Rattle.seh_num.specs.declared.event.Code.{Code}
-use Rattle.x64_machine.specs.declared.cpu.Flags.{Flags}
+use Rattle.x64_templates.specs.Words.{Code, Flags, Slot, Instruction, Operation, BodyState, with_slot, OperationResult, Gives, Raises, Undefined, performed, InstructionEffect, Faults, step, run, HasSlots, Layout, MachineView, machine, sizes, operands_code, finish_code, Links, template, template_size, offset_of, HasOperands, HasCode, FramePlace, Roomy, FrameHolds, ChangesOwn, ReachesBody, Finished, InstructionDone, IsLinked}
 use Rattle.x64_templates.proofs.PlacedCode.{reaches_then}
-use Rattle.linear_code.specs.declared.slot.Slot.{Slot}
-use Rattle.linear_code.specs.declared.instruction.Instruction.{Instruction}
 use Rattle.linear_code.specs.declared.instruction.Instruction.TheVariants as instructions
-use Rattle.c_operations.specs.declared.operation.Operation.{Operation}
-use Rattle.linear_code.specs.BodyState.{BodyState, with_slot}
-use Rattle.c_operations.specs.Performed.{OperationResult, Gives, Raises, Undefined, performed}
-use Rattle.linear_code.specs.Meaning.{InstructionEffect, Faults, step, run, HasSlots}
-use Rattle.template_code.specs.declared.layout.Layout.{Layout}
-use Rattle.x64_templates.specs.Straight.{MachineView, machine}
-use Rattle.template_code.specs.Bytes.{sizes}
-use Rattle.template_code.specs.Slots.{operands_code, finish_code}
-use Rattle.template_code.specs.Template.{Links, template, template_size, offset_of}
-use Rattle.x64_templates.specs.Implements.{HasOperands}
-use Rattle.x64_templates.specs.Runs.{HasCode, FramePlace, Roomy, FrameHolds, ChangesOwn, ReachesBody, ReachesFault, Finished}
-use Rattle.x64_templates.specs.InstructionRuns.{InstructionDone, IsLinked}
+use Rattle.x64_templates.specs.Runs.{ReachesFault}
 use Rattle.template_code.proofs.Sizes.{sizes_append}
 use Rattle.x64_templates.proofs.Cells.{sp_of}
 use Rattle.template_code.proofs.Lengths.{compute_length}

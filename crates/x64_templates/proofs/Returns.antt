@@ -1,27 +1,13 @@
 -- A body is entered and left, and its caller's slots outlast a call.
 use Rattle.std.proofs.Common.{◌≡◌, ℕ, zero, suc, ◌+◌, ◌-◌, ◌%◌, ◌^◌, ◌<◌, ◌≤◌, Bool, true, List, [], ◌∷◌, length, Ok, refl, sym, ap, subst, ◌∙◌, arith, get_or-set_same, length-append}
 use Rattle.std.proofs.lemmas.List.{set-set}
-use Rattle.seh_num.specs.declared.width.Width.TheVariants.{W64}
-use Rattle.seh_num.specs.Widths.{low}
-use Rattle.flat_memory.specs.Memory.{Memory, may_read}
-use Rattle.x64_instr.specs.declared.register.Reg.TheVariants.{Rax, Rsp}
+use Rattle.x64_templates.specs.Words.{W64, low, Memory, may_read, Rax, Rsp, Flags, added, subtracted, ◌>>=◌, State, Answer, with_rip, load, effect, Slot, BodyState, with_slot, MachineView, machine, size, sizes, fetch, keep, enter_code, sp_of, HasBack, moved, Enters, Reaches, HasCode, FramePlace, Roomy, FrameHolds, IsThere, ReachesBody}
 use Rattle.x64_instr.specs.declared.operand.RegisterOrMemory.TheVariants as places
 use Rattle.x64_instr.specs.declared.operand.Operand.TheVariants as operands
 use Rattle.x64_instr.specs.declared.instruction.Operation.TheVariants as arithmetic
 use Rattle.x64_instr.specs.declared.instruction.Instr.TheVariants as instrs
-use Rattle.x64_machine.specs.declared.cpu.Flags.{Flags}
-use Rattle.x64_machine.specs.Words.{added, subtracted}
-use Rattle.seh_num.specs.Answers.{◌>>=◌}
-use Rattle.x64_machine.specs.Effect.{State, Answer, with_rip, load, effect}
 use Rattle.x64_templates.proofs.PlacedCode.{all_may, load_at, reaches_then}
-use Rattle.linear_code.specs.declared.slot.Slot.{Slot}
-use Rattle.linear_code.specs.BodyState.{BodyState, with_slot}
-use Rattle.x64_templates.specs.Straight.{MachineView, machine}
-use Rattle.template_code.specs.Bytes.{size, sizes}
-use Rattle.template_code.specs.Slots.{fetch, keep}
-use Rattle.template_code.specs.Calls.{enter_code, epilogue, return_code}
-use Rattle.x64_templates.specs.CallStates.{sp_of, HasBack, moved}
-use Rattle.x64_templates.specs.Runs.{Enters, Reaches, HasCode, FramePlace, Roomy, FrameHolds, IsThere, ReachesBody}
+use Rattle.template_code.specs.Calls.{epilogue, return_code}
 use Rattle.x64_templates.proofs.Straight.{executes_nothing}
 use Rattle.x64_templates.proofs.Cells.{put, fetch_does}
 use Rattle.x64_templates.proofs.Encoded.{fetch_fine, near}

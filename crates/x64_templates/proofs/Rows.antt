@@ -1,19 +1,9 @@
 -- Worked templates, computed down to bytes.
 use Rattle.std.proofs.Common.{◌≡◌, List, [], ◌∷◌, length, None, Some, refl}
-use Rattle.x64_encode.specs.Chosen.{modrm}
-use Rattle.template_code.specs.Bytes.{spelled}
-use Rattle.c_operations.specs.declared.operation.Size.TheVariants.{Int}
-use Rattle.c_operations.specs.declared.operation.Signedness.TheVariants.{Signed}
+use Rattle.x64_templates.specs.Words.{modrm, spelled, Int, Signed, Local, Temporary, Instruction, Layout, size, compute_code, jump_code, template_size, offset_of}
 use Rattle.c_operations.specs.declared.operation.Pure.TheVariants as pures
 use Rattle.c_operations.specs.declared.operation.Operation.TheVariants as operations
-use Rattle.linear_code.specs.declared.slot.Slot.TheVariants.{Local, Temporary}
-use Rattle.linear_code.specs.declared.instruction.Instruction.{Instruction}
 use Rattle.linear_code.specs.declared.instruction.Instruction.TheVariants as instructions
-use Rattle.template_code.specs.declared.layout.Layout.{Layout}
-use Rattle.template_code.specs.Bytes.{size}
-use Rattle.template_code.specs.Slots.{compute_code}
-use Rattle.template_code.specs.Jumps.{jump_code}
-use Rattle.template_code.specs.Template.{template_size, offset_of}
 
 -- a function with temporaries from 128 and locals from 256 above RSP, and a block of it that keeps
 -- the base 32 above its own

@@ -1,18 +1,8 @@
 -- Thunks: a jump through a slot that holds a service's address.
 use Rattle.std.proofs.Common.{◌≡◌, ℕ, ◌+◌, ◌%◌, ◌^◌, ◌<◌, ◌≤◌, true, [], ◌∷◌, Ok, refl, ap, ◌∙◌, arith}
-use Rattle.seh_num.specs.declared.width.Width.TheVariants.{W64}
-use Rattle.flat_memory.specs.Memory.{may_read, number_at}
-use Rattle.x64_encode.specs.Chosen.{modrm}
-use Rattle.x64_machine.specs.declared.cpu.Flags.{Flags}
-use Rattle.seh_num.specs.Answers.{◌>>=◌}
-use Rattle.x64_machine.specs.Effect.{Answer, load, effect}
-use Rattle.template_code.specs.Bytes.{thunk}
+use Rattle.x64_templates.specs.Words.{W64, may_read, number_at, modrm, Flags, ◌>>=◌, Answer, load, effect, thunk, MachineView, machine, size, pushed, HasBelow, Reaches}
 use Rattle.x64_templates.proofs.PlacedCode.{all_may, same_number, load_at, thunk_encodable}
-use Rattle.x64_templates.specs.Straight.{MachineView, machine}
-use Rattle.template_code.specs.Bytes.{size}
 use Rattle.x64_templates.specs.Thunks.{HasThunk}
-use Rattle.x64_templates.specs.CallStates.{pushed, HasBelow}
-use Rattle.x64_templates.specs.Runs.{Reaches}
 use Rattle.x64_templates.proofs.Jumps.{one_reaches}
 use Rattle.x64_templates.proofs.Entries.{beside}
 use Rattle.x64_templates.proofs.LargeEntries.{fixed_beside, pushed_keeps_code}

@@ -1,21 +1,10 @@
 -- Instructions in memory are run one after another.
 use Rattle.template_code.proofs.Sizes.{sizes_append}
 use Rattle.std.proofs.Common.{◌≡◌, ◌≢◌, ℕ, suc, ◌+◌, ◌≤◌, false, List, [], ◌∷◌, ◌++◌, length, Ok, Err, refl, sym, ap, subst, ◌∙◌, arith}
-use Rattle.flat_memory.specs.declared.protection.Protection.{Protection}
-use Rattle.flat_memory.specs.Protections.{is_writable}
-use Rattle.flat_memory.specs.Memory.{Memory, may_write}
-use Rattle.x64_instr.specs.declared.instruction.Instr.{Instr}
-use Rattle.x64_encode.specs.Chosen.{chosen}
+use Rattle.x64_templates.specs.Words.{Protection, is_writable, Memory, may_write, Instr, chosen, Flags, ◌>>=◌, State, Answer, with_rip, effect, IsCodeAt, IsPlaced, spelled, Reaches, Enters, AllStraight, takes_frame, NoneTakesFrame, effects, MachineView, machine, Executes, size, sizes}
 use Rattle.x64_encode.proofs.Lengths.{longest}
-use Rattle.x64_machine.specs.declared.cpu.Flags.{Flags}
-use Rattle.seh_num.specs.Answers.{◌>>=◌}
-use Rattle.x64_machine.specs.Effect.{State, Answer, with_rip, effect}
-use Rattle.x64_templates.specs.Placed.{IsCodeAt, IsPlaced}
-use Rattle.template_code.specs.Bytes.{spelled}
-use Rattle.x64_templates.specs.Runs.{Steps, Reaches, Enters}
+use Rattle.x64_templates.specs.Runs.{Steps}
 use Rattle.x64_templates.proofs.PlacedCode.{bytes_kept, Encodable, bytes_split, spells, reads, steps, no_turns, one_turn, reaches_then}
-use Rattle.x64_templates.specs.Straight.{AllStraight, takes_frame, NoneTakesFrame, effects, MachineView, machine, Executes}
-use Rattle.template_code.specs.Bytes.{size, sizes}
 use Rattle.x64_templates.proofs.Leaves.{Left, leaves, bound}
 use Rattle.x64_templates.proofs.Registers.{registers_stay}
 

@@ -2,25 +2,11 @@
 use Rattle.std.proofs.Common.{◌≡◌, ℕ, zero, suc, ◌+◌, ◌<◌, ◌≤◌, Bool, true, false, cond, List, [], ◌∷◌, length, get_or, Option, Some, None, refl, sym, ap, subst, ◌∙◌, arith, inl, inr}
 use Rattle.std.specs.Prelude.{◌⊎◌}
 use Rattle.std.proofs.lemmas.Bool.{cases_lt, lt-ltb, le-ltb}
-use Rattle.flat_memory.specs.declared.protection.Protection.{Protection}
-use Rattle.flat_memory.specs.Protections.{is_writable}
-use Rattle.flat_memory.specs.Memory.{Memory}
-use Rattle.x64_instr.specs.declared.instruction.Instr.{Instr}
-use Rattle.x64_machine.specs.declared.cpu.Flags.{Flags}
-use Rattle.x64_machine.specs.Effect.{State}
-use Rattle.x64_templates.specs.Placed.{IsCodeAt}
-use Rattle.template_code.specs.Bytes.{spelled}
+use Rattle.x64_templates.specs.Words.{Protection, is_writable, Memory, Instr, Flags, State, IsCodeAt, spelled, Instruction, BodyState, InstructionEffect, Next, JumpsTo, Faults, step, run, MachineView, machine, sizes, Links, template, template_size, offset_of, code_from, InTemporaries, InLocals, HasCode, FramePlace, Roomy, FrameHolds, ChangesOwn, ReachesBody, InstructionDone, IsLinked}
 use Rattle.x64_templates.proofs.PlacedCode.{no_turns, reaches_then}
-use Rattle.linear_code.specs.declared.instruction.Instruction.{Instruction}
 use Rattle.linear_code.specs.declared.instruction.Instruction.TheVariants as instructions
-use Rattle.linear_code.specs.BodyState.{BodyState}
-use Rattle.linear_code.specs.Meaning.{InstructionEffect, Next, JumpsTo, Faults, ReservedAccess, NeedsDispatcher, step, BodyPoint, continued, run}
-use Rattle.x64_templates.specs.Straight.{MachineView, machine}
-use Rattle.template_code.specs.Bytes.{sizes}
-use Rattle.template_code.specs.Template.{Links, template, template_size, offset_of, code_from}
-use Rattle.x64_templates.specs.Frames.{InTemporaries, InLocals}
-use Rattle.x64_templates.specs.Runs.{HasCode, FramePlace, Roomy, FrameHolds, ChangesOwn, ReachesBody}
-use Rattle.x64_templates.specs.InstructionRuns.{RunsTo, InstructionDone, RunsAllTo, IsLinked}
+use Rattle.linear_code.specs.Meaning.{ReservedAccess, NeedsDispatcher, BodyPoint, continued}
+use Rattle.x64_templates.specs.InstructionRuns.{RunsTo, RunsAllTo}
 use Rattle.template_code.proofs.Sizes.{sizes_spelled}
 use Rattle.x64_templates.proofs.Cells.{sp_of}
 use Rattle.x64_templates.proofs.Bodies.{changes_then}

@@ -1,22 +1,11 @@
 -- A `__finally` block is called at the normal end of its body, and a local unwind is asked for.
 use Rattle.std.proofs.Common.{◌≡◌, ℕ, ◌+◌, ◌%◌, ◌^◌, ◌<◌, [], ◌∷◌, Ok, refl, sym, ap, subst, ◌∙◌, arith}
-use Rattle.seh_num.specs.declared.width.Width.TheVariants.{W32, W64}
-use Rattle.seh_num.specs.Widths.{low}
-use Rattle.x64_instr.specs.declared.register.Reg.TheVariants.{Rcx, Rdx, Rsp}
+use Rattle.x64_templates.specs.Words.{W32, W64, low, Rcx, Rdx, Rsp, modrm, Flags, effect, MachineView, machine, Executes, size, sizes, move, distance, call, IsNear, sp_of, pushed, HasBelow, Reaches, HasCode}
 use Rattle.x64_instr.specs.declared.operand.RegisterOrMemory.TheVariants as places
 use Rattle.x64_instr.specs.declared.operand.Operand.TheVariants as operands
 use Rattle.x64_instr.specs.declared.instruction.Instr.TheVariants as instrs
-use Rattle.x64_encode.specs.Chosen.{modrm}
-use Rattle.x64_machine.specs.declared.cpu.Flags.{Flags}
-use Rattle.x64_machine.specs.Effect.{effect}
 use Rattle.x64_templates.proofs.PlacedCode.{reaches_then}
-use Rattle.x64_templates.specs.Straight.{MachineView, machine, Executes}
-use Rattle.template_code.specs.Bytes.{size, sizes}
-use Rattle.template_code.specs.Operations.{move}
-use Rattle.template_code.specs.Jumps.{distance, call, IsNear}
 use Rattle.template_code.specs.Calls.{finally_arguments, call_finally_code, address_to, local_unwind_code}
-use Rattle.x64_templates.specs.CallStates.{sp_of, pushed, HasBelow}
-use Rattle.x64_templates.specs.Runs.{Reaches, HasCode}
 use Rattle.x64_templates.proofs.Straight.{executes_one, executes_then}
 use Rattle.x64_templates.proofs.Encoded.{Fine}
 use Rattle.x64_templates.proofs.Computes.{code_split, runs_view}

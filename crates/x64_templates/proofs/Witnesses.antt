@@ -1,12 +1,7 @@
 -- The premises can hold: a function's frame and a block's below it, in memory of which every byte
 -- may be written.
 use Rattle.std.proofs.Common.{◌<◌, true, false, Some, None, refl, arith, inr}
-use Rattle.flat_memory.specs.declared.protection.Rights.TheVariants.{ReadWrite}
-use Rattle.flat_memory.specs.Memory.{Memory}
-use Rattle.linear_code.specs.BodyState.{Counts}
-use Rattle.x64_templates.specs.Frames.{Agrees}
-use Rattle.x64_templates.specs.EntryStates.{IsFunctionFrame, body_in_memory, FreshFrame}
-use Rattle.x64_templates.specs.Runs.{FramePlace, Roomy, FrameHolds}
+use Rattle.x64_templates.specs.Words.{ReadWrite, Memory, Counts, Agrees, IsFunctionFrame, body_in_memory, FreshFrame, FramePlace, Roomy, FrameHolds}
 use Rattle.x64_templates.proofs.Entering.{fresh_holds}
 
 -- 16 temporaries and 4 locals

@@ -14,3 +14,4 @@ pub mod Retries
 pub mod Epilogues
 pub mod Thunks
 pub mod Laws
+pub mod Words

@@ -1,0 +1,116 @@
+-- The words of this crate's proofs: what its lemma files import, by the crates below.
+pub use Rattle.seh_num.specs.Widths.{signed, low, bytes_of}
+pub use Rattle.seh_num.specs.declared.event.Code.{Code}
+pub use Rattle.seh_num.specs.declared.event.Event.{Event}
+pub use Rattle.seh_num.specs.declared.width.Width.TheVariants.{W64, W32}
+pub use Rattle.host_layout.specs.Services.{address_of, service_at, in_host_page}
+pub use Rattle.host_layout.specs.declared.range.TheConstants.{STACK_START, STACK_END, IMAGE_BASE, IMAGE_RANGE_END}
+pub use Rattle.flat_memory.specs.Memory.{Memory, may_write, rights_asked, protected, loaded, number_at, with_number, with_bytes, executable, may_read, first_refused, access}
+pub use Rattle.flat_memory.specs.Protections.{is_writable}
+pub use Rattle.flat_memory.specs.declared.access.RefusedAccess.{RefusedAccess}
+pub use Rattle.flat_memory.specs.declared.protection.Protection.{Protection}
+pub use Rattle.c_operations.specs.Performed.{Raises, Gives, OperationResult, performed, Undefined}
+pub use Rattle.c_operations.specs.declared.built_in.BuiltIn.{BuiltIn}
+pub use Rattle.c_operations.specs.declared.built_in.BuiltIn.TheVariants.{Put, Protect, RaiseException}
+pub use Rattle.c_operations.specs.declared.field.Field.{Field}
+pub use Rattle.c_operations.specs.declared.field.Field.TheVariants.{ExceptionCode, ExceptionFlags, NumberParameters, ExceptionInformation}
+pub use Rattle.c_operations.specs.declared.operation.Operation.{Operation}
+pub use Rattle.source_meaning.specs.Expressions.{field_of, of_test, no_exception}
+pub use Rattle.source_meaning.specs.Raises.{noncontinuable, raise_event}
+pub use Rattle.source_meaning.specs.Source.{is_reserved}
+pub use Rattle.source_meaning.specs.State.{Exception}
+pub use Rattle.source_meaning.specs.declared.ended.Ended.TheVariants.{Deep}
+pub use Rattle.linear_code.specs.BodyState.{BodyState, with_slot}
+pub use Rattle.linear_code.specs.Meaning.{IsSlot, HasSlots}
+pub use Rattle.linear_code.specs.Program.{LinearFunction, LinearProgram, LinearFunclet, LinearBody}
+pub use Rattle.linear_code.specs.declared.instruction.Instruction.{Instruction}
+pub use Rattle.linear_code.specs.declared.program.FuncletKind.{FuncletKind}
+pub use Rattle.linear_code.specs.declared.program.Region.{Region}
+pub use Rattle.linear_code.specs.declared.program.RegionKind.{RegionKind}
+pub use Rattle.linear_code.specs.declared.slot.Slot.{Slot}
+pub use Rattle.linear_code.specs.declared.slot.Slot.TheVariants.{Local, Temporary}
+pub use Rattle.linear_machine.specs.Frames.{Configuration, AfterCall, SameOperation, read, BodyName, FunctionBody, FuncletBody, body_of, Frame, Item, Waits, Searches, Unwinds, Next, with_some, deeper, last_temporaries, function_body, Finished, pick, local_of, Seen, Handler, Target, Resumption, Store, funclet_body, Running, Stuck}
+pub use Rattle.linear_machine.specs.Instructions.{waiting, begin_function, act, end_finally, local_unwind, end_funclet, end_body, is_constant, operand, count_of, built_in}
+pub use Rattle.linear_machine.specs.Regions.{regions_of, holds, handlers, regions_at, regions_left, stops}
+pub use Rattle.linear_machine.specs.Run.{instruction_at, instruction_in, exec}
+pub use Rattle.linear_machine.specs.Searching.{search, accept, resumed, raise, answer, begin_filter}
+pub use Rattle.linear_machine.specs.Unwinding.{unwind, flag_of, begin_finally, left_store, arrive, target_past, leave_region, unwind_body}
+pub use Rattle.lowering_invariants.specs.Activations.{with_own, owners_of}
+pub use Rattle.lowering_invariants.specs.Bodies.{function_of, IsInstructionOf, parent_of, owner_of, IsFinallyKind, IsFuncletOf, IsTemporary, ReadsWell}
+pub use Rattle.lowering_invariants.specs.Ready.{IsHeld, IsReady}
+pub use Rattle.lowering_invariants.specs.ReturnRegions.{AllReturnsStayInRegions}
+pub use Rattle.lowering_invariants.specs.Room.{HaveRoom}
+pub use Rattle.lowering_invariants.specs.SmallNumbers.{AreSmall}
+pub use Rattle.lowering_invariants.specs.Waiting.{AreWaiting, LandsWell}
+pub use Rattle.x64_instr.specs.Spelling.{leading}
+pub use Rattle.x64_instr.specs.declared.instruction.Instr.{Instr}
+pub use Rattle.x64_instr.specs.declared.register.Reg.TheVariants.{Rsp, Rax, Rdx, Rcx}
+pub use Rattle.x64_encode.specs.Chosen.{opcode_register, is_encodable, chosen}
+pub use Rattle.x64_machine.specs.Contexts.{context_of, kept_of}
+pub use Rattle.x64_machine.specs.Effect.{State, register, step, Answer, hosted, execute}
+pub use Rattle.x64_machine.specs.declared.context.Context.{Context}
+pub use Rattle.x64_machine.specs.declared.cpu.Cpu.{Cpu}
+pub use Rattle.x64_machine.specs.declared.cpu.Flags.{Flags}
+pub use Rattle.template_code.specs.Bytes.{size, sizes, spelled}
+pub use Rattle.template_code.specs.Calls.{return_code, return_at, begin_call, call_code, clear_result, arguments_code, passing_code, parameters_code, keep_register, field_at, finally_arguments, enter_code}
+pub use Rattle.template_code.specs.Jumps.{IsNear, call}
+pub use Rattle.template_code.specs.Operations.{move}
+pub use Rattle.template_code.specs.Probing.{check_stack, enter_large}
+pub use Rattle.template_code.specs.Slots.{fetch, local_at, keep, put_back, temporary_at, operands_code, finish_code}
+pub use Rattle.template_code.specs.Template.{template, template_size, body_size, offset_of, code_from}
+pub use Rattle.template_code.specs.declared.layout.Layout.{Layout}
+pub use Rattle.template_code.specs.declared.layout.TheConstants.{LARGEST_FRAME}
+pub use Rattle.x64_templates.specs.CallStates.{HasBack, with_sp, moved, sp_of, with_four, pushed, HasBelow}
+pub use Rattle.x64_templates.specs.EntryStates.{InRegisters, with_arguments}
+pub use Rattle.x64_templates.specs.Exceptions.{IsField, field_width}
+pub use Rattle.x64_templates.specs.Frames.{Agrees, slot_at, IsBytes, MemoryKeepsBase, HasBase}
+pub use Rattle.x64_templates.specs.Returned.{Returned}
+pub use Rattle.x64_templates.specs.Runs.{Reaches, HasCode, FramePlace, Roomy, FrameHolds, ReachesBody, Enters}
+pub use Rattle.x64_templates.specs.Straight.{MachineView, machine, Executes}
+pub use Rattle.virtual_unwind.specs.CallerOf.{Functions, distance}
+pub use Rattle.virtual_unwind.specs.Contexts.{rsp}
+pub use Rattle.virtual_unwind.specs.Undone.{word, readable}
+pub use Rattle.seh_records.specs.Laws.{RecordFits}
+pub use Rattle.seh_records.specs.Record.{fetched, placed}
+pub use Rattle.seh_records.specs.declared.dispatch.DispatchRecord.{DispatchRecord}
+pub use Rattle.seh_walk.specs.Walk.{filter_return, finally_return}
+pub use Rattle.host_model.specs.Dispatch.{accepted, searches_on, unwinds_on, finally_returned, raised, unwound_locally, at_landing, write_number, parameters, no_flags}
+pub use Rattle.host_model.specs.Funclets.{arrivals, arrived}
+pub use Rattle.host_model.specs.HostStep.{turn, back, returned, turned}
+pub use Rattle.host_model.specs.Turns.{Turn, Continues, with_event}
+pub use Rattle.host_model.specs.declared.funclet.Funclet.{Funclet}
+pub use Rattle.match_runs.specs.Comes.{LeadsTo, IsLive, Comes}
+pub use Rattle.match_runs.specs.Ends.{HasRule}
+pub use Rattle.match_runs.specs.Matched.{IsMatched, Moves}
+pub use Rattle.match_runs.specs.Shadow.{AllKeep, KeepsShadow, WalkGives, drop_below, GivesCallers, started, served}
+pub use Rattle.match_stack.specs.DispatchStates.{IsWellFormed, Arrives}
+pub use Rattle.match_stack.specs.DispatchSteps.{placed_in, SearchIsAnswered, from_body, AsksHost, IsException}
+pub use Rattle.match_stack.specs.FilterReturns.{filter_turn, linear_answer}
+pub use Rattle.match_stack.specs.HostUnwind.{on_top, store_of}
+pub use Rattle.match_stack.specs.ImagePlan.{ImagePlan, InCode, parent_body, IsFunclet, by_parent}
+pub use Rattle.match_stack.specs.ItemMatches.{activations_below, BodyWaits, home_end, below_end, HoldsWords, HasActivation, HasSpace, SameRegions, HasPointers, FuncletIsAbove, IsAbove, return_of, ReturnsTo, Activation, locals_of, record_room, Linked, Aimed, IsActivation}
+pub use Rattle.match_stack.specs.ListLaws.{KeepsStack, KeepsAbove}
+pub use Rattle.match_stack.specs.PlainWalks.{state}
+pub use Rattle.match_stack.specs.SearchOutcomes.{FilterBegins}
+pub use Rattle.match_stack.specs.Stack.{StackItem, Unwinding, Searching, Framed, Leaf, IsStack}
+pub use Rattle.match_stack.specs.StackRecords.{On, IsData, RecordHasRoom, IsUntouched}
+pub use Rattle.match_stack.specs.TurnLaws.{IsUnwinding}
+pub use Rattle.match_stack.specs.UnwindOutcomes.{Unwound, BlockBegins, LandsThere}
+pub use Rattle.match_stack.specs.WalkLaws.{context_below}
+pub use Rattle.match_bodies.specs.Bodies.{slots_end, last_temporary, turns_left, held_below}
+pub use Rattle.match_bodies.specs.BodyViews.{counts_of, seen_by_templates}
+pub use Rattle.match_bodies.specs.Callers.{FindsReturn, callers, caller_above}
+pub use Rattle.match_bodies.specs.CodeSites.{Sites, links_of, function_arguments, parent_base, keep_argument, making, frame_code, entry_code, funclet_arguments, keep_base}
+pub use Rattle.match_bodies.specs.ConfigurationFacts.{IsWellMade, IsKnown, KnownNext}
+pub use Rattle.match_bodies.specs.Layouts.{IsLayoutIf, IsFuncletPlan, IsFunctionLayout, IsLeafLayout, IsLaidOut}
+pub use Rattle.match_bodies.specs.ProgramImages.{service_of, WorksAgain, IsProgramImage, view_of}
+pub use Rattle.match_bodies.specs.Setting.{Setting, IsMachineMemory, RepresentsAt, InBody, IsResumed, setting_of, HasProgram}
+pub use Rattle.match_bodies.specs.SlotStores.{KeepsStackBut, OwnerHasFrame, with_values}
+pub use Rattle.match_bodies.specs.StepLaws.{turns_per_step}
+pub use Rattle.match_turns.specs.CallOutcome.{begun}
+pub use Rattle.match_turns.specs.DispatchOutcome.{KeepsWith, NoneLanded}
+pub use Rattle.match_turns.specs.FilterInformation.{IsFilterBody}
+pub use Rattle.match_turns.specs.FuncletEntry.{entry_turns, FlagsFit}
+pub use Rattle.match_turns.specs.OperationOutcome.{ComesTo}
+pub use Rattle.match_turns.specs.SettingOutcome.{Represents, WorksOn, EntersFunclet, Outcome, Continuations, Shows}
+pub use Rattle.match_turns.specs.TurnLaws.{waiting_below}

@@ -1,0 +1,39 @@
+-- The words of this crate's proofs: what its lemma files import, by the crates below.
+pub use Rattle.c_syntax.specs.Expression.{start, height}
+pub use Rattle.c_syntax.specs.Nodes.{nodes_of}
+pub use Rattle.c_syntax.specs.Program.{ExternalDeclaration, Globals}
+pub use Rattle.c_syntax.specs.Statement.{Statement, Statements, ForInitialiser, Declaring, Evaluating}
+pub use Rattle.c_syntax.specs.declared.expression.Base.{Base}
+pub use Rattle.c_syntax.specs.declared.expression.CType.{CType}
+pub use Rattle.c_syntax.specs.declared.expression.Field.{Field}
+pub use Rattle.c_syntax.specs.declared.expression.Literal.{Literal}
+pub use Rattle.c_syntax.specs.declared.operator.Arithmetic.{Arithmetic}
+pub use Rattle.c_syntax.specs.declared.operator.BinaryOperator.{BinaryOperator}
+pub use Rattle.c_syntax.specs.declared.operator.Comparison.{Comparison}
+pub use Rattle.c_syntax.specs.declared.operator.Increment.{Increment}
+pub use Rattle.c_syntax.specs.declared.operator.UnaryOperator.{UnaryOperator}
+pub use Rattle.c_checked.specs.Expression.{Expression, Lvalue, Node}
+pub use Rattle.c_checked.specs.Program.{Program, Function}
+pub use Rattle.c_checked.specs.declared.expression.Conversion.{Conversion}
+pub use Rattle.c_checked.specs.declared.expression.Conversion.TheVariants.{Kept}
+pub use Rattle.c_checked.specs.declared.expression.Fixity.{Fixity}
+pub use Rattle.c_resolved.specs.Expressions.{Entity, LocalVariable, GlobalVariable, GlobalArray, UserFunction, BuiltInFunction, CodeFunction, AbnormalFunction, BuiltInConstant, Names, FaultAt, ResolvedExpression, ruled, rule_1, rule_2, rule_3, given_that, literal, name, field, Wanted, built_in_wants, fits, passed, Argument, Passed, before, spoiled, pass, pass_all, called, call_with, only_where, call, changed, resolve_expression, resolve_arguments, OfType, ZeroLiteral}
+pub use Rattle.c_resolved.specs.Operators.{TypedNode, compound_assigned, assigned, comma_of, int, only_if, as_is, as_type, can_become, is_additive, right_operand, on_integers, sum, difference, arithmetic_of, comparison_of, binary_of, lvalue_of, with_lvalue, address, unary_of, cast_of, element_of, incremented, branch_type, as_branch, chosen, conditional_of, is_shift, working_type}
+pub use Rattle.c_resolved.specs.Program.{resolve, file_of, empty_file, with_parameters, around, function_of, functions_of}
+pub use Rattle.c_resolved.specs.Scopes.{Scope}
+pub use Rattle.c_resolved.specs.Statements.{Near, Beyond, past_finally, with_number, Environment, Numbering, names_at, filter_names, inside, any, condition, to_type, to_answer, Value, Optional, declare, declare_all, only, returned, always, ResolvedFilter, resolve_filter, names_only, resolve_for_initialiser, resolve_statement, resolve_statements}
+pub use Rattle.c_resolved.specs.Types.{conversion, access_of, is_pointer, is_integer, is_void, is_sized_pointer, is_scalar, size_of}
+pub use Rattle.c_resolved.specs.declared.fault.Fault.{Fault}
+pub use Rattle.linear_code.specs.Program.{LinearBody, LinearFunclet, LinearProgram}
+pub use Rattle.linear_code.specs.declared.instruction.Instruction.{Instruction}
+pub use Rattle.linear_code.specs.declared.slot.Slot.TheVariants.{Local, Temporary}
+pub use Rattle.lowering_sizes.specs.Sizes.{expression_size}
+pub use Rattle.lowering_expressions.specs.Expressions.{constant, copy, expression_code}
+pub use Rattle.seh_ir.specs.Lowered.{lowered_function, all_funclets, lowered}
+pub use Rattle.seh_ir.specs.Statements.{statements_code}
+pub use Rattle.seh_ir.specs.declared.funclets.Owner.{Owner}
+pub use Rattle.lowering_invariants.specs.Nesting.{expression_nesting, node_nesting, expression_reads, node_reads}
+pub use Rattle.x64_emit.specs.Rooms.{instruction_room, code_room}
+pub use Rattle.image_link.specs.Fits.{tables_room, function_bodies, funclet_bodies}
+pub use Rattle.text_bounds.specs.Rooms.{conversion_room, expression_room, read_room, write_room, locate_room, node_room, arguments_room, discarded_room, condition_room, initialiser_room, returned_room, all_declared_room, statement_room, statements_room, functions_room}
+pub use Rattle.text_bounds.specs.Weights.{Weights, optional, NodesAdd, StatementsAdd}
