@@ -95,12 +95,14 @@ module _ (t : Functions) (fs : List Funclet) (program : LinearProgram) (p : Imag
         ∙ ap (λ (x : Configuration). the_last x.store.activations) same
         ∙ last_is d.store.activations (last ++ zeros))
 
-    moves : deep ≡ false → Moves t fs program turns_per_step turns_left (RepresentsWhereSet t fs program p q) s c i
+    moves : deep ≡ false → Moves t fs program turns_per_step turns_left
+        (RepresentsWhereSet t fs program p q) s c i
     moves e =
         let taken : last_temporaries d.frame.temporaries first count
         ≡ Some v.arguments = held_arguments d.frame.temporaries first count held
         ∙ ap (λ (xs : List ℕ). Some xs) (sym (arguments_are e)) in
-        let g = agreement_at_call program c d f first count v.function v.arguments v.others agreement at taken
+        let g = agreement_at_call program c d f first count v.function v.arguments v.others
+        agreement at taken
         v.there e v.as_many v.small in
         let on = called_with c d f first v.function v.arguments v.others in
         let few = v.few in
@@ -119,7 +121,8 @@ module _ (t : Functions) (fs : List Funclet) (program : LinearProgram) (p : Imag
           is_there = record { actual = on; agreement = g.agreement; is_there = inl v.begins };
         }
 
-    begins : IsMatched t fs program turns_per_step turns_left (RepresentsWhereSet t fs program p q) s c i
+    begins : IsMatched t fs program turns_per_step turns_left (RepresentsWhereSet t fs program p q)
+        s c i
     begins = by deep refl
       where
         by : (b : Bool) → deep ≡ b → IsMatched t fs program turns_per_step turns_left

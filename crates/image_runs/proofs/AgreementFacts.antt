@@ -60,7 +60,8 @@ module _ (program : Program) (sound : IsSound program) (reads : ReadsNoUnset (lo
     can_continue c d t = continues_alike (lowered program) t.marks c d t.alike
         (continues program sound c (is_reached c d t))
 
-    pub known : (c d : Configuration) → AgreeOnSet (lowered program) c d → IsKnown (lowered program) d
+    pub known : (c d : Configuration) → AgreeOnSet (lowered program) c d → IsKnown (lowered program)
+        d
     known c d t = record {
       continues = can_continue c d t;
       stacked = stacked_alike (lowered program) t.marks c d t.alike

@@ -51,7 +51,8 @@ moved t fs program p q s d i v = inl (moves_as t fs program (RepresentsAt t fs p
 -- a filter reads a field of its exception
 informed : (t : Functions) (fs : List Funclet) (program : LinearProgram) (p : ImagePlan) (q : Sites)
     → IsSoundImage t fs program p q
-    → (s : State) (d : Configuration) (to : Slot) (field : Field) → RepresentsAt t fs program p q s d
+    → (s : State) (d : Configuration) (to : Slot) (field : Field) → RepresentsAt t fs program p q s
+    d
     → IsKnown program d → instruction_at program d ≡ Some (instructions.Information to field)
     → StepMatches t fs program p q s d (instructions.Information to field)
 informed t fs program p q image s d to field b known at =
@@ -94,18 +95,21 @@ returned t fs program p q image s d from b known at rule next = by d.frame.body 
         (λ u x h. inl h) s d (instructions.Return from)
         (returns_are_matched t fs program p q image.image image.made s d f from b known e at next)
     by (FuncletBody k) e = funclet_returns_are_matched t fs program p q image.image image.made
-        image.flags (bodies_continue t fs program p q image.image image.made) s d k from b known e at
+        image.flags (bodies_continue t fs program p q image.image image.made) s d k from b known e
+        at
         rule next
 
 -- a body calls its `__finally` block
 called_block : (t : Functions) (fs : List Funclet) (program : LinearProgram) (p : ImagePlan)
     (q : Sites) → IsSoundImage t fs program p q
-    → (s : State) (d : Configuration) (k : ℕ) → RepresentsAt t fs program p q s d → IsKnown program d
+    → (s : State) (d : Configuration) (k : ℕ) → RepresentsAt t fs program p q s d → IsKnown program
+    d
     → instruction_at program d ≡ Some (instructions.CallFinally k)
     → KnownNext program d (instructions.CallFinally k)
     → StepMatches t fs program p q s d (instructions.CallFinally k)
 called_block t fs program p q image s d k b known at next =
-    matched_as t fs program (RepresentsAt t fs program p q) (Represents t fs program p q) (λ u x h. inl h)
+    matched_as t fs program (RepresentsAt t fs program p q) (Represents t fs program p q)
+    (λ u x h. inl h)
     s d (instructions.CallFinally k)
     (block_calls_are_matched t fs program p q image.image image.made image.flags image.separators s
     d k b known at next)
@@ -118,7 +122,8 @@ module _ (program : Program) (sound : IsSound program) (reads : ReadsNoUnset (lo
 
   module _ (s : State) (c d : Configuration) (agreement : AgreeOnSet linear c d) where
     abbrev Goal : Instruction → Type 0
-    Goal i = IsMatched t fs linear turns_per_step turns_left (RepresentsWhereSet t fs linear p q) s c i
+    Goal i = IsMatched t fs linear turns_per_step turns_left (RepresentsWhereSet t fs linear p q) s
+        c i
 
     -- the actual configuration is at the same instruction, and knows what is asked
     at_actual : (i : Instruction) → instruction_at linear c ≡ Some i
@@ -135,7 +140,8 @@ module _ (program : Program) (sound : IsSound program) (reads : ReadsNoUnset (lo
 
     -- at the beginning of an instruction
     begun : RepresentsAt t fs linear p q s d → (i : Instruction) → instruction_at linear d ≡ Some i
-        → StepsAgree linear i c d → HasRule (act linear i (exec linear zero) d) → KnownNext linear d i
+        → StepsAgree linear i c d → HasRule (act linear i (exec linear zero) d) → KnownNext linear d
+        i
         → Goal i
     begun b (instructions.Compute to o first second) at go rule next =
         carried t fs linear p q c d agreement s (instructions.Compute to o first second) go
@@ -168,11 +174,13 @@ module _ (program : Program) (sound : IsSound program) (reads : ReadsNoUnset (lo
             (same_instruction k.instruction (instructions.Call f first count) (sym k.at ∙ at))).0
     begun b (instructions.CallBuiltIn f first) at go rule next =
         carried t fs linear p q c d agreement s (instructions.CallBuiltIn f first) go
-        (called_built_in t fs linear p q image s d f first b (known program sound reads c d agreement)
+        (called_built_in t fs linear p q image s d f first b
+        (known program sound reads c d agreement)
         at rule next)
     begun b (instructions.CallFinally k) at go rule next =
         carried t fs linear p q c d agreement s (instructions.CallFinally k) go
-        (called_block t fs linear p q image s d k b (known program sound reads c d agreement) at next)
+        (called_block t fs linear p q image s d k b (known program sound reads c d agreement) at
+        next)
     begun b (instructions.LocalUnwind label) at go rule next =
         carried t fs linear p q c d agreement s (instructions.LocalUnwind label) go
         (local_unwinds_are_matched t fs linear p q image.image image.made image.followed

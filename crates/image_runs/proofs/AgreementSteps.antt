@@ -17,7 +17,8 @@ module _ (t : Functions) (fs : List Funclet) (program : LinearProgram)
     (X Y : State → Configuration → Type 0) (then : (s : State) (c : Configuration) → X s c → Y s c)
   where
     pub moves_as : (s : State) (c : Configuration) (i : Instruction)
-        → Moves t fs program turns_per_step turns_left X s c i → Moves t fs program turns_per_step turns_left Y s c i
+        → Moves t fs program turns_per_step turns_left X s c i → Moves t fs program turns_per_step
+        turns_left Y s c i
     moves_as s c i v = record {
       turns = v.turns;
       some = v.some;
@@ -69,10 +70,16 @@ module _ (t : Functions) (fs : List Funclet) (program : LinearProgram) (p : Imag
         acts = g.goes;
         shown = sym g.agreement.alike.events ∙ v.shown
             ∙ ap (λ (xs : List Event). xs ++ v.events) agreement.alike.events;
-        is_there = record { actual = v.configuration; agreement = g.agreement; is_there = v.is_there };
+        is_there = record {
+          actual = v.configuration;
+          agreement = g.agreement;
+          is_there =
+              v.is_there;
+        };
       }
 
-  exits : Exits t fs program turns_per_step turns_left s d i → Exits t fs program turns_per_step turns_left s c i
+  exits : Exits t fs program turns_per_step turns_left s d i → Exits t fs program turns_per_step
+      turns_left s c i
   exits v =
       let few = v.few in
       let same = same_turns in
@@ -88,7 +95,8 @@ module _ (t : Functions) (fs : List Funclet) (program : LinearProgram) (p : Imag
         acts = ended (source.Exit v.value) v.events v.acts;
       }
 
-  dies : Dies t fs program turns_per_step turns_left s d i → Dies t fs program turns_per_step turns_left s c i
+  dies : Dies t fs program turns_per_step turns_left s d i → Dies t fs program turns_per_step
+      turns_left s c i
   dies v =
       let few = v.few in
       let same = same_turns in
@@ -105,7 +113,8 @@ module _ (t : Functions) (fs : List Funclet) (program : LinearProgram) (p : Imag
         acts = ended (source.Unhandled v.code) (v.events ++ v.last) v.acts;
       }
 
-  pub fails : Fails t fs program turns_per_step turns_left s d i → Fails t fs program turns_per_step turns_left s c i
+  pub fails : Fails t fs program turns_per_step turns_left s d i → Fails t fs program turns_per_step
+      turns_left s c i
   fails v =
       let few = v.few in
       let same = same_turns in

@@ -238,7 +238,8 @@ module _ (t : Functions) (fs : List Funclet) (program : LinearProgram) (p : Imag
       let stack = inside.stack in
       let up : register after.cpu Rsp + layout.frame + 8 ≡ top + 8 = omega arith in
       function_begins t fs program p q image after source f o there [] [] 0 [] (arguments ++ others)
-      (stays_well_formed first after keeps rip_small (subst IsWellFormed first_is well_formed)) memory inside.rip some
+      (stays_well_formed first after keeps rip_small (subst IsWellFormed first_is well_formed))
+      memory inside.rip some
       (record { space = omega arith; shallow = omega arith }) tt
       (λ leaf. subst (λ x. x + home_end ≤ STACK_END) (sym stack)
       (at_home (p.leaf (FunctionBody f)) planned leaf))

@@ -131,7 +131,8 @@ module _ (t : Functions) (fs : List Funclet) (program : LinearProgram) (p : Imag
             (given arg) called some well_formed refl h.returns arguments counted same;
         turns = _;
         few = (let r = begun.soon t fs program p q image s source program.main main first_stack
-            (given arg) called some well_formed refl h.returns arguments counted same in omega arith);
+            (given arg) called some well_formed refl h.returns arguments counted same in omega
+            arith);
         state = begun.after t fs program p q image s source program.main main first_stack
             (given arg) called some well_formed refl h.returns arguments counted same;
         comes = begun.comes t fs program p q image s source program.main main first_stack

@@ -77,13 +77,15 @@ pub all : MatchedRunsShowAll
 all t fs program sound credit arg first n s begins few =
     let turns : ℕ = 16 * n + 2 in
     let follows = lowered_follows program sound arg n turns (omega arith) in
-    let rest = lowered_shows_no_more program sound arg turns ((turns + 1) * steps_per_turn_of program)
+    let rest = lowered_shows_no_more program sound arg turns
+    ((turns + 1) * steps_per_turn_of program)
     (omega arith) in
     let rule = has_rule (seen (lowered program) arg turns) rest.2 in
     let time = enough n first few in
     through (meaning program arg n) (linear_meaning (lowered program) arg turns)
     (run t fs (256 * n + 256) (host s) []) follows.0 follows.1
-    (programs_all t fs (lowered program) turns_per_step credit arg first turns (256 * n + 256) s begins rule
+    (programs_all t fs (lowered program) turns_per_step credit arg first turns (256 * n + 256) s
+    begins rule
     time)
 
 pub no_more : MatchedRunsShowNoMore

@@ -22,7 +22,8 @@ module _ (t : Functions) (fs : List Funclet) (program : LinearProgram) (turns_pe
       → Passes t fs program turns_per_step credit Holds n u d)
       → IsRunning (act program i (exec program n) c)
       → IsMatched t fs program turns_per_step credit (R n) s c i
-      → HasNextStep t fs program turns_per_step credit (Passes t fs program turns_per_step credit Holds n) s c
+      → HasNextStep t fs program turns_per_step credit (Passes t fs program turns_per_step credit
+      Holds n) s c
   step n s c i at rest running (inl v) = record {
     turns = v.turns;
     some = v.some;
@@ -55,7 +56,8 @@ module _ (t : Functions) (fs : List Funclet) (program : LinearProgram) (turns_pe
       by : (o : Option Instruction) → instruction_at program c ≡ o
           → ((u : State) (d : Configuration) → R n u d → IsRunning (exec program n d)
           → Passes t fs program turns_per_step credit Holds n u d)
-          → HasNextStep t fs program turns_per_step credit (Passes t fs program turns_per_step credit Holds n) s c
+          → HasNextStep t fs program turns_per_step credit (Passes t fs program turns_per_step
+          credit Holds n) s c
       by None at rest = absurd (subst IsRunning (at_none program n c at) running)
       by (Some i) at rest =
           step n s c i at rest (subst IsRunning (at_instruction program n c i at) running)

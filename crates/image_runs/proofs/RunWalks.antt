@@ -28,7 +28,8 @@ module _ (program : Program) (l : IsLinkable program) (reads : ReadsNoUnset (low
   image = lowered_has_image program l
 
   -- where the machine represents the actual configuration
-  shows : (s : State) (c : Configuration) → RepresentsWhereSet (functions_of linear) (funclets_of linear)
+  shows : (s : State) (c : Configuration) → RepresentsWhereSet (functions_of linear)
+      (funclets_of linear)
       linear (plan_of linear) (sites_of linear) s c → ShowsFramesOf program s c
   shows s c r = record {
     actual = r.actual;
@@ -72,10 +73,13 @@ module _ (program : Program) (l : IsLinkable program) (reads : ReadsNoUnset (low
             few = b.few;
             state = b.state;
             comes = b.comes;
-            passes = passes (functions_of linear) (funclets_of linear) linear turns_per_step turns_left
-                (λ k. RepresentsWhereSet (functions_of linear) (funclets_of linear) linear (plan_of linear)
+            passes = passes (functions_of linear) (funclets_of linear) linear turns_per_step
+                turns_left
+                (λ k. RepresentsWhereSet (functions_of linear) (funclets_of linear) linear
+                (plan_of linear)
                 (sites_of linear)) (ShowsFramesOf program)
-                (agreement_simulates (functions_of linear) (funclets_of linear) program (plan_of linear)
+                (agreement_simulates (functions_of linear) (funclets_of linear) program
+                (plan_of linear)
                 (sites_of linear) l.sound reads image)
                 (λ k s c r. shows s c r) n b.state (start linear arg main)
                 (record {

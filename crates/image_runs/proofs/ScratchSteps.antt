@@ -99,7 +99,8 @@ stepped u i rest q h spelling =
 
 module _ (t : Functions) (fs : List Funclet) (program : LinearProgram) (p : ImagePlan) (q : Sites)
     (image : IsProgramImage t fs program p q) (s u v : State) (c : Configuration)
-    (w : IsWithinInstruction t fs program p q s u c) (scratch : ScratchOnlyHere t fs program p q s u c w)
+    (w : IsWithinInstruction t fs program p q s u c) (scratch : ScratchOnlyHere t fs program p q s u
+    c w)
     (e : step u ≡ Ok v) where
   abbrev r : IsResumed t fs program p q c.frame.body w.code c.frame.next u.cpu.rip
   r = w.resumed
@@ -156,7 +157,8 @@ module _ (t : Functions) (fs : List Funclet) (program : LinearProgram) (p : Imag
         };
         inside = inside;
         small = omega arith;
-        kept = kept_same (with_rip u (u.cpu.rip + size r.item)) v r.item scratch.scratch does ∙ w.kept;
+        kept = kept_same (with_rip u (u.cpu.rip + size r.item)) v r.item scratch.scratch does ∙
+            w.kept;
         program_there = subst (HasProgram t fs program p q) (sym same_memory) w.program_there;
         stack = subst (λ (m : Memory). KeepsStack s.memory m (register s.cpu Rsp)) (sym same_memory)
             w.stack;

@@ -28,7 +28,8 @@ use Rattle.image_runs.proofs.ImageMeaning.{octets}
 use Rattle.image_runs.proofs.TextImages.{linkable, reads_no_unset}
 
 pub images_walk_the_shadow : ImagesWalkTheShadow
-images_walk_the_shadow t fs program p q sound reads image arg main s is_main b walk m n enough_steps calm
+images_walk_the_shadow t fs program p q sound reads image arg main s is_main b walk m n enough_steps
+    calm
     none =
     runs.shadow t fs program sound turns_left arg b.turns m n s (first_shadow s)
     (begins t fs program p q sound reads image arg main s is_main b m) enough_steps calm walk none
@@ -52,7 +53,8 @@ module _ (t : Functions) (fs : List Funclet) (program : LinearProgram) (p : Imag
     pub first_gives : WalkGives t s (first_shadow s)
     first_gives =
         let sp = register s.cpu Rsp in
-        let others = register s.cpu Rbx ∷ register s.cpu Rbp ∷ register s.cpu Rsi ∷ register s.cpu Rdi
+        let others = register s.cpu Rbx ∷ register s.cpu Rbp ∷ register s.cpu Rsi ∷ register s.cpu
+        Rdi
         ∷ register s.cpu R12 ∷ register s.cpu R13 ∷ register s.cpu R14 ∷ register s.cpu R15 ∷ [] in
         let at : sp ≡ first_stack = ap (λ (c : Cpu). get_or c.registers 4 0) h.cpu in
         let flat : sp + 0 ≡ first_stack = omega arith in
@@ -117,9 +119,11 @@ compiled_walk_the_shadow program l reads bytes w arg m n lt enough_steps calm no
     linked_walks_the_shadow program l reads bytes w (pos arg) m n enough_steps calm none
 
 pub accepted_walk_the_shadow : AcceptedWalkTheShadow
-accepted_walk_the_shadow text xs bytes within accepted fits w most few arg m n lt enough_steps calm none =
+accepted_walk_the_shadow text xs bytes within accepted fits w most few arg m n lt enough_steps calm
+    none =
     let slow = steps_per_turn_are_bounded text xs most few in
-    let slower = mul-le (m + 1) (steps_per_turn_of (program_of text xs)) (m + 1) (steps_per_turn_in most) (omega arith)
+    let slower = mul-le (m + 1) (steps_per_turn_of (program_of text xs)) (m + 1)
+    (steps_per_turn_in most) (omega arith)
     slow in
     linked_walks_the_shadow (program_of text xs) (linkable text xs within accepted fits)
     (reads_no_unset text xs within accepted) bytes w (pos arg) m n (omega arith) calm none

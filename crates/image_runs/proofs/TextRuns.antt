@@ -17,6 +17,8 @@ accepted_pass_the_frames text xs within accepted fits octets arg n running =
     (reads_no_unset text xs within accepted) octets arg n running
 
 pub accepted_end_as_programs : AcceptedEndAsPrograms
-accepted_end_as_programs text xs bytes within accepted fits w most few arg m n lt enough_steps calm e end =
-    let x = nothing_more text xs bytes within accepted fits w most few arg m n lt enough_steps calm in
+accepted_end_as_programs text xs bytes within accepted fits w most few arg m n lt enough_steps calm
+    e end =
+    let x = nothing_more text xs bytes within accepted fits w most few arg m n lt enough_steps calm
+    in
     of_meaning _ e (x.ends e end).0

@@ -28,7 +28,8 @@ module _ (t : Functions) (fs : List Funclet) (program : Program) (p : ImagePlan)
         (start (lowered program) arg main)
         (record {
           actual = started_with (lowered program) arg main b.values;
-          agreement = agreement_at_start (lowered program) arg main b.values is_main b.as_many b.small;
+          agreement = agreement_at_start (lowered program) arg main b.values is_main b.as_many
+              b.small;
           is_there = inl b.begins;
         });
   }

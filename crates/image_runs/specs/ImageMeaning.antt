@@ -37,7 +37,8 @@ pub record Realises (bytes : List ℕ) (program : Program) : Type 0 where
 -- calm, and ends only as they end
 abbrev pub ShowsNothingMore : List ℕ → Program → Type 0
 ShowsNothingMore bytes program =
-    (arg m n : ℕ) → arg < 2 ^ 63 → (m + 1) * steps_per_turn_of program ≤ n → Calm program (pos arg) n ≡ true
+    (arg m n : ℕ) → arg < 2 ^ 63 → (m + 1) * steps_per_turn_of program ≤ n → Calm program (pos arg)
+    n ≡ true
     → ShowsNoMore (meaning program (pos arg) n) (machine bytes (pos arg) m)
 
 -- the bytes of the image that a program is linked to

@@ -33,7 +33,8 @@ pub record IsWithinInstruction (t : Functions) (fs : List Funclet) (program : Li
 
 -- a machine instruction that writes no memory, and no register but RAX, RCX and RDX; another one of
 -- the instruction comes after it
-pub record ScratchOnlyHere (t : Functions) (fs : List Funclet) (program : LinearProgram) (p : ImagePlan)
+pub record ScratchOnlyHere (t : Functions) (fs : List Funclet) (program : LinearProgram)
+    (p : ImagePlan)
     (q : Sites) (s u : State) (c : Configuration)
     (w : IsWithinInstruction t fs program p q s u c) : Type 0 where
   pub scratch : scratch_only w.resumed.item ≡ true

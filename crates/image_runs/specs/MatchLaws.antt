@@ -40,7 +40,8 @@ abbrev pub MatchedRunsShowNoMore : Type 0
 MatchedRunsShowNoMore =
     (t : Functions) (fs : List Funclet) (program : Program) → IsSound program
     → (credit : Configuration → ℕ) (arg : ℤ) (first m n : ℕ) (s : State)
-    → RunBegins t fs (lowered program) turns_per_step credit arg first s m → (m + 1) * steps_per_turn_of program ≤ n
+    → RunBegins t fs (lowered program) turns_per_step credit arg first s m → (m + 1) *
+    steps_per_turn_of program ≤ n
     → Calm program arg n ≡ true
     → ShowsNoMore (meaning program arg n) (run t fs m (host s) [])
 
@@ -50,6 +51,7 @@ abbrev pub MatchedRunsWalkTheShadow : Type 0
 MatchedRunsWalkTheShadow =
     (t : Functions) (fs : List Funclet) (program : Program) → IsSound program
     → (credit : Configuration → ℕ) (arg : ℤ) (first m n : ℕ) (s : State) (cs : List Context)
-    → RunBegins t fs (lowered program) turns_per_step credit arg first s m → (m + 1) * steps_per_turn_of program ≤ n
+    → RunBegins t fs (lowered program) turns_per_step credit arg first s m → (m + 1) *
+    steps_per_turn_of program ≤ n
     → Calm program arg n ≡ true → WalkGives t s cs → (run t fs m (host s) []).end ≡ None
     → WalkGivesShadow t fs m s cs

@@ -43,7 +43,8 @@ abbrev pub AgreementSimulates : Type 0
 AgreementSimulates =
     (t : Functions) (fs : List Funclet) (program : Program) (p : ImagePlan) (q : Sites)
     → IsSound program → ReadsNoUnset (lowered program) → IsSoundImage t fs (lowered program) p q
-    → Simulates t fs (lowered program) turns_per_step turns_left (λ n. RepresentsWhereSet t fs (lowered program) p q)
+    → Simulates t fs (lowered program) turns_per_step turns_left
+    (λ n. RepresentsWhereSet t fs (lowered program) p q)
 
 -- in 256 n + 256 turns the machine shows what the program shows within n steps, and has ended as it
 -- ends

@@ -58,7 +58,8 @@ abbrev pub CompiledWalkTheShadow : Type 0
 CompiledWalkTheShadow =
     (program : Program) → IsLinkable program → ReadsNoUnset (lowered program) → (bytes : List ℕ)
     → IsImageOf bytes program
-    → (arg m n : ℕ) → arg < 2 ^ 63 → (m + 1) * steps_per_turn_of program ≤ n → Calm program (pos arg) n ≡ true
+    → (arg m n : ℕ) → arg < 2 ^ 63 → (m + 1) * steps_per_turn_of program ≤ n → Calm program
+    (pos arg) n ≡ true
     → (machine bytes (pos arg) m).end ≡ None → WalksTheShadow bytes (pos arg) m
 
 -- and of every accepted text within the limits, of at most L nodes, that is calm within (m + 1) (8

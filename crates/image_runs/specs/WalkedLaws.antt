@@ -28,5 +28,6 @@ abbrev pub RunsEndAsPrograms : Type 0
 RunsEndAsPrograms =
     (program : Program) → IsLinkable program → ReadsNoUnset (lowered program) → (bytes : List ℕ)
     → IsImageOf bytes program
-    → (arg m n : ℕ) → arg < 2 ^ 63 → (m + 1) * steps_per_turn_of program ≤ n → Calm program (pos arg) n ≡ true
+    → (arg m n : ℕ) → arg < 2 ^ 63 → (m + 1) * steps_per_turn_of program ≤ n → Calm program
+    (pos arg) n ≡ true
     → (e : RunEnd) → (machine bytes (pos arg) m).end ≡ Some e → IsOfProgram e

@@ -3,7 +3,8 @@ pub use Rattle.seh_num.specs.Shown.{Shown}
 pub use Rattle.seh_num.specs.declared.end.RunEnd.{RunEnd}
 pub use Rattle.seh_num.specs.declared.event.Event.{Event}
 pub use Rattle.host_layout.specs.declared.range.TheConstants.{STACK_START, STACK_END}
-pub use Rattle.flat_memory.specs.Memory.{Memory, number_at}
+pub use Rattle.flat_memory.specs.Memory.{Memory}
+unfoldable pub use Rattle.flat_memory.specs.Memory.{number_at}
 pub use Rattle.flat_memory.specs.declared.protection.Protection.{Protection}
 pub use Rattle.c_operations.specs.declared.field.Field.{Field}
 pub use Rattle.c_checked.specs.Program.{Program}
@@ -16,7 +17,8 @@ pub use Rattle.linear_code.specs.declared.slot.Slot.{Slot}
 pub use Rattle.linear_code.specs.declared.slot.Slot.TheVariants.{Local, Temporary}
 pub use Rattle.linear_machine.specs.Frames.{Waits, Configuration, Seen, Running, Finished, Next, BodyName, FunctionBody, Frame, body_of, function_body, Item, Stuck}
 pub use Rattle.linear_machine.specs.Instructions.{act}
-pub use Rattle.linear_machine.specs.Run.{instruction_at, instruction_in, exec, seen}
+pub use Rattle.linear_machine.specs.Run.{instruction_at, instruction_in, seen}
+unfoldable pub use Rattle.linear_machine.specs.Run.{exec}
 pub use Rattle.seh_ir.specs.Lowered.{lowered, scope_of}
 pub use Rattle.lowering_follows.specs.StepsPerTurn.{steps_per_turn_of}
 pub use Rattle.lowering_invariants.specs.Ready.{IsReady, CanContinue}
@@ -49,8 +51,9 @@ pub use Rattle.virtual_unwind.specs.Contexts.{rsp}
 pub use Rattle.virtual_unwind.specs.Undone.{word}
 pub use Rattle.host_model.specs.Funclets.{funclets}
 pub use Rattle.host_model.specs.HostStep.{host}
-pub use Rattle.host_model.specs.Loading.{first_cpu, start}
-pub use Rattle.host_model.specs.Machine.{run}
+pub use Rattle.host_model.specs.Loading.{first_cpu}
+unfoldable pub use Rattle.host_model.specs.Loading.{start}
+unfoldable pub use Rattle.host_model.specs.Machine.{run}
 pub use Rattle.host_model.specs.declared.funclet.Funclet.{Funclet}
 pub use Rattle.match_runs.specs.Ends.{HasRule, run_end_of}
 pub use Rattle.match_runs.specs.Laws.{ShowsAll, ShowsNoMore}

@@ -339,7 +339,8 @@ module _ (program : LinearProgram) (c : HasWholeImage program) (name : BodyName)
       ends_are_at : (n k rva : ℕ) → n ≡ suc k → rva ≡ template_at x label + sizes fetching
           → IsExecutableAt m (image_base + rva) (spelled (epilogue n ++ th.after))
           → IsExecutableAt m (image_base + rva) (chosen (give_back n))
-          × IsExecutableAt m (image_base + rva + length (chosen (give_back n))) (chosen instrs.Return)
+          × IsExecutableAt m (image_base + rva + length (chosen (give_back n)))
+          (chosen instrs.Return)
       ends_are_at zero k rva e r is_there = absurd (omega arith)
       ends_are_at (suc n) k rva e r is_there =
           let first = executable_split m (image_base + rva) (chosen (give_back (suc n)))

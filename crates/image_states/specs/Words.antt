@@ -28,29 +28,34 @@ pub use Rattle.eh_tables.specs.Tables.{Entry}
 pub use Rattle.eh_tables.specs.declared.scope.ScopeRecord.{ScopeRecord}
 pub use Rattle.x64_instr.specs.declared.instruction.Instr.{Instr}
 pub use Rattle.x64_instr.specs.declared.register.Reg.TheVariants.{Rax, Rsp, Rcx}
-pub use Rattle.x64_encode.specs.Chosen.{modrm, chosen}
+pub use Rattle.x64_encode.specs.Chosen.{chosen}
+unfoldable pub use Rattle.x64_encode.specs.Chosen.{modrm}
 pub use Rattle.x64_machine.specs.declared.context.Context.{Context}
 pub use Rattle.x64_machine.specs.declared.cpu.Cpu.{Cpu}
-pub use Rattle.template_code.specs.Bytes.{size, sizes, spelled}
+pub use Rattle.template_code.specs.Bytes.{sizes, spelled}
+unfoldable pub use Rattle.template_code.specs.Bytes.{size}
 pub use Rattle.template_code.specs.Probing.{check_stack}
 pub use Rattle.template_code.specs.Slots.{fetch}
-pub use Rattle.template_code.specs.Template.{body_size, offset_of, code_from, template_size}
+pub use Rattle.template_code.specs.Template.{body_size, offset_of, code_from}
+unfoldable pub use Rattle.template_code.specs.Template.{template_size}
 pub use Rattle.template_code.specs.declared.layout.Layout.{Layout}
 pub use Rattle.x64_templates.specs.Placed.{IsCodeAt}
 pub use Rattle.virtual_unwind.specs.CallerOf.{Functions, distance, entry_of, of_entry}
 pub use Rattle.virtual_unwind.specs.Contexts.{rsp}
-pub use Rattle.virtual_unwind.specs.Tail.{tail_at, left}
+pub use Rattle.virtual_unwind.specs.Tail.{left}
+unfoldable pub use Rattle.virtual_unwind.specs.Tail.{tail_at}
 pub use Rattle.virtual_unwind.specs.Undone.{word}
 pub use Rattle.frame_rules.specs.Bytes.{IsExecutableAt}
 pub use Rattle.seh_walk.specs.Walk.{framed, filter_return, finally_return}
 pub use Rattle.host_model.specs.Funclets.{inserted, by_kind, arrivals}
-pub use Rattle.host_model.specs.Loading.{mode_in, stored_byte, with_slots, mapped, section_of, byte_in}
+pub use Rattle.host_model.specs.Loading.{mode_in, stored_byte, with_slots, section_of, byte_in}
+unfoldable pub use Rattle.host_model.specs.Loading.{mapped}
 pub use Rattle.host_model.specs.declared.funclet.Funclet.{Funclet}
 pub use Rattle.match_stack.specs.Stack.{FrameIsAt}
 pub use Rattle.match_bodies.specs.Callers.{FindsReturn}
 pub use Rattle.match_bodies.specs.CodeSites.{begin_of, making_size, give_back, code_of, links_of, entry_code}
 pub use Rattle.match_bodies.specs.ProgramImages.{HasProgram}
-pub use Rattle.frame_layout.specs.Layout.{taking_size}
+unfoldable pub use Rattle.frame_layout.specs.Layout.{taking_size}
 pub use Rattle.frame_layout.specs.declared.frame.FrameLayout.{FrameLayout}
 pub use Rattle.x64_emit.specs.Linking.{address_or}
 pub use Rattle.x64_emit.specs.Near.{IsInstructionNear, IsNear}
@@ -58,7 +63,8 @@ pub use Rattle.image_link.specs.Fits.{FitsProgram}
 pub use Rattle.image_link.specs.Linked.{text_begin, first, total, linked}
 pub use Rattle.image_link.specs.Near.{IsFrameNear}
 pub use Rattle.image_link.specs.Routines.{RoutineView, funclet_frame, funclet, routines, leaf_if, nothing, has_call}
-pub use Rattle.image_link.specs.Text.{routine_size, entry_size, routine_bytes, check_stack_at, bounds, argument_code, routine_code, SiteView, own_addresses}
+pub use Rattle.image_link.specs.Text.{routine_size, check_stack_at, bounds, argument_code, routine_code, SiteView, own_addresses}
+unfoldable pub use Rattle.image_link.specs.Text.{entry_size, routine_bytes}
 pub use Rattle.image_tables.specs.CodeInMemory.{image_base, template_at, links}
 pub use Rattle.image_tables.specs.RegionRows.{funclet_begin}
 pub use Rattle.image_tables.specs.RoutinePlaces.{Placed, end_of, site_of, body_begin, placed, infos_begin}

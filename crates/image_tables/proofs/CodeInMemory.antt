@@ -164,7 +164,8 @@ template_there k y at (j ∷ is) (suc number) i e =
       before = t ++ r.before;
       after = r.after;
       parts = ap (λ (q : List Instr). t ++ q) r.parts
-          ∙ sym (append_assoc t r.before (template k y (at + n + offset_of y is number) i ++ r.after))
+          ∙ sym (append_assoc t r.before (template k y (at + n + offset_of y is number) i ++
+          r.after))
           ∙ ap (λ (a : ℕ). (t ++ r.before) ++ (template k y a i ++ r.after)) z;
       here = omega (arith, sizes_append t r.before);
       inside = omega arith;

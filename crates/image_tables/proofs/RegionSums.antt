@@ -93,7 +93,8 @@ module _ (finally filter : ℕ → ℕ) (always : ℕ) where
         omega (
           arith,
           total_both (statements_regions body at)
-              (region at target (except_kind filter' target) ∷ statements_regions block (target + 1)),
+              (region at target (except_kind filter' target) ∷ statements_regions block
+              (target + 1)),
           funclets_both (statements_funclets owner names body) more,
           funclets_both (filter_funclets owner (filter_names names) filter')
               (statements_funclets owner (except_names names) block),

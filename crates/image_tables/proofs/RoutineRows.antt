@@ -31,7 +31,8 @@ module _ (p : LinearProgram) (far : AreFar (site_of p).funclets) (y : Layout) (s
     target_some i e = let l = label_least y start body i end fits in
         let q : address_or (label_list y start body) i end ≡ 0 = e in omega arith
 
-    finally_by : (k : RegionKind) → (jump_target (label_list y start body) end k == 0) ≡ is_finally k
+    finally_by : (k : RegionKind) → (jump_target (label_list y start body) end k == 0) ≡ is_finally
+        k
     finally_by (kinds.Finally funclet) = refl
     finally_by (kinds.Filter funclet target) = ne_eqb _ 0 (target_some target)
     finally_by (kinds.Always target) = ne_eqb _ 0 (target_some target)

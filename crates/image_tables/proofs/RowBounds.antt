@@ -92,6 +92,12 @@ module _ (funclets : List ℕ) (y : Layout) (start : ℕ) (body : List Instructi
       let e = label_below r.end in
       let h = handler_below r.kind in
       let j = target_below r.kind in (
-        record { begin = omega arith; end = omega arith; handler = omega arith; jump = omega arith },
+        record {
+          begin = omega arith;
+          end = omega arith;
+          handler = omega arith;
+          jump = omega
+              arith;
+        },
         rows_small rs le,
       )

@@ -24,21 +24,24 @@ pub use Rattle.pe_image.specs.Imports.{Import}
 pub use Rattle.pe_write.specs.ImportTables.{services, imported}
 pub use Rattle.pe_write.specs.Program.{image_of, ImageContents, CanBeImage, sizes_of, text_at, rdata_at, xdata_at, sections_of}
 pub use Rattle.eh_tables.specs.Answer.{Table}
-pub use Rattle.eh_tables.specs.Handler.{is_c_handler}
+unfoldable pub use Rattle.eh_tables.specs.Handler.{is_c_handler}
 pub use Rattle.eh_tables.specs.Tables.{Entry, holding, or_none}
-pub use Rattle.eh_tables.specs.Written.{unwind_bytes}
+unfoldable pub use Rattle.eh_tables.specs.Written.{unwind_bytes}
 pub use Rattle.eh_tables.specs.declared.code.UnwindOperation.{UnwindOperation}
 pub use Rattle.eh_tables.specs.declared.scope.ScopeRecord.{ScopeRecord}
 pub use Rattle.eh_tables.specs.declared.unwind_info.Trailer.TheVariants.{Nothing}
 pub use Rattle.x64_instr.specs.declared.instruction.Instr.{Instr}
 pub use Rattle.x64_instr.specs.declared.register.Reg.TheVariants.{Rax, Rcx, Rsp}
-pub use Rattle.x64_encode.specs.Chosen.{chosen, is_encodable, modrm, opcode_register}
-pub use Rattle.template_code.specs.Bytes.{spelled, size, sizes, thunk}
+pub use Rattle.x64_encode.specs.Chosen.{chosen, is_encodable}
+unfoldable pub use Rattle.x64_encode.specs.Chosen.{modrm, opcode_register}
+pub use Rattle.template_code.specs.Bytes.{spelled, sizes, thunk}
+unfoldable pub use Rattle.template_code.specs.Bytes.{size}
 pub use Rattle.template_code.specs.Calls.{finally_arguments, epilogue}
 pub use Rattle.template_code.specs.Jumps.{distance, compare_zero, jump_equal, test_code}
 pub use Rattle.template_code.specs.Operations.{before, work}
 pub use Rattle.template_code.specs.Slots.{fetched, keep, local_at, temporary_at, fetch_local, keep_local, fetch, operands_code, finish_code}
-pub use Rattle.template_code.specs.Template.{template, code_from, Links, template_size, body_size}
+pub use Rattle.template_code.specs.Template.{template, code_from, Links, body_size}
+unfoldable pub use Rattle.template_code.specs.Template.{template_size}
 pub use Rattle.template_code.specs.declared.layout.Layout.{Layout}
 pub use Rattle.virtual_unwind.specs.Tail.{FetchedInstr, role_of}
 pub use Rattle.virtual_unwind.specs.declared.tail.Role.TheVariants.{Other}
@@ -48,7 +51,8 @@ pub use Rattle.frame_rules.specs.Plan.{FramePlan, IsPlan, spelled_by, operations
 pub use Rattle.frame_rules.specs.Prologue.{bytes, items}
 pub use Rattle.frame_rules.specs.Rules.{IsRight}
 pub use Rattle.frame_rules.specs.States.{HasItems}
-pub use Rattle.frame_layout.specs.Layout.{taking_size, plan_of, info_of}
+pub use Rattle.frame_layout.specs.Layout.{plan_of, info_of}
+unfoldable pub use Rattle.frame_layout.specs.Layout.{taking_size}
 pub use Rattle.frame_layout.specs.declared.frame.FrameLayout.{FrameLayout}
 pub use Rattle.x64_emit.specs.Bodies.{label_list}
 pub use Rattle.x64_emit.specs.Linking.{address_or}
@@ -57,8 +61,10 @@ pub use Rattle.image_link.specs.Fits.{FitsProgram, function_bodies, funclet_bodi
 pub use Rattle.image_link.specs.Linked.{text_begin, linked, first}
 pub use Rattle.image_link.specs.Near.{IsFrameNear, IsRoutineNear}
 pub use Rattle.image_link.specs.Routines.{RoutineView, routines, is_leaf, leaf_if, functions_from, funclet}
-pub use Rattle.image_link.specs.Tables.{info_bytes, is_finally, has_except, has_finally, trailer, scope_records, scope_table, info_if, handler_address, jump_target, scope_record}
-pub use Rattle.image_link.specs.Text.{argument_code, entry_code, entry_size, check_stack_at, routine_code, thunk_at, SiteView, routine_size, routines_bytes, frame_code, own_addresses, bounds}
+pub use Rattle.image_link.specs.Tables.{is_finally, has_except, has_finally, trailer, scope_records, scope_table, info_if, handler_address, jump_target, scope_record}
+unfoldable pub use Rattle.image_link.specs.Tables.{info_bytes}
+pub use Rattle.image_link.specs.Text.{argument_code, entry_code, check_stack_at, routine_code, thunk_at, SiteView, routine_size, routines_bytes, frame_code, own_addresses, bounds}
+unfoldable pub use Rattle.image_link.specs.Text.{entry_size}
 pub use Rattle.image_tables.specs.CodeInMemory.{image_base, links, HasText}
 pub use Rattle.image_tables.specs.Entries.{entry_of, entries, entries_of, has_rows, entry_if, scopes_of}
 pub use Rattle.image_tables.specs.Functions.{function_of}

@@ -34,7 +34,8 @@ module _ (program : Program) (linear : LinearProgram) (rate body : ℕ)
   bodies_zero : BodyRuns program linear rate body zero
   bodies_zero = record {
     run = λ s scope z shapes context site base pc st store steps light has inner standing kept
-        held. stopped linear rate (at (conf context site pc [] st store)) st 0 0 (statement_weight s)
+        held. stopped linear rate (at (conf context site pc [] st store)) st 0 0
+        (statement_weight s)
         (omega arith) (shown_none program linear rate body (conf context site pc [] st store));
     for_run = λ c next s scope z shapes context site base pc st store steps light has inner standing
         kept held.
@@ -90,8 +91,10 @@ module _ (program : Program) (linear : LinearProgram) (rate body : ℕ)
         (shown_more program linear rate body st.events _ (events.Filter (j + 1))
         (shown_none program linear rate body begins)));
     call = λ k fn lf vs names info z shapes context site base pc temps st store steps h there len t
-        around kept held. call_runs program linear rate body zero bodies_zero k fn lf vs names info z
-        shapes context site base pc temps st store (placed_at k fn lf h there) steps len t around kept
+        around kept held. call_runs program linear rate body zero bodies_zero k fn lf vs names info
+        z
+        shapes context site base pc temps st store (placed_at k fn lf h there) steps len t around
+        kept
         held;
   }
 
@@ -99,7 +102,8 @@ module _ (program : Program) (linear : LinearProgram) (rate body : ℕ)
       → Runs program linear rate body (suc n)
   tasks_next n b bodies = record {
     eval = λ e names info z shapes context site base pc temps st store steps light fits has around
-        kept held. eval_next program linear rate body same_globals roomy functions_at n b.tasks names
+        kept held. eval_next program linear rate body same_globals roomy functions_at n b.tasks
+        names
         info z shapes context site base around e pc temps st store steps light fits has kept held;
     locate = λ p names info z shapes context site base pc temps st store steps light fits has around
         kept held. locate_next program linear rate body same_globals roomy functions_at n b.tasks
@@ -121,7 +125,8 @@ module _ (program : Program) (linear : LinearProgram) (rate body : ℕ)
         fit.light t a fit kept held;
     call = λ k fn lf vs names info z shapes context site base pc temps st store steps h there len t
         around kept held. call_runs program linear rate body (suc n) bodies k fn lf vs names info z
-        shapes context site base pc temps st store (placed_at k fn lf h there) steps len t around kept
+        shapes context site base pc temps st store (placed_at k fn lf h there) steps len t around
+        kept
         held;
   }
 

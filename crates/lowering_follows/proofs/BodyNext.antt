@@ -58,8 +58,10 @@ module _ (program : Program) (linear : LinearProgram) (rate body : ℕ) where
       fits = out' mid a.store a.fits;
       same = omega (arith, a.same);
       reaches = reaches_after linear rate s (at
-          (conf (record context { abnormal = flag }) (finally_site j below held) done [] mid a.store))
-          (λ next. end_finally linear next below mid.events a.store) st mid (let_go mid) 0 0 x 1 0 0 1
+          (conf (record context { abnormal = flag }) (finally_site j below held) done [] mid
+          a.store))
+          (λ next. end_finally linear next below mid.events a.store) st mid (let_go mid) 0 0 x 1 0 0
+          1
           0 x (omega arith) (omega arith) a.reaches
           (stepped linear rate (conf (record context { abnormal = flag })
           (finally_site j below held) done [] mid a.store)

@@ -200,7 +200,8 @@ module _ (program : Program) (linear : LinearProgram) (rate body : ℕ) where
 
       pub breaks_by : (way : jumps.Way) (pc : ℕ) (st : State) (store : Store) (p : Price)
           → 1 ≤ p.turns → p.extra ≤ rate + p.slack → IsWay way
-          → HasAt linear site.body site.regions pc (jump_code way) → Ks st store → st.held ≡ site.held
+          → HasAt linear site.body site.regions pc (jump_code way) → Ks st store → st.held ≡
+          site.held
           → Arrives linear rate (at (conf context site pc [] st store)) st p Ks site.held st
           (jump_way program linear rate body context site way)
       breaks_by Nowhere pc st store p lr le is has kept held = absurd is
@@ -270,10 +271,12 @@ module _ (program : Program) (linear : LinearProgram) (rate body : ℕ) where
           let lr = j.turns in arrives_more linear rate s st mid p r Ks site.held (w.returned x)
           (omega arith) l a
       loop_ends s end again st p q r (Gives LeftTry mid) go j l b a = let w = S end in
-          let lr = j.turns in arrives_more linear rate s st mid p r Ks site.held w.left (omega arith)
+          let lr = j.turns in arrives_more linear rate s st mid p r Ks site.held w.left
+          (omega arith)
           l a
       loop_ends s end again st p q r (Gives (Target level exc) mid) go j l b a = let lr = j.turns in
-          targets_more linear rate s st mid p r Ks context site level exc (omega arith) j.first_out a
+          targets_more linear rate s st mid p r Ks context site level exc (omega arith) j.first_out
+          a
       loop_ends s end again st p q r (Gives (End (Some e)) mid) go j l b a = let lr = j.turns in
           finishes_more linear rate s st mid p.turns r.turns (Finished e mid.events) (omega arith) a
       loop_ends s end again st p q r (Gives (End None) mid) go j l b a = let lr = j.turns in

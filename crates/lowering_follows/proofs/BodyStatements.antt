@@ -110,7 +110,8 @@ module _ (program : Program) (linear : LinearProgram) (rate body : ℕ) (roomy :
 
     return_runs : (e : Option Expression) (notes pc : ℕ) (st : State) (store : Store)
         → st.steps_left ≤ n → 1 + optional_weight e + body + 4 ≤ rate
-        → Placed program linear rate body z.own site.body scope (Return e) site.regions pc → Sd notes
+        → Placed program linear rate body z.own site.body scope (Return e) site.regions pc → Sd
+        notes
         → K st store → st.held ≡ site.held
         → C pc [] st store (price 16 1 (1 + optional_weight e) (1 + optional_weight e))
         (pc + (returned_size e + 2)) (optional (within program n) 0 e context st
@@ -137,7 +138,8 @@ module _ (program : Program) (linear : LinearProgram) (rate body : ℕ) (roomy :
         (omega arith) (omega arith) has.leads has.returns kept held)
 
     except_runs : (ss : Statements) (filter : Filter) (block : Statements) (pc : ℕ) (st : State)
-        (store : Store) → st.steps_left ≤ n → statement_weight (TryExcept ss filter block) + body + 4
+        (store : Store) → st.steps_left ≤ n → statement_weight (TryExcept ss filter block) + body +
+        4
         ≤ rate → Placed program linear rate body z.own site.body scope (TryExcept ss filter block)
         site.regions pc
         → In pc (pc + statement_size (TryExcept ss filter block))
@@ -253,13 +255,15 @@ module _ (program : Program) (linear : LinearProgram) (rate body : ℕ) (roomy :
         (1 + statements_notes last)) standing)) kept held)))
 
     pub statement_runs : (s : Statement) (pc : ℕ) (st : State) (store : Store) → st.steps_left ≤ n
-        → statement_weight s + body + 4 ≤ rate → Placed program linear rate body z.own site.body scope
+        → statement_weight s + body + 4 ≤ rate → Placed program linear rate body z.own site.body
+        scope
         s site.regions pc → In pc (pc + statement_size s) → Sd (statement_notes s) → K st store
         → st.held ≡ site.held
         → C pc [] st store (price 16 1 (statement_weight s) (statement_weight s))
         (pc + statement_size s) (statement (within program n) s context st)
     statement_runs (Declare d) pc st store steps light has inner standing kept held = declared_runs
-        program linear rate body roomy n ih bih scope z shapes context site base d.local d.value 0 pc
+        program linear rate body roomy n ih bih scope z shapes context site base d.local d.value 0
+        pc
         st store steps light has standing kept held
     statement_runs (Block ss) pc st store steps light has inner standing kept held =
         let w = statements_weight ss in

@@ -56,8 +56,10 @@ module _ (program : Program) (linear : LinearProgram) (rate body : ℕ) (roomy :
     -- ---- loops
 
     for_tail : (c next : Option Expression) (s : Statement) (pc : ℕ) (st : State) (store : Store)
-        → st.steps_left ≤ n → 1 + optional_weight c + statement_weight s + optional_weight next + body
-        + 4 ≤ rate → ForPlaced program linear rate body z.own site.body scope c next s site.regions pc
+        → st.steps_left ≤ n → 1 + optional_weight c + statement_weight s + optional_weight next +
+        body
+        + 4 ≤ rate → ForPlaced program linear rate body z.own site.body scope c next s site.regions
+        pc
         → In pc (for_end c next s pc) → Sd (statement_notes s) → K st store → st.held ≡ site.held
         → C (pc + condition_size c + statement_size s) [] st store
         (price 3 rate (1 + optional_weight c + statement_weight s + optional_weight next)

@@ -162,7 +162,8 @@ module _ (program : Program) (linear : LinearProgram) (rate body : ℕ)
 
     -- the value before the change, and the one after it, below which the address is
     new_fits : (p : Lvalue) (a x v : ℕ) (temps : List ℕ)
-        → WriteFits program linear rate body same_globals roomy n ih names info z shapes context site
+        → WriteFits program linear rate body same_globals roomy n ih names info z shapes context
+        site
         base around p ((located p temps a ++ x ∷ []) ++ v ∷ []) (length temps)
         (length (located p temps a ++ x ∷ [])) (length (located p temps a ++ x ∷ [])) a v
         (λ v. (located p temps a ++ x ∷ []) ++ v ∷ [])

@@ -88,7 +88,8 @@ module _ (program : Program) (linear : LinearProgram) (rate body : ℕ) where
 
     -- it runs for an unwinding, and then that continues
     unwinds_on : (s : Part) (from : State) (x pc : ℕ) (temps : List ℕ) (to : machine.Target)
-        (how : Result) (st : State) (store : Store) (w : Ways) → st.steps_left ≤ n → st.held ≡ to.held
+        (how : Result) (st : State) (store : Store) (w : Ways) → st.steps_left ≤ n → st.held ≡
+        to.held
         → Kf st store → Outward to R (length site.below)
         → Reaches linear rate s (unwound linear rate context inside to temps st store pc) from st 0
         0 x
@@ -257,7 +258,8 @@ module _ (program : Program) (linear : LinearProgram) (rate body : ℕ) where
             fits = kept;
             same = held;
             reaches = still linear rate (unwound linear rate context site to (v ∷ []) mid store'
-                p.0) (unwound linear rate context site to (v ∷ []) mid store' p.0) mid mid 1 0 0 refl
+                p.0) (unwound linear rate context site to (v ∷ []) mid store' p.0) mid mid 1 0 0
+                refl
                 (omega arith) (prefix_self linear rate mid.events) (λ j. refl);
           },
         ))
@@ -303,7 +305,8 @@ module _ (program : Program) (linear : LinearProgram) (rate body : ℕ) where
             fits = kept;
             same = held;
             reaches = still linear rate (unwound linear rate context site to [] mid store' p.0)
-                (unwound linear rate context site to [] mid store' p.0) mid mid 1 0 0 refl (omega arith)
+                (unwound linear rate context site to [] mid store' p.0) mid mid 1 0 0 refl
+                (omega arith)
                 (prefix_self linear rate mid.events) (λ j. refl);
           },
         ))

@@ -206,7 +206,8 @@ module _ (program : Program) (linear : LinearProgram) (rate body : ℕ) where
           fits = call_fits e mid a.store a.fits;
           same = a.same;
           reaches = reaches_after linear rate s (at c0)
-              (pushed context site (pc + 1) temps 0 (ended mid) (left a.store)) st mid (ended mid) 0 0
+              (pushed context site (pc + 1) temps 0 (ended mid) (left a.store)) st mid (ended mid) 0
+              0
               x 2 0 0 2 0 x (omega arith) (omega arith) a.reaches
               (reaches_after linear rate (at c0) (at c1)
               (pushed context site (pc + 1) temps 0 (ended mid) (left a.store)) mid mid
@@ -226,7 +227,8 @@ module _ (program : Program) (linear : LinearProgram) (rate body : ℕ) where
       same = a.1.same;
       reaches = reaches_more linear rate s (pushed context site (pc + 1) temps v (ended mid)
           (left a.1.store)) st (ended mid) 0 0 x 2 0 x (omega arith) (omega arith)
-          (ended_reaches s (pushed context site (pc + 1) temps v (ended mid) (left a.1.store)) st mid
+          (ended_reaches s (pushed context site (pc + 1) temps v (ended mid) (left a.1.store)) st
+          mid
           0 0 x a.1.reaches);
     }
     function_ends s st x done (Gives Broke mid) e has l1 l2 l3 label l4 a = absurd a

@@ -63,7 +63,8 @@ module _ (program : Program) (linear : LinearProgram) (rate body : ℕ)
 
     -- a value after what was located goes there
     pub assign_fits : (p : Lvalue) (a v : ℕ) (temps : List ℕ)
-        → WriteFits program linear rate body same_globals roomy n ih names info z shapes context site
+        → WriteFits program linear rate body same_globals roomy n ih names info z shapes context
+        site
         base around p (located p temps a ++ v ∷ []) (length temps) (length (located p temps a))
         (length temps) a v (λ v. temps ++ v ∷ [])
     assign_fits (Local x) a v temps = (top_get temps v, refl)

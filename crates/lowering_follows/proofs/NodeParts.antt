@@ -64,7 +64,8 @@ module _ (program : Program) (linear : LinearProgram) (rate body : ℕ)
 
     -- a subexpression, and what is done with its value
     pub sub_eval : (e : Expression) (pc : ℕ) (temps : List ℕ) (st : State) (store : Store)
-        (t x s o : ℕ) (part : ℕ → State → Store → Part) (k : ℕ → State → Outcome) → st.steps_left ≤ n
+        (t x s o : ℕ) (part : ℕ → State → Store → Part) (k : ℕ → State → Outcome) → st.steps_left ≤
+        n
         → expression_weight e + body + 4 ≤ rate → x + expression_weight e ≤ o
         → ExpressionFits program z.own info e
         → HasAt linear site.body site.regions pc (expression_code names e (length temps) pc)
@@ -85,7 +86,8 @@ module _ (program : Program) (linear : LinearProgram) (rate body : ℕ)
 
     -- a target, and what is done with its address
     pub sub_target : (p : Lvalue) (pc : ℕ) (temps : List ℕ) (st : State) (store : Store)
-        (t x s o : ℕ) (part : ℕ → State → Store → Part) (k : ℕ → State → Outcome) → st.steps_left ≤ n
+        (t x s o : ℕ) (part : ℕ → State → Store → Part) (k : ℕ → State → Outcome) → st.steps_left ≤
+        n
         → 1 + lvalue_weight p + body + 4 ≤ rate → x + (1 + lvalue_weight p) ≤ o
         → LvalueFits program z.own info p → HasAt linear site.body site.regions pc
         (locate_code names p (length temps) pc) → Kp st store → st.held ≡ site.held
@@ -106,7 +108,8 @@ module _ (program : Program) (linear : LinearProgram) (rate body : ℕ)
 
     -- a place that is no target
     pub sub_locate : (p : Lvalue) (pc : ℕ) (temps : List ℕ) (st : State) (store : Store)
-        (t x s o : ℕ) (part : ℕ → State → Store → Part) (k : ℕ → State → Outcome) → st.steps_left ≤ n
+        (t x s o : ℕ) (part : ℕ → State → Store → Part) (k : ℕ → State → Outcome) → st.steps_left ≤
+        n
         → lvalue_weight p + body + 4 ≤ rate → x + lvalue_weight p ≤ o
         → LvalueFits program z.own info p → HasAt linear site.body site.regions pc
         (locate_code names p (length temps) pc) → Kp st store → st.held ≡ site.held
@@ -147,7 +150,8 @@ module _ (program : Program) (linear : LinearProgram) (rate body : ℕ)
         (λ v mid after lower kept held. go v mid after (omega arith) kept held)
 
     pub sub_operate : (op : Operation) (x' y to left right a b : ℕ) (result : ℕ → List ℕ) (pc : ℕ)
-        (temps : List ℕ) (st : State) (store : Store) (t x s o : ℕ) (part : ℕ → State → Store → Part)
+        (temps : List ℕ) (st : State) (store : Store) (t x s o : ℕ)
+        (part : ℕ → State → Store → Part)
         (k : ℕ → State → Outcome)
         → is_constant op ≡ false → st.steps_left ≤ n → x + 1 ≤ rate → x ≤ o
         → HasAt linear site.body site.regions pc

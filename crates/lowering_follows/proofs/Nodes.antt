@@ -30,10 +30,12 @@ module _ (program : Program) (linear : LinearProgram) (rate body : ℕ)
       context site base) where
     abbrev pub F : (pc : ℕ) (temps : List ℕ) (st : State) (store : Store) (t x s o : ℕ)
         (part : ℕ → State → Store → Part) → Outcome → Type 0
-    F = From program linear rate body same_globals roomy n ih names info z shapes context site base around
+    F = From program linear rate body same_globals roomy n ih names info z shapes context site base
+        around
 
     abbrev pub Kn : State → Store → Type 0
-    Kn = Kp program linear rate body same_globals roomy n ih names info z shapes context site base around
+    Kn = Kp program linear rate body same_globals roomy n ih names info z shapes context site base
+        around
 
     abbrev pub Has : ℕ → List Instruction → Type 0
     Has pc is = HasAt linear site.body site.regions pc is
@@ -140,7 +142,8 @@ module _ (program : Program) (linear : LinearProgram) (rate body : ℕ)
         let part = pushed context site (pc + (expression_size e + 4)) temps in
         operand_runs e pc temps st store 13 1 w part
         (λ v st. Gives (Value (of_test (nat_eq v 0))) st) steps (omega arith) (omega arith) fits
-        (has_front linear site.body site.regions pc (expression_code names e d pc) code has) kept held
+        (has_front linear site.body site.regions pc (expression_code names e d pc) code has) kept
+        held
         (λ v mid after steps kept held.
         subst (λ p. F pc1 (temps ++ v ∷ []) mid after 13 w w w (pushed context site p temps)
         (Gives (Value (of_test (nat_eq v 0))) mid)) end
@@ -162,7 +165,8 @@ module _ (program : Program) (linear : LinearProgram) (rate body : ℕ)
         (x + expression_weight f) o o part (Gives (Value v) mid))
         → F pc temps st store t x o o part (within program n (Eval f) context st)
     last_runs f pc temps st store t x o part steps light le fits has kept held go =
-        subst (λ out. F pc temps st store t x o o part out) (value_self (within program n (Eval f) context st))
+        subst (λ out. F pc temps st store t x o o part out) (value_self
+        (within program n (Eval f) context st))
         (operand_runs f pc temps st store t x o part (λ v st. Gives (Value v) st) steps light le
         fits has kept held go)
 
@@ -204,7 +208,8 @@ module _ (program : Program) (linear : LinearProgram) (rate body : ℕ)
         turn program linear rate body same_globals roomy n ih names info z shapes context site base
         around pc2 (pc2 + 1) ((temps ++ x ∷ []) ++ y ∷ []) (temps ++ y ∷ []) end_state end_store
         12 (1 + expression_weight e + expression_weight f) w w
-        (pushed context site (pc + (expression_size e + (expression_size f + 1))) temps) (Gives (Value y) end_state)
+        (pushed context site (pc + (expression_size e + (expression_size f + 1))) temps)
+        (Gives (Value y) end_state)
         (λ k. pure_turn linear rate context site pures.First d (d + 1) (d + 1) y y
         (λ v. temps ++ v ∷ []) pc2 ((temps ++ x ∷ []) ++ y ∷ []) end_state end_store k refl last
         from)
@@ -221,7 +226,8 @@ module _ (program : Program) (linear : LinearProgram) (rate body : ℕ)
         → F pc (temps ++ v ∷ []) st store 13 x w w (pushed context site (pc + 2) temps)
         (Gives (Value (result_of o v 0)) st)
     changed_runs o v pc d temps st store x w e c has le kept held =
-        let has' = subst (λ d. Has pc (constant (d + 1) 0 ∷ combine d (operations.Pure o) ∷ [])) e has in
+        let has' = subst (λ d. Has pc (constant (d + 1) 0 ∷ combine d (operations.Pure o) ∷ [])) e
+        has in
         let l = length temps in
         let end : pc + 1 + 1 ≡ pc + 2 = omega arith in
         turn program linear rate body same_globals roomy n ih names info z shapes context site base
@@ -242,7 +248,8 @@ module _ (program : Program) (linear : LinearProgram) (rate body : ℕ)
         kept held))
 
     unary_then : (o : Pure) (v pc d : ℕ) (temps : List ℕ) (st : State) (store : Store) (x w : ℕ)
-        → d ≡ length temps → is_constant (operations.Pure o) ≡ false → Has pc (unary_code o d) → x ≤ w
+        → d ≡ length temps → is_constant (operations.Pure o) ≡ false → Has pc (unary_code o d) → x ≤
+        w
         → Kn st store → st.held ≡ site.held
         → F pc (temps ++ v ∷ []) st store 13 x w w (pushed context site (pc + unary_size o) temps)
         (Gives (Value (result_of o v 0)) st)
@@ -266,7 +273,8 @@ module _ (program : Program) (linear : LinearProgram) (rate body : ℕ)
         operand_runs e pc temps st store 13 1 w
         (pushed context site (pc + (expression_size e + unary_size o)) temps)
         (λ v st. Gives (Value (result_of o v 0)) st) steps (omega arith) (omega arith) fits.0
-        (has_front linear site.body site.regions pc (expression_code names e d pc) code has) kept held
+        (has_front linear site.body site.regions pc (expression_code names e d pc) code has) kept
+        held
         (λ v mid after steps kept held.
         subst (λ p. F pc1 (temps ++ v ∷ []) mid after 13 w w w (pushed context site p temps)
         (Gives (Value (result_of o v 0)) mid)) end
@@ -462,7 +470,8 @@ module _ (program : Program) (linear : LinearProgram) (rate body : ℕ)
         test_runs x no pc1 temps mid after 12 debt w part
         (λ st. within program n (Eval f) context st) (λ st. within program n (Eval e) context st)
         (back.0, back.1, tt)
-        (last_runs f no temps mid after 12 debt w part steps (omega arith) (omega arith) fits.2 at_jump.2 kept held
+        (last_runs f no temps mid after 12 debt w part steps (omega arith) (omega arith) fits.2
+        at_jump.2 kept held
         (λ v mid after steps kept held. here_other program linear rate body same_globals roomy n ih
         names info z shapes context site base around (no + expression_size f) last temps v mid
         after 12 (debt + expression_weight f) w w end (omega arith) kept held))

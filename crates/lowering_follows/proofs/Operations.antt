@@ -156,7 +156,8 @@ module _ (program : Program) (linear : LinearProgram) (rate body : ℕ)
     -- a last turn, and its value
     pub ends_by : (c : Configuration) (v t e s o : ℕ) (part : ℕ → State → Store → Part)
         (st st' : State) (store : Store) → 1 ≤ t → e ≤ rate → c.events ≡ st.events
-        → st'.steps_left ≡ st.steps_left → st'.events ≡ st.events → K st' store → st'.held ≡ site.held
+        → st'.steps_left ≡ st.steps_left → st'.events ≡ st.events → K st' store → st'.held ≡
+        site.held
         → ((k : ℕ) → exec linear (suc k) c ≡ part v st' store (exec linear k))
         → Claim linear rate (at c) st (price t e s o) (W part) (Gives (Value v) st')
     ends_by c v t e s o part st st' store lt le same steps events kept held h =

@@ -91,7 +91,8 @@ module _ (program : Program) where
 
   function_placed : (k : ℕ) (fn : Function) → slice_get (lowered program).functions k
       ≡ Some (lowered_function fn) → Found fn
-      → FunctionPlaced program (lowered program) (steps_per_turn_of program) (weight_of program.functions) k
+      → FunctionPlaced program (lowered program) (steps_per_turn_of program)
+      (weight_of program.functions) k
       fn (lowered_function fn)
   function_placed k fn there g =
       let linear = lowered program in
@@ -154,5 +155,6 @@ lowered_follows program h = (linked_follows program (lowered program) (steps_per
     (weight_of program.functions) (lowered_is_linked program h)).0
 
 pub lowered_shows_no_more : LoweredShowsNoMore
-lowered_shows_no_more program h = (linked_follows program (lowered program) (steps_per_turn_of program)
+lowered_shows_no_more program h = (linked_follows program (lowered program)
+    (steps_per_turn_of program)
     (weight_of program.functions) (lowered_is_linked program h)).1

@@ -73,7 +73,8 @@ called program s f es (Some function) e h = record {
   takes = counted s function.parameters es h;
 }
 
--- ---- expressions, where so many locals are, and where an exception's fields may be read or may not
+-- ---- expressions, where so many locals are, and where an exception's fields may be read or may
+-- not
 
 module _ (program : Program) (own : ℕ) (info : Bool) where
   pub record Knows (s : TypingContext) : Type 0 where

@@ -34,7 +34,8 @@ module _ (program : Program) (linear : LinearProgram) (rate body : ℕ)
         (site : Site) (base : Store) (around : Around program linear rate body names info z shapes
         context site base) where
       node_runs : (nd : Node) (pc : ℕ) (temps : List ℕ) (st : State) (store : Store)
-          → st.steps_left ≤ n → 1 + node_weight nd + body + 4 ≤ rate → NodeFits program z.own info nd
+          → st.steps_left ≤ n → 1 + node_weight nd + body + 4 ≤ rate → NodeFits program z.own info
+          nd
           → HasAt linear site.body site.regions pc (node_code names nd (length temps) pc)
           → Kp program linear rate body same_globals roomy n ih names info z shapes context site
           base around st store → st.held ≡ site.held
@@ -60,7 +61,8 @@ module _ (program : Program) (linear : LinearProgram) (rate body : ℕ)
       node_runs (nodes.Increment m p before o amount after) pc temps st store steps light fits has
           kept held =
           increment_node program linear rate body same_globals roomy n ih names info z
-          shapes context site base around m p before o amount after pc temps st store steps light fits
+          shapes context site base around m p before o amount after pc temps st store steps light
+          fits
           has kept held
       node_runs (nodes.Unary o e) pc temps st store steps light fits has kept held = unary_runs
           program linear rate body same_globals roomy n ih names info z shapes context site base
@@ -76,10 +78,12 @@ module _ (program : Program) (linear : LinearProgram) (rate body : ℕ)
           linear rate body same_globals roomy n ih names info z shapes context site base around e pc
           temps st store steps light fits has kept held
       node_runs (nodes.And e f) pc temps st store steps light fits has kept held = and_runs program
-          linear rate body same_globals roomy n ih names info z shapes context site base around e f pc
+          linear rate body same_globals roomy n ih names info z shapes context site base around e f
+          pc
           temps st store steps light fits has kept held
       node_runs (nodes.Or e f) pc temps st store steps light fits has kept held = or_runs program
-          linear rate body same_globals roomy n ih names info z shapes context site base around e f pc
+          linear rate body same_globals roomy n ih names info z shapes context site base around e f
+          pc
           temps st store steps light fits has kept held
       node_runs (nodes.Conditional c e f) pc temps st store steps light fits has kept held =
           conditional_runs program linear rate body same_globals roomy n ih names info z shapes
@@ -92,7 +96,8 @@ module _ (program : Program) (linear : LinearProgram) (rate body : ℕ)
           site base around f es pc temps st store steps light fits has kept held
       node_runs (nodes.CallBuiltIn b es) pc temps st store steps light fits has kept held =
           built_in_node program linear rate body same_globals roomy n ih functions_at names
-          info z shapes context site base around b es pc temps st store steps light fits has kept held
+          info z shapes context site base around b es pc temps st store steps light fits has kept
+          held
       node_runs nodes.ExceptionCode pc temps st store steps light fits has kept held = code_node
           program linear rate body same_globals roomy n ih names info z shapes context site base
           around pc temps st store has kept held
@@ -192,7 +197,8 @@ module _ (program : Program) (linear : LinearProgram) (rate body : ℕ)
       pub raised_next : (exc : Exception) (resumption : Resumption) (pc : ℕ) (temps : List ℕ)
           (st : State) (store : Store) → st.steps_left ≤ suc n
           → regions_at linear site.body pc ≡ site.regions
-          → Kp program linear rate body same_globals roomy n ih names info z shapes context site base
+          → Kp program linear rate body same_globals roomy n ih names info z shapes context site
+          base
           around st store → st.held ≡ site.held
           → Claim linear rate (λ next. raise linear next exc resumption
           (conf context site pc temps st store)) st (price 0 0 1 rate)

@@ -158,10 +158,12 @@ module _ (program : Program) (linear : LinearProgram) (rate body : ℕ) where
           fits = p.fits;
           same = p.same;
           reaches = reaches_after linear rate s (at (conf context site pc [] st p.store))
-              (at (conf context site done [] st p.store)) from st st 0 0 x 1 0 0 2 0 (x + y) (omega arith)
+              (at (conf context site done [] st p.store)) from st st 0 0 x 1 0 0 2 0 (x + y)
+              (omega arith)
               (omega arith) p.reaches
               (stepped linear rate (conf context site pc [] st p.store)
-              (at (conf context site done [] st p.store)) st st 1 0 0 refl (omega arith) (omega arith)
+              (at (conf context site done [] st p.store)) st st 1 0 0 refl (omega arith)
+              (omega arith)
               refl (prefix_self linear rate st.events)
               (λ j. jump_turn linear rate context inside done pc [] st p.store j has));
         }
@@ -271,7 +273,8 @@ module _ (program : Program) (linear : LinearProgram) (rate body : ℕ) where
               store = p.store;
               fits = p.fits;
               reaches = reaches_more linear rate s
-                  (unwound linear rate context site (target_of p.handler exc.code st.held) p.temps st
+                  (unwound linear rate context site (target_of p.handler exc.code st.held) p.temps
+                  st
                   p.store p.pc) from st 0 0 x 2 0 (x + y) (omega arith) (omega arith)
                   (skip_region s from 0 0 x (target_of p.handler exc.code st.held) p.temps st
                   p.store p.pc (outward context site lo hi level p.handler exc.code st.held R

@@ -252,7 +252,8 @@ module _ (program : Program) (linear : LinearProgram) (rate body : ℕ)
           loop_end = tt;
           loop_next = tt;
         }) standing (
-          push_alike [] (first_memory program.globals) [] first_store new given locals alike nothing,
+          push_alike [] (first_memory program.globals) [] first_store new given locals alike
+              nothing,
           kept_itself (below_slot 0 (own_locals fn)) (new ∷ []) store',
         ) refl)
 
@@ -309,7 +310,8 @@ module _ (program : Program) (linear : LinearProgram) (rate body : ℕ)
           (
             d.shown.0 ++ p.0,
             sym (append_assoc st.events d.shown.0 p.0)
-                ∙ ap (λ l. l ++ p.0) (sym d.shown.1) ∙ sym p.1 ∙ sym (shown_events (exec linear b c0)),
+                ∙ ap (λ l. l ++ p.0) (sym d.shown.1) ∙ sym p.1 ∙ sym
+                (shown_events (exec linear b c0)),
           ),
           (λ c h. absurd (cc)),
         )

@@ -30,5 +30,6 @@ NoMore program linear steps_per_turn =
 -- the linear code of a program does what the program means, and nothing more
 abbrev pub LinkedFollows : Type 0
 LinkedFollows =
-    (program : Program) (linear : LinearProgram) (steps_per_turn body : ℕ) → IsLinked program linear steps_per_turn body
+    (program : Program) (linear : LinearProgram) (steps_per_turn body : ℕ) → IsLinked program linear
+    steps_per_turn body
     → Follows program linear × NoMore program linear steps_per_turn

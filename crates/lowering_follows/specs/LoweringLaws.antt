@@ -19,4 +19,5 @@ LoweredFollows = (program : Program) → IsSound program → Follows program (lo
 -- m turns have shown no more than m + 1 times the steps of a turn, and no run is stuck
 abbrev pub LoweredShowsNoMore : Type 0
 LoweredShowsNoMore =
-    (program : Program) → IsSound program → NoMore program (lowered program) (steps_per_turn_of program)
+    (program : Program) → IsSound program → NoMore program (lowered program)
+    (steps_per_turn_of program)

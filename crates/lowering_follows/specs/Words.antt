@@ -18,22 +18,27 @@ pub use Rattle.c_checked.specs.Sound.{count_up, are_sizes, funclets, function_so
 pub use Rattle.c_checked.specs.Statement.{Statement, Statements, Empty, Then, Declared, Filter, Declare, Block, Evaluate, If, IfElse, For, DoWhile, Return, Break, Continue, Leave, TryExcept, TryFinally, Always, Funclet}
 pub use Rattle.c_checked.specs.declared.expression.Conversion.{Conversion}
 pub use Rattle.c_checked.specs.declared.expression.Conversion.TheVariants.{Kept, Extend, Scale}
-pub use Rattle.source_meaning.specs.Expressions.{no_exception, of_test, all, enter, converted, operate, read, write, ended_call, field_of, locate}
+pub use Rattle.source_meaning.specs.Expressions.{no_exception, of_test, all, enter, converted, operate, read, write, field_of, locate}
+unfoldable pub use Rattle.source_meaning.specs.Expressions.{ended_call}
 pub use Rattle.source_meaning.specs.Meaning.{within, perform}
 pub use Rattle.source_meaning.specs.Raises.{raise_event}
 pub use Rattle.source_meaning.specs.Source.{is_reserved}
-pub use Rattle.source_meaning.specs.State.{State, Outcome, with_value, Value, Normal, Returned, Broke, Continued, LeftTry, Target, End, Gives, emit, hold, let_go, and_then, Exception, choose, set_memory}
-pub use Rattle.source_meaning.specs.Statements.{optional, in_loop, landing, finally_after}
+pub use Rattle.source_meaning.specs.State.{State, Outcome, Value, Normal, Returned, Broke, Continued, LeftTry, Target, End, Gives, emit, hold, let_go, Exception, set_memory}
+unfoldable pub use Rattle.source_meaning.specs.State.{with_value, and_then, choose}
+pub use Rattle.source_meaning.specs.Statements.{optional}
+unfoldable pub use Rattle.source_meaning.specs.Statements.{in_loop, landing, finally_after}
 pub use Rattle.source_meaning.specs.Tasks.{Context, Eval, Run, ForIteration, DoIteration, TryBody, RunFinally, Handler, Raise, Locate, Retry, RunFilter}
 pub use Rattle.linear_code.specs.Program.{LinearProgram, LinearFunction, LinearFunclet}
 pub use Rattle.linear_code.specs.declared.instruction.Instruction.{Instruction}
 pub use Rattle.linear_code.specs.declared.instruction.Instruction.TheVariants.{Compute, Separator, JumpIfZero, CallFinally, Information, Jump, Landing}
 pub use Rattle.linear_code.specs.declared.program.Region.{Region}
 pub use Rattle.linear_code.specs.declared.slot.Slot.TheVariants.{Temporary}
-pub use Rattle.linear_machine.specs.Frames.{deeper, BodyName, FuncletBody, body_of, Item, Store, Configuration, Seen, Next, pick, Finished, with_some, set_local, local_of, Waits, with_temporary, FunctionBody, Resumption}
+pub use Rattle.linear_machine.specs.Frames.{deeper, BodyName, FuncletBody, body_of, Item, Store, Configuration, Seen, Next, Finished, set_local, local_of, Waits, with_temporary, FunctionBody, Resumption}
+unfoldable pub use Rattle.linear_machine.specs.Frames.{pick, with_some}
 pub use Rattle.linear_machine.specs.Instructions.{end_finally, end_body, end_funclet, count_of, begin_function, is_constant, computed}
 pub use Rattle.linear_machine.specs.Regions.{holds, handlers_in, handlers, regions_at}
-pub use Rattle.linear_machine.specs.Run.{exec, instruction_in}
+pub use Rattle.linear_machine.specs.Run.{instruction_in}
+unfoldable pub use Rattle.linear_machine.specs.Run.{exec}
 pub use Rattle.linear_machine.specs.Searching.{begin_filter, raise, target_of, resumed, answered}
 pub use Rattle.linear_machine.specs.Unwinding.{begin_finally, unwind_body, target_past, unwind}
 pub use Rattle.lowering_sizes.specs.Sizes.{expression_size, statement_size, statements_size, statement_notes, statements_notes, discarded_size, declared_size, all_declared_size, returned_size, condition_size, arguments_size, address_count, read_size, conversion_size, locate_size, node_size, unary_size}

@@ -207,7 +207,8 @@ module _ (P : Instruction → Type 0) (holds : HoldsOfOperations P) where
               (
                 holds.of_jump (second + expression_size g + 4),
                 append code (choice_code d (second + expression_size g) 0 1)
-                    (expression_every g d second f.1) (choice_every d (second + expression_size g) 0 1),
+                    (expression_every g d second f.1) (choice_every d (second + expression_size g) 0
+                    1),
               ),
             ),
           )

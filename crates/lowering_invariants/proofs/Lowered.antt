@@ -48,7 +48,8 @@ module _ (program : Program) where
       let code = statements_code (scope_of fn) fn.body 0 in
       let ends = constant 0 0 ∷ instructions.Return (Temporary 0) ∷ [] in
       let x = all_are_at program linear callee (own_locals fn) fn.body (FunctionBody number) body
-      (ap function_body there) (inside_function program fn) (knows_function program fn) (scope_of fn) owner
+      (ap function_body there) (inside_function program fn) (knows_function program fn)
+      (scope_of fn) owner
       (record { parent = refl; function = refl }) 0 j
       (both_left _ _ (both_left _ _ ok)) (front body.code 0 code ends (whole_is_at body.code)) f
       c in

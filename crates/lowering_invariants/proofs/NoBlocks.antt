@@ -70,7 +70,8 @@ module _ (names : Names) where
       append (expression_code names e d at) (code ++ rest) p (append code rest q h)
 
   mutual
-    pub expression_no_blocks : (e : Expression) (d at : ℕ) → RunNoBlocks (expression_code names e d at)
+    pub expression_no_blocks : (e : Expression) (d at : ℕ) → RunNoBlocks
+        (expression_code names e d at)
     expression_no_blocks (On node c) d at = append (node_code names node d at) (conversion_code c d)
         (node_no_blocks node d at) (conversion_no_blocks c d)
 
@@ -78,7 +79,8 @@ module _ (names : Names) where
     locate_no_blocks (nodes.Local x) d at = tt
     locate_no_blocks (Global access a) d at = (refl, tt)
     locate_no_blocks (Indirection access e) d at = expression_no_blocks e d at
-    locate_no_blocks (Element access e i) d at = operands e i d at (_ ∷ []) (expression_no_blocks e d at)
+    locate_no_blocks (Element access e i) d at = operands e i d at (_ ∷ [])
+        (expression_no_blocks e d at)
         (expression_no_blocks i (d + 1) (at + expression_size e)) (refl, tt)
 
     arguments_no_blocks : (es : Arguments) (d at : ℕ) → RunNoBlocks (arguments_code names es d at)
@@ -132,7 +134,8 @@ module _ (names : Names) where
     node_no_blocks (nodes.Unary o e) d at = append (expression_code names e d at) (unary_code o d)
         (expression_no_blocks e d at) (unary_no_blocks o d)
     node_no_blocks (nodes.Binary o e g) d at = operands e g d at (combine d o ∷ [])
-        (expression_no_blocks e d at) (expression_no_blocks g (d + 1) (at + expression_size e)) (refl, tt)
+        (expression_no_blocks e d at) (expression_no_blocks g (d + 1) (at + expression_size e))
+        (refl, tt)
     node_no_blocks (nodes.PointerDifference v e g) d at =
         operands e g d at (combine d (operations.Pure (pures.Subtract Long)) ∷ constant (d + 1) v
         ∷ combine d (operations.Divide Signed Long) ∷ [])
@@ -148,7 +151,8 @@ module _ (names : Names) where
         (_ ∷ (code ++ choice_code d (second + expression_size g) 0 1)) (expression_no_blocks e d at) (
           refl,
           append code (choice_code d (second + expression_size g) 0 1)
-              (expression_no_blocks g d second) (choice_no_blocks d (second + expression_size g) 0 1),
+              (expression_no_blocks g d second) (choice_no_blocks d (second + expression_size g) 0
+              1),
         )
     node_no_blocks (nodes.Or e g) d at =
         let second = at + expression_size e + 3 in
@@ -162,7 +166,8 @@ module _ (names : Names) where
             (
               refl,
               append code (choice_code d (second + expression_size g) 0 1)
-                  (expression_no_blocks g d second) (choice_no_blocks d (second + expression_size g) 0 1),
+                  (expression_no_blocks g d second) (choice_no_blocks d (second + expression_size g)
+                  0 1),
             ),
           ),
         )

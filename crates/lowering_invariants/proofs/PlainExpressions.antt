@@ -267,7 +267,8 @@ module _ (most n : ℕ) where
                 ),
           ))
       node_good (nodes.Unary o e) d at f le r = append (expression_code names e d at)
-          (unary_code o d) (expression_good e d at f.0 (omega arith) r) (unary_good o d (omega arith))
+          (unary_code o d) (expression_good e d at f.0 (omega arith) r)
+          (unary_good o d (omega arith))
       node_good (nodes.Binary o e g) d at f le r = operands_good e g d at (combine d o ∷ [])
           (expression_good e d at f.0 (omega arith) (omega arith))
           (expression_good g (d + 1) (at + expression_size e) f.1 (omega arith) (omega arith))

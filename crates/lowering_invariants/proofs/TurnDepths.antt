@@ -37,12 +37,14 @@ next_in (Some b) label i e = let s : label + 1 ≡ suc label = omega arith in ap
     ∙ depth_next b.code 0 label i e
 
 leads_in : (o : Option LinearBody) (label : ℕ) (i : Instruction)
-    → ((b : LinearBody) → o ≡ Some b → BodyLeads b) → instruction_in o label ≡ Some i → Leads (depth_in o) (depth_in o label) i
+    → ((b : LinearBody) → o ≡ Some b → BodyLeads b) → instruction_in o label ≡ Some i → Leads
+    (depth_in o) (depth_in o label) i
 leads_in None label i h e = absurd (cc)
 leads_in (Some b) label i h e = leads_at (depth_at b.code) b.code 0 label i e (h b refl)
 
 -- the temporaries after one is written
-written_length : (ts : List ℕ) (i v : ℕ) (us : List ℕ) → with_temporary ts i v ≡ Some us → length us ≡ i + 1
+written_length : (ts : List ℕ) (i v : ℕ) (us : List ℕ) → with_temporary ts i v ≡ Some us → length us
+    ≡ i + 1
 written_length ts i v us e =
     let le = leb-true i (length ts) (chosen (nat_le i (length ts)) _ us e) in
     ap length (sym (it (nat_le i (length ts)) (take i ts ++ v ∷ []) us e))
@@ -63,11 +65,13 @@ module _ (program : LinearProgram) (whole : IsWhole program)
   abbrev Deep : List Item → Type 0
   Deep items = AreDeep program items
 
-  next_depth : (name : BodyName) (label : ℕ) (i : Instruction) → instruction_in (body_of program name) label ≡ Some i
+  next_depth : (name : BodyName) (label : ℕ) (i : Instruction) → instruction_in
+      (body_of program name) label ≡ Some i
       → depth program name (label + 1) ≡ after i (depth program name label)
   next_depth name label i e = next_in (body_of program name) label i e
 
-  leads_to : (name : BodyName) (label : ℕ) (i : Instruction) → instruction_in (body_of program name) label ≡ Some i
+  leads_to : (name : BodyName) (label : ℕ) (i : Instruction) → instruction_in (body_of program name)
+      label ≡ Some i
       → Leads (depth program name) (depth program name label) i
   leads_to name label i e = leads_in (body_of program name) label i (leads name) e
 
@@ -131,7 +135,8 @@ module _ (program : LinearProgram) (whole : IsWhole program)
       (body_turn t out rs c p w o))
 
   unwind_turn : (t : Target) (items : List Item) (left : Option (List Region)) (es : List Event)
-      (store : Store) → IsTarget program t items → Deep items → Turn Ok (λ next. unwind program next t items left es store)
+      (store : Store) → IsTarget program t items → Deep items → Turn Ok
+      (λ next. unwind program next t items left es store)
   unwind_turn t [] left es store p w = absurd p
   unwind_turn t (Waits f ∷ below) left es store p w =
       body_turn t (λ next store. unwind program next (target_past f.body t) below None es store)
@@ -164,7 +169,8 @@ module _ (program : LinearProgram) (whole : IsWhole program)
       (λ next. refl))
 
   search_turn : (found : List Handler) (exception : Exception) (resumption : Resumption)
-      (c : Configuration) → AreHandlers program found (Waits c.frame ∷ c.below) → Deep (Waits c.frame ∷ c.below) → Turn Ok
+      (c : Configuration) → AreHandlers program found (Waits c.frame ∷ c.below) → Deep
+      (Waits c.frame ∷ c.below) → Turn Ok
       (λ next. search program next found exception resumption c)
   search_turn [] exception resumption c p w = Halts
       (Finished (ends.Unhandled (record { 0 = exception.code })) c.events) (λ next. refl)
@@ -244,7 +250,8 @@ module _ (program : LinearProgram) (whole : IsWhole program)
       (λ e. resumed_turn resumption c s.1 s.2 w)))
 
   return_turn : (k v : ℕ) (items : List Item) (es : List Event) (store : Store)
-      → IsCalledBy program k items → Items items → Deep items → Turn Ok (λ next. return next v items es store)
+      → IsCalledBy program k items → Items items → Deep items → Turn Ok
+      (λ next. return next v items es store)
   return_turn k v [] es store a s w = Halts (Finished (ends.Exit (signed W32 v)) es) (λ next. refl)
   return_turn k v (Waits f ∷ below) es store a s w = Moves _
       (record { held = called_back f below k a.0 a.1 v s a.2; below = w.1 }) (λ next. refl)
@@ -298,7 +305,8 @@ module _ (program : LinearProgram) (whole : IsWhole program)
 
     -- to a place of the same body
     to_turn : (d : Configuration) → d.frame.body ≡ c.frame.body → d.below ≡ c.below
-        → length d.frame.temporaries ≡ depth program c.frame.body d.frame.next → Turn Ok (λ next. next d)
+        → length d.frame.temporaries ≡ depth program c.frame.body d.frame.next → Turn Ok
+        (λ next. next d)
     to_turn d b w n = Moves d (record {
       held = n ∙ ap (λ name. depth program name d.frame.next) (sym b);
       below = subst Deep (sym w) h.below;
@@ -345,10 +353,12 @@ module _ (program : LinearProgram) (whole : IsWhole program)
 
     -- this body as one that waits
     deep : (i : Instruction) → instruction_at program c ≡ Some i → (ts : List ℕ)
-        → length ts + taken (Some i) ≡ length c.frame.temporaries → Deep (Waits (with_last ts c).frame ∷ c.below)
+        → length ts + taken (Some i) ≡ length c.frame.temporaries → Deep
+        (Waits (with_last ts c).frame ∷ c.below)
     deep i at ts n = (ap (λ k. length ts + k) (ap taken at) ∙ n ∙ h.held, h.below)
 
-    plain_deep : (i : Instruction) → instruction_at program c ≡ Some i → taken (Some i) ≡ 0 → Deep (Waits c.frame ∷ c.below)
+    plain_deep : (i : Instruction) → instruction_at program c ≡ Some i → taken (Some i) ≡ 0 → Deep
+        (Waits c.frame ∷ c.below)
     plain_deep i at n = deep i at c.frame.temporaries (omega arith)
 
     computed_turn : (to : Slot) (o : Operation) (first second : Slot) (r : OperationResult)
@@ -356,7 +366,8 @@ module _ (program : LinearProgram) (whole : IsWhole program)
         → Turn Ok (λ next. computed program next to c r)
     computed_turn to o first second (Gives v memory) at = written_turn
         (instructions.Compute to o first second) at
-        (record c { store = record c.store { memory = memory } }) to v (λ x. refl) refl refl refl refl
+        (record c { store = record c.store { memory = memory } }) to v (λ x. refl) refl refl refl
+        refl
     computed_turn to o first second (Raises code access) at =
         let i = instructions.Compute to o first second in
         raise_turn (record { code = code.0; flag = false; access = access }) SameOperation c
@@ -367,7 +378,8 @@ module _ (program : LinearProgram) (whole : IsWhole program)
     -- a built-in function is called with these temporaries before its arguments
     built_in_turn : (k : BuiltIn) (first : ℕ) (vs ts : List ℕ)
         → instruction_at program c ≡ Some (instructions.CallBuiltIn k first) → length ts ≡ first
-        → length ts + count_of k ≡ length c.frame.temporaries → Turn Ok (λ next. built_in program next k vs (with_last ts c))
+        → length ts + count_of k ≡ length c.frame.temporaries → Turn Ok
+        (λ next. built_in program next k vs (with_last ts c))
     built_in_turn Put first vs ts at n m = to_turn _ refl refl
         (with_result (with_last ts c).frame (instructions.CallBuiltIn Put first) first 0 at
         (λ x. refl) n)
@@ -380,7 +392,8 @@ module _ (program : LinearProgram) (whole : IsWhole program)
         (waits program whole.bodies c s i at refl ts n) (deep i at ts m)
 
     tested_turn : (slot : Slot) (label v : ℕ)
-        → instruction_at program c ≡ Some (instructions.JumpIfZero slot label) → read c slot ≡ Some v
+        → instruction_at program c ≡ Some (instructions.JumpIfZero slot label) → read c slot ≡ Some
+        v
         → Turn Ok (λ next. pick (nat_eq v 0) (next (at_label label (tested slot c)))
         (next (forth (tested slot c))))
     tested_turn (Local x) label v at r =
@@ -403,7 +416,8 @@ module _ (program : LinearProgram) (whole : IsWhole program)
     before first count vs e = let a = stacked.taken first count c.frame.temporaries vs e in
         let b = last_are c.frame.temporaries first count vs e in omega arith
 
-    act_turn : (i : Instruction) → instruction_at program c ≡ Some i → Turn Ok (λ next. act program i next c)
+    act_turn : (i : Instruction) → instruction_at program c ≡ Some i → Turn Ok
+        (λ next. act program i next c)
     act_turn (instructions.Compute to o first second) at =
         some_turn Ok c.events (operand (is_constant o) c first) _ (λ a e.
         some_turn Ok c.events (operand (is_constant o) c second) _

@@ -99,7 +99,8 @@ module _ (program : Program) (linear : LinearProgram)
           → All (all_declared_code names ds at)
       all_declared_calls [] at ok = tt
       all_declared_calls (d ∷ ds) at ok = and (declared_code names d at)
-          (all_declared_code names ds (at + declared_size d)) (declared_calls d at (both_left _ _ ok))
+          (all_declared_code names ds (at + declared_size d))
+          (declared_calls d at (both_left _ _ ok))
           (all_declared_calls ds (at + declared_size d) (both_right _ _ ok))
 
     returned_calls : (name : BodyName) (i : Inside) (knows : Knows program own false i.scope)
@@ -179,7 +180,8 @@ module _ (program : Program) (linear : LinearProgram)
                 regions = tt;
                 code = append program linear callee (FuncletBody j)
                     (expression_code (filter_names names) e 0 0) (_ ∷ [])
-                    (expression_calls program linear callee (FuncletBody j) own true (filter_names names)
+                    (expression_calls program linear callee (FuncletBody j) own true
+                    (filter_names names)
                     e 0 0 fits) (tt, tt);
               }))),
         )
@@ -258,7 +260,8 @@ module _ (program : Program) (linear : LinearProgram)
             regions = all_append (IsRegionOf linear name) (statement_regions s then)
                 (statement_regions u otherwise) x.regions y.regions;
             funclets = part_of Fine j (j + length fy + length fn) j _ (omega arith) (omega arith)
-                (both_parts Fine j (j + length fy) (j + length fy + length fn) x.funclets y.funclets);
+                (both_parts Fine j (j + length fy) (j + length fy + length fn) x.funclets
+                y.funclets);
           }
       is_there (For ds first' t next s) name b there i k scope owner o at j ok h f n =
           let names = scope.names in
@@ -375,7 +378,8 @@ module _ (program : Program) (linear : LinearProgram)
             calls = append program linear callee name guarded (landed end names.free ++ handles)
                 x.calls (tt, (tt, z.calls));
             regions = all_append (IsRegionOf linear name) (statements_regions body at)
-                (region at target (except_kind filter target) ∷ statements_regions block (target + 1))
+                (region at target (except_kind filter target) ∷ statements_regions block
+                (target + 1))
                 x.regions (record { begins = omega arith; kind = y.0 }, z.regions);
             funclets = part_of Fine j last j _ (omega arith) (omega arith)
                 (both_parts Fine j (j + length fb) last x.funclets
@@ -470,5 +474,6 @@ module _ (program : Program) (linear : LinearProgram)
             regions = all_append (IsRegionOf linear name) (statement_regions s at)
                 (statements_regions ss next) x.regions y.regions;
             funclets = part_of Fine j (j + length fs + length fm) j _ (omega arith) (omega arith)
-                (both_parts Fine j (j + length fs) (j + length fs + length fm) x.funclets y.funclets);
+                (both_parts Fine j (j + length fs) (j + length fs + length fm) x.funclets
+                y.funclets);
           }

@@ -32,10 +32,12 @@ pub use Rattle.linear_code.specs.declared.program.Region.{Region}
 pub use Rattle.linear_code.specs.declared.program.RegionKind.{RegionKind}
 pub use Rattle.linear_code.specs.declared.slot.Slot.{Slot}
 pub use Rattle.linear_code.specs.declared.slot.Slot.TheVariants.{Local, Temporary}
-pub use Rattle.linear_machine.specs.Frames.{BodyName, FunctionBody, FuncletBody, function_body, funclet_body, body_of, Unwinds, Next, Store, Configuration, Seen, Running, Finished, Stuck, pick, with_some, read, write, with_temporary, with_temporaries, last_temporaries, at_label, forth, Frame, Handler, Target, Resumption, AfterCall, SameOperation, Item, Waits, Searches, set_local, with_last}
+pub use Rattle.linear_machine.specs.Frames.{BodyName, FunctionBody, FuncletBody, function_body, funclet_body, body_of, Unwinds, Next, Store, Configuration, Seen, Running, Finished, Stuck, read, write, with_temporary, with_temporaries, last_temporaries, at_label, forth, Frame, Handler, Target, Resumption, AfterCall, SameOperation, Item, Waits, Searches, set_local, with_last}
+unfoldable pub use Rattle.linear_machine.specs.Frames.{pick, with_some}
 pub use Rattle.linear_machine.specs.Instructions.{count_of, is_constant, operand, written, computed, tested, waiting, built_in, end_body, not_landed, act, return, end_finally, end_funclet}
 pub use Rattle.linear_machine.specs.Regions.{holds, regions_at, regions_left, handlers, stops}
-pub use Rattle.linear_machine.specs.Run.{instruction_at, exec, start, main_arguments, instruction_in}
+pub use Rattle.linear_machine.specs.Run.{instruction_at, start, main_arguments, instruction_in}
+unfoldable pub use Rattle.linear_machine.specs.Run.{exec}
 pub use Rattle.linear_machine.specs.Searching.{target_of, accept, consult, search, raise, resumed, answer}
 pub use Rattle.linear_machine.specs.Unwinding.{flag_of, run_finally, arrive, target_past, left_store, leave_region, unwind_body, unwind}
 pub use Rattle.lowering_sizes.specs.Sizes.{statements_notes, address_count, locate_size, read_size, conversion_size, expression_size, statements_size}

@@ -26,7 +26,8 @@ abbrev pub FlagIn : SeenNames → Option ℕ → Type 0
 FlagIn seen None = Unit {0}
 FlagIn seen (Some x) = seen x ≡ true
 
--- what is recorded around an expression: the locals that are seen and what its names are kept in, all
+-- what is recorded around an expression: the locals that are seen and what its names are kept in,
+-- all
 -- of them locals of the body
 pub record IsAround (locals : ℕ) (names : Names) (before seen : SeenNames) : Type 0 where
   pub part : IsPart before seen
@@ -222,7 +223,8 @@ module _ (locals : ℕ) (names : Names) (before seen : SeenNames)
         (expression_fine t d at (both_left _ _ (both_left _ _ w)) a (omega arith)) (
           (tt, (omega arith, omega arith)),
           append (expression_code names e d yes) (_ ∷ expression_code names g d no)
-              (expression_fine e d yes (both_right _ _ (both_left _ _ w)) (omega arith) (omega arith)) (
+              (expression_fine e d yes (both_right _ _ (both_left _ _ w)) (omega arith)
+              (omega arith)) (
                 (omega arith, omega arith),
                 expression_fine g d no (both_right _ _ w) (omega arith)
                     (omega arith),

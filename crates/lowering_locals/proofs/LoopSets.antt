@@ -121,7 +121,8 @@ module _ (linear : LinearProgram) (lists : BodyName → List SeenNames) (name : 
             (last.inside again (omega arith) (omega arith)) recorded_next,
         both_lead linear sets name (again + 1) step (discarded_code names next (again + 1))
             (Jump iteration ∷ []) (omega arith)
-            (discarded_leads linear lists name locals room names outer inner a next (again + 1) w_next
+            (discarded_leads linear lists name locals room names outer inner a next (again + 1)
+            w_next
             even_next) (
               from_here linear lists name step iteration inner
                   (last.inside step (omega arith) (omega arith)) recorded_iteration,
@@ -234,10 +235,13 @@ module _ (linear : LinearProgram) (lists : BodyName → List SeenNames) (name : 
             (omega arith) x (
               from_here linear lists name again (again + 1) seen here_again
                   (recorded_at (again + 1) (omega arith) (omega arith)),
-              both_lead linear sets name (again + 1) test (expression_code scope.names c 0 (again + 1))
-                  (repeated out at) (omega arith) (value_leads linear lists name locals room scope.names
+              both_lead linear sets name (again + 1) test (expression_code scope.names c 0
+                  (again + 1))
+                  (repeated out at) (omega arith) (value_leads linear lists name locals room
+                  scope.names
                   before seen around c (again + 1) w even_test) (
-                    test_leads linear lists name locals room scope.names before seen around test out 0
+                    test_leads linear lists name locals room scope.names before seen around test out
+                        0
                         (last.inside test (omega arith) (omega arith)) leaves
                         (recorded_at (test + 1) (omega arith) (omega arith)),
                     (

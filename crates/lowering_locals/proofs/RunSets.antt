@@ -191,7 +191,8 @@ module _ (program : LinearProgram) where
         below n h le keeps w
 
     next_recorded : (marks : Marks) (i : Instruction) (c d : Configuration)
-        → HasActivations program d → AreActivationsAlike marks c.store.activations c.store.activations
+        → HasActivations program d → AreActivationsAlike marks c.store.activations
+        c.store.activations
         → AreActivationsAlike (next_marks program i c d marks) d.store.activations
         d.store.activations → IsStep program sets marks i c d
         → IsRecorded program sets (next_marks program i c d marks) d

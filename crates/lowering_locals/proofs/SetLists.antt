@@ -261,7 +261,8 @@ declared_above : (d : Declared) (base seen : SeenNames) → IsPart base seen
 declared_above d base seen p = (
   p,
   replicate_above (initialiser_size d.value) base
-      (after_declared seen d) (within base seen (after_declared seen d) p (sees_before seen d.local)),
+      (after_declared seen d) (within base seen (after_declared seen d) p
+      (sees_before seen d.local)),
 )
 
 all_declared_above : (ds : List Declared) (base seen : SeenNames) → IsPart base seen

@@ -155,10 +155,12 @@ module _ (linear : LinearProgram) (lists : BodyName → List SeenNames) (name : 
     AllOk lo hi code = AllFine locals lo hi seen code
 
     used_fine : (e : Expression) (lo hi at : ℕ) (rest : List Instruction)
-        → expression_within before e ≡ true → lo ≤ at → at + expression_size e ≤ hi → AllOk lo hi rest
+        → expression_within before e ≡ true → lo ≤ at → at + expression_size e ≤ hi → AllOk lo hi
+        rest
         → AllOk lo hi (expression_code names e 0 at ++ rest)
     used_fine e lo hi at rest w a b h = all_append (Fine locals lo hi seen)
-        (expression_code names e 0 at) rest (expression_fine locals names before seen around lo hi e 0
+        (expression_code names e 0 at) rest (expression_fine locals names before seen around lo hi e
+        0
         at w a b) h
 
     even_leads : (lo hi at : ℕ) (code : List Instruction) → Even (sets name) seen lo hi → lo ≤ at
@@ -258,7 +260,8 @@ module _ (linear : LinearProgram) (lists : BodyName → List SeenNames) (name : 
           ),
           initialiser_leads locals room names (after_declared before d) (after_declared seen d)
               (around_declared locals names before seen x lt a) x d.value (at + 1) lt w
-              (even_list (lists name) (after_declared seen d) n (at + 1) (at + 1 + n) refl h.1 end'),
+              (even_list (lists name) (after_declared seen d) n (at + 1) (at + 1 + n) refl h.1
+              end'),
         )
 
     pub all_declared_leads : (ds : List Declared) (before seen : SeenNames) (at to : ℕ)

@@ -74,7 +74,8 @@ module _ (linear : LinearProgram) (lists : BodyName → List SeenNames) (name : 
         leaves = leaves;
         leads = λ x z. both_lead linear sets name at skip
             (statements_code (in_try out scope) body at)
-            (landed out free ++ statements_code (in_except scope) block (target + 1)) (omega arith) x (
+            (landed out free ++ statements_code (in_except scope) block (target + 1)) (omega arith)
+            x (
               from_here linear lists name skip out seen here_skip leaves,
               (
                 (

@@ -49,7 +49,8 @@ module _ (program : LinearProgram) (sets : BodyName → ℕ → SeenLocals)
     }) (λ next. refl)
 
     -- what the instruction says that a body waits in
-    pub leads : (f : Frame) (i : Instruction) → IsAt program f i → Leads program sets f.body f.next i
+    pub leads : (f : Frame) (i : Instruction) → IsAt program f i → Leads program sets f.body f.next
+        i
     leads f i at = of (body_of program f.body) refl at
       where
         of : (o : Option LinearBody) → body_of program f.body ≡ o → instruction_in o f.next ≡ Some i
@@ -127,10 +128,12 @@ module _ (program : LinearProgram) (sets : BodyName → ℕ → SeenLocals)
         c)
         (λ e. arrive_turn t.code t c (reached program sets recorded t c.frame c.below p
         (eqb-true t.depth (length c.below) (both_left _ _ e))) k w)
-        (λ e. leave_turn x.kind t rs (λ next. unwind_body program next t (out next) rs c) c r.0 r.1 p
+        (λ e. leave_turn x.kind t rs (λ next. unwind_body program next t (out next) rs c) c r.0 r.1
+        p
         k w s (body_turn t out rs c r.1 p k w s o))
 
-    pub unwind_turn : (t : Target) (items : List Item) (left : Option (List Region)) (es : List Event)
+    pub unwind_turn : (t : Target) (items : List Item) (left : Option (List Region))
+        (es : List Event)
         (store : Store) → Left program sets recorded left items → IsTarget program sets t items
         → Kept items → Covered items → Since es
         → Turn Ok (λ next. unwind program next t items left es store)
@@ -154,7 +157,8 @@ module _ (program : LinearProgram) (sets : BodyName → ℕ → SeenLocals)
         → Covered (Waits c.frame ∷ c.below) → Since c.events
         → Turn Ok (λ next. accept program h exception next c)
     accept_turn h exception c p k w s =
-        unwind_turn (target_of h exception.code c.frame.held) (Waits c.frame ∷ c.below) None c.events
+        unwind_turn (target_of h exception.code c.frame.held) (Waits c.frame ∷ c.below) None
+        c.events
         c.store tt (aimed program sets recorded h exception.code c.frame.held
         (Waits c.frame ∷ c.below) p) k w s
 
@@ -173,7 +177,8 @@ module _ (program : LinearProgram) (sets : BodyName → ℕ → SeenLocals)
         }) (λ next. refl))
 
     search_turn : (found : List Handler) (exception : Exception) (resumption : Resumption)
-        (c : Configuration) → AreHandlers program sets found (Waits c.frame ∷ c.below) → Kept c.below
+        (c : Configuration) → AreHandlers program sets found (Waits c.frame ∷ c.below) → Kept
+        c.below
         → Covered (Waits c.frame ∷ c.below) → Since c.events
         → Turn Ok (λ next. search program next found exception resumption c)
     search_turn [] exception resumption c p k w s = Halts
@@ -219,9 +224,11 @@ module _ (program : LinearProgram) (sets : BodyName → ℕ → SeenLocals)
           events = es ++ e ∷ [];
         } in
         let s' = adds_one begin.events es e s refl in
-        pick_turn Ok (nat_eq (low W32 v) 0) (λ next. search program next rest exception resumption c)
+        pick_turn Ok (nat_eq (low W32 v) 0) (λ next. search program next rest exception resumption
+        c)
         _ (λ e. search_turn rest exception resumption c k.0.1 k.1 w s')
-        (λ e. pick_turn Ok (nat_lt (low W32 v) (2 ^ 31)) (λ next. accept program h exception next c) _
+        (λ e. pick_turn Ok (nat_lt (low W32 v) (2 ^ 31)) (λ next. accept program h exception next c)
+        _
         (λ e. accept_turn h exception c k.0.0 k.1 w s')
         (λ e. pick_turn Ok exception.flag (λ next. raise program next noncontinuable resumption c)
         (λ next. next (resumed resumption c)) (λ e. raise_turn noncontinuable resumption c k.1 w s')
@@ -230,7 +237,8 @@ module _ (program : LinearProgram) (sets : BodyName → ℕ → SeenLocals)
     return_turn : (k v : ℕ) (items : List Item) (es : List Event) (store : Store)
         → IsCalledBy program k items → Kept items → Covered items
         → Turn Ok (λ next. return next v items es store)
-    return_turn k v [] es store a h w = Halts (Finished (ends.Exit (signed W32 v)) es) (λ next. refl)
+    return_turn k v [] es store a h w = Halts (Finished (ends.Exit (signed W32 v)) es)
+        (λ next. refl)
     return_turn k v (Waits f ∷ below) es store a h w = to_turn _ f w.0 refl
         (leads f (instructions.Call k a.0 a.1) a.2) h w.1
     return_turn k v (Searches exception resumption i rest ∷ below) es store a h w = Halts (Stuck es)
@@ -250,13 +258,16 @@ module _ (program : LinearProgram) (sets : BodyName → ℕ → SeenLocals)
     finally_turn k own activation (Unwinds rest t ∷ Searches exception resumption i s' ∷ below) es
         store a h w s =
         Halts (Stuck es) (λ next. refl)
-    finally_turn k own activation (Unwinds rest t ∷ Unwinds s' older ∷ below) es store a h w s = Halts
+    finally_turn k own activation (Unwinds rest t ∷ Unwinds s' older ∷ below) es store a h w s =
+        Halts
         (Stuck es) (λ next. refl)
-    finally_turn k own activation (Unwinds rest t ∷ Waits f ∷ below) es store a h w s = unwind_turn t
+    finally_turn k own activation (Unwinds rest t ∷ Waits f ∷ below) es store a h w s = unwind_turn
+        t
         (Waits f ∷ below) (Some rest) es store h.0 h.1 h.2 w s
 
     funclet_turn : (kind : FuncletKind) (k v : ℕ) (c : Configuration)
-        → IsRunFor program k c.frame.exception c.frame.activation c.below → AreWaiting program c.below
+        → IsRunFor program k c.frame.exception c.frame.activation c.below → AreWaiting program
+        c.below
         → Kept c.below → Covered c.below → Since c.events
         → Turn Ok (λ next. end_funclet program next kind v c)
     funclet_turn funclets.Filter k v c a i h w s = answer_turn v c.below c.events c.store i h w s

@@ -40,7 +40,8 @@ module _ (program : LinearProgram) where
 
 abbrev pub AgreementContinues : Type 0
 AgreementContinues =
-    (program : LinearProgram) → ReadsNoUnset program → (c d : Configuration) → AgreeOnSet program c d
+    (program : LinearProgram) → ReadsNoUnset program → (c d : Configuration) → AgreeOnSet program c
+    d
     → (i : Instruction) → instruction_at program d ≡ Some i → StepsAgree program i c d
 
 -- a call that isn't too deep, and any numbers in the locals after its arguments

@@ -23,7 +23,8 @@ pub use Rattle.linear_code.specs.declared.program.Region.{Region}
 pub use Rattle.linear_code.specs.declared.program.RegionKind.{RegionKind}
 pub use Rattle.linear_code.specs.declared.slot.Slot.{Slot}
 pub use Rattle.linear_code.specs.declared.slot.Slot.TheVariants.{Local, Temporary}
-pub use Rattle.linear_machine.specs.Frames.{BodyName, FunctionBody, SameOperation, AfterCall, Waits, Configuration, Finished, pick, read, with_temporary, with_temporaries, last_temporaries, set_local, at_label, forth, with_last, Frame, Seen, Next, with_some, deeper, body_of, Unwinds, FuncletBody, Handler, Target, Item, Searches, funclet_body, Store, Stuck, Resumption}
+pub use Rattle.linear_machine.specs.Frames.{BodyName, FunctionBody, SameOperation, AfterCall, Waits, Configuration, Finished, read, with_temporary, with_temporaries, last_temporaries, set_local, at_label, forth, with_last, Frame, Seen, Next, deeper, body_of, Unwinds, FuncletBody, Handler, Target, Item, Searches, funclet_body, Store, Stuck, Resumption}
+unfoldable pub use Rattle.linear_machine.specs.Frames.{pick, with_some}
 pub use Rattle.linear_machine.specs.Instructions.{is_constant, operand, written, computed, tested, count_of, built_in, not_landed, act, begin_function, waiting, end_body, return, end_finally, end_funclet}
 pub use Rattle.linear_machine.specs.Regions.{holds, regions_at, regions_left, handlers, stops}
 pub use Rattle.linear_machine.specs.Run.{instruction_at, instruction_in, start, main_arguments}

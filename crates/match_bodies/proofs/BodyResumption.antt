@@ -59,7 +59,8 @@ module _ (t : Functions) (fs : List Funclet) (program : LinearProgram) (p : Imag
     leaf_pointers m y sp size b (FuncletBody k) below is h = absurd is
     leaf_pointers m y sp size b (FunctionBody f) [] is h = tt
     leaf_pointers m y sp size b (FunctionBody f) (Waits w ∷ below) is h = tt
-    leaf_pointers m y sp size b (FunctionBody f) (Searches exception resumption asked rest ∷ below) is
+    leaf_pointers m y sp size b (FunctionBody f) (Searches exception resumption asked rest ∷ below)
+        is
         h =
         absurd h
     leaf_pointers m y sp size b (FunctionBody f) (Unwinds rest target ∷ below) is h = absurd h
@@ -81,7 +82,8 @@ module _ (t : Functions) (fs : List Funclet) (program : LinearProgram) (p : Imag
         by_funclet (Some f) below h = absurd h
 
     module _ (image : IsProgramImage t fs program p q) where
-      pub frame_size : (m : Memory) (c : Context) (f : StackFrame) (name : BodyName) (b : LinearBody)
+      pub frame_size : (m : Memory) (c : Context) (f : StackFrame) (name : BodyName)
+          (b : LinearBody)
           → body_of program name ≡ Some b → p.leaf name ≡ false → f.entry ≡ p.entry name
           → FrameIsAt t m c f → f.size ≡ (p.layout name).frame
       frame_size m c f name b there leaf entry s =

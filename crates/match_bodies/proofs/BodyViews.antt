@@ -61,7 +61,8 @@ module _ (setting : Setting) where
 
       by_leaf : (f : ℕ) (leaf : Bool) → c.frame.body ≡ FunctionBody f → p.leaf c.frame.body ≡ leaf
           → IsLaidOut program p (FunctionBody f) code
-          → HasActivation s.memory (p.layout c.frame.body) sp (slots_end (p.layout c.frame.body) leaf)
+          → HasActivation s.memory (p.layout c.frame.body) sp
+          (slots_end (p.layout c.frame.body) leaf)
           c.frame.activation b.body.acts (FunctionBody f)
           → SlotsPlaced s.memory (p.layout c.frame.body) code.temporaries sp c.frame.activation
           b.body.acts
@@ -124,7 +125,8 @@ module _ (setting : Setting) where
           (slots_end (p.layout c.frame.body) l) c.frame.activation b.body.acts (FuncletBody k))
           (ap p.leaf name ∙ plan.framed) h)
 
-      pub placed : SlotsPlaced s.memory (p.layout c.frame.body) code.temporaries sp c.frame.activation
+      pub placed : SlotsPlaced s.memory (p.layout c.frame.body) code.temporaries sp
+          c.frame.activation
           b.body.acts
       placed = by_name c.frame.body refl b.body.slots.activation
 
@@ -143,7 +145,8 @@ module _ (setting : Setting) where
 
       pub slots_here : HasSlotsOf program p c code (state_of program p s c placed.base)
       slots_here = record {
-        locals = λ i lt. local_is s.memory (p.layout c.frame.body) code.temporaries sp i b.body.acts c
+        locals = λ i lt. local_is s.memory (p.layout c.frame.body) code.temporaries sp i b.body.acts
+            c
             b.body.store placed (let n = count in omega arith);
         temporaries = λ i v e. temporary_is s.memory (p.layout c.frame.body) sp _ i v
             c.frame.temporaries b.body.slots.temporaries e;
@@ -180,7 +183,8 @@ module _ (setting : Setting) where
 
       kind_by_leaf : (f : ℕ) (leaf : Bool) → c.frame.body ≡ FunctionBody f
           → p.leaf c.frame.body ≡ leaf → IsLaidOut program p (FunctionBody f) code
-          → HasActivation s.memory (p.layout c.frame.body) sp (slots_end (p.layout c.frame.body) leaf)
+          → HasActivation s.memory (p.layout c.frame.body) sp
+          (slots_end (p.layout c.frame.body) leaf)
           c.frame.activation b.body.acts (FunctionBody f)
           → AsFunction ⊎ (AsLeaf ⊎ AsFunclet)
       kind_by_leaf f true name is layouts h = inr (inl (record {
@@ -219,7 +223,8 @@ module _ (setting : Setting) where
             layout = subst (λ n. IsFuncletLayout (p.layout n)
                 (p.layout (FunctionBody plan.funclet.function)) code) (sym name) plan.layout;
             activation = subst (λ l. HasActivation s.memory (p.layout c.frame.body) sp
-                (slots_end (p.layout c.frame.body) l) c.frame.activation b.body.acts (FuncletBody k))
+                (slots_end (p.layout c.frame.body) l) c.frame.activation b.body.acts
+                (FuncletBody k))
                 framed h;
           }))
 

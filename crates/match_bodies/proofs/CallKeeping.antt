@@ -73,7 +73,8 @@ module _ (setting : Setting) where
 
       first : Ran t fs program p q top (top + 8) back others list s u before
       first = ran t fs program p q top (top + 8) back others list before s u frame 8 halves.1 plain
-          (subst (λ a. HasCode s.memory a before) (sym here) (codes s.memory has).0) has beneath below
+          (subst (λ a. HasCode s.memory a before) (sym here) (codes s.memory has).0) has beneath
+          below
           refl finds
 
       -- the call
@@ -105,7 +106,8 @@ module _ (setting : Setting) where
           sp_below up next there_is near after code_there
 
       still_beneath : Beneath t v top (top + 8) back others list
-      still_beneath = beneath_called t fs top (top + 8) back others list u v st first.beneath (sp - 8)
+      still_beneath = beneath_called t fs top (top + 8) back others list u v st first.beneath
+          (sp - 8)
           frame to sp_below up next there_is near after code_there
 
       has_called : HasProgram setting v.memory
@@ -121,7 +123,8 @@ module _ (setting : Setting) where
 
       keeps_called : KeepsShadow t fs u v
       keeps_called =
-          call_keeps_shadow t fs top (top + 8) back others list u v st first.beneath (sp - 8) frame to
+          call_keeps_shadow t fs top (top + 8) back others list u v st first.beneath (sp - 8) frame
+          to
           sp_below up next there_is near after code_there
           call_found (enters v.memory) (resumed_found setting name b is v.memory has_called there
           next resumed)
@@ -169,7 +172,8 @@ module _ (setting : Setting) where
               record {
                 item = Leaf back;
                 is_there = image.leaves v.memory name b there from_here back is e resumed
-                    (let n = eight in omega arith) (omega arith) (ap (word v.memory) z ∙ back_there);
+                    (let n = eight in omega arith) (omega arith)
+                    (ap (word v.memory) z ∙ back_there);
                 same = ap (λ n. context_below back n others) y;
                 owned = λ a o. (let l = o.low in omega arith);
               }

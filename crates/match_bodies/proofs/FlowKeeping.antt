@@ -32,10 +32,11 @@ module _ (t : Functions) (fs : List Funclet) (program : LinearProgram) (p : Imag
   where
     -- in this memory a routine, by RSP and its nonvolatile registers, has its return address so far
     -- above RSP, and the walk gives these callers from there
-    pub record IsBelow (m : Memory) (kept : List ℕ) (size back : ℕ) (cs : List Context) : Type 0 where
-      pub program_there : HasProgram t fs program p q m
-      pub returns : word m (get_or kept 0 0 + size) ≡ Ok back
-      pub beyond : GivesCallers t m (state (caller_by kept size back) 0) cs
+    pub record IsBelow (m : Memory) (kept : List ℕ) (size back : ℕ) (cs : List Context) : Type 0
+      where
+        pub program_there : HasProgram t fs program p q m
+        pub returns : word m (get_or kept 0 0 + size) ≡ Ok back
+        pub beyond : GivesCallers t m (state (caller_by kept size back) 0) cs
 
     -- the walk from a state gives the caller and what lies beyond
     pub from_state : (u : State) (kept : List ℕ) (size back : ℕ) (cs : List Context)
@@ -53,7 +54,8 @@ module _ (t : Functions) (fs : List Funclet) (program : LinearProgram) (p : Imag
 
     module _ (code : List Instr) (s w : State) (size back : ℕ) (cs : List Context)
         (room : register s.cpu Rsp + size + 8 < 2 ^ 64)
-        (finds : (m : Memory) (done left : List Instr) (item : Instr) → HasProgram t fs program p q m
+        (finds : (m : Memory) (done left : List Instr) (item : Instr) → HasProgram t fs program p q
+        m
         → code ≡ done ++ (item ∷ left) → FindsReturn t m (s.cpu.rip + sizes done) size)
         (begin : IsBelow s.memory (kept_of s.cpu.registers) size back cs)
         (end : IsBelow w.memory (kept_of s.cpu.registers) size back cs) where
@@ -66,7 +68,8 @@ module _ (t : Functions) (fs : List Funclet) (program : LinearProgram) (p : Imag
       inside_code : (u : State) → IsInside code s w u → WalkGives t u callers
       inside_code u h = from_state u kept size back cs
           (subst (λ a. FindsReturn t u.memory a size) (sym h.rip)
-          (finds u.memory h.done h.left h.item there.program_there h.parts)) h.registers refl room there
+          (finds u.memory h.done h.left h.item there.program_there h.parts)) h.registers refl room
+          there
         where
           there : IsBelow u.memory kept size back cs
           there = elim h.memory [
@@ -78,8 +81,10 @@ module _ (t : Functions) (fs : List Funclet) (program : LinearProgram) (p : Imag
       same_sp u h = ap (λ (ks : List ℕ). get_or ks 0 0) h.registers
 
       -- each turn of a run over the code keeps the shadow, where the walk gives it at the end too
-      pub flow_keeps : Encodable code → Flows code → StoresOnce code → HasCode s.memory s.cpu.rip code
-          → Reaches (length code) s w → WalkGives t w callers → HeadAbove (register w.cpu Rsp) callers
+      pub flow_keeps : Encodable code → Flows code → StoresOnce code → HasCode s.memory s.cpu.rip
+          code
+          → Reaches (length code) s w → WalkGives t w callers → HeadAbove (register w.cpu Rsp)
+          callers
           → AllKeep t fs (length code) s
       flow_keeps spelling flow once is_there r gives above = all_keep t fs (length code) s
           (all_turns (KeepsShadow t fs) code s w turn spelling flow once is_there r)

@@ -16,7 +16,8 @@ module _ (t : Functions) (fs : List Funclet) (program : LinearProgram) (p : Imag
     data_alone = record {
       bytes = bytes;
       no_code = λ a w. ap (λ (g : Protection). g.execute) (same a)
-          ∙ h.data_alone.no_code a (ap (λ (g : Protection). is_writable g.rights) (sym (same a)) ∙ w);
+          ∙ h.data_alone.no_code a (ap (λ (g : Protection). is_writable g.rights) (sym (same a)) ∙
+          w);
     };
     agrees = agrees;
     stack = λ a l u. ap (λ (g : Protection). is_writable g.rights) (same a) ∙ h.stack a l u;

@@ -274,7 +274,8 @@ module _ (setting : Setting) (roomy : HaveRoom setting.program) where
     -- ---- a jump where a slot holds 0
 
     acts_tested : (slot : Slot) (label value : ℕ) (z : Bool) → read c slot ≡ Some value
-        → nat_eq value 0 ≡ z → (next : Next) → act program (instructions.JumpIfZero slot label) next c
+        → nat_eq value 0 ≡ z → (next : Next) → act program (instructions.JumpIfZero slot label) next
+        c
         ≡ pick z (next (at_label label (tested slot c))) (next (forth (tested slot c)))
     unfolding with_some
     acts_tested slot label value z r e next =
@@ -347,8 +348,10 @@ module _ (setting : Setting) (roomy : HaveRoom setting.program) where
             → Moves t fs program 16 turns_left (RepresentsAt setting) s c
             (instructions.JumpIfZero slot label)
         by_value r true z d = to_tested slot label turns (p.address c.frame.body label) label free
-            refl (from_here turns (p.address c.frame.body label) slots_now d.follows) held inside keep
-            (jumps slot label r.value r.reads (ap (λ x. nat_eq x 0) (sym r.same) ∙ z)) d.least d.most
+            refl (from_here turns (p.address c.frame.body label) slots_now d.follows) held inside
+            keep
+            (jumps slot label r.value r.reads (ap (λ x. nat_eq x 0) (sym r.same) ∙ z)) d.least
+            d.most
         by_value r false z d =
             to_tested slot label turns (s.cpu.rip
             + template_size (p.layout c.frame.body) (instructions.JumpIfZero slot label))

@@ -86,7 +86,8 @@ module _ (t : Functions) (fs : List Funclet) (program : LinearProgram) (p : Imag
         → HasService t fs program p q m at service → HasService t fs program p q m' at service
     unfolding thunk_there
     service_there m m' at service keeps h = record {
-      thunk = thunk_there m m' at (address_of service) h.thunk (there m m' at (at + 6) keeps h.inside)
+      thunk = thunk_there m m' at (address_of service) h.thunk
+          (there m m' at (at + 6) keeps h.inside)
           (there m m' (at + 6 + h.thunk.away) (at + 6 + h.thunk.away + 8) keeps h.slot);
       inside = h.inside;
       slot = h.slot;

@@ -65,7 +65,8 @@ module _ (setting : Setting) where
 
     first : Ran t fs program p q top (top + 8) back others list s u fetching
     first = ran t fs program p q top (top + 8) back others list fetching s u y.frame 8 halves.1
-        plain (subst (λ a. HasCode s.memory a fetching) (sym here) (codes s.memory has).0) has beneath
+        plain (subst (λ a. HasCode s.memory a fetching) (sym here) (codes s.memory has).0) has
+        beneath
         below refl finds
 
     there_is : p.address name label + sizes fetching ≡ u.cpu.rip

@@ -285,7 +285,8 @@ module _ (t : Functions) (fs : List Funclet) (program : LinearProgram) (p : Imag
           → HasProgram t fs program p q m → FindsReturn t m (rip + sizes done) d
 
       pub ran : (code : List Instr) (s w : State) (d e : ℕ) → StepsTo (length code) s w
-          → AllPlain d e code → HasCode s.memory s.cpu.rip code → HasProgram t fs program p q s.memory
+          → AllPlain d e code → HasCode s.memory s.cpu.rip code → HasProgram t fs program p q
+          s.memory
           → Beneath t s top from back others is
           → register s.cpu Rsp + d ≡ top → from ≡ top + e → Finds s.cpu.rip code d → Ran s w code
       ran [] s w d e r plain code has b at up finds =
@@ -319,7 +320,8 @@ module _ (t : Functions) (fs : List Funclet) (program : LinearProgram) (p : Imag
           ≡ u.cpu.rip + sizes done = omega (arith, first.rip) in
           subst (λ a. FindsReturn t m a d) same
           (finds (i ∷ done) left (ap (λ (xs : List Instr). i ∷ xs) parts) m h)) in
-          let rest = ran code u w d e r.2 plain.1 (code_next s u i code plain.0.0 code' st first.rip)
+          let rest = ran code u w d e r.2 plain.1 (code_next s u i code plain.0.0 code' st
+          first.rip)
           has' first.beneath at' up finds' in
           record {
             keeps = keep_first t fs (length code) s u st.steps keep rest.keeps;
@@ -345,7 +347,8 @@ beneath_by t s top back is count returns list high no_code = record {
   list = list;
   owned = λ a o. elim (cases_lt a (top + 8)) [
     | inl lt ↦ absurd
-        (nothing_below_is_owned t s.memory (context_below back (top + 8) (others_of s.cpu.registers))
+        (nothing_below_is_owned t s.memory (context_below back (top + 8)
+        (others_of s.cpu.registers))
         is a list lt o)
     | inr ge ↦ ge
   ];

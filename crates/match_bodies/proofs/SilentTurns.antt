@@ -89,7 +89,8 @@ module _ (t : Functions) (fs : List Funclet) (program : LinearProgram) (p : Imag
     taking None = true
     taking (Some x) = takes_frame x.0
 
-    never_silent : (i j : Instr) (m n : ℕ) → ◌≡◌ {A = Option (Instr × ℕ)} (Some (i, m)) (Some (j, n))
+    never_silent : (i j : Instr) (m n : ℕ) → ◌≡◌ {A = Option (Instr × ℕ)} (Some (i, m))
+        (Some (j, n))
         → takes_frame i ≡ true → takes_frame j ≡ false → ⊥
     never_silent i j m n e makes quiet = let z : true ≡ false = sym makes ∙ ap taking e ∙ quiet in
         absurd cc
@@ -143,7 +144,8 @@ module _ (t : Functions) (fs : List Funclet) (program : LinearProgram) (p : Imag
       -- where a run continues inside a body, no funclet begins
       pub silent_here : (s u : State) (c : Cpu) → Runs s u → HasProgram t fs program p q s.memory
           → arrivals c (distance t.base s.cpu.rip) 1 fs ≡ []
-      silent_here s u c r has = image.funclets.none s.cpu.rip r.steps.rip_small (elsewhere s u r has) c
+      silent_here s u c r has = image.funclets.none s.cpu.rip r.steps.rip_small
+          (elsewhere s u r has) c
 
       -- ---- turns
 
@@ -171,31 +173,37 @@ module _ (t : Functions) (fs : List Funclet) (program : LinearProgram) (p : Imag
       pub enters_comes : (n : ℕ) (s w : State) (events : List Event) → Enters (suc n) s w
           → AllKeep t fs (suc n) s → HasProgram t fs program p q s.memory
           → arrivals w.cpu (distance t.base w.cpu.rip) 1 fs ≡ events → Comes t fs (suc n) s events w
-      enters_comes n s w events r keep has e = subst (λ (es : List Event). Comes t fs (suc n) s es w)
+      enters_comes n s w events r keep has e = subst (λ (es : List Event). Comes t fs (suc n) s es
+          w)
           e (from_step n s r.0 w r.1 r.2 keep has)
 
       pub reaches_comes : (n : ℕ) (s w : State) (events : List Event) → Reaches (suc n) s w
           → AllKeep t fs (suc n) s → HasProgram t fs program p q s.memory
           → arrivals w.cpu (distance t.base w.cpu.rip) 1 fs ≡ events → Comes t fs (suc n) s events w
-      reaches_comes n s w events r keep has e = subst (λ (es : List Event). Comes t fs (suc n) s es w)
+      reaches_comes n s w events r keep has e = subst (λ (es : List Event). Comes t fs (suc n) s es
+          w)
           e (from_step n s r.0 w r.1.steps r.2 keep has)
 
       -- and nothing, where no funclet begins there
       pub reaches_silently : (n : ℕ) (s w : State) → Reaches n s w → AllKeep t fs n s
-          → HasProgram t fs program p q s.memory → arrivals w.cpu (distance t.base w.cpu.rip) 1 fs ≡ []
+          → HasProgram t fs program p q s.memory → arrivals w.cpu (distance t.base w.cpu.rip) 1 fs ≡
+          []
           → Comes t fs n s [] w
       reaches_silently zero s w r keep has e = (refl, r)
       reaches_silently (suc n) s w r keep has e = reaches_comes n s w [] r keep has e
 
       pub enters_silently : (n : ℕ) (s w : State) → Enters n s w → AllKeep t fs n s
-          → HasProgram t fs program p q s.memory → arrivals w.cpu (distance t.base w.cpu.rip) 1 fs ≡ []
+          → HasProgram t fs program p q s.memory → arrivals w.cpu (distance t.base w.cpu.rip) 1 fs ≡
+          []
           → Comes t fs n s [] w
       enters_silently zero s w r keep has e = (refl, r)
       enters_silently (suc n) s w r keep has e = enters_comes n s w [] r keep has e
 
     -- the code of the program is where a run comes to
-    pub program_reaches : (n : ℕ) (s w : State) → Reaches n s w → HasProgram t fs program p q s.memory
+    pub program_reaches : (n : ℕ) (s w : State) → Reaches n s w → HasProgram t fs program p q
+        s.memory
         → HasProgram t fs program p q w.memory
-    program_reaches zero s w r has = subst (λ (x : State). HasProgram t fs program p q x.memory) r has
+    program_reaches zero s w r has = subst (λ (x : State). HasProgram t fs program p q x.memory) r
+        has
     program_reaches (suc n) s w r has = program_reaches n r.0 w r.2
         (program_kept s.memory r.0.memory (step_keeps s r.0 r.1.steps) has)

@@ -47,7 +47,8 @@ module _ (t : Functions) (fs : List Funclet) (program : LinearProgram) (p : Imag
                 record {
                   framed = e;
                   entry = refl;
-                  waits = subst (λ (leaf : Bool). BodyWaits t fs program p u.memory (context_of u.cpu)
+                  waits = subst (λ (leaf : Bool). BodyWaits t fs program p u.memory
+                      (context_of u.cpu)
                       (slots_end y leaf) (last_temporary y name leaf) c.frame at.acts) e at.slots;
                   pointers = at.pointers;
                   returns = at.returns_to;
@@ -74,7 +75,8 @@ module _ (t : Functions) (fs : List Funclet) (program : LinearProgram) (p : Imag
           let up : sp + y.frame + 8 ≡ sp + 8 = let z = none.frame in omega arith in
           let rest : On t fs program p u.memory (context_below at.back (sp + 8) (others_of u)) at.is
           c.below (activations_below name at.acts) =
-          subst (λ a. On t fs program p u.memory (context_below at.back a (others_of u)) at.is c.below
+          subst (λ a. On t fs program p u.memory (context_below at.back a (others_of u)) at.is
+          c.below
           (activations_below name at.acts)) up (at.below (others_of u) refl) in
           record {
             is = Leaf at.back ∷ at.is;
@@ -133,7 +135,8 @@ module _ (t : Functions) (fs : List Funclet) (program : LinearProgram) (p : Imag
           (ap (word u.memory) (sym here) ∙ at.returns))
 
       -- where RIP is at a machine instruction of an instruction of its code
-      pub body_on_top : (u : State) (c : Configuration) (label : ℕ) (at : InBody t fs program p q u c)
+      pub body_on_top : (u : State) (c : Configuration) (label : ℕ)
+          (at : InBody t fs program p q u c)
           → IsResumed t fs program p q c.frame.body at.slots.code label u.cpu.rip
           → HasProgram t fs program p q u.memory → OnTop u c at.acts
       body_on_top u c label at resumed has = by_leaf (p.leaf c.frame.body) refl

@@ -199,7 +199,8 @@ module _ (setting : Setting) (roomy : HaveRoom setting.program) where
           let ends = ends_at setting s c b counted u label at lt kept
           (is_after setting s c b counted u d values ts ran around.caller around.owner) in (
             u,
-            reaches_silently t fs program p q image n s u r.comes (keep u r.comes ends) b.memory.code
+            reaches_silently t fs program p q image n s u r.comes (keep u r.comes ends)
+                b.memory.code
                 (silent_at label rip at lt small u refl),
             represents_next setting s c b counted u d values ts ran label landed events at lt
                 (stays_well_formed s u keeps small b.well_formed)

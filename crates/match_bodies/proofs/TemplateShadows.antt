@@ -108,7 +108,8 @@ module _ (setting : Setting) (s : State) (c : Configuration)
           keeps = keeps;
         };
         holds = holds_same layout_here (counts_of code_here) (is_reserved program.globals)
-            (register s.cpu Rsp) base room s.memory u.memory source (state_of program p s c base) own
+            (register s.cpu Rsp) base room s.memory u.memory source (state_of program p s c base)
+            own
             keeps.protection agrees (holds_here setting s c b counted);
         stack = sp;
         leaves = record {
@@ -196,7 +197,8 @@ module _ (setting : Setting) (s : State) (c : Configuration)
     -- a piece before others, up to where they begin
     pub piece_to : (before first second : List Instr) (x mid : State)
         → whole ≡ before ++ (first ++ second) → IsFlow first → 1 ≤ length second → IsPast before x
-        → Reaches (length first) x mid → IsPast (before ++ first) mid → AllKeep t fs (length first) x
+        → Reaches (length first) x mid → IsPast (before ++ first) mid → AllKeep t fs (length first)
+        x
     piece_to before first second x mid parts flow some past comes there =
         let ends = past_ends (before ++ first) second mid
         (parts ∙ sym (append_assoc before first second)) some there in

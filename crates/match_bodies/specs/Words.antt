@@ -5,7 +5,8 @@ pub use Rattle.seh_num.specs.declared.width.Width.TheVariants.{W32, W64}
 pub use Rattle.host_layout.specs.Services.{address_of}
 pub use Rattle.host_layout.specs.declared.range.TheConstants.{STACK_END, STACK_START}
 pub use Rattle.host_layout.specs.declared.service.Service.{Service}
-pub use Rattle.flat_memory.specs.Memory.{Memory, may_write, executable, first_refused, with_bytes, may_read, number_at, access}
+pub use Rattle.flat_memory.specs.Memory.{Memory, may_write, with_bytes, may_read, access}
+unfoldable pub use Rattle.flat_memory.specs.Memory.{executable, first_refused, number_at}
 pub use Rattle.flat_memory.specs.Protections.{is_writable, is_readable}
 pub use Rattle.flat_memory.specs.declared.protection.Protection.{Protection}
 pub use Rattle.c_operations.specs.Performed.{Gives, performed}
@@ -18,10 +19,12 @@ pub use Rattle.linear_code.specs.declared.instruction.Instruction.{Instruction}
 pub use Rattle.linear_code.specs.declared.program.Region.{Region}
 pub use Rattle.linear_code.specs.declared.slot.Slot.{Slot}
 pub use Rattle.linear_code.specs.declared.slot.Slot.TheVariants.{Local, Temporary}
-pub use Rattle.linear_machine.specs.Frames.{BodyName, FunctionBody, FuncletBody, Item, Waits, Searches, Unwinds, body_of, Frame, Configuration, Next, read, with_temporaries, forth, with_some, local_of}
+pub use Rattle.linear_machine.specs.Frames.{BodyName, FunctionBody, FuncletBody, Item, Waits, Searches, Unwinds, body_of, Frame, Configuration, Next, read, with_temporaries, forth, local_of}
+unfoldable pub use Rattle.linear_machine.specs.Frames.{with_some}
 pub use Rattle.linear_machine.specs.Instructions.{is_constant, operand, act, written}
 pub use Rattle.linear_machine.specs.Regions.{holds, regions_of}
-pub use Rattle.linear_machine.specs.Run.{instruction_at, exec}
+pub use Rattle.linear_machine.specs.Run.{instruction_at}
+unfoldable pub use Rattle.linear_machine.specs.Run.{exec}
 pub use Rattle.lowering_invariants.specs.Room.{HaveRoom}
 pub use Rattle.x64_instr.specs.Spelling.{leading}
 pub use Rattle.x64_instr.specs.declared.instruction.Instr.{Instr}
@@ -32,13 +35,15 @@ pub use Rattle.x64_encode.specs.Chosen.{is_encodable, chosen}
 pub use Rattle.x64_machine.specs.Contexts.{context_of, kept_of}
 pub use Rattle.x64_machine.specs.Effect.{State, register, with_rip, effect}
 pub use Rattle.x64_machine.specs.declared.context.Context.{Context}
-pub use Rattle.template_code.specs.Bytes.{size, sizes, thunk, spelled}
+pub use Rattle.template_code.specs.Bytes.{sizes, thunk, spelled}
+unfoldable pub use Rattle.template_code.specs.Bytes.{size}
 pub use Rattle.template_code.specs.Calls.{keep_register, enter_code, epilogue}
 pub use Rattle.template_code.specs.Jumps.{IsNear, call}
 pub use Rattle.template_code.specs.Operations.{before}
 pub use Rattle.template_code.specs.Probing.{check_stack}
 pub use Rattle.template_code.specs.Slots.{local_at, fetch_local, fetch, finish_code, compute_code, fetched, keep_local, keep, operands_code}
-pub use Rattle.template_code.specs.Template.{template, template_size, code_from, body_size, offset_of}
+pub use Rattle.template_code.specs.Template.{template, code_from, body_size, offset_of}
+unfoldable pub use Rattle.template_code.specs.Template.{template_size}
 pub use Rattle.template_code.specs.declared.layout.Layout.{Layout}
 pub use Rattle.template_code.specs.declared.layout.TheConstants.{LARGEST_FRAME}
 pub use Rattle.x64_templates.specs.Epilogues.{IsReturn}

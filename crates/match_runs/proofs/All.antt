@@ -107,7 +107,8 @@ module _ (t : Functions) (fs : List Funclet) (program : LinearProgram) (turns_pe
               ∙ append_assoc (c.events ++ v.events) v.front.0 rest.0,
         ))
 
-    moves : (v : Moves t fs program turns_per_step credit (Follows t fs program turns_per_step credit n) s c i)
+    moves : (v : Moves t fs program turns_per_step credit (Follows t fs program turns_per_step
+        credit n) s c i)
         → ((rest : ℕ) → turns_per_step * n + credit v.configuration ≤ rest
         → ShowsAll (shown (exec program n v.configuration))
         (run t fs rest (host v.state) v.configuration.events))
@@ -132,7 +133,8 @@ module _ (t : Functions) (fs : List Funclet) (program : LinearProgram) (turns_pe
       (λ turns u d. runs_show_all n turns u d)
     where
       Rest : Type 0
-      Rest = (turns : ℕ) (u : State) (d : Configuration) → Follows t fs program turns_per_step credit n u d
+      Rest = (turns : ℕ) (u : State) (d : Configuration) → Follows t fs program turns_per_step
+          credit n u d
           → HasRule (exec program n d) → turns_per_step * n + credit d ≤ turns
           → ShowsAll (shown (exec program n d)) (run t fs turns (host u) d.events)
 
@@ -140,7 +142,8 @@ module _ (t : Functions) (fs : List Funclet) (program : LinearProgram) (turns_pe
       more = let e = mul-suc turns_per_step n in omega arith
 
       matched : (i : Instruction) → HasRule (act program i (exec program n) c) → Rest
-          → IsMatched t fs program turns_per_step credit (Follows t fs program turns_per_step credit n) s c i
+          → IsMatched t fs program turns_per_step credit (Follows t fs program turns_per_step credit
+          n) s c i
           → ShowsAll (shown (act program i (exec program n) c)) (run t fs turns (host s) c.events)
       matched i quiet rest (inl v) = moves n turns s c i more v
           (λ left enough. rest left v.state v.configuration v.is_there

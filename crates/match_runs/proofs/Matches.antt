@@ -29,8 +29,10 @@ module _ (t : Functions) (fs : List Funclet) where
 module _ (t : Functions) (fs : List Funclet) (program : LinearProgram) (credit : Configuration → ℕ)
   where
     -- a step that ends with no event of its own
-    pub fails_at_once : (turns_per_step : ℕ) (s : State) (c : Configuration) (i : Instruction) (end : Ended)
-        → is_calm (Some end) ≡ false → ((next : Next) → act program i next c ≡ Finished end c.events)
+    pub fails_at_once : (turns_per_step : ℕ) (s : State) (c : Configuration) (i : Instruction)
+        (end : Ended)
+        → is_calm (Some end) ≡ false → ((next : Next) → act program i next c ≡ Finished end
+        c.events)
         → Fails t fs program turns_per_step credit s c i
     fails_at_once turns_per_step s c i end wild acts = record {
       turns = 0;
@@ -47,7 +49,8 @@ module _ (t : Functions) (fs : List Funclet) (program : LinearProgram) (credit :
     }
 
     -- turns that show nothing come before a step's
-    pub matched_after : (k turns_per_step : ℕ) (Represents : State → Configuration → Type 0) (s u : State)
+    pub matched_after : (k turns_per_step : ℕ) (Represents : State → Configuration → Type 0)
+        (s u : State)
         (c : Configuration) (i : Instruction)
         → Comes t fs k s [] u → IsMatched t fs program turns_per_step credit Represents u c i
         → IsMatched t fs program (k + turns_per_step) credit Represents s c i
@@ -109,7 +112,8 @@ module _ (t : Functions) (fs : List Funclet) (program : LinearProgram) (credit :
         })))
 
     -- turns that show nothing come after a step's
-    pub matched_then : (turns_per_step most : ℕ) (Middle Represents : State → Configuration → Type 0)
+    pub matched_then : (turns_per_step most : ℕ) (Middle Represents : State → Configuration → Type
+        0)
         (s : State) (c : Configuration) (i : Instruction)
         → ((u : State) (d : Configuration) → Middle u d → LeadsTo t fs most Represents u d)
         → IsMatched t fs program turns_per_step credit Middle s c i
@@ -174,7 +178,8 @@ module _ (t : Functions) (fs : List Funclet) (program : LinearProgram) (credit :
         })))
 
     -- with more turns allowed
-    pub matched_slower : (turns_per_step more : ℕ) (Represents : State → Configuration → Type 0) (s : State)
+    pub matched_slower : (turns_per_step more : ℕ) (Represents : State → Configuration → Type 0)
+        (s : State)
         (c : Configuration) (i : Instruction)
         → turns_per_step ≤ more → IsMatched t fs program turns_per_step credit Represents s c i
         → IsMatched t fs program more credit Represents s c i

@@ -144,7 +144,8 @@ module _ (t : Functions) (fs : List Funclet) (program : LinearProgram) (turns_pe
             (append_assoc c.events v.events v.last))
             refl refl
 
-    moves : (v : Moves t fs program turns_per_step credit (Follows t fs program turns_per_step credit n) s c i)
+    moves : (v : Moves t fs program turns_per_step credit (Follows t fs program turns_per_step
+        credit n) s c i)
         → ((left : ℕ) → left ≤ n → ShowsNoMore (shown (exec program n v.configuration))
         (run t fs left (host v.state) v.configuration.events))
         → ShowsNoMore (shown (act program i (exec program n) c)) (run t fs m (host s) c.events)
@@ -183,12 +184,14 @@ module _ (t : Functions) (fs : List Funclet) (program : LinearProgram) (turns_pe
       (λ left u d. runs_show_no_more n left u d)
     where
       Rest : Type 0
-      Rest = (left : ℕ) (u : State) (d : Configuration) → Follows t fs program turns_per_step credit n u d
+      Rest = (left : ℕ) (u : State) (d : Configuration) → Follows t fs program turns_per_step credit
+          n u d
           → IsCalm (exec program n d) → left ≤ n
           → ShowsNoMore (shown (exec program n d)) (run t fs left (host u) d.events)
 
       matched : (i : Instruction) → IsCalm (act program i (exec program n) c) → Rest
-          → IsMatched t fs program turns_per_step credit (Follows t fs program turns_per_step credit n) s c i
+          → IsMatched t fs program turns_per_step credit (Follows t fs program turns_per_step credit
+          n) s c i
           → ShowsNoMore (shown (act program i (exec program n) c)) (run t fs m (host s) c.events)
       matched i quiet rest (inl v) = moves n m s c i fewer v
           (λ left less. rest left v.state v.configuration v.is_there

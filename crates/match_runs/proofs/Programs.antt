@@ -19,11 +19,13 @@ use Rattle.match_runs.proofs.All.{runs_show_all}
 use Rattle.match_runs.proofs.NoMore.{within_step, runs_show_no_more}
 
 pub all : RunsShowAll
-all t fs program turns_per_step credit n turns s c follows rule enough = runs_show_all t fs program turns_per_step
+all t fs program turns_per_step credit n turns s c follows rule enough = runs_show_all t fs program
+    turns_per_step
     credit n turns s c follows rule enough
 
 pub no_more : RunsShowNoMore
-no_more t fs program turns_per_step credit m n s c follows calm fewer = runs_show_no_more t fs program turns_per_step
+no_more t fs program turns_per_step credit m n s c follows calm fewer = runs_show_no_more t fs
+    program turns_per_step
     credit n m s c follows calm fewer
 
 module _ (t : Functions) (fs : List Funclet) (program : LinearProgram) (turns_per_step : ℕ)
@@ -46,7 +48,8 @@ module _ (t : Functions) (fs : List Funclet) (program : LinearProgram) (turns_pe
       subst (λ (x : Seen). ShowsAll (shown x) (run t fs turns (host s) [])) (sym from_main)
       (subst (λ (x : Shown RunEnd). ShowsAll (shown (exec program n (start program arg b.main))) x)
       (sym (ap (λ k. run t fs k (host s) []) split ∙ first_run (turns - first)))
-      (runs_show_all t fs program turns_per_step credit n (turns - first) b.state (start program arg b.main)
+      (runs_show_all t fs program turns_per_step credit n (turns - first) b.state
+      (start program arg b.main)
       b.follows (subst HasRule from_main rule) (omega arith)))
 
   pub program_no_more : (m : ℕ) → IsCalm (seen program arg n) → m ≤ n
@@ -67,11 +70,13 @@ module _ (t : Functions) (fs : List Funclet) (program : LinearProgram) (turns_pe
       ]
 
 pub programs_all : ProgramsShowAll
-programs_all t fs program turns_per_step credit arg first n turns s b rule enough = program_all t fs program
+programs_all t fs program turns_per_step credit arg first n turns s b rule enough = program_all t fs
+    program
     turns_per_step credit arg first n s b turns rule enough
 
 pub programs_no_more : ProgramsShowNoMore
-programs_no_more t fs program turns_per_step credit arg first m n s b calm fewer = program_no_more t fs
+programs_no_more t fs program turns_per_step credit arg first m n s b calm fewer = program_no_more t
+    fs
     program turns_per_step credit arg first n s b m calm fewer
 
 pub enough : TurnsAreEnough

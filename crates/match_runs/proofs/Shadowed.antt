@@ -142,7 +142,8 @@ module _ (t : Functions) (fs : List Funclet) (program : LinearProgram) (turns_pe
               (run_dies t fs k v.state (c.events ++ v.events) v.last (ends.Unhandled v.code) v.live
               v.ends) over)
 
-      moves : (v : Moves t fs program turns_per_step credit (Follows t fs program turns_per_step credit n) s c i)
+      moves : (v : Moves t fs program turns_per_step credit (Follows t fs program turns_per_step
+          credit n) s c i)
           → ((left : ℕ) (ds : List Context) → left ≤ n → WalkGives t v.state ds
           → HasNoEnd (run t fs left (host v.state) v.configuration.events)
           → WalkGivesShadow t fs left v.state ds)
@@ -172,7 +173,8 @@ module _ (t : Functions) (fs : List Funclet) (program : LinearProgram) (turns_pe
           → WalkGivesShadow t fs left u ds
 
       matched : (i : Instruction) → IsCalm (act program i (exec program n) c) → Rest
-          → IsMatched t fs program turns_per_step credit (Follows t fs program turns_per_step credit n) s c i
+          → IsMatched t fs program turns_per_step credit (Follows t fs program turns_per_step credit
+          n) s c i
           → WalkGivesShadow t fs m s cs
       matched i quiet rest (inl v) = moves n m s c i cs fewer w none v
           (λ left ds less. rest left v.state v.configuration ds v.is_there
@@ -196,6 +198,7 @@ programs_walk_the_shadow t fs program turns_per_step credit arg first m n s cs b
       | inr le ↦ onward t fs first m s b.state cs [] [] b.comes (omega arith) w
           (λ ds walk over. walks_the_shadow t fs program turns_per_step credit n (m - first) b.state
           (start program arg b.main) ds b.follows
-          (subst IsCalm (from_main t fs program turns_per_step credit arg first n s b) calm) (omega arith)
+          (subst IsCalm (from_main t fs program turns_per_step credit arg first n s b) calm)
+          (omega arith)
           walk over) none
     ]

@@ -69,9 +69,11 @@ module _ (t : Functions) (fs : List Funclet) (program : LinearProgram) (turns_pe
     (credit : Configuration → ℕ) (R : ℕ → State → Configuration → Type 0)
     (simulates : Simulates t fs program turns_per_step credit R) where
   with_less : (n : ℕ) (s : State) (c : Configuration) (i : Instruction)
-      → ((u : State) (d : Configuration) → R n u d → Follows t fs program turns_per_step credit n u d)
+      → ((u : State) (d : Configuration) → R n u d → Follows t fs program turns_per_step credit n u
+      d)
       → IsMatched t fs program turns_per_step credit (R n) s c i
-      → IsMatched t fs program turns_per_step credit (Follows t fs program turns_per_step credit n) s c i
+      → IsMatched t fs program turns_per_step credit (Follows t fs program turns_per_step credit n)
+      s c i
   with_less n s c i rest (inl v) = inl (record {
     turns = v.turns;
     some = v.some;

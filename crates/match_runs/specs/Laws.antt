@@ -57,7 +57,8 @@ RunsShowNoMore =
 
 -- so many turns that show nothing lead to the beginning of `main`, and so many steps of linear code
 -- are matched from there on
-pub record RunBegins (t : Functions) (fs : List Funclet) (program : LinearProgram) (turns_per_step : ℕ)
+pub record RunBegins (t : Functions) (fs : List Funclet) (program : LinearProgram)
+    (turns_per_step : ℕ)
     (credit : Configuration → ℕ) (arg : ℤ) (first : ℕ) (s : State) (n : ℕ) : Type 0 where
   pub main : LinearFunction
   pub is_main : slice_get program.functions program.main ≡ Some main
@@ -82,7 +83,8 @@ ProgramsShowNoMore =
     (t : Functions) (fs : List Funclet) (program : LinearProgram) (turns_per_step : ℕ)
     (credit : Configuration → ℕ)
     (arg : ℤ) (first m n : ℕ) (s : State)
-    → RunBegins t fs program turns_per_step credit arg first s n → IsCalm (seen program arg n) → m ≤ n
+    → RunBegins t fs program turns_per_step credit arg first s n → IsCalm (seen program arg n) → m ≤
+    n
     → ShowsNoMore (linear_meaning program arg n) (run t fs m (host s) [])
 
 -- where the walk gives these callers in the first state, it gives the shadow after each number of
@@ -92,7 +94,8 @@ ProgramsWalkTheShadow =
     (t : Functions) (fs : List Funclet) (program : LinearProgram) (turns_per_step : ℕ)
     (credit : Configuration → ℕ)
     (arg : ℤ) (first m n : ℕ) (s : State) (cs : List Context)
-    → RunBegins t fs program turns_per_step credit arg first s n → IsCalm (seen program arg n) → m ≤ n
+    → RunBegins t fs program turns_per_step credit arg first s n → IsCalm (seen program arg n) → m ≤
+    n
     → WalkGives t s cs → (run t fs m (host s) []).end ≡ None
     → WalkGivesShadow t fs m s cs
 

@@ -58,7 +58,8 @@ kind_is_search ExceptionUnwind e = absurd cc
 kind_is_search LocalUnwind e = absurd cc
 
 fits_new : (s : State) (kind : Kind) (code : Code) (flags : ℕ) (access : Option (Bool × ℕ))
-    (saved : Cpu) → IsWellFormed (record { cpu = saved; memory = s.memory }) → code.0 < 2 ^ 32 → flags < 2
+    (saved : Cpu) → IsWellFormed (record { cpu = saved; memory = s.memory }) → code.0 < 2 ^ 32 →
+    flags < 2
     → AllSmall (parameters access) → RecordFits (new_record kind code flags access saved)
 fits_new s kind code flags access saved well_formed a b c = record {
   frame = none_small;
@@ -211,7 +212,8 @@ pub raise_searches : RaiseSearches
 raise_searches t fs program p s code flags access saved is acts exception c a e =
     let at = place_of saved in
     let r : DispatchRecord = new_record Search code flags access saved in
-    let fits : RecordFits r = fits_new s Search code flags access saved a.well_formed_saved e.code_small
+    let fits : RecordFits r = fits_new s Search code flags access saved a.well_formed_saved
+    e.code_small
     e.one_flag e.access_small in
     let room : RecordHasRoom s.memory at r (rsp (context_of saved)) = room_of t fs program p s saved
     is (Waits c.frame ∷ c.below) acts r a fits in
@@ -223,7 +225,11 @@ raise_searches t fs program p s code flags access saved is acts exception c a e 
           (event_is code flags access exception e);
       searching = record {
         gives = a.gives;
-        well_formed = record { rip_small = a.well_formed.rip_small; count = a.well_formed.count; small = a.well_formed.small };
+        well_formed = record {
+          rip_small = a.well_formed.rip_small;
+          count = a.well_formed.count;
+          small = a.well_formed.small;
+        };
         on = record_leaves_the_list t fs program p s.memory at r (context_of saved) is
             (Waits c.frame ∷ c.below) acts a.on room;
         kind = refl;
@@ -256,7 +262,11 @@ local_unwind_unwinds t fs program p s frame address saved is acts depth label f 
       turns = ap (λ (o : Option ℕ). if_placed s at r (λ u. unwinds_on t u at r) o) a.room;
       unwinding = record {
         gives = a.gives;
-        well_formed = record { rip_small = a.well_formed.rip_small; count = a.well_formed.count; small = a.well_formed.small };
+        well_formed = record {
+          rip_small = a.well_formed.rip_small;
+          count = a.well_formed.count;
+          small = a.well_formed.small;
+        };
         on = record_leaves_the_list t fs program p s.memory at r (context_of saved) is
             (Waits f ∷ below) acts a.on room;
         kind = refl;
@@ -285,7 +295,11 @@ acceptance_unwinds t fs program p s at r frame address is acts exception found h
       turns = ap (λ (o : Option ℕ). if_placed s at new (λ u. unwinds_on t u at new) o) a.room.room;
       unwinding = record {
         gives = a.gives;
-        well_formed = record { rip_small = a.well_formed.rip_small; count = a.well_formed.count; small = a.well_formed.small };
+        well_formed = record {
+          rip_small = a.well_formed.rip_small;
+          count = a.well_formed.count;
+          small = a.well_formed.small;
+        };
         on = record_leaves_the_list t fs program p s.memory at new (context_of r.saved) is
             (Waits c.frame ∷ c.below) acts a.on room;
         kind = refl;
@@ -352,7 +366,11 @@ answers_continue t fs program p s r is acts exception resumption asked rest c h 
           (if_placed s at new (λ u. searches_on t u at new) o)) waits.own.room;
       anew = record {
         gives = h.gives;
-        well_formed = record { rip_small = h.well_formed.rip_small; count = h.well_formed.count; small = h.well_formed.small };
+        well_formed = record {
+          rip_small = h.well_formed.rip_small;
+          count = h.well_formed.count;
+          small = h.well_formed.small;
+        };
         on = record_leaves_the_list t fs program p s.memory at new (context_of r.saved) is
             (Waits c.frame ∷ c.below) acts outer new_room;
         kind = kind;
@@ -371,7 +389,8 @@ answers_continue t fs program p s r is acts exception resumption asked rest c h 
     }
 
 pub finally_returns_unwind : FinallyReturnsUnwind
-finally_returns_unwind t fs program p s r is acts rest target items source shown gives well_formed on =
+finally_returns_unwind t fs program p s r is acts rest target items source shown gives well_formed
+    on =
     let is_there = on.is_there.stack.0 in
     let waits = on.is_there.linked.0 in
     record {

@@ -23,7 +23,8 @@ module _ (t : Functions) (fs : List Funclet) (program : LinearProgram) (p : Imag
   no_jump rva n (x ∷ xs) all = here (holds x rva) (no_jump rva (n + 1) xs all.1)
     where
       here : (h : Bool) → first_with_jump_target (holding rva (n + 1) xs) ≡ None
-          → first_with_jump_target (cond h ((n, x) ∷ holding rva (n + 1) xs) (holding rva (n + 1) xs))
+          → first_with_jump_target (cond h ((n, x) ∷ holding rva (n + 1) xs)
+          (holding rva (n + 1) xs))
           ≡ None
       here true more = ap (λ b. cond b (first_with_jump_target (holding rva (n + 1) xs))
           (Some (n, x))) all.0 ∙ more

@@ -112,43 +112,45 @@ module _ (t : Functions) (fs : List Funclet) (program : LinearProgram) (p : Imag
       never r = ap (λ b. b && (holds target.label r || leads_to r.kind target.label))
           (ne_eqb target.depth (length c.below) away)
 
-      module _ (n : ℕ) (x : ScopeRecord) (xs : List ScopeRecord) (r : Region) (rs : List Region) where
-        left_skipped : rows.holds x rva ≡ false → holds c.frame.next r ≡ false → Left (n + 1) xs rs
-            → Left n (x ∷ xs) (r ∷ rs)
-        left_skipped e h more =
-            left_deeper n x xs r rs
-            (ap (λ b. first_finally (cond b ((n, x) ∷ holding rva (n + 1) xs)
-            (holding rva (n + 1) xs))) e)
-            (λ next out. ap (body next out) (not_held r rs h)) more
+      module _ (n : ℕ) (x : ScopeRecord) (xs : List ScopeRecord) (r : Region) (rs : List Region)
+        where
+          left_skipped : rows.holds x rva ≡ false → holds c.frame.next r ≡ false → Left (n + 1) xs rs
+              → Left n (x ∷ xs) (r ∷ rs)
+          left_skipped e h more =
+              left_deeper n x xs r rs
+              (ap (λ b. first_finally (cond b ((n, x) ∷ holding rva (n + 1) xs)
+              (holding rva (n + 1) xs))) e)
+              (λ next out. ap (body next out) (not_held r rs h)) more
 
-        module _ (e : rows.holds x rva ≡ true) (h : holds c.frame.next r ≡ true) where
-          row_first : (b : Bool) → (x.jump_target == 0) ≡ b
-              → first_finally (holding rva n (x ∷ xs))
-              ≡ cond b (Some (n, x)) (first_finally (holding rva (n + 1) xs))
-          row_first b q =
-              ap (λ b. first_finally (cond b ((n, x) ∷ holding rva (n + 1) xs)
-              (holding rva (n + 1) xs))) e
-              ∙ ap (λ b. cond b (Some (n, x)) (first_finally (holding rva (n + 1) xs))) q
+          module _ (e : rows.holds x rva ≡ true) (h : holds c.frame.next r ≡ true) where
+            row_first : (b : Bool) → (x.jump_target == 0) ≡ b
+                → first_finally (holding rva n (x ∷ xs))
+                ≡ cond b (Some (n, x)) (first_finally (holding rva (n + 1) xs))
+            row_first b q =
+                ap (λ b. first_finally (cond b ((n, x) ∷ holding rva (n + 1) xs)
+                (holding rva (n + 1) xs))) e
+                ∙ ap (λ b. cond b (Some (n, x)) (first_finally (holding rva (n + 1) xs))) q
 
-          left_asked : (k : RegionKind) → r.kind ≡ k → IsOfKind t fs program p c.frame.body x k
-              → Left (n + 1) xs rs → Left n (x ∷ xs) (r ∷ rs)
-          left_asked (kinds.Finally k) q is more =
-              inr (record {
-                off = 0;
-                row = x;
-                funclet = k;
-                first = row_first true is.none ∙ ap (λ k. Some (k, x))
-                    (let a : n ≡ n + 0 = omega arith in a);
-                is = is;
-                runs = λ next out. passed r rs (kinds.Finally k) next out h (never r) q;
-                before = refl;
-              })
-          left_asked (kinds.Filter k label) q is more = left_deeper n x xs r rs
-              (row_first false is.to.jumps) (λ next out. passed r rs (kinds.Filter k label) next out h
-              (never r) q) more
-          left_asked (kinds.Always label) q is more = left_deeper n x xs r rs
-              (row_first false is.to.jumps) (λ next out. passed r rs (kinds.Always label) next out h
-              (never r) q) more
+            left_asked : (k : RegionKind) → r.kind ≡ k → IsOfKind t fs program p c.frame.body x k
+                → Left (n + 1) xs rs → Left n (x ∷ xs) (r ∷ rs)
+            left_asked (kinds.Finally k) q is more =
+                inr (record {
+                  off = 0;
+                  row = x;
+                  funclet = k;
+                  first = row_first true is.none ∙ ap (λ k. Some (k, x))
+                      (let a : n ≡ n + 0 = omega arith in a);
+                  is = is;
+                  runs = λ next out. passed r rs (kinds.Finally k) next out h (never r) q;
+                  before = refl;
+                })
+            left_asked (kinds.Filter k label) q is more = left_deeper n x xs r rs
+                (row_first false is.to.jumps) (λ next out. passed r rs (kinds.Filter k label) next out
+                h
+                (never r) q) more
+            left_asked (kinds.Always label) q is more = left_deeper n x xs r rs
+                (row_first false is.to.jumps) (λ next out. passed r rs (kinds.Always label) next out h
+                (never r) q) more
 
       pub leaves_the_frame : (n : ℕ) (xs : List ScopeRecord) (rs : List Region)
           → AreRegions t fs program p c.frame.body xs rs → Same rs → Left n xs rs
@@ -166,7 +168,8 @@ module _ (t : Functions) (fs : List Funclet) (program : LinearProgram) (p : Imag
           by : Left (n + 1) xs rs → (b : Bool) → holds c.frame.next r ≡ b → Left n (x ∷ xs) (r ∷ rs)
           by more true h = left_asked n x xs r rs (s.0.holds label rip inside ∙ same.0 ∙ h) h r.kind
               refl s.0.kind more
-          by more false h = left_skipped n x xs r rs (s.0.holds label rip inside ∙ same.0 ∙ h) h more
+          by more false h = left_skipped n x xs r rs (s.0.holds label rip inside ∙ same.0 ∙ h) h
+              more
       leaves_the_frame n [] (r ∷ rs) s same = absurd s
       leaves_the_frame n (x ∷ xs) [] s same = absurd s
 
@@ -179,13 +182,18 @@ module _ (t : Functions) (fs : List Funclet) (program : LinearProgram) (p : Imag
     Reached n xs rs = Arrives t fs program p target c (until goal (holding rva n xs)) (held rs)
         ⊎ First n (until goal (holding rva n xs)) xs rs
 
-    reached_deeper : (n : ℕ) (x : ScopeRecord) (xs : List ScopeRecord) (r : Region) (rs : List Region)
+    reached_deeper : (n : ℕ) (x : ScopeRecord) (xs : List ScopeRecord) (r : Region)
+        (rs : List Region)
         → first_finally (until goal (holding rva n (x ∷ xs)))
         ≡ first_finally (until goal (holding rva (n + 1) xs))
         → ((next : Next) (out : Store → Seen) → body next out (held (r ∷ rs))
         ≡ body next out (held rs)) → Reached (n + 1) xs rs → Reached n (x ∷ xs) (r ∷ rs)
     reached_deeper n x xs r rs e h (inl none) = inl
-        (record { first = e ∙ none.first; arrives = λ next out. h next out ∙ none.arrives next out })
+        (record {
+          first = e ∙ none.first;
+          arrives = λ next out. h next out ∙ none.arrives next
+              out;
+        })
     reached_deeper n x xs r rs e h (inr f) = inr (first_deeper n _ _ x xs r rs e h f)
 
     module _ (here : target.depth ≡ length c.below) where
@@ -194,57 +202,60 @@ module _ (t : Functions) (fs : List Funclet) (program : LinearProgram) (p : Imag
       by_label r = ap (λ b. b && (holds target.label r || leads_to r.kind target.label))
           (eq-eqb target.depth (length c.below) here)
 
-      module _ (n : ℕ) (x : ScopeRecord) (xs : List ScopeRecord) (r : Region) (rs : List Region) where
-        reached_skipped : rows.holds x rva ≡ false → holds c.frame.next r ≡ false
-            → Reached (n + 1) xs rs → Reached n (x ∷ xs) (r ∷ rs)
-        reached_skipped e h more =
-            reached_deeper n x xs r rs
-            (ap (λ b. first_finally (until goal
-            (cond b ((n, x) ∷ holding rva (n + 1) xs) (holding rva (n + 1) xs)))) e)
-            (λ next out. ap (body next out) (not_held r rs h)) more
-
-        module _ (e : rows.holds x rva ≡ true) (h : holds c.frame.next r ≡ true) where
-          until_first : (b : Bool) → is_end goal x ≡ b
-              → first_finally (until goal (holding rva n (x ∷ xs)))
-              ≡ first_finally (cond b [] ((n, x) ∷ until goal (holding rva (n + 1) xs)))
-          until_first b q =
-              ap (λ b. first_finally (until goal
-              (cond b ((n, x) ∷ holding rva (n + 1) xs) (holding rva (n + 1) xs)))) e
-              ∙ ap (λ b. first_finally (cond b [] ((n, x) ∷ until goal (holding rva (n + 1) xs)))) q
-
-          row_here : (b : Bool) → is_end goal x ≡ false → (x.jump_target == 0) ≡ b
-              → first_finally (until goal (holding rva n (x ∷ xs)))
-              ≡ cond b (Some (n, x)) (first_finally (until goal (holding rva (n + 1) xs)))
-          row_here b q j = until_first false q ∙ ap
-              (λ b. cond b (Some (n, x)) (first_finally (until goal (holding rva (n + 1) xs)))) j
-
-          reached_asked : (k : RegionKind) → r.kind ≡ k → is_end goal x ≡ false
-              → stops target r (length c.below) ≡ false → IsOfKind t fs program p c.frame.body x k
+      module _ (n : ℕ) (x : ScopeRecord) (xs : List ScopeRecord) (r : Region) (rs : List Region)
+        where
+          reached_skipped : rows.holds x rva ≡ false → holds c.frame.next r ≡ false
               → Reached (n + 1) xs rs → Reached n (x ∷ xs) (r ∷ rs)
-          reached_asked (kinds.Finally k) q z s is more =
-              inr (record {
-                off = 0;
-                row = x;
-                funclet = k;
-                first = row_here true z is.none
-                    ∙ ap (λ k. Some (k, x)) (let a : n ≡ n + 0 = omega arith in a);
-                is = is;
-                runs = λ next out. passed r rs (kinds.Finally k) next out h s q;
-                before = refl;
-              })
-          reached_asked (kinds.Filter k label) q z s is more = reached_deeper n x xs r rs
-              (row_here false z is.to.jumps) (λ next out. passed r rs (kinds.Filter k label) next out h
-              s q) more
-          reached_asked (kinds.Always label) q z s is more = reached_deeper n x xs r rs
-              (row_here false z is.to.jumps) (λ next out. passed r rs (kinds.Always label) next out h s
-              q) more
+          reached_skipped e h more =
+              reached_deeper n x xs r rs
+              (ap (λ b. first_finally (until goal
+              (cond b ((n, x) ∷ holding rva (n + 1) xs) (holding rva (n + 1) xs)))) e)
+              (λ next out. ap (body next out) (not_held r rs h)) more
 
-          reached_held : (b : Bool) → is_end goal x ≡ b → stops target r (length c.below) ≡ b
-              → IsOfKind t fs program p c.frame.body x r.kind → Reached (n + 1) xs rs
-              → Reached n (x ∷ xs) (r ∷ rs)
-          reached_held true z s is more = inl (record
-              { first = until_first true z; arrives = λ next out. stopped r rs next out h s })
-          reached_held false z s is more = reached_asked r.kind refl z s is more
+          module _ (e : rows.holds x rva ≡ true) (h : holds c.frame.next r ≡ true) where
+            until_first : (b : Bool) → is_end goal x ≡ b
+                → first_finally (until goal (holding rva n (x ∷ xs)))
+                ≡ first_finally (cond b [] ((n, x) ∷ until goal (holding rva (n + 1) xs)))
+            until_first b q =
+                ap (λ b. first_finally (until goal
+                (cond b ((n, x) ∷ holding rva (n + 1) xs) (holding rva (n + 1) xs)))) e
+                ∙ ap (λ b. first_finally (cond b [] ((n, x) ∷ until goal (holding rva (n + 1) xs)))) q
+
+            row_here : (b : Bool) → is_end goal x ≡ false → (x.jump_target == 0) ≡ b
+                → first_finally (until goal (holding rva n (x ∷ xs)))
+                ≡ cond b (Some (n, x)) (first_finally (until goal (holding rva (n + 1) xs)))
+            row_here b q j = until_first false q ∙ ap
+                (λ b. cond b (Some (n, x)) (first_finally (until goal (holding rva (n + 1) xs)))) j
+
+            reached_asked : (k : RegionKind) → r.kind ≡ k → is_end goal x ≡ false
+                → stops target r (length c.below) ≡ false → IsOfKind t fs program p c.frame.body x k
+                → Reached (n + 1) xs rs → Reached n (x ∷ xs) (r ∷ rs)
+            reached_asked (kinds.Finally k) q z s is more =
+                inr (record {
+                  off = 0;
+                  row = x;
+                  funclet = k;
+                  first = row_here true z is.none
+                      ∙ ap (λ k. Some (k, x)) (let a : n ≡ n + 0 = omega arith in a);
+                  is = is;
+                  runs = λ next out. passed r rs (kinds.Finally k) next out h s q;
+                  before = refl;
+                })
+            reached_asked (kinds.Filter k label) q z s is more = reached_deeper n x xs r rs
+                (row_here false z is.to.jumps) (λ next out. passed r rs (kinds.Filter k label) next
+                out h
+                s q) more
+            reached_asked (kinds.Always label) q z s is more = reached_deeper n x xs r rs
+                (row_here false z is.to.jumps) (λ next out. passed r rs (kinds.Always label) next out
+                h s
+                q) more
+
+            reached_held : (b : Bool) → is_end goal x ≡ b → stops target r (length c.below) ≡ b
+                → IsOfKind t fs program p c.frame.body x r.kind → Reached (n + 1) xs rs
+                → Reached n (x ∷ xs) (r ∷ rs)
+            reached_held true z s is more = inl (record
+                { first = until_first true z; arrives = λ next out. stopped r rs next out h s })
+            reached_held false z s is more = reached_asked r.kind refl z s is more
 
       pub stops_at_the_target : p.lands c.frame.body target.label ≡ true
           → (n : ℕ) (xs : List ScopeRecord) (rs : List Region)
@@ -273,7 +284,8 @@ module _ (t : Functions) (fs : List Funclet) (program : LinearProgram) (p : Imag
 
     -- ---- counted from the frame's first record
 
-    pub counted : (row : ℕ) (scopes : List ScopeRecord) (rs : List Region) (asked : List AskedRecord)
+    pub counted : (row : ℕ) (scopes : List ScopeRecord) (rs : List Region)
+        (asked : List AskedRecord)
         → First row asked (drop row scopes) (drop row rs)
         → FirstBlock t fs program p target c scopes asked (held (drop row rs))
         (λ row. held (drop row rs))
@@ -288,7 +300,8 @@ module _ (t : Functions) (fs : List Funclet) (program : LinearProgram) (p : Imag
           ∙ ap (λ (rs : List Region). run_finally program f.funclet true target.held
           (Unwinds (held rs) target ∷ Waits c.frame ∷ c.below) next c)
           (dropped_again row f.off (row + f.off) rs refl);
-      before = ap (row_before scopes) (let a : row + f.off + 1 ≡ suc (row + f.off) = omega arith in a)
+      before = ap (row_before scopes) (let a : row + f.off + 1 ≡ suc (row + f.off) = omega arith
+          in a)
           ∙ row_before_dropped row f.off scopes f.row f.before;
     }
 

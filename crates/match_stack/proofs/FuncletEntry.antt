@@ -55,12 +55,14 @@ module _ (s : State) (at back handler first frame : ℕ) (well_formed : IsWellFo
       rip_small = handler_small;
       count = length-set two 4 (return_address_at at) ∙ length_two;
       small = set_small two 4 (return_address_at at)
-          (set_small one 2 frame (set_small s.cpu.registers 1 first well_formed.small first_small) frame_small)
+          (set_small one 2 frame (set_small s.cpu.registers 1 first well_formed.small first_small)
+          frame_small)
           (omega arith);
     }
 
     pub entered_stack : register after.cpu Rsp ≡ return_address_at at
-    entered_stack = get_or-set_same two 4 (return_address_at at) 0 (let n = length_two in omega arith)
+    entered_stack = get_or-set_same two 4 (return_address_at at) 0
+        (let n = length_two in omega arith)
 
     pub entered_frame : register after.cpu Rdx ≡ frame
     entered_frame = get_or-set_other two 4 2 (return_address_at at) 0 (λ e. absurd (omega arith))
@@ -131,7 +133,8 @@ module _ (t : Functions) (fs : List Funclet) (program : LinearProgram) (p : Imag
       (context_below back at others) is items acts)
       → Arrives t fs program p (entered (with_record s at r) at back (p.funclet k) first frame) k
       activation first items acts
-  arrives s at r back first frame above k activation name is items acts well_formed d room le frame_small
+  arrives s at r back first frame above k activation name is items acts well_formed d room le
+      frame_small
       back_small first_small funclet reach on =
       let old : State = with_record s at r in
       let well_formed_old : IsWellFormed old = record {
@@ -140,9 +143,11 @@ module _ (t : Functions) (fs : List Funclet) (program : LinearProgram) (p : Imag
         small = well_formed.small;
       } in
       let new : State = entered old at back (p.funclet k) first frame in
-      let stack_is = entered_stack old at back (p.funclet k) first frame well_formed_old funclet.small
+      let stack_is = entered_stack old at back (p.funclet k) first frame well_formed_old
+      funclet.small
       first_small frame_small in
-      let frame_is = entered_frame old at back (p.funclet k) first frame well_formed_old funclet.small
+      let frame_is = entered_frame old at back (p.funclet k) first frame well_formed_old
+      funclet.small
       first_small frame_small in
       let memory_is = pushed_is s.memory at r back above d room back_small in
       let b = room.below in
@@ -173,6 +178,7 @@ module _ (t : Functions) (fs : List Funclet) (program : LinearProgram) (p : Imag
             ∙ word_pushed s.memory at r back above d room back_small;
         is = is;
         on = on;
-        well_formed = entered_well_formed old at back (p.funclet k) first frame well_formed_old funclet.small first_small
+        well_formed = entered_well_formed old at back (p.funclet k) first frame well_formed_old
+            funclet.small first_small
             frame_small;
       }

@@ -52,7 +52,8 @@ module _ (t : Functions) (fs : List Funclet) (program : LinearProgram) (p : Imag
             slot = e.slot;
             some = e.some;
             room = e.room;
-            kept = word_above m byte low (frame + e.slot) h.base a (omega arith) (omega arith) e.kept;
+            kept = word_above m byte low (frame + e.slot) h.base a (omega arith) (omega arith)
+                e.kept;
           }
 
 -- ---- other memories

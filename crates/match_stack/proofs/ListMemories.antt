@@ -67,7 +67,8 @@ module _ (m m' : Memory) (top : ℕ) where
 
     pub body_kept : (c : Context) (size end : ℕ) (b : Frame) (acts : List Activation)
         → ReadsSame m m' (rsp c) top → rsp c + size ≤ top → rsp c + end ≤ top
-        → BodyWaits t fs program p m c size end b acts → BodyWaits t fs program p m' c size end b acts
+        → BodyWaits t fs program p m c size end b acts → BodyWaits t fs program p m' c size end b
+        acts
     body_kept c size end b acts r fits ends h =
         let y = p.layout b.body in
         record {
@@ -85,7 +86,8 @@ module _ (m m' : Memory) (top : ℕ) where
 
     pub frame_kept : (c : Context) (f : StackFrame) (b : Frame) (below : List Item)
         (acts : List Activation) → ReadsSame m m' (rsp c) top → rsp c + f.size ≤ top
-        → FrameWaits t fs program p m c f b below acts → FrameWaits t fs program p m' c f b below acts
+        → FrameWaits t fs program p m c f b below acts → FrameWaits t fs program p m' c f b below
+        acts
     frame_kept c f b below acts r fits h =
         let y = p.layout b.body in
         let e = end_within m y (rsp c) f.size b.activation acts b.body h.waits.activation in

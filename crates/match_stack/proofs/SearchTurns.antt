@@ -42,9 +42,11 @@ module _ (t : Functions) (fs : List Funclet) (program : LinearProgram) (p : Imag
       let small = room.small in
       let place : IsPlace at = place_of s.memory at (omega arith) room.room in
       let l : 0x70000008 ≤ at = place.low in
-      let first = entered_first old at filter_return (p.funclet k) ((at + 80) % 2 ^ 64) frame well_formed
+      let first = entered_first old at filter_return (p.funclet k) ((at + 80) % 2 ^ 64) frame
+      well_formed
       handler_small (omega arith) frame_small in
-      let sp = entered_stack old at filter_return (p.funclet k) ((at + 80) % 2 ^ 64) frame well_formed
+      let sp = entered_stack old at filter_return (p.funclet k) ((at + 80) % 2 ^ 64) frame
+      well_formed
       handler_small (omega arith) frame_small in
       let e : (at + 80) % 2 ^ 64 ≡ return_address_at at + 88 = omega arith in
       first ∙ e ∙ ap (λ x. x + 88) (sym sp)
@@ -86,7 +88,8 @@ module _ (t : Functions) (fs : List Funclet) (program : LinearProgram) (p : Imag
         goes = λ next. ap (λ (o : Option ℕ). consult program o f rest exception resumption next c)
             e;
         arrives = arrives t fs program p s at hand filter_return ((at + 80) % 2 ^ 64) a.frame above
-            k f.activation a.name (Searching hand ∷ is) (Searches exception resumption f rest ∷ items)
+            k f.activation a.name (Searching hand ∷ is) (Searches exception resumption f rest ∷
+            items)
             acts
             h.well_formed h.on.data_alone room le frame_small (omega arith) (omega arith) a.funclet
             a.reaches

@@ -24,7 +24,8 @@ record_same m byte c r at is next same s =
       fetches = fetched_by_its_bytes m (with_bytes m byte) (rsp c) (omega arith) refl
           (λ x p q. same x (within x (rsp c + 32) (rsp c + RECORD_SIZE) p q)) ∙ s.fetches;
       pointers = word_same m byte (rsp c + 80) (omega arith)
-          (λ x p q. same x (within x (rsp c + 32) (rsp c + RECORD_SIZE) (omega arith) (omega arith)))
+          (λ x p q. same x (within x (rsp c + 32) (rsp c + RECORD_SIZE) (omega arith)
+          (omega arith)))
           ∙ s.pointers;
       kind = s.kind;
       above = s.above;

@@ -66,8 +66,12 @@ module _ (t : Functions) (fs : List Funclet) (program : LinearProgram) (p : Imag
       let new : State = entered (with_record t fs program p s at hand) at finally_return
       (p.funclet a.block) 1 (rsp a.to) in
       let first = entered_first (with_record t fs program p s at hand) at finally_return
-      (p.funclet a.block) 1 (rsp a.to) (record
-      { rip_small = h.well_formed.rip_small; count = h.well_formed.count; small = h.well_formed.small })
+      (p.funclet a.block) 1 (rsp a.to) (record {
+        rip_small = h.well_formed.rip_small;
+        count = h.well_formed.count;
+        small =
+            h.well_formed.small;
+      })
       a.funclet.small (omega arith) frame_small in
       record {
         block = a.block;
@@ -105,7 +109,8 @@ module _ (t : Functions) (fs : List Funclet) (program : LinearProgram) (p : Imag
               aimed = a.aimed;
               space = subst (λ n. HasSpace at (below_end + record_room) n) (sym a.counted) h.space;
             }));
-        untouched = pushed_record_leaves_others s.memory at hand finally_return above h.on.data_alone
+        untouched = pushed_record_leaves_others s.memory at hand finally_return above
+            h.on.data_alone
             room (in_stack t fs program p s.memory r.walk is w.items w.acts h.on.is_there.stack
             h.on.is_there.linked) (omega arith);
         named = a.named new.cpu ∙ ap (λ v. events.Finally (a.block + 1) (not (low W32 v == 0)) ∷ [])
@@ -119,8 +124,12 @@ module _ (t : Functions) (fs : List Funclet) (program : LinearProgram) (p : Imag
         list = refl;
         same_walk = refl;
         frame = entered_frame (with_record t fs program p s at hand) at finally_return
-            (p.funclet a.block) 1 (rsp a.to) (record
-            { rip_small = h.well_formed.rip_small; count = h.well_formed.count; small = h.well_formed.small })
+            (p.funclet a.block) 1 (rsp a.to) (record {
+              rip_small = h.well_formed.rip_small;
+              count = h.well_formed.count;
+              small =
+                  h.well_formed.small;
+            })
             a.funclet.small (omega arith) frame_small;
       }
     where

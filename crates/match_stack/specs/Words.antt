@@ -4,7 +4,8 @@ pub use Rattle.seh_num.specs.declared.event.Code.{Code}
 pub use Rattle.seh_num.specs.declared.event.Event.{Event}
 pub use Rattle.seh_num.specs.declared.width.Width.TheVariants.{W32}
 pub use Rattle.host_layout.specs.declared.range.TheConstants.{STACK_END, STACK_START}
-pub use Rattle.flat_memory.specs.Memory.{Memory, with_bytes, first_refused, may_read, number_at, with_number, access, may_write}
+pub use Rattle.flat_memory.specs.Memory.{Memory, with_bytes, may_read, access, may_write}
+unfoldable pub use Rattle.flat_memory.specs.Memory.{first_refused, number_at, with_number}
 pub use Rattle.flat_memory.specs.Protections.{is_readable}
 pub use Rattle.flat_memory.specs.declared.protection.Protection.{Protection}
 pub use Rattle.source_meaning.specs.Raises.{noncontinuable}
@@ -12,7 +13,8 @@ pub use Rattle.source_meaning.specs.State.{Exception}
 pub use Rattle.linear_code.specs.Program.{LinearProgram}
 pub use Rattle.linear_code.specs.declared.program.Region.{Region}
 pub use Rattle.linear_code.specs.declared.program.RegionKind.{RegionKind}
-pub use Rattle.linear_machine.specs.Frames.{Item, Searches, Unwinds, Frame, Waits, Handler, Resumption, Configuration, Next, pick, BodyName, Target, Store, Seen, FunctionBody, FuncletBody, body_of}
+pub use Rattle.linear_machine.specs.Frames.{Item, Searches, Unwinds, Frame, Waits, Handler, Resumption, Configuration, Next, BodyName, Target, Store, Seen, FunctionBody, FuncletBody, body_of}
+unfoldable pub use Rattle.linear_machine.specs.Frames.{pick}
 pub use Rattle.linear_machine.specs.Regions.{handlers, holds, handlers_in, regions_of}
 pub use Rattle.linear_machine.specs.Unwinding.{left_store, unwind_body}
 pub use Rattle.eh_tables.specs.Infos.{Info}
@@ -27,19 +29,22 @@ pub use Rattle.x64_machine.specs.declared.cpu.Cpu.{Cpu}
 pub use Rattle.template_code.specs.declared.layout.Layout.{Layout}
 pub use Rattle.virtual_unwind.specs.CallerOf.{Functions, distance}
 pub use Rattle.virtual_unwind.specs.Contexts.{rsp}
-pub use Rattle.virtual_unwind.specs.Tail.{tail_at}
+unfoldable pub use Rattle.virtual_unwind.specs.Tail.{tail_at}
 pub use Rattle.virtual_unwind.specs.Undone.{word, readable}
 pub use Rattle.seh_records.specs.Laws.{RecordFits, AllSmall}
-pub use Rattle.seh_records.specs.Record.{placed, misplaced, words, return_address_at, fetched}
-pub use Rattle.seh_records.specs.Words.{with_block, block_byte}
+pub use Rattle.seh_records.specs.Record.{return_address_at}
+unfoldable pub use Rattle.seh_records.specs.Record.{placed, misplaced, words, fetched}
+pub use Rattle.seh_records.specs.Words.{block_byte}
+unfoldable pub use Rattle.seh_records.specs.Words.{with_block}
 pub use Rattle.seh_records.specs.declared.dispatch.DispatchRecord.{DispatchRecord}
 pub use Rattle.seh_records.specs.declared.layout.TheConstants.{RECORD_SIZE, PLACED_SIZE}
 pub use Rattle.seh_walk.specs.Asked.{AskedRecord, holding, rows_from, is_end, unwound, until, until_if, first_with_jump_target, first_finally}
 pub use Rattle.seh_walk.specs.Walk.{filter_return, finally_return, is_search, walk_in, steps}
 pub use Rattle.seh_walk.specs.declared.walk.WalkState.{WalkState}
-pub use Rattle.seh_search.specs.Search.{search}
+unfoldable pub use Rattle.seh_search.specs.Search.{search}
 pub use Rattle.seh_search.specs.declared.search_result.SearchResult.{SearchResult}
-pub use Rattle.seh_unwind.specs.Unwind.{unwind, if_past, by_row, if_target}
+pub use Rattle.seh_unwind.specs.Unwind.{if_past, by_row, if_target}
+unfoldable pub use Rattle.seh_unwind.specs.Unwind.{unwind}
 pub use Rattle.seh_unwind.specs.declared.unwind_result.UnwindResult.{UnwindResult}
 pub use Rattle.host_model.specs.Dispatch.{if_placed, unwinds_on, row_before, entered, in_hand}
 pub use Rattle.host_model.specs.Funclets.{arrived, arrivals}

@@ -22,11 +22,15 @@ begun_represents t fs program p q most s c l =
     }
 
 pub bodies_continue : BodiesContinue
-bodies_continue t fs program p q image made s saved is acts AfterCall c on well_formed says memory store =
-    let x = continuations_after_calls t fs program p q image made s saved is acts c on well_formed says
+bodies_continue t fs program p q image made s saved is acts AfterCall c on well_formed says memory
+    store =
+    let x = continuations_after_calls t fs program p q image made s saved is acts c on well_formed
+    says
     memory store in
     (x.0, λ known free. begun_represents t fs program p q _ _ _ (x.1 known free))
-bodies_continue t fs program p q image made s saved is acts SameOperation c on well_formed says memory
+bodies_continue t fs program p q image made s saved is acts SameOperation c on well_formed says
+    memory
     store =
-    let x = continuations t fs program p q image made s saved is acts c on well_formed says memory store in
+    let x = continuations t fs program p q image made s saved is acts c on well_formed says memory
+    store in
     (x.0, λ known free. x.1)

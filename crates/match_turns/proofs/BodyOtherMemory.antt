@@ -84,7 +84,11 @@ module _ (setting : Setting) (s : State) (c : Configuration)
       let h = top in
       record {
         rip = b.rip;
-        well_formed = record { rip_small = b.well_formed.rip_small; count = b.well_formed.count; small = b.well_formed.small };
+        well_formed = record {
+          rip_small = b.well_formed.rip_small;
+          count = b.well_formed.count;
+          small = b.well_formed.small;
+        };
         memory = memory;
         body = record {
           acts = b.body.acts;

@@ -126,7 +126,8 @@ module _ (setting : Setting) (roomy : HaveRoom setting.program) where
         (length-drop 3 s.cpu.registers ∙ (let z = b.well_formed.count in omega arith))
 
     pub well_formed_after : IsWellFormed after
-    well_formed_after = stays_well_formed s after (reaches_keeps n s after reaches) has_back.small b.well_formed
+    well_formed_after = stays_well_formed s after (reaches_keeps n s after reaches) has_back.small
+        b.well_formed
 
     -- each of its turns keeps the shadow
     pub keeps : AllKeep t fs n s

@@ -22,7 +22,8 @@ module _ (t : Functions) (fs : List Funclet) (program : LinearProgram) (p : Imag
   where
     -- what is below a body doesn't depend on its temporaries
     pub above_same : (b : Frame) (ts : List ℕ) (name : BodyName) (below : List Item)
-        → IsAbove t fs program p b name below → IsAbove t fs program p (record b { temporaries = ts })
+        → IsAbove t fs program p b name below → IsAbove t fs program p
+        (record b { temporaries = ts })
         name below
     above_same b ts (FunctionBody f) below h = h
     above_same b ts (FuncletBody k) below h = by_funclet (slice_get program.funclets k) below h

@@ -186,7 +186,8 @@ module _ (setting : Setting) (made : IsWellMade setting.program setting.plan) wh
     live = service_live f
 
     pub well_formed : IsWellFormed state
-    well_formed = let l = (service_low f).1 in stays_well_formed s state (reaches_keeps 7 s state reaches)
+    well_formed = let l = (service_low f).1 in stays_well_formed s state
+        (reaches_keeps 7 s state reaches)
         (omega arith) b.well_formed
 
     -- ---- the return

@@ -13,7 +13,8 @@ passed_in y first i (suc n) = let r = passed_in y first (i + 1) n in omega arith
 pub got_past : (xs : List ℕ) (n i : ℕ) → slice_get (drop n xs) i ≡ slice_get xs (n + i)
 got_past xs zero i = let z : i ≡ 0 + i = omega arith in ap (slice_get xs) z
 got_past [] (suc n) i = refl
-got_past (x ∷ xs) (suc n) i = got_past xs n i ∙ (let z : suc (n + i) ≡ suc n + i = omega arith in ap (slice_get (x ∷ xs)) z)
+got_past (x ∷ xs) (suc n) i = got_past xs n i ∙ (let z : suc (n + i) ≡ suc n + i = omega arith
+    in ap (slice_get (x ∷ xs)) z)
 
 -- what linear code does
 pub call_acts : (program : LinearProgram) (c : Configuration) (f first count : ℕ)
@@ -27,11 +28,14 @@ unfolding with_some
 call_acts program c f first count fn callee held next =
     let arguments = drop first c.frame.temporaries in
     let e : last_temporaries c.frame.temporaries first count ≡ Some arguments =
-    ap (λ (x : Bool). if x then Some arguments else None) (eq-eqb (length c.frame.temporaries) (first + count) held) in
+    ap (λ (x : Bool). if x then Some arguments else None) (eq-eqb (length c.frame.temporaries)
+    (first + count) held) in
     ap (λ o. with_some c.events o (λ arguments.
     with_some c.events (slice_get program.functions f) (λ function.
     deeper 1 c.frame.held c.store c.events
-    (next (begin_function f function arguments c.frame.held (Waits (waiting c first).frame ∷ c.below) c.store c.events))))) e
+    (next (begin_function f function arguments c.frame.held (Waits (waiting c first).frame ∷
+    c.below) c.store c.events))))) e
     ∙ ap (λ o. with_some c.events o (λ function.
     deeper 1 c.frame.held c.store c.events
-    (next (begin_function f function arguments c.frame.held (Waits (waiting c first).frame ∷ c.below) c.store c.events)))) callee
+    (next (begin_function f function arguments c.frame.held (Waits (waiting c first).frame ∷
+    c.below) c.store c.events)))) callee

@@ -128,7 +128,12 @@ module _ (setting : Setting) (roomy : HaveRoom setting.program) where
         let lt = slice_get_within o.code w.next i calls in
         record {
           rip = refl;
-          well_formed = record { rip_small = small_address; count = well_formed.count; small = well_formed.small };
+          well_formed = record {
+            rip_small = small_address;
+            count = well_formed.count;
+            small =
+                well_formed.small;
+          };
           memory = memory;
           body = waits_in_body t fs program p q image earlier above is w items acts w.next
               w.temporaries w.landed source es on sp

@@ -46,7 +46,8 @@ module _ (setting : Setting) (roomy : HaveRoom setting.program) where
       beginning = begin_call layout first (p.address w.body w.next + sizes passing) (q.function f)
 
       fits : first < o.temporaries
-      fits = let h = each (HasSlots (counts_of o)) o.code w.next (instructions.Call f first arguments)
+      fits = let h = each (HasSlots (counts_of o)) o.code w.next
+          (instructions.Call f first arguments)
           (roomy w.body o there).slots calls in let few = h.0 in omega arith
 
       back_is : u.cpu.rip ≡ p.address w.body w.next + sizes (passing ++ beginning)
@@ -69,5 +70,6 @@ module _ (setting : Setting) (roomy : HaveRoom setting.program) where
       resumes counted surrounded =
           kept.resumes setting roomy u w items acts source es above is on sp well_formed memory o
           there (instructions.Call f first arguments) first (passing ++ beginning) calls (λ h. h)
-          (sym (append_assoc passing beginning (keep layout (Temporary first)))) fits within held free
+          (sym (append_assoc passing beginning (keep layout (Temporary first)))) fits within held
+          free
           back_is counted surrounded

@@ -74,7 +74,12 @@ module _ (t : Functions) (fs : List Funclet) (program : LinearProgram) (p : Imag
       leads = g.leads;
     }))
     outcome_same x y seen other es left shadow e same (inr (inr g)) = inr
-        (inr (record { code = g.code; turns = e ∙ g.turns; acts = λ next. same next ∙ g.acts next }))
+        (inr (record {
+          code = g.code;
+          turns = e ∙ g.turns;
+          acts = λ next. same next ∙ g.acts
+              next;
+        }))
 
     -- with more turns left
     pub outcome_more : (x : Turn) (seen : Next → Seen) (es : List Event) (left more : ℕ)
@@ -114,7 +119,8 @@ module _ (t : Functions) (fs : List Funclet) (program : LinearProgram) (p : Imag
     -- silent turns, and one turn of the host, which shows some events before those of its outcome
     module _ (turns_per_step k left : ℕ) (s u : State) (c : Configuration) (i : Instruction)
         (before : List Event) (x : Turn)
-        (silent : Comes t fs k s [] u) (live : IsLive u) (turns : turn t fs u ≡ with_events before x)
+        (silent : Comes t fs k s [] u) (live : IsLive u) (turns : turn t fs u ≡ with_events before
+        x)
         (enough : k + 1 + entry_turns + left ≤ turns_per_step + turns_left c)
         (known : KnownNext program c i) (shadow : List Context)
         (keeps : KeepsWith t fs program p q u shadow) where
@@ -181,7 +187,8 @@ module _ (t : Functions) (fs : List Funclet) (program : LinearProgram) (p : Imag
                 few = omega arith;
                 state = l.state;
                 events = before ++ g.event ∷ [];
-                comes = silently_after t fs (k + 1) l.turns s g.state l.state (before ++ g.event ∷ [])
+                comes = silently_after t fs (k + 1) l.turns s g.state l.state
+                    (before ++ g.event ∷ [])
                     (reaches g.state (g.event ∷ []) g.turns
                     (keeps g.state (g.event ∷ []) g.arrives g.walk)) l.comes;
                 acts = moves;
@@ -204,7 +211,8 @@ module _ (t : Functions) (fs : List Funclet) (program : LinearProgram) (p : Imag
         acts = g.acts;
       })))
 
-      pub matched_by_turn : Outcome t fs program p q x step (c.events ++ before) left shadow → Matched
+      pub matched_by_turn : Outcome t fs program p q x step (c.events ++ before) left shadow →
+          Matched
       matched_by_turn (inl g) = matched_on g
       matched_by_turn (inr (inl g)) = matched_in g
       matched_by_turn (inr (inr g)) = matched_out g

@@ -94,7 +94,8 @@ module _ (setting : Setting) (fits : FlagsFit setting.program) where
         → Answers
     is_continued a =
         let x : Turn = Continues (restored s r) [] in
-        let l = continues s r.saved is acts resumption c' a.on a.well_formed a.resumes memory store in
+        let l = continues s r.saved is acts resumption c' a.on a.well_formed a.resumes memory store
+        in
         shows x a.turns (inl (record {
           state = restored s r;
           events = [];
@@ -112,9 +113,11 @@ module _ (setting : Setting) (fits : FlagsFit setting.program) where
           leads = λ known. l.1 known free;
         }))
       where
-        continued_silently : ContinuesException t fs program p s r is acts exception resumption asked
+        continued_silently : ContinuesException t fs program p s r is acts exception resumption
+            asked
             rest c → arrivals r.saved (distance t.base r.saved.rip) 1 fs ≡ []
-        continued_silently a = (continues s r.saved is acts resumption c' a.on a.well_formed a.resumes
+        continued_silently a = (continues s r.saved is acts resumption c' a.on a.well_formed
+            a.resumes
             memory store).0
 
         resumed_few : (k : Resumption) → turns_left (resumed k c') ≤ turns_left c + 3

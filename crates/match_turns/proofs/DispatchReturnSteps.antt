@@ -55,7 +55,8 @@ module _ (setting : Setting) (fits : FlagsFit setting.program) where
       → HasRule (act program i (exec program zero) c)
       → KnownNext program c i
       → IsMatched t fs program 16 turns_left (Represents setting) s c i
-  finally_step k s u c i r is acts rest target f below silent few at under unlanded well_formed on memory store
+  finally_step k s u c i r is acts rest target f below silent few at under unlanded well_formed on
+      memory store
       goes rule known =
       let live : IsLive u = ap (λ a. a == 0) at in
       let a = finally_ended setting fits u r is acts rest target f below c well_formed on

@@ -8,7 +8,8 @@ pub none_landed : (program : LinearProgram) (items : List Item) → AreWaiting p
     → NoneLanded items
 none_landed program [] h = tt
 none_landed program (Waits f ∷ below) h = (h.0.landed, none_landed program below h.2)
-none_landed program (Searches exception resumption asked rest ∷ below) h = none_landed program below h.2
+none_landed program (Searches exception resumption asked rest ∷ below) h = none_landed program below
+    h.2
 none_landed program (Unwinds rest target ∷ below) h = none_landed program below h.2
 
 pub record IsSearchOnTop (c : Context) (is : List StackItem) : Type 0 where

@@ -303,12 +303,14 @@ module _ (setting : Setting) (roomy : HaveRoom setting.program)
     is_funclet : IsFunclet t fs program p name k
     is_funclet = record {
       parent = ap parent_body block.there
-          ∙ ap (λ n. Some n) (same_parents block.funclet.function block.funclet.parent ∙ block.parent);
+          ∙ ap (λ n. Some n) (same_parents block.funclet.function block.funclet.parent ∙
+          block.parent);
       small = target_small;
     }
 
     well_formed : IsWellFormed called
-    well_formed = stays_well_formed s called (reaches_keeps 3 s called reaches) target_small b.well_formed
+    well_formed = stays_well_formed s called (reaches_keeps 3 s called reaches) target_small
+        b.well_formed
 
     pub arrives : ArrivesBelow t fs program p called k c.frame.activation (of_test false)
         (Waits c.frame ∷ c.below) b.body.acts

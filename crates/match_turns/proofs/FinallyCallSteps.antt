@@ -78,8 +78,10 @@ module _ (setting : Setting) (made : IsWellMade setting.program setting.plan)
 
     too_deep : deep ≡ true → Goal
     unfolding pick
-    too_deep e = inr (inr (inr (fails_at_once t fs program turns_left turns_per_step s c i (Deep 1001) refl
-        (λ next. acts_as next ∙ ap (λ x. pick x (Finished (Deep 1001) c.events) (next next_one)) e))))
+    too_deep e = inr (inr (inr (fails_at_once t fs program turns_left turns_per_step s c i
+        (Deep 1001) refl
+        (λ next. acts_as next ∙ ap (λ x. pick x (Finished (Deep 1001) c.events) (next next_one))
+        e))))
 
     moves : deep ≡ false → Goal
     unfolding pick

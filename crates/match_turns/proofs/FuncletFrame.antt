@@ -236,7 +236,8 @@ module _ (setting : Setting) where
     at_is = let e = h.stack in let f = a.stack in omega arith
 
     pub list : (others : List ℕ) → length others ≡ 8
-        → On t fs program p u.memory (context_below a.back (sp + y.frame + 8) others) a.is items acts
+        → On t fs program p u.memory (context_below a.back (sp + y.frame + 8) others) a.is items
+        acts
     list others eight =
         let e = high in
         let lo = h.low in

@@ -44,9 +44,11 @@ module _ (setting : Setting) (roomy : HaveRoom setting.program) where
     same_acts = ap (λ name. activations_below name b.body.acts) is
 
     -- the list as it stood, below what the funclet has given back
-    rest_of_list : On t fs program p s.memory (context_below back top rest_of_context) b.body.is c.below
+    rest_of_list : On t fs program p s.memory (context_below back top rest_of_context) b.body.is
+        c.below
         b.body.acts
-    rest_of_list = subst (λ acts. On t fs program p s.memory (context_below back top rest_of_context)
+    rest_of_list = subst (λ acts. On t fs program p s.memory
+        (context_below back top rest_of_context)
         b.body.is c.below acts) same_acts (b.body.below rest_of_context refl)
 
     here : (js : List StackItem) (items : List Item) → b.body.is ≡ js → c.below ≡ items
@@ -111,7 +113,8 @@ module _ (setting : Setting) (roomy : HaveRoom setting.program) where
       }
 
       answers : (next : Next) → act program (instructions.Return from) next c
-          ≡ linear_answer program after exception resumption asked rest (waiting_below c w below) next
+          ≡ linear_answer program after exception resumption asked rest (waiting_below c w below)
+          next
       answers next =
           ends next
           ∙ ap (λ z. end_funclet program next z x c) kind
@@ -133,7 +136,8 @@ module _ (setting : Setting) (roomy : HaveRoom setting.program) where
 
     module _ (fits : FlagsFit program) (flag : ℕ) (kind : g.kind ≡ funclets.Finally flag)
         (rest : List Region) (target : Target) (f : Frame) (below : List Item)
-        (under : c.below ≡ Unwinds rest target ∷ Waits f ∷ below) (waits : AreWaiting program c.below)
+        (under : c.below ≡ Unwinds rest target ∷ Waits f ∷ below)
+        (waits : AreWaiting program c.below)
       where
         unwinding : IsUnwindingOnTop (context_below back top rest_of_context) b.body.is
         unwinding =

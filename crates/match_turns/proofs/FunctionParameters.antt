@@ -115,7 +115,11 @@ one_parameter y i = elim (cases_lt i 4) [
   | inl l ↦ (let e : nat_lt i 4 ≡ true = lt-ltb i 4 l in
       let z : length (parameter_code y i) ≡ 1 = rw e refl in (λ h. omega arith, omega arith))
   | inr g ↦ (let e : nat_lt i 4 ≡ false = le-ltb i 4 g in
-      let z : length (parameter_code y i) ≡ 2 = rw e refl in (λ h. absurd (omega arith), omega arith))
+      let z : length (parameter_code y i) ≡ 2 = rw e refl in (
+        λ h. absurd (omega arith),
+        omega
+            arith,
+      ))
 ]
 
 two_each : (y : Layout) (i n : ℕ) → length (parameters_code y i n) ≤ 2 * n

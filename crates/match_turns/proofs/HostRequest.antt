@@ -51,7 +51,8 @@ module _ (setting : Setting) where
       → IsWellFormed (record { cpu = cpu; memory = with_bytes m byte })
       → IsWellFormed (record { cpu = saved; memory = with_bytes m byte })
       → Asks cpu saved m byte c at.acts
-  asks_host cpu saved m byte c label source at resumed has keeps memory well_formed well_formed_saved =
+  asks_host cpu saved m byte c label source at resumed has keeps memory well_formed
+      well_formed_saved =
       let u : State = record { cpu = saved; memory = m } in
       let top = body_on_top t fs program p q image u c label at resumed has in
       let high = in_stack t fs program p m (context_of saved) top.is (Waits c.frame ∷ c.below)

@@ -99,12 +99,14 @@ module _ (t : Functions) (fs : List Funclet) where
         (service_step s (address_of services.LocalUnwind) e) before
 
     pub raised_keeps : (s : State) (code : Code) (access : Option (Bool × ℕ)) (cs : List Context)
-        → step s ≡ Err (stops.Fault code access) → WalkGives t s cs → KeepsWith t fs program p q s cs
+        → step s ≡ Err (stops.Fault code access) → WalkGives t s cs → KeepsWith t fs program p q s
+        cs
     raised_keeps s code access cs e before = λ u es arrives after. fault_keeps t fs s u code access
         es cs (drop_below (register u.cpu Rsp) (started u es cs)) e arrives before after refl
 
     -- silent turns lead to a turn of the host, which shows what the step shows
-    pub matched_when_shown : (turns_per_step k left : ℕ) (s u : State) (c : Configuration) (i : Instruction)
+    pub matched_when_shown : (turns_per_step k left : ℕ) (s u : State) (c : Configuration)
+        (i : Instruction)
         (x : Turn) (before : List Event) (seen : Next → Seen) (shadow : List Context)
         → Comes t fs k s [] u → IsLive u → turn t fs u ≡ x → KeepsWith t fs program p q u shadow
         → Shows t fs program p q x before seen c.events left shadow
@@ -112,9 +114,11 @@ module _ (t : Functions) (fs : List Funclet) where
         → k + 1 + entry_turns + left ≤ turns_per_step + turns_left c
         → KnownNext program c i
         → IsMatched t fs program turns_per_step turns_left (Represents t fs program p q) s c i
-    matched_when_shown turns_per_step k left s u c i x before seen shadow silent live e keeps shows acts enough
+    matched_when_shown turns_per_step k left s u c i x before seen shadow silent live e keeps shows
+        acts enough
         known =
-        matched_by_turn t fs program p q turns_per_step k left s u c i before shows.further silent live
+        matched_by_turn t fs program p q turns_per_step k left s u c i before shows.further silent
+        live
         (e ∙ shows.turns) enough known shadow keeps
         (outcome_same t fs program p q shows.further shows.further seen
         (λ next. act program i next c) (c.events ++ before) left shadow refl acts shows.outcome)

@@ -298,7 +298,8 @@ module _ (setting : Setting) (made : IsWellMade setting.program setting.plan)
         (host_silent setting s.memory service state.cpu b.memory.code (omega arith))
 
     well_formed : IsWellFormed state
-    well_formed = stays_well_formed s state (reaches_keeps 4 s state reaches) (omega arith) b.well_formed
+    well_formed = stays_well_formed s state (reaches_keeps 4 s state reaches) (omega arith)
+        b.well_formed
 
     -- ---- the state that is saved
 

@@ -82,5 +82,6 @@ module _ (program : LinearProgram) where
       (past_code f.body target e) unlanded.1)
   unwind_bare target (Searches exception resumption asked rest ∷ below) left es store e unlanded =
       unwind_bare target below None es store e unlanded
-  unwind_bare target (Unwinds rest older ∷ below) left es store e unlanded = unwind_bare target below
+  unwind_bare target (Unwinds rest older ∷ below) left es store e unlanded = unwind_bare target
+      below
       (Some rest) es store e unlanded

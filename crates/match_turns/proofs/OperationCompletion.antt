@@ -80,7 +80,8 @@ module _ (setting : Setting) (made : IsWellMade setting.program setting.plan)
     is_there : c.frame.activation < length begins.body.acts
     is_there =
         let l = placed setting old c begins counted in
-        let n = slice_get_within (locals_of begins.body.acts) c.frame.activation l.values l.number in
+        let n = slice_get_within (locals_of begins.body.acts) c.frame.activation l.values l.number
+        in
         let k = locals_count begins.body.acts in
         omega arith
 

@@ -123,7 +123,12 @@ module _ (setting : Setting) (made : IsWellMade setting.program setting.plan)
     pub represents_before : RepresentsAt setting before c
     represents_before = record {
       rip = refl;
-      well_formed = record { rip_small = begin_small; count = w.well_formed.count; small = w.well_formed.small };
+      well_formed = record {
+        rip_small = begin_small;
+        count = w.well_formed.count;
+        small =
+            w.well_formed.small;
+      };
       memory = w.memory;
       body = in_body_at t fs program p q s c before.cpu w.body refl
           (first_in_code t fs program p q image c.frame.body w.body.slots.code c.frame.next
@@ -159,7 +164,8 @@ module _ (setting : Setting) (made : IsWellMade setting.program setting.plan)
     pub second_small : register s.cpu Rcx < 2 ^ 64
     second_small = let n = w.well_formed.count in w.well_formed.small 1 (omega arith)
 
-    pub operands_wait : HasOperands o (register s.cpu Rax) (register s.cpu Rcx) (seen_by_templates s)
+    pub operands_wait : HasOperands o (register s.cpu Rax) (register s.cpu Rcx)
+        (seen_by_templates s)
     operands_wait = record {
       first = refl;
       second = refl;
@@ -169,7 +175,8 @@ module _ (setting : Setting) (made : IsWellMade setting.program setting.plan)
     pub code_here : HasCode s.memory s.cpu.rip (finish_code y o to)
     code_here =
         subst (λ a. HasCode s.memory a (finish_code y o to)) (sym w.again.here)
-        (finish_is_at t fs program p q image s.memory c.frame.body w.body.slots.code c.frame.next to o
+        (finish_is_at t fs program p q image s.memory c.frame.body w.body.slots.code c.frame.next to
+        o
         first second w.memory.code w.body.slots.body there)
 
     abbrev pub outcome : OperationResult
@@ -199,6 +206,7 @@ module _ (setting : Setting) (made : IsWellMade setting.program setting.plan)
             (sym w.again.has_first ∙ f) in
             let b : register s.cpu Rcx ≡ h.b = some_is (register s.cpu Rcx) h.b
             (sym w.again.has_second ∙ g) in
-            ap (λ z. performed (is_reserved program.globals) o z (register s.cpu Rcx) c.store.memory)
+            ap (λ z. performed (is_reserved program.globals) o z (register s.cpu Rcx)
+            c.store.memory)
             a
             ∙ ap (λ z. performed (is_reserved program.globals) o h.a z c.store.memory) b ∙ h.comes

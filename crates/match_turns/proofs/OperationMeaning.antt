@@ -57,7 +57,8 @@ acts_as program c to o first second x h next =
 
 pub undefined : UndefinedAccessesAreMatched
 undefined t fs program s c to o first second at h =
-    fails_at_once t fs program turns_left turns_per_step s c (instructions.Compute to o first second)
+    fails_at_once t fs program turns_left turns_per_step s c
+    (instructions.Compute to o first second)
     (source.Undefined at) refl (acts_as program c to o first second (Undefined at) h)
 
 -- ---- operations that fault

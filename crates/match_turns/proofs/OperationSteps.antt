@@ -61,11 +61,14 @@ module _ (setting : Setting) (made : IsWellMade setting.program setting.plan)
       (Temporary w.again.second) x
       → HasRule (act program (again s c w) (exec program zero) c)
       → KnownNext program c (again s c w)
-      → IsMatched t fs program turns_per_step turns_left (Represents t fs program p q) s c (again s c w)
-  within_operation s c w known (Gives value m) h rule next = matched_represents t fs program p q turns_per_step s c
+      → IsMatched t fs program turns_per_step turns_left (Represents t fs program p q) s c
+      (again s c w)
+  within_operation s c w known (Gives value m) h rule next = matched_represents t fs program p q
+      turns_per_step s c
       (again s c w) (completed setting made s c w known value m h rule)
   within_operation s c w known (Raises code access) h rule next =
-      matched_slower t fs program turns_left 7 turns_per_step (Represents t fs program p q) s c (again s c w)
+      matched_slower t fs program turns_left 7 turns_per_step (Represents t fs program p q) s c
+      (again s c w)
       (omega arith)
       (raised_at_once setting made fits s c w known code access h rule next)
   within_operation s c w known (Undefined at) h rule next =
@@ -77,7 +80,8 @@ module _ (setting : Setting) (made : IsWellMade setting.program setting.plan)
       → HasRule (act program i (exec program zero) c) → KnownNext program c i
       → IsMatched t fs program turns_per_step turns_left (Represents t fs program p q) s c i
   retried s c i w known e = subst (λ j. HasRule (act program j (exec program zero) c)
-      → KnownNext program c j → IsMatched t fs program turns_per_step turns_left (Represents t fs program p q)
+      → KnownNext program c j → IsMatched t fs program turns_per_step turns_left
+      (Represents t fs program p q)
       s c j) same
       (λ rule next. let x = comes_to_something program c w.again.to w.again.operation
       (Temporary w.again.first) (Temporary w.again.second)
@@ -122,7 +126,8 @@ module _ (setting : Setting) (made : IsWellMade setting.program setting.plan)
         (not_constant (is_reserved program.globals) o h.a h.b c.store.memory code access h.comes)
         e in
         let few = l.few in
-        matched_slower t fs program turns_left (l.turns + 7) turns_per_step (Represents t fs program p q) s c
+        matched_slower t fs program turns_left (l.turns + 7) turns_per_step
+        (Represents t fs program p q) s c
         i (omega arith)
         (matched_after t fs program turns_left l.turns 7 (Represents t fs program p q) s l.state c i
         l.comes (faults_within l.state c i code access l.is_there known e h rule next))
@@ -135,7 +140,8 @@ module _ (setting : Setting) (made : IsWellMade setting.program setting.plan)
         → IsMatched t fs program turns_per_step turns_left (Represents t fs program p q) s c
         (instructions.Compute to o first second)
     from_beginning first second (Gives value m) h e rule next =
-        matched_represents t fs program p q turns_per_step s c (instructions.Compute to o first second)
+        matched_represents t fs program p q turns_per_step s c
+        (instructions.Compute to o first second)
         (within_body t fs program p q image made s c (instructions.Compute to o first second) b
         known e (record {
           a = h.a;

@@ -130,7 +130,8 @@ module _ (setting : Setting) where
           let u : State = record { cpu = saved; memory = s.memory } in
           let f = fits in
           let z = kept.resumes setting made.room u c.frame c.below acts
-          c.store.memory c.events (context_of saved) is on refl well_formed memory code.0 code.1 i first
+          c.store.memory c.events (context_of saved) is on refl well_formed memory code.0 code.1 i
+          first
           done here (λ h. h) refl (omega arith)
           ((made.apart name code.0 code.1).within c.frame.next i here refl) held free back_is
           counted around in
@@ -138,7 +139,8 @@ module _ (setting : Setting) where
             turns = 1;
             few = omega arith;
             state = z.state;
-            comes = reaches_silently t fs program p q image 1 u z.state z.reaches z.keeps memory.code
+            comes = reaches_silently t fs program p q image 1 u z.state z.reaches z.keeps
+                memory.code
                 z.silent;
             is_there = subst (λ xs. RepresentsAt setting z.state (record {
               frame = record c.frame {
@@ -154,10 +156,11 @@ module _ (setting : Setting) where
           }
 
 pub continuations_after_calls : ContinuationsAfterCalls
-continuations_after_calls t fs program p q image made s saved is acts c on well_formed says memory store = (
-  silent_there (setting_of t fs program p q image) made s saved is acts c on well_formed says memory
-      store,
-  λ known free. continues (setting_of t fs program p q image) made s saved is acts c on well_formed
-      says memory
-      store known free,
-)
+continuations_after_calls t fs program p q image made s saved is acts c on well_formed says memory
+    store = (
+      silent_there (setting_of t fs program p q image) made s saved is acts c on well_formed says memory
+          store,
+      λ known free. continues (setting_of t fs program p q image) made s saved is acts c on well_formed
+          says memory
+          store known free,
+    )

@@ -109,8 +109,10 @@ module _ (setting : Setting) (fits : FlagsFit setting.program) where
         resumption found c h resumes) [
           | inl f ↦ inr (inl (filter_enters (arrived t fs (searches_on t s at r)) resumption f))
           | inr x ↦ elim x [
-            | inl k ↦ outcome_same t fs program p q (arrived t fs (accepted t s at r k.frame k.address))
-                (arrived t fs (searches_on t s at r)) (λ next. accept program k.handler exception next c)
+            | inl k ↦ outcome_same t fs program p q (arrived t fs
+                (accepted t s at r k.frame k.address))
+                (arrived t fs (searches_on t s at r)) (λ next. accept program k.handler exception
+                next c)
                 (λ next. linear.search program next found exception resumption c) c.events
                 (turns_left c) (callers (context_of r.saved) is) k.turns k.goes
                 (taken_over k.handler k.frame k.address k.frame_small k.address_small k.aimed

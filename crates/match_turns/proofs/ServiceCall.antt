@@ -142,7 +142,8 @@ module _ (setting : Setting) (roomy : HaveRoom setting.program) where
       pub comes_there : Comes t fs 7 s [] at_service
       comes_there = reaches_silently t fs program p q image 7 s at_service reaches
           (built_in_keeps setting roomy s c b counted f first at at_service reaches refl
-          (subst (λ r. IsNear (return_at layout first (r + 5)) (q.thunk f)) b.rip near)) b.memory.code
+          (subst (λ r. IsNear (return_at layout first (r + 5)) (q.thunk f)) b.rip near))
+          b.memory.code
           (host_silent setting s.memory service at_service.cpu b.memory.code (service_low f).1)
 
       pub live_there : IsLive at_service

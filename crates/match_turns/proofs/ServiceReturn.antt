@@ -124,7 +124,11 @@ module _ (setting : Setting) (roomy : HaveRoom setting.program) where
     -- linear code with the result
     abbrev pub answered : ℕ → Memory → List Event → Configuration
     answered x source events = record {
-      frame = record c.frame { next = c.frame.next + 1; temporaries = take first c.frame.temporaries ++ x ∷ [] };
+      frame = record c.frame {
+        next = c.frame.next + 1;
+        temporaries = take first c.frame.temporaries
+            ++ x ∷ [];
+      };
       below = c.below;
       store = record { memory = source; activations = c.store.activations };
       events = events;
@@ -188,7 +192,8 @@ module _ (setting : Setting) (roomy : HaveRoom setting.program) where
       inside = subst (λ (o : LinearBody). c.frame.next + 1 < length o.code) is_body within
 
       held_earlier : length c.frame.temporaries ≤ body.temporaries
-      held_earlier = subst (λ (o : LinearBody). length c.frame.temporaries ≤ o.temporaries) is_body held
+      held_earlier = subst (λ (o : LinearBody). length c.frame.temporaries ≤ o.temporaries) is_body
+          held
 
       abbrev now : BodyState
       now = slots setting roomy earlier calling begins counted
@@ -283,10 +288,12 @@ module _ (setting : Setting) (roomy : HaveRoom setting.program) where
       rip_small = let n = label_small setting roomy s c b counted around (c.frame.next + 1) within
           in omega (arith, rip_is)
 
-      same_locals : locals_of (with_values begins.body.acts c.frame.activation values) ≡ c.store.activations
+      same_locals : locals_of (with_values begins.body.acts c.frame.activation values) ≡
+          c.store.activations
       same_locals =
           let own = placed setting earlier calling begins counted in
-          let n = slice_get_within (locals_of begins.body.acts) c.frame.activation own.values own.number in
+          let n = slice_get_within (locals_of begins.body.acts) c.frame.activation own.values
+          own.number in
           let k = locals_count begins.body.acts in
           ap (λ vs. locals_of (with_values begins.body.acts c.frame.activation vs))
           (locals_here setting earlier calling begins counted)
@@ -304,7 +311,8 @@ module _ (setting : Setting) (roomy : HaveRoom setting.program) where
           (represents_next setting earlier calling begins counted after d values ts ran
           (c.frame.next + 1) c.frame.landed events rip_is inside
           (stays_well_formed earlier after keeps_registers rip_small begins.well_formed)
-          (λ code e. absurd (nothing c.frame.landed code free e)) around_earlier.caller around_earlier.owner)
+          (λ code e. absurd (nothing c.frame.landed code free e)) around_earlier.caller
+          around_earlier.owner)
 
       -- nothing is shown where the service returns to, nor at the next instruction
       pub silent_back : arrivals u.cpu (distance t.base u.cpu.rip) 1 fs ≡ []

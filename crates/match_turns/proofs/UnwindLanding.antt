@@ -46,7 +46,8 @@ module _ (setting : Setting) where
       → (code ≡ None → body.landed ≡ None)
       → RepresentsAt setting (at_landing s to rax address)
       (arrival body below label code source outer shown)
-  lands_in_body s to framed is body below outer rax address label code source shown on at lands well_formed
+  lands_in_body s to framed is body below outer rax address label code source shown on at lands
+      well_formed
       memory is_code unlanded =
       let w = on.is_there.linked.0.waits in
       let inside = subst (InCode p body.body label) (sym at)
@@ -63,7 +64,8 @@ module _ (setting : Setting) where
         memory = memory;
         body = waits_in_body t fs program p q image (at_landing s to rax address) to
             (Framed framed ∷ is) body below outer label body.temporaries body.landed source
-            (shown ++ []) on refl inside well_formed.rip_small (all_front s.memory body.temporaries);
+            (shown ++ []) on refl inside well_formed.rip_small
+            (all_front s.memory body.temporaries);
         landed = λ x e. let z = sym (unlanded refl) ∙ e in absurd cc;
       }
       by_code (Some code) inside is_code unlanded = record {

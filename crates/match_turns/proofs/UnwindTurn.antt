@@ -107,7 +107,8 @@ module _ (setting : Setting) (fits : FlagsFit setting.program) where
         (unwind_bare program w.target w.items w.left w.shown (store_of w.source w.acts) e
         (unlanded e))))))
       where
-        kept_unlanded : (body : Frame) (below : List Item) (label : ℕ) (code : Option ℕ) → code ≡ None
+        kept_unlanded : (body : Frame) (below : List Item) (label : ℕ) (code : Option ℕ) → code ≡
+            None
             → (landed body label code).landed ≡ None → body.landed ≡ None
         kept_unlanded body below label None e h = h
         kept_unlanded body below label (Some x) e h = absurd cc

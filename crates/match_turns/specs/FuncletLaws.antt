@@ -51,4 +51,5 @@ ReturnsOfBlocksAreMatched =
     → (s : State) (c : Configuration) (from : Slot)
     → RepresentsAt t fs program p q s c → IsKnown program c
     → instruction_at program c ≡ Some (instructions.Return from) → IsCalledBlock program c
-    → Moves t fs program turns_per_step turns_left (RepresentsAt t fs program p q) s c (instructions.Return from)
+    → Moves t fs program turns_per_step turns_left (RepresentsAt t fs program p q) s c
+    (instructions.Return from)

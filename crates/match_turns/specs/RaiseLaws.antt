@@ -66,7 +66,8 @@ ContinuationsAfterCalls =
     → IsProgramImage t fs program p q → IsWellMade program p
     → (s : State) (saved : Cpu) (is : List StackItem) (acts : List Activation) (c : Configuration)
     → On t fs program p s.memory (context_of saved) is (Waits c.frame ∷ c.below) acts
-    → IsWellFormed (record { cpu = saved; memory = s.memory }) → p.resumes AfterCall c.frame saved ≡ true
+    → IsWellFormed (record { cpu = saved; memory = s.memory }) → p.resumes AfterCall c.frame saved ≡
+    true
     → IsMachineMemory t fs program p q s.memory c.store.memory
     → c.store.activations ≡ locals_of acts
     → (arrivals saved (distance t.base saved.rip) 1 fs ≡ [])

@@ -5,7 +5,8 @@ pub use Rattle.seh_num.specs.declared.event.Event.{Event}
 pub use Rattle.seh_num.specs.declared.width.Width.TheVariants.{W64, W32}
 pub use Rattle.host_layout.specs.Services.{address_of, service_at, in_host_page}
 pub use Rattle.host_layout.specs.declared.range.TheConstants.{STACK_START, STACK_END, IMAGE_BASE, IMAGE_RANGE_END}
-pub use Rattle.flat_memory.specs.Memory.{Memory, may_write, rights_asked, protected, loaded, number_at, with_number, with_bytes, executable, may_read, first_refused, access}
+pub use Rattle.flat_memory.specs.Memory.{Memory, may_write, rights_asked, protected, loaded, with_bytes, may_read, access}
+unfoldable pub use Rattle.flat_memory.specs.Memory.{number_at, with_number, executable, first_refused}
 pub use Rattle.flat_memory.specs.Protections.{is_writable}
 pub use Rattle.flat_memory.specs.declared.access.RefusedAccess.{RefusedAccess}
 pub use Rattle.flat_memory.specs.declared.protection.Protection.{Protection}
@@ -29,10 +30,12 @@ pub use Rattle.linear_code.specs.declared.program.Region.{Region}
 pub use Rattle.linear_code.specs.declared.program.RegionKind.{RegionKind}
 pub use Rattle.linear_code.specs.declared.slot.Slot.{Slot}
 pub use Rattle.linear_code.specs.declared.slot.Slot.TheVariants.{Local, Temporary}
-pub use Rattle.linear_machine.specs.Frames.{Configuration, AfterCall, SameOperation, read, BodyName, FunctionBody, FuncletBody, body_of, Frame, Item, Waits, Searches, Unwinds, Next, with_some, deeper, last_temporaries, function_body, Finished, pick, local_of, Seen, Handler, Target, Resumption, Store, funclet_body, Running, Stuck}
+pub use Rattle.linear_machine.specs.Frames.{Configuration, AfterCall, SameOperation, read, BodyName, FunctionBody, FuncletBody, body_of, Frame, Item, Waits, Searches, Unwinds, Next, deeper, last_temporaries, function_body, Finished, local_of, Seen, Handler, Target, Resumption, Store, funclet_body, Running, Stuck}
+unfoldable pub use Rattle.linear_machine.specs.Frames.{with_some, pick}
 pub use Rattle.linear_machine.specs.Instructions.{waiting, begin_function, act, end_finally, local_unwind, end_funclet, end_body, is_constant, operand, count_of, built_in}
 pub use Rattle.linear_machine.specs.Regions.{regions_of, holds, handlers, regions_at, regions_left, stops}
-pub use Rattle.linear_machine.specs.Run.{instruction_at, instruction_in, exec}
+pub use Rattle.linear_machine.specs.Run.{instruction_at, instruction_in}
+unfoldable pub use Rattle.linear_machine.specs.Run.{exec}
 pub use Rattle.linear_machine.specs.Searching.{search, accept, resumed, raise, answer, begin_filter}
 pub use Rattle.linear_machine.specs.Unwinding.{unwind, flag_of, begin_finally, left_store, arrive, target_past, leave_region, unwind_body}
 pub use Rattle.lowering_invariants.specs.Activations.{with_own, owners_of}
@@ -45,19 +48,23 @@ pub use Rattle.lowering_invariants.specs.Waiting.{AreWaiting, LandsWell}
 pub use Rattle.x64_instr.specs.Spelling.{leading}
 pub use Rattle.x64_instr.specs.declared.instruction.Instr.{Instr}
 pub use Rattle.x64_instr.specs.declared.register.Reg.TheVariants.{Rsp, Rax, Rdx, Rcx}
-pub use Rattle.x64_encode.specs.Chosen.{opcode_register, is_encodable, chosen}
+pub use Rattle.x64_encode.specs.Chosen.{is_encodable, chosen}
+unfoldable pub use Rattle.x64_encode.specs.Chosen.{opcode_register}
 pub use Rattle.x64_machine.specs.Contexts.{context_of, kept_of}
-pub use Rattle.x64_machine.specs.Effect.{State, register, step, Answer, hosted, execute}
+pub use Rattle.x64_machine.specs.Effect.{State, register, Answer, hosted, execute}
+unfoldable pub use Rattle.x64_machine.specs.Effect.{step}
 pub use Rattle.x64_machine.specs.declared.context.Context.{Context}
 pub use Rattle.x64_machine.specs.declared.cpu.Cpu.{Cpu}
 pub use Rattle.x64_machine.specs.declared.cpu.Flags.{Flags}
-pub use Rattle.template_code.specs.Bytes.{size, sizes, spelled}
+pub use Rattle.template_code.specs.Bytes.{sizes, spelled}
+unfoldable pub use Rattle.template_code.specs.Bytes.{size}
 pub use Rattle.template_code.specs.Calls.{return_code, return_at, begin_call, call_code, clear_result, arguments_code, passing_code, parameters_code, keep_register, field_at, finally_arguments, enter_code}
 pub use Rattle.template_code.specs.Jumps.{IsNear, call}
 pub use Rattle.template_code.specs.Operations.{move}
 pub use Rattle.template_code.specs.Probing.{check_stack, enter_large}
 pub use Rattle.template_code.specs.Slots.{fetch, local_at, keep, put_back, temporary_at, operands_code, finish_code}
-pub use Rattle.template_code.specs.Template.{template, template_size, body_size, offset_of, code_from}
+pub use Rattle.template_code.specs.Template.{template, body_size, offset_of, code_from}
+unfoldable pub use Rattle.template_code.specs.Template.{template_size}
 pub use Rattle.template_code.specs.declared.layout.Layout.{Layout}
 pub use Rattle.template_code.specs.declared.layout.TheConstants.{LARGEST_FRAME}
 pub use Rattle.x64_templates.specs.CallStates.{HasBack, with_sp, moved, sp_of, with_four, pushed, HasBelow}
@@ -71,12 +78,13 @@ pub use Rattle.virtual_unwind.specs.CallerOf.{Functions, distance}
 pub use Rattle.virtual_unwind.specs.Contexts.{rsp}
 pub use Rattle.virtual_unwind.specs.Undone.{word, readable}
 pub use Rattle.seh_records.specs.Laws.{RecordFits}
-pub use Rattle.seh_records.specs.Record.{fetched, placed}
+unfoldable pub use Rattle.seh_records.specs.Record.{fetched, placed}
 pub use Rattle.seh_records.specs.declared.dispatch.DispatchRecord.{DispatchRecord}
 pub use Rattle.seh_walk.specs.Walk.{filter_return, finally_return}
 pub use Rattle.host_model.specs.Dispatch.{accepted, searches_on, unwinds_on, finally_returned, raised, unwound_locally, at_landing, write_number, parameters, no_flags}
 pub use Rattle.host_model.specs.Funclets.{arrivals, arrived}
-pub use Rattle.host_model.specs.HostStep.{turn, back, returned, turned}
+pub use Rattle.host_model.specs.HostStep.{back, returned, turned}
+unfoldable pub use Rattle.host_model.specs.HostStep.{turn}
 pub use Rattle.host_model.specs.Turns.{Turn, Continues, with_event}
 pub use Rattle.host_model.specs.declared.funclet.Funclet.{Funclet}
 pub use Rattle.match_runs.specs.Comes.{LeadsTo, IsLive, Comes}

@@ -149,7 +149,8 @@ mutual
       omega (
         arith,
         room_append (expression_code scope.names c 0 at)
-            (instructions.JumpIfZero (Temporary 0) otherwise ∷ (statement_code scope s then ++ last)),
+            (instructions.JumpIfZero (Temporary 0) otherwise ∷
+            (statement_code scope s then ++ last)),
         room_append (statement_code scope s then) last,
         length-append (statement_regions s then') (statement_regions t otherwise'),
         funclets_append (statement_funclets owner names s) (statement_funclets owner names t),
@@ -187,7 +188,8 @@ mutual
       omega (
         arith,
         room_append (statement_code (in_loop end again scope) s at)
-            (instructions.Separator ∷ (expression_code scope.names c 0 (again + 1) ++ repeated end at)),
+            (instructions.Separator ∷ (expression_code scope.names c 0 (again + 1) ++ repeated end
+            at)),
         room_append (expression_code scope.names c 0 (again + 1)) (repeated end at),
       )
   statement_bound scope at from owner names (statements.Return e) =
@@ -226,7 +228,8 @@ mutual
       omega (
         arith,
         room_append (statements_code guarded body at)
-            (instructions.Separator ∷ instructions.CallFinally (k - 1) ∷ instructions.Separator ∷ []),
+            (instructions.Separator ∷ instructions.CallFinally (k - 1) ∷ instructions.Separator ∷
+            []),
         length-append (statements_regions body from)
             (region from (from + statements_size body + 1) (kinds.Finally (k - 1)) ∷ []),
         funclets_append (statements_funclets owner names body)

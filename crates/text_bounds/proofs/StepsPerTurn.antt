@@ -16,9 +16,11 @@ mul_le k a b le =
     omega arith
 
 -- what holds of a number of steps per turn holds of a larger one
-slower : (program : Program) (linear : LinearProgram) (steps_per_turn most : ℕ) → steps_per_turn ≤ most
+slower : (program : Program) (linear : LinearProgram) (steps_per_turn most : ℕ) → steps_per_turn ≤
+    most
     → NoMore program linear steps_per_turn → NoMore program linear most
-slower program linear steps_per_turn most le h arg m n many = let p = mul_le (m + 1) steps_per_turn most le in
+slower program linear steps_per_turn most le h arg m n many = let p = mul_le (m + 1) steps_per_turn
+    most le in
     h arg m n (omega arith)
 
 pub steps_per_turn_are_bounded : StepsPerTurnAreBounded
@@ -30,6 +32,7 @@ accepted_follows text xs within accepted = lowered_follows (program_of text xs)
 
 pub accepted_shows_no_more : AcceptedShowsNoMore
 accepted_shows_no_more text xs bytes within accepted few =
-    slower (program_of text xs) (lowered (program_of text xs)) (steps_per_turn_of (program_of text xs))
+    slower (program_of text xs) (lowered (program_of text xs))
+    (steps_per_turn_of (program_of text xs))
     (steps_per_turn_in bytes) (steps_per_turn_are_bounded text xs bytes few)
     (lowered_shows_no_more (program_of text xs) (accepted_is_sound text xs within accepted))

@@ -90,7 +90,8 @@ module _ (y : Layout) (n : Counts) (reserved : ℕ → Bool) (sp base : ℕ)
     | inr ne ↦ number_beside m (Local i) v (base + local_at y j) is
         (slot_high y n reserved sp base room (Local j) iz)
         (elim (cases_lt j i) [ inl l ↦ inl (omega arith) | inr g ↦ inr (omega arith) ])
-        ∙ h.slot (Local j) iz ∙ sym (ap (λ (c : Bool). cond c v (b.slots (Local j))) (ne_eqb j i ne))
+        ∙ h.slot (Local j) iz ∙ sym (ap (λ (c : Bool). cond c v (b.slots (Local j)))
+        (ne_eqb j i ne))
   ]
   slot_after m b (Temporary i) v (Local j) h is iz lt =
       number_beside m (Temporary i) v (base + local_at y j) is
@@ -110,7 +111,8 @@ module _ (y : Layout) (n : Counts) (reserved : ℕ → Bool) (sp base : ℕ)
     | inl e ↦ let q : cond (eqb j i) v (b.slots (Temporary j))
         ≡ v = ap (λ (c : Bool). cond c v (b.slots (Temporary j))) (eq-eqb j i e) in omega arith
     | inr ne ↦ let q : cond (eqb j i) v (b.slots (Temporary j))
-        ≡ b.slots (Temporary j) = ap (λ (c : Bool). cond c v (b.slots (Temporary j))) (ne_eqb j i ne) in
+        ≡ b.slots (Temporary j) = ap (λ (c : Bool). cond c v (b.slots (Temporary j)))
+        (ne_eqb j i ne) in
         let s = h.small (Temporary j) iz in omega arith
   ]
   small_after b (Local i) v m (Local j) h iz lt = elim (cases_eq j i) [
@@ -227,7 +229,8 @@ module _ (y : Layout) (n : Counts) (reserved : ℕ → Bool) (sp base : ℕ)
   base_same m m' None same protection has own keeps = tt
   base_same m m' (Some k) same protection has own keeps =
       let a = has.0 in let t = room.temporaries in let hi = room.high in (
-        same_number m'.byte m.byte 8 (sp + k) (omega arith) (λ x p q. same x (own x p (omega arith)))
+        same_number m'.byte m.byte 8 (sp + k) (omega arith) (λ x p q. same x
+            (own x p (omega arith)))
             ∙ keeps.0,
         λ x p q. may_write_same m m' x protection ∙ keeps.1 x p q,
       )

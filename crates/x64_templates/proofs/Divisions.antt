@@ -110,13 +110,15 @@ both_given s Int v q r lq lr h = executes_one (by_rcx s Int) v (divided_view v q
     (λ rip f. (
       f,
       h rip f ∙ ap (λ (a : ℕ). Ok (machine (divided_view v a (low W32 r)) rip f))
-          (low_is W32 q lq) ∙ ap (λ (a : ℕ). Ok (machine (divided_view v q a) rip f)) (low_is W32 r lr),
+          (low_is W32 q lq) ∙ ap (λ (a : ℕ). Ok (machine (divided_view v q a) rip f))
+          (low_is W32 r lr),
     ))
 both_given s Long v q r lq lr h = executes_one (by_rcx s Long) v (divided_view v q r)
     (λ rip f. (
       f,
       h rip f ∙ ap (λ (a : ℕ). Ok (machine (divided_view v a (low W64 r)) rip f))
-          (low_is W64 q lq) ∙ ap (λ (a : ℕ). Ok (machine (divided_view v q a) rip f)) (low_is W64 r lr),
+          (low_is W64 q lq) ∙ ap (λ (a : ℕ). Ok (machine (divided_view v q a) rip f))
+          (low_is W64 r lr),
     ))
 
 moved : (v : MachineView) (q r : ℕ) → r < 2 ^ 64

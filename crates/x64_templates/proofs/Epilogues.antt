@@ -17,7 +17,8 @@ no_epilogue_both (i ∷ a) b p q = (p.0, no_epilogue_both a b p.1 q)
 
 call_no_epilogue : (y : Layout) (n : Counts) (sp base : ℕ) (to : Slot) (first at target : ℕ)
     → SlotsHaveRoom y n sp base → IsSlot n to → NoEpilogue (call_code y to first at target)
-call_no_epilogue y n sp base to first at target room is = no_epilogue_both (begin_call y first at target)
+call_no_epilogue y n sp base to first at target room is = no_epilogue_both
+    (begin_call y first at target)
     (keep y to) (refl, (refl, (refl, (refl, (refl, tt)))))
     (no_epilogue_of (keep y to) (keep_fine y n sp base to room is))
 
@@ -34,7 +35,8 @@ field_no_epilogue (ExceptionInformation k) = refl
 pub template_no_epilogue : (k : Links) (y : Layout) (n : Counts) (sp base : ℕ) (at : ℕ)
     (instruction : Instruction) → SlotsHaveRoom y n sp base → HasSlots n instruction
     → (IsReturn instruction → ⊥) → NoEpilogue (template k y at instruction)
-template_no_epilogue k y n sp base at (instructions.Compute to o first second) room has plain = no_epilogue_of
+template_no_epilogue k y n sp base at (instructions.Compute to o first second) room has plain =
+    no_epilogue_of
     (operands_code y o first second ++ finish_code y o to)
     (fine_both (operands_code y o first second) (finish_code y o to)
     (operands_fine y n sp base o first second room has.1 has.2)
@@ -50,11 +52,14 @@ template_no_epilogue k y n sp base at (instructions.Information to field) room h
   ),
 )
 template_no_epilogue k y n sp base at (instructions.Jump label) room has plain = (refl, tt)
-template_no_epilogue k y n sp base at (instructions.JumpIfZero slot label) room has plain = no_epilogue_both
+template_no_epilogue k y n sp base at (instructions.JumpIfZero slot label) room has plain =
+    no_epilogue_both
     (fetch y Rax slot) (compare_zero ∷ jump_equal (at + sizes (test_code y slot) + 6)
-    (k.label label) ∷ []) (no_epilogue_of (fetch y Rax slot) (fetch_fine y n sp base true slot room has))
+    (k.label label) ∷ []) (no_epilogue_of (fetch y Rax slot)
+    (fetch_fine y n sp base true slot room has))
     (refl, (refl, tt))
-template_no_epilogue k y n sp base at (instructions.Landing to) room has plain = no_epilogue_of (keep y to)
+template_no_epilogue k y n sp base at (instructions.Landing to) room has plain = no_epilogue_of
+    (keep y to)
     (keep_fine y n sp base to room has)
 template_no_epilogue k y n sp base at (instructions.Call function first count) room has plain =
     let passing = passing_code y first 4 (count - 4) in

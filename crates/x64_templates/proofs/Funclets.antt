@@ -35,4 +35,5 @@ base_kept v sp b base at is lt c = let h = c.high in
     keeps_register Rdx v b (sp + b) base is (let e : (sp_of v + 0 + b) % 2 ^ 64
     ≡ sp + b = omega arith in e) (cell_may v.memory (sp + b) c) lt
 
--- ---- from the function's body to the block's: its locals, and the temporaries in the block's own frame
+-- ---- from the function's body to the block's: its locals, and the temporaries in the block's own
+-- frame

@@ -94,7 +94,8 @@ branch_done p k slot label v here f b false g =
             ∷ []),
       );
       follows = subst (λ a. ReachesBody p (length
-          (jump_if_zero_code p.layout slot here (k.label label))) (machine v here f) a v.rest b) z g;
+          (jump_if_zero_code p.layout slot here (k.label label))) (machine v here f) a v.rest b) z
+          g;
     }
 
 -- the labels that an instruction goes to are near to the end of its template
@@ -124,7 +125,8 @@ instruction_run p k (instructions.Jump label) v here f b room has near at h code
       least = omega arith;
       most = omega arith;
       follows = jump_run p v here (k.label label) f b
-          (subst (λ a. IsNear a (k.label label)) (sym (jump_template p.layout here label)) near) h code;
+          (subst (λ a. IsNear a (k.label label)) (sym (jump_template p.layout here label)) near) h
+          code;
     }
 instruction_run p k (instructions.JumpIfZero slot label) v here f b room has near at h code =
     let e : sizes (test_code p.layout slot) + 6
@@ -141,7 +143,8 @@ instruction_run p k instructions.Separator v here f b room has near at h code =
       least = omega arith;
       most = omega arith;
       follows = subst (λ n. ReachesBody p 1 (machine v here f) (here + n) v.rest b)
-          (template_sizes k p.layout here instructions.Separator) (separator_run p v here f b h code);
+          (template_sizes k p.layout here instructions.Separator)
+          (separator_run p v here f b h code);
     }
 instruction_run p k (instructions.Information to field) v here f b room has near at h code = tt
 instruction_run p k (instructions.Landing to) v here f b room has near at h code = tt

@@ -177,7 +177,8 @@ parameters_do p i (suc n) count v b arguments room fn lc ll at h regs stack =
       rax = r.rax;
       memory = r.memory;
       does = executes_then (parameter_code y i) (parameters_code y (i + 1) n) v w
-          (record { rax = r.rax; rcx = v.rcx; rdx = v.rdx; rest = v.rest; memory = r.memory }) k.does
+          (record { rax = r.rax; rcx = v.rcx; rdx = v.rdx; rest = v.rest; memory = r.memory })
+          k.does
           r.does;
       holds = r.holds;
       changes = changes_then y p.counts p.reserved p.sp p.base v.memory m r.memory ch r.changes;
