@@ -60,7 +60,7 @@ def units_of(path, lines):
         if in_open or text.startswith("open "):
             in_open = "}" not in text and "{" in text or in_open and "}" not in text
             continue
-        if not text or text.startswith("--") or re.match(r"(pub )?use ", text):
+        if not text or text.startswith("--") or re.match(r"(unfoldable )?(pub )?use ", text):
             continue
         indent = len(line) - len(line.lstrip())
         if in_head:
