@@ -1,22 +1,11 @@
 -- Declarations of the file, one after another.
 use Rattle.std.proofs.Common.{◌≡◌, ℕ, ◌+◌, List, [], ◌++◌, map, drop, append-nil, sym, ap, ◌∙◌}
 use Rattle.std.specs.Prelude.{None, not}
-use Rattle.c_expressions.proofs.Kept.{kept_more}
-use Rattle.c_expressions.specs.Kept.{least_of, kept}
-use Rattle.c_expressions.specs.Views.{block_of}
+use Rattle.c_check.proofs.Lemmas.{kept_more}
+use Rattle.c_check.specs.Words.{least_of, kept, block_of, IsFile, Duplicate, UserFunction, File, parameter_types, named, file_of, spelled, is_taken, with_name, unless_holds, Parameter, CType, Identifier, external_declaration}
 use Rattle.c_locals.proofs.GlobalPlaces.{at_file}
 use Rattle.c_locals.specs.declared.globals.File.{File as File'}
-use Rattle.c_locals.specs.Files.{IsFile}
-use Rattle.c_resolved.specs.declared.fault.Fault.TheVariants.{Duplicate}
-use Rattle.c_resolved.specs.Expressions.{UserFunction}
-use Rattle.c_resolved.specs.Program.{File, parameter_types, named, file_of}
-use Rattle.c_resolved.specs.Scopes.{spelled}
-use Rattle.c_resolved.specs.Statements.{is_taken, with_name, unless_holds}
 use Rattle.c_syntax.specs.declared.declaration.ExternalDeclaration.{ExternalDeclaration as ExternalDeclaration'}
-use Rattle.c_syntax.specs.declared.declaration.Parameter.{Parameter}
-use Rattle.c_syntax.specs.declared.expression.CType.{CType}
-use Rattle.c_syntax.specs.declared.expression.Identifier.{Identifier}
-use Rattle.c_syntax.specs.Program.{external_declaration}
 
 -- the file after the name of a function
 pub function_named : (text : List ℕ) (t : CType) (n : Identifier) (ps : List Parameter)

@@ -3,29 +3,18 @@ use Rattle.std.proofs.Common.{◌≡◌, ℕ, ◌+◌, ◌<◌, List, [], ◌∷
 use Rattle.std.proofs.lemmas.List.{map-append}
 use Rattle.std.specs.Borrow.{Bor}
 use Rattle.c_checked.proofs.Items.{next_of}
-use Rattle.c_check.specs.declared.functions.Progress.{Progress}
+use Rattle.c_check.specs.Words.{Progress, sizes_of, function, least_of, kept, FaultAt, with_parameters, parameter_faults, result_size, around, function_of, functions_of, Scope, spelled, Numbering, resolve_statements, Parameter, CType, Identifier, ExternalDeclaration, Globals, Function, external_declaration}
 use Rattle.c_check.specs.Functions.{AddsFunctions}
-use Rattle.c_check.specs.Parameters.{sizes_of}
 use Rattle.c_checked.specs.declared.function.Function.{Function as Function'}
 use Rattle.c_checked.specs.Program as checked_program
-use Rattle.c_checked.specs.Program.{function}
 use Rattle.c_checked.specs.Statement as checked
-use Rattle.c_expressions.proofs.Kept.{kept_append, kept_more}
+use Rattle.c_check.proofs.Lemmas.{kept_append, kept_more}
 use Rattle.c_expressions.specs.declared.scopes.Entity.{Entity as Entity'}
-use Rattle.c_expressions.specs.Kept.{least_of, kept}
-use Rattle.c_resolved.specs.Expressions.{FaultAt}
 use Rattle.c_resolved.specs.Program as definitions
 use Rattle.c_locals.specs.declared.environment.Walk.{Walk}
 use Rattle.c_locals.specs.WalkResults.{Resolves}
 use Rattle.c_locals.specs.Views.{numbering}
-use Rattle.c_resolved.specs.Program.{with_parameters, parameter_faults, result_size, around, function_of, functions_of}
-use Rattle.c_resolved.specs.Scopes.{Scope, spelled}
-use Rattle.c_resolved.specs.Statements.{Numbering, resolve_statements}
 use Rattle.c_syntax.specs.declared.declaration.ExternalDeclaration.{ExternalDeclaration as ExternalDeclaration'}
-use Rattle.c_syntax.specs.declared.declaration.Parameter.{Parameter}
-use Rattle.c_syntax.specs.declared.expression.CType.{CType}
-use Rattle.c_syntax.specs.declared.expression.Identifier.{Identifier}
-use Rattle.c_syntax.specs.Program.{ExternalDeclaration, Globals, Function, external_declaration}
 use Rattle.c_syntax.specs.Statement.{Statements}
 
 -- ---- a function

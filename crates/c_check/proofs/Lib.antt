@@ -1,3 +1,4 @@
+mod Lemmas
 pub mod Swapped
 pub mod ParametersInOrder
 pub mod FunctionsInOrder

@@ -2,16 +2,9 @@
 use Rattle.std.proofs.Common.{◌≡◌, ℕ, ◌+◌, ◌<◌, Bool, true, false, cond, List, [], ◌∷◌, ◌++◌, map, length, drop, get_or, add-one, Option, Some, refl, sym, ap, ◌∙◌}
 use Rattle.std.specs.Prelude.{not}
 use Rattle.std.proofs.Math.Seq.{drop-cons}
-use Rattle.c_check.specs.Parameters.{faults_of_parameter}
-use Rattle.c_expressions.proofs.Kept.{kept_append}
-use Rattle.c_expressions.specs.Kept.{kept}
-use Rattle.c_resolved.specs.declared.fault.Fault.TheVariants.{Duplicate, TypeClash}
-use Rattle.c_resolved.specs.Expressions.{Entity, LocalVariable, FaultAt}
-use Rattle.c_resolved.specs.Program.{with_parameters, parameter_faults}
-use Rattle.c_resolved.specs.Scopes.{Scope, spelled, same_bytes, meaning_in, built_ins}
-use Rattle.c_resolved.specs.Statements.{is_some, is_taken, with_name, unless_holds}
+use Rattle.c_check.specs.Words.{faults_of_parameter, kept, Duplicate, TypeClash, Entity, LocalVariable, FaultAt, with_parameters, parameter_faults, Scope, spelled, same_bytes, meaning_in, built_ins, is_some, is_taken, with_name, unless_holds, Parameter}
+use Rattle.c_check.proofs.Lemmas.{kept_append}
 use Rattle.c_resolved.specs.Types.{is_scalar}
-use Rattle.c_syntax.specs.declared.declaration.Parameter.{Parameter}
 
 -- ---- whether a name is taken says its scope's names alone
 

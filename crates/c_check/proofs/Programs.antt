@@ -3,22 +3,14 @@ use Rattle.std.proofs.Common.{◌≡◌, ℕ, List, ◌++◌, map, Option, Some,
 use Rattle.std.specs.Prelude.{option_map}
 use Rattle.c_check.proofs.Swapped.{kept_after_other}
 use Rattle.c_check.specs.declared.check.Resolved.{Resolved as Resolved'}
-use Rattle.c_check.specs.declared.functions.Progress.{Progress}
+use Rattle.c_check.specs.Words.{Progress, function, broken, least_of, kept, block_of, IsFile, Accepted, reported, FaultAt, functions_of, file_of, empty_file, resolve, ExternalDeclaration}
 use Rattle.c_check.specs.Entry.{main_in}
 use Rattle.c_check.specs.Programs.{IsResolved}
-use Rattle.c_checked.specs.Program.{function}
-use Rattle.c_expressions.proofs.Kept.{kept_append}
+use Rattle.c_check.proofs.Lemmas.{kept_append}
 use Rattle.c_expressions.proofs.Order.{kept_least, nothing_kept}
 use Rattle.c_expressions.specs.declared.least.Broken.{Broken}
 use Rattle.c_expressions.specs.declared.least.Least.{Least}
-use Rattle.c_expressions.specs.Kept.{broken, least_of, kept}
-use Rattle.c_expressions.specs.Views.{block_of}
 use Rattle.c_locals.specs.declared.globals.File.{File as File'}
-use Rattle.c_locals.specs.Files.{IsFile}
-use Rattle.c_resolved.specs.Accepted.{Accepted, reported}
-use Rattle.c_resolved.specs.Expressions.{FaultAt}
-use Rattle.c_resolved.specs.Program.{functions_of, file_of, empty_file, resolve}
-use Rattle.c_syntax.specs.Program.{ExternalDeclaration}
 
 -- the faults of `main` are found after the file's, and are before them
 all_kept : (a b c : Option FaultAt) (main file functions : List FaultAt) → a ≡ kept None file

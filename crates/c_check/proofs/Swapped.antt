@@ -2,12 +2,9 @@
 use Rattle.std.proofs.Common.{◌≡◌, ℕ, zero, suc, Bool, true, false, cond, List, [], ◌∷◌, ◌++◌, Option, Some, None, refl, sym, ap, ◌∙◌, arith}
 use Rattle.std.specs.Prelude.{nat_lt, nat_eq, ◌&&◌, ◌||◌}
 use Rattle.std.proofs.lemmas.Bool.Decides.{nat_tests}
-use Rattle.c_expressions.proofs.Kept.{kept_append}
-use Rattle.c_expressions.specs.Kept.{kept_one, kept}
-use Rattle.c_resolved.specs.Accepted.{rank, is_earlier}
+use Rattle.c_check.proofs.Lemmas.{kept_append}
+use Rattle.c_check.specs.Words.{kept_one, kept, rank, is_earlier, NoMain, UnknownName, Duplicate, NotLvalue, TypeClash, ArgCount, LeaveOutsideTry, JumpOutOfFinally, JumpOutsideLoop, CodeOutsideFilter, InfoOutsideFilter, AbnormalOutsideFinally, BadInitialiser, FaultAt}
 use Rattle.c_resolved.specs.declared.fault.Fault.{Fault}
-use Rattle.c_resolved.specs.declared.fault.Fault.TheVariants.{NoMain, UnknownName, Duplicate, NotLvalue, TypeClash, ArgCount, LeaveOutsideTry, JumpOutOfFinally, JumpOutsideLoop, CodeOutsideFilter, InfoOutsideFilter, AbnormalOutsideFinally, BadInitialiser}
-use Rattle.c_resolved.specs.Expressions.{FaultAt}
 
 -- ---- faults at one place of one rank are one
 

@@ -4,3 +4,4 @@ pub mod Parameters
 pub mod Functions
 pub mod Programs
 pub mod Refusals
+pub mod Words

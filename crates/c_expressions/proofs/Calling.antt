@@ -5,18 +5,10 @@ use Rattle.std.specs.Prelude.{option_map}
 use Rattle.c_checked.proofs.Items.{next_of}
 use Rattle.c_checked.specs.Expression as nodes
 use Rattle.c_expressions.proofs.Kept.{kept_append}
-use Rattle.c_expressions.specs.Calls.{resolved_all, put_before, put_after}
-use Rattle.c_expressions.specs.Kept.{kept}
-use Rattle.c_expressions.specs.Rules.{allowed_call}
+use Rattle.c_expressions.specs.Words.{resolved_all, put_before, put_after, kept, allowed_call, wanted, Fault, ArgCount, FaultAt, Names, Passed, Wanted, Argument, ResolvedExpression, bad, given_that, only_where, fault_at, faults_of, called, call_with, pass, pass_all, resolve_expression, TypedNode, typed, expression, start}
 use Rattle.c_expressions.specs.declared.wanted.Wanted.{Wanted as Wanted'}
-use Rattle.c_expressions.specs.Views.{wanted}
-use Rattle.c_resolved.specs.declared.fault.Fault.{Fault}
-use Rattle.c_resolved.specs.declared.fault.Fault.TheVariants.{ArgCount}
-use Rattle.c_resolved.specs.Expressions.{FaultAt, Names, Passed, Wanted, Argument, ResolvedExpression, bad, given_that, only_where, fault_at, faults_of, called, call_with, pass, pass_all, resolve_expression}
-use Rattle.c_resolved.specs.Operators.{TypedNode, typed}
 use Rattle.c_syntax.specs.declared.expression.CType.{CType}
 use Rattle.c_syntax.specs.declared.expression.Expr.{Expr}
-use Rattle.c_syntax.specs.Expression.{expression, start}
 
 pub map_long : {A B : Type 0} (f : A → B) (xs : List A) → length (map f xs) ≡ length xs
 map_long f [] = refl

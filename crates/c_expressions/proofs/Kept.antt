@@ -1,7 +1,6 @@
 -- What is kept of a list of faults in parts.
 use Rattle.std.proofs.Common.{◌≡◌, List, [], ◌∷◌, ◌++◌, Option, refl, sym, ap, ◌∙◌}
-use Rattle.c_expressions.specs.Kept.{kept_one, kept}
-use Rattle.c_resolved.specs.Expressions.{FaultAt}
+use Rattle.c_expressions.specs.Words.{kept_one, kept, FaultAt}
 
 pub kept_append : (first : Option FaultAt) (a b : List FaultAt)
     → kept first (a ++ b) ≡ kept (kept first a) b

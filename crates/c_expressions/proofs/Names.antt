@@ -9,11 +9,9 @@ use Rattle.std.specs.Map.{lookup}
 use Rattle.c_expressions.specs.declared.scopes.Entity.{Entity as Entity'}
 use Rattle.indexmap.specs.IndexMap.{insert_entry}
 use Rattle.indexmap.proofs.MapLemmas.{absent_from_lookup, insert_entry-absent}
-use Rattle.c_expressions.specs.Views.{entity, names_after, block_of, built_in_functions, built_in_constants}
+use Rattle.c_expressions.specs.Words.{entity, names_after, block_of, built_in_functions, built_in_constants, Entity, BuiltInFunction, CodeFunction, AbnormalFunction, BuiltInConstant, is_some, is_taken, with_name}
 use Rattle.c_operations.specs.declared.built_in.BuiltIn.TheVariants.{Put, Protect, RaiseException}
-use Rattle.c_resolved.specs.Expressions.{Entity, BuiltInFunction, CodeFunction, AbnormalFunction, BuiltInConstant}
 use Rattle.c_resolved.specs.Scopes.{Scope, same_bytes, meaning_in, built_ins}
-use Rattle.c_resolved.specs.Statements.{is_some, is_taken, with_name}
 
 pub same_is : (a b : List ℕ) → pointwise nat_eq a b ≡ same_bytes a b
 same_is [] [] = refl

@@ -2,9 +2,8 @@
 use Rattle.std.proofs.Common.{◌≡◌, ℕ, Bool, true, false, cond, List, [], ◌∷◌, Option, Some, None, refl, sym, ap, ◌∙◌, arith}
 use Rattle.std.specs.Prelude.{nat_lt, nat_eq, ◌&&◌, ◌||◌}
 use Rattle.std.proofs.lemmas.Bool.Decides.{nat_tests}
-use Rattle.c_expressions.specs.Kept.{kept_one, kept}
+use Rattle.c_expressions.specs.Words.{kept_one, kept, FaultAt}
 use Rattle.c_resolved.specs.Accepted.{rank, is_earlier, earlier, least}
-use Rattle.c_resolved.specs.Expressions.{FaultAt}
 
 chain : (ba br fa fr ga gr : ℕ) → (nat_lt ba fa || (nat_eq ba fa && nat_lt br fr)) ≡ true
     → (nat_lt fa ga || (nat_eq fa ga && nat_lt fr gr)) ≡ true

@@ -1,12 +1,8 @@
 -- Arguments, one before the others.
 use Rattle.std.proofs.Common.{◌≡◌, ℕ, true, false, cond, map, List, [], ◌∷◌, ◌++◌, Option, Some, None, refl, sym, ap, ◌∙◌}
 use Rattle.c_expressions.proofs.Kept.{kept_append}
-use Rattle.c_expressions.specs.Kept.{kept}
+use Rattle.c_expressions.specs.Words.{kept, wanted, TypeClash, FaultAt, Passed, Wanted, OfType, fault_at, before, spoiled, pass, fits, passed, TypedNode}
 use Rattle.c_expressions.specs.declared.wanted.Wanted.TheVariants as wants
-use Rattle.c_expressions.specs.Views.{wanted}
-use Rattle.c_resolved.specs.declared.fault.Fault.TheVariants.{TypeClash}
-use Rattle.c_resolved.specs.Expressions.{FaultAt, Passed, Wanted, OfType, fault_at, before, spoiled, pass, fits, passed}
-use Rattle.c_resolved.specs.Operators.{TypedNode}
 use Rattle.c_resolved.specs.Program.{parameter_types}
 use Rattle.c_syntax.specs.declared.declaration.Parameter.{Parameter}
 

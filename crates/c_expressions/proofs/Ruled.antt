@@ -1,14 +1,8 @@
 -- A rule after its operands.
 use Rattle.std.proofs.Common.{◌≡◌, ℕ, Bool, false, List, ◌++◌, Option, Some, None, refl, sym, ap, ◌∙◌}
 use Rattle.c_expressions.proofs.Kept.{kept_more}
-use Rattle.c_expressions.specs.Kept.{kept}
-use Rattle.c_expressions.specs.Rules.{assigning_to, assigning_at}
-use Rattle.c_resolved.specs.declared.fault.Fault.{Fault}
-use Rattle.c_resolved.specs.declared.fault.Fault.TheVariants.{NotLvalue}
-use Rattle.c_resolved.specs.Expressions.{FaultAt, Names, ResolvedExpression, fault_at, given_that, changed, is_lvalue}
+use Rattle.c_expressions.specs.Words.{kept, assigning_to, assigning_at, Fault, NotLvalue, FaultAt, Names, ResolvedExpression, fault_at, given_that, changed, is_lvalue, Expression, start, TypedNode}
 use Rattle.c_syntax.specs.declared.operator.Arithmetic.{Arithmetic}
-use Rattle.c_syntax.specs.Expression.{Expression, start}
-use Rattle.c_resolved.specs.Operators.{TypedNode}
 
 -- a rule after two operands
 pub two : (first w1 w2 w3 : Option FaultAt) (ja jb : ResolvedExpression)

@@ -6,12 +6,9 @@ use Rattle.c_checked.specs.Expression as nodes
 use Rattle.c_checked.specs.Expression.{expression}
 use Rattle.c_expressions.proofs.Kept.{kept_more}
 use Rattle.c_expressions.specs.declared.least.Least.{Least}
-use Rattle.c_expressions.specs.Kept.{least_of, kept}
+use Rattle.c_expressions.specs.Words.{least_of, kept, FaultAt, ResolvedExpression, Value, typed_node}
 use Rattle.c_expressions.specs.Values.{Values}
-use Rattle.c_resolved.specs.Expressions.{FaultAt, ResolvedExpression}
-use Rattle.c_resolved.specs.Statements.{Value}
 use Rattle.c_types.specs.declared.typed.TypedNode.{TypedNode}
-use Rattle.c_types.specs.Views.{typed_node}
 
 abbrev resolved : Option TypedNode → List FaultAt → ResolvedExpression
 resolved found fs = record { found = option_map typed_node found; faults = fs }

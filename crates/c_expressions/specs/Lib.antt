@@ -4,3 +4,4 @@ pub mod Views
 pub mod Calls
 pub mod Values
 pub mod Resolved
+pub mod Words

@@ -2,11 +2,7 @@
 use Rattle.std.proofs.Common.{◌≡◌, ◌-◌, ℕ, Bool, true, false, ◌&&◌, cond, nat_eq, List, [], ◌∷◌}
 use Rattle.std.proofs.Common.{◌++◌, length, take, drop, refl, sym, ap, subst, ◌∙◌, Option, Some}
 use Rattle.std.proofs.Common.{None, arith}
-use Rattle.c_lex.specs.declared.word.Word.{Word}
-use Rattle.c_lex.specs.declared.word.Word.TheVariants.{Blank, Bad}
-use Rattle.c_lex.specs.declared.word.Fault.TheVariants.{OpenComment}
-use Rattle.c_lex.specs.Longest.{IsLongest}
-use Rattle.c_lex.specs.Comments.{after_mark, or_else, after_end, ended, comment}
+use Rattle.c_lex.specs.Vocabulary.{Word, Blank, Bad, OpenComment, IsLongest, after_mark, or_else, after_end, ended, comment}
 
 -- where a `*/` is at the front, or doesn't, two bytes decide
 mark_at : (a b : ℕ) (bs r : List ℕ) → after_mark (a ∷ b ∷ bs) ≡ Some r

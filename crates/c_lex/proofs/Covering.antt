@@ -1,11 +1,7 @@
 -- Tokens' ranges, and what lies between them.
 use Rattle.std.proofs.Common.{◌≡◌, ◌≤◌, ◌<◌, ◌+◌, ℕ, List, [], ◌∷◌, ◌++◌, length, refl, sym, ap}
 use Rattle.std.proofs.Common.{subst, ◌∙◌, arith, Some, length-append, append_assoc}
-use Rattle.c_lex.specs.declared.token.Token.{Token}
-use Rattle.c_lex.specs.declared.word.Word.{Word}
-use Rattle.c_lex.specs.declared.word.Word.TheVariants.{Lexeme, Blank, Bad}
-use Rattle.c_lex.specs.Words.{word}
-use Rattle.c_lex.specs.Text.{Piece, Cut, IsGood, AreGood, token_of, tokens_of, IsTokens}
+use Rattle.c_lex.specs.Vocabulary.{Token, Word, Lexeme, Blank, Bad, word, Piece, Cut, IsGood, AreGood, token_of, tokens_of, IsTokens}
 use Rattle.c_lex.specs.Laws.{Rises, IsCovered}
 use Rattle.c_lex.proofs.Texts.{shorter}
 

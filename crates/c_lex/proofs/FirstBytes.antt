@@ -2,15 +2,7 @@
 use Rattle.std.proofs.Common.{◌≡◌, ◌≢◌, ◌≤◌, ◌-◌, ℕ, true, false, nat_eq, List, [], ◌∷◌, ◌++◌}
 use Rattle.std.proofs.Common.{length, take, drop, get_or, refl, sym, ap, subst, ◌∙◌, arith, Option}
 use Rattle.std.proofs.lemmas.Bool.{ne_eqb}
-use Rattle.c_lex.specs.declared.word.Word.{Word}
-use Rattle.c_lex.specs.declared.word.Word.TheVariants.{Lexeme, Blank}
-use Rattle.c_lex.specs.Longest.{IsLongest, each}
-use Rattle.c_lex.specs.Longest.{more, span}
-use Rattle.c_lex.specs.Identifiers.{is_letter, is_digit, is_identifier_byte, identifier_kind}
-use Rattle.c_lex.specs.IntegerReaders.{digits, zero}
-use Rattle.c_lex.specs.CharacterReaders.{quoted}
-use Rattle.c_lex.specs.Comments.{is_space, is_other_than_line_feed, comment}
-use Rattle.c_lex.specs.Words.{alone, punctuator, slash, word_from, word}
+use Rattle.c_lex.specs.Vocabulary.{Word, Lexeme, Blank, IsLongest, each, more, span, is_letter, is_digit, is_identifier_byte, identifier_kind, digits, zero, quoted, is_space, is_other_than_line_feed, comment, alone, punctuator, slash, word_from, word}
 use Rattle.c_lex.proofs.Fronts.{rest_of}
 use Rattle.c_lex.proofs.Wholes.{zero_whole, decimal_whole, quoted_whole}
 use Rattle.c_lex.proofs.Taking.{at_end, stops, takes, same, each_takes}

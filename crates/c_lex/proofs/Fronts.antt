@@ -3,8 +3,7 @@ use Rattle.std.proofs.Common.{◌≡◌, ◌≤◌, ◌-◌, ℕ, Bool, true, fa
 use Rattle.std.proofs.Common.{length, take, drop, get_or, refl, sym, ap, ◌∙◌, arith, Option}
 use Rattle.std.proofs.Common.{length-append}
 use Rattle.std.proofs.Math.Seq.{take-length}
-use Rattle.c_lex.specs.Longest.{more, span}
-use Rattle.c_lex.specs.Readers.{one, two, either}
+use Rattle.c_lex.specs.Vocabulary.{more, span, one, two, either}
 
 -- ---- texts as patterns of slices have them
 

@@ -3,15 +3,10 @@ use Rattle.std.proofs.Common.{◌≡◌, ℕ, true, nat_eq, List, [], ◌∷◌,
 use Rattle.std.specs.Str.{bytes_eq}
 use Rattle.std.proofs.lemmas.Bool.Decides.{nat_tests}
 use Rattle.std.proofs.lemmas.Slice.Eq.{bytes_eq-Decides}
-use Rattle.c_lex.specs.declared.keyword.Keyword.{Keyword}
-use Rattle.c_lex.specs.declared.reserved.Reserved.{Reserved}
-use Rattle.c_lex.specs.declared.punctuator.Punctuator.{Punctuator}
+use Rattle.c_lex.specs.Vocabulary.{Keyword, Reserved, Punctuator, keyword_of, reserved_of, is_same, punctuator_of}
 use Rattle.c_lex.specs.Keywords as keywords
-use Rattle.c_lex.specs.Keywords.{keyword_of}
 use Rattle.c_lex.specs.ReservedWords as reserved_words
-use Rattle.c_lex.specs.ReservedWords.{reserved_of}
 use Rattle.c_lex.specs.Punctuators as punctuators
-use Rattle.c_lex.specs.Punctuators.{is_same, punctuator_of}
 use Rattle.c_lex.proofs.Tokens.{found_passes, and_true}
 
 same_text : (v w : List ℕ) → is_same v w ≡ true → v ≡ w

@@ -3,13 +3,7 @@ use Rattle.std.proofs.Common.{◌≡◌, ◌+◌, ◌*◌, ℕ, Bool, true, fals
 use Rattle.std.proofs.Common.{[], ◌∷◌, ◌++◌, refl, sym, ap, subst, ◌∙◌, Option, Some, None}
 use Rattle.std.specs.Prelude.{ℤ}
 use Rattle.c_lex.specs.declared.token.Kind.TheVariants as kinds
-use Rattle.c_lex.specs.declared.word.Word.{Word}
-use Rattle.c_lex.specs.declared.word.Word.TheVariants.{Lexeme, Bad}
-use Rattle.c_lex.specs.declared.word.Fault.TheVariants.{BadChar}
-use Rattle.c_lex.specs.Longest.{IsLongest}
-use Rattle.c_lex.specs.Integers.{digit}
-use Rattle.c_lex.specs.Characters.{is_plain, signed_char, escaped}
-use Rattle.c_lex.specs.CharacterReaders.{closed, two_digits, escape, character, whole, quoted}
+use Rattle.c_lex.specs.Vocabulary.{Word, Lexeme, Bad, BadChar, IsLongest, digit, is_plain, signed_char, escaped, closed, two_digits, escape, character, whole, quoted}
 
 -- what reading gives, a value and the rest
 abbrev Read : Type 0

@@ -1,22 +1,13 @@
 -- Punctuators, keywords and reserved words are what their spellings are.
 use Rattle.std.proofs.Common.{◌≡◌, refl, Some}
-use Rattle.c_lex.specs.declared.keyword.Keyword.{Keyword}
+use Rattle.c_lex.specs.Vocabulary.{Keyword, Reserved, Punctuator, Lexeme, keyword_of, reserved_of, punctuator_of, is_letter, is_digit, is_identifier_byte, identifier_kind, is_space, punctuator, word_from, word}
 use Rattle.c_lex.specs.declared.keyword.Keyword.TheVariants as k
-use Rattle.c_lex.specs.declared.reserved.Reserved.{Reserved}
 use Rattle.c_lex.specs.declared.reserved.Reserved.TheVariants as r
-use Rattle.c_lex.specs.declared.punctuator.Punctuator.{Punctuator}
 use Rattle.c_lex.specs.declared.punctuator.Punctuator.TheVariants as s
 use Rattle.c_lex.specs.declared.token.Kind.TheVariants as kinds
-use Rattle.c_lex.specs.declared.word.Word.TheVariants.{Lexeme}
 use Rattle.c_lex.specs.Keywords as keywords
-use Rattle.c_lex.specs.Keywords.{keyword_of}
 use Rattle.c_lex.specs.ReservedWords as reserved_words
-use Rattle.c_lex.specs.ReservedWords.{reserved_of}
 use Rattle.c_lex.specs.Punctuators as punctuators
-use Rattle.c_lex.specs.Punctuators.{punctuator_of}
-use Rattle.c_lex.specs.Identifiers.{is_letter, is_digit, is_identifier_byte, identifier_kind}
-use Rattle.c_lex.specs.Comments.{is_space}
-use Rattle.c_lex.specs.Words.{punctuator, word_from, word}
 
 pub punctuators_spelled : (s : Punctuator)
     → word (punctuators.spelling s) ≡ Some (Lexeme (kinds.Punctuator s))

@@ -3,9 +3,7 @@ use Rattle.std.proofs.Common.{◌≡◌, ◌≤◌, ◌<◌, ◌⊎◌, inl, inr
 use Rattle.std.proofs.Common.{length, refl, sym, ap, subst, ◌∙◌, arith, Option, Some, None}
 use Rattle.std.proofs.Common.{length-append, append_assoc}
 use Rattle.std.proofs.Math.Nat.{eq-or-lt_of_le}
-use Rattle.c_lex.specs.Longest.{IsLongest, each}
-use Rattle.c_lex.specs.Longest.{more, span}
-use Rattle.c_lex.specs.Readers.{one, two, three, either}
+use Rattle.c_lex.specs.Vocabulary.{IsLongest, each, more, span, one, two, three, either}
 use Rattle.c_lex.proofs.Fronts.{by_test}
 
 -- the text is at its end

@@ -3,14 +3,7 @@ use Rattle.std.proofs.Common.{◌≡◌, ◌≤◌, ◌<◌, ◌-◌, ◌+◌, �
 use Rattle.std.proofs.Common.{length, refl, sym, ap, subst, ◌∙◌, arith, Option, Some, length-append}
 use Rattle.std.proofs.Common.{append_assoc, add_assoc}
 use Rattle.c_lex.specs.declared.token.Kind.{Kind}
-use Rattle.c_lex.specs.declared.token.Token.{Token}
-use Rattle.c_lex.specs.declared.word.Word.{Word}
-use Rattle.c_lex.specs.declared.word.Word.TheVariants.{Lexeme, Blank, Bad}
-use Rattle.c_lex.specs.declared.word.Fault.{Fault}
-use Rattle.c_lex.specs.Longest.{IsLongest}
-use Rattle.c_lex.specs.Words.{word}
-use Rattle.c_lex.specs.Text.{Piece, Cut, IsGood, AreGood, size, token, token_of, tokens_of}
-use Rattle.c_lex.specs.Text.{IsTokens, IsLexicalFault}
+use Rattle.c_lex.specs.Vocabulary.{Token, Word, Lexeme, Blank, Bad, Fault, IsLongest, word, Piece, Cut, IsGood, AreGood, size, token, token_of, tokens_of, IsTokens, IsLexicalFault}
 
 -- ---- one word
 

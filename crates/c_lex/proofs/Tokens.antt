@@ -6,20 +6,11 @@ use Rattle.std.specs.Prelude.{find}
 use Rattle.std.proofs.lemmas.Bool.Decides.{nat_tests}
 use Rattle.std.proofs.Math.Nat.{min-eq_left}
 use Rattle.std.proofs.lemmas.Bool.{le-ltb}
-use Rattle.c_lex.specs.Longest.{IsLongest}
+use Rattle.c_lex.specs.Vocabulary.{IsLongest, Word, Bad, BigLiteral, Int, Unsigned, LongLong, UnsignedLongLong, suffix, suffix_of, limit, types, type_of, literal, digit, digits, hexadecimal, punctuator_of, lone, punctuator}
 use Rattle.c_lex.specs.Readers as readers
-use Rattle.c_lex.specs.declared.word.Word.{Word}
-use Rattle.c_lex.specs.declared.word.Word.TheVariants.{Bad}
-use Rattle.c_lex.specs.declared.word.Fault.TheVariants.{BigLiteral}
 use Rattle.c_lex.specs.declared.integer.Suffix.{Suffix}
 use Rattle.c_lex.specs.declared.token.IntegerType.{IntegerType}
-use Rattle.c_lex.specs.declared.token.IntegerType.TheVariants.{Int, Unsigned, LongLong}
-use Rattle.c_lex.specs.declared.token.IntegerType.TheVariants.{UnsignedLongLong}
-use Rattle.c_lex.specs.Integers.{suffix, suffix_of, limit, types, type_of, literal, digit}
-use Rattle.c_lex.specs.IntegerReaders.{digits, hexadecimal}
 use Rattle.c_lex.specs.IntegerReaders as integers
-use Rattle.c_lex.specs.Punctuators.{punctuator_of}
-use Rattle.c_lex.specs.Words.{lone, punctuator}
 use Rattle.c_lex.proofs.Fronts.{by_test}
 use Rattle.c_lex.proofs.Taking.{takes, same, Within, two_takes, three_takes}
 

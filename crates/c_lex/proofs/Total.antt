@@ -5,21 +5,9 @@ use Rattle.std.proofs.Common.{None}
 use Rattle.std.specs.Prelude.{ℤ}
 use Rattle.std.proofs.lemmas.Bool.Decides.{nat_tests}
 use Rattle.c_lex.specs.declared.token.Kind.TheVariants as kinds
-use Rattle.c_lex.specs.declared.token.Token.{Token}
-use Rattle.c_lex.specs.declared.word.Word.{Word}
-use Rattle.c_lex.specs.declared.word.Word.TheVariants.{Lexeme, Blank, Bad}
-use Rattle.c_lex.specs.declared.word.Fault.{Fault}
-use Rattle.c_lex.specs.declared.word.Fault.TheVariants.{OpenComment, BadChar}
-use Rattle.c_lex.specs.Longest.{IsLongest, each}
+use Rattle.c_lex.specs.Vocabulary.{Token, Word, Lexeme, Blank, Bad, Fault, OpenComment, BadChar, IsLongest, each, span, is_letter, is_digit, is_identifier_byte, identifier_kind, digits, character, quoted, is_space, is_other_than_line_feed, after_end, comment, punctuator, slash, word, Piece, Cut, AreGood, size, tokens_of, IsTokens, IsLexicalFault}
 use Rattle.c_lex.specs.Readers as readers
-use Rattle.c_lex.specs.Longest.{span}
-use Rattle.c_lex.specs.Identifiers.{is_letter, is_digit, is_identifier_byte, identifier_kind}
-use Rattle.c_lex.specs.IntegerReaders.{digits}
 use Rattle.c_lex.specs.IntegerReaders as integers
-use Rattle.c_lex.specs.CharacterReaders.{character, quoted}
-use Rattle.c_lex.specs.Comments.{is_space, is_other_than_line_feed, after_end, comment}
-use Rattle.c_lex.specs.Words.{punctuator, slash, word}
-use Rattle.c_lex.specs.Text.{Piece, Cut, AreGood, size, tokens_of, IsTokens, IsLexicalFault}
 use Rattle.c_lex.proofs.Taking.{takes, same, each_takes}
 use Rattle.c_lex.proofs.Tokens.{punctuators_take, digits_take, zero_found, zero_alone}
 use Rattle.c_lex.proofs.Quotes.{quote_found, quote_alone}

@@ -4,15 +4,10 @@ use Rattle.std.proofs.Common.{cond, nat_eq, nat_lt, List, [], ◌∷◌, length,
 use Rattle.std.proofs.Common.{◌∙◌, arith, Option, Some, None, option_map}
 use Rattle.std.proofs.Math.Nat.{pow-zero, pow-succ'}
 use Rattle.std.proofs.lemmas.Bool.Decides.{nat_tests}
-use Rattle.c_lex.specs.declared.word.Word.{Word}
-use Rattle.c_lex.specs.Longest.{span}
-use Rattle.c_lex.specs.Identifiers.{is_digit}
-use Rattle.c_lex.specs.Integers.{suffix_of, literal, digit, place_value, is_digit_of, integer}
-use Rattle.c_lex.specs.Integers.{hexadecimal, after_zero}
+use Rattle.c_lex.specs.Vocabulary.{Word, span, is_digit, suffix_of, literal, digit, place_value, is_digit_of, integer, after_zero, digits, is_plain, escaped, char, is_hexadecimal, closed, two_digits, character, whole}
+use Rattle.c_lex.specs.Integers.{hexadecimal}
 use Rattle.c_lex.specs.IntegerReaders as readers
-use Rattle.c_lex.specs.IntegerReaders.{digits}
-use Rattle.c_lex.specs.Characters.{is_plain, escaped, char, is_hexadecimal, quoted}
-use Rattle.c_lex.specs.CharacterReaders.{closed, two_digits, character, whole}
+use Rattle.c_lex.specs.Characters.{quoted}
 use Rattle.c_lex.specs.CharacterReaders as char_readers
 
 -- ---- literals

@@ -13,3 +13,4 @@ pub mod CharacterReaders
 pub mod Text
 pub mod Answers
 pub mod Laws
+pub mod Vocabulary

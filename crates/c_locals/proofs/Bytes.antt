@@ -1,6 +1,6 @@
 -- Bytes of numbers and of lists, one after another.
 use Rattle.std.proofs.Common.{◌≡◌, ℕ, zero, suc, ◌+◌, ◌-◌, ◌/◌, ◌%◌, ◌≢◌, List, [], ◌∷◌, ◌++◌, refl, ap, ◌∙◌, append_assoc, arith}
-use Rattle.c_resolved.specs.Program.{bytes_of_number}
+use Rattle.c_locals.specs.Words.{bytes_of_number}
 
 -- one byte more of a number
 pub number_step : (old : List ℕ) (n v : ℕ) → n ≢ 0

@@ -3,35 +3,18 @@ use Rattle.std.proofs.Common.{◌≡◌, ℕ, ◌+◌, ◌<◌, ◌≤◌, List,
 use Rattle.std.proofs.lemmas.List.{drop_all, map-append}
 use Rattle.std.specs.Borrow.{Bor}
 use Rattle.std.specs.Prelude.{not, option_map}
-use Rattle.c_checked.proofs.Items.{next_of}
-use Rattle.c_checked.specs.declared.expression.Expr.{Expr}
+use Rattle.c_locals.proofs.Lemmas.{next_of, kept_more}
+use Rattle.c_locals.specs.Words.{Expr, declared, statement, layer, Least, least_of, kept, block_of, Walk, Resolves, declares, MayEvaluate, numbering, resolved_at, Duplicate, TypeClash, LocalVariable, Scope, spelled, Environment, Optional, ResolvedStatements, declare, declare_all, is_taken, names_only, optional, to_type, unless_holds, with_name, is_scalar, size_of, Base, CType, start, local}
 use Rattle.c_checked.specs.declared.statement.Declared.{Declared as Declared'}
 use Rattle.c_checked.specs.declared.statement.Stmt.TheVariants as statements
 use Rattle.c_checked.specs.declared.statement.Stmt.TheOpen as opened
 use Rattle.c_checked.specs.declared.statement.Stmt.TheFolds.{fold-roll-Stmt}
 use Rattle.c_checked.specs.Expression.{expression}
 use Rattle.c_checked.specs.Statement as checked
-use Rattle.c_checked.specs.Statement.{declared, statement, layer}
-use Rattle.c_expressions.proofs.Kept.{kept_more}
-use Rattle.c_expressions.specs.declared.least.Least.{Least}
 use Rattle.c_expressions.specs.declared.scopes.Entity.{Entity as Entity'}
-use Rattle.c_expressions.specs.Kept.{least_of, kept}
-use Rattle.c_expressions.specs.Views.{block_of}
 use Rattle.c_locals.proofs.WalkResults.{StillToMake, one_made}
-use Rattle.c_locals.specs.declared.environment.Walk.{Walk}
-use Rattle.c_locals.specs.WalkResults.{Resolves, declares}
-use Rattle.c_locals.specs.Values.{MayEvaluate}
-use Rattle.c_locals.specs.Views.{numbering, resolved_at}
-use Rattle.c_resolved.specs.declared.fault.Fault.TheVariants.{Duplicate, TypeClash}
-use Rattle.c_resolved.specs.Expressions.{LocalVariable}
-use Rattle.c_resolved.specs.Scopes.{Scope, spelled}
-use Rattle.c_resolved.specs.Statements.{Environment, Optional, ResolvedStatements, declare, declare_all, is_taken, names_only, optional, to_type, unless_holds, with_name}
-use Rattle.c_resolved.specs.Types.{is_scalar, size_of}
-use Rattle.c_syntax.specs.declared.expression.Base.{Base}
-use Rattle.c_syntax.specs.declared.expression.CType.{CType}
 use Rattle.c_syntax.specs.declared.statement.Local.{Local as Local'}
-use Rattle.c_syntax.specs.Expression.{expression as tree, start}
-use Rattle.c_syntax.specs.Statement.{local}
+use Rattle.c_syntax.specs.Expression.{expression as tree}
 
 -- what is still to be declared from here
 abbrev pub rest_of : Environment → Base → List Local' → List (Bor (List ℕ) × Entity') → Walk

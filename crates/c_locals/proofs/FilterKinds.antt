@@ -1,13 +1,6 @@
 -- The filter of an `__except`, by whether it is always the same.
 use Rattle.std.proofs.Common.{◌≡◌, ℕ, ◌+◌, Bool, true, false, cond, [], Some, None, refl, sym, ap, subst}
-use Rattle.c_checked.specs.declared.expression.Expr.{Expr}
-use Rattle.c_checked.specs.Statement.{Always, Funclet}
-use Rattle.c_expressions.specs.declared.least.Least.{Least}
-use Rattle.c_locals.specs.Values.{Evaluates, ResolvesFilter}
-use Rattle.c_locals.specs.Views.{filter_resolved_at}
-use Rattle.c_resolved.specs.Scopes.{Scope}
-use Rattle.c_resolved.specs.Statements.{Environment, ResolvedFilter, always, resolve_filter, to_answer}
-use Rattle.c_syntax.specs.Expression.{Expression, start}
+use Rattle.c_locals.specs.Words.{Expr, Always, Funclet, Least, Evaluates, ResolvesFilter, filter_resolved_at, Scope, Environment, ResolvedFilter, always, resolve_filter, to_answer, Expression, start}
 
 abbrev filter_by : Environment → Scope → Expression → Bool → ℕ → ResolvedFilter
 filter_by a block x same number =

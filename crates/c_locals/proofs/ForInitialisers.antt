@@ -3,19 +3,10 @@ use Rattle.std.proofs.Common.{◌≡◌, ℕ, List, [], map, append-nil, None, s
 use Rattle.std.specs.Borrow.{Bor}
 use Rattle.std.specs.Prelude.{option_map}
 use Rattle.c_checked.specs.Expression.{expression}
-use Rattle.c_checked.specs.Statement.{declared}
+use Rattle.c_locals.specs.Words.{declared, least_of, kept, block_of, Beginning, Walk, Resolves, IsBeginning, declares, numbering, Environment, declare_all, names_only, resolve_for_initialiser, Base, Declaring, local}
 use Rattle.c_expressions.specs.declared.scopes.Entity.{Entity as Entity'}
-use Rattle.c_expressions.specs.Kept.{least_of, kept}
-use Rattle.c_expressions.specs.Views.{block_of}
 use Rattle.c_locals.proofs.DeclarationLocals.{only_declared}
-use Rattle.c_locals.specs.declared.declarations.Beginning.{Beginning}
-use Rattle.c_locals.specs.declared.environment.Walk.{Walk}
-use Rattle.c_locals.specs.WalkResults.{Resolves, IsBeginning, declares}
-use Rattle.c_locals.specs.Views.{numbering}
-use Rattle.c_resolved.specs.Statements.{Environment, declare_all, names_only, resolve_for_initialiser}
-use Rattle.c_syntax.specs.declared.expression.Base.{Base}
 use Rattle.c_syntax.specs.declared.statement.Local.{Local as Local'}
-use Rattle.c_syntax.specs.Statement.{Declaring, local}
 
 pub declaring : (a : Environment) (base : Base) (ls slice : List Local')
     (old block : List (Bor (List ℕ) × Entity')) (w w' : Walk) (b : Beginning)

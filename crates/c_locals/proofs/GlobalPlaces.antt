@@ -2,21 +2,11 @@
 use Rattle.std.proofs.Common.{◌≡◌, ℕ, ◌+◌, ◌<◌, ◌≤◌, List, ◌++◌, map, length, drop, get_or, Option, Result, Ok, Err, sym, ap, ◌∙◌, subst}
 use Rattle.std.proofs.lemmas.List.{drop_all}
 use Rattle.std.specs.Prelude.{OnOk, None, not, option_map}
-use Rattle.c_checked.proofs.Items.{next_of}
-use Rattle.c_resolved.specs.declared.fault.Fault.TheVariants.{Duplicate, TypeClash}
-use Rattle.c_resolved.specs.Scopes.{spelled}
-use Rattle.c_resolved.specs.Statements.{with_name, is_taken, unless_holds}
-use Rattle.c_resolved.specs.Types.{bytes_in, is_scalar}
-use Rattle.c_syntax.specs.declared.expression.CType.{CType}
-use Rattle.c_expressions.proofs.Kept.{kept_more}
-use Rattle.c_expressions.specs.Kept.{least_of, kept}
-use Rattle.c_expressions.specs.Views.{block_of}
+use Rattle.c_locals.proofs.Lemmas.{next_of, kept_more}
+use Rattle.c_locals.specs.Words.{Duplicate, TypeClash, spelled, with_name, is_taken, unless_holds, bytes_in, is_scalar, CType, least_of, kept, block_of, FaultAt, File, with_global, with_globals, global_entity, padded, initial_value, length_faults, first_data, Base}
 use Rattle.c_locals.specs.declared.globals.File.{File as File'}
 use Rattle.c_locals.specs.Files.{IsFile}
-use Rattle.c_resolved.specs.Expressions.{FaultAt}
-use Rattle.c_resolved.specs.Program.{File, with_global, with_globals, global_entity, padded, initial_value, length_faults, first_data}
 use Rattle.c_syntax.specs.declared.declaration.Global.{Global as Global'}
-use Rattle.c_syntax.specs.declared.expression.Base.{Base}
 use Rattle.c_syntax.specs.Program as trees
 
 pub on_both : {T E : Type 0} (A B : Type 0) (r : Result T E) → OnOk r A → OnOk r B → OnOk r (A × B)

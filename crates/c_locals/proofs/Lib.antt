@@ -1,3 +1,4 @@
+mod Lemmas
 pub mod ForInitialisers
 pub mod DeclarationLocals
 pub mod FilterKinds

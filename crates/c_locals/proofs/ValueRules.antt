@@ -1,20 +1,9 @@
 -- Rules on the value of an expression, after the expression's own faults.
 use Rattle.std.proofs.Common.{◌≡◌, ℕ, Bool, true, false, cond, ◌++◌, Option, Some, None, refl, sym, ap, ◌∙◌, subst}
 use Rattle.std.specs.Prelude.{option_map}
-use Rattle.c_checked.specs.declared.expression.Expr.{Expr}
-use Rattle.c_expressions.specs.declared.least.Least.{Least}
-use Rattle.c_expressions.specs.Kept.{least_of, kept}
+use Rattle.c_locals.specs.Words.{Expr, Least, least_of, kept, Evaluates, MayEvaluate, resolved_at, TypeClash, ResolvedExpression, fault_at, Scope, Environment, Value, Optional, returned, to_type, is_void, Expression, start, typed_node}
 use Rattle.c_expressions.specs.Values.{Values}
-use Rattle.c_locals.specs.Values.{Evaluates, MayEvaluate}
-use Rattle.c_locals.specs.Views.{resolved_at}
-use Rattle.c_resolved.specs.declared.fault.Fault.TheVariants.{TypeClash}
-use Rattle.c_resolved.specs.Expressions.{ResolvedExpression, fault_at}
-use Rattle.c_resolved.specs.Scopes.{Scope}
-use Rattle.c_resolved.specs.Statements.{Environment, Value, Optional, returned, to_type}
-use Rattle.c_resolved.specs.Types.{is_void}
-use Rattle.c_syntax.specs.Expression.{Expression, start}
 use Rattle.c_types.specs.declared.typed.TypedNode.{TypedNode}
-use Rattle.c_types.specs.Views.{typed_node}
 
 pub ruled : (before middle after : Least) (found : Option TypedNode) (j : ResolvedExpression)
     (e : Expr) (rule : ResolvedExpression → Value)

@@ -1,11 +1,8 @@
 -- What a walk has made, one after another, and what is still to be made from where it is.
 use Rattle.std.proofs.Common.{◌≡◌, List, [], ◌++◌, append_assoc, Option, refl, sym, ap, ◌∙◌}
 use Rattle.c_checked.specs.Statement as checked
-use Rattle.c_expressions.proofs.Kept.{kept_append}
-use Rattle.c_expressions.specs.Kept.{kept}
-use Rattle.c_resolved.specs.Expressions.{FaultAt}
-use Rattle.c_resolved.specs.Scopes.{Scope}
-use Rattle.c_resolved.specs.Statements.{ResolvedStatements, Numbering, follow}
+use Rattle.c_locals.proofs.Lemmas.{kept_append}
+use Rattle.c_locals.specs.Words.{kept, FaultAt, Scope, ResolvedStatements, Numbering, follow}
 
 pub record StillToMake (whole : ResolvedStatements) (first : Option FaultAt)
     (made : List checked.Statement) (so_far : Option FaultAt) (rest : ResolvedStatements) : Type 0

@@ -5,11 +5,9 @@ use Rattle.std.proofs.Common.{length-drop, sym, ap, ◌∙◌, arith}
 use Rattle.std.specs.Prelude.{codes, slice_range}
 use Rattle.std.proofs.lemmas.List.{take-append-le, drop-append-le}
 use Rattle.std.proofs.Math.Seq.{drop-append_seam, drop-append-add}
-use Rattle.c_lex.specs.declared.token.Token.{Token}
+use Rattle.c_parse.specs.Words.{Token, IsTokens, Alike, Speaks}
 use Rattle.c_lex.specs.Laws.{Rises}
-use Rattle.c_lex.specs.Text.{IsTokens}
-use Rattle.c_lex.proofs.Covering.{ranges_rise}
-use Rattle.c_syntax.specs.Faults.{Alike, Speaks}
+use Rattle.c_parse.proofs.Lemmas.{ranges_rise}
 
 -- a part of the text is the same part of one that continues
 part : (text beyond : List ℕ) (a b : ℕ) → a ≤ b → b ≤ length text

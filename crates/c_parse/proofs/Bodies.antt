@@ -3,22 +3,10 @@ use Rattle.std.proofs.Common.{◌≡◌, ◌≤◌, ℕ, List, [], ◌∷◌, �
 use Rattle.std.proofs.Common.{arith}
 use Rattle.c_lex.specs.declared.punctuator.Punctuator.TheVariants as punctuators
 use Rattle.c_lex.specs.declared.token.Kind.TheVariants as kinds
-use Rattle.c_lex.specs.declared.token.Token.{Token}
-use Rattle.c_syntax.specs.declared.declaration.Parameter.{Parameter}
-use Rattle.c_syntax.specs.Faults.{Wraps}
-use Rattle.c_syntax.specs.Limits.{FunctionWithinFirst}
-use Rattle.c_syntax.specs.Programs.{AreParameters}
-use Rattle.c_syntax.specs.Statement.{Empty}
+use Rattle.c_parse.specs.Words.{Token, Parameter, Wraps, FunctionWithinFirst, AreParameters, Empty, token, HasPunctuator, Left, NoPunctuator, APunctuator, NoBlockItems, HasBlockItems, NoParameters, HasParameters, IsTail, NoTail, HasTail}
 use Rattle.c_syntax.specs.Statements.{AreBlockItems}
-use Rattle.c_syntax.specs.Tokens.{token, HasPunctuator}
-use Rattle.c_syntax.proofs.Failing.{append_append, alike_same}
+use Rattle.c_parse.proofs.Lemmas.{append_append, alike_same, has_same, parameters}
 use Rattle.c_syntax.proofs.MovesPrograms as programs
-use Rattle.c_syntax.proofs.Fronts.{has_same}
-use Rattle.c_syntax.proofs.Files.{parameters}
-use Rattle.c_parse_stmt.specs.declared.left.Left.{Left}
-use Rattle.c_parse_stmt.specs.Parts.{NoPunctuator, APunctuator}
-use Rattle.c_parse_stmt.specs.Within.{NoBlockItems, HasBlockItems}
-use Rattle.c_parse.specs.Parts.{NoParameters, HasParameters, IsTail, NoTail, HasTail}
 use Rattle.c_parse.proofs.Refusing.{punctuator, has_it, following}
 
 abbrev braces : List Token

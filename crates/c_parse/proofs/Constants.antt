@@ -5,26 +5,12 @@ use Rattle.std.proofs.lemmas.List.{append-nil}
 use Rattle.c_lex.specs.declared.punctuator.Punctuator.TheVariants as punctuators
 use Rattle.c_lex.specs.declared.token.IntegerType.TheVariants as types
 use Rattle.c_lex.specs.declared.token.Kind.TheVariants as kinds
-use Rattle.c_lex.specs.declared.token.Token.{Token}
+use Rattle.c_parse.specs.Words.{Token, Literal, literal_kind, SameFirst, place, Failed, Wraps, Stops, assignment, Initialiser, Single, Several, IsLiteral, IsConstant, AreMoreConstants, AreConstants, IsInitialiser, token, IsKind, IsPunctuator, HasPunctuator, NoPunctuator, APunctuator, NoConstant, HasConstant, NoConstants, HasConstants, IsGiven, NoneGiven, HasGiven, NoInitialiser, HasInitialiser}
 use Rattle.c_syntax.specs.declared.declaration.Constant.{Constant}
-use Rattle.c_syntax.specs.declared.expression.Literal.{Literal}
 use Rattle.c_syntax.specs.declared.expression.Literal.TheVariants as literals
-use Rattle.c_syntax.specs.Expressions.{literal_kind}
-use Rattle.c_syntax.specs.Faults.{SameFirst, place, Failed, Wraps}
-use Rattle.c_syntax.specs.Follow.{Stops}
-use Rattle.c_syntax.specs.Operators.{assignment}
-use Rattle.c_syntax.specs.Program.{Initialiser, Single, Several}
-use Rattle.c_syntax.specs.Programs.{IsLiteral, IsConstant, AreMoreConstants, AreConstants}
-use Rattle.c_syntax.specs.Programs.{IsInitialiser}
-use Rattle.c_syntax.specs.Tokens.{token, IsKind, IsPunctuator, HasPunctuator}
-use Rattle.c_syntax.proofs.Failing.{append_append, alike_same}
+use Rattle.c_parse.proofs.Lemmas.{append_append, alike_same, punctuator_same, has_same, front, literal_class, constant_once, constants, assign_not, brace_not}
 use Rattle.c_syntax.proofs.MovesPrograms as programs
 use Rattle.c_syntax.proofs.Firsts as firsts
-use Rattle.c_syntax.proofs.Fronts.{punctuator_same, has_same, front}
-use Rattle.c_syntax.proofs.Files.{literal_class, constant_once, constants, assign_not, brace_not}
-use Rattle.c_parse_stmt.specs.Parts.{NoPunctuator, APunctuator}
-use Rattle.c_parse.specs.Parts.{NoConstant, HasConstant, NoConstants, HasConstants, IsGiven}
-use Rattle.c_parse.specs.Parts.{NoneGiven, HasGiven, NoInitialiser, HasInitialiser}
 use Rattle.c_parse.proofs.Lists as listed
 use Rattle.c_parse.proofs.Lists.{Begun, Back}
 use Rattle.c_parse.proofs.Refusing.{missing, punctuator, digit, has_it, following, Lacks, LacksAt}

@@ -4,23 +4,11 @@ use Rattle.std.proofs.Common.{arith}
 use Rattle.std.proofs.lemmas.List.{append-nil}
 use Rattle.c_lex.specs.declared.punctuator.Punctuator.TheVariants as punctuators
 use Rattle.c_lex.specs.declared.token.Kind.TheVariants as kinds
-use Rattle.c_lex.specs.declared.token.Token.{Token}
+use Rattle.c_parse.specs.Words.{Token, Base, SameFirst, Wraps, Stops, end_of_globals, assignment, Global, global, IsGlobal, AreMoreGlobals, AreGlobals, token, HasPunctuator, NoPunctuator, APunctuator, end_of, NoGlobal, NoGlobals, HasGlobals}
 use Rattle.c_syntax.specs.declared.declaration.Global.{Global as Global'}
-use Rattle.c_syntax.specs.declared.expression.Base.{Base}
-use Rattle.c_syntax.specs.Faults.{SameFirst, Wraps}
-use Rattle.c_syntax.specs.Follow.{Stops}
-use Rattle.c_syntax.specs.Limits.{end_of_globals}
-use Rattle.c_syntax.specs.Operators.{assignment}
-use Rattle.c_syntax.specs.Program.{Global, global}
-use Rattle.c_syntax.specs.Programs.{IsGlobal, AreMoreGlobals, AreGlobals}
-use Rattle.c_syntax.specs.Tokens.{token, HasPunctuator}
-use Rattle.c_syntax.proofs.Failing.{append_append, alike_same}
+use Rattle.c_parse.proofs.Lemmas.{append_append, alike_same, has_same, other_punctuator, global_once, globals_stop}
 use Rattle.c_syntax.proofs.MovesPrograms as programs
 use Rattle.c_syntax.proofs.Firsts as firsts
-use Rattle.c_syntax.proofs.Fronts.{has_same}
-use Rattle.c_syntax.proofs.Files.{other_punctuator, global_once, globals_stop}
-use Rattle.c_parse_stmt.specs.Parts.{NoPunctuator, APunctuator}
-use Rattle.c_parse.specs.Parts.{end_of, NoGlobal, NoGlobals, HasGlobals}
 use Rattle.c_parse.proofs.Lists.{Begun, Back, continues, snoc}
 use Rattle.c_parse.proofs.Refusing.{following, Lacks}
 use Rattle.c_parse.proofs.Placing.{grows}

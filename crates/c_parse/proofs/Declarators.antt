@@ -4,33 +4,13 @@ use Rattle.std.proofs.Common.{Option, Some, None, inl, inr, refl, sym, ap, â—Œâˆ
 use Rattle.c_lex.specs.declared.punctuator.Punctuator.TheVariants as punctuators
 use Rattle.c_lex.specs.declared.token.IntegerType.TheVariants as types
 use Rattle.c_lex.specs.declared.token.Kind.TheVariants as kinds
-use Rattle.c_lex.specs.declared.token.Token.{Token}
-use Rattle.c_syntax.specs.declared.declaration.Length.{Length}
-use Rattle.c_syntax.specs.declared.expression.Base.{Base}
+use Rattle.c_parse.specs.Words.{Token, Length, Base, Identifier, SameFirst, place, Onward, Failed, Wraps, Stops, postfix, Single, Several, Global, IsInitialiser, IsLength, AreGlobals, token, IsIdentifier, AreStars, NoStar, ParseErr, Unexpected, TooMany, IsPlacedRefusal, NoInitialiser, HasInitialiser, end_of, NoLength, HasLength, EndsScalar, NoGlobal, HasGlobals}
 use Rattle.c_syntax.specs.declared.expression.Literal.TheVariants as literals
-use Rattle.c_syntax.specs.declared.expression.Identifier.{Identifier}
-use Rattle.c_syntax.specs.Faults.{SameFirst, place, Onward, Failed, Wraps}
-use Rattle.c_syntax.specs.Follow.{Stops}
-use Rattle.c_syntax.specs.Operators.{postfix}
-use Rattle.c_syntax.specs.Program.{Single, Several, Global}
-use Rattle.c_syntax.specs.Programs.{IsInitialiser, IsLength, AreGlobals}
-use Rattle.c_syntax.specs.Tokens.{token, IsIdentifier}
-use Rattle.c_syntax.specs.Types.{AreStars}
-use Rattle.c_syntax.proofs.Failing.{append_append, alike_same}
+use Rattle.c_parse.proofs.Lemmas.{append_append, alike_same, name_same, stars_once, name_star, initialiser_stops, length_once, globals_stop}
 use Rattle.c_syntax.proofs.Moves as moves
 use Rattle.c_syntax.proofs.MovesPrograms as programs
 use Rattle.c_syntax.proofs.Firsts as firsts
-use Rattle.c_syntax.proofs.Fronts.{name_same, stars_once}
-use Rattle.c_syntax.proofs.Declarations.{name_star}
-use Rattle.c_syntax.proofs.Files.{initialiser_stops, length_once, globals_stop}
-use Rattle.c_parse_type.specs.Bases.{NoStar}
 use Rattle.c_syntax.specs.declared.limit.Count.TheVariants.{Globals}
-use Rattle.c_parse_expr.specs.declared.refusal.ParseErr.{ParseErr}
-use Rattle.c_parse_expr.specs.declared.refusal.ParseErr.TheVariants.{Unexpected, TooMany}
-use Rattle.c_parse_expr.specs.Refusals.{IsPlacedRefusal}
-use Rattle.c_parse.specs.Parts.{NoInitialiser, HasInitialiser, end_of}
-use Rattle.c_parse.specs.Parts.{NoLength, HasLength, EndsScalar}
-use Rattle.c_parse.specs.Parts.{NoGlobal, HasGlobals}
 use Rattle.c_parse.proofs.Refusing.{missing, punctuator, named, name, digit, has_it, following}
 use Rattle.c_parse.proofs.Refusing.{Lacks, NoIdentifier, continues as refusing_continues}
 use Rattle.c_parse.proofs.Placing.{no_elements}

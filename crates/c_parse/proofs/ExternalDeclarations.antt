@@ -3,26 +3,9 @@ use Rattle.std.proofs.Common.{◌≡◌, ◌≤◌, ◌+◌, ◌⊎◌, ℕ, Lis
 use Rattle.std.proofs.Common.{refl, sym, ap, ◌∙◌, subst, arith, inl, inr, Some, None}
 use Rattle.c_lex.specs.declared.punctuator.Punctuator.TheVariants as punctuators
 use Rattle.c_lex.specs.declared.token.Kind.TheVariants as kinds
-use Rattle.c_lex.specs.declared.token.Token.{Token}
-use Rattle.c_syntax.specs.declared.declaration.Parameter.{Parameter}
-use Rattle.c_syntax.specs.declared.expression.Base.{Base}
-use Rattle.c_syntax.specs.declared.expression.CType.{CType}
-use Rattle.c_syntax.specs.declared.expression.Identifier.{Identifier}
-use Rattle.c_syntax.specs.Faults.{SameFirst, place, Failed, Wraps}
-use Rattle.c_syntax.specs.Limits.{end_of_globals, funclets_of_all}
-use Rattle.c_syntax.specs.Program.{Global, Globals, Function}
-use Rattle.c_syntax.specs.Programs.{AreGlobals, AreParameters, IsExternalDeclaration}
-use Rattle.c_syntax.specs.Statement.{Statements, Empty}
-use Rattle.c_syntax.specs.Tokens.{token, HasPunctuator}
-use Rattle.c_syntax.specs.Types.{IsBase}
-use Rattle.c_syntax.proofs.Failing.{append_append, alike_inner, first_after}
+use Rattle.c_parse.specs.Words.{Token, Parameter, Base, CType, Identifier, SameFirst, place, Failed, Wraps, end_of_globals, funclets_of_all, Global, Globals, Function, AreGlobals, AreParameters, IsExternalDeclaration, Statements, Empty, token, HasPunctuator, IsBase, Counts, NoExternalDeclaration, HasExternalDeclaration, NoGlobals, HasGlobals, IsTail, NoTail, HasTail, IsDeclarationHead}
+use Rattle.c_parse.proofs.Lemmas.{append_append, alike_inner, first_after, has_same, name_same, base_once, stars_once, name_star, globals_type, apart}
 use Rattle.c_syntax.proofs.Firsts as firsts
-use Rattle.c_syntax.proofs.Fronts.{has_same, name_same, base_once, stars_once}
-use Rattle.c_syntax.proofs.Declarations.{name_star}
-use Rattle.c_syntax.proofs.Files.{globals_type, apart}
-use Rattle.c_parse.specs.declared.counts.Counts.{Counts}
-use Rattle.c_parse.specs.Counts.{NoExternalDeclaration, HasExternalDeclaration}
-use Rattle.c_parse.specs.Parts.{NoGlobals, HasGlobals, IsTail, NoTail, HasTail, IsDeclarationHead}
 use Rattle.c_parse.proofs.Refusing.{punctuator, name, has_it, following, Lacks}
 use Rattle.c_parse.proofs.Placing.{no_elements}
 use Rattle.c_parse.proofs.Declarators.{array, is_array}

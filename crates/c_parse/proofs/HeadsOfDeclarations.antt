@@ -4,26 +4,11 @@ use Rattle.std.proofs.Common.{refl, sym, ap, ◌∙◌, subst, arith, inl, Some,
 use Rattle.std.proofs.lemmas.List.{append_cancel_right}
 use Rattle.c_lex.specs.declared.punctuator.Punctuator.TheVariants as punctuators
 use Rattle.c_lex.specs.declared.token.Kind.TheVariants as kinds
-use Rattle.c_lex.specs.declared.token.Token.{Token}
-use Rattle.c_syntax.specs.declared.expression.Base.{Base}
+use Rattle.c_parse.specs.Words.{Token, Base, Identifier, SameFirst, place, Failed, Wraps, Global, Globals, Function, IsExternalDeclaration, token, IsIdentifier, IsBase, AreStars, NoBase, NoStar, EndsBase, Counts, NoExternalDeclaration, HasExternalDeclaration, IsDeclarationHead, NoHead, HasHead}
 use Rattle.c_syntax.specs.declared.expression.Base.TheVariants as bases
-use Rattle.c_syntax.specs.declared.expression.Identifier.{Identifier}
-use Rattle.c_syntax.specs.Faults.{SameFirst, place, Failed, Wraps}
-use Rattle.c_syntax.specs.Program.{Global, Globals, Function}
-use Rattle.c_syntax.specs.Programs.{IsExternalDeclaration}
-use Rattle.c_syntax.specs.Tokens.{token, IsIdentifier}
-use Rattle.c_syntax.specs.Types.{IsBase, AreStars}
-use Rattle.c_syntax.proofs.Failing.{append_append, alike_same, first_after}
+use Rattle.c_parse.proofs.Lemmas.{append_append, alike_same, first_after, base_front, stars_once, stars_front, NoType, name_star, name_type}
 use Rattle.c_syntax.proofs.Firsts as firsts
 use Rattle.c_syntax.proofs.Moves as moves
-use Rattle.c_syntax.proofs.Fronts.{base_front, stars_once}
-use Rattle.c_syntax.proofs.Fronts.{stars_front, NoType}
-use Rattle.c_syntax.proofs.Declarations.{name_star, name_type}
-use Rattle.c_parse_type.specs.Bases.{NoBase, NoStar, EndsBase}
-use Rattle.c_parse.specs.declared.counts.Counts.{Counts}
-use Rattle.c_parse.specs.Counts.{NoExternalDeclaration, HasExternalDeclaration}
-use Rattle.c_parse.specs.Parts.{IsDeclarationHead, NoHead}
-use Rattle.c_parse.specs.Parts.{HasHead}
 use Rattle.c_parse.proofs.Refusing.{missing, punctuator, named, name, has_it, following}
 use Rattle.c_parse.proofs.Refusing.{NoIdentifier}
 use Rattle.c_parse.proofs.Placing.{no_elements}

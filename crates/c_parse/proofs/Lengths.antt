@@ -4,24 +4,10 @@ use Rattle.std.proofs.Common.{Option, Some, None, refl, sym, ap, ◌∙◌, subs
 use Rattle.c_lex.specs.declared.punctuator.Punctuator.TheVariants as punctuators
 use Rattle.c_lex.specs.declared.token.IntegerType.TheVariants as types
 use Rattle.c_lex.specs.declared.token.Kind.TheVariants as kinds
-use Rattle.c_lex.specs.declared.token.Token.{Token}
-use Rattle.c_syntax.specs.declared.declaration.Length.{Length}
-use Rattle.c_syntax.specs.declared.expression.Base.{Base}
-use Rattle.c_syntax.specs.Expressions.{IsInteger}
-use Rattle.c_syntax.specs.Faults.{SameFirst, place, Failed, Wraps}
-use Rattle.c_syntax.specs.Follow.{follows, Stops}
-use Rattle.c_syntax.specs.Operators.{postfix}
-use Rattle.c_syntax.specs.Program.{Initialiser, Global}
-use Rattle.c_syntax.specs.Programs.{IsInitialiser, IsLength, AreMoreGlobals}
-use Rattle.c_syntax.specs.Tokens.{token, HasPunctuator}
+use Rattle.c_parse.specs.Words.{Token, Length, Base, IsInteger, SameFirst, place, Failed, Wraps, follows, Stops, postfix, Initialiser, Global, IsInitialiser, IsLength, AreMoreGlobals, token, HasPunctuator, NoPunctuator, APunctuator, end_of, IsBracketed, NoneBracketed, HasBracketed, IsAfterName, NoLength, HasLength}
 use Rattle.c_syntax.proofs.Firsts as firsts
-use Rattle.c_syntax.proofs.Fronts.{has_same}
+use Rattle.c_parse.proofs.Lemmas.{has_same, integer_same, initialiser_stops, globals_stop}
 use Rattle.c_syntax.proofs.Spine.{follows_punctuator}
-use Rattle.c_syntax.proofs.Once.{integer_same}
-use Rattle.c_syntax.proofs.Files.{initialiser_stops, globals_stop}
-use Rattle.c_parse_stmt.specs.Parts.{NoPunctuator, APunctuator}
-use Rattle.c_parse.specs.Parts.{end_of, IsBracketed, NoneBracketed}
-use Rattle.c_parse.specs.Parts.{HasBracketed, IsAfterName, NoLength, HasLength}
 use Rattle.c_parse.proofs.Refusing.{missing, punctuator, digit, has_it, following}
 use Rattle.c_parse.proofs.Refusing.{NoInteger, continues as refusing_continues}
 use Rattle.c_parse.proofs.Placing.{no_elements}

@@ -1,3 +1,4 @@
+mod Lemmas
 pub mod Refusing
 pub mod Lists
 pub mod Constants

@@ -1,14 +1,10 @@
 -- Lists with commas between their elements are read in a loop.
 use Rattle.std.proofs.Common.{◌≡◌, List, [], ◌∷◌, ◌++◌, refl, sym, ap, ◌∙◌, subst}
-use Rattle.c_lex.specs.declared.punctuator.Punctuator.{Punctuator}
+use Rattle.c_parse.specs.Words.{Punctuator, Token, SameFirst, Phrase, token, HasPunctuator}
 use Rattle.c_lex.specs.declared.punctuator.Punctuator.TheVariants as punctuators
 use Rattle.c_lex.specs.declared.token.Kind.TheVariants as kinds
-use Rattle.c_lex.specs.declared.token.Token.{Token}
-use Rattle.c_syntax.specs.Faults.{SameFirst}
 use Rattle.c_syntax.specs.Phrases.{AreMore}
-use Rattle.c_syntax.specs.Tokens.{Phrase, token, HasPunctuator}
-use Rattle.c_syntax.proofs.Failing.{append_append, first_after}
-use Rattle.c_syntax.proofs.Fronts.{has_same}
+use Rattle.c_parse.proofs.Lemmas.{append_append, first_after, has_same}
 use Rattle.c_syntax.proofs.Separated.{other_punctuator}
 use Rattle.c_parse.proofs.Refusing.{Lacks}
 

@@ -6,27 +6,12 @@ use Rattle.std.proofs.lemmas.List.{append-nil, append_cancel_right}
 use Rattle.c_lex.specs.declared.keyword.Keyword.TheVariants as keywords
 use Rattle.c_lex.specs.declared.punctuator.Punctuator.TheVariants as punctuators
 use Rattle.c_lex.specs.declared.token.Kind.TheVariants as kinds
-use Rattle.c_lex.specs.declared.token.Token.{Token}
-use Rattle.c_syntax.specs.declared.declaration.Parameter.{Parameter}
+use Rattle.c_parse.specs.Words.{Token, Parameter, CType, Identifier, SameFirst, place, Failed, Wraps, IsParameter, AreMoreParameters, AreParameters, token, IsIdentifier, HasPunctuator, HasKeyword, IsType, NoBase, EndsType, NoPunctuator, APunctuator, NoParameter, HasParameter, IsVoid, NoListed, HasListed, NoParameters, HasParameters}
 use Rattle.c_syntax.specs.declared.expression.Base.TheVariants as bases
-use Rattle.c_syntax.specs.declared.expression.CType.{CType}
-use Rattle.c_syntax.specs.declared.expression.Identifier.{Identifier}
-use Rattle.c_syntax.specs.Faults.{SameFirst, place, Failed, Wraps}
-use Rattle.c_syntax.specs.Programs.{IsParameter, AreMoreParameters, AreParameters}
-use Rattle.c_syntax.specs.Tokens.{token, IsIdentifier, HasPunctuator, HasKeyword}
-use Rattle.c_syntax.specs.Types.{IsType}
-use Rattle.c_syntax.proofs.Failing.{append_append, alike_same, first_after}
+use Rattle.c_parse.proofs.Lemmas.{append_append, alike_same, first_after, keyword_same, base_front, has_front, name_star, name_type, other_punctuator, parameter_once, parameter_front, void_not}
 use Rattle.c_syntax.proofs.Moves as moves
 use Rattle.c_syntax.proofs.MovesPrograms as programs
 use Rattle.c_syntax.proofs.Firsts as firsts
-use Rattle.c_syntax.proofs.Fronts.{keyword_same, base_front}
-use Rattle.c_syntax.proofs.Once.{has_front}
-use Rattle.c_syntax.proofs.Declarations.{name_star, name_type}
-use Rattle.c_syntax.proofs.Files.{other_punctuator, parameter_once, parameter_front, void_not}
-use Rattle.c_parse_type.specs.Bases.{NoBase, EndsType}
-use Rattle.c_parse_stmt.specs.Parts.{NoPunctuator, APunctuator}
-use Rattle.c_parse.specs.Parts.{NoParameter, HasParameter, IsVoid, NoListed, HasListed}
-use Rattle.c_parse.specs.Parts.{NoParameters, HasParameters}
 use Rattle.c_parse.proofs.Lists as listed
 use Rattle.c_parse.proofs.Lists.{Begun, Back}
 use Rattle.c_parse.proofs.Refusing.{missing, punctuator, named, name, has_it, following, Lacks}

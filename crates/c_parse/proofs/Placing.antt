@@ -2,11 +2,8 @@
 use Rattle.std.proofs.Common.{◌≡◌, ◌≤◌, ◌<◌, ◌+◌, ◌-◌, ◌*◌, ◌/◌, ℕ, zero, suc, List, [], ◌∷◌, Some}
 use Rattle.std.proofs.Common.{refl, ap, subst, arith}
 use Rattle.std.proofs.Math.Nat.{mul-le-mul_left, lt-div-mul-add, lt-mul-div-succ}
-use Rattle.c_syntax.specs.declared.expression.Base.{Base}
+use Rattle.c_parse.specs.Words.{Base, size, aligned, end_of_globals, Global, end_of}
 use Rattle.c_syntax.specs.declared.expression.Base.TheVariants as bases
-use Rattle.c_syntax.specs.Limits.{size, aligned, end_of_globals}
-use Rattle.c_syntax.specs.Program.{Global}
-use Rattle.c_parse.specs.Parts.{end_of}
 
 -- alignment by division
 pub aligned_by : (at n : ℕ) → (n ≡ 0 → ⊥) → (at + (n - 1)) / n * n ≡ aligned at n

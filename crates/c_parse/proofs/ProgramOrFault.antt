@@ -1,12 +1,8 @@
 -- Tokens without a first fault are those of a program within the limits.
 use Rattle.std.proofs.Common.{◌≡◌, ℕ, zero, suc, List, [], ◌∷◌, ◌++◌, refl, sym, subst, ◌∙◌, arith}
 use Rattle.std.proofs.lemmas.List.{append-nil}
-use Rattle.c_lex.specs.declared.token.Token.{Token}
-use Rattle.c_syntax.specs.Faults.{place}
-use Rattle.c_syntax.specs.Limits.{every_limit, Within}
-use Rattle.c_syntax.specs.Programs.{IsProgram}
-use Rattle.c_syntax.specs.Viable.{Viable, ContinuesWithin}
-use Rattle.c_syntax.proofs.Failing.{append_append}
+use Rattle.c_parse.specs.Words.{Token, place, every_limit, Within, IsProgram, Viable, ContinuesWithin}
+use Rattle.c_parse.proofs.Lemmas.{append_append}
 use Rattle.c_parse.specs.Laws.{IsNoProgram, HasNoFault, ProgramOrFault}
 
 nothing_within : (text : List ℕ) → Within text []

@@ -3,26 +3,11 @@ use Rattle.std.proofs.Common.{◌≡◌, ◌≤◌, ℕ, Bool, true, false, nat_
 use Rattle.std.proofs.Common.{length-append, map, refl, sym, ap, ◌∙◌, subst, arith}
 use Rattle.std.proofs.lemmas.List.{append-nil}
 use Rattle.std.proofs.lemmas.Bool.{eqb-true}
-use Rattle.c_lex.specs.declared.token.Token.{Token}
-use Rattle.c_lex.specs.Text.{IsTokens}
+use Rattle.c_parse.specs.Words.{Token, IsTokens, Alike, SameFirst, Failed, Number, order, every_limit, WithinFirst, Within, end_of_globals, funclets_of_all, funclets_in, bytes_from, ExternalDeclaration, Globals, Function, external_declaration, IsExternalDeclaration, IsProgram, ContinuesWithin, IsSyntaxFault, ParseErr, Unexpected, TooDeep, TooMany, Memory, IsPlacedRefusal, ParserRefuses, Counts, FitsCounts, Taken, NoExternalDeclaration, HasExternalDeclaration}
 use Rattle.c_syntax.specs.declared.declaration.ExternalDeclaration.{ExternalDeclaration as ExternalDeclaration'}
-use Rattle.c_syntax.specs.Faults.{Alike, SameFirst, Failed}
-use Rattle.c_syntax.specs.Limits.{Number, order, every_limit, WithinFirst, Within, end_of_globals}
-use Rattle.c_syntax.specs.Limits.{funclets_of_all, funclets_in, bytes_from}
-use Rattle.c_syntax.specs.Program.{ExternalDeclaration, Globals, Function, external_declaration}
-use Rattle.c_syntax.specs.Programs.{IsExternalDeclaration, IsProgram}
-use Rattle.c_syntax.specs.Viable.{ContinuesWithin, IsSyntaxFault}
-use Rattle.c_syntax.proofs.Failing.{append_append, alike_same, alike_inner}
-use Rattle.c_syntax.proofs.Fronts.{front}
+use Rattle.c_parse.proofs.Lemmas.{append_append, alike_same, alike_inner, front, external_declaration_once, external_declaration_front}
 use Rattle.c_syntax.proofs.FirstFault.{function_fewer, no_fault_in_program}
-use Rattle.c_syntax.proofs.Files.{external_declaration_once, external_declaration_front}
 use Rattle.c_syntax.proofs.MovesPrograms as moves
-use Rattle.c_parse_expr.specs.declared.refusal.ParseErr.{ParseErr}
-use Rattle.c_parse_expr.specs.declared.refusal.ParseErr.TheVariants.{Unexpected, TooDeep, TooMany}
-use Rattle.c_parse_expr.specs.declared.refusal.ParseErr.TheVariants.{Memory}
-use Rattle.c_parse_expr.specs.Refusals.{IsPlacedRefusal, ParserRefuses}
-use Rattle.c_parse.specs.declared.counts.Counts.{Counts}
-use Rattle.c_parse.specs.Counts.{FitsCounts, Taken, NoExternalDeclaration, HasExternalDeclaration}
 use Rattle.c_parse.proofs.Beyond as beyond
 use Rattle.c_parse.proofs.Placing.{grows}
 use Rattle.c_parse.proofs.Refusing.{following}

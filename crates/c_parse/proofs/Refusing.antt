@@ -1,23 +1,11 @@
 -- What one refusal says of another phrase; tokens that close phrases; and what isn't at the front.
 use Rattle.std.specs.Prelude.{Result, Ok, Err, IfErr}
 use Rattle.std.proofs.Common.{◌≡◌, ℕ, List, ◌∷◌, ◌++◌, refl, sym, subst, arith}
-use Rattle.c_lex.specs.declared.punctuator.Punctuator.{Punctuator}
+use Rattle.c_parse.specs.Words.{Punctuator, Token, Literal, Identifier, literal_kind, IsInteger, Family, SameFirst, place, Able, Failed, Wraps, Stops, token, IsKind, IsPunctuator, IsIdentifier, HasPunctuator, Number, order, ParseErr, Unexpected, TooDeep, TooMany, Memory, IsPlacedRefusal}
 use Rattle.c_lex.specs.declared.token.IntegerType.TheVariants as types
 use Rattle.c_lex.specs.declared.token.Kind.TheVariants as kinds
-use Rattle.c_lex.specs.declared.token.Token.{Token}
-use Rattle.c_syntax.specs.declared.expression.Literal.{Literal}
-use Rattle.c_syntax.specs.declared.expression.Identifier.{Identifier}
-use Rattle.c_syntax.specs.Expressions.{literal_kind, IsInteger}
-use Rattle.c_syntax.specs.Faults.{Family, SameFirst, place, Able, Failed, Wraps}
-use Rattle.c_syntax.specs.Follow.{Stops}
-use Rattle.c_syntax.specs.Tokens.{token, IsKind, IsPunctuator, IsIdentifier, HasPunctuator}
-use Rattle.c_syntax.proofs.Failing.{append_append, wrapped}
+use Rattle.c_parse.proofs.Lemmas.{append_append, wrapped}
 use Rattle.c_syntax.proofs.Firsts.{first_back, stops}
-use Rattle.c_syntax.specs.Limits.{Number, order}
-use Rattle.c_parse_expr.specs.declared.refusal.ParseErr.{ParseErr}
-use Rattle.c_parse_expr.specs.declared.refusal.ParseErr.TheVariants.{Unexpected, TooDeep, TooMany}
-use Rattle.c_parse_expr.specs.declared.refusal.ParseErr.TheVariants.{Memory}
-use Rattle.c_parse_expr.specs.Refusals.{IsPlacedRefusal}
 
 -- ---- refusals
 

@@ -3,3 +3,4 @@ pub mod Counts
 pub mod Laws
 pub mod Bounds
 pub mod Refused
+pub mod Words

@@ -2,18 +2,10 @@
 use Rattle.std.proofs.Common.{◌≡◌, ◌≤◌, ◌-◌, ℕ, List, [], ◌∷◌, ◌++◌, refl, sym, ap, ◌∙◌, subst, arith}
 use Rattle.c_lex.specs.declared.punctuator.Punctuator.TheVariants as punctuators
 use Rattle.c_lex.specs.declared.token.Kind.TheVariants as kinds
-use Rattle.c_lex.specs.declared.token.Token.{Token}
-use Rattle.c_syntax.specs.Expression.{Expression, Done, Next, arguments, heights}
-use Rattle.c_syntax.specs.Expressions.{SpellsArguments, Derives}
-use Rattle.c_syntax.specs.Faults.{SameFirst, place, Failed, Wraps}
-use Rattle.c_syntax.specs.Follow.{Stops}
-use Rattle.c_syntax.specs.Operators.{assignment}
-use Rattle.c_syntax.specs.Tokens.{token, HasPunctuator}
+use Rattle.c_parse_expr.specs.Words.{Token, Expression, Done, Next, arguments, heights, SpellsArguments, Derives, SameFirst, place, Failed, Wraps, Stops, assignment, token, HasPunctuator, NoExpression, HasExpression, NoArguments, HasArguments, AreMoreExpressions, AreListed, CanBeginExpression, NeverBegins}
 use Rattle.c_syntax.proofs.Firsts as firsts
-use Rattle.c_syntax.proofs.Failing.{append_append}
-use Rattle.c_syntax.proofs.Moves.{Moves}
+use Rattle.c_parse_expr.proofs.Lemmas.{append_append, Moves}
 use Rattle.c_syntax.proofs.Moves as moved
-use Rattle.c_parse_expr.specs.Readings.{NoExpression, HasExpression, NoArguments, HasArguments, AreMoreExpressions, AreListed, CanBeginExpression, NeverBegins}
 use Rattle.c_parse_expr.proofs.Listing.{listed_after, heights_after, listed_spelled, stuck, no_next, no_first, no_place}
 use Rattle.c_parse_expr.proofs.Placing.{unexpected_at, deep_at, punctuator_token}
 

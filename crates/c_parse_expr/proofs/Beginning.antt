@@ -1,38 +1,17 @@
 -- Operands whose parts fail, and first tokens of operands that fail themselves.
 use Rattle.std.proofs.Common.{◌≡◌, ◌≤◌, ◌<◌, ◌+◌, ◌-◌, ◌⊎◌, ℕ, ℤ, List, [], ◌∷◌, ◌++◌, Option, Some, None, true, is_some, refl, sym, ap, ◌∙◌, subst, inl, inr, arith}
 use Rattle.std.proofs.lemmas.List.{append_cancel_right}
-use Rattle.c_lex.specs.declared.keyword.Keyword.{Keyword}
+use Rattle.c_parse_expr.specs.Words.{Keyword, Punctuator, Kind, Token, CType, Literal, Identifier, Increment, UnaryOperator, Constant, Variable, Information, Call, Parentheses, Prefix, Unary, Cast, literal_kind, SameFirst, place, Failed, Wraps, unary, cast, assignment, increment_punctuator, unary_punctuator, unary_of, increment_of, token, IsKind, IsPunctuator, IsIdentifier, HasPunctuator, IsType, NoBase, EndsType, first, NoExpression, HasExpression, NoneEnclosed, HasEnclosed, NoArguments, HasArguments, NoOperand, NoInformation, HasInformation, CanBeginExpression, NeverBegins, BeginsOperand, Parenthesis, Steps, Operates}
 use Rattle.c_lex.specs.declared.keyword.Keyword.TheVariants as keywords
-use Rattle.c_lex.specs.declared.punctuator.Punctuator.{Punctuator}
 use Rattle.c_lex.specs.declared.punctuator.Punctuator.TheVariants as punctuators
 use Rattle.c_lex.specs.declared.token.IntegerType.{IntegerType}
-use Rattle.c_lex.specs.declared.token.Kind.{Kind}
 use Rattle.c_lex.specs.declared.token.Kind.TheVariants as kinds
-use Rattle.c_lex.specs.declared.token.Token.{Token}
-use Rattle.c_syntax.specs.declared.expression.CType.{CType}
-use Rattle.c_syntax.specs.declared.expression.Literal.{Literal}
 use Rattle.c_syntax.specs.declared.expression.Literal.TheVariants as literals
-use Rattle.c_syntax.specs.declared.expression.Identifier.{Identifier}
-use Rattle.c_syntax.specs.declared.operator.Increment.{Increment}
 use Rattle.c_syntax.specs.declared.operator.Increment.TheVariants as increments
-use Rattle.c_syntax.specs.declared.operator.UnaryOperator.{UnaryOperator}
 use Rattle.c_syntax.specs.declared.operator.UnaryOperator.TheVariants as unary_operators
-use Rattle.c_syntax.specs.Expression.{Constant, Variable, Information, Call, Parentheses, Prefix, Unary, Cast}
-use Rattle.c_syntax.specs.Expressions.{literal_kind}
-use Rattle.c_syntax.specs.Faults.{SameFirst, place, Failed, Wraps}
-use Rattle.c_syntax.specs.Operators.{unary, cast, assignment, increment_punctuator, unary_punctuator}
-use Rattle.c_syntax.specs.PunctuatorReaders.{unary_of, increment_of}
-use Rattle.c_syntax.specs.Tokens.{token, IsKind, IsPunctuator, IsIdentifier, HasPunctuator}
-use Rattle.c_syntax.specs.Types.{IsType}
 use Rattle.c_syntax.proofs.Firsts as firsts
-use Rattle.c_syntax.proofs.Failing.{append_append, alike_inner}
-use Rattle.c_syntax.proofs.Fronts.{front, kind_class}
+use Rattle.c_parse_expr.proofs.Lemmas.{append_append, alike_inner, front, kind_class, expression_front, increment_only, unary_only}
 use Rattle.c_syntax.proofs.Moves as moved
-use Rattle.c_syntax.proofs.Once.{expression_front}
-use Rattle.c_parse_atom.proofs.Punctuators.{increment_only, unary_only}
-use Rattle.c_parse_type.specs.Bases.{NoBase, EndsType}
-use Rattle.c_parse_type.specs.Fronts.{first}
-use Rattle.c_parse_expr.specs.Readings.{NoExpression, HasExpression, NoneEnclosed, HasEnclosed, NoArguments, HasArguments, NoOperand, NoInformation, HasInformation, CanBeginExpression, NeverBegins, BeginsOperand, Parenthesis, Steps, Operates}
 use Rattle.c_parse_expr.proofs.Departing.{introduction, ends, has_information}
 use Rattle.c_parse_expr.proofs.Operands.{none_begins, no_call, no_operator, no_room, no_prefixed, no_unary, no_cast, not_cast, no_group, OnlyType}
 use Rattle.c_parse_expr.proofs.Placing.{unexpected_at, deep_at, able_now, one, one_tree, punctuator_token, has_one, loosen}

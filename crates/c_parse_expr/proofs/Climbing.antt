@@ -1,18 +1,8 @@
 -- An expression is read as its first operand and one step after the other.
 use Rattle.std.proofs.Common.{◌≡◌, ◌≤◌, ℕ, List, refl, sym, subst, arith}
-use Rattle.c_lex.specs.declared.punctuator.Punctuator.{Punctuator}
-use Rattle.c_lex.specs.declared.token.Token.{Token}
-use Rattle.c_syntax.specs.Expression.{Expression}
-use Rattle.c_syntax.specs.Expressions.{rank, SpellsExpression, Derives}
-use Rattle.c_syntax.specs.Follow.{punctuator_follows, follows, Stops}
-use Rattle.c_syntax.specs.Operators.{comma, never}
-use Rattle.c_syntax.specs.Steps.{Step, At, After, With, Choose, Set, And, apply, bound, Tail, Closes}
-use Rattle.c_syntax.specs.Tokens.{HasPunctuator}
-use Rattle.c_syntax.proofs.Fronts.{has_same}
-use Rattle.c_syntax.proofs.Once.{rank_low, has_stops, one_expression}
+use Rattle.c_parse_expr.specs.Words.{Punctuator, Token, Expression, rank, SpellsExpression, Derives, punctuator_follows, follows, Stops, comma, never, Step, At, After, With, Choose, Set, And, apply, bound, Tail, Closes, HasPunctuator, NoExpression, Encloses, NoneEnclosed, NoOperand, IsStep, NoStep}
+use Rattle.c_parse_expr.proofs.Lemmas.{has_same, rank_low, has_stops, one_expression, spine, closes, step_follows, run_reach, run_rank, run_height}
 use Rattle.c_syntax.proofs.Passing.{passes}
-use Rattle.c_syntax.proofs.Spine.{spine, closes, step_follows, run_reach, run_rank, run_height}
-use Rattle.c_parse_expr.specs.Readings.{NoExpression, Encloses, NoneEnclosed, NoOperand, IsStep, NoStep}
 
 -- ---- operand and steps
 

@@ -1,20 +1,13 @@
 -- Where `GetExceptionInformation()->ExceptionRecord->field` isn't gone on with.
 use Rattle.std.proofs.Common.{◌≡◌, ℕ, List, [], ◌∷◌, ◌++◌, codes, slice_range, refl, sym, ap, ◌∙◌, subst}
 use Rattle.c_lex.specs.declared.keyword.Keyword.TheVariants as keywords
-use Rattle.c_lex.specs.declared.punctuator.Punctuator.{Punctuator}
+use Rattle.c_parse_expr.specs.Words.{Punctuator, Token, Field, Information, IsInteger, IsField, SpellsExpression, Alike, SameFirst, place, Speaks, Failed, Wraps, token, IsKeyword, HasPunctuator, HasWord, NoField, HasField, NoInformation, HasInformation}
 use Rattle.c_lex.specs.declared.punctuator.Punctuator.TheVariants as punctuators
 use Rattle.c_lex.specs.declared.token.IntegerType.TheVariants as integers
 use Rattle.c_lex.specs.declared.token.Kind.TheVariants as kinds
-use Rattle.c_lex.specs.declared.token.Token.{Token}
-use Rattle.c_syntax.specs.declared.expression.Field.{Field}
 use Rattle.c_syntax.specs.declared.expression.Field.TheVariants as fields
-use Rattle.c_syntax.specs.Expression.{Information}
-use Rattle.c_syntax.specs.Expressions.{IsInteger, IsField, SpellsExpression}
-use Rattle.c_syntax.specs.Faults.{Alike, SameFirst, place, Speaks, Failed, Wraps}
-use Rattle.c_syntax.specs.Tokens.{token, IsKeyword, HasPunctuator, HasWord}
 use Rattle.c_syntax.proofs.Firsts as firsts
 use Rattle.c_parse_atom.proofs.Fields.{NoElement, no_field, no_element, no_bracket, no_index, no_close}
-use Rattle.c_parse_expr.specs.Readings.{NoField, HasField, NoInformation, HasInformation}
 use Rattle.c_parse_expr.proofs.Placing.{unexpected_at, able_now, one, punctuator_token}
 
 -- ---- tokens and a field after them

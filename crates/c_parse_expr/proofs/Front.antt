@@ -1,11 +1,8 @@
 -- The punctuator at the front.
 use Rattle.std.specs.Prelude.{IfSome, IfNone}
 use Rattle.std.proofs.Common.{◌≡◌, ℕ, List, Option, Some, None, sym, ◌∙◌, option_map}
-use Rattle.c_lex.specs.declared.punctuator.Punctuator.{Punctuator}
-use Rattle.c_lex.specs.declared.token.Token.{Token}
-use Rattle.c_syntax.specs.Tokens.{IsPunctuator}
-use Rattle.c_parse_type.specs.Fronts.{after_punctuator}
-use Rattle.c_parse_type.proofs.TypesAreRead.{punctuator_at, punctuator_is}
+use Rattle.c_parse_expr.specs.Words.{Punctuator, Token, IsPunctuator, after_punctuator}
+use Rattle.c_parse_expr.proofs.Lemmas.{punctuator_at, punctuator_is}
 
 pub front_found : {A : Type 0} (r : Option A) (f : A → Punctuator × ℕ × List Token)
     (ts : List Token) → option_map f r ≡ after_punctuator ts

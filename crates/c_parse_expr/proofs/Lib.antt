@@ -1,3 +1,4 @@
+mod Lemmas
 pub mod Climbing
 pub mod Operations
 pub mod Operands

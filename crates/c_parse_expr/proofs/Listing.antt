@@ -1,15 +1,8 @@
 -- Arguments, one after another.
 use Rattle.std.proofs.Common.{◌≡◌, ◌≢◌, ◌≤◌, ◌<◌, ◌+◌, ◌-◌, ℕ, zero, suc, max, List, [], ◌∷◌, ◌++◌, map, refl, sym, ap, subst, arith}
 use Rattle.c_lex.specs.declared.punctuator.Punctuator.TheVariants as punctuators
-use Rattle.c_lex.specs.declared.token.Token.{Token}
-use Rattle.c_syntax.specs.Expression.{Expression, Arguments, Done, Next, arguments, height, heights}
-use Rattle.c_syntax.specs.Expressions.{SpellsExpression, SpellsArguments, SpellsMoreArguments, Derives}
-use Rattle.c_syntax.specs.Follow.{Stops}
-use Rattle.c_syntax.specs.Operators.{assignment}
-use Rattle.c_syntax.specs.Tokens.{HasPunctuator}
-use Rattle.c_syntax.proofs.Fronts.{has_same, punctuator_same, front}
-use Rattle.c_syntax.proofs.Once.{has_stops, one_expression, expression_front}
-use Rattle.c_parse_expr.specs.Readings.{NoExpression, NoArguments, AreMoreExpressions, AreListed}
+use Rattle.c_parse_expr.specs.Words.{Token, Expression, Arguments, Done, Next, arguments, height, heights, SpellsExpression, SpellsArguments, SpellsMoreArguments, Derives, Stops, assignment, HasPunctuator, NoExpression, NoArguments, AreMoreExpressions, AreListed}
+use Rattle.c_parse_expr.proofs.Lemmas.{has_same, punctuator_same, front, has_stops, one_expression, expression_front}
 
 -- ---- one more argument
 

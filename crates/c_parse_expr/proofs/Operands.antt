@@ -1,31 +1,13 @@
 -- ForInitialiser operands by the token at the front.
 use Rattle.std.proofs.Common.{◌≡◌, ◌≤◌, ◌<◌, ◌+◌, ◌-◌, ℕ, List, [], ◌∷◌, Some, None, refl, sym, ap, ◌∙◌, subst, arith}
 use Rattle.c_lex.specs.declared.keyword.Keyword.TheVariants as keywords
-use Rattle.c_lex.specs.declared.punctuator.Punctuator.{Punctuator}
+use Rattle.c_parse_expr.specs.Words.{Punctuator, Kind, Token, CType, Field, Literal, Identifier, Increment, UnaryOperator, Expression, Constant, Variable, Information, Call, Parentheses, Prefix, Unary, Cast, Arguments, height, heights, literal_kind, SpellsExpression, SpellsArguments, Derives, punctuator_follows, kind_follows, follows, Stops, unary, cast, unary_punctuator, increment_punctuator, primary, unary_of, increment_of, token, IsKind, IsPunctuator, IsIdentifier, HasPunctuator, IsType, NoBase, NoExpression, Encloses, NoneEnclosed, NoArguments, NoOperand}
 use Rattle.c_lex.specs.declared.punctuator.Punctuator.TheVariants as punctuators
-use Rattle.c_lex.specs.declared.token.Kind.{Kind}
 use Rattle.c_lex.specs.declared.token.Kind.TheVariants as kinds
-use Rattle.c_lex.specs.declared.token.Token.{Token}
-use Rattle.c_syntax.specs.declared.expression.CType.{CType}
-use Rattle.c_syntax.specs.declared.expression.Field.{Field}
-use Rattle.c_syntax.specs.declared.expression.Literal.{Literal}
 use Rattle.c_syntax.specs.declared.expression.Literal.TheVariants as literals
-use Rattle.c_syntax.specs.declared.expression.Identifier.{Identifier}
-use Rattle.c_syntax.specs.declared.operator.Increment.{Increment}
 use Rattle.c_syntax.specs.declared.operator.Increment.TheVariants as increments
-use Rattle.c_syntax.specs.declared.operator.UnaryOperator.{UnaryOperator}
 use Rattle.c_syntax.specs.declared.operator.UnaryOperator.TheVariants as unary_operators
-use Rattle.c_syntax.specs.Expression.{Expression, Constant, Variable, Information, Call, Parentheses, Prefix, Unary, Cast, Arguments, height, heights}
-use Rattle.c_syntax.specs.Expressions.{literal_kind, SpellsExpression, SpellsArguments, Derives}
-use Rattle.c_syntax.specs.Follow.{punctuator_follows, kind_follows, follows, Stops}
-use Rattle.c_syntax.specs.Operators.{unary, cast, unary_punctuator, increment_punctuator, primary}
-use Rattle.c_syntax.specs.PunctuatorReaders.{unary_of, increment_of}
-use Rattle.c_syntax.specs.Tokens.{token, IsKind, IsPunctuator, IsIdentifier, HasPunctuator}
-use Rattle.c_syntax.specs.Types.{IsType}
-use Rattle.c_syntax.proofs.Fronts.{kind_same, punctuator_same, name_same, has_same, base_front, close_star, front, NoStar, unary_again, increment_again}
-use Rattle.c_syntax.proofs.Once.{expression_front}
-use Rattle.c_parse_type.specs.Bases.{NoBase}
-use Rattle.c_parse_expr.specs.Readings.{NoExpression, Encloses, NoneEnclosed, NoArguments, NoOperand}
+use Rattle.c_parse_expr.proofs.Lemmas.{kind_same, punctuator_same, name_same, has_same, base_front, close_star, front, NoStar, unary_again, increment_again, expression_front}
 
 -- ---- no operand
 

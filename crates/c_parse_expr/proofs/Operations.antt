@@ -1,26 +1,16 @@
 -- What punctuators begin, and what follows the punctuator of a step.
 use Rattle.std.proofs.Common.{◌≡◌, ◌≤◌, ◌<◌, ◌+◌, ◌-◌, ℕ, max, List, Some, None, refl, sym, ap, ◌∙◌, subst, arith}
-use Rattle.c_lex.specs.declared.punctuator.Punctuator.{Punctuator}
+use Rattle.c_parse_expr.specs.Words.{Punctuator, Token, Expression, height, rank, Derives, Stops, conditional, assignment, level, Step, At, After, With, Choose, Set, And, apply, Tail, Closes, IsPunctuator, Operation, Index, Postfix, Infix, Conditional, operation_of, punctuator, right, with, operation, DerivesAndStops, NoExpression, Encloses, NoneEnclosed, AfterPunctuator, IsAfterPunctuator, NoneAfterPunctuator, IsStep, NoStep}
 use Rattle.c_lex.specs.declared.punctuator.Punctuator.TheVariants as punctuators
-use Rattle.c_lex.specs.declared.token.Token.{Token}
 use Rattle.c_syntax.specs.declared.operator.Arithmetic.TheVariants as arithmetic
 use Rattle.c_syntax.specs.declared.operator.Comparison.TheVariants as comparisons
 use Rattle.c_syntax.specs.declared.operator.BinaryOperator.TheVariants as binary
 use Rattle.c_syntax.specs.declared.operator.Increment.TheVariants as increments
-use Rattle.c_syntax.specs.Expression.{Expression, height}
-use Rattle.c_syntax.specs.Expressions.{rank, Derives}
-use Rattle.c_syntax.specs.Follow.{Stops}
-use Rattle.c_syntax.specs.Operators.{conditional, assignment, level}
-use Rattle.c_syntax.specs.Steps.{Step, At, After, With, Choose, Set, And, apply, bound as bound_of, Tail, Closes}
-use Rattle.c_syntax.specs.Tokens.{IsPunctuator}
-use Rattle.c_syntax.proofs.Fronts.{punctuator_same}
-use Rattle.c_syntax.proofs.Spine.{levels}
+use Rattle.c_syntax.specs.Steps.{bound as bound_of}
+use Rattle.c_parse_expr.proofs.Lemmas.{punctuator_same, levels}
 use Rattle.c_parse_expr.specs.declared.step.Infix.{Infix as Infix'}
 use Rattle.c_parse_expr.specs.declared.step.Infix.TheVariants as infixes
-use Rattle.c_parse_expr.specs.declared.step.Operation.{Operation}
-use Rattle.c_parse_expr.specs.declared.step.Operation.TheVariants.{Index, Postfix, Infix, Conditional}
-use Rattle.c_parse_expr.specs.Operations.{operation_of, punctuator, right, bound, with, operation, place}
-use Rattle.c_parse_expr.specs.Readings.{DerivesAndStops, NoExpression, Encloses, NoneEnclosed, AfterPunctuator, IsAfterPunctuator, NoneAfterPunctuator, IsStep, NoStep}
+use Rattle.c_parse_expr.specs.Operations.{bound, place}
 use Rattle.c_parse_expr.specs.Steps.{over}
 use Rattle.c_parse_expr.proofs.Climbing.{enclosed_once}
 

@@ -1,19 +1,13 @@
 -- Refusals of phrases: what they carry along, and the shortest ends of phrases.
 use Rattle.std.proofs.Common.{◌≡◌, ℕ, List, [], ◌∷◌, ◌++◌, refl, sym, subst, arith}
-use Rattle.c_lex.specs.declared.punctuator.Punctuator.{Punctuator}
+use Rattle.c_parse_expr.specs.Words.{Punctuator, Token, Expression, Constant, Family, Alike, SameFirst, place, Speaks, Able, Onward, Failed, Wraps, token, HasExpression, IsPlacedRefusal}
 use Rattle.c_lex.specs.declared.token.IntegerType.TheVariants as integers
 use Rattle.c_lex.specs.declared.token.Kind.TheVariants as kinds
-use Rattle.c_lex.specs.declared.token.Token.{Token}
 use Rattle.c_syntax.specs.declared.expression.Literal.TheVariants as literals
-use Rattle.c_syntax.specs.Expression.{Expression, Constant}
-use Rattle.c_syntax.specs.Faults.{Family, Alike, SameFirst, place, Speaks, Able, Onward, Failed, Wraps}
-use Rattle.c_syntax.specs.Tokens.{token}
-use Rattle.c_syntax.proofs.Failing.{append_nothing, wrapped}
+use Rattle.c_parse_expr.proofs.Lemmas.{append_nothing, wrapped}
 use Rattle.c_syntax.specs.Limits.{Number, order}
 use Rattle.c_parse_expr.specs.declared.refusal.ParseErr.{ParseErr}
 use Rattle.c_parse_expr.specs.declared.refusal.ParseErr.TheVariants as errs
-use Rattle.c_parse_expr.specs.Readings.{HasExpression}
-use Rattle.c_parse_expr.specs.Refusals.{IsPlacedRefusal}
 
 -- ---- refusals
 

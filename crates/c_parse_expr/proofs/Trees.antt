@@ -1,11 +1,9 @@
 -- The trees of the code's operands with parentheses.
 use Rattle.std.proofs.Common.{◌≡◌, ℕ, map, sym, ap, ◌∙◌}
-use Rattle.c_syntax.specs.declared.expression.CType.{CType}
+use Rattle.c_parse_expr.specs.Words.{CType, Identifier, Expression, Call, Parentheses, Cast, node, arguments, expression}
 use Rattle.c_syntax.specs.declared.expression.Expr.TheFolds.{fold-roll-Expr}
 use Rattle.c_syntax.specs.declared.expression.Expr.TheOpen as opened
 use Rattle.c_syntax.specs.declared.expression.Expr.TheVariants as exprs
-use Rattle.c_syntax.specs.declared.expression.Identifier.{Identifier}
-use Rattle.c_syntax.specs.Expression.{Expression, Call, Parentheses, Cast, node, arguments, expression}
 
 pub call_is : (name : Identifier) (es : _)
     → expression (exprs.Call name es) ≡ Call name (arguments (map expression es.items))

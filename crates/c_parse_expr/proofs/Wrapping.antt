@@ -1,27 +1,14 @@
 -- Readings whose parts fail, and steps and closing punctuators that fail themselves.
 use Rattle.std.proofs.Common.{◌≡◌, ◌≤◌, ◌<◌, ◌-◌, ℕ, List, [], ◌∷◌, ◌++◌, Some, None, refl, sym, ap, ◌∙◌, subst, inl, inr, arith}
-use Rattle.c_lex.specs.declared.punctuator.Punctuator.{Punctuator}
+use Rattle.c_parse_expr.specs.Words.{Punctuator, Token, Expression, height, rank, SpellsExpression, Derives, SameFirst, place, Failed, Wraps, punctuator_follows, follows, Stops, conditional, comma, never, At, After, With, Choose, Set, And, apply, Tail, Closes, token, IsPunctuator, HasPunctuator, Operation, Index, Postfix, Infix, Conditional, operation_of, punctuator, right, NoExpression, HasExpression, Encloses, NoneEnclosed, HasEnclosed, NoOperand, NoStep, HasStep, NoneAfterPunctuator, HasAfterPunctuator}
 use Rattle.c_lex.specs.declared.punctuator.Punctuator.TheVariants as punctuators
 use Rattle.c_lex.specs.declared.token.Kind.TheVariants as kinds
-use Rattle.c_lex.specs.declared.token.Token.{Token}
-use Rattle.c_syntax.specs.Expression.{Expression, height}
-use Rattle.c_syntax.specs.Expressions.{rank, SpellsExpression, Derives}
-use Rattle.c_syntax.specs.Faults.{SameFirst, place, Failed, Wraps}
-use Rattle.c_syntax.specs.Follow.{punctuator_follows, follows, Stops}
-use Rattle.c_syntax.specs.Operators.{conditional, comma, never}
-use Rattle.c_syntax.specs.Steps.{At, After, With, Choose, Set, And, apply, Tail, Closes}
-use Rattle.c_syntax.specs.Tokens.{token, IsPunctuator, HasPunctuator}
 use Rattle.c_syntax.proofs.Firsts as firsts
-use Rattle.c_syntax.proofs.Failing.{append_append, append_nothing}
-use Rattle.c_syntax.proofs.Moves.{Moves}
+use Rattle.c_parse_expr.proofs.Lemmas.{append_append, append_nothing, Moves, levels, step_follows}
 use Rattle.c_syntax.proofs.Moves as moved
-use Rattle.c_syntax.proofs.Spine.{levels, step_follows}
 use Rattle.c_parse_expr.specs.declared.step.Infix.{Infix as Infix'}
 use Rattle.c_parse_expr.specs.declared.step.Infix.TheVariants as infixes
-use Rattle.c_parse_expr.specs.declared.step.Operation.{Operation}
-use Rattle.c_parse_expr.specs.declared.step.Operation.TheVariants.{Index, Postfix, Infix, Conditional}
-use Rattle.c_parse_expr.specs.Operations.{operation_of, punctuator, right, bound}
-use Rattle.c_parse_expr.specs.Readings.{NoExpression, HasExpression, Encloses, NoneEnclosed, HasEnclosed, NoOperand, NoStep, HasStep, NoneAfterPunctuator, HasAfterPunctuator}
+use Rattle.c_parse_expr.specs.Operations.{bound}
 use Rattle.c_parse_expr.proofs.Climbing.{no_operand, no_step, joined, none_inside, not_closed}
 use Rattle.c_parse_expr.proofs.Operations.{only, same_bound, applied_height, none_indexed, none_right, none_first, none_second, no_punctuator, no_operation, too_loose, too_high, none_after_punctuator}
 use Rattle.c_parse_expr.proofs.Placing.{unexpected_at, deep_at, able_now, one, one_tree, punctuator_token, has_one}

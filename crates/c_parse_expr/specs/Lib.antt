@@ -3,3 +3,4 @@ pub mod Operations
 pub mod Steps
 pub mod Readings
 pub mod Refused
+pub mod Words

@@ -1,31 +1,17 @@
 -- What begins with a token: expressions, statements and types.
 use Rattle.std.proofs.Common.{◌≡◌, ◌≤◌, ℕ, List, [], ◌∷◌, Some, None, refl, sym, ap, ◌∙◌, arith, inl, inr, ◌⊎◌}
-use Rattle.c_lex.specs.declared.keyword.Keyword.{Keyword}
+use Rattle.c_parse_stmt.specs.Words.{Keyword, Punctuator, Kind, Token, Base, Identifier, Increment, Expression, Constant, Variable, Information, Parentheses, Prefix, Unary, SameFirst, Speaks, unary_punctuator, increment_punctuator, token, IsBase, NoBase, Expressed, BeginsExpression, BeginsNoExpression}
 use Rattle.c_lex.specs.declared.keyword.Keyword.TheVariants as keywords
-use Rattle.c_lex.specs.declared.punctuator.Punctuator.{Punctuator}
 use Rattle.c_lex.specs.declared.punctuator.Punctuator.TheVariants as punctuators
-use Rattle.c_lex.specs.declared.token.Kind.{Kind}
 use Rattle.c_lex.specs.declared.token.Kind.TheVariants as kinds
-use Rattle.c_lex.specs.declared.token.Token.{Token}
-use Rattle.c_syntax.specs.declared.expression.Base.{Base}
 use Rattle.c_syntax.specs.declared.expression.Base.TheVariants as bases
 use Rattle.c_syntax.specs.declared.expression.Field.TheVariants as fields
 use Rattle.c_syntax.specs.declared.expression.Literal.TheVariants as literals
-use Rattle.c_syntax.specs.declared.expression.Identifier.{Identifier}
 use Rattle.c_syntax.specs.declared.operator.UnaryOperator.{UnaryOperator}
 use Rattle.c_syntax.specs.declared.operator.UnaryOperator.TheVariants as unary_operators
-use Rattle.c_syntax.specs.declared.operator.Increment.{Increment}
 use Rattle.c_syntax.specs.declared.operator.Increment.TheVariants as increments
-use Rattle.c_syntax.specs.Expression.{Expression, Constant, Variable, Information, Parentheses, Prefix, Unary}
-use Rattle.c_syntax.specs.Faults.{SameFirst, Speaks}
-use Rattle.c_syntax.specs.Operators.{unary_punctuator, increment_punctuator}
-use Rattle.c_syntax.specs.Tokens.{token}
-use Rattle.c_syntax.specs.Types.{IsBase}
-use Rattle.c_syntax.proofs.Fronts.{keyword_class, punctuator_class, kind_class, front, base_front}
-use Rattle.c_syntax.proofs.Once.{expression_front}
-use Rattle.c_parse_type.specs.Bases.{NoBase}
+use Rattle.c_parse_stmt.proofs.Lemmas.{keyword_class, punctuator_class, kind_class, front, base_front, expression_front}
 use Rattle.c_parse_type.specs.Fronts.{first}
-use Rattle.c_parse_stmt.specs.Begins.{Expressed, BeginsExpression, BeginsNoExpression}
 use Rattle.c_parse_stmt.proofs.Placing.{front_first}
 
 -- ---- tokens of the shortest endings

@@ -3,14 +3,9 @@ use Rattle.std.proofs.Common.{◌++◌, ℕ, List, [], ◌∷◌, refl}
 use Rattle.c_lex.specs.declared.keyword.Keyword.TheVariants as keywords
 use Rattle.c_lex.specs.declared.punctuator.Punctuator.TheVariants as punctuators
 use Rattle.c_lex.specs.declared.token.Kind.TheVariants as kinds
-use Rattle.c_lex.specs.declared.token.Token.{Token}
-use Rattle.c_syntax.specs.Expression.{Expression}
+use Rattle.c_parse_stmt.specs.Words.{Token, Expression, TryExcept, TryFinally, Statements, Empty, IsCondition, IsBlockItem, AreBlockItems, Phrase, token, IsKeyword, HasKeyword, IsTry}
 use Rattle.c_syntax.specs.Phrases.{InTurn}
-use Rattle.c_syntax.specs.Statement.{TryExcept, TryFinally, Statements, Empty}
-use Rattle.c_syntax.specs.Statements.{IsCondition, IsBlockItem, AreBlockItems}
-use Rattle.c_syntax.specs.Tokens.{Phrase, token, IsKeyword, HasKeyword}
-use Rattle.c_syntax.proofs.Moves.{Moves, has_punctuator, has_keyword}
-use Rattle.c_parse_stmt.specs.Openings.{IsTry}
+use Rattle.c_parse_stmt.proofs.Lemmas.{Moves, has_punctuator, has_keyword}
 use Rattle.c_parse_stmt.proofs.Heading.{Sig, unit, in_parentheses, is_unit, braces}
 use Rattle.c_parse_stmt.proofs.Sequences.{Both, Fixed, both_moves, moves_so, punctuator, word, a_punctuator}
 use Rattle.c_parse_stmt.proofs.Tails.{IsBraced}

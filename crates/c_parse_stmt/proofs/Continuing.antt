@@ -1,34 +1,18 @@
 -- How a filter continues after a token that accepts alone.
 use Rattle.std.proofs.Common.{◌≡◌, ◌≤◌, ◌<◌, ◌+◌, ◌-◌, ℕ, zero, suc, true, List, [], ◌∷◌, ◌++◌, Option, Some, None, codes, slice_range, refl, sym, ap, ◌∙◌, subst, append_assoc, arith}
 use Rattle.std.specs.Str.{bytes_eq}
-use Rattle.c_lex.specs.declared.punctuator.Punctuator.{Punctuator}
+use Rattle.c_parse_stmt.specs.Words.{Punctuator, Kind, Token, Increment, Expression, Constant, Variable, Call, Done, Index, Postfix, Binary, Conditional, Assign, Comma, height, rank, IsApplied, IsContinued, SpellsExpression, Derives, SameFirst, punctuator_follows, kind_follows, follows, accepts, primary, postfix, assignment, comma, binary_punctuator, increment_punctuator, assignment_punctuator, Step, At, After, With, Choose, Set, And, apply, bound, Tail, Closes, token, IsPunctuator, HasPunctuator, accepts_kind, accepts_alone, AreOpening, AreClosing, Continued, ContinuesAfter, NoneAfter, NoCondition, HasCondition}
 use Rattle.c_lex.specs.declared.punctuator.Punctuator.TheVariants as punctuators
-use Rattle.c_lex.specs.declared.token.Kind.{Kind}
 use Rattle.c_lex.specs.declared.token.Kind.TheVariants as kinds
-use Rattle.c_lex.specs.declared.token.Token.{Token}
 use Rattle.c_syntax.specs.declared.operator.Arithmetic.{Arithmetic}
 use Rattle.c_syntax.specs.declared.operator.Arithmetic.TheVariants as arithmetic
 use Rattle.c_syntax.specs.declared.operator.Comparison.TheVariants as comparisons
 use Rattle.c_syntax.specs.declared.operator.BinaryOperator.{BinaryOperator}
 use Rattle.c_syntax.specs.declared.operator.BinaryOperator.TheVariants as binary
-use Rattle.c_syntax.specs.declared.operator.Increment.{Increment}
 use Rattle.c_syntax.specs.declared.operator.Increment.TheVariants as increments
 use Rattle.c_syntax.specs.declared.expression.Literal.TheVariants as literals
-use Rattle.c_syntax.specs.Expression.{Expression, Constant, Variable, Call, Done, Index, Postfix, Binary, Conditional, Assign, Comma, height}
-use Rattle.c_syntax.specs.Expressions.{rank, IsApplied, IsContinued, SpellsExpression, Derives}
-use Rattle.c_syntax.specs.Faults.{SameFirst}
-use Rattle.c_syntax.specs.Follow.{punctuator_follows, kind_follows, follows}
-use Rattle.c_syntax.specs.Limits.{accepts}
-use Rattle.c_syntax.specs.Operators.{primary, postfix, assignment, comma, binary_punctuator, increment_punctuator, assignment_punctuator}
-use Rattle.c_syntax.specs.Steps.{Step, At, After, With, Choose, Set, And, apply, bound, Tail, Closes}
-use Rattle.c_syntax.specs.Tokens.{token, IsPunctuator, HasPunctuator}
-use Rattle.c_syntax.proofs.Failing.{first_keeps}
-use Rattle.c_syntax.proofs.Fronts.{kind_class, has_same}
-use Rattle.c_syntax.proofs.Once.{one_expression, rank_low, has_stops}
+use Rattle.c_parse_stmt.proofs.Lemmas.{first_keeps, kind_class, has_same, one_expression, rank_low, has_stops, levels, step_follows, run_height}
 use Rattle.c_syntax.proofs.Passing.{passes}
-use Rattle.c_syntax.proofs.Spine.{levels, step_follows, run_height}
-use Rattle.c_parse_stmt.specs.Filters.{accepts_kind, accepts_alone, AreOpening, AreClosing, Continued, ContinuesAfter, NoneAfter}
-use Rattle.c_parse_stmt.specs.Parts.{NoCondition, HasCondition}
 use Rattle.c_parse_stmt.proofs.Begins.{punctuator, name, variable}
 use Rattle.c_parse_stmt.proofs.Nesting.{Nested, nested, opening_again, opening_split, closing, closing_again, enclosed}
 use Rattle.c_parse_stmt.proofs.Peeling.{opening_untyped, least, has_condition, closing_all}

@@ -1,24 +1,13 @@
 -- Locals of a declaration are read as far as they go.
 use Rattle.std.proofs.Common.{◌≡◌, ◌≤◌, ◌+◌, ℕ, List, [], ◌∷◌, ◌++◌, length, map, refl, sym, ap, ◌∙◌, subst, append_assoc, arith}
 use Rattle.std.proofs.lemmas.List.{append-nil}
-use Rattle.c_lex.specs.declared.punctuator.Punctuator.{Punctuator}
+use Rattle.c_parse_stmt.specs.Words.{Punctuator, Token, Alike, SameFirst, place, Onward, Failed, Wraps, Stops, height_of, one_over, height_of_locals, one_over_locals, assignment, Local, local, IsLocal, AreMoreLocals, AreLocals, token, HasPunctuator, NoPunctuator, APunctuator, NoLocal, HasLocal, LocalsWithin, NoMoreLocals, NoLocals, HasLocals}
 use Rattle.c_lex.specs.declared.punctuator.Punctuator.TheVariants as punctuators
 use Rattle.c_lex.specs.declared.token.Kind.TheVariants as kinds
-use Rattle.c_lex.specs.declared.token.Token.{Token}
 use Rattle.c_syntax.specs.declared.statement.Local.{Local as Local'}
-use Rattle.c_syntax.specs.Faults.{Alike, SameFirst, place, Onward, Failed, Wraps}
-use Rattle.c_syntax.specs.Follow.{Stops}
-use Rattle.c_syntax.specs.Limits.{height_of, one_over, height_of_locals, one_over_locals}
-use Rattle.c_syntax.specs.Operators.{assignment}
-use Rattle.c_syntax.specs.Statement.{Local, local}
-use Rattle.c_syntax.specs.Statements.{IsLocal, AreMoreLocals, AreLocals}
-use Rattle.c_syntax.specs.Tokens.{token, HasPunctuator}
-use Rattle.c_syntax.proofs.Declarations.{local as one_local, locals_stop}
-use Rattle.c_syntax.proofs.Failing.{alike_inner, alike_same}
-use Rattle.c_syntax.proofs.Fronts.{punctuator_same, has_same}
-use Rattle.c_syntax.proofs.Moves.{both, has_punctuator}
+use Rattle.c_parse_stmt.proofs.Lemmas.{locals_stop, alike_inner, alike_same, punctuator_same, has_same, both, has_punctuator}
+use Rattle.c_syntax.proofs.Declarations.{local as one_local}
 use Rattle.c_syntax.proofs.MovesStatements.{local as local_moves}
-use Rattle.c_parse_stmt.specs.Parts.{NoPunctuator, APunctuator, NoLocal, HasLocal, LocalsWithin, NoMoreLocals, NoLocals, HasLocals}
 use Rattle.c_parse_stmt.proofs.Begins.{punctuator, name}
 use Rattle.c_parse_stmt.proofs.Declarators.{plain, has_first}
 use Rattle.c_parse_stmt.proofs.Ends.{flat, stops_first, same_after}

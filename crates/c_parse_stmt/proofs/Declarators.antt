@@ -1,26 +1,9 @@
 -- A local of a declaration is read as far as it goes.
 use Rattle.std.proofs.Common.{◌≡◌, ◌≤◌, ℕ, List, [], ◌∷◌, ◌++◌, Some, None, refl, sym, ap, subst, append_assoc, arith}
-use Rattle.c_lex.specs.declared.punctuator.Punctuator.{Punctuator}
+use Rattle.c_parse_stmt.specs.Words.{Punctuator, Token, Identifier, Derives, Alike, SameFirst, place, Able, Onward, Failed, Wraps, follows, Stops, assignment, Local, IsInitialiser, IsLocal, token, IsIdentifier, HasPunctuator, AreStars, NoStar, NoExpression, HasExpression, NoInitialiser, HasInitialiser, NoLocal, HasLocal}
 use Rattle.c_lex.specs.declared.punctuator.Punctuator.TheVariants as punctuators
 use Rattle.c_lex.specs.declared.token.Kind.TheVariants as kinds
-use Rattle.c_lex.specs.declared.token.Token.{Token}
-use Rattle.c_syntax.specs.declared.expression.Identifier.{Identifier}
-use Rattle.c_syntax.specs.Expressions.{Derives}
-use Rattle.c_syntax.specs.Faults.{Alike, SameFirst, place, Able, Onward, Failed, Wraps}
-use Rattle.c_syntax.specs.Follow.{follows, Stops}
-use Rattle.c_syntax.specs.Operators.{assignment}
-use Rattle.c_syntax.specs.Statement.{Local}
-use Rattle.c_syntax.specs.Statements.{IsInitialiser, IsLocal}
-use Rattle.c_syntax.specs.Tokens.{token, IsIdentifier, HasPunctuator}
-use Rattle.c_syntax.specs.Types.{AreStars}
-use Rattle.c_syntax.proofs.Declarations.{name_star}
-use Rattle.c_syntax.proofs.Failing.{first_keeps}
-use Rattle.c_syntax.proofs.Fronts.{has_same, name_same, stars_once}
-use Rattle.c_syntax.proofs.Moves.{Moves, both, has_punctuator, derives, stars, name}
-use Rattle.c_syntax.proofs.Spine.{follows_punctuator}
-use Rattle.c_parse_type.specs.Bases.{NoStar}
-use Rattle.c_parse_expr.specs.Readings.{NoExpression, HasExpression}
-use Rattle.c_parse_stmt.specs.Parts.{NoInitialiser, HasInitialiser, NoLocal, HasLocal}
+use Rattle.c_parse_stmt.proofs.Lemmas.{name_star, first_keeps, has_same, name_same, stars_once, Moves, both, has_punctuator, derives, stars, name, follows_punctuator}
 use Rattle.c_parse_stmt.proofs.Begins.{a_name, variable}
 use Rattle.c_parse_stmt.proofs.Begins as begins
 use Rattle.c_parse_stmt.proofs.Ends.{flat}

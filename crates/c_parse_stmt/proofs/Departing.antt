@@ -4,21 +4,9 @@ use Rattle.std.proofs.lemmas.List.{append-nil}
 use Rattle.c_lex.specs.declared.punctuator.Punctuator.TheVariants as punctuators
 use Rattle.c_lex.specs.declared.token.IntegerType.TheVariants as integers
 use Rattle.c_lex.specs.declared.token.Kind.TheVariants as kinds
-use Rattle.c_lex.specs.declared.token.Token.{Token}
+use Rattle.c_parse_stmt.specs.Words.{Token, Expression, Constant, Variable, Parentheses, height, SpellsExpression, Alike, SameFirst, place, Able, Onward, Failed, accepts, IsCondition, token, numbers_of, accepts_alone, AreOpening, AreClosing, Continued, ContinuesInside, NoneInside, ContinuesAfter, NoneAfter, NoFilter, HasFilter, Departs, HasCondition}
 use Rattle.c_syntax.specs.declared.expression.Literal.TheVariants as literals
-use Rattle.c_syntax.specs.Expression.{Expression, Constant, Variable, Parentheses, height}
-use Rattle.c_syntax.specs.Expressions.{SpellsExpression}
-use Rattle.c_syntax.specs.Faults.{Alike, SameFirst, place, Able, Onward, Failed}
-use Rattle.c_syntax.specs.Limits.{accepts}
-use Rattle.c_syntax.specs.Statements.{IsCondition}
-use Rattle.c_syntax.specs.Tokens.{token}
-use Rattle.c_syntax.proofs.Failing.{alike_same}
-use Rattle.c_syntax.proofs.Fronts.{front}
-use Rattle.c_syntax.proofs.Moves.{alike_after}
-use Rattle.c_syntax.proofs.MovesStatements.{condition}
-use Rattle.c_syntax.proofs.Once.{has_front}
-use Rattle.c_parse_stmt.specs.Filters.{numbers_of, accepts_alone, AreOpening, AreClosing, Continued, ContinuesInside, NoneInside, ContinuesAfter, NoneAfter, NoFilter, HasFilter, Departs}
-use Rattle.c_parse_stmt.specs.Parts.{HasCondition}
+use Rattle.c_parse_stmt.proofs.Lemmas.{alike_same, front, alike_after, condition, has_front}
 use Rattle.c_parse_stmt.proofs.Begins.{punctuator}
 use Rattle.c_parse_stmt.proofs.Continuing.{atom, accepts_alike}
 use Rattle.c_parse_stmt.proofs.Nesting.{opening_moves, opening_again, opening_once, closing, closing_moves, closing_again, closing_both, closing_next, enclosed}

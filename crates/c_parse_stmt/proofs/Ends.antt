@@ -1,21 +1,8 @@
 -- Conditions and optional expressions are read as far as they go.
 use Rattle.std.proofs.Common.{◌≡◌, ◌≤◌, ◌<◌, ℕ, List, [], ◌∷◌, ◌++◌, Some, None, refl, sym, ◌∙◌, subst, append_assoc, arith}
-use Rattle.c_lex.specs.declared.punctuator.Punctuator.{Punctuator}
+use Rattle.c_parse_stmt.specs.Words.{Punctuator, Token, Expression, height, Derives, Alike, SameFirst, Wraps, punctuator_follows, Stops, comma, IsCondition, HasPunctuator, NoExpression, HasExpression, NoPunctuator, APunctuator, NoCondition, HasCondition, NoneUpTo, HasUpTo}
 use Rattle.c_lex.specs.declared.punctuator.Punctuator.TheVariants as punctuators
-use Rattle.c_lex.specs.declared.token.Token.{Token}
-use Rattle.c_syntax.specs.Expression.{Expression, height}
-use Rattle.c_syntax.specs.Expressions.{Derives}
-use Rattle.c_syntax.specs.Faults.{Alike, SameFirst, Wraps}
-use Rattle.c_syntax.specs.Follow.{punctuator_follows, Stops}
-use Rattle.c_syntax.specs.Operators.{comma}
-use Rattle.c_syntax.specs.Statements.{IsCondition}
-use Rattle.c_syntax.specs.Tokens.{HasPunctuator}
-use Rattle.c_syntax.proofs.Failing.{first_keeps, first_after}
-use Rattle.c_syntax.proofs.Fronts.{has_same}
-use Rattle.c_syntax.proofs.Moves.{both, has_punctuator, derives}
-use Rattle.c_syntax.proofs.Once.{one_expression, has_stops}
-use Rattle.c_parse_expr.specs.Readings.{NoExpression, HasExpression}
-use Rattle.c_parse_stmt.specs.Parts.{NoPunctuator, APunctuator, NoCondition, HasCondition, NoneUpTo, HasUpTo}
+use Rattle.c_parse_stmt.proofs.Lemmas.{first_keeps, first_after, has_same, both, has_punctuator, derives, one_expression, has_stops}
 use Rattle.c_parse_stmt.proofs.Begins.{punctuator, name, variable}
 use Rattle.c_parse_stmt.proofs.Placing.{Lacks, lacks_first}
 

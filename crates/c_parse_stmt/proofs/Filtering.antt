@@ -1,19 +1,10 @@
 -- Filters, by whether they accept whatever was raised.
 use Rattle.std.proofs.Common.{◌≡◌, ◌≤◌, ℕ, Bool, true, false, List, [], ◌∷◌, ◌++◌, refl, sym, ap, ◌∙◌, subst, append_assoc, arith}
-use Rattle.c_lex.specs.declared.token.Token.{Token}
-use Rattle.c_syntax.specs.Expression.{Expression, height}
-use Rattle.c_syntax.specs.Faults.{Alike, SameFirst, Speaks, Able, Failed, Wraps}
-use Rattle.c_syntax.specs.Limits.{Number, order, accepts}
-use Rattle.c_syntax.specs.Statements.{IsCondition}
+use Rattle.c_parse_stmt.specs.Words.{Token, Expression, height, Alike, SameFirst, Speaks, Able, Failed, Wraps, Number, order, accepts, IsCondition, ParseErr, Unexpected, TooDeep, TooMany, Memory, IsPlacedRefusal, numbers_of, NoFilter, HasFilter, Departs, NoCondition, HasCondition}
 use Rattle.c_syntax.proofs.Declarations.{condition}
-use Rattle.c_syntax.proofs.Failing.{alike_same, first_same}
+use Rattle.c_parse_stmt.proofs.Lemmas.{alike_same, first_same}
 use Rattle.c_syntax.specs.declared.limit.Count.{Count}
 use Rattle.c_syntax.specs.declared.limit.Count.TheVariants.{Locals}
-use Rattle.c_parse_expr.specs.declared.refusal.ParseErr.{ParseErr}
-use Rattle.c_parse_expr.specs.declared.refusal.ParseErr.TheVariants.{Unexpected, TooDeep, TooMany, Memory}
-use Rattle.c_parse_expr.specs.Refusals.{IsPlacedRefusal}
-use Rattle.c_parse_stmt.specs.Filters.{numbers_of, NoFilter, HasFilter, Departs}
-use Rattle.c_parse_stmt.specs.Parts.{NoCondition, HasCondition}
 
 -- ---- where a number is left
 

@@ -1,24 +1,11 @@
 -- Failures in the parentheses of a `for`, and in expression statements.
 use Rattle.std.proofs.Common.{◌≡◌, ◌≤◌, ◌+◌, ◌++◌, ℕ, List, [], ◌∷◌, Option, None, refl, sym, subst, arith}
-use Rattle.c_lex.specs.declared.keyword.Keyword.{Keyword}
+use Rattle.c_parse_stmt.specs.Words.{Keyword, Punctuator, Token, Expression, Wraps, height_of, height_of_for_initialiser, locals_of_for_initialiser, ForInitialiser, Evaluating, Evaluate, For, IsUpTo, IsForInitialiser, token, IsKeyword, HasPunctuator, HasKeyword, Left, NoPunctuator, APunctuator, NoneUpTo, HasUpTo, NoForInitialiser, HasForInitialiser, NoStatement, HasStatement, NoEvaluation, HasEvaluation}
 use Rattle.c_lex.specs.declared.keyword.Keyword.TheVariants as keywords
-use Rattle.c_lex.specs.declared.punctuator.Punctuator.{Punctuator}
 use Rattle.c_lex.specs.declared.punctuator.Punctuator.TheVariants as punctuators
 use Rattle.c_lex.specs.declared.token.Kind.TheVariants as kinds
-use Rattle.c_lex.specs.declared.token.Token.{Token}
-use Rattle.c_syntax.specs.Expression.{Expression}
-use Rattle.c_syntax.specs.Faults.{Wraps}
-use Rattle.c_syntax.specs.Limits.{height_of, height_of_for_initialiser, locals_of_for_initialiser}
-use Rattle.c_syntax.specs.Statement.{ForInitialiser, Evaluating, Evaluate, For}
-use Rattle.c_syntax.specs.Statements.{IsUpTo, IsForInitialiser}
-use Rattle.c_syntax.specs.Tokens.{token, IsKeyword, HasPunctuator, HasKeyword}
-use Rattle.c_syntax.proofs.Firsts.{first_back, no_punctuator}
-use Rattle.c_syntax.proofs.Fronts.{kind_same, keyword_same}
-use Rattle.c_syntax.proofs.Moves.{Moves, has_punctuator}
+use Rattle.c_parse_stmt.proofs.Lemmas.{first_back, no_punctuator, kind_same, keyword_same, Moves, has_punctuator}
 use Rattle.c_syntax.proofs.MovesStatements.{first, up_to as up_to_moves}
-use Rattle.c_parse_stmt.specs.declared.left.Left.{Left}
-use Rattle.c_parse_stmt.specs.Parts.{NoPunctuator, APunctuator, NoneUpTo, HasUpTo, NoForInitialiser, HasForInitialiser}
-use Rattle.c_parse_stmt.specs.Within.{NoStatement, HasStatement, NoEvaluation, HasEvaluation}
 use Rattle.c_parse_stmt.proofs.Sequences.{Both, both_fixed, both_moves, able_now, wraps, first_kind}
 use Rattle.c_parse_stmt.proofs.Loops.{no_for_open, no_for_initialiser, Started, no_for_condition, no_for_next}
 use Rattle.c_parse_stmt.proofs.Wholes.{no_evaluation, Lacks, Plain, only_evaluations}

@@ -3,22 +3,9 @@ use Rattle.std.proofs.Common.{◌≡◌, ◌≤◌, ◌+◌, ◌++◌, ℕ, Bool
 use Rattle.c_lex.specs.declared.keyword.Keyword.TheVariants as keywords
 use Rattle.c_lex.specs.declared.punctuator.Punctuator.TheVariants as punctuators
 use Rattle.c_lex.specs.declared.token.Kind.TheVariants as kinds
-use Rattle.c_lex.specs.declared.token.Token.{Token}
-use Rattle.c_syntax.specs.Expression.{Expression, height}
-use Rattle.c_syntax.specs.Faults.{Alike, place, Able, Failed, Wraps}
-use Rattle.c_syntax.specs.Limits.{statements_over_all, accepts, numbered, funclets_of_all}
-use Rattle.c_syntax.specs.Statement.{Statement, Declare, TryExcept, TryFinally, Statements, Empty, Then}
-use Rattle.c_syntax.specs.Statements.{IsCondition, IsBlockItem, AreBlockItems}
-use Rattle.c_syntax.specs.Tokens.{token, IsKeyword, HasPunctuator, HasKeyword}
-use Rattle.c_syntax.proofs.Failing.{alike_inner}
-use Rattle.c_syntax.proofs.Firsts.{no_keyword}
-use Rattle.c_syntax.proofs.Moves.{Moves}
-use Rattle.c_syntax.proofs.MovesStatements.{condition, items, filter, funclets_of_all as same_funclets}
-use Rattle.c_parse_stmt.specs.declared.left.Left.{Left}
-use Rattle.c_parse_stmt.specs.Filters.{numbers_of, NoFilter, HasFilter}
-use Rattle.c_parse_stmt.specs.Openings.{IsTry, Guards}
-use Rattle.c_parse_stmt.specs.Parts.{NoPunctuator, APunctuator}
-use Rattle.c_parse_stmt.specs.Within.{AllWithin, AllTaken, NoBlockItems, HasBlockItems, NoStatement, HasStatement}
+use Rattle.c_parse_stmt.specs.Words.{Token, Expression, height, Alike, place, Able, Failed, Wraps, statements_over_all, accepts, numbered, funclets_of_all, Statement, Declare, TryExcept, TryFinally, Statements, Empty, Then, IsCondition, IsBlockItem, AreBlockItems, token, IsKeyword, HasPunctuator, HasKeyword, Left, numbers_of, NoFilter, HasFilter, IsTry, Guards, NoPunctuator, APunctuator, AllWithin, AllTaken, NoBlockItems, HasBlockItems, NoStatement, HasStatement}
+use Rattle.c_parse_stmt.proofs.Lemmas.{alike_inner, no_keyword, Moves, condition, items, filter}
+use Rattle.c_syntax.proofs.MovesStatements.{funclets_of_all as same_funclets}
 use Rattle.c_parse_stmt.proofs.Heading.{Key, Sig, Condition, key_moves, key_wraps, unit, braces, finally}
 use Rattle.c_parse_stmt.proofs.Sequences.{able_more, Both, Fixed, both_fixed, both_moves, wraps, failed, first_kind, kind_place}
 use Rattle.c_parse_stmt.proofs.Tails.{IsBraced}

@@ -1,23 +1,13 @@
 -- Failures in what a statement begins with.
 use Rattle.std.proofs.Common.{◌≡◌, ◌≤◌, IsFalse, ◌+◌, ◌++◌, ℕ, suc, List, [], ◌∷◌, Option, None, refl, arith}
-use Rattle.c_lex.specs.declared.keyword.Keyword.{Keyword}
+use Rattle.c_parse_stmt.specs.Words.{Keyword, Punctuator, Token, Expression, Constant, Family, Able, Failed, Wraps, ForInitialiser, Evaluating, Statement, Evaluate, If, While, DoWhile, For, Return, Break, Continue, Leave, TryFinally, Empty, IsUpTo, IsCondition, IsForInitialiser, is_declaration, IsBlockItem, token, IsKeyword, HasPunctuator, Left, NoPunctuator, APunctuator, NoCondition, HasCondition, NoneUpTo, HasUpTo, NoStatement, HasStatement, AfterKeyword}
 use Rattle.c_lex.specs.declared.keyword.Keyword.TheVariants as keywords
-use Rattle.c_lex.specs.declared.punctuator.Punctuator.{Punctuator}
 use Rattle.c_lex.specs.declared.punctuator.Punctuator.TheVariants as punctuators
 use Rattle.c_lex.specs.declared.token.IntegerType.TheVariants as types
 use Rattle.c_lex.specs.declared.token.Kind.TheVariants as kinds
-use Rattle.c_lex.specs.declared.token.Token.{Token}
 use Rattle.c_syntax.specs.declared.expression.Literal.TheVariants as literals
-use Rattle.c_syntax.specs.Expression.{Expression, Constant}
-use Rattle.c_syntax.specs.Faults.{Family, Able, Failed, Wraps}
-use Rattle.c_syntax.specs.Statement.{ForInitialiser, Evaluating, Statement, Evaluate, If, While, DoWhile, For, Return, Break, Continue, Leave, TryFinally, Empty}
-use Rattle.c_syntax.specs.Statements.{IsUpTo, IsCondition, IsForInitialiser, is_declaration, IsBlockItem}
-use Rattle.c_syntax.specs.Tokens.{token, IsKeyword, HasPunctuator}
-use Rattle.c_syntax.proofs.Moves.{Moves, kind}
+use Rattle.c_parse_stmt.proofs.Lemmas.{Moves, kind}
 use Rattle.c_syntax.proofs.MovesStatements.{first}
-use Rattle.c_parse_stmt.specs.declared.left.Left.{Left}
-use Rattle.c_parse_stmt.specs.Parts.{NoPunctuator, APunctuator, NoCondition, HasCondition, NoneUpTo, HasUpTo}
-use Rattle.c_parse_stmt.specs.Within.{NoStatement, HasStatement, AfterKeyword}
 use Rattle.c_parse_stmt.proofs.Sequences.{Both, Fixed, both_fixed, able_now, punctuator, word, a_punctuator, a_word, first_kind, kind_place}
 use Rattle.c_parse_stmt.proofs.Tries.{no_try}
 use Rattle.c_parse_stmt.proofs.Loops.{no_while_room, no_while_condition, no_do_room, no_for_room}

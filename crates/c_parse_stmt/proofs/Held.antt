@@ -2,28 +2,10 @@
 use Rattle.std.proofs.Common.{◌≡◌, ◌≤◌, ◌+◌, ℕ, List, [], ◌∷◌, ◌++◌, length, length-append, map, IsFalse, true, false, Bool, refl, sym, ap, ◌∙◌, subst, arith, inl, inr}
 use Rattle.std.specs.Prelude.{Option, None, IfNone}
 use Rattle.c_lex.specs.declared.punctuator.Punctuator.TheVariants as punctuators
-use Rattle.c_lex.specs.declared.token.Token.{Token}
-use Rattle.c_syntax.specs.declared.expression.Base.{Base}
-use Rattle.c_syntax.specs.declared.statement.Stmt.{Stmt}
-use Rattle.c_syntax.specs.Faults.{Alike, Able, Wraps}
-use Rattle.c_syntax.specs.Follow.{Closed}
-use Rattle.c_syntax.specs.Limits.{statements_over, over_block_item, locals, numbered}
-use Rattle.c_syntax.specs.Statement.{Local, Statement, Declare, Block, For, Statements, Empty, Then, statement, statements}
-use Rattle.c_syntax.specs.Statements.{is_declaration, IsDeclaration, IsBlockItem, AreBlockItems}
-use Rattle.c_syntax.specs.Tokens.{HasPunctuator}
-use Rattle.c_syntax.specs.Types.{IsBase}
-use Rattle.c_syntax.proofs.Fronts.{base_front}
-use Rattle.c_parse_type.specs.Bases.{NoBase}
-use Rattle.c_parse_stmt.specs.declared.left.Left.{Left}
-use Rattle.c_syntax.proofs.Blocks.{begins, item_class, item_begins, class_low, brace_begins, items_else, typed_begins, one_statement}
-use Rattle.c_syntax.proofs.Firsts.{same_begins, no_base, no_punctuator, closed}
-use Rattle.c_syntax.proofs.Moves.{has_punctuator}
+use Rattle.c_parse_stmt.specs.Words.{Token, Base, Stmt, Alike, Able, Wraps, Closed, statements_over, over_block_item, locals, numbered, Local, Statement, Declare, Block, For, Statements, Empty, Then, statement, statements, is_declaration, IsDeclaration, IsBlockItem, AreBlockItems, HasPunctuator, IsBase, NoBase, Left, Opening, Opens, NoDeclaration, HasDeclaration, AllTaken, NoBlockItems, HasBlockItems, Within, IsStatementWithin, NoStatement, HasStatement, ReadsBlockItem, NoBlockItem, AnItem, HasBlockItem}
+use Rattle.c_parse_stmt.proofs.Lemmas.{base_front, begins, item_class, item_begins, class_low, brace_begins, items_else, typed_begins, one_statement, same_begins, no_base, no_punctuator, closed, has_punctuator}
 use Rattle.c_syntax.proofs.MovesStatements.{item as item_moves, numbered as same_funclets}
-use Rattle.c_parse_stmt.specs.declared.openings.Opening.{Opening}
 use Rattle.c_parse_stmt.specs.declared.openings.Opening.TheVariants as openings
-use Rattle.c_parse_stmt.specs.Openings.{Opens}
-use Rattle.c_parse_stmt.specs.Parts.{NoDeclaration, HasDeclaration}
-use Rattle.c_parse_stmt.specs.Within.{AllTaken, NoBlockItems, HasBlockItems, Within, IsStatementWithin, NoStatement, HasStatement, ReadsBlockItem, NoBlockItem, AnItem, HasBlockItem}
 use Rattle.c_parse_stmt.proofs.Clauses.{Items, brace, is_brace}
 use Rattle.c_parse_stmt.proofs.Heading.{Sig}
 use Rattle.c_parse_stmt.proofs.Inside.{Item}

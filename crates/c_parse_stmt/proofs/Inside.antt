@@ -2,32 +2,18 @@
 use Rattle.std.proofs.Common.{◌≡◌, ◌≤◌, ◌+◌, ◌++◌, ◌∙◌, ℕ, List, length, length-append, Option, option_map, refl, sym, ap, subst, arith}
 use Rattle.c_lex.specs.declared.keyword.Keyword.TheVariants as keywords
 use Rattle.c_lex.specs.declared.punctuator.Punctuator.TheVariants as punctuators
-use Rattle.c_lex.specs.declared.token.Token.{Token}
+use Rattle.c_parse_stmt.specs.Words.{Token, Stmt, expression, Alike, Able, Wraps, NoElse, Closed, Statement, If, IfElse, While, DoWhile, For, first, statement, IsCondition, dangles, IsBlockItem, IsKeyword, HasPunctuator, HasKeyword, Left, Opening, Ends, IsStatementHead, expressions_over, Heads, Opens, Holds, IsStatementWithin, NoStatement, HasStatement}
 use Rattle.c_syntax.specs.declared.expression.Expr.{Expr}
 use Rattle.c_syntax.specs.declared.statement.ForInitialiser.{ForInitialiser}
-use Rattle.c_syntax.specs.declared.statement.Stmt.{Stmt}
-use Rattle.c_syntax.specs.Expression.{expression}
-use Rattle.c_syntax.specs.Faults.{Alike, Able, Wraps}
-use Rattle.c_syntax.specs.Follow.{NoElse, Closed}
-use Rattle.c_syntax.specs.Statement.{Statement, If, IfElse, While, DoWhile, For, first, statement}
-use Rattle.c_syntax.specs.Statements.{IsCondition, dangles, IsBlockItem}
-use Rattle.c_syntax.specs.Tokens.{IsKeyword, HasPunctuator, HasKeyword}
-use Rattle.c_syntax.proofs.Blocks.{absent}
-use Rattle.c_syntax.proofs.Failing.{alike_inner}
-use Rattle.c_syntax.proofs.Firsts.{closed}
-use Rattle.c_syntax.proofs.Moves.{Moves, has_keyword}
+use Rattle.c_parse_stmt.proofs.Lemmas.{absent, alike_inner, closed, Moves, has_keyword, condition, item}
 use Rattle.c_syntax.proofs.MovesStatements as statements
-use Rattle.c_syntax.proofs.MovesStatements.{condition, item, numbered as same_funclets}
+use Rattle.c_syntax.proofs.MovesStatements.{numbered as same_funclets}
 use Rattle.c_parse_stmt.specs.declared.endings.Ending.{Ending}
 use Rattle.c_parse_stmt.specs.declared.endings.Ending.TheVariants as endings
-use Rattle.c_parse_stmt.specs.declared.left.Left.{Left}
 use Rattle.c_parse_stmt.specs.declared.openings.Head.{Head}
 use Rattle.c_parse_stmt.specs.declared.openings.Head.TheVariants as heads
-use Rattle.c_parse_stmt.specs.declared.openings.Opening.{Opening}
 use Rattle.c_parse_stmt.specs.declared.openings.Opening.TheVariants as openings
-use Rattle.c_parse_stmt.specs.Endings.{Ends}
-use Rattle.c_parse_stmt.specs.Openings.{IsStatementHead, expressions_over, locals, Heads, Opens, Holds}
-use Rattle.c_parse_stmt.specs.Within.{IsStatementWithin, NoStatement, HasStatement}
+use Rattle.c_parse_stmt.specs.Openings.{locals}
 use Rattle.c_parse_stmt.proofs.Heading.{Key, Condition, key_moves, for_item, semicolon, in_parentheses, is_unit, unit, while_end}
 use Rattle.c_parse_stmt.proofs.Sequences.{Both, Fixed, both_fixed, both_moves, moves_so, able_now, wraps, a_punctuator, a_word}
 use Rattle.c_parse_stmt.proofs.Loops.{no_while_body, while_found, no_do_body, no_for_body, for_found}

@@ -2,24 +2,11 @@
 use Rattle.std.proofs.Common.{◌≤◌, ◌+◌, ◌++◌, ℕ, IsFalse, List, length, refl, ap, arith}
 use Rattle.c_lex.specs.declared.keyword.Keyword.TheVariants as keywords
 use Rattle.c_lex.specs.declared.punctuator.Punctuator.TheVariants as punctuators
-use Rattle.c_lex.specs.declared.token.Token.{Token}
-use Rattle.c_syntax.specs.Expression.{Expression, height}
-use Rattle.c_syntax.specs.Faults.{Alike, place, Failed, Wraps}
-use Rattle.c_syntax.specs.Follow.{Closed}
-use Rattle.c_syntax.specs.Limits.{statements_over}
-use Rattle.c_syntax.specs.Statement.{Statement, While, DoWhile, first, statement}
-use Rattle.c_syntax.specs.Statements.{IsCondition, is_declaration, IsBlockItem}
-use Rattle.c_syntax.specs.Tokens.{IsKeyword, HasPunctuator, HasKeyword}
-use Rattle.c_syntax.proofs.Blocks.{while_else}
-use Rattle.c_syntax.proofs.Failing.{alike_inner}
-use Rattle.c_syntax.proofs.Firsts.{closed, no_keyword}
-use Rattle.c_syntax.proofs.Moves.{Moves}
-use Rattle.c_syntax.proofs.MovesStatements.{condition, item, numbered as same_funclets}
-use Rattle.c_parse_stmt.specs.declared.left.Left.{Left}
+use Rattle.c_parse_stmt.specs.Words.{Token, Expression, height, Alike, place, Failed, Wraps, Closed, statements_over, Statement, While, DoWhile, first, statement, IsCondition, is_declaration, IsBlockItem, IsKeyword, HasPunctuator, HasKeyword, Left, Holds, NoPunctuator, APunctuator, NoCondition, HasCondition, Within, IsStatementWithin, NoStatement, HasStatement}
+use Rattle.c_parse_stmt.proofs.Lemmas.{while_else, alike_inner, closed, no_keyword, Moves, condition, item}
+use Rattle.c_syntax.proofs.MovesStatements.{numbered as same_funclets}
 use Rattle.c_parse_stmt.specs.declared.openings.Head.TheVariants as heads
-use Rattle.c_parse_stmt.specs.Openings.{locals, Holds}
-use Rattle.c_parse_stmt.specs.Parts.{NoPunctuator, APunctuator, NoCondition, HasCondition}
-use Rattle.c_parse_stmt.specs.Within.{Within, IsStatementWithin, NoStatement, HasStatement}
+use Rattle.c_parse_stmt.specs.Openings.{locals}
 use Rattle.c_parse_stmt.proofs.Heading.{Key, Sig, Condition, key_moves, semicolon, unit, while_end}
 use Rattle.c_parse_stmt.proofs.Sequences.{Both, both_fixed, both_moves, able_now, wraps, failed, a_punctuator}
 use Rattle.c_parse_stmt.proofs.Loops.{no_do_while, no_do_condition, no_do_end, do_found}

@@ -1,3 +1,4 @@
+mod Lemmas
 pub mod Begins
 pub mod Stating
 pub mod Placing

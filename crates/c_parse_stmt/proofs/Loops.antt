@@ -2,18 +2,10 @@
 use Rattle.std.proofs.Common.{◌≡◌, ◌≤◌, ◌+◌, ℕ, List, length-append, Option, Some, None, refl, sym, ap, subst, arith}
 use Rattle.c_lex.specs.declared.keyword.Keyword.TheVariants as keywords
 use Rattle.c_lex.specs.declared.punctuator.Punctuator.TheVariants as punctuators
-use Rattle.c_lex.specs.declared.token.Token.{Token}
-use Rattle.c_syntax.specs.Expression.{Expression, height}
-use Rattle.c_syntax.specs.Limits.{height_of, one_over, height_of_for_initialiser, locals, locals_of_for_initialiser}
-use Rattle.c_syntax.specs.Statement.{ForInitialiser, Statement, While, DoWhile, For}
-use Rattle.c_syntax.specs.Statements.{IsUpTo, IsCondition, IsForInitialiser, IsBlockItem}
-use Rattle.c_syntax.specs.Tokens.{IsKeyword, HasPunctuator, HasKeyword}
-use Rattle.c_syntax.proofs.Fronts.{has_same}
+use Rattle.c_parse_stmt.specs.Words.{Token, Expression, height, height_of, one_over, height_of_for_initialiser, locals, locals_of_for_initialiser, ForInitialiser, Statement, While, DoWhile, For, IsUpTo, IsCondition, IsForInitialiser, IsBlockItem, IsKeyword, HasPunctuator, HasKeyword, Left, NoCondition, NoneUpTo, NoForInitialiser, IsStatementWithin, NoStatement, AfterKeyword}
+use Rattle.c_parse_stmt.proofs.Lemmas.{has_same, while_else, one_statement}
 use Rattle.c_syntax.proofs.Declarations.{condition, first}
-use Rattle.c_syntax.proofs.Blocks.{place, while_else, one_statement}
-use Rattle.c_parse_stmt.specs.declared.left.Left.{Left}
-use Rattle.c_parse_stmt.specs.Parts.{NoCondition, NoneUpTo, NoForInitialiser}
-use Rattle.c_parse_stmt.specs.Within.{IsStatementWithin, NoStatement, AfterKeyword}
+use Rattle.c_syntax.proofs.Blocks.{place}
 use Rattle.c_parse_stmt.proofs.Tails.{after_while, after_do, after_for}
 use Rattle.c_parse_stmt.proofs.Wholes.{Lacks, fits, closed_as, after_condition, up_to}
 

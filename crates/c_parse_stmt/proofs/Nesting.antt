@@ -3,18 +3,8 @@ use Rattle.std.proofs.Common.{◌≡◌, ◌≤◌, ◌<◌, ◌+◌, ℕ, zero,
 use Rattle.std.proofs.lemmas.Bool.{cases_order}
 use Rattle.std.proofs.lemmas.List.{append-nil}
 use Rattle.c_lex.specs.declared.punctuator.Punctuator.TheVariants as punctuators
-use Rattle.c_lex.specs.declared.token.Token.{Token}
-use Rattle.c_syntax.specs.Expression.{Expression, Parentheses, height}
-use Rattle.c_syntax.specs.Expressions.{rank, SpellsExpression}
-use Rattle.c_syntax.specs.Limits.{accepts}
-use Rattle.c_syntax.specs.Statements.{IsCondition}
-use Rattle.c_syntax.specs.Steps.{Closes}
-use Rattle.c_syntax.specs.Tokens.{HasPunctuator}
-use Rattle.c_syntax.proofs.Fronts.{has_same}
-use Rattle.c_syntax.proofs.Failing.{alike_same}
-use Rattle.c_syntax.proofs.Moves.{Moves, map, both, nothing, has_punctuator}
-use Rattle.c_syntax.proofs.Once.{rank_low}
-use Rattle.c_parse_stmt.specs.Filters.{AreOpening, AreClosing}
+use Rattle.c_parse_stmt.specs.Words.{Token, Expression, Parentheses, height, rank, SpellsExpression, accepts, IsCondition, Closes, HasPunctuator, AreOpening, AreClosing}
+use Rattle.c_parse_stmt.proofs.Lemmas.{has_same, alike_same, Moves, map, both, nothing, has_punctuator, rank_low}
 use Rattle.c_parse_stmt.proofs.Begins.{punctuator}
 use Rattle.c_parse_stmt.proofs.Placing.{Lacks}
 

@@ -1,20 +1,11 @@
 -- Tokens with which no statement begins.
 use Rattle.std.proofs.Common.{◌≡◌, ◌≤◌, ℕ, true, false, List, [], ◌∷◌, Some, None, IsFalse, refl, sym, ap, ◌∙◌, arith, inl, inr}
-use Rattle.c_lex.specs.declared.keyword.Keyword.{Keyword}
+use Rattle.c_parse_stmt.specs.Words.{Keyword, Punctuator, Kind, Token, SameFirst, Statement, Declare, Block, Evaluate, If, IfElse, While, DoWhile, For, Return, Break, Continue, Leave, TryExcept, TryFinally, is_declaration, IsBlockItem, token, BeginsNoExpression, BeginsNoStatement}
 use Rattle.c_lex.specs.declared.keyword.Keyword.TheVariants as keywords
-use Rattle.c_lex.specs.declared.punctuator.Punctuator.{Punctuator}
 use Rattle.c_lex.specs.declared.punctuator.Punctuator.TheVariants as punctuators
-use Rattle.c_lex.specs.declared.token.Kind.{Kind}
 use Rattle.c_lex.specs.declared.token.Kind.TheVariants as kinds
-use Rattle.c_lex.specs.declared.token.Token.{Token}
-use Rattle.c_syntax.specs.Faults.{SameFirst}
-use Rattle.c_syntax.specs.Statement.{Statement, Declare, Block, Evaluate, If, IfElse, While, DoWhile, For, Return, Break, Continue, Leave, TryExcept, TryFinally}
-use Rattle.c_syntax.specs.Statements.{is_declaration, IsBlockItem}
-use Rattle.c_syntax.specs.Tokens.{token}
-use Rattle.c_syntax.proofs.Blocks.{keyword_begins, punctuator_begins, kind_begins, begins, item_begins}
-use Rattle.c_syntax.proofs.Firsts.{same_begins}
+use Rattle.c_parse_stmt.proofs.Lemmas.{keyword_begins, punctuator_begins, kind_begins, begins, item_begins, same_begins}
 use Rattle.c_parse_type.specs.Fronts.{first}
-use Rattle.c_parse_stmt.specs.Begins.{BeginsNoExpression, BeginsNoStatement}
 use Rattle.c_parse_stmt.proofs.Stating.{Stating}
 
 -- ---- the tokens that begin a statement which is no evaluation

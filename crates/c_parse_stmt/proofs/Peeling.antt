@@ -2,26 +2,10 @@
 use Rattle.std.proofs.Common.{◌≡◌, ◌≤◌, ◌<◌, ◌+◌, ℕ, zero, suc, List, [], ◌∷◌, ◌++◌, refl, sym, ap, ◌∙◌, subst, arith}
 use Rattle.std.proofs.lemmas.List.{append-nil}
 use Rattle.c_lex.specs.declared.punctuator.Punctuator.TheVariants as punctuators
-use Rattle.c_lex.specs.declared.token.Kind.{Kind}
+use Rattle.c_parse_stmt.specs.Words.{Kind, Token, Expression, Constant, Variable, Information, Call, Parentheses, Prefix, Unary, Cast, height, SpellsExpression, SameFirst, IsCondition, IsOperandAlone, HasPunctuator, IsBase, NoBase, over_first, first_over, Expressed, BeginsExpression, BeginsNoExpression, AreOpening, AreClosing, Continued, ContinuesInside, NoneInside, NoCondition, HasCondition}
 use Rattle.c_lex.specs.declared.token.Kind.TheVariants as kinds
-use Rattle.c_lex.specs.declared.token.Token.{Token}
 use Rattle.c_syntax.specs.declared.expression.Literal.TheVariants as literals
-use Rattle.c_syntax.specs.Expression.{Expression, Constant, Variable, Information, Call, Parentheses, Prefix, Unary, Cast, height}
-use Rattle.c_syntax.specs.Expressions.{SpellsExpression}
-use Rattle.c_syntax.specs.Faults.{SameFirst}
-use Rattle.c_syntax.specs.Statements.{IsCondition}
-use Rattle.c_syntax.specs.Steps.{IsOperandAlone}
-use Rattle.c_syntax.specs.Tokens.{HasPunctuator}
-use Rattle.c_syntax.specs.Types.{IsBase}
-use Rattle.c_syntax.proofs.Failing.{alike_same, first_keeps}
-use Rattle.c_syntax.proofs.Fronts.{kind_class, front, has_same, base_front, increment_class, unary_class}
-use Rattle.c_syntax.proofs.MovesStatements.{condition}
-use Rattle.c_syntax.proofs.Once.{rank_low, has_front}
-use Rattle.c_syntax.proofs.Spine.{spine, run_height}
-use Rattle.c_parse_type.specs.Bases.{NoBase}
-use Rattle.c_parse_stmt.specs.Begins.{over_first, first_over, Expressed, BeginsExpression, BeginsNoExpression}
-use Rattle.c_parse_stmt.specs.Filters.{AreOpening, AreClosing, Continued, ContinuesInside, NoneInside}
-use Rattle.c_parse_stmt.specs.Parts.{NoCondition, HasCondition}
+use Rattle.c_parse_stmt.proofs.Lemmas.{alike_same, first_keeps, kind_class, front, has_same, base_front, increment_class, unary_class, condition, rank_low, has_front, spine, run_height}
 use Rattle.c_parse_stmt.proofs.Begins.{punctuator, name, variable, base_at, untyped, punctuator_untyped}
 use Rattle.c_parse_stmt.proofs.Nesting.{opening_again, opening_split, closing, closing_is, enclosed}
 use Rattle.c_parse_stmt.proofs.Placing.{front_first}

@@ -1,17 +1,8 @@
 -- Refusals of one phrase are such of another, and what refuses a token.
 use Rattle.std.proofs.Common.{◌≡◌, ℕ, List, [], ◌∷◌, ◌++◌, refl, ap, arith}
-use Rattle.c_lex.specs.declared.punctuator.Punctuator.{Punctuator}
+use Rattle.c_parse_stmt.specs.Words.{Punctuator, Token, Family, Alike, SameFirst, place, Speaks, Able, Failed, Wraps, token, HasPunctuator, Number, order, ParseErr, Unexpected, TooDeep, TooMany, Memory, IsPlacedRefusal, NoPunctuator, APunctuator}
 use Rattle.c_lex.specs.declared.token.Kind.TheVariants as kinds
-use Rattle.c_lex.specs.declared.token.Token.{Token}
-use Rattle.c_syntax.specs.Faults.{Family, Alike, SameFirst, place, Speaks, Able, Failed, Wraps}
-use Rattle.c_syntax.specs.Tokens.{token, HasPunctuator}
-use Rattle.c_syntax.proofs.Failing.{first_keeps, wrapped}
-use Rattle.c_syntax.proofs.Fronts.{front}
-use Rattle.c_syntax.specs.Limits.{Number, order}
-use Rattle.c_parse_expr.specs.declared.refusal.ParseErr.{ParseErr}
-use Rattle.c_parse_expr.specs.declared.refusal.ParseErr.TheVariants.{Unexpected, TooDeep, TooMany, Memory}
-use Rattle.c_parse_expr.specs.Refusals.{IsPlacedRefusal}
-use Rattle.c_parse_stmt.specs.Parts.{NoPunctuator, APunctuator}
+use Rattle.c_parse_stmt.proofs.Lemmas.{first_keeps, wrapped, front}
 
 -- a refusal of a phrase in a greater one
 pub placed_so : (e : ParseErr) (No Has No' Has' : Family) (text : List ℕ) (ts ts' : List Token)

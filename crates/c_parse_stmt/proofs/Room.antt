@@ -1,19 +1,6 @@
 -- Where there is room for no statement.
 use Rattle.std.proofs.Common.{◌≡◌, ℕ, suc, List, [], ◌∷◌, ◌++◌, Some, None, IsFalse, refl, sym, subst, append_assoc, arith, inl, inr}
-use Rattle.c_lex.specs.declared.punctuator.Punctuator.{Punctuator}
-use Rattle.c_lex.specs.declared.token.Token.{Token}
-use Rattle.c_syntax.specs.Expressions.{Derives}
-use Rattle.c_syntax.specs.Faults.{Alike, SameFirst, place, Able, Onward, Failed}
-use Rattle.c_syntax.specs.Limits.{statements_over, over_block_item}
-use Rattle.c_syntax.specs.Operators.{comma}
-use Rattle.c_syntax.specs.Statement.{Statement, Declare}
-use Rattle.c_syntax.specs.Statements.{is_declaration, IsBlockItem}
-use Rattle.c_syntax.specs.Tokens.{HasPunctuator}
-use Rattle.c_parse_type.specs.Bases.{NoBase}
-use Rattle.c_parse_stmt.specs.declared.left.Left.{Left}
-use Rattle.c_parse_stmt.specs.Begins.{Expressed, BeginsExpression, BeginsNoExpression, Stated, BeginsStatement, BeginsNoStatement}
-use Rattle.c_parse_stmt.specs.Parts.{NoneUpTo, HasUpTo}
-use Rattle.c_parse_stmt.specs.Within.{NoBlockItem, HasBlockItem}
+use Rattle.c_parse_stmt.specs.Words.{Punctuator, Token, Derives, Alike, SameFirst, place, Able, Onward, Failed, statements_over, over_block_item, comma, Statement, Declare, is_declaration, IsBlockItem, HasPunctuator, NoBase, Left, Expressed, BeginsExpression, BeginsNoExpression, Stated, BeginsStatement, BeginsNoStatement, NoneUpTo, HasUpTo, NoBlockItem, HasBlockItem}
 use Rattle.c_parse_stmt.proofs.Begins.{base_first, punctuator}
 use Rattle.c_parse_stmt.proofs.Placing.{Lacks, lacks_first, missing}
 

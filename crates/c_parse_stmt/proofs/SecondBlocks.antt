@@ -2,20 +2,10 @@
 use Rattle.std.proofs.Common.{◌≤◌, ◌+◌, ◌++◌, ℕ, List, length-append, refl, arith}
 use Rattle.c_lex.specs.declared.keyword.Keyword.TheVariants as keywords
 use Rattle.c_lex.specs.declared.punctuator.Punctuator.TheVariants as punctuators
-use Rattle.c_lex.specs.declared.token.Token.{Token}
-use Rattle.c_syntax.specs.Expression.{expression}
-use Rattle.c_syntax.specs.Faults.{Wraps}
-use Rattle.c_syntax.specs.Limits.{accepts}
-use Rattle.c_syntax.specs.Statement.{TryExcept, TryFinally, Statements}
-use Rattle.c_syntax.specs.Statements.{AreBlockItems}
-use Rattle.c_syntax.proofs.Moves.{Moves, has_punctuator}
-use Rattle.c_syntax.proofs.MovesStatements.{condition, items, filter}
+use Rattle.c_parse_stmt.specs.Words.{Token, expression, Wraps, accepts, TryExcept, TryFinally, Statements, AreBlockItems, Left, IsClause, ClauseIsTaken, with_clause, IsTry, Guards, AllTaken, NoBlockItems, HasBlockItems, IsStatementWithin, NoStatement, HasStatement}
+use Rattle.c_parse_stmt.proofs.Lemmas.{Moves, has_punctuator, condition, items, filter}
 use Rattle.c_parse_stmt.specs.declared.endings.Clause.{Clause}
 use Rattle.c_parse_stmt.specs.declared.endings.Clause.TheVariants as clauses
-use Rattle.c_parse_stmt.specs.declared.left.Left.{Left}
-use Rattle.c_parse_stmt.specs.Endings.{IsClause, ClauseIsTaken, with_clause}
-use Rattle.c_parse_stmt.specs.Openings.{IsTry, Guards}
-use Rattle.c_parse_stmt.specs.Within.{AllTaken, NoBlockItems, HasBlockItems, IsStatementWithin, NoStatement, HasStatement}
 use Rattle.c_parse_stmt.proofs.Heading.{Key, Sig, Condition, key_moves}
 use Rattle.c_parse_stmt.proofs.Sequences.{Both, both_fixed, both_moves, moves_so, able_now, wraps}
 use Rattle.c_parse_stmt.proofs.Tries.{number_length, no_braced, no_handler, except_found, no_last, finally_found}

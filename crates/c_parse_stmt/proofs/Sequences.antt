@@ -2,19 +2,9 @@
 -- completes the second completes both.
 use Rattle.std.proofs.Common.{◌≡◌, ℕ, suc, List, [], ◌∷◌, ◌++◌, refl, sym, ap, ◌∙◌, subst}
 use Rattle.std.specs.Prelude.{Result, Ok, Err, IfOk, IfErr}
-use Rattle.c_lex.specs.declared.keyword.Keyword.{Keyword}
-use Rattle.c_lex.specs.declared.punctuator.Punctuator.{Punctuator}
-use Rattle.c_lex.specs.declared.token.Kind.{Kind}
+use Rattle.c_parse_stmt.specs.Words.{Keyword, Punctuator, Kind, Token, Family, Alike, SameFirst, place, Able, Onward, Failed, Wraps, token, IsKind, IsKeyword, HasPunctuator, Number, order, ParseErr, Unexpected, TooDeep, TooMany, Memory, IsPlacedRefusal}
 use Rattle.c_lex.specs.declared.token.Kind.TheVariants as kinds
-use Rattle.c_lex.specs.declared.token.Token.{Token}
-use Rattle.c_syntax.specs.Faults.{Family, Alike, SameFirst, place, Able, Onward, Failed, Wraps}
-use Rattle.c_syntax.specs.Tokens.{token, IsKind, IsKeyword, HasPunctuator}
-use Rattle.c_syntax.proofs.Failing.{append_append, append_nothing, alike_inner, first_after, wrapped}
-use Rattle.c_syntax.proofs.Moves.{Moves}
-use Rattle.c_syntax.specs.Limits.{Number, order}
-use Rattle.c_parse_expr.specs.declared.refusal.ParseErr.{ParseErr}
-use Rattle.c_parse_expr.specs.declared.refusal.ParseErr.TheVariants.{Unexpected, TooDeep, TooMany, Memory}
-use Rattle.c_parse_expr.specs.Refusals.{IsPlacedRefusal}
+use Rattle.c_parse_stmt.proofs.Lemmas.{append_append, append_nothing, alike_inner, first_after, wrapped, Moves}
 
 -- ---- refusals
 

@@ -3,19 +3,8 @@
 use Rattle.std.proofs.Common.{◌≡◌, ◌≤◌, ℕ, List, [], ◌∷◌, ◌++◌, Option, Some, None, refl, sym, ap, ◌∙◌, subst, append_assoc, arith, inl, inr}
 use Rattle.std.proofs.lemmas.List.{append_cancel_right}
 use Rattle.c_lex.specs.declared.punctuator.Punctuator.TheVariants as punctuators
-use Rattle.c_lex.specs.declared.token.Token.{Token}
-use Rattle.c_syntax.specs.declared.expression.Base.{Base}
-use Rattle.c_syntax.specs.Expression.{Expression}
-use Rattle.c_syntax.specs.Faults.{Alike, SameFirst, place, Able, Onward, Failed, Wraps}
-use Rattle.c_syntax.specs.Limits.{one_over, one_over_locals}
-use Rattle.c_syntax.specs.Statement.{Local, Declaring, Evaluating}
-use Rattle.c_syntax.specs.Statements.{AreLocals, IsDeclaration, IsForInitialiser}
-use Rattle.c_syntax.specs.Types.{IsBase}
-use Rattle.c_syntax.proofs.Declarations.{locals_type, optional_front}
-use Rattle.c_syntax.proofs.Fronts.{base_front}
-use Rattle.c_syntax.proofs.Moves.{Moves, base}
-use Rattle.c_parse_type.specs.Bases.{NoBase, EndsBase}
-use Rattle.c_parse_stmt.specs.Parts.{NoneUpTo, HasUpTo, NoLocals, HasLocals, NoDeclaration, HasDeclaration, NoForInitialiser, HasForInitialiser}
+use Rattle.c_parse_stmt.specs.Words.{Token, Base, Expression, Alike, SameFirst, place, Able, Onward, Failed, Wraps, one_over, one_over_locals, Local, Declaring, Evaluating, AreLocals, IsDeclaration, IsForInitialiser, IsBase, NoBase, EndsBase, NoneUpTo, HasUpTo, NoLocals, HasLocals, NoDeclaration, HasDeclaration, NoForInitialiser, HasForInitialiser}
+use Rattle.c_parse_stmt.proofs.Lemmas.{locals_type, optional_front, base_front, Moves, base}
 use Rattle.c_parse_stmt.proofs.Begins.{punctuator, name, base_first}
 use Rattle.c_parse_stmt.proofs.Declarators.{plain}
 use Rattle.c_parse_stmt.proofs.Ends.{flat}

@@ -1,20 +1,11 @@
 -- Statements by the tokens that begin them.
 use Rattle.std.proofs.Common.{◌≡◌, ◌≤◌, ℕ, List, [], ◌∷◌, ◌++◌, ◌⊎◌, Some, None, refl, sym, ap, ◌∙◌, subst, append_assoc, arith, inl, inr}
-use Rattle.c_lex.specs.declared.keyword.Keyword.{Keyword}
+use Rattle.c_parse_stmt.specs.Words.{Keyword, Punctuator, Kind, Token, Derives, comma, Block, Evaluate, If, While, DoWhile, For, Return, Break, Continue, Leave, TryFinally, Evaluating, Empty, IsCondition, IsBlockItem, token, Expressed, BeginsExpression, Stated, BeginsStatement}
 use Rattle.c_lex.specs.declared.keyword.Keyword.TheVariants as keywords
-use Rattle.c_lex.specs.declared.punctuator.Punctuator.{Punctuator}
 use Rattle.c_lex.specs.declared.punctuator.Punctuator.TheVariants as punctuators
-use Rattle.c_lex.specs.declared.token.Kind.{Kind}
 use Rattle.c_lex.specs.declared.token.Kind.TheVariants as kinds
-use Rattle.c_lex.specs.declared.token.Token.{Token}
-use Rattle.c_syntax.specs.Expressions.{Derives}
-use Rattle.c_syntax.specs.Operators.{comma}
-use Rattle.c_syntax.specs.Statement.{Block, Evaluate, If, While, DoWhile, For, Return, Break, Continue, Leave, TryFinally, Evaluating, Empty}
-use Rattle.c_syntax.specs.Statements.{IsCondition, IsBlockItem}
-use Rattle.c_syntax.specs.Tokens.{token}
-use Rattle.c_syntax.proofs.Blocks.{keyword_begins, punctuator_begins, kind_begins, begins}
+use Rattle.c_parse_stmt.proofs.Lemmas.{keyword_begins, punctuator_begins, kind_begins, begins}
 use Rattle.c_parse_type.specs.Fronts.{first}
-use Rattle.c_parse_stmt.specs.Begins.{Expressed, BeginsExpression, Stated, BeginsStatement}
 use Rattle.c_parse_stmt.proofs.Begins.{punctuator, keyword, name, variable, front_is}
 
 -- ---- statements in full

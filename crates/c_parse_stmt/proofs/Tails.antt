@@ -3,13 +3,9 @@ use Rattle.std.proofs.Common.{◌≡◌, ℕ, List, Option, IsFalse, refl, sym, 
 use Rattle.std.specs.Prelude.{◌⊎◌}
 use Rattle.c_lex.specs.declared.keyword.Keyword.TheVariants as keywords
 use Rattle.c_lex.specs.declared.punctuator.Punctuator.TheVariants as punctuators
-use Rattle.c_lex.specs.declared.token.Token.{Token}
-use Rattle.c_syntax.specs.Expression.{Expression}
-use Rattle.c_syntax.specs.Statement.{ForInitialiser, Statement, Block, If, IfElse, While, DoWhile, For, Return, Break, Continue, Leave, TryExcept, TryFinally, Statements}
-use Rattle.c_syntax.specs.Statements.{IsUpTo, IsCondition, IsForInitialiser, dangles, IsStatement, IsBlock, IsBlockItem, AreBlockItems}
-use Rattle.c_syntax.specs.Tokens.{Phrase, IsKeyword, HasPunctuator, HasKeyword}
-use Rattle.c_syntax.proofs.Fronts.{has_same}
-use Rattle.c_syntax.proofs.Blocks.{begins, item_begins, place, word}
+use Rattle.c_parse_stmt.specs.Words.{Token, Expression, ForInitialiser, Statement, Block, If, IfElse, While, DoWhile, For, Return, Break, Continue, Leave, TryExcept, TryFinally, Statements, IsUpTo, IsCondition, IsForInitialiser, dangles, IsStatement, IsBlock, IsBlockItem, AreBlockItems, Phrase, IsKeyword, HasPunctuator, HasKeyword}
+use Rattle.c_parse_stmt.proofs.Lemmas.{has_same, begins, item_begins, word}
+use Rattle.c_syntax.proofs.Blocks.{place}
 
 -- a block, with both braces
 abbrev pub IsBraced : List ℕ → Statements → Phrase

@@ -4,18 +4,10 @@ use Rattle.std.proofs.Common.{◌≡◌, ◌≤◌, ◌+◌, ℕ, Bool, true, fa
 use Rattle.std.specs.Prelude.{◌⊎◌}
 use Rattle.c_lex.specs.declared.keyword.Keyword.TheVariants as keywords
 use Rattle.c_lex.specs.declared.punctuator.Punctuator.TheVariants as punctuators
-use Rattle.c_lex.specs.declared.token.Token.{Token}
-use Rattle.c_syntax.specs.Expression.{Expression, height}
-use Rattle.c_syntax.specs.Limits.{locals, locals_of_all, accepts, funclets_of_all}
-use Rattle.c_syntax.specs.Statement.{Statement, TryExcept, TryFinally, Statements}
-use Rattle.c_syntax.specs.Statements.{IsCondition, AreBlockItems}
-use Rattle.c_syntax.specs.Tokens.{IsKeyword, HasPunctuator, HasKeyword}
-use Rattle.c_syntax.proofs.Fronts.{keyword_same, has_same}
+use Rattle.c_parse_stmt.specs.Words.{Token, Expression, height, locals, locals_of_all, accepts, funclets_of_all, Statement, TryExcept, TryFinally, Statements, IsCondition, AreBlockItems, IsKeyword, HasPunctuator, HasKeyword, Left, numbers_of, NoFilter, AllWithin, AllTaken, NoBlockItems, IsStatementWithin, NoStatement, AfterKeyword}
+use Rattle.c_parse_stmt.proofs.Lemmas.{keyword_same, has_same, same_items}
 use Rattle.c_syntax.proofs.Declarations.{condition}
-use Rattle.c_syntax.proofs.Blocks.{place, same_items}
-use Rattle.c_parse_stmt.specs.declared.left.Left.{Left}
-use Rattle.c_parse_stmt.specs.Filters.{numbers_of, NoFilter}
-use Rattle.c_parse_stmt.specs.Within.{AllWithin, AllTaken, NoBlockItems, IsStatementWithin, NoStatement, AfterKeyword}
+use Rattle.c_syntax.proofs.Blocks.{place}
 use Rattle.c_parse_stmt.proofs.Tails.{IsBraced, AfterExcept, AfterFinally, after_try}
 use Rattle.c_parse_stmt.proofs.Wholes.{fits}
 

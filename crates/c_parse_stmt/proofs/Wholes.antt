@@ -2,24 +2,11 @@
 -- missing.
 use Rattle.std.proofs.Common.{◌≡◌, ◌≤◌, ◌<◌, ◌+◌, ℕ, Bool, true, false, IsTrue, IsFalse, List, length, length-append, Option, refl, sym, ap, subst, arith, inl, inr}
 use Rattle.std.specs.Prelude.{◌⊎◌}
-use Rattle.c_lex.specs.declared.keyword.Keyword.{Keyword}
+use Rattle.c_parse_stmt.specs.Words.{Keyword, Punctuator, Token, Expression, height, punctuator_follows, NoElse, Closed, statements_over, locals, numbered, comma, Statement, Declare, Block, Evaluate, If, IfElse, While, DoWhile, For, Return, Break, Continue, Leave, TryExcept, TryFinally, IsUpTo, IsCondition, dangles, IsBlockItem, IsKeyword, HasPunctuator, HasKeyword, Left, NoCondition, NoneUpTo, NoBlockItems, Within, IsStatementWithin, NoStatement, NoEvaluation, AfterKeyword}
 use Rattle.c_lex.specs.declared.keyword.Keyword.TheVariants as keywords
-use Rattle.c_lex.specs.declared.punctuator.Punctuator.{Punctuator}
 use Rattle.c_lex.specs.declared.punctuator.Punctuator.TheVariants as punctuators
-use Rattle.c_lex.specs.declared.token.Token.{Token}
-use Rattle.c_syntax.specs.Expression.{Expression, height}
-use Rattle.c_syntax.specs.Follow.{punctuator_follows, NoElse, Closed}
-use Rattle.c_syntax.specs.Limits.{statements_over, locals, numbered}
-use Rattle.c_syntax.specs.Operators.{comma}
-use Rattle.c_syntax.specs.Statement.{Statement, Declare, Block, Evaluate, If, IfElse, While, DoWhile, For, Return, Break, Continue, Leave, TryExcept, TryFinally}
-use Rattle.c_syntax.specs.Statements.{IsUpTo, IsCondition, dangles, IsBlockItem}
-use Rattle.c_syntax.specs.Tokens.{IsKeyword, HasPunctuator, HasKeyword}
-use Rattle.c_syntax.proofs.Fronts.{punctuator_class}
-use Rattle.c_syntax.proofs.Declarations.{condition, optional}
-use Rattle.c_syntax.proofs.Blocks.{word, absent, one_statement}
-use Rattle.c_parse_stmt.specs.declared.left.Left.{Left}
-use Rattle.c_parse_stmt.specs.Parts.{NoCondition, NoneUpTo}
-use Rattle.c_parse_stmt.specs.Within.{NoBlockItems, Within, IsStatementWithin, NoStatement, NoEvaluation, AfterKeyword}
+use Rattle.c_parse_stmt.proofs.Lemmas.{punctuator_class, optional, word, absent, one_statement}
+use Rattle.c_syntax.proofs.Declarations.{condition}
 use Rattle.c_parse_stmt.proofs.Tails.{AfterIf, AfterIfElse, after_if, after_return, after_break, after_continue, after_leave, after_brace}
 
 abbrev pub Fits : ℕ → List ℕ → ℕ → Left → Statement → Type 0

@@ -5,3 +5,4 @@ pub mod Openings
 pub mod Endings
 pub mod Begins
 pub mod Refused
+pub mod Words

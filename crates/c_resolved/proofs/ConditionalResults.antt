@@ -3,10 +3,7 @@ use Rattle.std.proofs.Common.{◌≡◌, refl, ap, sym, ◌∙◌}
 use Rattle.std.proofs.lemmas.Bool.{eqb-true}
 use Rattle.std.specs.Prelude.{Bool, true, false, not, ◌&&◌, ◌||◌, nat_eq, nat_lt, if◌then◌else◌, Option, Some, None}
 use Rattle.c_checked.specs.Expression as nodes
-use Rattle.c_checked.specs.Sound.{TypingContext, same_sizes, expression_size}
-use Rattle.c_syntax.specs.declared.expression.CType.{CType}
-use Rattle.c_resolved.specs.Types.{is_pointer, is_void, is_integer, is_scalar, is_void_pointer, same_base, same_type, size_of, common}
-use Rattle.c_resolved.specs.Operators.{TypedNode, typed, void_pointer, as_is, as_type, branch_type, as_branch, chosen, conditional_of, comma_of}
+use Rattle.c_resolved.specs.Words.{TypingContext, same_sizes, expression_size, CType, is_pointer, is_void, is_integer, is_scalar, is_void_pointer, same_base, same_type, size_of, common, TypedNode, typed, void_pointer, as_is, as_type, branch_type, as_branch, chosen, conditional_of, comma_of}
 use Rattle.c_resolved.proofs.Conversions.{and_left, and_right}
 use Rattle.c_resolved.proofs.TypeFacts.{void_size, void_not_scalar, pointer_scalar, integer_scalar, common_scalar}
 use Rattle.c_resolved.proofs.Operands.{IsGood, GoodIf, HasSize, and_true, if_good, typed_good, as_is_has, as_type_has, as_is_sound, has_number, alike_sizes}

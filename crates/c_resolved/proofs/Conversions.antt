@@ -2,16 +2,7 @@
 use Rattle.std.proofs.Common.{◌≡◌, ℕ, refl, ap, ◌∙◌}
 use Rattle.std.proofs.lemmas.Bool.{eqb-true}
 use Rattle.std.specs.Prelude.{Bool, true, false, ◌&&◌, nat_eq, nat_lt, if◌then◌else◌, Some}
-use Rattle.seh_num.specs.declared.width.Width.{Width}
-use Rattle.seh_num.specs.declared.width.Width.TheVariants.{W8, W16, W32, W64}
-use Rattle.c_operations.specs.declared.operation.Signedness.{Signedness}
-use Rattle.c_checked.specs.declared.expression.Conversion.{Conversion}
-use Rattle.c_checked.specs.declared.expression.Conversion.TheVariants.{Kept, Scale}
-use Rattle.c_checked.specs.Sound.{can_convert, size_after}
-use Rattle.c_syntax.specs.declared.expression.Base.{Base}
-use Rattle.c_syntax.specs.declared.expression.Base.TheVariants.{Void, Char, UnsignedChar, Short, UnsignedShort, Int, Unsigned, LongLong, UnsignedLongLong}
-use Rattle.c_syntax.specs.declared.expression.CType.{CType}
-use Rattle.c_resolved.specs.Types.{base_width, width_of, sort_of, same_base, same_type, size_of_width, to_width, conversion, index_width, scaled}
+use Rattle.c_resolved.specs.Words.{Width, W8, W16, W32, W64, Signedness, Conversion, Kept, Scale, can_convert, size_after, Base, Void, Char, UnsignedChar, Short, UnsignedShort, Int, Unsigned, LongLong, UnsignedLongLong, CType, base_width, width_of, sort_of, same_base, same_type, size_of_width, to_width, conversion, index_width, scaled}
 
 -- it can be resolve_statement of a number of the one width's size, and gives a number of the
 -- other's

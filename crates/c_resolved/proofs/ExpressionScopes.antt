@@ -2,21 +2,11 @@
 use Rattle.std.proofs.Common.{◌≡◌, ℕ, refl, sym, subst}
 use Rattle.std.specs.Prelude.{Bool, true, false, nat_le, nat_eq, if◌then◌else◌, List, [], ◌∷◌, length, map, Option, Some, None}
 use Rattle.c_checked.specs.Expression as nodes
-use Rattle.c_checked.specs.Expression.{Node}
-use Rattle.c_syntax.specs.declared.expression.CType.{CType}
-use Rattle.c_syntax.specs.declared.expression.Field.{Field}
+use Rattle.c_resolved.specs.Words.{Node, CType, Field, Literal, Arithmetic, Expression, start, Fault, TypeClash, TypedNode, compound_assigned, assigned, comma_of, Entity, LocalVariable, GlobalVariable, GlobalArray, UserFunction, BuiltInFunction, CodeFunction, AbnormalFunction, BuiltInConstant, Names, FaultAt, ResolvedExpression, ruled, rule_1, rule_2, rule_3, given_that, literal, name, field, Wanted, built_in_wants, fits, passed, Argument, Passed, before, spoiled, pass, pass_all, called, call_with, call, changed, resolve_expression, resolve_arguments, OfType, ZeroLiteral, SeenNames, expression_within, node_within, arguments_within}
 use Rattle.c_syntax.specs.declared.expression.Field.TheVariants as record_fields
-use Rattle.c_syntax.specs.declared.expression.Literal.{Literal}
 use Rattle.c_syntax.specs.declared.expression.Literal.TheVariants as literals
-use Rattle.c_syntax.specs.declared.operator.Arithmetic.{Arithmetic}
 use Rattle.c_syntax.specs.Expression as trees
-use Rattle.c_syntax.specs.Expression.{Expression, start}
-use Rattle.c_resolved.specs.declared.fault.Fault.{Fault}
-use Rattle.c_resolved.specs.declared.fault.Fault.TheVariants.{TypeClash}
-use Rattle.c_resolved.specs.Operators.{TypedNode, compound_assigned, assigned, comma_of}
-use Rattle.c_resolved.specs.Expressions.{Entity, LocalVariable, GlobalVariable, GlobalArray, UserFunction, BuiltInFunction, CodeFunction, AbnormalFunction, BuiltInConstant, Names, FaultAt, ResolvedExpression, ruled, rule_1, rule_2, rule_3, given_that, literal, name, field, Wanted, built_in_wants, fits, passed, Argument, Passed, before, spoiled, pass, pass_all, called, call_with, call, changed, resolve_expression, resolve_arguments, OfType, ZeroLiteral}
 use Rattle.c_resolved.proofs.Operands.{and_true}
-use Rattle.c_checked.specs.LocalScopes.{SeenNames, expression_within, node_within, arguments_within}
 use Rattle.c_resolved.proofs.OperatorScopes.{IsWithin, WithinIf, binary_within, element_within, assigned_within, compound_within, comma_within, incremented_within, unary_within, cast_within, conditional_within}
 use Rattle.c_resolved.proofs.NameScopes.{MeaningSeen, NamesSeen}
 

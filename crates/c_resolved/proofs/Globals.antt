@@ -4,22 +4,8 @@ use Rattle.std.proofs.Common.{◌≡◌, ◌≤◌, ℕ, ◌+◌, ◌-◌, ◌*�
 use Rattle.std.proofs.lemmas.Bool.{lt-ltb}
 use Rattle.std.proofs.lemmas.List.{length-append, length-replicate, length-take-le}
 use Rattle.std.specs.Prelude.{zero, suc, true, not, nat_lt, if◌then◌else◌, List, [], ◌∷◌, ◌++◌, length, replicate, Option, Some, None}
-use Rattle.seh_num.specs.declared.width.Width.TheVariants.{W64}
-use Rattle.seh_num.specs.Widths.{bytes_of}
-use Rattle.c_operations.specs.declared.operation.Size.{Size}
+use Rattle.c_resolved.specs.Words.{W64, bytes_of, Size, Length, Base, Void, Char, UnsignedChar, Short, UnsignedShort, Int, Unsigned, LongLong, UnsignedLongLong, CType, size_of_base, size, elements, aligned, end_of_globals, bytes_from, Initialiser, Single, Several, Global, ExternalDeclaration, Globals, Function, Duplicate, TypeClash, is_scalar, base_width, bytes_in, UserFunction, spelled, unless_holds, is_taken, first_data, constant_value, bytes_of_number, bytes_of_all, filled, initial_value, length_faults, global_entity, File, padded, with_global, with_globals, parameter_types, with_external_declaration, file_of}
 use Rattle.c_checked.specs.Program as checked_program
-use Rattle.c_syntax.specs.declared.declaration.Length.{Length}
-use Rattle.c_syntax.specs.declared.expression.Base.{Base}
-use Rattle.c_syntax.specs.declared.expression.Base.TheVariants.{Void, Char, UnsignedChar, Short, UnsignedShort, Int, Unsigned, LongLong, UnsignedLongLong}
-use Rattle.c_syntax.specs.declared.expression.CType.{CType}
-use Rattle.c_syntax.specs.Limits.{size_of_base, size, elements, aligned, end_of_globals, bytes_from}
-use Rattle.c_syntax.specs.Program.{Initialiser, Single, Several, Global, ExternalDeclaration, Globals, Function}
-use Rattle.c_resolved.specs.declared.fault.Fault.TheVariants.{Duplicate, TypeClash}
-use Rattle.c_resolved.specs.Types.{is_scalar, base_width, bytes_in}
-use Rattle.c_resolved.specs.Expressions.{UserFunction}
-use Rattle.c_resolved.specs.Scopes.{spelled}
-use Rattle.c_resolved.specs.Statements.{unless_holds, is_taken}
-use Rattle.c_resolved.specs.Program.{first_data, constant_value, bytes_of_number, bytes_of_all, filled, initial_value, length_faults, global_entity, File, padded, with_global, with_globals, parameter_types, with_external_declaration, file_of}
 use Rattle.c_resolved.proofs.ResolvedExpressions.{EntityFits, FunctionFits}
 use Rattle.c_resolved.proofs.SoundDeclarations.{none_in_both, holds, ScopeFits, with_name_fits}
 

@@ -2,9 +2,7 @@
 use Rattle.std.proofs.Common.{◌≡◌, ◌<◌, ◌≤◌, ◌⊎◌, inl, inr, ℕ, refl, sym, subst, ◌∙◌, arith}
 use Rattle.std.proofs.lemmas.Bool.{ltb-true, ltb-false, eqb-true, eqb-false, and_parts, and_cases, or_cases, or_parts, cases_order}
 use Rattle.std.specs.Prelude.{zero, suc, Bool, true, false, ◌&&◌, nat_eq, nat_lt, if◌then◌else◌, List, [], ◌∷◌, slice_get, Option, Some, None, MatchOption}
-use Rattle.c_resolved.specs.Accepted.{rank, is_earlier, earlier, least}
-use Rattle.c_resolved.specs.Expressions.{FaultAt}
-use Rattle.c_resolved.specs.ResolutionLaws.{IsNoLater, IsLeast, LeastIsReported}
+use Rattle.c_resolved.specs.Words.{rank, is_earlier, earlier, least, FaultAt, IsNoLater, IsLeast, LeastIsReported}
 
 itself : (f : FaultAt) → IsNoLater f f
 itself f = inr (refl, omega arith)

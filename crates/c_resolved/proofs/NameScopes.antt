@@ -2,17 +2,7 @@
 use Rattle.std.proofs.Common.{◌≡◌, ℕ, ◌+◌, ◌≤◌, arith}
 use Rattle.std.proofs.lemmas.Bool.{lt-ltb}
 use Rattle.std.specs.Prelude.{Bool, true, false, if◌then◌else◌, List, [], ◌∷◌, ◌++◌, length, Option, Some, None}
-use Rattle.c_syntax.specs.declared.declaration.Length.{Length}
-use Rattle.c_syntax.specs.declared.declaration.Parameter.{Parameter}
-use Rattle.c_syntax.specs.declared.expression.Base.{Base}
-use Rattle.c_syntax.specs.declared.expression.CType.{CType}
-use Rattle.c_syntax.specs.declared.expression.Identifier.{Identifier}
-use Rattle.c_syntax.specs.Program.{Global, ExternalDeclaration, Globals, Function}
-use Rattle.c_resolved.specs.Expressions.{Entity, LocalVariable, Names}
-use Rattle.c_resolved.specs.Program.{global_entity, File, with_global, with_globals, with_external_declaration, file_of, empty_file, with_parameters}
-use Rattle.c_resolved.specs.Scopes.{Scope, same_bytes, spelled, meaning_in, built_ins}
-use Rattle.c_resolved.specs.Statements.{Environment, is_taken, with_name, names_at, filter_names}
-use Rattle.c_checked.specs.LocalScopes.{SeenNames, IsPart, first_seen}
+use Rattle.c_resolved.specs.Words.{Length, Parameter, Base, CType, Identifier, Global, ExternalDeclaration, Globals, Function, Entity, LocalVariable, Names, global_entity, File, with_global, with_globals, with_external_declaration, file_of, empty_file, with_parameters, Scope, same_bytes, spelled, meaning_in, built_ins, Environment, is_taken, with_name, names_at, filter_names, SeenNames, IsPart, first_seen}
 
 -- ---- what names mean
 

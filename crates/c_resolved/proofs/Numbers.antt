@@ -4,20 +4,12 @@ use Rattle.std.proofs.lemmas.Bool.{eq-eqb, and_parts, and_from, both_ways}
 use Rattle.std.proofs.lemmas.Slice.Eq.{bytes_eq-Decides}
 use Rattle.std.proofs.lemmas.List.{append-nil, append_assoc, length-append}
 use Rattle.std.specs.Prelude.{suc, Bool, true, false, ◌&&◌, cond, nat_eq, if◌then◌else◌, List, [], ◌∷◌, ◌++◌, length, slice_get, Some, codes}
-use Rattle.c_operations.specs.declared.operation.Size.{Size}
+use Rattle.c_resolved.specs.Words.{Size, filter_funclet, funclets_in, funclets, count_up, Base, Expression, accepts, numbered, funclets_of_all, locals_of_for_initialiser, Statement, Statements, Local, ForInitialiser, Declaring, Evaluating, Scope, built_ins, spelled, meaning_in, size_of, Environment, Numbering, ResolvedStatements, Near, Beyond, past_finally, inside, is_accepting, always, only, declare, declare_all, ResolvedFilter, resolve_filter, with_number, resolve_for_initialiser, resolve_statement, resolve_statements}
 use Rattle.c_checked.specs.Statement as checked
-use Rattle.c_checked.specs.Sound.{filter_funclet, funclets_in, funclets, count_up}
-use Rattle.c_syntax.specs.declared.expression.Base.{Base}
 use Rattle.c_syntax.specs.declared.expression.Literal.TheVariants as literals
 use Rattle.c_syntax.specs.Expression as trees
-use Rattle.c_syntax.specs.Expression.{Expression}
 use Rattle.c_syntax.specs.Limits as limits
-use Rattle.c_syntax.specs.Limits.{accepts, numbered, funclets_of_all, locals_of_for_initialiser}
 use Rattle.c_syntax.specs.Statement as statements
-use Rattle.c_syntax.specs.Statement.{Statement, Statements, Local, ForInitialiser, Declaring, Evaluating}
-use Rattle.c_resolved.specs.Scopes.{Scope, built_ins, spelled, meaning_in}
-use Rattle.c_resolved.specs.Types.{size_of}
-use Rattle.c_resolved.specs.Statements.{Environment, Numbering, ResolvedStatements, Near, Beyond, past_finally, inside, is_accepting, always, only, declare, declare_all, ResolvedFilter, resolve_filter, with_number, resolve_for_initialiser, resolve_statement, resolve_statements}
 
 -- ---- fronts of lists
 

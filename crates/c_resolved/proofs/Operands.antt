@@ -1,18 +1,10 @@
 -- Operands that are sound, as their operators take them.
 use Rattle.std.proofs.Common.{◌≡◌, refl, ap, sym, ◌∙◌}
 use Rattle.std.specs.Prelude.{Bool, true, false, ◌&&◌, if◌then◌else◌, Option, Some, None}
-use Rattle.c_operations.specs.declared.operation.Operation.{Operation}
-use Rattle.c_operations.specs.declared.operation.Size.{Size}
+use Rattle.c_resolved.specs.Words.{Operation, Size, Conversion, Kept, On, Node, Lvalue, TypingContext, same_size, is_size, is_number, same_sizes, can_convert, size_after, takes, node_size, node_sound, lvalue_size, lvalue_sound, expression_size, expression_sound, CType, is_pointer, is_scalar, size_of, bytes_in, pointed, conversion, scaled, TypedNode, typed, only_if, as_is, as_type, as_index, lvalue_of, with_lvalue, result_size}
 use Rattle.c_operations.specs.declared.operation.Size.TheVariants as sizes
-use Rattle.c_checked.specs.declared.expression.Conversion.{Conversion}
-use Rattle.c_checked.specs.declared.expression.Conversion.TheVariants.{Kept}
 use Rattle.c_checked.specs.Expression as nodes
-use Rattle.c_checked.specs.Expression.{Expression, On, Node, Lvalue}
-use Rattle.c_checked.specs.Sound.{TypingContext, same_size, is_size, is_number, same_sizes, can_convert, size_after, takes, node_size, node_sound, lvalue_size, lvalue_sound, expression_size, expression_sound}
-use Rattle.c_syntax.specs.declared.expression.CType.{CType}
-use Rattle.c_resolved.specs.Types.{is_pointer, is_scalar, size_of, bytes_in, pointed, conversion, scaled}
-use Rattle.c_resolved.specs.Operators.{TypedNode, typed, only_if, as_is, as_type, as_index, lvalue_of, with_lvalue}
-use Rattle.c_resolved.specs.Program.{result_size}
+use Rattle.c_checked.specs.Expression.{Expression}
 use Rattle.c_resolved.proofs.Conversions.{conversion_makes, scaled_makes}
 use Rattle.c_resolved.proofs.TypeFacts.{scalar_size, pointer_size, pointer_scalar}
 

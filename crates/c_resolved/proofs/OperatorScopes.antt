@@ -2,21 +2,12 @@
 use Rattle.std.proofs.Common.{◌≡◌}
 use Rattle.std.specs.Prelude.{Bool, true, false, ◌&&◌, ◌||◌, if◌then◌else◌, Option, Some, None}
 use Rattle.c_checked.specs.Expression as nodes
-use Rattle.c_checked.specs.Expression.{Expression, Node, Lvalue}
-use Rattle.c_checked.specs.declared.expression.Fixity.{Fixity}
-use Rattle.c_syntax.specs.declared.expression.CType.{CType}
-use Rattle.c_syntax.specs.declared.operator.Arithmetic.{Arithmetic}
+use Rattle.c_resolved.specs.Words.{Node, Lvalue, Fixity, CType, Arithmetic, Comparison, BinaryOperator, UnaryOperator, Increment, TypedNode, only_if, as_is, as_type, can_become, is_additive, right_operand, on_integers, sum, difference, arithmetic_of, comparison_of, binary_of, lvalue_of, with_lvalue, address, unary_of, cast_of, element_of, assigned, compound_assigned, incremented, branch_type, as_branch, chosen, conditional_of, comma_of, is_shift, working_type, is_pointer, is_integer, is_void, is_sized_pointer, is_scalar, SeenNames, expression_within, lvalue_within, node_within}
+use Rattle.c_checked.specs.Expression.{Expression}
 use Rattle.c_syntax.specs.declared.operator.Arithmetic.TheVariants as arithmetic
-use Rattle.c_syntax.specs.declared.operator.Comparison.{Comparison}
-use Rattle.c_syntax.specs.declared.operator.BinaryOperator.{BinaryOperator}
 use Rattle.c_syntax.specs.declared.operator.BinaryOperator.TheVariants as binary
-use Rattle.c_syntax.specs.declared.operator.UnaryOperator.{UnaryOperator}
 use Rattle.c_syntax.specs.declared.operator.UnaryOperator.TheVariants as unary
-use Rattle.c_syntax.specs.declared.operator.Increment.{Increment}
-use Rattle.c_resolved.specs.Operators.{TypedNode, only_if, as_is, as_type, can_become, is_additive, right_operand, on_integers, sum, difference, arithmetic_of, comparison_of, binary_of, lvalue_of, with_lvalue, address, unary_of, cast_of, element_of, assigned, compound_assigned, incremented, branch_type, as_branch, chosen, conditional_of, comma_of, is_shift, working_type}
-use Rattle.c_resolved.specs.Types.{is_pointer, is_integer, is_void, is_sized_pointer, is_scalar}
 use Rattle.c_resolved.proofs.Operands.{and_true}
-use Rattle.c_checked.specs.LocalScopes.{SeenNames, expression_within, lvalue_within, node_within}
 
 abbrev pub IsWithin : SeenNames → TypedNode → Type 0
 IsWithin seen t = node_within seen t.node ≡ true

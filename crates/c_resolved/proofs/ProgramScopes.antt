@@ -3,17 +3,8 @@ use Rattle.std.proofs.Common.{◌≡◌, ℕ, refl, arith}
 use Rattle.std.proofs.lemmas.List.{length-map}
 use Rattle.std.specs.Prelude.{true, List, [], ◌∷◌, length, map}
 use Rattle.c_checked.specs.Statement as checked
-use Rattle.c_operations.specs.declared.operation.Size.{Size}
-use Rattle.c_syntax.specs.declared.declaration.Parameter.{Parameter}
-use Rattle.c_syntax.specs.declared.expression.CType.{CType}
-use Rattle.c_syntax.specs.Program.{ExternalDeclaration, Globals, Function}
-use Rattle.c_syntax.specs.Statement.{Statements}
-use Rattle.c_resolved.specs.Types.{size_of}
-use Rattle.c_resolved.specs.Program.{file_of, empty_file, with_parameters, around, function_of, functions_of}
-use Rattle.c_resolved.specs.Scopes.{Scope}
-use Rattle.c_resolved.specs.Statements.{Numbering, resolve_statements}
+use Rattle.c_resolved.specs.Words.{Size, Parameter, CType, ExternalDeclaration, Globals, Function, Statements, size_of, file_of, empty_file, with_parameters, around, function_of, functions_of, Scope, Numbering, resolve_statements, SeenNames, first_seen, statements_within, functions_within}
 use Rattle.c_resolved.proofs.Operands.{and_true}
-use Rattle.c_checked.specs.LocalScopes.{SeenNames, first_seen, statements_within, functions_within}
 use Rattle.c_resolved.specs.ScopeLaws.{ResolvedIsScoped}
 use Rattle.c_resolved.proofs.NameScopes.{ScopeSeen, file_seen, parameters_seen}
 use Rattle.c_resolved.proofs.StatementScopes.{all_resolve_within}

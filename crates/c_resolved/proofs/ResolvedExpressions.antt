@@ -3,42 +3,22 @@ use Rattle.std.proofs.Common.{◌≡◌, ℕ, ◌%◌, ◌^◌, refl, ap, sym, s
 use Rattle.std.proofs.lemmas.Bool.{eqb-true, lt-ltb}
 use Rattle.std.proofs.lemmas.Option.{slice_get_within}
 use Rattle.std.specs.Prelude.{Bool, true, false, ◌&&◌, nat_eq, nat_lt, nat_le, if◌then◌else◌, List, [], ◌∷◌, ◌++◌, length, map, slice_get, Option, Some, None}
-use Rattle.seh_num.specs.declared.width.Width.TheVariants.{W32}
-use Rattle.seh_num.specs.Widths.{low, wrapped}
+use Rattle.c_resolved.specs.Words.{W32, low, wrapped, Size, Fixity, Arguments, Done, Next, TypingContext, are_sizes, constant_fits, argument_sizes, arguments_sound, call_fits, UnsignedLongLong, CType, Field, Identifier, Literal, Arithmetic, Increment, UnaryOperator, Expression, start, Fault, NotLvalue, TypeClash, ArgCount, CodeOutsideFilter, InfoOutsideFilter, AbnormalOutsideFinally, plain, pointer_to, pointed, is_integer, is_scalar, is_sized_pointer, access_of, width_of, size_of, TypedNode, typed, only_if, int, as_is, as_index, unary_of, binary_of, cast_of, element_of, assigned, compound_assigned, incremented, conditional_of, comma_of, lvalue_of, Entity, LocalVariable, GlobalVariable, GlobalArray, UserFunction, BuiltInFunction, CodeFunction, AbnormalFunction, BuiltInConstant, Names, FaultAt, fault_at, ResolvedExpression, ruled, rule_1, rule_2, rule_3, given_that, integer_base, constant, literal, name, is_lvalue, is_global, is_addressable, operand_is_lvalue, unsigned, field, Wanted, OfType, ZeroLiteral, built_in_wants, built_in_result, fits, passed, Argument, Passed, before, spoiled, pass, pass_all, faults_of, called, call_with, only_where, call, changed, resolve_expression, resolve_arguments, result_size}
 use Rattle.c_operations.specs.Numbers.{width}
-use Rattle.c_operations.specs.declared.operation.Size.{Size}
 use Rattle.c_operations.specs.declared.operation.Size.TheVariants as sizes
 use Rattle.c_operations.specs.declared.field.Field.TheVariants as fields
 use Rattle.c_operations.specs.declared.built_in.BuiltIn.{BuiltIn}
 use Rattle.c_operations.specs.declared.built_in.BuiltIn.TheVariants.{Put, Protect, RaiseException}
-use Rattle.c_checked.specs.declared.expression.Fixity.{Fixity}
 use Rattle.c_checked.specs.declared.expression.Fixity.TheVariants.{Postfix, Prefix}
 use Rattle.c_checked.specs.Expression as nodes
-use Rattle.c_checked.specs.Expression.{Arguments, Done, Next}
 use Rattle.c_checked.specs.Program.{Function}
-use Rattle.c_checked.specs.Sound.{TypingContext, are_sizes, constant_fits, argument_sizes, arguments_sound, call_fits}
 use Rattle.c_checked.specs.Sound as sound
 use Rattle.c_lex.specs.declared.token.IntegerType.{IntegerType}
 use Rattle.c_lex.specs.declared.token.IntegerType.TheVariants as integers
-use Rattle.c_syntax.specs.declared.expression.Base.TheVariants.{UnsignedLongLong}
-use Rattle.c_syntax.specs.declared.expression.CType.{CType}
-use Rattle.c_syntax.specs.declared.expression.Field.{Field}
 use Rattle.c_syntax.specs.declared.expression.Field.TheVariants as record_fields
-use Rattle.c_syntax.specs.declared.expression.Identifier.{Identifier}
-use Rattle.c_syntax.specs.declared.expression.Literal.{Literal}
 use Rattle.c_syntax.specs.declared.expression.Literal.TheVariants as literals
-use Rattle.c_syntax.specs.declared.operator.Arithmetic.{Arithmetic}
-use Rattle.c_syntax.specs.declared.operator.Increment.{Increment}
-use Rattle.c_syntax.specs.declared.operator.UnaryOperator.{UnaryOperator}
 use Rattle.c_syntax.specs.declared.operator.UnaryOperator.TheVariants as unary
 use Rattle.c_syntax.specs.Expression as trees
-use Rattle.c_syntax.specs.Expression.{Expression, start}
-use Rattle.c_resolved.specs.declared.fault.Fault.{Fault}
-use Rattle.c_resolved.specs.declared.fault.Fault.TheVariants.{NotLvalue, TypeClash, ArgCount, CodeOutsideFilter, InfoOutsideFilter, AbnormalOutsideFinally}
-use Rattle.c_resolved.specs.Types.{plain, pointer_to, pointed, is_integer, is_scalar, is_sized_pointer, access_of, width_of, size_of}
-use Rattle.c_resolved.specs.Operators.{TypedNode, typed, only_if, int, as_is, as_index, unary_of, binary_of, cast_of, element_of, assigned, compound_assigned, incremented, conditional_of, comma_of, lvalue_of}
-use Rattle.c_resolved.specs.Expressions.{Entity, LocalVariable, GlobalVariable, GlobalArray, UserFunction, BuiltInFunction, CodeFunction, AbnormalFunction, BuiltInConstant, Names, FaultAt, fault_at, ResolvedExpression, ruled, rule_1, rule_2, rule_3, given_that, integer_base, constant, literal, name, is_lvalue, is_global, is_addressable, operand_is_lvalue, unsigned, field, Wanted, OfType, ZeroLiteral, built_in_wants, built_in_result, fits, passed, Argument, Passed, before, spoiled, pass, pass_all, faults_of, called, call_with, only_where, call, changed, resolve_expression, resolve_arguments}
-use Rattle.c_resolved.specs.Program.{result_size}
 use Rattle.c_resolved.proofs.TypeFacts.{pointer_scalar, size_in_memory_is, pointer_to_pointer, can_become_scalar}
 use Rattle.c_resolved.proofs.Operands.{IsGood, GoodIf, HasSize, and_true, typed_good, as_type_has, has_size}
 use Rattle.c_resolved.proofs.ConditionalResults.{conditional_good, comma_good}

@@ -1,33 +1,18 @@
 -- What operators make of good operands is good.
 use Rattle.std.proofs.Common.{◌≡◌, ℕ, refl, ap, sym, ◌∙◌}
 use Rattle.std.specs.Prelude.{Bool, true, false, not, ◌&&◌, ◌||◌, if◌then◌else◌, Option, Some, None}
-use Rattle.c_operations.specs.declared.operation.Operation.{Operation}
+use Rattle.c_resolved.specs.Words.{Operation, Signedness, Size, Conversion, Kept, Fixity, Lvalue, TypingContext, is_number, both, can_convert, size_after, constant_fits, amount_fits, change_fits, unary_takes, takes, is_in_memory, node_size, node_sound, lvalue_size, expression_size, expression_sound, LongLong, CType, Arithmetic, BinaryOperator, Comparison, Increment, UnaryOperator, plain, pointer_to, pointed, is_pointer, is_integer, is_scalar, is_void_pointer, is_sized_pointer, same_type, sort_of, width_of, access_of, size_of, bytes_in, promoted, common, conversion, TypedNode, typed, only_if, int, void_pointer, as_is, as_type, as_index, can_become, operation_of, operation_in, is_shift, working_type, right_operand, on_integers, long_operation, moved, sum, difference, arithmetic_of, relation_of, compared, are_comparable, comparison_of, binary_of, lvalue_of, with_lvalue, address, unary_of, cast_of, element_of, assigned, is_additive, compound_assigned, increment_operator, incremented}
 use Rattle.c_operations.specs.declared.operation.Operation.TheVariants as operations
 use Rattle.c_operations.specs.declared.operation.Pure.{Pure}
 use Rattle.c_operations.specs.declared.operation.Pure.TheVariants as pures
 use Rattle.c_operations.specs.declared.operation.Relation.{Relation}
-use Rattle.c_operations.specs.declared.operation.Signedness.{Signedness}
 use Rattle.c_operations.specs.declared.operation.Signedness.TheVariants as signs
-use Rattle.c_operations.specs.declared.operation.Size.{Size}
 use Rattle.c_operations.specs.declared.operation.Size.TheVariants as sizes
-use Rattle.c_checked.specs.declared.expression.Conversion.{Conversion}
-use Rattle.c_checked.specs.declared.expression.Conversion.TheVariants.{Kept}
-use Rattle.c_checked.specs.declared.expression.Fixity.{Fixity}
 use Rattle.c_checked.specs.Expression as nodes
-use Rattle.c_checked.specs.Expression.{Expression, Lvalue}
-use Rattle.c_checked.specs.Sound.{TypingContext, is_number, both, can_convert, size_after, constant_fits, amount_fits, change_fits, unary_takes, takes, is_in_memory, node_size, node_sound, lvalue_size, expression_size, expression_sound}
-use Rattle.c_syntax.specs.declared.expression.Base.TheVariants.{LongLong}
-use Rattle.c_syntax.specs.declared.expression.CType.{CType}
-use Rattle.c_syntax.specs.declared.operator.Arithmetic.{Arithmetic}
+use Rattle.c_checked.specs.Expression.{Expression}
 use Rattle.c_syntax.specs.declared.operator.Arithmetic.TheVariants as arithmetic
-use Rattle.c_syntax.specs.declared.operator.BinaryOperator.{BinaryOperator}
 use Rattle.c_syntax.specs.declared.operator.BinaryOperator.TheVariants as binary
-use Rattle.c_syntax.specs.declared.operator.Comparison.{Comparison}
-use Rattle.c_syntax.specs.declared.operator.Increment.{Increment}
-use Rattle.c_syntax.specs.declared.operator.UnaryOperator.{UnaryOperator}
 use Rattle.c_syntax.specs.declared.operator.UnaryOperator.TheVariants as unary
-use Rattle.c_resolved.specs.Types.{plain, pointer_to, pointed, is_pointer, is_integer, is_scalar, is_void_pointer, is_sized_pointer, same_type, sort_of, width_of, access_of, size_of, bytes_in, promoted, common, conversion}
-use Rattle.c_resolved.specs.Operators.{TypedNode, typed, only_if, int, void_pointer, as_is, as_type, as_index, can_become, operation_of, operation_in, is_shift, working_type, right_operand, on_integers, long_operation, moved, sum, difference, arithmetic_of, relation_of, compared, are_comparable, comparison_of, binary_of, lvalue_of, with_lvalue, address, unary_of, cast_of, element_of, assigned, is_additive, compound_assigned, increment_operator, incremented}
 use Rattle.c_resolved.proofs.Conversions.{and_left, and_right, conversion_makes}
 use Rattle.c_resolved.proofs.TypeFacts.{size_in_memory_is, bytes_divide, bytes_fit, one_fits, pointer_size, pointer_scalar, integer_scalar, pointer_to_pointer, pointed_scalar, promoted_scalar, promoted_size, common_scalar, can_become_scalar, comparable_scalar}
 use Rattle.c_resolved.proofs.Operands.{IsGood, GoodIf, HasSize, and_true, only_if_good, if_good, typed_good, pointer_good, good_size, as_is_has, as_type_has, as_index_has, resized, pointer_has, has_number, has_size, alike_sizes, binary_has, with_lvalue_good}

@@ -3,24 +3,11 @@ use Rattle.std.proofs.Common.{◌≡◌, ℕ, ◌+◌, refl}
 use Rattle.std.proofs.lemmas.Bool.{and_parts, lt-ltb}
 use Rattle.std.proofs.lemmas.Option.{slice_get_within}
 use Rattle.std.specs.Prelude.{Bool, true, false, not, List, [], ◌∷◌, ◌++◌, length, slice_get, Option, Some, None}
-use Rattle.c_operations.specs.declared.operation.Size.{Size}
+use Rattle.c_resolved.specs.Words.{Size, Inside, expression_size, expression_sound, optional_sound, condition_sound, test_sound, value_fits, declared_sound, all_declared_sound, statement_sound, statements_sound, Base, CType, Expression, start, Statement, Local, ForInitialiser, Declaring, Evaluating, Fault, Duplicate, TypeClash, is_integer, is_scalar, size_of, TypedNode, int, as_is, can_become, Entity, LocalVariable, Names, FaultAt, ResolvedExpression, resolve_expression, result_size, Scope, same_bytes, spelled, meaning_in, built_ins, Reach, Nowhere, Beyond, Near, Environment, Numbering, ResolvedStatements, names_at, filter_names, unless_holds, any, condition, to_type, to_answer, optional, is_taken, with_name, declare, declare_all, follow, only, names_only, ResolvedForInitialiser, resolve_for_initialiser}
 use Rattle.c_operations.specs.declared.operation.Size.TheVariants as sizes
 use Rattle.c_checked.specs.Program.{Function}
 use Rattle.c_checked.specs.Statement as checked
 use Rattle.c_checked.specs.Sound as sound
-use Rattle.c_checked.specs.Sound.{Inside, expression_size, expression_sound, optional_sound, condition_sound, test_sound, value_fits, declared_sound, all_declared_sound, statement_sound, statements_sound}
-use Rattle.c_syntax.specs.declared.expression.Base.{Base}
-use Rattle.c_syntax.specs.declared.expression.CType.{CType}
-use Rattle.c_syntax.specs.Expression.{Expression, start}
-use Rattle.c_syntax.specs.Statement.{Statement, Local, ForInitialiser, Declaring, Evaluating}
-use Rattle.c_resolved.specs.declared.fault.Fault.{Fault}
-use Rattle.c_resolved.specs.declared.fault.Fault.TheVariants.{Duplicate, TypeClash}
-use Rattle.c_resolved.specs.Types.{is_integer, is_scalar, size_of}
-use Rattle.c_resolved.specs.Operators.{TypedNode, int, as_is, can_become}
-use Rattle.c_resolved.specs.Expressions.{Entity, LocalVariable, Names, FaultAt, ResolvedExpression, resolve_expression}
-use Rattle.c_resolved.specs.Program.{result_size}
-use Rattle.c_resolved.specs.Scopes.{Scope, same_bytes, spelled, meaning_in, built_ins}
-use Rattle.c_resolved.specs.Statements.{Reach, Nowhere, Beyond, Near, Environment, Numbering, ResolvedStatements, names_at, filter_names, unless_holds, any, condition, to_type, to_answer, optional, is_taken, with_name, declare, declare_all, follow, only, names_only, ResolvedForInitialiser, resolve_for_initialiser}
 use Rattle.c_resolved.proofs.TypeFacts.{integer_scalar, can_become_scalar}
 use Rattle.c_resolved.proofs.Operands.{HasSize, and_true, as_is_has, as_type_has, as_is_sound, has_number, alike_sizes}
 use Rattle.c_resolved.proofs.ResolvedExpressions.{no_fault, FoundOr, EntityFits, MeaningFits, NamesFit, settled}

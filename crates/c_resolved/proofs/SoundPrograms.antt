@@ -3,28 +3,11 @@ use Rattle.std.proofs.Common.{◌≡◌, ◌≤◌, ℕ, ◌+◌, refl, ap, sym,
 use Rattle.std.proofs.lemmas.Bool.{le-leb, eqb-true, and_parts}
 use Rattle.std.proofs.lemmas.List.{append_assoc, length-append, length-map, length-drop, length_push, drop_at}
 use Rattle.std.specs.Prelude.{suc, true, false, not, ◌&&◌, ◌||◌, nat_eq, List, [], ◌∷◌, ◌++◌, length, map, drop, slice_get, Option, Some}
-use Rattle.c_operations.specs.declared.operation.Size.{Size}
+use Rattle.c_resolved.specs.Words.{Size, Inside, some_sizes, are_sizes, is_size, statements_sound, funclets, count_up, all_funclets, function_sound, functions_sound, main_sound, IsSound, Parameter, LongLong, CType, Identifier, every_limit, FunctionWithinFirst, EachWithinFirst, Within, funclets_of_all, ExternalDeclaration, Globals, Function, Statements, Duplicate, TypeClash, plain, is_scalar, size_of, same_base, same_type, int, Entity, LocalVariable, UserFunction, Scope, spelled, meaning_in, unless_holds, is_taken, with_name, Numbering, ResolvedStatements, resolve_statements, file_of, empty_file, parameter_types, with_parameters, parameter_faults, result_size, around, function_of, functions_of, main_name, are_main_parameters, place_of_function, main_of, resolve, Accepted, AcceptedIsSound}
 use Rattle.c_operations.specs.declared.operation.Size.TheVariants as sizes
 use Rattle.c_checked.specs.Statement as checked
 use Rattle.c_checked.specs.Program as checked_program
-use Rattle.c_checked.specs.Sound.{Inside, some_sizes, are_sizes, is_size, statements_sound, funclets, count_up, all_funclets, function_sound, functions_sound, main_sound, IsSound}
-use Rattle.c_syntax.specs.declared.declaration.Parameter.{Parameter}
-use Rattle.c_syntax.specs.declared.expression.Base.TheVariants.{LongLong}
-use Rattle.c_syntax.specs.declared.expression.CType.{CType}
-use Rattle.c_syntax.specs.declared.expression.Identifier.{Identifier}
 use Rattle.c_syntax.specs.Limits as limits
-use Rattle.c_syntax.specs.Limits.{every_limit, FunctionWithinFirst, EachWithinFirst, Within, funclets_of_all}
-use Rattle.c_syntax.specs.Program.{ExternalDeclaration, Globals, Function}
-use Rattle.c_syntax.specs.Statement.{Statements}
-use Rattle.c_resolved.specs.declared.fault.Fault.TheVariants.{Duplicate, TypeClash}
-use Rattle.c_resolved.specs.Types.{plain, is_scalar, size_of, same_base, same_type}
-use Rattle.c_resolved.specs.Operators.{int}
-use Rattle.c_resolved.specs.Expressions.{Entity, LocalVariable, UserFunction}
-use Rattle.c_resolved.specs.Scopes.{Scope, spelled, meaning_in}
-use Rattle.c_resolved.specs.Statements.{unless_holds, is_taken, with_name, Numbering, ResolvedStatements, resolve_statements}
-use Rattle.c_resolved.specs.Program.{file_of, empty_file, parameter_types, with_parameters, parameter_faults, result_size, around, function_of, functions_of, main_name, are_main_parameters, place_of_function, main_of, resolve}
-use Rattle.c_resolved.specs.Accepted.{Accepted}
-use Rattle.c_resolved.specs.ResolutionLaws.{AcceptedIsSound}
 use Rattle.c_resolved.proofs.Conversions.{same_base_is}
 use Rattle.c_resolved.proofs.Operands.{and_true}
 use Rattle.c_resolved.proofs.ResolvedExpressions.{MeaningFits}

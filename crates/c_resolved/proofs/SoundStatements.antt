@@ -1,22 +1,12 @@
 -- What statements without faults are resolved to is sound.
 use Rattle.std.proofs.Common.{◌≡◌, ℕ, ◌+◌, refl, ap, subst}
 use Rattle.std.specs.Prelude.{Bool, true, false, ◌&&◌, if◌then◌else◌, List, [], ◌∷◌, ◌++◌, Option, Some, None}
-use Rattle.c_operations.specs.declared.operation.Size.{Size}
+use Rattle.c_resolved.specs.Words.{Size, Inside, same_sizes, expression_size, expression_sound, condition_sound, result_sound, filter_sound, statement_sound, statements_sound, Expression, start, Statement, Statements, Fault, TypeClash, JumpOutOfFinally, JumpOutsideLoop, LeaveOutsideTry, is_void, size_of, FaultAt, fault_at, ResolvedExpression, resolve_expression, result_size, Scope, Reach, Nowhere, Beyond, Near, past_finally, Environment, Numbering, names_at, filter_names, inside, any, condition, to_type, to_answer, Optional, optional, jump, returned, always, ResolvedFilter, resolve_filter, with_number, resolve_for_initialiser, resolve_statement, resolve_statements}
 use Rattle.c_operations.specs.declared.operation.Size.TheVariants as sizes
 use Rattle.c_checked.specs.Program.{Function}
 use Rattle.c_checked.specs.Statement as checked
 use Rattle.c_checked.specs.Sound as sound
-use Rattle.c_checked.specs.Sound.{Inside, same_sizes, expression_size, expression_sound, condition_sound, result_sound, filter_sound, statement_sound, statements_sound}
-use Rattle.c_syntax.specs.Expression.{Expression, start}
 use Rattle.c_syntax.specs.Statement as statements
-use Rattle.c_syntax.specs.Statement.{Statement, Statements}
-use Rattle.c_resolved.specs.declared.fault.Fault.{Fault}
-use Rattle.c_resolved.specs.declared.fault.Fault.TheVariants.{TypeClash, JumpOutOfFinally, JumpOutsideLoop, LeaveOutsideTry}
-use Rattle.c_resolved.specs.Types.{is_void, size_of}
-use Rattle.c_resolved.specs.Expressions.{FaultAt, fault_at, ResolvedExpression, resolve_expression}
-use Rattle.c_resolved.specs.Program.{result_size}
-use Rattle.c_resolved.specs.Scopes.{Scope}
-use Rattle.c_resolved.specs.Statements.{Reach, Nowhere, Beyond, Near, past_finally, Environment, Numbering, names_at, filter_names, inside, any, condition, to_type, to_answer, Optional, optional, jump, returned, always, ResolvedFilter, resolve_filter, with_number, resolve_for_initialiser, resolve_statement, resolve_statements}
 use Rattle.c_resolved.proofs.TypeFacts.{void_size, scalar_size}
 use Rattle.c_resolved.proofs.Operands.{and_true, has_size, alike_sizes}
 use Rattle.c_resolved.proofs.ResolvedExpressions.{settled}

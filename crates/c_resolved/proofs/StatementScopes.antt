@@ -3,12 +3,8 @@ use Rattle.std.proofs.Common.{◌≡◌, ◌+◌, refl}
 use Rattle.std.specs.Prelude.{true, List, [], ◌∷◌}
 use Rattle.c_checked.specs.Statement as checked
 use Rattle.c_syntax.specs.Statement as statements
-use Rattle.c_syntax.specs.Statement.{Statement, Statements}
-use Rattle.c_resolved.specs.Expressions.{FaultAt, resolve_expression}
-use Rattle.c_resolved.specs.Scopes.{Scope}
-use Rattle.c_resolved.specs.Statements.{Near, Beyond, past_finally, with_number, Environment, Numbering, names_at, inside, any, condition, resolve_filter, resolve_for_initialiser, resolve_statement, resolve_statements}
+use Rattle.c_resolved.specs.Words.{Statement, Statements, FaultAt, resolve_expression, Scope, Near, Beyond, past_finally, with_number, Environment, Numbering, names_at, inside, any, condition, resolve_filter, resolve_for_initialiser, resolve_statement, resolve_statements, SeenNames, after_all_declared, statement_within}
 use Rattle.c_resolved.proofs.Operands.{and_true}
-use Rattle.c_checked.specs.LocalScopes.{SeenNames, after_all_declared, statement_within}
 use Rattle.c_resolved.proofs.NameScopes.{ScopeSeen, scope_wider, seen_append, names_seen}
 use Rattle.c_resolved.proofs.DeclarationScopes.{any_within, condition_within, value_within, returned_within, resolved_filter_within, after_all, statement_grows, all_grow, ResolvesWithin, follow_within, only_within, declare_all_within, declared_grow, begins_within}
 

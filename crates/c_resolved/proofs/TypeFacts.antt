@@ -2,18 +2,8 @@
 use Rattle.std.proofs.Common.{◌≡◌, ℕ, ◌+◌, ◌-◌, refl, ap, sym, ◌∙◌, arith}
 use Rattle.std.proofs.lemmas.Bool.Decides.{nat_tests}
 use Rattle.std.specs.Prelude.{Bool, true, false, not, ◌&&◌, ◌||◌, nat_eq, nat_lt, if◌then◌else◌, Some, None}
-use Rattle.seh_num.specs.declared.width.Width.{Width}
-use Rattle.seh_num.specs.declared.width.Width.TheVariants.{W8, W16, W32, W64}
-use Rattle.seh_num.specs.Widths.{bytes_of}
-use Rattle.c_operations.specs.declared.operation.Size.{Size}
+use Rattle.c_resolved.specs.Words.{Width, W8, W16, W32, W64, bytes_of, Size, size_in_memory, constant_fits, is_divisor, Base, Void, Char, UnsignedChar, Short, UnsignedShort, Int, Unsigned, LongLong, UnsignedLongLong, CType, plain, pointer_to, pointed, is_void_base, is_pointer, is_void, is_integer, is_scalar, is_void_pointer, is_sized_pointer, base_width, size_of_width, size_of, promoted_base, promoted, wider, common, TypedNode, can_become, are_comparable, result_size}
 use Rattle.c_operations.specs.declared.operation.Size.TheVariants as sizes
-use Rattle.c_checked.specs.Sound.{size_in_memory, constant_fits, is_divisor}
-use Rattle.c_syntax.specs.declared.expression.Base.{Base}
-use Rattle.c_syntax.specs.declared.expression.Base.TheVariants.{Void, Char, UnsignedChar, Short, UnsignedShort, Int, Unsigned, LongLong, UnsignedLongLong}
-use Rattle.c_syntax.specs.declared.expression.CType.{CType}
-use Rattle.c_resolved.specs.Types.{plain, pointer_to, pointed, is_void_base, is_pointer, is_void, is_integer, is_scalar, is_void_pointer, is_sized_pointer, base_width, size_of_width, size_of, promoted_base, promoted, wider, common}
-use Rattle.c_resolved.specs.Operators.{TypedNode, can_become, are_comparable}
-use Rattle.c_resolved.specs.Program.{result_size}
 use Rattle.c_resolved.proofs.Conversions.{and_left, and_right}
 
 -- ---- sizes of values

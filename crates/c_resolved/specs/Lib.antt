@@ -8,3 +8,4 @@ pub mod Accepted
 pub mod Rows
 pub mod ResolutionLaws
 pub mod ScopeLaws
+pub mod Words

@@ -5,17 +5,9 @@ use Rattle.std.specs.Borrow.{Bor}
 use Rattle.c_checked.proofs.Items.{next_of}
 use Rattle.c_checked.specs.declared.statement.Stmt.{Stmt as Checked}
 use Rattle.c_checked.specs.Statement as checked
-use Rattle.c_expressions.proofs.Kept.{kept_append}
-use Rattle.c_expressions.specs.declared.scopes.Entity.{Entity}
-use Rattle.c_expressions.specs.Kept.{least_of, kept}
-use Rattle.c_expressions.specs.Views.{block_of}
-use Rattle.c_locals.specs.declared.environment.Walk.{Walk}
-use Rattle.c_locals.specs.WalkResults.{Resolves}
-use Rattle.c_locals.specs.Views.{numbering}
-use Rattle.c_resolved.specs.Scopes.{Scope}
-use Rattle.c_resolved.specs.Statements.{Environment, Numbering, ResolvedStatements, resolve_statement, resolve_statements}
+use Rattle.c_statements.proofs.Lemmas.{kept_append}
+use Rattle.c_statements.specs.Words.{Entity, least_of, kept, block_of, Walk, Resolves, numbering, Scope, Environment, Numbering, ResolvedStatements, resolve_statement, resolve_statements, statement, statements}
 use Rattle.c_syntax.specs.declared.statement.Stmt.{Stmt}
-use Rattle.c_syntax.specs.Statement.{statement, statements}
 
 abbrev Entries : Type 0
 Entries = List (Bor (List ℕ) × Entity)

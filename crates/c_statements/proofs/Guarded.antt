@@ -1,28 +1,16 @@
 -- A `for` and a `__try` by what was made of their parts, one after another.
 use Rattle.std.proofs.Common.{◌≡◌, ℕ, ◌+◌, List, [], ◌∷◌, ◌++◌, map, Option, refl, ap, subst, ◌∙◌}
 use Rattle.std.specs.Prelude.{option_map}
-use Rattle.c_checked.specs.declared.expression.Expr.{Expr}
+use Rattle.c_statements.specs.Words.{Expr, Stmt, declared, least_of, kept, block_of, Walk, IsBeginning, numbering, resolved_at, in_loop, in_body, in_handler, in_last, Scope, Environment, Numbering, ResolvedStatements, Optional, inside, condition, any, optional, with_number, resolve_filter, resolve_for_initialiser, resolve_statement, resolve_statements, MakesOne, MakesPart, MakesBlock, Expression, Statement, Statements, ForInitialiser}
 use Rattle.c_checked.specs.declared.statement.Filter.{Filter}
-use Rattle.c_checked.specs.declared.statement.Stmt.{Stmt}
 use Rattle.c_checked.specs.Expression.{expression}
 use Rattle.c_checked.specs.Statement as checked
-use Rattle.c_checked.specs.Statement.{declared}
-use Rattle.c_expressions.proofs.Kept.{kept_more}
-use Rattle.c_expressions.specs.Kept.{least_of, kept}
-use Rattle.c_expressions.specs.Views.{block_of}
+use Rattle.c_statements.proofs.Lemmas.{kept_more}
 use Rattle.c_locals.specs.declared.declarations.Beginning.{Beginning}
-use Rattle.c_locals.specs.declared.environment.Walk.{Walk}
-use Rattle.c_locals.specs.WalkResults.{IsBeginning}
 use Rattle.c_locals.specs.Values.{MayEvaluate, ResolvesFilter, filter_with, number_after}
-use Rattle.c_locals.specs.Views.{numbering, resolved_at, in_loop, in_body, in_handler, in_last}
 use Rattle.c_resolved.specs.Expressions.{FaultAt}
-use Rattle.c_resolved.specs.Scopes.{Scope}
-use Rattle.c_resolved.specs.Statements.{Environment, Numbering, ResolvedStatements, Optional, inside, condition, any, optional, with_number, resolve_filter, resolve_for_initialiser, resolve_statement, resolve_statements}
 use Rattle.c_statements.proofs.Parts.{Entries, part_at, block_at}
-use Rattle.c_statements.specs.Made.{MakesOne, MakesPart, MakesBlock}
-use Rattle.c_syntax.specs.Expression.{Expression}
 use Rattle.c_syntax.specs.Statement as trees
-use Rattle.c_syntax.specs.Statement.{Statement, Statements, ForInitialiser}
 
 -- ---- `__try` with a `__finally` block
 

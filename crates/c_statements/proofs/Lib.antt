@@ -1,3 +1,4 @@
+mod Lemmas
 pub mod Trees
 pub mod Parts
 pub mod Guarded

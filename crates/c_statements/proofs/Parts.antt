@@ -1,24 +1,12 @@
 -- A statement by what was made of its parts, one after another.
 use Rattle.std.proofs.Common.{◌≡◌, ℕ, ◌+◌, List, [], ◌∷◌, ◌++◌, map, refl, sym, ap, subst, ◌∙◌, append_assoc}
 use Rattle.std.specs.Borrow.{Bor}
-use Rattle.c_checked.specs.declared.expression.Expr.{Expr}
-use Rattle.c_checked.specs.declared.statement.Stmt.{Stmt}
+use Rattle.c_statements.specs.Words.{Expr, Stmt, Entity, least_of, kept, block_of, Walk, Resolves, numbering, resolved_at, Scope, Environment, Numbering, ResolvedStatements, Value, inside, condition, only, resolve_statement, resolve_statements, MakesOne, MakesPart, MakesBlock, MakesGoverned, Expression, Statement, statement, statements}
 use Rattle.c_checked.specs.Expression.{expression}
 use Rattle.c_checked.specs.Statement as checked
-use Rattle.c_expressions.proofs.Kept.{kept_more}
-use Rattle.c_expressions.specs.declared.scopes.Entity.{Entity}
-use Rattle.c_expressions.specs.Kept.{least_of, kept}
-use Rattle.c_expressions.specs.Views.{block_of}
-use Rattle.c_locals.specs.declared.environment.Walk.{Walk}
-use Rattle.c_locals.specs.WalkResults.{Resolves}
-use Rattle.c_locals.specs.Views.{numbering, resolved_at}
-use Rattle.c_resolved.specs.Scopes.{Scope}
-use Rattle.c_resolved.specs.Statements.{Environment, Numbering, ResolvedStatements, Value, inside, condition, only, resolve_statement, resolve_statements}
-use Rattle.c_statements.specs.Made.{MakesOne, MakesPart, MakesBlock, MakesGoverned}
-use Rattle.c_syntax.specs.Expression.{Expression}
+use Rattle.c_statements.proofs.Lemmas.{kept_more}
 use Rattle.c_syntax.specs.Statement as trees
 use Rattle.c_syntax.specs.declared.statement.Stmt.{Stmt as Read}
-use Rattle.c_syntax.specs.Statement.{Statement, statement, statements}
 
 abbrev pub Entries : Type 0
 Entries = List (Bor (List ℕ) × Entity)

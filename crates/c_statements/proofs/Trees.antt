@@ -6,9 +6,8 @@ use Rattle.c_syntax.specs.declared.statement.Stmt.{Stmt}
 use Rattle.c_syntax.specs.declared.statement.Stmt.TheVariants as stmts
 use Rattle.c_syntax.specs.declared.statement.Stmt.TheOpen as opened
 use Rattle.c_syntax.specs.declared.statement.Stmt.TheFolds.{fold-roll-Stmt}
-use Rattle.c_syntax.specs.Expression.{expression}
+use Rattle.c_statements.specs.Words.{expression, Statement, statement, statements, node}
 use Rattle.c_syntax.specs.Statement as trees
-use Rattle.c_syntax.specs.Statement.{Statement, statement, statements, node}
 
 if_else_is : (at : ℕ) (c : Expr) (s : _) (t : _)
     → statement (stmts.If at c s (Some t)) ≡ trees.IfElse at (expression c) (statement s.value)

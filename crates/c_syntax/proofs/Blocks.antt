@@ -2,24 +2,10 @@
 -- a block holds.
 use Rattle.std.proofs.Common.{◌≡◌, ◌≤◌, ℕ, Bool, true, false, IsTrue, IsFalse, List, [], ◌∷◌}
 use Rattle.std.proofs.Common.{Option, Some, None, refl, sym, ap, ◌∙◌, subst, arith}
-use Rattle.c_lex.specs.declared.keyword.Keyword.{Keyword}
+use Rattle.c_syntax.specs.Words.{Keyword, Punctuator, Kind, Token, Base, Identifier, Expression, NoElse, Closed, OneStatement, Local, ForInitialiser, Statement, Declare, Block, Evaluate, If, IfElse, While, DoWhile, For, Return, Break, Continue, Leave, TryExcept, TryFinally, Statements, Empty, Then, IsOptional, dangles, IsBlockItem, AreBlockItems, IsKeyword, HasPunctuator, HasKeyword}
 use Rattle.c_lex.specs.declared.keyword.Keyword.TheVariants as keywords
-use Rattle.c_lex.specs.declared.punctuator.Punctuator.{Punctuator}
 use Rattle.c_lex.specs.declared.punctuator.Punctuator.TheVariants as punctuators
-use Rattle.c_lex.specs.declared.token.Kind.{Kind}
 use Rattle.c_lex.specs.declared.token.Kind.TheVariants as kinds
-use Rattle.c_lex.specs.declared.token.Token.{Token}
-use Rattle.c_syntax.specs.declared.expression.Base.{Base}
-use Rattle.c_syntax.specs.declared.expression.Identifier.{Identifier}
-use Rattle.c_syntax.specs.Expression.{Expression}
-use Rattle.c_syntax.specs.Follow.{NoElse, Closed, OneStatement}
-use Rattle.c_syntax.specs.Statement.{Local, ForInitialiser, Statement}
-use Rattle.c_syntax.specs.Statement.{Declare, Block, Evaluate, If, IfElse, While, DoWhile, For}
-use Rattle.c_syntax.specs.Statement.{Return, Break, Continue, Leave, TryExcept, TryFinally}
-use Rattle.c_syntax.specs.Statement.{Statements, Empty, Then}
-use Rattle.c_syntax.specs.Statements.{IsOptional}
-use Rattle.c_syntax.specs.Statements.{dangles, IsBlockItem, AreBlockItems}
-use Rattle.c_syntax.specs.Tokens.{IsKeyword, HasPunctuator, HasKeyword}
 use Rattle.c_syntax.proofs.Fronts.{kind_same, has_same, keyword_same, punctuator_class}
 use Rattle.c_syntax.proofs.Fronts.{kind_class, front, base_front}
 use Rattle.c_syntax.proofs.Once.{expression_front}

@@ -1,20 +1,9 @@
 -- There is one tree at most for an expression between punctuators, and for a declaration.
 use Rattle.std.proofs.Common.{◌≡◌, ◌≤◌, ◌<◌, ℕ, List, [], ◌∷◌}
 use Rattle.std.proofs.Common.{Option, Some, None, refl, sym, ap, ◌∙◌, subst, arith}
-use Rattle.c_lex.specs.declared.punctuator.Punctuator.{Punctuator}
+use Rattle.c_syntax.specs.Words.{Punctuator, Token, Base, Identifier, Expression, Derives, punctuator_follows, follows, Stops, assignment, comma, Local, ForInitialiser, Declaring, Evaluating, IsInitialiser, IsLocal, AreMoreLocals, AreLocals, IsDeclaration, IsOptional, IsCondition, IsForInitialiser, IsIdentifier, HasPunctuator}
 use Rattle.c_lex.specs.declared.punctuator.Punctuator.TheVariants as punctuators
 use Rattle.c_lex.specs.declared.token.Kind.TheVariants as kinds
-use Rattle.c_lex.specs.declared.token.Token.{Token}
-use Rattle.c_syntax.specs.declared.expression.Base.{Base}
-use Rattle.c_syntax.specs.declared.expression.Identifier.{Identifier}
-use Rattle.c_syntax.specs.Expression.{Expression}
-use Rattle.c_syntax.specs.Expressions.{Derives}
-use Rattle.c_syntax.specs.Follow.{punctuator_follows, follows, Stops}
-use Rattle.c_syntax.specs.Operators.{assignment, comma}
-use Rattle.c_syntax.specs.Statement.{Local, ForInitialiser, Declaring, Evaluating}
-use Rattle.c_syntax.specs.Statements.{IsInitialiser, IsLocal, AreMoreLocals, AreLocals}
-use Rattle.c_syntax.specs.Statements.{IsDeclaration, IsOptional, IsCondition, IsForInitialiser}
-use Rattle.c_syntax.specs.Tokens.{IsIdentifier, HasPunctuator}
 use Rattle.c_syntax.proofs.Fronts.{kind_same, has_same, name_same, punctuator_class}
 use Rattle.c_syntax.proofs.Fronts.{front, base_front, base_once, NoType, NoStar}
 use Rattle.c_syntax.proofs.Fronts.{stars_once, stars_front}

@@ -1,8 +1,7 @@
 -- A phrase that fails in a greater one fails that one.
 use Rattle.std.proofs.Common.{◌≡◌, ℕ, List, [], ◌∷◌, ◌++◌, refl, sym, ap, ◌∙◌, subst, append_assoc}
-use Rattle.c_lex.specs.declared.token.Token.{Token}
+use Rattle.c_syntax.specs.Words.{Token, Family, Alike, SameFirst, Able, Onward, Failed, Wraps}
 pub use Rattle.std.proofs.Common.{append_assoc as append_append, append-nil as append_nothing}
-use Rattle.c_syntax.specs.Faults.{Family, Alike, SameFirst, Able, Onward, Failed, Wraps}
 
 -- ---- lists and their first tokens
 

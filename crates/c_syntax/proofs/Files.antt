@@ -4,28 +4,12 @@ use Rattle.std.proofs.Common.{refl, sym, ap, ◌∙◌, arith, inl, inr}
 use Rattle.c_lex.specs.declared.keyword.Keyword.TheVariants as keywords
 use Rattle.c_lex.specs.declared.punctuator.Punctuator.TheVariants as punctuators
 use Rattle.c_lex.specs.declared.token.Kind.TheVariants as kinds
-use Rattle.c_lex.specs.declared.token.Token.{Token}
+use Rattle.c_syntax.specs.Words.{Token, Length, Parameter, Base, CType, Literal, Identifier, literal_kind, follows, Stops, postfix, primary, assignment, Initialiser, Single, Several, Global, ExternalDeclaration, Globals, Function, IsLiteral, IsConstant, AreConstants, IsLength, IsGlobal, AreMoreGlobals, AreGlobals, IsParameter, AreParameters, IsExternalDeclaration, IsProgram, OneProgram, Statements, IsPunctuator, IsIdentifier, HasPunctuator, HasKeyword, IsBase, AreStars, IsType}
 use Rattle.c_lex.proofs.Texts.{tokens_once}
 use Rattle.c_syntax.specs.declared.declaration.Constant.{Constant}
-use Rattle.c_syntax.specs.declared.declaration.Length.{Length}
-use Rattle.c_syntax.specs.declared.declaration.Parameter.{Parameter}
-use Rattle.c_syntax.specs.declared.expression.Base.{Base}
 use Rattle.c_syntax.specs.declared.expression.Base.TheVariants as bases
-use Rattle.c_syntax.specs.declared.expression.CType.{CType}
-use Rattle.c_syntax.specs.declared.expression.Literal.{Literal}
 use Rattle.c_syntax.specs.declared.expression.Literal.TheVariants as literals
-use Rattle.c_syntax.specs.declared.expression.Identifier.{Identifier}
-use Rattle.c_syntax.specs.Expressions.{literal_kind}
-use Rattle.c_syntax.specs.Follow.{follows, Stops}
-use Rattle.c_syntax.specs.Operators.{postfix, primary, assignment}
-use Rattle.c_syntax.specs.Program.{Initialiser, Single, Several, Global, ExternalDeclaration}
-use Rattle.c_syntax.specs.Program.{Globals, Function}
-use Rattle.c_syntax.specs.Programs.{IsLiteral, IsConstant, AreConstants, IsInitialiser, IsLength}
-use Rattle.c_syntax.specs.Programs.{IsGlobal, AreMoreGlobals, AreGlobals, IsParameter}
-use Rattle.c_syntax.specs.Programs.{AreParameters, IsExternalDeclaration, IsProgram, OneProgram}
-use Rattle.c_syntax.specs.Statement.{Statements}
-use Rattle.c_syntax.specs.Tokens.{IsPunctuator, IsIdentifier, HasPunctuator, HasKeyword}
-use Rattle.c_syntax.specs.Types.{IsBase, AreStars, IsType}
+use Rattle.c_syntax.specs.Programs.{IsInitialiser}
 use Rattle.c_syntax.proofs.Fronts.{kind_same, punctuator_same, has_same, name_same, kind_class}
 use Rattle.c_syntax.proofs.Fronts.{front, base_front, base_once, NoType, stars_once, stars_front}
 use Rattle.c_syntax.proofs.Fronts.{type_once, close_type, close_star}

@@ -1,13 +1,8 @@
 -- A list of tokens has one first fault at most, and none where it is a program.
 use Rattle.std.proofs.Common.{◌≡◌, ◌≤◌, ◌<◌, ℕ, zero, suc, List, [], ◌∷◌, ◌++◌, refl, sym, ap, ◌∙◌}
 use Rattle.std.proofs.Common.{subst, arith, append_assoc, append-nil}
-use Rattle.c_lex.specs.declared.token.Token.{Token}
-use Rattle.c_syntax.specs.declared.declaration.Parameter.{Parameter}
-use Rattle.c_syntax.specs.Faults.{place}
+use Rattle.c_syntax.specs.Words.{Token, Parameter, place, ExternalDeclaration, Globals, Function, IsProgram, Statements}
 use Rattle.c_syntax.specs.Limits.{every_limit, FunctionWithinFirst, EachWithinFirst, WithinFirst}
-use Rattle.c_syntax.specs.Program.{ExternalDeclaration, Globals, Function}
-use Rattle.c_syntax.specs.Programs.{IsProgram}
-use Rattle.c_syntax.specs.Statement.{Statements}
 use Rattle.c_syntax.specs.Viable.{Viable, ContinuesWithin, IsSyntaxFault, OneFirstFault, NoFaultInProgram}
 
 -- ---- fewer limits

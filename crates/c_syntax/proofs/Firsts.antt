@@ -1,24 +1,10 @@
 -- What the first token of tokens names holds of all tokens that begin with it.
 use Rattle.std.proofs.Common.{◌≡◌, ◌<◌, ℕ, List, [], ◌∷◌, refl, sym, ap, ◌∙◌, subst, arith, inl}
 use Rattle.std.proofs.Common.{inr}
-use Rattle.c_lex.specs.declared.keyword.Keyword.{Keyword}
+use Rattle.c_syntax.specs.Words.{Keyword, Punctuator, Kind, Token, Base, Literal, Identifier, Expression, Constant, literal_kind, IsInteger, Alike, SameFirst, follows, Stops, NoElse, Closed, Statement, Closes, token, IsKind, IsIdentifier, HasPunctuator, HasKeyword, HasWord, spellings, AreKeywords, IsBase}
 use Rattle.c_lex.specs.declared.keyword.Keyword.TheVariants as keywords
-use Rattle.c_lex.specs.declared.punctuator.Punctuator.{Punctuator}
-use Rattle.c_lex.specs.declared.token.Kind.{Kind}
 use Rattle.c_lex.specs.declared.token.Kind.TheVariants as kinds
-use Rattle.c_lex.specs.declared.token.Token.{Token}
-use Rattle.c_syntax.specs.declared.expression.Base.{Base}
 use Rattle.c_syntax.specs.declared.expression.Base.TheVariants as bases
-use Rattle.c_syntax.specs.declared.expression.Literal.{Literal}
-use Rattle.c_syntax.specs.declared.expression.Identifier.{Identifier}
-use Rattle.c_syntax.specs.Expression.{Expression, Constant}
-use Rattle.c_syntax.specs.Expressions.{literal_kind, IsInteger}
-use Rattle.c_syntax.specs.Faults.{Alike, SameFirst}
-use Rattle.c_syntax.specs.Follow.{follows, Stops, NoElse, Closed}
-use Rattle.c_syntax.specs.Statement.{Statement}
-use Rattle.c_syntax.specs.Steps.{Closes}
-use Rattle.c_syntax.specs.Tokens.{token, IsKind, IsIdentifier, HasPunctuator, HasKeyword, HasWord}
-use Rattle.c_syntax.specs.Types.{spellings, AreKeywords, IsBase}
 use Rattle.c_syntax.proofs.Blocks.{begins}
 use Rattle.c_syntax.proofs.Failing.{first_keeps}
 use Rattle.c_syntax.proofs.Fronts.{keyword_class, Typed, Begun, pick, sound}

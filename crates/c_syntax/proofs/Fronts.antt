@@ -1,32 +1,17 @@
 -- Tokens at the front: which they are, and what they begin.
 use Rattle.std.proofs.Common.{◌≡◌, ◌+◌, ℕ, zero, suc, cond, nat_eq, List, [], ◌∷◌, Option, Some}
 use Rattle.std.proofs.Common.{None, refl, sym, ap, ◌∙◌, arith, inl, inr}
-use Rattle.c_lex.specs.declared.keyword.Keyword.{Keyword}
+use Rattle.c_syntax.specs.Words.{Keyword, Punctuator, Kind, Token, Arithmetic, BinaryOperator, UnaryOperator, Increment, Base, CType, Identifier, binary_punctuator, unary_punctuator, increment_punctuator, assignment_punctuator, token, IsKind, IsPunctuator, IsIdentifier, HasPunctuator, HasKeyword, spellings, AreKeywords, IsOneOf, IsBase, AreStars, IsType}
 use Rattle.c_lex.specs.declared.keyword.Keyword.TheVariants as keywords
-use Rattle.c_lex.specs.declared.punctuator.Punctuator.{Punctuator}
 use Rattle.c_lex.specs.declared.punctuator.Punctuator.TheVariants as punctuators
-use Rattle.c_lex.specs.declared.token.Kind.{Kind}
 use Rattle.c_lex.specs.declared.token.Kind.TheVariants as kinds
-use Rattle.c_lex.specs.declared.token.Token.{Token}
-use Rattle.c_syntax.specs.declared.operator.Arithmetic.{Arithmetic}
 use Rattle.c_syntax.specs.declared.operator.Arithmetic.TheVariants as arithmetic
 use Rattle.c_syntax.specs.declared.operator.Comparison.TheVariants as comparisons
-use Rattle.c_syntax.specs.declared.operator.BinaryOperator.{BinaryOperator}
 use Rattle.c_syntax.specs.declared.operator.BinaryOperator.TheVariants as binary
-use Rattle.c_syntax.specs.declared.operator.UnaryOperator.{UnaryOperator}
 use Rattle.c_syntax.specs.declared.operator.UnaryOperator.TheVariants as unary_operators
-use Rattle.c_syntax.specs.declared.operator.Increment.{Increment}
 use Rattle.c_syntax.specs.declared.operator.Increment.TheVariants as increments
-use Rattle.c_syntax.specs.declared.expression.Base.{Base}
 use Rattle.c_syntax.specs.declared.expression.Base.TheVariants as bases
-use Rattle.c_syntax.specs.declared.expression.CType.{CType}
-use Rattle.c_syntax.specs.declared.expression.Identifier.{Identifier}
-use Rattle.c_syntax.specs.Operators.{binary_punctuator, unary_punctuator, increment_punctuator}
-use Rattle.c_syntax.specs.Operators.{assignment_punctuator}
 use Rattle.c_syntax.specs.PunctuatorReaders.{binary_of, assignment_of, unary_of, increment_of}
-use Rattle.c_syntax.specs.Tokens.{token, IsKind, IsPunctuator, IsIdentifier, HasPunctuator}
-use Rattle.c_syntax.specs.Tokens.{HasKeyword}
-use Rattle.c_syntax.specs.Types.{spellings, AreKeywords, IsOneOf, IsBase, AreStars, IsType}
 
 -- ---- one token
 

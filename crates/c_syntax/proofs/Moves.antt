@@ -3,35 +3,13 @@
 use Rattle.std.proofs.Common.{◌≡◌, ◌≤◌, ◌<◌, ℕ, zero, suc, List, [], ◌∷◌, ◌++◌, codes, slice_range}
 use Rattle.std.proofs.Common.{refl, sym, ap, ◌∙◌, subst, append_assoc, inl, inr}
 use Rattle.std.specs.Str.{bytes_eq}
-use Rattle.c_lex.specs.declared.keyword.Keyword.{Keyword}
+use Rattle.c_syntax.specs.Words.{Keyword, Punctuator, Kind, Token, Base, CType, Field, Identifier, Expression, Constant, Variable, Information, Call, Parentheses, Index, Postfix, Prefix, Unary, Cast, Binary, Conditional, Assign, Comma, Arguments, Done, Next, rank, literal_kind, IsInteger, OfLevel, TighterThan, IsApplied, IsContinued, IsIntroduced, IsElement, IsField, SpellsExpression, SpellsArguments, SpellsMoreArguments, Derives, Alike, postfix, unary, cast, logical_or, conditional, assignment, comma, level, binary_punctuator, unary_punctuator, increment_punctuator, assignment_punctuator, IsEnclosed, token, IsKind, IsPunctuator, IsIdentifier, HasPunctuator, HasKeyword, HasWord, spellings, AreKeywords, IsOneOf, IsBase, AreStars, IsType}
 use Rattle.c_lex.specs.declared.keyword.Keyword.TheVariants as keywords
-use Rattle.c_lex.specs.declared.punctuator.Punctuator.{Punctuator}
 use Rattle.c_lex.specs.declared.punctuator.Punctuator.TheVariants as punctuators
-use Rattle.c_lex.specs.declared.token.Kind.{Kind}
 use Rattle.c_lex.specs.declared.token.Kind.TheVariants as kinds
-use Rattle.c_lex.specs.declared.token.Token.{Token}
-use Rattle.c_syntax.specs.declared.expression.Base.{Base}
-use Rattle.c_syntax.specs.declared.expression.CType.{CType}
-use Rattle.c_syntax.specs.declared.expression.Field.{Field}
 use Rattle.c_syntax.specs.declared.expression.Field.TheVariants as fields
 use Rattle.c_syntax.specs.declared.expression.Literal.TheVariants as literals
-use Rattle.c_syntax.specs.declared.expression.Identifier.{Identifier}
-use Rattle.c_syntax.specs.Expression.{Expression, Constant, Variable, Information, Call}
-use Rattle.c_syntax.specs.Expression.{Parentheses, Index, Postfix, Prefix, Unary, Cast, Binary}
-use Rattle.c_syntax.specs.Expression.{Conditional, Assign, Comma, Arguments, Done, Next}
-use Rattle.c_syntax.specs.Expressions.{rank, literal_kind, IsInteger, OfLevel, TighterThan}
-use Rattle.c_syntax.specs.Expressions.{IsApplied, IsContinued, IsIntroduced, IsElement, IsField}
-use Rattle.c_syntax.specs.Expressions.{SpellsExpression, SpellsArguments, SpellsMoreArguments}
-use Rattle.c_syntax.specs.Expressions.{Derives}
-use Rattle.c_syntax.specs.Faults.{Alike}
 use Rattle.c_syntax.specs.Limits as limits
-use Rattle.c_syntax.specs.Operators.{postfix, unary, cast, logical_or, conditional, assignment}
-use Rattle.c_syntax.specs.Operators.{comma, level, binary_punctuator, unary_punctuator}
-use Rattle.c_syntax.specs.Operators.{increment_punctuator, assignment_punctuator}
-use Rattle.c_syntax.specs.Phrases.{IsEnclosed}
-use Rattle.c_syntax.specs.Tokens.{token, IsKind, IsPunctuator, IsIdentifier, HasPunctuator}
-use Rattle.c_syntax.specs.Tokens.{HasKeyword, HasWord}
-use Rattle.c_syntax.specs.Types.{spellings, AreKeywords, IsOneOf, IsBase, AreStars, IsType}
 use Rattle.c_syntax.proofs.Failing.{alike_inner}
 
 -- how a text and tokens spell a phrase up to a rest

@@ -1,11 +1,8 @@
 -- Elements between commas are before any other rest too, and in any text that spells their names
 -- alike, where each element is.
 use Rattle.std.specs.Prelude.{ℕ, List, [], ◌∷◌}
-use Rattle.c_lex.specs.declared.punctuator.Punctuator.{Punctuator}
+use Rattle.c_syntax.specs.Words.{Punctuator, Token, AreMore, AreSeparated, Phrase}
 use Rattle.c_lex.specs.declared.punctuator.Punctuator.TheVariants as punctuators
-use Rattle.c_lex.specs.declared.token.Token.{Token}
-use Rattle.c_syntax.specs.Phrases.{AreMore, AreSeparated}
-use Rattle.c_syntax.specs.Tokens.{Phrase}
 use Rattle.c_syntax.proofs.Moves.{Moves, map, both, has_punctuator}
 
 abbrev pub EachMoves : {A : Type 0} → (A → List ℕ → Phrase) → Type 0

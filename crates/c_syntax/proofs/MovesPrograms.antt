@@ -4,19 +4,10 @@ use Rattle.std.proofs.Common.{◌≡◌, ℕ, Bool, true, false, List, [], ◌�
 use Rattle.std.proofs.Common.{refl, ap, ◌∙◌, inl, inr}
 use Rattle.c_lex.specs.declared.keyword.Keyword.TheVariants as keywords
 use Rattle.c_lex.specs.declared.punctuator.Punctuator.TheVariants as punctuators
-use Rattle.c_lex.specs.declared.token.Token.{Token}
+use Rattle.c_syntax.specs.Words.{Token, Length, Parameter, Literal, literal_kind, Alike, Initialiser, Single, Several, Global, ExternalDeclaration, Globals, Function, IsLiteral, IsConstant, AreConstants, IsLength, IsGlobal, AreGlobals, IsParameter, AreParameters, IsExternalDeclaration}
 use Rattle.c_syntax.specs.declared.declaration.Constant.{Constant}
-use Rattle.c_syntax.specs.declared.declaration.Length.{Length}
-use Rattle.c_syntax.specs.declared.declaration.Parameter.{Parameter}
-use Rattle.c_syntax.specs.declared.expression.Literal.{Literal}
-use Rattle.c_syntax.specs.Expressions.{literal_kind}
-use Rattle.c_syntax.specs.Faults.{Alike}
 use Rattle.c_syntax.specs.Limits as limits
-use Rattle.c_syntax.specs.Program.{Initialiser, Single, Several, Global, ExternalDeclaration}
-use Rattle.c_syntax.specs.Program.{Globals, Function}
-use Rattle.c_syntax.specs.Programs.{IsLiteral, IsConstant, AreConstants, IsInitialiser, IsLength}
-use Rattle.c_syntax.specs.Programs.{IsGlobal, AreGlobals, IsParameter, AreParameters}
-use Rattle.c_syntax.specs.Programs.{IsExternalDeclaration}
+use Rattle.c_syntax.specs.Programs.{IsInitialiser}
 use Rattle.c_syntax.proofs.Moves.{enclosed, Moves, map, both, nothing, alike_after, kind}
 use Rattle.c_syntax.proofs.Moves.{punctuator, has_punctuator, has_keyword, name, base, stars, type}
 use Rattle.c_syntax.proofs.MovesPhrases.{separated}

@@ -2,26 +2,11 @@
 -- same of their filters and finally blocks have numbers there.
 use Rattle.std.proofs.Common.{◌≡◌, ℕ, List, [], ◌∷◌, ◌++◌, cond, Option, Some, None, IsFalse, refl}
 use Rattle.std.proofs.Common.{ap, ◌∙◌}
-use Rattle.c_lex.specs.declared.keyword.Keyword.{Keyword}
+use Rattle.c_syntax.specs.Words.{Keyword, Punctuator, Token, Base, Expression, Alike, assignment, comma, Local, ForInitialiser, Declaring, Evaluating, Statement, Declare, Block, Evaluate, If, IfElse, While, DoWhile, For, Return, Break, Continue, Leave, TryExcept, TryFinally, Statements, Empty, Then, IsInitialiser, IsLocal, AreLocals, IsDeclaration, IsOptional, IsUpTo, IsCondition, IsForInitialiser, is_declaration, IsStatement, IsBlock, IsConditional, IsForHead, IsJump, IsBlockItem, AreBlockItems, Phrase, IsKeyword}
 use Rattle.c_lex.specs.declared.keyword.Keyword.TheVariants as keywords
-use Rattle.c_lex.specs.declared.punctuator.Punctuator.{Punctuator}
 use Rattle.c_lex.specs.declared.punctuator.Punctuator.TheVariants as punctuators
 use Rattle.c_lex.specs.declared.token.Kind.TheVariants as kinds
-use Rattle.c_lex.specs.declared.token.Token.{Token}
-use Rattle.c_syntax.specs.declared.expression.Base.{Base}
-use Rattle.c_syntax.specs.Expression.{Expression}
-use Rattle.c_syntax.specs.Faults.{Alike}
 use Rattle.c_syntax.specs.Limits as limits
-use Rattle.c_syntax.specs.Operators.{assignment, comma}
-use Rattle.c_syntax.specs.Statement.{Local, ForInitialiser, Declaring, Evaluating, Statement}
-use Rattle.c_syntax.specs.Statement.{Declare, Block, Evaluate, If, IfElse, While, DoWhile, For}
-use Rattle.c_syntax.specs.Statement.{Return, Break, Continue, Leave, TryExcept, TryFinally}
-use Rattle.c_syntax.specs.Statement.{Statements, Empty, Then}
-use Rattle.c_syntax.specs.Statements.{IsInitialiser, IsLocal, AreLocals, IsDeclaration, IsOptional}
-use Rattle.c_syntax.specs.Statements.{IsUpTo, IsCondition, IsForInitialiser, is_declaration}
-use Rattle.c_syntax.specs.Statements.{IsStatement, IsBlock, IsConditional, IsForHead, IsJump}
-use Rattle.c_syntax.specs.Statements.{IsBlockItem, AreBlockItems}
-use Rattle.c_syntax.specs.Tokens.{Phrase, IsKeyword}
 use Rattle.c_syntax.proofs.Moves as moves
 use Rattle.c_syntax.proofs.Moves.{enclosed, Moves, map, both, nothing, alike_after, has_punctuator}
 use Rattle.c_syntax.proofs.Moves.{has_keyword, name, base, stars, derives}

@@ -1,46 +1,13 @@
 -- Each node of a tree takes a token that is no other's.
 use Rattle.std.proofs.Common.{◌≡◌, ◌≤◌, ◌+◌, ℕ, zero, suc, Bool, true, false, List, [], ◌∷◌}
 use Rattle.std.proofs.Common.{length, Option, Some, None, refl, ap, arith, inl, inr}
-use Rattle.c_lex.specs.declared.keyword.Keyword.{Keyword}
+use Rattle.c_syntax.specs.Words.{Keyword, Punctuator, Kind, Token, Length, Base, CType, Field, Identifier, Literal, Expression, Constant, Variable, Information, Call, Parentheses, Index, Postfix, Prefix, Unary, Cast, Binary, Conditional, Assign, Comma, Arguments, Done, Next, literal_kind, OfLevel, TighterThan, IsApplied, IsContinued, IsField, IsInformation, SpellsExpression, SpellsArguments, SpellsMoreArguments, nodes, nodes_of_arguments, nodes_of_optional, nodes_of_locals, nodes_of_for_initialiser, nodes_of_statement, nodes_of_statements, nodes_of_initialiser, binary_punctuator, unary_punctuator, increment_punctuator, assignment_punctuator, InTurn, IsEnclosed, IsAnother, AreMore, AreSeparated, Initialiser, Single, Several, IsLiteral, IsConstant, AreConstants, IsLength, Local, ForInitialiser, Declaring, Evaluating, Statement, Declare, Block, Evaluate, If, IfElse, While, DoWhile, For, Return, Break, Continue, Leave, TryExcept, TryFinally, Statements, Empty, Then, IsInitialiser, IsLocal, AreLocals, IsDeclaration, IsOptional, IsUpTo, IsCondition, IsForInitialiser, IsStatement, IsBlock, IsConditional, IsJump, IsBlockItem, AreBlockItems, Phrase, IsKind, IsPunctuator, IsKeyword, IsIdentifier, HasPunctuator, HasKeyword, HasWord, spellings, AreKeywords, IsOneOf, IsBase, AreStars, IsType}
 use Rattle.c_lex.specs.declared.keyword.Keyword.TheVariants as keywords
-use Rattle.c_lex.specs.declared.punctuator.Punctuator.{Punctuator}
 use Rattle.c_lex.specs.declared.punctuator.Punctuator.TheVariants as punctuators
-use Rattle.c_lex.specs.declared.token.Kind.{Kind}
 use Rattle.c_lex.specs.declared.token.Kind.TheVariants as kinds
-use Rattle.c_lex.specs.declared.token.Token.{Token}
 use Rattle.c_syntax.specs.declared.declaration.Constant.{Constant as Constant'}
-use Rattle.c_syntax.specs.declared.declaration.Length.{Length}
-use Rattle.c_syntax.specs.declared.expression.Base.{Base}
-use Rattle.c_syntax.specs.declared.expression.CType.{CType}
-use Rattle.c_syntax.specs.declared.expression.Field.{Field}
 use Rattle.c_syntax.specs.declared.expression.Field.TheVariants as fields
-use Rattle.c_syntax.specs.declared.expression.Identifier.{Identifier}
-use Rattle.c_syntax.specs.declared.expression.Literal.{Literal}
-use Rattle.c_syntax.specs.Expression.{Expression, Constant, Variable, Information, Call}
-use Rattle.c_syntax.specs.Expression.{Parentheses, Index, Postfix, Prefix, Unary, Cast, Binary}
-use Rattle.c_syntax.specs.Expression.{Conditional, Assign, Comma, Arguments, Done, Next}
-use Rattle.c_syntax.specs.Expressions.{literal_kind, OfLevel, TighterThan, IsApplied, IsContinued}
-use Rattle.c_syntax.specs.Expressions.{IsField, IsInformation, SpellsExpression, SpellsArguments}
-use Rattle.c_syntax.specs.Expressions.{SpellsMoreArguments}
-use Rattle.c_syntax.specs.Nodes.{nodes, nodes_of_arguments, nodes_of_optional, nodes_of_locals}
-use Rattle.c_syntax.specs.Nodes.{nodes_of_for_initialiser, nodes_of_statement, nodes_of_statements}
-use Rattle.c_syntax.specs.Nodes.{nodes_of_initialiser}
-use Rattle.c_syntax.specs.Operators.{binary_punctuator, unary_punctuator, increment_punctuator}
-use Rattle.c_syntax.specs.Operators.{assignment_punctuator}
-use Rattle.c_syntax.specs.Phrases.{InTurn, IsEnclosed, IsAnother, AreMore, AreSeparated}
-use Rattle.c_syntax.specs.Program.{Initialiser, Single, Several}
 use Rattle.c_syntax.specs.Programs as programs
-use Rattle.c_syntax.specs.Programs.{IsLiteral, IsConstant, AreConstants, IsLength}
-use Rattle.c_syntax.specs.Statement.{Local, ForInitialiser, Declaring, Evaluating, Statement}
-use Rattle.c_syntax.specs.Statement.{Declare, Block, Evaluate, If, IfElse, While, DoWhile, For}
-use Rattle.c_syntax.specs.Statement.{Return, Break, Continue, Leave, TryExcept, TryFinally}
-use Rattle.c_syntax.specs.Statement.{Statements, Empty, Then}
-use Rattle.c_syntax.specs.Statements.{IsInitialiser, IsLocal, AreLocals, IsDeclaration, IsOptional}
-use Rattle.c_syntax.specs.Statements.{IsUpTo, IsCondition, IsForInitialiser, IsStatement, IsBlock}
-use Rattle.c_syntax.specs.Statements.{IsConditional, IsJump, IsBlockItem, AreBlockItems}
-use Rattle.c_syntax.specs.Tokens.{Phrase, IsKind, IsPunctuator, IsKeyword, IsIdentifier}
-use Rattle.c_syntax.specs.Tokens.{HasPunctuator, HasKeyword, HasWord}
-use Rattle.c_syntax.specs.Types.{spellings, AreKeywords, IsOneOf, IsBase, AreStars, IsType}
 
 -- A phrase takes at least so many tokens.
 pub record Takes (n : ℕ) (R : Phrase) : Type 0 where

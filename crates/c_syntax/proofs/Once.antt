@@ -2,29 +2,11 @@
 use Rattle.std.proofs.Common.{◌≡◌, ◌≤◌, ℕ, zero, suc, List, codes, slice_range, length, refl, sym}
 use Rattle.std.proofs.Common.{ap, ◌∙◌, subst, arith}
 use Rattle.c_lex.specs.declared.keyword.Keyword.TheVariants as keywords
-use Rattle.c_lex.specs.declared.punctuator.Punctuator.{Punctuator}
+use Rattle.c_syntax.specs.Words.{Punctuator, Token, UnaryOperator, Increment, CType, Field, Literal, Identifier, Expression, Constant, Variable, Information, Call, Parentheses, Index, Postfix, Prefix, Unary, Cast, Binary, Conditional, Assign, Comma, Arguments, Done, Next, height, heights, literal_kind, IsInteger, IsField, SpellsExpression, SpellsArguments, SpellsMoreArguments, Derives, follows, Stops, OneExpression, primary, unary, cast, assignment, comma, unary_punctuator, increment_punctuator, HasPunctuator, HasWord, Run, IsOperandAlone, Closes}
 use Rattle.c_lex.specs.declared.punctuator.Punctuator.TheVariants as punctuators
 use Rattle.c_lex.specs.declared.token.Kind.TheVariants as kinds
-use Rattle.c_lex.specs.declared.token.Token.{Token}
-use Rattle.c_syntax.specs.declared.operator.UnaryOperator.{UnaryOperator}
-use Rattle.c_syntax.specs.declared.operator.Increment.{Increment}
-use Rattle.c_syntax.specs.declared.expression.CType.{CType}
-use Rattle.c_syntax.specs.declared.expression.Field.{Field}
 use Rattle.c_syntax.specs.declared.expression.Field.TheVariants as fields
-use Rattle.c_syntax.specs.declared.expression.Literal.{Literal}
 use Rattle.c_syntax.specs.declared.expression.Literal.TheVariants as literals
-use Rattle.c_syntax.specs.declared.expression.Identifier.{Identifier}
-use Rattle.c_syntax.specs.Expression.{Expression, Constant, Variable, Information, Call}
-use Rattle.c_syntax.specs.Expression.{Parentheses, Index, Postfix, Prefix, Unary, Cast, Binary}
-use Rattle.c_syntax.specs.Expression.{Conditional, Assign, Comma, Arguments, Done, Next, height}
-use Rattle.c_syntax.specs.Expression.{heights}
-use Rattle.c_syntax.specs.Expressions.{literal_kind, IsInteger, IsField, SpellsExpression}
-use Rattle.c_syntax.specs.Expressions.{SpellsArguments, SpellsMoreArguments, Derives}
-use Rattle.c_syntax.specs.Follow.{follows, Stops, OneExpression}
-use Rattle.c_syntax.specs.Operators.{primary, unary, cast, assignment, comma, unary_punctuator}
-use Rattle.c_syntax.specs.Operators.{increment_punctuator}
-use Rattle.c_syntax.specs.Tokens.{HasPunctuator, HasWord}
-use Rattle.c_syntax.specs.Steps.{Run, IsOperandAlone, Closes}
 use Rattle.c_syntax.proofs.Spine.{spine, follows_punctuator, closes, run_reach, run_height}
 use Rattle.c_syntax.proofs.Fronts.{kind_same, punctuator_same, has_same, name_same, same_unary}
 use Rattle.c_syntax.proofs.Fronts.{same_increment, punctuator_class, kind_class, front}

@@ -1,22 +1,9 @@
 -- A step and what follows it are found by where it begins, and so are the steps after an operand.
 use Rattle.std.proofs.Common.{◌≡◌, ◌≤◌, ◌<◌, ◌-◌, ℕ, List, [], ◌∷◌, Option, refl, sym, ap, ◌∙◌}
 use Rattle.std.proofs.Common.{subst, arith}
-use Rattle.c_lex.specs.declared.punctuator.Punctuator.{Punctuator}
+use Rattle.c_syntax.specs.Words.{Punctuator, Token, Arithmetic, BinaryOperator, Increment, Expression, Binary, Comma, height, rank, TighterThan, SpellsExpression, Derives, punctuator_follows, follows, Stops, conditional, assignment, comma, level, binary_punctuator, increment_punctuator, assignment_punctuator, HasPunctuator, Step, At, After, With, Choose, Set, And, apply, Tail, Run, Closes}
 use Rattle.c_lex.specs.declared.punctuator.Punctuator.TheVariants as punctuators
-use Rattle.c_lex.specs.declared.token.Token.{Token}
-use Rattle.c_syntax.specs.declared.operator.Arithmetic.{Arithmetic}
-use Rattle.c_syntax.specs.declared.operator.BinaryOperator.{BinaryOperator}
-use Rattle.c_syntax.specs.declared.operator.Increment.{Increment}
 use Rattle.c_syntax.specs.declared.operator.Increment.TheVariants as increments
-use Rattle.c_syntax.specs.Expression.{Expression}
-use Rattle.c_syntax.specs.Expression.{Binary}
-use Rattle.c_syntax.specs.Expression.{Comma, height}
-use Rattle.c_syntax.specs.Expressions.{rank, TighterThan, SpellsExpression, Derives}
-use Rattle.c_syntax.specs.Follow.{punctuator_follows, follows, Stops}
-use Rattle.c_syntax.specs.Operators.{conditional, assignment, comma, level, binary_punctuator}
-use Rattle.c_syntax.specs.Operators.{increment_punctuator, assignment_punctuator}
-use Rattle.c_syntax.specs.Tokens.{HasPunctuator}
-use Rattle.c_syntax.specs.Steps.{Step, At, After, With, Choose, Set, And, apply, Tail, Run, Closes}
 use Rattle.c_syntax.proofs.Spine.{levels, follows_punctuator, step_follows, closes, run_reach}
 use Rattle.c_syntax.proofs.Spine.{run_rank, run_height}
 use Rattle.c_syntax.proofs.Fronts.{punctuator_same, has_same, same_binary, same_increment}

@@ -1,10 +1,6 @@
 -- An expression goes through each left part that was read of it.
 use Rattle.std.proofs.Common.{◌≡◌, ◌≤◌, ◌<◌, ℕ, List, [], ◌∷◌, sym, ap, subst, arith}
-use Rattle.c_lex.specs.declared.token.Token.{Token}
-use Rattle.c_syntax.specs.Expression.{Expression, height}
-use Rattle.c_syntax.specs.Expressions.{rank, SpellsExpression, Derives}
-use Rattle.c_syntax.specs.Follow.{follows, Stops}
-use Rattle.c_syntax.specs.Steps.{Step, apply, bound, Tail, Run, Closes}
+use Rattle.c_syntax.specs.Words.{Token, Expression, height, rank, SpellsExpression, Derives, follows, Stops, Step, apply, bound, Tail, Run, Closes}
 use Rattle.c_syntax.proofs.Spine.{spine, step_follows, reach, reaches, wide_step, closes, run_reach}
 use Rattle.c_syntax.proofs.Spine.{run_rank, run_height}
 use Rattle.c_syntax.proofs.Once.{Below, below, same_tail, same_head}

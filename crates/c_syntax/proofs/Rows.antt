@@ -1,13 +1,6 @@
 -- The rows' derivations.
 use Rattle.std.proofs.Common.{◌≤◌, ◌<◌, ℕ, List, refl, arith, inl}
-use Rattle.c_lex.specs.declared.punctuator.Punctuator.{Punctuator}
-use Rattle.c_lex.specs.declared.token.Token.{Token}
-use Rattle.c_syntax.specs.Expression.{Expression}
-use Rattle.c_syntax.specs.Expressions.{rank, OfLevel, TighterThan, IsApplied, IsContinued}
-use Rattle.c_syntax.specs.Phrases.{IsEnclosed}
-use Rattle.c_syntax.specs.Rows.{Differences, Product, CastOfElement, Choices, Assignments}
-use Rattle.c_syntax.specs.Rows.{TwoArguments, NearestIf, NoOtherIf}
-use Rattle.c_syntax.specs.Tokens.{Phrase, HasPunctuator}
+use Rattle.c_syntax.specs.Words.{Punctuator, Token, Expression, rank, OfLevel, TighterThan, IsApplied, IsContinued, IsEnclosed, Differences, Product, CastOfElement, Choices, Assignments, TwoArguments, NearestIf, NoOtherIf, Phrase, HasPunctuator}
 
 -- ---- what derivations are made of
 

@@ -1,13 +1,8 @@
 -- There is one list at most of elements between commas, where there is one element at most up to a
 -- comma or the end.
 use Rattle.std.proofs.Common.{◌≡◌, ◌<◌, List, [], ◌∷◌, refl, sym, ap, ◌∙◌, arith}
-use Rattle.c_lex.specs.declared.punctuator.Punctuator.{Punctuator}
+use Rattle.c_syntax.specs.Words.{Punctuator, Token, punctuator_follows, Stops, assignment, AreMore, AreSeparated, Phrase, HasPunctuator}
 use Rattle.c_lex.specs.declared.punctuator.Punctuator.TheVariants as punctuators
-use Rattle.c_lex.specs.declared.token.Token.{Token}
-use Rattle.c_syntax.specs.Follow.{punctuator_follows, Stops}
-use Rattle.c_syntax.specs.Operators.{assignment}
-use Rattle.c_syntax.specs.Phrases.{AreMore, AreSeparated}
-use Rattle.c_syntax.specs.Tokens.{Phrase, HasPunctuator}
 use Rattle.c_syntax.proofs.Fronts.{punctuator_same, has_same}
 use Rattle.c_syntax.proofs.Once.{has_stops}
 

@@ -1,14 +1,7 @@
 -- What is read takes tokens, since each tree has a node.
 use Rattle.std.proofs.Common.{◌≤◌, ◌<◌, ℕ, List, length, arith}
-use Rattle.c_lex.specs.declared.token.Token.{Token}
+use Rattle.c_syntax.specs.Words.{Token, Expression, Constant, SpellsExpression, nodes, nodes_of_statement, Global, ExternalDeclaration, IsConstant, IsGlobal, IsExternalDeclaration, Statement, Declare, IsBlockItem}
 use Rattle.c_syntax.specs.declared.declaration.Constant.{Constant as Constant'}
-use Rattle.c_syntax.specs.Expression.{Expression, Constant}
-use Rattle.c_syntax.specs.Expressions.{SpellsExpression}
-use Rattle.c_syntax.specs.Nodes.{nodes, nodes_of_statement}
-use Rattle.c_syntax.specs.Program.{Global, ExternalDeclaration}
-use Rattle.c_syntax.specs.Programs.{IsConstant, IsGlobal, IsExternalDeclaration}
-use Rattle.c_syntax.specs.Statement.{Statement, Declare}
-use Rattle.c_syntax.specs.Statements.{IsBlockItem}
 use Rattle.c_syntax.proofs.Nodes as counted
 use Rattle.c_syntax.proofs.NodesOfPrograms as counted_programs
 

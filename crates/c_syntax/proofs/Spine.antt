@@ -1,32 +1,14 @@
 -- An expression is its first operand and the steps after it, from left to right.
 use Rattle.std.proofs.Common.{◌≡◌, ◌≤◌, ◌<◌, ◌-◌, ℕ, List, [], ◌∷◌, ◌++◌, Option, Some, None, refl}
 use Rattle.std.proofs.Common.{sym, ap, ◌∙◌, subst, arith}
-use Rattle.c_lex.specs.declared.punctuator.Punctuator.{Punctuator}
+use Rattle.c_syntax.specs.Words.{Punctuator, Kind, Token, Arithmetic, BinaryOperator, Increment, Expression, Constant, Variable, Information, Call, Parentheses, Index, Postfix, Prefix, Unary, Cast, Binary, Conditional, Assign, Comma, height, rank, IsContinued, SpellsExpression, Derives, punctuator_follows, kind_follows, follows, Stops, primary, postfix, unary, cast, logical_or, conditional, assignment, comma, level, level_of_arithmetic, level_of_comparison, binary_punctuator, punctuator_of_arithmetic, punctuator_of_comparison, increment_punctuator, assignment_punctuator, Step, At, After, With, Choose, Set, And, apply, bound, Tail, Run, IsOperandAlone, Closes, IsPunctuator}
 use Rattle.c_lex.specs.declared.punctuator.Punctuator.TheVariants as punctuators
-use Rattle.c_lex.specs.declared.token.Kind.{Kind}
 use Rattle.c_lex.specs.declared.token.Kind.TheVariants as kinds
-use Rattle.c_lex.specs.declared.token.Token.{Token}
-use Rattle.c_syntax.specs.declared.operator.Arithmetic.{Arithmetic}
 use Rattle.c_syntax.specs.declared.operator.Arithmetic.TheVariants as arithmetic
 use Rattle.c_syntax.specs.declared.operator.Comparison.{Comparison}
 use Rattle.c_syntax.specs.declared.operator.Comparison.TheVariants as comparisons
-use Rattle.c_syntax.specs.declared.operator.BinaryOperator.{BinaryOperator}
 use Rattle.c_syntax.specs.declared.operator.BinaryOperator.TheVariants as binary
-use Rattle.c_syntax.specs.declared.operator.Increment.{Increment}
 use Rattle.c_syntax.specs.declared.operator.Increment.TheVariants as increments
-use Rattle.c_syntax.specs.Expression.{Expression, Constant, Variable, Information, Call}
-use Rattle.c_syntax.specs.Expression.{Parentheses, Index, Postfix, Prefix, Unary, Cast, Binary}
-use Rattle.c_syntax.specs.Expression.{Conditional, Assign, Comma, height}
-use Rattle.c_syntax.specs.Expressions.{rank, IsContinued, SpellsExpression, Derives}
-use Rattle.c_syntax.specs.Follow.{punctuator_follows, kind_follows, follows, Stops}
-use Rattle.c_syntax.specs.Operators.{primary, postfix, unary, cast, logical_or, conditional}
-use Rattle.c_syntax.specs.Operators.{assignment, comma, level, level_of_arithmetic}
-use Rattle.c_syntax.specs.Operators.{level_of_comparison, binary_punctuator}
-use Rattle.c_syntax.specs.Operators.{punctuator_of_arithmetic, punctuator_of_comparison}
-use Rattle.c_syntax.specs.Operators.{increment_punctuator, assignment_punctuator}
-use Rattle.c_syntax.specs.Steps.{Step, At, After, With, Choose, Set, And, apply, bound, Tail, Run}
-use Rattle.c_syntax.specs.Steps.{IsOperandAlone, Closes}
-use Rattle.c_syntax.specs.Tokens.{IsPunctuator}
 
 pub record Spine (text : List ℕ) (e : Expression) (ts end : List Token) : Type 0 where
   pub head : Expression

@@ -1,15 +1,7 @@
 -- An expression begins with its first token.
 use Rattle.std.proofs.Common.{ℕ, List, refl}
-use Rattle.c_lex.specs.declared.token.Kind.{Kind}
+use Rattle.c_syntax.specs.Words.{Kind, Token, Identifier, Expression, Constant, Variable, Information, Call, Parentheses, Index, Postfix, Prefix, Unary, Cast, Binary, Conditional, Assign, Comma, start, SpellsExpression, StartsAt, ExpressionStart, token, IsKind, IsIdentifier}
 use Rattle.c_lex.specs.declared.token.Kind.TheVariants as kinds
-use Rattle.c_lex.specs.declared.token.Token.{Token}
-use Rattle.c_syntax.specs.declared.expression.Identifier.{Identifier}
-use Rattle.c_syntax.specs.Expression.{Expression, Constant, Variable, Information, Call}
-use Rattle.c_syntax.specs.Expression.{Parentheses, Index, Postfix, Prefix, Unary, Cast, Binary}
-use Rattle.c_syntax.specs.Expression.{Conditional, Assign, Comma, start}
-use Rattle.c_syntax.specs.Expressions.{SpellsExpression}
-use Rattle.c_syntax.specs.Follow.{StartsAt, ExpressionStart}
-use Rattle.c_syntax.specs.Tokens.{token, IsKind, IsIdentifier}
 
 by_kind : (k : Kind) (at : ℕ) (ts rest : List Token) → IsKind k at ts rest → StartsAt at ts
 by_kind k at ts rest h =

@@ -16,3 +16,4 @@ pub mod Nodes
 pub mod Faults
 pub mod Viable
 pub mod Rows
+pub mod Words

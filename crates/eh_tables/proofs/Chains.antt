@@ -3,14 +3,8 @@ use Rattle.std.proofs.Common.{◌≡◌, ℕ, zero, suc, ◌+◌, ◌≤◌, ◌
 use Rattle.std.specs.Prelude.{Result, nat_le}
 use Rattle.std.proofs.lemmas.Bool.{lt-ltb, le-leb}
 use Rattle.std.proofs.lemmas.List.{append-nil}
-use Rattle.pe_image.specs.Image.{Image}
-use Rattle.eh_tables.specs.declared.range.RuntimeFunction.{RuntimeFunction}
-use Rattle.eh_tables.specs.declared.refusal.TableErr.{TableErr}
+use Rattle.eh_tables.specs.Words.{Image, RuntimeFunction, TableErr, ◌>>=◌, unless, onto, prepend, Table, Info, info, Entry, parents, entry}
 use Rattle.eh_tables.specs.declared.refusal.TableErr.TheVariants as refusals
-use Rattle.seh_num.specs.Answers.{◌>>=◌, unless, onto, prepend}
-use Rattle.eh_tables.specs.Answer.{Table}
-use Rattle.eh_tables.specs.Infos.{Info, info}
-use Rattle.eh_tables.specs.Tables.{Entry, parents, entry}
 
 onto_more : {A : Type 0} (xs : List A) (x : A) (r : Result (List A) TableErr)
     → onto xs (prepend x r) ≡ onto (xs ++ (x ∷ [])) r

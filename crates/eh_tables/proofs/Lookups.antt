@@ -4,14 +4,8 @@ use Rattle.std.specs.Prelude.{nat_le, nat_lt}
 use Rattle.std.specs.Result.{result_ok}
 use Rattle.std.proofs.lemmas.Bool.{and_from, and_left, and_right, lt-ltb, le-ltb, le-leb, lt-leb, ltb-true, leb-true}
 use Rattle.std.proofs.Math.Nat.{mul-le-mul_left, pow-suc}
-use Rattle.pe_image.specs.Image.{Image}
-use Rattle.eh_tables.specs.declared.range.RuntimeFunction.{RuntimeFunction}
-use Rattle.eh_tables.specs.declared.refusal.TableErr.{TableErr}
+use Rattle.eh_tables.specs.Words.{Image, RuntimeFunction, TableErr, ◌>>=◌, unless, prepend, Table, info, Entry, Tables, entry, entry_at, parents, no_range, end_before, entries, entries_of, covers_address, entry_or, holding, TablesAreWhole}
 use Rattle.eh_tables.specs.declared.refusal.TableErr.TheVariants as refusals
-use Rattle.seh_num.specs.Answers.{◌>>=◌, unless, prepend}
-use Rattle.eh_tables.specs.Answer.{Table}
-use Rattle.eh_tables.specs.Infos.{info}
-use Rattle.eh_tables.specs.Tables.{Entry, Tables, entry, entry_at, parents, no_range, end_before, entries, entries_of, covers_address, entry_or, holding, TablesAreWhole}
 
 -- ---- what an answer without a refusal says
 

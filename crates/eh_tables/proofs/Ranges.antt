@@ -2,13 +2,7 @@
 use Rattle.std.proofs.Common.{◌≡◌, ℕ, zero, suc, ◌+◌, ◌*◌, ◌/◌, ◌≤◌, ◌<◌, Ok, Err, List, ◌∷◌, length, drop, get_or, drop-cons, refl, sym, ap, ◌∙◌, arith}
 use Rattle.std.proofs.lemmas.List.{drop-drop}
 use Rattle.byteorder.specs.Endian.{little_number}
-use Rattle.pe_image.specs.Field.{field}
-use Rattle.pe_image.specs.Image.{Image}
-use Rattle.eh_tables.specs.declared.range.RuntimeFunction.{RuntimeFunction}
-use Rattle.seh_num.specs.Answers.{◌>>=◌, prepend}
-use Rattle.eh_tables.specs.Answer.{Table}
-use Rattle.eh_tables.specs.Infos.{range_at}
-use Rattle.eh_tables.specs.Tables.{Entry, entry, ranges, ranges_in, no_range, end_before, entries, passed}
+use Rattle.eh_tables.specs.Words.{field, Image, RuntimeFunction, ◌>>=◌, prepend, Table, range_at, Entry, entry, ranges, ranges_in, no_range, end_before, entries, passed}
 
 -- ---- the directory
 

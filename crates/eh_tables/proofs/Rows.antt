@@ -1,7 +1,7 @@
 -- One record of a scope table.
 use Rattle.std.proofs.Common.{◌≡◌, ℕ, zero, suc, ◌+◌, ◌-◌, ◌/◌, ◌≤◌, List, ◌∷◌, length, take, drop, length-drop, refl, sym, ap, ◌∙◌, arith}
 use Rattle.std.proofs.lemmas.List.{take_all}
-use Rattle.eh_tables.specs.Scopes.{scope_record, rows, scope_records_in}
+use Rattle.eh_tables.specs.Words.{scope_record, rows, scope_records_in}
 
 one_more : (n : ℕ) (xs : List ℕ) (k : ℕ) → n ≡ k + 1
     → rows n xs ≡ scope_record xs ∷ rows k (drop 16 xs)

@@ -2,10 +2,8 @@
 use Rattle.std.proofs.Common.{◌≡◌, ◌≢◌, ℕ, zero, suc, ◌+◌, ◌-◌, ◌*◌, ◌/◌, ◌%◌, ◌≤◌, Bool, false, Some, List, [], ◌∷◌, length, take, drop, get_or, length-drop, refl, sym, ap, ◌∙◌, arith}
 use Rattle.std.specs.Prelude.{nat_lt}
 use Rattle.std.proofs.lemmas.List.{take_all}
-use Rattle.eh_tables.specs.declared.code.UnwindOperation.{UnwindOperation}
-use Rattle.eh_tables.specs.declared.code.UnwindCode.{UnwindCode}
-use Rattle.eh_tables.specs.Answer.{Table}
-use Rattle.eh_tables.specs.Codes.{operation, code_before, codes, code_checked, in_order, checked}
+use Rattle.eh_tables.specs.Words.{UnwindOperation, UnwindCode, Table, operation, code_before, codes, code_checked, in_order}
+use Rattle.eh_tables.specs.Codes.{checked}
 
 -- operands are passed over
 pub passed : (framed : Bool) (k n : ℕ) (xs : List ℕ) → n ≡ 2 * k

@@ -4,19 +4,8 @@ use Rattle.std.proofs.lemmas.Bool.{eq-eqb, eqb-true}
 use Rattle.std.proofs.lemmas.List.{take-take, length-take-le}
 use Rattle.std.specs.List.{flat_map, AllByRecursion}
 use Rattle.std.specs.Prelude.{◌==◌}
-use Rattle.pe_image.specs.Image.{Section, section_at, stored_in, only_if, whole, stored}
-use Rattle.eh_tables.specs.declared.range.RuntimeFunction.{RuntimeFunction}
-use Rattle.eh_tables.specs.declared.scope.ScopeRecord.{ScopeRecord}
-use Rattle.eh_tables.specs.declared.refusal.TableErr.{TableErr}
+use Rattle.eh_tables.specs.Words.{Section, section_at, stored_in, only_if, whole, stored, RuntimeFunction, ScopeRecord, TableErr, ◌>>=◌, unless, or_refused, Table, range_at, scope_record, rows, scope_records_in, ranges, ranges_in, unless_none, stored_ranges, directory, u32, range_bytes, scope_record_bytes, table_bytes, IsRuntimeFunction, IsScopeRecord, RangesAreReadAgain}
 use Rattle.eh_tables.specs.declared.refusal.TableErr.TheVariants as refusals
-use Rattle.seh_num.specs.Answers.{◌>>=◌, unless, or_refused}
-use Rattle.eh_tables.specs.Answer.{Table}
-use Rattle.eh_tables.specs.Infos.{range_at}
-use Rattle.eh_tables.specs.Scopes.{scope_record, rows, scope_records_in}
-use Rattle.eh_tables.specs.Tables.{ranges, ranges_in, unless_none, stored_ranges, directory}
-use Rattle.pe_image.specs.Numbers.{u32}
-use Rattle.eh_tables.specs.Written.{range_bytes, scope_record_bytes, table_bytes}
-use Rattle.eh_tables.specs.ReadAgain.{IsRuntimeFunction, IsScopeRecord, RangesAreReadAgain}
 
 -- ---- where bytes are stored, those at their front are too
 

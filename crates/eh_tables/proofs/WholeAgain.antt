@@ -1,15 +1,7 @@
 -- A function table that is written, read again as a whole.
 use Rattle.std.proofs.Common.{◌≡◌, ℕ, zero, suc, ◌+◌, ◌<◌, ◌≤◌, Bool, true, false, Ok, List, [], ◌∷◌, length, map, Option, refl, sym, ap, ◌∙◌, arith}
 use Rattle.std.specs.List.{AllByRecursion}
-use Rattle.pe_image.specs.Image.{Image}
-use Rattle.eh_tables.specs.declared.layout.TheConstants.{MOST_PARENTS}
-use Rattle.eh_tables.specs.declared.range.RuntimeFunction.{RuntimeFunction}
-use Rattle.eh_tables.specs.declared.scope.ScopeRecord.{ScopeRecord}
-use Rattle.seh_num.specs.Answers.{◌>>=◌, prepend}
-use Rattle.eh_tables.specs.Answer.{Table}
-use Rattle.eh_tables.specs.Infos.{Info, info}
-use Rattle.eh_tables.specs.Tables.{Entry, entry, entries, parents}
-use Rattle.eh_tables.specs.ReadAgain.{WrittenInfo, WrittenEntry, HasScopes, IsInfoWritten, IsChainedTo, IsEntryWritten, AreInOrder, info_read, as_read, ranges_of, has_c_handler, parent_of, info_written, TableIsReadAgain}
+use Rattle.eh_tables.specs.Words.{Image, MOST_PARENTS, RuntimeFunction, ScopeRecord, ◌>>=◌, prepend, Table, Info, info, Entry, entry, entries, parents, WrittenInfo, WrittenEntry, HasScopes, IsInfoWritten, IsChainedTo, IsEntryWritten, AreInOrder, info_read, as_read, ranges_of, has_c_handler, parent_of, info_written, TableIsReadAgain}
 use Rattle.eh_tables.proofs.Chains.{entry_is}
 use Rattle.eh_tables.proofs.InfosAgain.{reads_info, reads_scopes}
 use Rattle.eh_tables.proofs.TablesAgain.{reads_ranges}

@@ -7,3 +7,4 @@ pub mod Refusals
 pub mod Scopes
 pub mod Tables
 pub mod Written
+pub mod Words

@@ -1,21 +1,9 @@
 -- The states of the body have the frame of all codes.
 use Rattle.std.proofs.Common.{◌≡◌, ◌≢◌, ℕ, Bool, true, false, not, ◌&&◌, ◌||◌, eqb, List, [], ◌∷◌, ◌++◌, Option, Some, None, refl, sym, ap, subst, ◌∙◌, inl, inr}
 use Rattle.std.proofs.lemmas.Bool.{cases_eq, false≢true, and_parts, or_cases, or_from, or_right, not-true, ne_eqb}
-use Rattle.x64_instr.specs.declared.instruction.Instr.{Instr}
+use Rattle.frame_rules.specs.Words.{Instr, State, UnwindOperation, Push, Allocate, SetFrame, Save, SaveVector, MachineFrame, sets_frame, is_nonvolatile, Role, Opens, Restores, Ends, Other, FetchedInstr, role_of, is_saved, is_allowed, are_allowed, Stack, Framed, HoldsFrame, is_pop, written, has, may_write_all, restored_by, with_restored, Mode, Body, Leaving, only_if, is_ends, leaving, from_body, and_then, following, is_body, registers, is_other, writes, is_written, InBody}
 use Rattle.x64_instr.specs.declared.instruction.Instr.TheVariants as instrs
-use Rattle.x64_machine.specs.Effect.{State}
-use Rattle.eh_tables.specs.declared.code.UnwindOperation.{UnwindOperation}
-use Rattle.eh_tables.specs.declared.code.UnwindOperation.TheVariants.{Push, Allocate, SetFrame, Save, SaveVector, MachineFrame}
-use Rattle.virtual_unwind.specs.CallerOf.{sets_frame}
-use Rattle.virtual_unwind.specs.Contexts.{is_nonvolatile}
-use Rattle.virtual_unwind.specs.declared.tail.Role.{Role}
-use Rattle.virtual_unwind.specs.declared.tail.Role.TheVariants.{Opens, Restores, Ends, Other}
-use Rattle.virtual_unwind.specs.Tail.{FetchedInstr, role_of}
-use Rattle.frame_rules.specs.Codes.{is_saved, is_allowed, are_allowed}
-use Rattle.frame_rules.specs.Frame.{Stack, Framed, HoldsFrame}
-use Rattle.frame_rules.specs.Epilogue.{is_pop}
-use Rattle.frame_rules.specs.Body.{written, has, may_write, may_write_all, restored_by, with_restored, Mode, Body, Leaving, only_if, is_ends, leaving, from_body, next, and_then, following, is_body}
-use Rattle.frame_rules.specs.States.{registers, is_other, writes, is_written, InBody}
+use Rattle.frame_rules.specs.Body.{may_write, next}
 use Rattle.frame_rules.proofs.Undoing.{saved_register, framed_saved}
 use Rattle.frame_rules.proofs.Words.{kept_words}
 use Rattle.frame_rules.proofs.Steps.{Running}

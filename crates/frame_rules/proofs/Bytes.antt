@@ -2,30 +2,12 @@
 use Rattle.std.proofs.Common.{◌≡◌, ℕ, zero, suc, ◌+◌, ◌-◌, ◌*◌, ◌%◌, ◌^◌, ◌<◌, ◌≤◌, Bool, true, false, cond, ◌&&◌, eqb, leb, ltb, List, [], ◌∷◌, ◌++◌, length, Option, Some, None, refl, sym, ap, subst, ◌∙◌, arith, inl, inr, length-append}
 use Rattle.std.specs.List.{flat_map}
 use Rattle.std.proofs.lemmas.Bool.{cases_lt, and_parts, and_from, or_right, lt-ltb, le-leb}
-use Rattle.seh_num.specs.declared.width.Width.TheVariants.{W32, W64}
-use Rattle.flat_memory.specs.Memory.{Memory, next, executable}
-use Rattle.x64_instr.specs.declared.register.Reg.{Reg}
-use Rattle.x64_instr.specs.declared.operand.Base.{Base}
+use Rattle.frame_rules.specs.Words.{W32, W64, Memory, next, executable, Reg, Base, Index, MemRef, Indirect, Instr, number, instr, leading, State, chosen, is_encodable, is_signed, memory_bytes, at_register, sib, mode, displacement, has_rex, modrm_bits, modrm, UnwindOperation, FetchedInstr, is_plain, item_of, fetched_at, depth, bytes, items, Saved, FramePlan, IsPlan, saves_then, spelled_by, all_encodable, operations_of, instructions_of, turned, steps_of, prologue, loads_then, opening_then, opening_by, pops_then, epilogue, with_epilogues, frame_size, IsEntry, HasItems, ops}
 use Rattle.x64_instr.specs.declared.operand.Base.TheVariants as bases
-use Rattle.x64_instr.specs.declared.operand.Index.{Index}
-use Rattle.x64_instr.specs.declared.operand.MemRef.{MemRef}
 use Rattle.x64_instr.specs.declared.operand.RegisterOrMemory.TheVariants as places
-use Rattle.x64_instr.specs.declared.instruction.Target.TheVariants.{Indirect}
-use Rattle.x64_instr.specs.declared.instruction.Instr.{Instr}
 use Rattle.x64_instr.specs.declared.instruction.Instr.TheVariants as instrs
-use Rattle.x64_instr.specs.Registers.{number}
-use Rattle.x64_instr.specs.Spelling.{instr, leading}
-use Rattle.x64_machine.specs.Effect.{State}
-use Rattle.x64_encode.specs.Chosen.{chosen, is_encodable, is_signed, memory_bytes, at_register, sib, mode, displacement, has_rex, modrm_bits, modrm}
 use Rattle.x64_encode.proofs.Written.{again}
 use Rattle.x64_encode.proofs.Lengths.{longest}
-use Rattle.eh_tables.specs.declared.code.UnwindOperation.{UnwindOperation}
-use Rattle.virtual_unwind.specs.Tail.{FetchedInstr, is_plain, item_of, fetched_at}
-use Rattle.frame_rules.specs.Codes.{depth}
-use Rattle.frame_rules.specs.Prologue.{bytes, items}
-use Rattle.frame_rules.specs.Plan.{Saved, FramePlan, IsPlan, saves_then, spelled_by, all_encodable, operations_of, instructions_of, turned, steps_of, prologue, loads_then, opening_then, opening_by, pops_then, epilogue, with_epilogues, frame_size}
-use Rattle.frame_rules.specs.States.{IsEntry, HasItems}
-use Rattle.frame_rules.specs.Rules.{ops}
 use Rattle.frame_rules.specs.Bytes.{spell, IsExecutableAt, code, SpellsAll, CodeHasItems, prologue_code, rest_code, all_code, spelled_parts, planned, all_parts, PlansAreEncodable, PlannedFramesAreRight}
 use Rattle.frame_rules.proofs.Planning.{AllEmitted, all_turned, emitted_plan, step_encodable, small_signed, codes_plan}
 use Rattle.frame_rules.proofs.Sizes.{frame_has_its_size}

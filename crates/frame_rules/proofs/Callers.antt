@@ -1,20 +1,10 @@
 -- Callers, by the function tables.
 use Rattle.std.proofs.Common.{◌≡◌, ℕ, ◌-◌, true, ltb, List, [], Option, Some, None, refl, sym, ap, subst, ◌∙◌, arith, inl, inr}
 use Rattle.std.proofs.lemmas.Bool.{cases_eq, lt-ltb}
-use Rattle.x64_machine.specs.declared.context.Context.{Context}
-use Rattle.x64_machine.specs.Contexts.{context_of}
-use Rattle.x64_machine.specs.Effect.{State}
-use Rattle.eh_tables.specs.Infos.{Info}
+use Rattle.frame_rules.specs.Words.{Context, context_of, State, Info, is_nonvolatile, get, rsp, ◌>>=◌, popped, CallerFrame, distance, in_entry, of_entry, leaf, risen, rising, caller_in, caller_of, IsWord, left_to, registers, return_address, FindsContext, IsFound, EntriesAreFound, LeavesAreFound}
 use Rattle.eh_tables.specs.Tables.{Entry, Tables, entries_of, holding}
-use Rattle.virtual_unwind.specs.Contexts.{is_nonvolatile, get, rsp}
-use Rattle.seh_num.specs.Answers.{◌>>=◌}
-use Rattle.virtual_unwind.specs.Undone.{Answer, popped}
-use Rattle.virtual_unwind.specs.CallerOf.{CallerFrame, distance, in_entry, of_entry, leaf, risen, rising, caller_in, caller_of}
-use Rattle.virtual_unwind.proofs.Registers.{get-context}
-use Rattle.frame_rules.specs.Frame.{IsWord, left_to}
-use Rattle.frame_rules.specs.States.{registers, return_address}
-use Rattle.frame_rules.specs.Rules.{FindsContext, IsFound}
-use Rattle.frame_rules.specs.Laws.{EntriesAreFound, LeavesAreFound}
+use Rattle.virtual_unwind.specs.Undone.{Answer}
+use Rattle.frame_rules.proofs.Lemmas.{get-context}
 use Rattle.frame_rules.proofs.Undoing.{popped_is}
 use Rattle.frame_rules.proofs.Bodies.{body_holds}
 use Rattle.frame_rules.proofs.Frames.{first_running, finds}

@@ -3,21 +3,10 @@ use Rattle.std.proofs.Common.{◌≡◌, ◌≢◌, ℕ, ◌+◌, ◌-◌, ◌%�
 use Rattle.std.specs.Prelude.{◌⊎◌}
 use Rattle.std.proofs.lemmas.Bool.{false≢true, and_parts, and_from, or_left, or_right, eq-eqb, ne_eqb, eqb-true, eqb-false, not_from_false}
 use Rattle.x64_instr.specs.declared.operand.Base.TheVariants as bases
-use Rattle.x64_instr.specs.declared.instruction.Instr.{Instr}
+use Rattle.frame_rules.specs.Words.{Instr, number, UnwindOperation, is_nonvolatile, Role, Opens, Restores, Ends, Other, FetchedInstr, role_of, opening, ending, is_of, sets_frame, allocation, pushes, pushed, is_saved, may_save, are_allowed, is_ordered, is_pop, gives_back, written, may_write_all, saved_at, is_place, if_place, restored_by, with_restored, are_restored, Mode, Body, Leaving, only_if, is_ends, leaving, from_body, and_then, following, is_body, is_other, Saved, FramePlan, IsPlan, IsSpelling, frame_then, allocation_then, operations_of, stack_place, spelled_by, load_of, loads_then, opening_by, opening_then, pops_then, epilogue, is_inner, are_inner, with_epilogues, all_inner, PlansAreRight}
 use Rattle.x64_instr.specs.declared.instruction.Instr.TheVariants as instrs
-use Rattle.x64_instr.specs.Registers.{number, register}
-use Rattle.eh_tables.specs.declared.code.UnwindOperation.{UnwindOperation}
-use Rattle.virtual_unwind.specs.Contexts.{is_nonvolatile}
-use Rattle.virtual_unwind.specs.declared.tail.Role.{Role}
-use Rattle.virtual_unwind.specs.declared.tail.Role.TheVariants.{Opens, Restores, Ends, Other}
-use Rattle.virtual_unwind.specs.Tail.{FetchedInstr, role_of, opening, ending, is_of}
-use Rattle.virtual_unwind.specs.CallerOf.{sets_frame}
-use Rattle.frame_rules.specs.Codes.{allocation, pushes, pushed, is_saved, may_save, are_allowed, is_ordered}
-use Rattle.frame_rules.specs.Epilogue.{is_pop, gives_back}
-use Rattle.frame_rules.specs.Body.{written, may_write, may_write_all, saved_at, is_place, if_place, restored_by, with_restored, are_restored, Mode, Body, Leaving, only_if, is_ends, leaving, from_body, next, and_then, following, is_body}
-use Rattle.frame_rules.specs.States.{is_other}
-use Rattle.frame_rules.specs.Plan.{Saved, FramePlan, IsPlan, IsSpelling, frame_then, allocation_then, operations_of, stack_place, spelled_by, load_of, loads_then, opening_by, opening_then, pops_then, epilogue, is_inner, are_inner, with_epilogues, all_inner}
-use Rattle.frame_rules.specs.Laws.{PlansAreRight}
+use Rattle.x64_instr.specs.Registers.{register}
+use Rattle.frame_rules.specs.Body.{may_write, next}
 use Rattle.frame_rules.proofs.Bodies.{following-append}
 use Rattle.frame_rules.proofs.Planning.{nonvolatile_number, ordered_plan, framed_plan, codes_plan, are_steps}
 use Rattle.frame_rules.proofs.Planned.{Loadable, AllLoadable, all_loadable, allocation_plan, pushes_plan, loaded, restored_plan, frame_saved, allowed_later, saved_later}

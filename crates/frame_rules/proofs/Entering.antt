@@ -1,16 +1,7 @@
 -- Each state of a prologue has the frame of the codes that have been run.
 use Rattle.std.proofs.Common.{◌≡◌, ℕ, ◌+◌, ◌^◌, ◌<◌, ◌≤◌, true, List, [], ◌∷◌, ◌++◌, refl, sym, ap, subst, ◌∙◌, arith, inr}
 use Rattle.std.proofs.lemmas.Bool.{false≢true, and_parts}
-use Rattle.x64_machine.specs.Effect.{State}
-use Rattle.eh_tables.specs.declared.code.UnwindOperation.{UnwindOperation}
-use Rattle.eh_tables.specs.declared.code.UnwindOperation.TheVariants.{Allocate}
-use Rattle.eh_tables.specs.declared.code.UnwindCode.{UnwindCode}
-use Rattle.virtual_unwind.specs.Undone.{operations}
-use Rattle.virtual_unwind.specs.Tail.{FetchedInstr}
-use Rattle.virtual_unwind.specs.CallerOf.{run_by}
-use Rattle.frame_rules.specs.Codes.{is_allowed, are_allowed}
-use Rattle.frame_rules.specs.Prologue.{bytes, does, sets_size, is_call, subtracts, PrologueStep, items, codes_onto, are_sized, ArePrologueSteps}
-use Rattle.frame_rules.specs.States.{registers, RunsOne, RunsThrough, IsEntry}
+use Rattle.frame_rules.specs.Words.{State, UnwindOperation, Allocate, UnwindCode, operations, FetchedInstr, run_by, is_allowed, are_allowed, bytes, does, sets_size, is_call, subtracts, PrologueStep, items, codes_onto, are_sized, ArePrologueSteps, registers, RunsOne, RunsThrough, IsEntry}
 use Rattle.frame_rules.proofs.Order.{Ordered, allocate}
 use Rattle.frame_rules.proofs.Steps.{Running}
 use Rattle.frame_rules.proofs.Prologues.{Good, good_rest, good_done, AtMost, run_done, skips_first, first_positive, cons_head, cons_tail, same_turn, turn_plain, turn_call, does_plain, does_step, Sized, sized, size_plain, sized_running, called_running, subtracts_plain, subtracted_step, IsLarge, large_of}

@@ -2,35 +2,14 @@
 use Rattle.std.proofs.Common.{◌≡◌, ◌≢◌, ℕ, ◌+◌, ◌%◌, ◌^◌, ◌<◌, Bool, true, false, not, ◌&&◌, ◌||◌, eqb, List, [], ◌∷◌, length, get_or, set, Option, Some, None, Ok, refl, sym, ap, subst, ◌∙◌, arith, inl, inr, length-set}
 use Rattle.std.specs.Prelude.{◌⊎◌}
 use Rattle.std.proofs.lemmas.Bool.{cases_eq, false≢true, and_parts, or_parts, or_cases, eqb-true, eqb-false, ne_eqb, not-true}
-use Rattle.seh_num.specs.declared.width.Width.TheVariants.{W64}
-use Rattle.flat_memory.specs.Memory.{Memory}
-use Rattle.x64_instr.specs.declared.register.Reg.{Reg}
-use Rattle.x64_instr.specs.declared.register.Reg.TheVariants.{Rsp}
+use Rattle.frame_rules.specs.Words.{W64, Memory, Reg, Rsp, Add, Instr, number, Cpu, added, ◌>>=◌, State, Answer, with_register, with_rip, load, effect, address_of, UnwindOperation, Push, Allocate, SetFrame, Save, SaveVector, MachineFrame, is_nonvolatile, Role, Opens, Restores, Ends, Other, FetchedInstr, role_of, is_of, allocation, pushes, pushed, is_saved, may_save, are_allowed, Stack, is_pop, gives_back, is_call, written, has, may_write_all, restored_by, with_restored, are_restored, Mode, Body, Leaving, is_ends, leaving, from_body, and_then, following, registers, RunsOne, RunsThrough, is_some, is_leaving, leaves, all_leave}
 use Rattle.x64_instr.specs.declared.operand.RegisterOrMemory.TheVariants as places
 use Rattle.x64_instr.specs.declared.operand.Operand.TheVariants as operands
-use Rattle.x64_instr.specs.declared.instruction.Operation.TheVariants.{Add}
-use Rattle.x64_instr.specs.declared.instruction.Instr.{Instr}
 use Rattle.x64_instr.specs.declared.instruction.Instr.TheVariants as instrs
-use Rattle.x64_instr.specs.Registers.{number}
-use Rattle.x64_machine.specs.declared.cpu.Cpu.{Cpu}
-use Rattle.x64_machine.specs.Words.{added}
-use Rattle.seh_num.specs.Answers.{◌>>=◌}
-use Rattle.x64_machine.specs.Effect.{State, Answer, with_register, with_rip, load, effect, address_of}
-use Rattle.eh_tables.specs.declared.code.UnwindOperation.{UnwindOperation}
-use Rattle.eh_tables.specs.declared.code.UnwindOperation.TheVariants.{Push, Allocate, SetFrame, Save, SaveVector, MachineFrame}
-use Rattle.virtual_unwind.specs.Contexts.{is_nonvolatile}
-use Rattle.virtual_unwind.specs.declared.tail.Role.{Role}
-use Rattle.virtual_unwind.specs.declared.tail.Role.TheVariants.{Opens, Restores, Ends, Other}
-use Rattle.virtual_unwind.specs.Tail.{FetchedInstr, role_of, is_of}
-use Rattle.frame_rules.specs.Codes.{allocation, pushes, pushed, is_saved, may_save, are_allowed}
-use Rattle.frame_rules.specs.Frame.{Stack}
-use Rattle.frame_rules.specs.Epilogue.{is_pop, gives_back}
-use Rattle.frame_rules.specs.Prologue.{is_call}
-use Rattle.frame_rules.specs.Body.{written, has, may_write_all, restored_by, with_restored, are_restored, Mode, Body, Leaving, is_ends, leaving, from_body, next, and_then, following}
-use Rattle.frame_rules.specs.States.{registers, RunsOne, RunsThrough, is_some, is_leaving, leaves, all_leave}
+use Rattle.frame_rules.specs.Body.{next}
 use Rattle.frame_rules.proofs.Undoing.{stack_depth, others_after}
 use Rattle.frame_rules.proofs.Order.{framed_above, stack_opened, pushes_allowed}
-use Rattle.x64_instr.proofs.RegisterNumbers.{number_small}
+use Rattle.frame_rules.proofs.Lemmas.{number_small}
 use Rattle.frame_rules.proofs.Steps.{Became, became, set_same, set_other}
 use Rattle.frame_rules.proofs.Bodies.{only, pop_role}
 use Rattle.frame_rules.proofs.Tails.{some_same}

@@ -1,32 +1,13 @@
 -- What is left of an epilogue gives the caller.
 use Rattle.std.proofs.Common.{◌≡◌, ◌≢◌, ℕ, ◌+◌, ◌%◌, ◌^◌, ◌<◌, true, false, cond, not, ◌&&◌, eqb, List, [], ◌∷◌, length, Option, Some, None, Ok, refl, sym, ap, subst, ◌∙◌, arith, inl, inr}
 use Rattle.std.proofs.lemmas.Bool.{cases_eq, and_parts, or_cases, false≢true, not-true, eqb-false, eqb-true, eq-eqb, ne_eqb}
-use Rattle.seh_num.specs.declared.width.Width.TheVariants.{W64}
-use Rattle.flat_memory.specs.Memory.{Memory}
-use Rattle.x64_instr.specs.declared.register.Reg.TheVariants.{Rsp}
-use Rattle.x64_instr.specs.declared.operand.Base.{Base}
+use Rattle.frame_rules.specs.Words.{W64, Memory, Rsp, Base, Index, Add, Indirect, Instr, number, Context, UnwindOperation, Info, is_nonvolatile, get, set, rsp, with_rsp, rsp_raised, ◌>>=◌, word, popped, is_of, base_value, left_by, left, sets_frame, allocation, pushes, pushed, is_saved, may_save, are_allowed, Stack, Framed, Others, left_to, is_end, is_pop, pops, gives_back, PopsRestore, EpilogueRestores}
 use Rattle.x64_instr.specs.declared.operand.Base.TheVariants as bases
-use Rattle.x64_instr.specs.declared.operand.Index.{Index}
 use Rattle.x64_instr.specs.declared.operand.RegisterOrMemory.TheVariants as places
 use Rattle.x64_instr.specs.declared.operand.Operand.TheVariants as operands
-use Rattle.x64_instr.specs.declared.instruction.Operation.TheVariants.{Add}
-use Rattle.x64_instr.specs.declared.instruction.Target.TheVariants.{Indirect}
-use Rattle.x64_instr.specs.declared.instruction.Instr.{Instr}
 use Rattle.x64_instr.specs.declared.instruction.Instr.TheVariants as instrs
-use Rattle.x64_instr.specs.Registers.{number}
-use Rattle.x64_machine.specs.declared.context.Context.{Context}
-use Rattle.eh_tables.specs.declared.code.UnwindOperation.{UnwindOperation}
-use Rattle.eh_tables.specs.Infos.{Info}
-use Rattle.virtual_unwind.specs.Contexts.{is_nonvolatile, get, set, rsp, with_rsp, rsp_raised}
-use Rattle.seh_num.specs.Answers.{◌>>=◌}
-use Rattle.virtual_unwind.specs.Undone.{Answer, word, popped}
-use Rattle.virtual_unwind.specs.Tail.{is_of, base_value, left_by, left}
-use Rattle.virtual_unwind.specs.CallerOf.{sets_frame}
-use Rattle.virtual_unwind.proofs.Registers.{get-set_same, get-set_other, get-rsp_same, get-rsp_other, length-set}
-use Rattle.frame_rules.specs.Codes.{allocation, pushes, pushed, is_saved, may_save, are_allowed}
-use Rattle.frame_rules.specs.Frame.{Stack, Framed, Others, left_to}
-use Rattle.frame_rules.specs.Epilogue.{is_end, is_pop, pops, gives_back}
-use Rattle.frame_rules.specs.Laws.{PopsRestore, EpilogueRestores}
+use Rattle.virtual_unwind.specs.Undone.{Answer}
+use Rattle.frame_rules.proofs.Lemmas.{get-set_same, get-set_other, get-rsp_same, get-rsp_other, length-set}
 use Rattle.frame_rules.proofs.Undoing.{word-is, others_after, stack_depth, return_word, popped_is, rsp_length}
 use Rattle.frame_rules.proofs.Order.{Ordered, ordered, framed_above, stack_opened, pushes_allowed}
 

@@ -2,22 +2,7 @@
 use Rattle.std.proofs.Common.{◌≡◌, ◌≢◌, ℕ, ◌+◌, ◌^◌, ◌<◌, ◌≤◌, true, ◌&&◌, eqb, ltb, List, [], ◌∷◌, ◌++◌, Option, Some, None, refl, sym, ap, subst, ◌∙◌, arith, inl, inr}
 use Rattle.std.proofs.lemmas.Bool.{false≢true, and_parts, lt-ltb, le-ltb, not-true, eqb-false}
 use Rattle.std.proofs.lemmas.List.{append-nil}
-use Rattle.x64_instr.specs.declared.instruction.Instr.{Instr}
-use Rattle.x64_machine.specs.Contexts.{context_of}
-use Rattle.x64_machine.specs.Effect.{State}
-use Rattle.eh_tables.specs.declared.code.UnwindCode.{UnwindCode}
-use Rattle.virtual_unwind.specs.Undone.{operations}
-use Rattle.virtual_unwind.specs.declared.tail.Role.TheVariants.{Other}
-use Rattle.virtual_unwind.specs.Tail.{FetchedInstr, role_of, tail_at, left}
-use Rattle.virtual_unwind.specs.CallerOf.{has_frame, sets_frame, run_by, past_prologue, by_distance, in_entry}
-use Rattle.frame_rules.specs.Codes.{depth, pushes, pushed}
-use Rattle.frame_rules.specs.Frame.{Others, HoldsFrame, left_to}
-use Rattle.frame_rules.specs.Epilogue.{pops, is_epilogue}
-use Rattle.frame_rules.specs.Prologue.{bytes, items, codes_onto}
-use Rattle.frame_rules.specs.Body.{Mode, Body, Leaving, following, is_body}
-use Rattle.frame_rules.specs.States.{registers, RunsThrough, IsEntry, return_address, HasItems}
-use Rattle.frame_rules.specs.Rules.{FramedFunction, ops, IsRight, InPrologue, IsBody, IsLeaving, FindsContext}
-use Rattle.frame_rules.specs.Laws.{FramesAreRight}
+use Rattle.frame_rules.specs.Words.{Instr, context_of, State, UnwindCode, operations, Other, FetchedInstr, role_of, tail_at, left, has_frame, sets_frame, run_by, past_prologue, by_distance, in_entry, depth, pushes, pushed, Others, HoldsFrame, left_to, pops, is_epilogue, bytes, items, codes_onto, Mode, Body, Leaving, following, is_body, registers, RunsThrough, IsEntry, return_address, HasItems, FramedFunction, ops, IsRight, InPrologue, IsBody, IsLeaving, FindsContext, FramesAreRight}
 use Rattle.frame_rules.proofs.Undoing.{stack_depth}
 use Rattle.frame_rules.proofs.Order.{ordered}
 use Rattle.frame_rules.proofs.Steps.{Running}

@@ -1,17 +1,8 @@
 -- Chained fragments.
 use Rattle.std.proofs.Common.{◌≡◌, ℕ, ◌+◌, ◌-◌, ◌%◌, ◌^◌, Bool, true, false, not, eqb, ltb, List, [], ◌∷◌, Option, Some, None, Ok, Err, refl, sym, ap, ◌∙◌, arith}
 use Rattle.std.proofs.lemmas.Bool.{le-ltb}
-use Rattle.flat_memory.specs.Memory.{Memory}
-use Rattle.x64_instr.specs.declared.instruction.Instr.{Instr}
-use Rattle.x64_machine.specs.declared.context.Context.{Context}
-use Rattle.eh_tables.specs.Infos.{Info}
-use Rattle.eh_tables.specs.declared.code.UnwindCode.{UnwindCode}
-use Rattle.virtual_unwind.specs.Contexts.{get}
-use Rattle.seh_num.specs.Answers.{◌>>=◌}
-use Rattle.virtual_unwind.specs.Undone.{Answer, Undo, operations, undone, returned}
-use Rattle.virtual_unwind.specs.Tail.{tail_at}
-use Rattle.virtual_unwind.specs.CallerOf.{found, base_if, has_frame, at_start, unwound, in_body, past_prologue, by_distance}
-use Rattle.frame_rules.specs.Laws.{context_found, FragmentsUnwindAsParents}
+use Rattle.frame_rules.specs.Words.{Memory, Instr, Context, Info, UnwindCode, get, ◌>>=◌, Undo, operations, undone, returned, tail_at, found, base_if, has_frame, at_start, unwound, in_body, past_prologue, by_distance, context_found, FragmentsUnwindAsParents}
+use Rattle.virtual_unwind.specs.Undone.{Answer}
 
 contexts : (frame : ℕ) (asked : Option Info) (a : Answer Context)
     → context_found (found frame asked a) ≡ a

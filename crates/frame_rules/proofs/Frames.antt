@@ -1,25 +1,9 @@
 -- In each state of a function that is right its caller is found.
 use Rattle.std.proofs.Common.{◌≡◌, ◌≢◌, ℕ, ◌+◌, ◌^◌, ◌<◌, ◌≤◌, Bool, true, false, leb, List, [], ◌∷◌, ◌++◌, Option, Ok, refl, sym, ap, subst, ◌∙◌, arith, inl, inr}
 use Rattle.std.specs.Prelude.{◌⊎◌}
-use Rattle.flat_memory.specs.Memory.{Memory, may_read}
-use Rattle.x64_machine.specs.declared.context.Context.{Context}
-use Rattle.x64_machine.specs.Contexts.{context_of}
-use Rattle.x64_machine.specs.Effect.{State}
-use Rattle.eh_tables.specs.declared.code.UnwindOperation.{UnwindOperation}
-use Rattle.eh_tables.specs.declared.code.UnwindCode.{UnwindCode}
-use Rattle.eh_tables.specs.Infos.{Info}
-use Rattle.virtual_unwind.specs.Contexts.{get}
-use Rattle.virtual_unwind.specs.Undone.{Answer, operations}
-use Rattle.virtual_unwind.specs.declared.tail.Role.{Role}
-use Rattle.virtual_unwind.specs.declared.tail.Role.TheVariants.{Opens, Restores, Ends, Other}
-use Rattle.virtual_unwind.specs.Tail.{FetchedInstr}
-use Rattle.virtual_unwind.specs.CallerOf.{found, base_if, sets_frame, run_or, run_by, unwound}
-use Rattle.virtual_unwind.proofs.Registers.{get-context}
-use Rattle.frame_rules.specs.Codes.{are_allowed}
-use Rattle.frame_rules.specs.Frame.{Framed, Others, HoldsFrame, left_to}
-use Rattle.frame_rules.specs.Prologue.{bytes, PrologueStep, items, codes_onto, ArePrologueSteps}
-use Rattle.frame_rules.specs.States.{registers, IsEntry, return_address, HasItems}
-use Rattle.frame_rules.specs.Rules.{FindsContext}
+use Rattle.frame_rules.specs.Words.{Memory, may_read, Context, context_of, State, UnwindOperation, UnwindCode, Info, get, operations, Role, Opens, Restores, Ends, Other, FetchedInstr, found, base_if, sets_frame, run_or, run_by, unwound, are_allowed, Framed, Others, HoldsFrame, left_to, bytes, PrologueStep, items, codes_onto, ArePrologueSteps, registers, IsEntry, return_address, HasItems, FindsContext}
+use Rattle.virtual_unwind.specs.Undone.{Answer}
+use Rattle.frame_rules.proofs.Lemmas.{get-context}
 use Rattle.frame_rules.proofs.Undoing.{undoing, framed_saved, saved_register, stack_depth}
 use Rattle.frame_rules.proofs.Order.{Ordered, framed_above}
 use Rattle.frame_rules.proofs.Words.{all_may}

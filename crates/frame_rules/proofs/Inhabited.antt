@@ -2,27 +2,12 @@
 use Rattle.std.proofs.Common.{◌≡◌, ◌≢◌, ℕ, zero, suc, ◌+◌, ◌^◌, ◌<◌, ◌≤◌, Bool, true, false, cond, not, ◌&&◌, ◌||◌, eqb, List, [], ◌∷◌, ◌++◌, Option, Some, None, refl, sym, ap, subst, ◌∙◌, arith, inl, inr}
 use Rattle.std.specs.Prelude.{◌⊎◌}
 use Rattle.std.proofs.lemmas.Bool.{cases_eq, false≢true, and_parts, or_from, or_parts, or_cases, eqb-true, eqb-false, ne_eqb, not-true}
-use Rattle.seh_num.specs.declared.width.Width.TheVariants.{W32, W64}
-use Rattle.flat_memory.specs.Memory.{Memory, next, first_refused, may_read}
-use Rattle.x64_instr.specs.declared.register.Reg.TheVariants.{Rax, Rsp}
+use Rattle.frame_rules.specs.Words.{W32, W64, Memory, next, first_refused, may_read, Rax, Rsp, Instr, number, State, with_rip, UnwindOperation, Push, Allocate, SetFrame, Save, SaveVector, MachineFrame, is_nonvolatile, FetchedInstr, is_saved, IsWord, Stack, bytes, does, is_stack, sets_size, subtracts, is_step, PrologueStep, items, ArePrologueSteps, written, is_a_call, has, may_write_all, registers, RunsThrough, KeepsWord, KeepsWords, is_other, writes, is_written, ops, BodyBegins, BodyContinues}
 use Rattle.x64_instr.specs.declared.operand.RegisterOrMemory.TheVariants as places
 use Rattle.x64_instr.specs.declared.operand.Operand.TheVariants as operands
 use Rattle.x64_instr.specs.declared.instruction.Operation.TheVariants as computes
-use Rattle.x64_instr.specs.declared.instruction.Instr.{Instr}
 use Rattle.x64_instr.specs.declared.instruction.Instr.TheVariants as instrs
-use Rattle.x64_instr.specs.Registers.{number}
-use Rattle.x64_machine.specs.Effect.{State, with_rip}
-use Rattle.eh_tables.specs.declared.code.UnwindOperation.{UnwindOperation}
-use Rattle.eh_tables.specs.declared.code.UnwindOperation.TheVariants.{Push, Allocate, SetFrame, Save, SaveVector, MachineFrame}
-use Rattle.virtual_unwind.specs.Contexts.{is_nonvolatile}
-use Rattle.virtual_unwind.specs.Tail.{FetchedInstr}
-use Rattle.frame_rules.specs.Codes.{is_saved}
-use Rattle.frame_rules.specs.Frame.{IsWord, Stack}
-use Rattle.frame_rules.specs.Prologue.{bytes, does, is_stack, sets_size, subtracts, is_step, PrologueStep, items, ArePrologueSteps}
-use Rattle.frame_rules.specs.Body.{written, is_a_call, has, may_write, may_write_all}
-use Rattle.frame_rules.specs.States.{registers, RunsThrough, KeepsWord, KeepsWords, is_other, writes, is_written}
-use Rattle.frame_rules.specs.Rules.{ops}
-use Rattle.frame_rules.specs.Laws.{BodyBegins, BodyContinues}
+use Rattle.frame_rules.specs.Body.{may_write}
 use Rattle.frame_rules.proofs.Prologues.{turn_plain, turn_call, size_plain, subtracts_plain, does_plain, large_of}
 use Rattle.frame_rules.proofs.Writing.{writes_no_other}
 use Rattle.frame_rules.proofs.EveryFrame.{following_running}

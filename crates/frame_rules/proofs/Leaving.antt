@@ -1,34 +1,14 @@
 -- What the loads of saved registers and the instructions of an epilogue do to the frame.
 use Rattle.std.proofs.Common.{◌≡◌, ◌≢◌, ℕ, ◌+◌, ◌%◌, ◌^◌, ◌<◌, ◌≤◌, Bool, true, false, cond, not, ◌&&◌, eqb, leb, List, [], ◌∷◌, length, get_or, set, Option, Some, None, Ok, refl, sym, ap, subst, ◌∙◌, arith, inl, inr, length-set}
 use Rattle.std.proofs.lemmas.Bool.{cases_eq, false≢true, and_parts, or_cases, or_left, or_right, eqb-true, leb-true, ne_eqb, eq-eqb, not-true}
-use Rattle.seh_num.specs.declared.width.Width.TheVariants.{W64}
-use Rattle.flat_memory.specs.Memory.{Memory, number_at, access}
-use Rattle.x64_instr.specs.declared.register.Reg.{Reg}
-use Rattle.x64_instr.specs.declared.operand.MemRef.{MemRef}
-use Rattle.x64_instr.specs.declared.operand.Base.{Base}
+use Rattle.frame_rules.specs.Words.{W64, Memory, number_at, access, Reg, MemRef, Base, Index, Instr, number, Cpu, ◌>>=◌, State, Answer, granted, with_rip, load, effect, address_of, base_of, index_of, UnwindOperation, Push, Allocate, SetFrame, Save, SaveVector, MachineFrame, is_nonvolatile, is_of, sets_frame, allocation, pushed, is_saved, may_save, are_allowed, are_apart, are_pushes, is_allocated, IsWord, Stack, Framed, Others, HoldsFrame, is_stack, has, saved_at, is_place, if_place, restored_by, registers}
 use Rattle.x64_instr.specs.declared.operand.Base.TheVariants as bases
-use Rattle.x64_instr.specs.declared.operand.Index.{Index}
 use Rattle.x64_instr.specs.declared.operand.RegisterOrMemory.TheVariants as places
 use Rattle.x64_instr.specs.declared.operand.Operand.TheVariants as operands
-use Rattle.x64_instr.specs.declared.instruction.Instr.{Instr}
 use Rattle.x64_instr.specs.declared.instruction.Instr.TheVariants as instrs
-use Rattle.x64_instr.specs.Registers.{number}
-use Rattle.x64_machine.specs.declared.cpu.Cpu.{Cpu}
-use Rattle.seh_num.specs.Answers.{◌>>=◌}
-use Rattle.x64_machine.specs.Effect.{State, Answer, granted, with_rip, load, effect, address_of, base_of, index_of}
-use Rattle.eh_tables.specs.declared.code.UnwindOperation.{UnwindOperation}
-use Rattle.eh_tables.specs.declared.code.UnwindOperation.TheVariants.{Push, Allocate, SetFrame, Save, SaveVector, MachineFrame}
-use Rattle.virtual_unwind.specs.Contexts.{is_nonvolatile}
-use Rattle.virtual_unwind.specs.Tail.{is_of}
-use Rattle.virtual_unwind.specs.CallerOf.{sets_frame}
-use Rattle.frame_rules.specs.Codes.{allocation, pushed, is_saved, may_save, are_allowed, are_apart, are_pushes, is_allocated}
-use Rattle.frame_rules.specs.Frame.{IsWord, Stack, Framed, Others, HoldsFrame}
-use Rattle.frame_rules.specs.Prologue.{is_stack}
-use Rattle.frame_rules.specs.Body.{has, saved_at, is_place, if_place, restored_by}
-use Rattle.frame_rules.specs.States.{registers}
 use Rattle.frame_rules.proofs.Undoing.{stack_depth, saved_register, framed_saved}
 use Rattle.frame_rules.proofs.Order.{Ordered, push, allocate, frame, save, framed_above}
-use Rattle.x64_instr.proofs.RegisterNumbers.{number_small}
+use Rattle.frame_rules.proofs.Lemmas.{number_small}
 use Rattle.frame_rules.proofs.Steps.{became, set_same, set_other, stack_address, allocation_depth}
 
 -- ---- where saved registers are

@@ -1,12 +1,7 @@
 -- Codes in order.
 use Rattle.std.proofs.Common.{◌≡◌, ℕ, ◌+◌, true, false, List, [], ◌∷◌, refl, sym, ap, subst, ◌∙◌, arith}
 use Rattle.std.proofs.lemmas.Bool.{false≢true, and_parts}
-use Rattle.flat_memory.specs.Memory.{Memory}
-use Rattle.eh_tables.specs.declared.code.UnwindOperation.{UnwindOperation}
-use Rattle.eh_tables.specs.declared.code.UnwindOperation.TheVariants.{Push, Allocate, SetFrame, Save, SaveVector, MachineFrame}
-use Rattle.virtual_unwind.specs.CallerOf.{sets_frame}
-use Rattle.frame_rules.specs.Codes.{allocation, pushes, pushed, is_allowed, are_allowed, are_pushes, is_allocated, is_ordered}
-use Rattle.frame_rules.specs.Frame.{IsWord, Stack, Framed}
+use Rattle.frame_rules.specs.Words.{Memory, UnwindOperation, Push, Allocate, SetFrame, Save, SaveVector, MachineFrame, sets_frame, allocation, pushes, pushed, is_allowed, are_allowed, are_pushes, is_allocated, is_ordered, IsWord, Stack, Framed}
 
 -- ---- a list in order, by its first code
 

@@ -1,12 +1,7 @@
 -- The epilogues of plans lead out of the body, and back into it after them.
 use Rattle.std.proofs.Common.{◌≡◌, ◌≢◌, ℕ, ◌+◌, Bool, true, false, not, ◌&&◌, ◌||◌, cond, eqb, List, [], ◌∷◌, Some, refl, sym, ap, ◌∙◌, arith, inl, inr}
 use Rattle.std.proofs.lemmas.Bool.{cases_eq, false≢true, and_parts, and_from, or_left, or_right, or_cases, eq-eqb, ne_eqb, eqb-true, eqb-false, not-true, not_from_false}
-use Rattle.eh_tables.specs.declared.code.UnwindOperation.{UnwindOperation}
-use Rattle.eh_tables.specs.declared.code.UnwindOperation.TheVariants.{Save}
-use Rattle.virtual_unwind.specs.Contexts.{is_nonvolatile}
-use Rattle.frame_rules.specs.Codes.{allocation, pushes, pushed, is_saved, may_save, is_allowed, are_allowed}
-use Rattle.frame_rules.specs.Body.{has, saved_at, are_restored}
-use Rattle.frame_rules.specs.Plan.{Saved, FramePlan, IsPlan, saves_then, frame_then, allocation_then, operations_of}
+use Rattle.frame_rules.specs.Words.{UnwindOperation, Save, is_nonvolatile, allocation, pushes, pushed, is_saved, may_save, is_allowed, are_allowed, has, saved_at, are_restored, Saved, FramePlan, IsPlan, saves_then, frame_then, allocation_then, operations_of}
 
 -- ---- saves that can be loaded
 

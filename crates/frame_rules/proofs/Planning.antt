@@ -2,27 +2,12 @@
 use Rattle.std.proofs.Common.{◌≡◌, ◌≢◌, ℕ, ◌+◌, ◌^◌, ◌<◌, ◌≤◌, Bool, true, false, not, ◌&&◌, eqb, leb, ltb, List, [], ◌∷◌, refl, ap, ◌∙◌, arith}
 use Rattle.std.proofs.lemmas.Bool.{and_parts, and_from, eq-eqb, ne_eqb, lt-ltb, leb-true}
 use Rattle.std.proofs.lemmas.Grind.{common_steps}
-use Rattle.x64_instr.specs.declared.instruction.Instr.{Instr}
+use Rattle.frame_rules.specs.Words.{Instr, W32, W64, Rax, Rsp, Sub, Relative, number, UnwindOperation, Push, Allocate, SetFrame, Save, SaveVector, MachineFrame, UnwindCode, is_nonvolatile, operations, FetchedInstr, sets_frame, are_apart, allocation, pushed, is_saved, may_save, is_allowed, are_allowed, are_pushes, is_allocated, is_ordered, bytes, does, is_step, allocates, codes_onto, are_sized, IsPrologueStep, ArePrologueSteps, Saved, FramePlan, IsPlan, IsSpelling, saves_then, frame_then, allocation_then, operations_of, stack_place, allocating, instructions_of, spelled_by, all_encodable, turned, step_of, steps_of, prologue, is_encodable, is_signed}
 use Rattle.x64_instr.specs.declared.instruction.Instr.TheVariants as instrs
-use Rattle.seh_num.specs.declared.width.Width.TheVariants.{W32, W64}
-use Rattle.x64_instr.specs.declared.register.Reg.TheVariants.{Rax, Rsp}
 use Rattle.x64_instr.specs.declared.operand.RegisterOrMemory.TheVariants as places
 use Rattle.x64_instr.specs.declared.operand.Operand.TheVariants as operands
-use Rattle.x64_instr.specs.declared.instruction.Operation.TheVariants.{Sub}
-use Rattle.x64_instr.specs.declared.instruction.Target.TheVariants.{Relative}
-use Rattle.x64_instr.specs.Registers.{number, register}
-use Rattle.eh_tables.specs.declared.code.UnwindOperation.{UnwindOperation}
-use Rattle.eh_tables.specs.declared.code.UnwindOperation.TheVariants.{Push, Allocate, SetFrame, Save, SaveVector, MachineFrame}
-use Rattle.eh_tables.specs.declared.code.UnwindCode.{UnwindCode}
-use Rattle.virtual_unwind.specs.Contexts.{is_nonvolatile}
-use Rattle.virtual_unwind.specs.Undone.{operations}
-use Rattle.virtual_unwind.specs.Tail.{FetchedInstr}
-use Rattle.virtual_unwind.specs.CallerOf.{sets_frame}
-use Rattle.frame_rules.specs.Codes.{are_apart, allocation, pushed, is_saved, may_save, is_allowed, are_allowed, are_pushes, is_allocated, is_ordered}
-use Rattle.frame_rules.specs.Prologue.{bytes, does, is_step, allocates, codes_onto, are_sized, IsPrologueStep, ArePrologueSteps}
-use Rattle.frame_rules.specs.Plan.{Saved, FramePlan, IsPlan, IsSpelling, saves_then, frame_then, allocation_then, operations_of, stack_place, allocating, instructions_of, spelled_by, all_encodable, turned, step_of, steps_of, prologue}
-use Rattle.x64_encode.specs.Chosen.{is_encodable, is_signed}
-use Rattle.x64_instr.proofs.RegisterNumbers.{number_register}
+use Rattle.x64_instr.specs.Registers.{register}
+use Rattle.frame_rules.proofs.Lemmas.{number_register}
 use Rattle.frame_rules.proofs.Undoing.{saved_register}
 use Rattle.frame_rules.proofs.Order.{pushes_alone}
 

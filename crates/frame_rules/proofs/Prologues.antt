@@ -1,28 +1,11 @@
 -- The states of a prologue.
 use Rattle.std.proofs.Common.{◌≡◌, ℕ, ◌+◌, ◌-◌, ◌%◌, ◌^◌, ◌<◌, ◌≤◌, true, false, not, ◌&&◌, eqb, leb, ltb, List, [], ◌∷◌, length, get_or, set, Ok, refl, sym, ap, subst, ◌∙◌, arith, inl, length-set}
 use Rattle.std.proofs.lemmas.Bool.{false≢true, and_parts, eqb-true, leb-true, ltb-true, lt-leb, le-leb}
-use Rattle.seh_num.specs.declared.width.Width.TheVariants.{W32, W64}
-use Rattle.flat_memory.specs.Memory.{Memory}
-use Rattle.x64_instr.specs.declared.register.Reg.TheVariants.{Rax, Rsp}
+use Rattle.frame_rules.specs.Words.{W32, W64, Memory, Rax, Rsp, Instr, number, subtracted, State, with_rip, effect, UnwindOperation, Push, Allocate, SetFrame, Save, SaveVector, MachineFrame, UnwindCode, is_nonvolatile, operations, FetchedInstr, run_or, run_by, depth, allocation, may_save, is_allowed, are_allowed, is_saved, are_apart, are_pushes, Stack, Framed, bytes, does, is_stack, sets_size, is_call, subtracts, allocates, is_step, PrologueStep, codes_onto, are_sized, ArePrologueSteps, registers, Called, RunsOne, IsEntry}
 use Rattle.x64_instr.specs.declared.operand.RegisterOrMemory.TheVariants as places
 use Rattle.x64_instr.specs.declared.operand.Operand.TheVariants as operands
 use Rattle.x64_instr.specs.declared.instruction.Operation.TheVariants as computes
-use Rattle.x64_instr.specs.declared.instruction.Instr.{Instr}
 use Rattle.x64_instr.specs.declared.instruction.Instr.TheVariants as instrs
-use Rattle.x64_instr.specs.Registers.{number}
-use Rattle.x64_machine.specs.Words.{subtracted}
-use Rattle.x64_machine.specs.Effect.{State, with_rip, effect}
-use Rattle.eh_tables.specs.declared.code.UnwindOperation.{UnwindOperation}
-use Rattle.eh_tables.specs.declared.code.UnwindOperation.TheVariants.{Push, Allocate, SetFrame, Save, SaveVector, MachineFrame}
-use Rattle.eh_tables.specs.declared.code.UnwindCode.{UnwindCode}
-use Rattle.virtual_unwind.specs.Contexts.{is_nonvolatile}
-use Rattle.virtual_unwind.specs.Undone.{operations}
-use Rattle.virtual_unwind.specs.Tail.{FetchedInstr}
-use Rattle.virtual_unwind.specs.CallerOf.{run_or, run_by}
-use Rattle.frame_rules.specs.Codes.{depth, allocation, may_save, is_allowed, are_allowed, is_saved, are_apart, are_pushes}
-use Rattle.frame_rules.specs.Frame.{Stack, Framed}
-use Rattle.frame_rules.specs.Prologue.{bytes, does, is_stack, sets_size, is_call, subtracts, allocates, is_step, PrologueStep, codes_onto, are_sized, ArePrologueSteps}
-use Rattle.frame_rules.specs.States.{registers, Called, RunsOne, IsEntry}
 use Rattle.frame_rules.proofs.Undoing.{stack_depth, saved_register, framed_saved}
 use Rattle.frame_rules.proofs.Order.{Ordered, push, allocate, frame, save, ordered_rest}
 use Rattle.frame_rules.proofs.Words.{moved_words}

@@ -1,19 +1,9 @@
 -- What a return leaves.
 use Rattle.std.proofs.Common.{◌≡◌, ℕ, ◌+◌, ◌%◌, ◌^◌, ◌<◌, true, ◌&&◌, eqb, List, [], ◌∷◌, set, Some, Ok, refl, sym, ap, subst, ◌∙◌, arith, length-set}
 use Rattle.std.proofs.lemmas.Bool.{and_parts, eqb-true}
-use Rattle.seh_num.specs.declared.width.Width.TheVariants.{W64}
+use Rattle.frame_rules.specs.Words.{W64, ◌>>=◌, State, Answer, with_rip, load, effect, UnwindOperation, Restores, Ends, FetchedInstr, role_of, ending, allocation, pushes, is_pop, Mode, Body, Leaving, are_restored, leaving, from_body, following, is_body, registers, return_address, ops, ReturnedToCaller, EpiloguesReturn, LeavesReturn}
 use Rattle.x64_instr.specs.declared.instruction.Instr.TheVariants as instrs
-use Rattle.seh_num.specs.Answers.{◌>>=◌}
-use Rattle.x64_machine.specs.Effect.{State, Answer, with_rip, load, effect}
-use Rattle.eh_tables.specs.declared.code.UnwindOperation.{UnwindOperation}
-use Rattle.virtual_unwind.specs.declared.tail.Role.TheVariants.{Restores, Ends}
-use Rattle.virtual_unwind.specs.Tail.{FetchedInstr, role_of, ending}
-use Rattle.frame_rules.specs.Codes.{allocation, pushes}
-use Rattle.frame_rules.specs.Epilogue.{is_pop}
-use Rattle.frame_rules.specs.Body.{Mode, Body, Leaving, are_restored, leaving, from_body, next, following, is_body}
-use Rattle.frame_rules.specs.States.{registers, return_address}
-use Rattle.frame_rules.specs.Rules.{ops}
-use Rattle.frame_rules.specs.Laws.{ReturnedToCaller, EpiloguesReturn, LeavesReturn}
+use Rattle.frame_rules.specs.Body.{next}
 use Rattle.frame_rules.proofs.Steps.{ok_same, set_same, set_other}
 use Rattle.frame_rules.proofs.Bodies.{only, next_mode, pop_role, body_holds}
 use Rattle.frame_rules.proofs.Frames.{first_running}

@@ -1,7 +1,7 @@
 -- The worked functions, by computing.
 use Rattle.std.proofs.Common.{refl}
 use Rattle.x64_instr.specs.Operands.{place}
-use Rattle.x64_instr.specs.Spelling.{instr, after_size, after_prefixes, row, plain_row, two_byte_row}
+use Rattle.frame_rules.specs.Words.{instr, after_size, after_prefixes, row, plain_row, two_byte_row}
 use Rattle.frame_rules.specs.Worked.{spelled, Keep, Break}
 
 pub keep : Keep

@@ -1,28 +1,11 @@
 -- A prologue can be run.
 use Rattle.std.proofs.Common.{◌≡◌, ℕ, ◌+◌, ◌-◌, ◌%◌, ◌^◌, ◌<◌, ◌≤◌, true, not, ◌&&◌, eqb, leb, List, [], ◌∷◌, ◌++◌, set, Ok, refl, sym, ap, subst, ◌∙◌, arith}
 use Rattle.std.proofs.lemmas.Bool.{false≢true, and_parts, eqb-true, eqb-false, not-true, leb-true}
-use Rattle.seh_num.specs.declared.width.Width.TheVariants.{W64}
-use Rattle.flat_memory.specs.Memory.{may_write, with_bytes, with_number}
-use Rattle.x64_instr.specs.declared.register.Reg.TheVariants.{Rsp}
+use Rattle.frame_rules.specs.Words.{W64, may_write, with_bytes, with_number, Rsp, Instr, number, Cpu, State, with_rip, effect, UnwindOperation, Push, Allocate, SetFrame, Save, UnwindCode, is_nonvolatile, operations, FetchedInstr, depth, allocation, may_save, is_allowed, are_allowed, is_saved, are_apart, bytes, does, is_stack, is_step, PrologueStep, items, codes_onto, ArePrologueSteps, is_single, are_single, registers, RunsOne, RunsThrough, IsEntry, return_address, ops, ProloguesRun}
 use Rattle.x64_instr.specs.declared.operand.RegisterOrMemory.TheVariants as places
 use Rattle.x64_instr.specs.declared.operand.Operand.TheVariants as operands
 use Rattle.x64_instr.specs.declared.instruction.Operation.TheVariants as computes
-use Rattle.x64_instr.specs.declared.instruction.Instr.{Instr}
 use Rattle.x64_instr.specs.declared.instruction.Instr.TheVariants as instrs
-use Rattle.x64_instr.specs.Registers.{number}
-use Rattle.x64_machine.specs.declared.cpu.Cpu.{Cpu}
-use Rattle.x64_machine.specs.Effect.{State, with_rip, effect}
-use Rattle.eh_tables.specs.declared.code.UnwindOperation.{UnwindOperation}
-use Rattle.eh_tables.specs.declared.code.UnwindOperation.TheVariants.{Push, Allocate, SetFrame, Save}
-use Rattle.eh_tables.specs.declared.code.UnwindCode.{UnwindCode}
-use Rattle.virtual_unwind.specs.Contexts.{is_nonvolatile}
-use Rattle.virtual_unwind.specs.Undone.{operations}
-use Rattle.virtual_unwind.specs.Tail.{FetchedInstr}
-use Rattle.frame_rules.specs.Codes.{depth, allocation, may_save, is_allowed, are_allowed, is_saved, are_apart}
-use Rattle.frame_rules.specs.Prologue.{bytes, does, is_stack, is_step, PrologueStep, items, codes_onto, ArePrologueSteps, is_single, are_single}
-use Rattle.frame_rules.specs.States.{registers, RunsOne, RunsThrough, IsEntry, return_address}
-use Rattle.frame_rules.specs.Rules.{ops}
-use Rattle.frame_rules.specs.Laws.{ProloguesRun}
 use Rattle.frame_rules.proofs.Undoing.{stack_depth}
 use Rattle.frame_rules.proofs.Order.{ordered}
 use Rattle.frame_rules.proofs.Words.{all_may}

@@ -1,10 +1,7 @@
 -- How far the prologue of a plan lowers RSP.
 use Rattle.std.proofs.Common.{◌≡◌, ℕ, ◌+◌, ◌*◌, Bool, true, false, not, eqb, List, [], ◌∷◌, length, refl, ◌∙◌, arith}
 use Rattle.std.proofs.lemmas.Bool.{eqb-true}
-use Rattle.eh_tables.specs.declared.code.UnwindOperation.{UnwindOperation}
-use Rattle.frame_rules.specs.Codes.{depth, pushed}
-use Rattle.frame_rules.specs.Plan.{Saved, saves_then, frame_then, allocation_then}
-use Rattle.frame_rules.specs.Laws.{FrameHasItsSize}
+use Rattle.frame_rules.specs.Words.{UnwindOperation, depth, pushed, Saved, saves_then, frame_then, allocation_then, FrameHasItsSize}
 
 pushed_depth : (rs : List ℕ) → depth (pushed rs) ≡ 8 * length rs
 pushed_depth [] = refl

@@ -1,34 +1,13 @@
 -- What one instruction of a prologue does to the frame.
 use Rattle.std.proofs.Common.{◌≡◌, ◌≢◌, ℕ, ◌+◌, ◌-◌, ◌%◌, ◌^◌, ◌<◌, ◌≤◌, true, false, not, ◌&&◌, eqb, List, [], ◌∷◌, length, get_or, set, Option, None, Ok, refl, sym, ap, subst, ◌∙◌, arith, length-set, get_or-set_same, get_or-set_other}
 use Rattle.std.proofs.lemmas.Bool.{false≢true, and_parts, or_parts, eqb-true, eqb-false, not-true}
-use Rattle.seh_num.specs.declared.width.Width.TheVariants.{W64}
-use Rattle.flat_memory.specs.declared.protection.Protection.{Protection}
-use Rattle.flat_memory.specs.Protections.{is_writable}
-use Rattle.flat_memory.specs.Memory.{Memory, first_refused, may_write, with_number, with_bytes, access, unless_refused}
-use Rattle.x64_instr.specs.declared.register.Reg.{Reg}
-use Rattle.x64_instr.specs.declared.register.Reg.TheVariants.{Rsp}
-use Rattle.x64_instr.specs.declared.operand.MemRef.{MemRef}
-use Rattle.x64_instr.specs.declared.operand.Base.{Base}
+use Rattle.frame_rules.specs.Words.{W64, Protection, is_writable, Memory, first_refused, may_write, with_number, with_bytes, access, unless_refused, Reg, Rsp, MemRef, Base, Index, number, Cpu, subtracted, ◌>>=◌, State, Answer, granted, register, with_rip, store, effect, address_of, base_of, index_of, UnwindOperation, Push, Allocate, SetFrame, Save, SaveVector, MachineFrame, is_nonvolatile, sets_frame, depth, allocation, may_save, are_allowed, is_saved, are_apart, are_pushes, Stack, Framed, HoldsFrame, is_stack, is_stack_base, registers, IsEntry}
 use Rattle.x64_instr.specs.declared.operand.Base.TheVariants as bases
-use Rattle.x64_instr.specs.declared.operand.Index.{Index}
 use Rattle.x64_instr.specs.declared.operand.RegisterOrMemory.TheVariants as places
 use Rattle.x64_instr.specs.declared.operand.Operand.TheVariants as operands
 use Rattle.x64_instr.specs.declared.instruction.Operation.TheVariants as computes
 use Rattle.x64_instr.specs.declared.instruction.Instr.TheVariants as instrs
-use Rattle.x64_instr.specs.Registers.{number}
-use Rattle.x64_machine.specs.declared.cpu.Cpu.{Cpu}
-use Rattle.x64_machine.specs.Words.{subtracted}
-use Rattle.seh_num.specs.Answers.{◌>>=◌}
-use Rattle.x64_machine.specs.Effect.{State, Answer, granted, register, with_rip, store, effect, address_of, base_of, index_of}
-use Rattle.eh_tables.specs.declared.code.UnwindOperation.{UnwindOperation}
-use Rattle.eh_tables.specs.declared.code.UnwindOperation.TheVariants.{Push, Allocate, SetFrame, Save, SaveVector, MachineFrame}
-use Rattle.virtual_unwind.specs.Contexts.{is_nonvolatile}
-use Rattle.virtual_unwind.specs.CallerOf.{sets_frame}
-use Rattle.frame_rules.specs.Codes.{depth, allocation, may_save, are_allowed, is_saved, are_apart, are_pushes}
-use Rattle.frame_rules.specs.Frame.{Stack, Framed, HoldsFrame}
-use Rattle.x64_instr.proofs.RegisterNumbers.{number_small}
-use Rattle.frame_rules.specs.Prologue.{is_stack, is_stack_base}
-use Rattle.frame_rules.specs.States.{registers, IsEntry}
+use Rattle.frame_rules.proofs.Lemmas.{number_small}
 use Rattle.frame_rules.proofs.Undoing.{stack_depth, saved_register}
 use Rattle.frame_rules.proofs.Order.{Ordered, of_pushes, unframed, pushes_unframed, pushes_alone}
 use Rattle.frame_rules.proofs.Words.{all_may, stored_word, left_words, pushes_apart, rebased}

@@ -1,23 +1,10 @@
 -- Where an epilogue is, its trailing part is what the unwinding finds.
 use Rattle.std.proofs.Common.{◌≡◌, ◌≢◌, ℕ, zero, suc, ◌+◌, ◌-◌, ◌%◌, ◌^◌, ◌<◌, ◌≤◌, Bool, true, false, ◌&&◌, eqb, List, [], ◌∷◌, Option, Some, None, refl, sym, ap, subst, ◌∙◌, arith}
 use Rattle.std.proofs.lemmas.Bool.{false≢true, and_parts, or_left, or_right, and_from, eq-eqb, eqb-true}
-use Rattle.flat_memory.specs.Memory.{Memory}
-use Rattle.seh_num.specs.declared.width.Width.TheVariants.{W64}
-use Rattle.x64_instr.specs.declared.register.Reg.TheVariants.{Rsp}
+use Rattle.frame_rules.specs.Words.{Memory, W64, Rsp, Add, Indirect, Instr, UnwindOperation, Role, Opens, Restores, Ends, Other, FetchedInstr, fetched_at, role_of, opening, is_of, prepend_instr, by_role, from_item, tail, pushes, allocation, is_pop, is_end, pops, gives_back, is_epilogue, Mode, Body, Leaving, only_if, is_ends, are_restored, leaving, from_body, and_then, following, is_body, HasItems}
 use Rattle.x64_instr.specs.declared.operand.RegisterOrMemory.TheVariants as places
 use Rattle.x64_instr.specs.declared.operand.Operand.TheVariants as operands
-use Rattle.x64_instr.specs.declared.instruction.Operation.TheVariants.{Add}
-use Rattle.x64_instr.specs.declared.instruction.Target.TheVariants.{Indirect}
-use Rattle.x64_instr.specs.declared.instruction.Instr.{Instr}
 use Rattle.x64_instr.specs.declared.instruction.Instr.TheVariants as instrs
-use Rattle.eh_tables.specs.declared.code.UnwindOperation.{UnwindOperation}
-use Rattle.virtual_unwind.specs.declared.tail.Role.{Role}
-use Rattle.virtual_unwind.specs.declared.tail.Role.TheVariants.{Opens, Restores, Ends, Other}
-use Rattle.virtual_unwind.specs.Tail.{FetchedInstr, fetched_at, role_of, opening, is_of, prepend_instr, by_role, from_item, tail}
-use Rattle.frame_rules.specs.Codes.{pushes, allocation}
-use Rattle.frame_rules.specs.Epilogue.{is_pop, is_end, pops, gives_back, is_epilogue}
-use Rattle.frame_rules.specs.Body.{Mode, Body, Leaving, only_if, is_ends, are_restored, leaving, from_body, and_then, following, is_body}
-use Rattle.frame_rules.specs.States.{HasItems}
 use Rattle.frame_rules.proofs.Bodies.{only, Next, next_mode, pop_role}
 
 pub items_rise : (m : Memory) (at : ℕ) (xs : List FetchedInstr) (to : ℕ) → HasItems m at xs to

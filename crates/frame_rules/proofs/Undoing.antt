@@ -2,19 +2,11 @@
 use Rattle.std.proofs.Common.{◌≡◌, ◌≢◌, ℕ, zero, suc, ◌+◌, ◌%◌, ◌^◌, ◌<◌, ◌≤◌, true, false, not, ◌&&◌, ◌||◌, eqb, leb, List, [], ◌∷◌, length, get_or, Option, Ok, refl, sym, ap, subst, ◌∙◌, arith, inl, inr, length-set, set, get_or-set_same, get_or-set_other}
 use Rattle.std.proofs.lemmas.Bool.{cases_eq, and_parts, or_cases, or_from, or_right, false≢true, not-true, eqb-false, eqb-true, ne_eqb}
 use Rattle.std.proofs.lemmas.Grind.{common_steps, same_number_lists}
-use Rattle.flat_memory.specs.Memory.{Memory, number_at, access}
-use Rattle.x64_machine.specs.declared.context.Context.{Context}
-use Rattle.eh_tables.specs.declared.code.UnwindOperation.{UnwindOperation}
-use Rattle.eh_tables.specs.declared.code.UnwindOperation.TheVariants.{Push, Allocate, SetFrame, Save, SaveVector, MachineFrame}
-use Rattle.eh_tables.specs.Infos.{Info}
-use Rattle.virtual_unwind.specs.Contexts.{is_nonvolatile, get, set as with_register, rsp, with_rsp, rsp_raised}
-use Rattle.seh_num.specs.Answers.{◌>>=◌}
-use Rattle.virtual_unwind.specs.Undone.{Answer, readable, word, below_frame, Undo, going, undone_one, undone, all_undone, returned, returned_or, popped}
-use Rattle.virtual_unwind.specs.CallerOf.{at_start}
-use Rattle.virtual_unwind.proofs.Registers.{get-set_same, get-set_other, get-rsp_same, get-rsp_other, length-set as kept-set}
-use Rattle.frame_rules.specs.Codes.{depth, allocation, are_apart, may_save, is_allowed, are_allowed, is_saved, saves}
-use Rattle.frame_rules.specs.Frame.{IsWord, Stack, Framed, Others, left_to}
-use Rattle.frame_rules.specs.Laws.{UndoingRestores}
+use Rattle.frame_rules.specs.Words.{Memory, number_at, access, Context, UnwindOperation, Push, Allocate, SetFrame, Save, SaveVector, MachineFrame, Info, is_nonvolatile, get, rsp, with_rsp, rsp_raised, ◌>>=◌, readable, word, below_frame, Undo, going, undone_one, undone, all_undone, returned, returned_or, popped, at_start, depth, allocation, are_apart, may_save, is_allowed, are_allowed, is_saved, saves, IsWord, Stack, Framed, Others, left_to, UndoingRestores}
+use Rattle.virtual_unwind.specs.Contexts.{set as with_register}
+use Rattle.virtual_unwind.specs.Undone.{Answer}
+use Rattle.frame_rules.proofs.Lemmas.{get-set_same, get-set_other, get-rsp_same, get-rsp_other}
+use Rattle.virtual_unwind.proofs.Registers.{length-set as kept-set}
 
 -- ---- words
 

@@ -1,14 +1,8 @@
 -- What passes the rules has the form of a function that is right.
 use Rattle.std.proofs.Common.{◌≡◌, ℕ, ◌+◌, ◌^◌, Bool, true, false, not, ◌&&◌, ◌||◌, eqb, ltb, List, [], ◌∷◌, ◌++◌, Option, Some, None, refl, sym, ap, subst, ◌∙◌, inl, inr}
 use Rattle.std.proofs.lemmas.Bool.{false≢true, and_parts, or_cases, ltb-true, eqb-true, ne_eqb, not-true}
-use Rattle.eh_tables.specs.declared.code.UnwindCode.{UnwindCode}
-use Rattle.virtual_unwind.specs.Undone.{operations}
-use Rattle.virtual_unwind.specs.Tail.{FetchedInstr}
-use Rattle.virtual_unwind.specs.CallerOf.{has_frame, sets_frame}
-use Rattle.frame_rules.specs.Codes.{are_allowed, is_ordered}
-use Rattle.frame_rules.specs.Prologue.{bytes, is_step, are_sized, PrologueStep, items, codes_onto, ArePrologueSteps}
+use Rattle.frame_rules.specs.Words.{UnwindCode, operations, FetchedInstr, has_frame, sets_frame, are_allowed, is_ordered, bytes, is_step, are_sized, PrologueStep, items, codes_onto, ArePrologueSteps, RulesAreRight}
 use Rattle.frame_rules.specs.Validated.{turned, fits, before, with_step, three, steps, are_steps, has_codes, has_prologue, has_body}
-use Rattle.frame_rules.specs.Laws.{RulesAreRight}
 
 turned_twice : (done cs : List UnwindCode) → turned [] (turned done cs) ≡ turned cs done
 turned_twice done [] = refl

@@ -2,15 +2,8 @@
 use Rattle.std.proofs.Common.{◌≡◌, ℕ, zero, suc, ◌+◌, ◌*◌, ◌%◌, ◌^◌, ◌<◌, ◌≤◌, Bool, true, cond, ◌||◌, leb, List, [], ◌∷◌, Some, None, refl, sym, ap, ◌∙◌, arith, inl, inr}
 use Rattle.std.specs.Prelude.{◌⊎◌}
 use Rattle.std.proofs.lemmas.Bool.{false≢true, and_parts, or_cases, leb-true}
-use Rattle.flat_memory.specs.declared.protection.Protection.{Protection}
-use Rattle.flat_memory.specs.Protections.{is_readable}
-use Rattle.flat_memory.specs.Memory.{Memory, next, first_refused, number_at, with_number, with_bytes, may_read, may_write}
+use Rattle.frame_rules.specs.Words.{Protection, is_readable, Memory, next, first_refused, number_at, with_number, with_bytes, may_read, may_write, UnwindOperation, Push, Allocate, SetFrame, Save, SaveVector, MachineFrame, allocation, are_apart, are_pushes, IsWord, Stack, KeepsWord, KeepsWords}
 use Rattle.flat_memory.proofs.Stores.{untouched, stored_is_loaded, writable_is_readable}
-use Rattle.eh_tables.specs.declared.code.UnwindOperation.{UnwindOperation}
-use Rattle.eh_tables.specs.declared.code.UnwindOperation.TheVariants.{Push, Allocate, SetFrame, Save, SaveVector, MachineFrame}
-use Rattle.frame_rules.specs.Codes.{allocation, are_apart, are_pushes}
-use Rattle.frame_rules.specs.Frame.{IsWord, Stack}
-use Rattle.frame_rules.specs.States.{KeepsWord, KeepsWords}
 use Rattle.frame_rules.proofs.Order.{Ordered, push, allocate, frame, save, pushes_alone}
 
 pub all_may : (may : ℕ → Bool) (n at : ℕ) → at + n ≤ 2 ^ 64

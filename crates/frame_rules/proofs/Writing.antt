@@ -2,25 +2,15 @@
 use Rattle.std.proofs.Common.{◌≡◌, ℕ, ◌+◌, ◌-◌, ◌%◌, ◌^◌, Bool, true, false, cond, ◌||◌, eqb, [], ◌∷◌, get_or, Result, Ok, Err, refl, sym, ap, subst, ◌∙◌}
 use Rattle.std.proofs.lemmas.Bool.{false≢true, or_parts, eqb-false}
 use Rattle.seh_num.specs.declared.width.Width.{Width}
-use Rattle.seh_num.specs.declared.width.Width.TheVariants.{W8, W64}
+use Rattle.frame_rules.specs.Words.{W8, W64, stored, after_store, Reg, Rax, Rdx, Rsp, number, Cpu, ◌>>=◌, State, Answer, granted, register, with_register, with_flags, with_rip, load, store, read, operand, write, may_change, computed, change, compare, with_quotient, push, pop, relative, jumped, target_of, written_place, has, registers, WritesNoOther}
 use Rattle.seh_num.specs.declared.division.DivFault.{DivFault}
-use Rattle.flat_memory.specs.Memory.{stored, after_store}
-use Rattle.x64_instr.specs.declared.register.Reg.{Reg}
-use Rattle.x64_instr.specs.declared.register.Reg.TheVariants.{Rax, Rdx, Rsp}
 use Rattle.x64_instr.specs.declared.operand.RegisterOrMemory.{RegisterOrMemory}
 use Rattle.x64_instr.specs.declared.operand.RegisterOrMemory.TheVariants as places
 use Rattle.x64_instr.specs.declared.operand.Operand.{Operand}
 use Rattle.x64_instr.specs.declared.instruction.Operation.{Operation}
 use Rattle.x64_instr.specs.declared.instruction.Operation.TheVariants as operations
 use Rattle.x64_instr.specs.declared.instruction.Instr.TheVariants as instrs
-use Rattle.x64_instr.specs.Registers.{number}
-use Rattle.x64_machine.specs.declared.cpu.Cpu.{Cpu}
 use Rattle.x64_machine.specs.Conditions.{holds}
-use Rattle.seh_num.specs.Answers.{◌>>=◌}
-use Rattle.x64_machine.specs.Effect.{State, Answer, granted, register, with_register, with_flags, with_rip, load, store, read, operand, write, may_change, computed, change, compare, with_quotient, push, pop, relative, jumped, target_of}
-use Rattle.frame_rules.specs.Body.{written_place, has}
-use Rattle.frame_rules.specs.States.{registers}
-use Rattle.frame_rules.specs.Laws.{WritesNoOther}
 use Rattle.frame_rules.proofs.Steps.{ok_same, set_other}
 
 -- ---- an answer after another one

@@ -2,19 +2,10 @@
 use Rattle.std.proofs.Common.{◌≡◌, ◌≢◌, ℕ, zero, suc, ◌+◌, ◌<◌, ◌≤◌, true, false, not, leb, ltb, List, [], ◌∷◌, ◌++◌, length, get_or, Some, refl, ap, subst, ◌∙◌, arith, inl, inr, length-append}
 use Rattle.std.specs.Prelude.{◌&&◌}
 use Rattle.std.proofs.lemmas.Bool.{or_right, and_from, and_right, not_from_false, cases_lt, le-leb, lt-ltb, le-ltb}
-use Rattle.image_states.specs.Words.{IMAGE_BASE, IMAGE_RANGE_END, is_between, is_data, data_end, is_reserved, LinearBody, LinearFunclet, LinearProgram, BodyName, body_of, Instruction, Layout, modrm, size, sizes, check_stack, body_size, offset_of, FitsProgram, RoutineView, funclet_frame, funclet, routines, IsFrameNear, routine_size, entry_size, routine_bytes, check_stack_at, bounds, text_begin, first, total, linked, Placed, end_of, site_of, image_base, template_at, funclet_begin, functions_of, funclets_of, routine_of, address_of, plan_of, sites_of, HasWholeImage}
-use Rattle.template_code.proofs.Sizes.{offset_next}
-use Rattle.x64_emit.proofs.Nearby.{some_instruction}
-use Rattle.image_link.proofs.Images.{no_routine}
+use Rattle.image_states.specs.Words.{IMAGE_BASE, IMAGE_RANGE_END, is_between, is_data, data_end, is_reserved, LinearBody, LinearFunclet, LinearProgram, BodyName, body_of, Instruction, Layout, modrm, size, sizes, check_stack, body_size, offset_of, FitsProgram, RoutineView, funclet_frame, funclet, routines, IsFrameNear, routine_size, entry_size, routine_bytes, check_stack_at, bounds, text_begin, first, total, linked, Placed, end_of, site_of, image_base, template_at, funclet_begin, functions_of, funclets_of, routine_of, address_of, plan_of, sites_of, HasWholeImage, IsInImage}
+use Rattle.image_states.proofs.Lemmas.{offset_next, some_instruction, no_routine, taking_few, entry_least, text_is, end_inside, IsThere, there, routine_length, bounds_rise, no_funclet, as_long, begin_is, funclet_is, funclet_size}
 use Rattle.image_link.proofs.Bounds.{bounds_least, bounds_below}
 use Rattle.image_tables.proofs.Labels.{template_some}
-use Rattle.image_tables.proofs.Infos.{taking_few}
-use Rattle.image_tables.proofs.Prologues.{entry_least}
-use Rattle.image_tables.proofs.Table.{text_is, end_inside}
-use Rattle.image_tables.proofs.CodeInMemory.{IsThere, there, routine_length}
-use Rattle.image_tables.proofs.RoutineRows.{bounds_rise}
-use Rattle.image_tables.proofs.Shape.{no_funclet, as_long, begin_is, funclet_is, funclet_size}
-use Rattle.match_bodies.specs.ProgramImages.{IsInImage}
 use Rattle.image_states.proofs.Places.{IsBody, is_body}
 
 -- ---- what no access of the source reaches

@@ -4,24 +4,13 @@ use Rattle.std.specs.Prelude.{slice_get}
 use Rattle.std.specs.List.{AllByRecursion}
 use Rattle.std.proofs.lemmas.Bool.{ne_eqb, lt-ltb, le-ltb, lt-leb}
 use Rattle.std.proofs.lemmas.List.{append-nil}
-use Rattle.image_states.specs.Words.{Memory, Rax, Instr, chosen, Context, Entry, Functions, distance, entry_of, of_entry, tail_at, left, framed, filter_return, finally_return, IsExecutableAt, Slot, Instruction, LinearBody, LinearProgram, BodyName, body_of, FrameLayout, taking_size, Layout, spelled, size, sizes, fetch, code_from, IsInstructionNear, IsFrameNear, argument_code, entry_size, check_stack_at, routine_code, Placed, body_begin, end_of, site_of, placed, image_base, template_at, links, begin_of, making_size, give_back, code_of, HasProgram, FindsReturn, functions_of, funclets_of, routine_of, plan_of, sites_of, HasWholeImage}
+use Rattle.image_states.specs.Words.{Memory, Rax, Instr, chosen, Context, Entry, Functions, distance, entry_of, of_entry, tail_at, left, framed, filter_return, finally_return, IsExecutableAt, Slot, Instruction, LinearBody, LinearProgram, BodyName, body_of, FrameLayout, taking_size, Layout, spelled, size, sizes, fetch, code_from, IsInstructionNear, IsFrameNear, argument_code, entry_size, check_stack_at, routine_code, Placed, body_begin, end_of, site_of, placed, image_base, template_at, links, begin_of, making_size, give_back, code_of, HasProgram, FindsReturn, functions_of, funclets_of, routine_of, plan_of, sites_of, HasWholeImage, by_distance, in_prologue, run_or, past_prologue, operations, epilogue, return_code}
 use Rattle.x64_instr.specs.declared.instruction.Instr.TheVariants as instrs
-use Rattle.virtual_unwind.specs.CallerOf.{by_distance, in_prologue, run_or, past_prologue}
-use Rattle.virtual_unwind.specs.Undone.{operations}
-use Rattle.frame_rules.proofs.Bytes.{never_empty}
+use Rattle.image_states.proofs.Lemmas.{never_empty, sizes_append, template_sizes, entry_sizes, routine_small, some_same, none_some, prologue_sizes, entry_least, executable_split, code_split, IsTemplate, template_there, Inner, AllInner, inner_at, fetch_inner, size_of, sized, no_epilogue, away, found_in, none_in}
 use Rattle.linear_code.specs.declared.instruction.Instruction.TheVariants as instructions
-use Rattle.template_code.specs.Calls.{epilogue, return_code}
-use Rattle.template_code.proofs.Sizes.{sizes_append, template_sizes}
 use Rattle.image_link.specs.Text as texts
-use Rattle.image_link.proofs.Entries.{entry_sizes, routine_small}
 use Rattle.image_tables.specs.Entries as tables
-use Rattle.image_tables.proofs.Lookups.{some_same, none_some}
-use Rattle.image_tables.proofs.Prologues.{prologue_sizes, entry_least}
 use Rattle.image_tables.proofs.Arguments.{arguments_inner}
-use Rattle.image_tables.proofs.CodeInMemory.{executable_split, code_split, IsTemplate, template_there}
-use Rattle.image_tables.proofs.BodyInstructions.{Inner, AllInner, inner_at, fetch_inner}
-use Rattle.image_tables.proofs.Layouts.{size_of, sized}
-use Rattle.image_tables.proofs.BodyFrames.{no_epilogue, away, found_in, none_in}
 use Rattle.image_states.proofs.Addresses.{place, here}
 use Rattle.image_states.proofs.Entering.{frame_same, code_same}
 use Rattle.image_states.proofs.Framed.{executable_of}

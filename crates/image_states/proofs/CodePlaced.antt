@@ -2,28 +2,16 @@
 use Rattle.std.proofs.Common.{◌≡◌, ℕ, suc, ◌+◌, ◌-◌, ◌^◌, ◌<◌, ◌≤◌, true, false, List, [], ◌∷◌, ◌++◌, length, Option, Some, refl, sym, ap, subst, ◌∙◌, arith, inl}
 use Rattle.std.specs.List.{AllByRecursion}
 use Rattle.std.proofs.lemmas.List.{append-nil}
-use Rattle.image_states.specs.Words.{Service, service_named, is_writable, Memory, may_write, chosen, modrm, Section, Import, ImageContents, image_of, imports_of, sizes_of, rdata_at, end_at, mode_in, stored_byte, with_slots, mapped, IsExecutableAt, BuiltIn, Put, Protect, RaiseException, LinearBody, LinearProgram, BodyName, body_of, spelled, size, sizes, check_stack, IsCodeAt, SiteView, routine_size, routine_code, routine_bytes, text_begin, first, linked, routines, site_of, image_base, begin_of, code_of, HasProgram, functions_of, funclets_of, routine_of, plan_of, sites_of, HasWholeImage, MOST_IMAGE}
+use Rattle.image_states.specs.Words.{Service, service_named, is_writable, Memory, may_write, chosen, modrm, Section, Import, ImageContents, image_of, imports_of, sizes_of, rdata_at, end_at, mode_in, stored_byte, with_slots, mapped, IsExecutableAt, BuiltIn, Put, Protect, RaiseException, LinearBody, LinearProgram, BodyName, body_of, spelled, size, sizes, check_stack, IsCodeAt, SiteView, routine_size, routine_code, routine_bytes, text_begin, first, linked, routines, site_of, image_base, begin_of, code_of, HasProgram, functions_of, funclets_of, routine_of, plan_of, sites_of, HasWholeImage, MOST_IMAGE, is_readable, number_at, may_read, name_of, slot_of, SlotsAreApart, thunk, thunk_at, service_thunk, front_code, routines_bytes, service_of, HasService}
 use Rattle.host_layout.specs.declared.service.Service.TheVariants as services
 use Rattle.host_layout.specs.Services.{address_of}
-use Rattle.flat_memory.specs.Protections.{is_readable}
-use Rattle.flat_memory.specs.Memory.{number_at, may_read}
 use Rattle.host_layout.specs.declared.imported.ImportedService.{ImportedService}
 use Rattle.host_layout.specs.declared.imported.ImportedService.TheVariants as imports
-use Rattle.pe_write.specs.ImportTables.{name_of, slot_of}
-use Rattle.pe_write.proofs.Programs.{listed}
-use Rattle.host_model.specs.Slots.{SlotsAreApart}
-use Rattle.host_model.proofs.Slots.{slots_read}
-use Rattle.template_code.specs.Bytes.{thunk}
+use Rattle.image_states.proofs.Lemmas.{listed, slots_read, sizes_spelled, routine_small, is, text_is, rdata_is, end_inside, code_length}
 use Rattle.template_code.specs.Jumps.{distance}
-use Rattle.template_code.proofs.Sizes.{sizes_spelled}
 use Rattle.x64_templates.specs.Runs.{HasCode}
-use Rattle.image_link.specs.Text.{thunk_at, service_thunk, front_code, routines_bytes}
-use Rattle.image_link.proofs.Entries.{routine_small}
 use Rattle.image_tables.proofs.Handlers.{thunk_bytes}
-use Rattle.image_tables.proofs.Table.{is, text_is, rdata_is, end_inside}
-use Rattle.image_tables.proofs.CodeInMemory.{code_length}
 use Rattle.image_tables.proofs.ImageText.{images_have_text, texts_are_fixed}
-use Rattle.match_bodies.specs.ProgramImages.{service_of, HasService}
 use Rattle.image_states.proofs.Addresses.{reserved, place, here}
 use Rattle.image_states.proofs.Entering.{code_same}
 use Rattle.image_states.proofs.Data.{tables_there}

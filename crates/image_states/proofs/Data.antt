@@ -4,25 +4,14 @@ use Rattle.std.specs.Prelude.{◌&&◌, ◌||◌, ◌⊎◌}
 use Rattle.std.specs.List.{AllByRecursion, flat_map}
 use Rattle.std.proofs.lemmas.Bool.{and_from, and_parts, and_left, and_right, or_left, lt-ltb, le-ltb, le-leb, lt-leb, ltb-true, leb-true, cases_lt, false≢true}
 use Rattle.std.proofs.lemmas.List.{get_or_past}
-use Rattle.image_states.specs.Words.{IMAGE_BASE, IMAGE_RANGE_END, is_writable, Memory, may_write, Section, Image, Import, ImageContents, image_of, imports_of, sizes_of, rdata_at, end_at, section_of, mode_in, byte_in, stored_byte, with_slots, mapped, is_between, data_end, is_data, is_reserved, LinearProgram, linked, image_base, HasWholeImage, MOST_IMAGE}
-use Rattle.host_layout.specs.declared.range.TheConstants.{GUARD_START, STACK_START, STACK_END, ARENA_START, ARENA_END, FIRST_DATA}
-use Rattle.host_layout.specs.Ranges.{in_stack, in_arena}
+use Rattle.image_states.specs.Words.{IMAGE_BASE, IMAGE_RANGE_END, is_writable, Memory, may_write, Section, Image, Import, ImageContents, image_of, imports_of, sizes_of, rdata_at, end_at, section_of, mode_in, byte_in, stored_byte, with_slots, mapped, is_between, data_end, is_data, is_reserved, LinearProgram, linked, image_base, HasWholeImage, MOST_IMAGE, GUARD_START, STACK_START, STACK_END, ARENA_START, ARENA_END, FIRST_DATA, in_stack, in_arena, services, imported, import_tables, sections_of, parts_of, text_at, xdata_at, pdata_at, data_section, text_section, rdata_section, xdata_section, pdata_section, stack_mode, IsBeside, plain_mode, first_memory, data_size, HasBytes}
 use Rattle.flat_memory.specs.declared.protection.Rights.TheVariants.{Nothing, ReadWrite}
 use Rattle.pe_image.specs.Imports as importing
-use Rattle.pe_write.specs.ImportTables.{services, imported, import_tables}
-use Rattle.pe_write.specs.Program.{sections_of, parts_of, text_at, xdata_at, pdata_at, data_section, text_section, rdata_section, xdata_section, pdata_section}
 use Rattle.pe_image.specs.Numbers.{zeros}
 use Rattle.pe_write.specs.Written.{raw_size, raw_data, written, dos_header, file_header, standard_fields, windows_fields, directories, table_of}
-use Rattle.pe_write.proofs.Programs.{listed}
-use Rattle.host_model.specs.Loading.{stack_mode}
-use Rattle.host_model.specs.Slots.{IsBeside}
-use Rattle.host_model.proofs.Slots.{slots-beside}
-use Rattle.source_meaning.specs.Source.{plain_mode, first_memory}
+use Rattle.image_states.proofs.Lemmas.{listed, slots-beside, is, text_is}
 use Rattle.match_stack.specs.StackRecords.{IsData}
 use Rattle.x64_templates.specs.Frames.{Agrees}
-use Rattle.image_link.specs.Linked.{data_size}
-use Rattle.image_tables.proofs.Table.{is, text_is}
-use Rattle.image_states.specs.StartLaws.{HasBytes}
 use Rattle.image_states.proofs.Sections.{covered, below, above, here, past, of_section, AllBytes, bytes_front, bytes_back, stored_small, slots_small, slots_past, get_zeros, IsApart}
 
 -- ---- the bytes of sections

@@ -2,28 +2,20 @@
 use Rattle.std.proofs.Common.{◌≡◌, ℕ, zero, suc, ◌+◌, ◌^◌, ◌<◌, ◌==◌, Bool, true, false, not, leb, List, [], ◌∷◌, ◌++◌, get_or, Option, Some, None, refl, sym, ap, subst, ◌∙◌, arith}
 use Rattle.std.specs.Prelude.{slice_get, ◌&&◌}
 use Rattle.std.proofs.lemmas.Option.{slice_get_within, get_or_from_slice_get, slice_get-get_or}
-use Rattle.image_states.specs.Words.{W64, Rax, Rsp, Instr, Instruction, FuncletKind, Filter, Finally, LinearBody, LinearFunction, LinearFunclet, LinearProgram, BodyName, FunctionBody, FuncletBody, function_body, funclet_body, body_of, FrameLayout, Layout, template_size, body_size, offset_of, code_from, address_or, IsFrameNear, RoutineView, leaf_if, funclet_frame, nothing, funclet, argument_code, check_stack_at, own_addresses, routine_code, text_begin, linked, Placed, body_begin, site_of, image_base, links, links_of, begin_of, entry_code, code_of, is_leaf, routine_of, address_of, plan_of, sites_of, HasWholeImage}
-use Rattle.seh_num.specs.declared.width.Width.TheVariants.{W32}
+use Rattle.image_states.specs.Words.{W64, Rax, Rsp, Instr, Instruction, FuncletKind, Filter, Finally, LinearBody, LinearFunction, LinearFunclet, LinearProgram, BodyName, FunctionBody, FuncletBody, function_body, funclet_body, body_of, FrameLayout, Layout, template_size, body_size, offset_of, code_from, address_or, IsFrameNear, RoutineView, leaf_if, funclet_frame, nothing, funclet, argument_code, check_stack_at, own_addresses, routine_code, text_begin, linked, Placed, body_begin, site_of, image_base, links, links_of, begin_of, entry_code, code_of, is_leaf, routine_of, address_of, plan_of, sites_of, HasWholeImage, W32, parameters_code, FitsFunclet, kept_by, HasParent, making, frame_code, parent_base, keep_base, keep_argument, function_arguments, funclet_arguments}
 use Rattle.x64_instr.specs.declared.operand.RegisterOrMemory.TheVariants as places
 use Rattle.x64_instr.specs.declared.operand.Operand.TheVariants as operands
 use Rattle.x64_instr.specs.declared.instruction.Operation.TheVariants as arithmetic
 use Rattle.x64_instr.specs.declared.instruction.Instr.TheVariants as instrs
 use Rattle.frame_rules.specs.Plan.{allocating}
-use Rattle.frame_layout.proofs.Sizes.{code_is}
+use Rattle.image_states.proofs.Lemmas.{code_is, all_at, entry_small, none_some, IsThere, size_of, sized}
 use Rattle.template_code.specs.Jumps.{distance}
-use Rattle.template_code.specs.Calls.{parameters_code}
 use Rattle.x64_emit.specs.Bodies.{label_list}
 use Rattle.x64_emit.specs.Entries as link_entries
-use Rattle.x64_emit.proofs.Nearby.{all_at}
-use Rattle.image_link.specs.Fits.{FitsFunclet}
-use Rattle.image_link.specs.Routines.{kept_by, HasParent, entry_of}
+use Rattle.image_link.specs.Routines.{entry_of}
 use Rattle.image_link.specs.Routines as link
 use Rattle.image_link.specs.Text as texts
-use Rattle.image_link.proofs.Entries.{entry_small}
-use Rattle.image_tables.proofs.Lookups.{none_some}
-use Rattle.image_tables.proofs.CodeInMemory.{IsThere}
-use Rattle.image_tables.proofs.Layouts.{size_of, sized}
-use Rattle.match_bodies.specs.CodeSites.{making, frame_code, parent_base, keep_base, keep_argument, function_arguments, funclet_arguments, arguments_code}
+use Rattle.match_bodies.specs.CodeSites.{arguments_code}
 use Rattle.image_states.proofs.Places.{is_function, is_funclet}
 use Rattle.image_states.proofs.Addresses.{place, here}
 use Rattle.image_states.proofs.Shifts.{AreMoved, call_moved, code_moved}

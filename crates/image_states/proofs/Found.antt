@@ -2,21 +2,11 @@
 use Rattle.std.proofs.Common.{◌≡◌, ◌≢◌, ℕ, ◌+◌, ◌-◌, ◌^◌, ◌<◌, ◌≤◌, true, ltb, leb, List, [], ◌∷◌, ◌++◌, length, Option, Some, None, refl, sym, ap, subst, ◌∙◌, arith}
 use Rattle.std.specs.Prelude.{slice_get}
 use Rattle.std.proofs.lemmas.Bool.{le-ltb, and_right}
-use Rattle.image_states.specs.Words.{Memory, Rax, Instr, modrm, Table, Entry, BuiltIn, Put, Protect, RaiseException, Functions, distance, entry_of, of_entry, left, framed, filter_return, finally_return, Slot, LinearBody, LinearProgram, BodyName, body_of, FrameLayout, size, sizes, fetch, check_stack, RoutineView, routines, SiteView, routine_size, argument_code, check_stack_at, first, total, Placed, end_of, site_of, infos_begin, image_base, template_at, begin_of, making_size, give_back, FindsReturn, functions_of, funclets_of, is_leaf, routine_of, address_of, plan_of, sites_of, HasWholeImage, IsNear}
-use Rattle.eh_tables.specs.Tables.{entry_or, holding, or_none}
+use Rattle.image_states.specs.Words.{Memory, Rax, Instr, modrm, Table, Entry, BuiltIn, Put, Protect, RaiseException, Functions, distance, entry_of, of_entry, left, framed, filter_return, finally_return, Slot, LinearBody, LinearProgram, BodyName, body_of, FrameLayout, size, sizes, fetch, check_stack, RoutineView, routines, SiteView, routine_size, argument_code, check_stack_at, first, total, Placed, end_of, site_of, infos_begin, image_base, template_at, begin_of, making_size, give_back, FindsReturn, functions_of, funclets_of, is_leaf, routine_of, address_of, plan_of, sites_of, HasWholeImage, IsNear, entry_or, holding, thunks_at, info_bytes, thunk_of, placed_from, FindsCallers, FindsCallersOutside}
+use Rattle.eh_tables.specs.Tables.{or_none}
 use Rattle.linear_code.specs.declared.instruction.Instruction.TheVariants as instructions
-use Rattle.frame_layout.proofs.Sizes.{takes_thirteen}
-use Rattle.image_link.specs.Text.{thunks_at}
-use Rattle.image_link.specs.Tables.{info_bytes}
-use Rattle.x64_emit.specs.Linking.{thunk_of}
-use Rattle.image_tables.specs.RoutinePlaces.{placed_from}
+use Rattle.image_states.proofs.Lemmas.{takes_thirteen, thunks_are_held_by_none, taking_few, tables_are_read, end_inside, size_of, sized, away}
 use Rattle.image_tables.specs.Entries as tables
-use Rattle.image_tables.proofs.Lookups.{thunks_are_held_by_none}
-use Rattle.image_tables.proofs.Infos.{taking_few}
-use Rattle.image_tables.proofs.Table.{tables_are_read, end_inside}
-use Rattle.image_tables.proofs.Layouts.{size_of, sized}
-use Rattle.image_tables.proofs.BodyFrames.{away}
-use Rattle.match_bodies.specs.ProgramImages.{FindsCallers, FindsCallersOutside}
 use Rattle.image_states.proofs.Addresses.{place, label_rises, label_inside}
 use Rattle.image_states.proofs.Entering.{arguments_same}
 use Rattle.image_states.proofs.Framed.{framed_of}

@@ -2,20 +2,15 @@
 use Rattle.std.proofs.Common.{◌≡◌, ℕ, zero, suc, ◌+◌, ◌^◌, ◌<◌, true, false, List, [], ◌∷◌, Option, Some, None, Ok, refl, sym, ap, subst, ◌∙◌, arith}
 use Rattle.std.specs.Prelude.{slice_get}
 use Rattle.std.specs.List.{AllByRecursion}
-use Rattle.image_tables.proofs.Lookups.{some_same, none_some}
+use Rattle.image_states.proofs.Lemmas.{some_same, none_some, routine_small, size_of, sized, frame_is_at, leaves_are_at}
 use Rattle.std.proofs.lemmas.Bool.{false≢true}
-use Rattle.image_states.specs.Words.{Memory, Instr, rsp, word, FrameIsAt, IsExecutableAt, Instruction, LinearBody, LinearProgram, BodyName, body_of, FrameLayout, taking_size, spelled, sizes, IsCodeAt, routine_code, IsInstructionNear, site_of, image_base, template_at, links, HasProgram, links_of, begin_of, code_of, functions_of, funclets_of, is_leaf, or_none, routine_of, address_of, plan_of, sites_of, HasWholeImage}
+use Rattle.image_states.specs.Words.{Memory, Instr, rsp, word, FrameIsAt, IsExecutableAt, Instruction, LinearBody, LinearProgram, BodyName, body_of, FrameLayout, taking_size, spelled, sizes, IsCodeAt, routine_code, IsInstructionNear, site_of, image_base, template_at, links, HasProgram, links_of, begin_of, code_of, functions_of, funclets_of, is_leaf, or_none, routine_of, address_of, plan_of, sites_of, HasWholeImage, IsReturn, IsInBody, frame_with, IsResumed, FramesAreWaiting, HasAllocation, LeavesAreWaiting}
 use Rattle.eh_tables.specs.declared.code.UnwindOperation.TheVariants.{Allocate}
 use Rattle.eh_tables.specs.declared.code.UnwindCode.{UnwindCode}
 use Rattle.linear_code.specs.declared.instruction.Instruction.TheVariants as instructions
 use Rattle.x64_templates.specs.Epilogues as epilogues
-use Rattle.image_link.proofs.Entries.{routine_small}
 use Rattle.image_tables.specs.Entries as tables
-use Rattle.image_tables.specs.CodeInMemory.{IsReturn, IsInBody}
 use Rattle.image_tables.specs.FrameLaws.{stack_frame}
-use Rattle.image_tables.proofs.Layouts.{size_of, sized}
-use Rattle.image_tables.proofs.BodyFrames.{frame_is_at, leaves_are_at}
-use Rattle.match_bodies.specs.ProgramImages.{frame_with, IsResumed, FramesAreWaiting, HasAllocation, LeavesAreWaiting}
 use Rattle.image_states.proofs.Addresses.{place, here, label_inside}
 use Rattle.image_states.proofs.Entering.{moved, code_same}
 use Rattle.image_states.proofs.Shifts.{template_moved}

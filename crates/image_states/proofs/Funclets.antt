@@ -4,19 +4,11 @@ use Rattle.std.specs.Prelude.{slice_get, ◌||◌}
 use Rattle.std.specs.List.{AllByRecursion}
 use Rattle.std.proofs.lemmas.Bool.{eq-eqb, or_right}
 use Rattle.std.proofs.lemmas.Option.{slice_get_within}
-use Rattle.image_states.specs.Words.{Cpu, ScopeRecord, Entry, distance, Funclet, inserted, by_kind, arrivals, Region, RegionKind, FuncletKind, Filter, Finally, LinearFunction, LinearFunclet, LinearProgram, BodyName, FunctionBody, FuncletBody, function_body, funclet_body, IsKindOf, IsRegionOf, image_base, funclet_begin, functions_of, funclets_of, plan_of, sites_of, HasWholeImage}
-use Rattle.host_model.specs.Funclets.{with_row, of_rows, of_entries}
+use Rattle.image_states.specs.Words.{Cpu, ScopeRecord, Entry, distance, Funclet, inserted, by_kind, arrivals, Region, RegionKind, FuncletKind, Filter, Finally, LinearFunction, LinearFunclet, LinearProgram, BodyName, FunctionBody, FuncletBody, function_body, funclet_body, IsKindOf, IsRegionOf, image_base, funclet_begin, functions_of, funclets_of, plan_of, sites_of, HasWholeImage, with_row, of_rows, of_entries, IsFilterKind, IsFinallyKind, function_bodies, funclet_bodies, rows_of, regions_in, regions, funclet_in, named, IsRow, AreRows, FuncletsBegin, IsMember}
 use Rattle.linear_code.specs.declared.program.RegionKind.TheVariants as kinds
-use Rattle.lowering_invariants.specs.Bodies.{IsFilterKind, IsFinallyKind}
-use Rattle.image_link.specs.Fits.{function_bodies, funclet_bodies}
 use Rattle.image_tables.specs.Entries.{entries}
-use Rattle.image_tables.proofs.Table.{end_inside, image_small}
-use Rattle.image_tables.proofs.BodyFrames.{away}
-use Rattle.image_tables.specs.RegionRows.{rows_of, regions_in, regions, funclet_in, named, IsRow, AreRows}
-use Rattle.image_tables.proofs.Shape.{rises, tables_have_shape}
-use Rattle.match_bodies.specs.ProgramImages.{FuncletsBegin}
+use Rattle.image_states.proofs.Lemmas.{end_inside, image_small, away, rises, tables_have_shape}
 use Rattle.match_bodies.specs.ProgramImages as states
-use Rattle.image_states.specs.Compiled.{IsMember}
 use Rattle.image_states.proofs.Inserting.{Mask, with_one, sub, same_sub, insert, all, arrives, arrives_at_none}
 use Rattle.image_states.proofs.Addresses.{funclet_end}
 

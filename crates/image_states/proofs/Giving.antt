@@ -5,25 +5,15 @@ use Rattle.std.specs.List.{AllByRecursion}
 use Rattle.std.proofs.lemmas.Bool.{cases_lt, lt-ltb, le-ltb, le-leb, lt-leb, ltb-true, eq-eqb, ne_eqb, false≢true}
 use Rattle.std.proofs.lemmas.List.{length-map}
 use Rattle.std.proofs.lemmas.Option.{slice_get_within}
-use Rattle.image_states.specs.Words.{Cpu, ScopeRecord, distance, by_kind, arrivals, FuncletKind, Instruction, Region, RegionKind, LinearBody, LinearProgram, BodyName, body_of, instruction_in, IsKindOf, IsRegionOf, Layout, address_or, routines, own_addresses, text_begin, first, linked, Placed, body_begin, site_of, infos_begin, image_base, template_at, funclet_begin, functions_of, funclets_of, or_none, routine_of, address_of, plan_of, HasWholeImage}
+use Rattle.image_states.specs.Words.{Cpu, ScopeRecord, distance, by_kind, arrivals, FuncletKind, Instruction, Region, RegionKind, LinearBody, LinearProgram, BodyName, body_of, instruction_in, IsKindOf, IsRegionOf, Layout, address_or, routines, own_addresses, text_begin, first, linked, Placed, body_begin, site_of, infos_begin, image_base, template_at, funclet_begin, functions_of, funclets_of, or_none, routine_of, address_of, plan_of, HasWholeImage, Local, parent_of, IsFuncletOf, IsLanding, has_except, has_finally, handler_address, jump_target, scope_record, InCode, by_parent, parent_body, IsFunclet, JumpsTo, IsOfKind, IsRegion, AreRegions, AllFinally, AllExcept, IsFlagged, IsEntryOf, IsGiven, Gives}
 use Rattle.seh_walk.specs.Asked.{is_end}
 use Rattle.seh_walk.specs.Asked as rows
-use Rattle.linear_code.specs.declared.slot.Slot.TheVariants.{Local}
 use Rattle.linear_code.specs.declared.instruction.Instruction.TheVariants as instructions
 use Rattle.linear_code.specs.declared.program.RegionKind.TheVariants as kinds
 use Rattle.linear_machine.specs.Regions.{leads_to}
 use Rattle.linear_machine.specs.Regions as linear
-use Rattle.lowering_invariants.specs.Bodies.{parent_of, IsFuncletOf, IsLanding}
-use Rattle.image_link.specs.Tables.{has_except, has_finally, handler_address, jump_target, scope_record}
 use Rattle.image_link.specs.Tables as tables
-use Rattle.image_link.proofs.Entries.{routine_small}
-use Rattle.image_tables.proofs.Lookups.{placed_has}
-use Rattle.image_tables.proofs.Table.{end_inside, image_small}
-use Rattle.image_tables.proofs.CodeInMemory.{IsThere}
-use Rattle.image_tables.proofs.BodyFrames.{away}
-use Rattle.image_tables.proofs.RoutineRows.{IsBare, routines_bare}
-use Rattle.image_tables.proofs.Shape.{entries_are_flagged}
-use Rattle.match_stack.specs.ImagePlan.{InCode, by_parent, parent_body, IsFunclet, JumpsTo, IsOfKind, IsRegion, AreRegions, AllFinally, AllExcept, IsFlagged, IsEntryOf, IsGiven, Gives}
+use Rattle.image_states.proofs.Lemmas.{routine_small, placed_has, end_inside, image_small, IsThere, away, IsBare, routines_bare, entries_are_flagged}
 use Rattle.image_states.proofs.Addresses.{offset_mono, past, place, here, label_rises, label_inside, not_first, funclet_end, begin_least}
 use Rattle.image_states.proofs.Entering.{label_is}
 use Rattle.image_states.proofs.Framed.{leaf_of}

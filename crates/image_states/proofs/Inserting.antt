@@ -3,8 +3,7 @@ use Rattle.std.proofs.Common.{◌≡◌, ◌≢◌, ℕ, zero, suc, ◌+◌, ◌
 use Rattle.std.specs.Prelude.{◌||◌}
 use Rattle.std.specs.List.{AllByRecursion}
 use Rattle.std.proofs.lemmas.Bool.{lt-ltb, le-ltb, eq-eqb, ne_eqb, cases_lt}
-use Rattle.image_states.specs.Words.{Cpu, Funclet, inserted, by_kind, arrivals}
-use Rattle.host_model.specs.Funclets.{if_same, if_below, if_here}
+use Rattle.image_states.specs.Words.{Cpu, Funclet, inserted, by_kind, arrivals, if_same, if_below, if_here}
 
 abbrev pub Mask : Type 0
 Mask = ℕ → Bool

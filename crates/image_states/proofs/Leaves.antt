@@ -3,15 +3,11 @@ use Rattle.std.proofs.Common.{◌≡◌, ◌≢◌, ℕ, zero, suc, ◌+◌, ◌
 use Rattle.std.specs.Prelude.{slice_get, ◌&&◌, nat_le}
 use Rattle.std.proofs.lemmas.Option.{slice_get_within}
 use Rattle.std.proofs.lemmas.Bool.{and_parts, or_parts, true≢false, false≢true}
-use Rattle.image_states.specs.Words.{Instruction, LinearBody, LinearFunction, LinearFunclet, LinearProgram, BodyName, FunctionBody, FuncletBody, function_body, funclet_body, body_of, RoutineView, leaf_if, routines, has_call, bounds, routine_size, first, site_of, image_base, address_or, funclet_begin, is_leaf, routine_of, plan_of, HasWholeImage}
+use Rattle.image_states.specs.Words.{Instruction, LinearBody, LinearFunction, LinearFunclet, LinearProgram, BodyName, FunctionBody, FuncletBody, function_body, funclet_body, body_of, RoutineView, leaf_if, routines, has_call, bounds, routine_size, first, site_of, image_base, address_or, funclet_begin, is_leaf, routine_of, plan_of, HasWholeImage, LeavesCallNothing, FunctionsApart}
 use Rattle.linear_code.specs.declared.instruction.Instruction.TheVariants as instructions
 use Rattle.lowering_invariants.specs.ReturnRegions.{is_call}
 use Rattle.image_link.specs.Routines as link
-use Rattle.image_link.proofs.Images.{no_routine}
-use Rattle.image_tables.proofs.Lookups.{some_same, none_some}
-use Rattle.image_tables.proofs.RoutineRows.{bounds_rise}
-use Rattle.image_tables.proofs.Shape.{as_long, begin_is}
-use Rattle.image_states.specs.StateLaws.{LeavesCallNothing, FunctionsApart}
+use Rattle.image_states.proofs.Lemmas.{no_routine, some_same, none_some, bounds_rise, as_long, begin_is}
 use Rattle.image_states.proofs.Places.{is_function, is_funclet}
 use Rattle.image_states.proofs.Addresses.{place, label_below}
 

@@ -1,3 +1,4 @@
+mod Lemmas
 pub mod Places
 pub mod Shifts
 pub mod Addresses

@@ -3,14 +3,9 @@ use Rattle.std.proofs.Common.{◌≡◌, ℕ, zero, suc, ◌+◌, ◌<◌, ◌==
 use Rattle.std.specs.Prelude.{slice_get, ◌&&◌}
 use Rattle.std.proofs.lemmas.List.{get_or-take, get_or_append_left}
 use Rattle.std.proofs.lemmas.Option.{slice_get_within, get_or_from_slice_get}
-use Rattle.image_states.specs.Words.{LinearBody, LinearFunction, LinearFunclet, LinearProgram, BodyName, FunctionBody, FuncletBody, function_body, funclet_body, body_of, FitsProgram, RoutineView, leaf_if, funclet, routines, bounds, first, Placed, site_of, infos_begin, placed, image_base, address_or, funclet_begin, begin_of, routine_of, plan_of, sites_of}
-use Rattle.image_link.specs.Routines.{functions_from}
+use Rattle.image_states.specs.Words.{LinearBody, LinearFunction, LinearFunclet, LinearProgram, BodyName, FunctionBody, FuncletBody, function_body, funclet_body, body_of, FitsProgram, RoutineView, leaf_if, funclet, routines, bounds, first, Placed, site_of, infos_begin, placed, image_base, address_or, funclet_begin, begin_of, routine_of, plan_of, sites_of, functions_from, or_nowhere}
 use Rattle.image_link.specs.Routines as link
-use Rattle.image_link.proofs.Images.{no_routine}
-use Rattle.image_tables.proofs.Lookups.{some_same, none_some}
-use Rattle.image_tables.proofs.RoutineRows.{is_placed}
-use Rattle.image_tables.proofs.Shape.{functions_count, no_funclet, as_long, funclet_is, begin_is}
-use Rattle.image_states.specs.Plans.{or_nowhere}
+use Rattle.image_states.proofs.Lemmas.{no_routine, some_same, none_some, is_placed, functions_count, no_funclet, as_long, funclet_is, begin_is}
 
 -- ---- lists
 

@@ -3,23 +3,14 @@ use Rattle.std.proofs.Common.{◌≡◌, ◌≢◌, ℕ, suc, ◌+◌, ◌%◌, 
 use Rattle.std.specs.Prelude.{slice_index, slice_set}
 use Rattle.std.proofs.lemmas.Bool.{ne_eqb, lt-ltb, and_from}
 use Rattle.std.proofs.lemmas.List.{append-nil}
-use Rattle.image_states.specs.Words.{Memory, chosen, Context, Entry, rsp, Functions, distance, entry_of, of_entry, tail_at, left, word, framed, filter_return, finally_return, FrameIsAt, IsExecutableAt, size, first, give_back, FindsReturn, IsNear}
+use Rattle.image_states.specs.Words.{Memory, chosen, Context, Entry, rsp, Functions, distance, entry_of, of_entry, tail_at, left, word, framed, filter_return, finally_return, FrameIsAt, IsExecutableAt, size, first, give_back, FindsReturn, IsNear, is_encodable, rsp_raised, CallerFrame, found, rising, risen, caller_in, tail, prepend_instr, Answer, popped, visited, if_over, if_filter, if_finally, spell, caller_above, HasCaller}
 use Rattle.x64_instr.specs.declared.instruction.Instr.TheVariants as instrs
-use Rattle.x64_encode.specs.Chosen.{is_encodable}
 use Rattle.x64_encode.proofs.Lengths.{longest}
 use Rattle.seh_num.specs.Answers.{◌>>=◌}
-use Rattle.virtual_unwind.specs.Contexts.{rsp_raised}
-use Rattle.virtual_unwind.specs.CallerOf.{CallerFrame, found, rising, risen, caller_in}
-use Rattle.virtual_unwind.specs.Tail.{tail, prepend_instr}
-use Rattle.virtual_unwind.specs.Undone.{Answer, popped}
-use Rattle.seh_walk.specs.Walk.{visited, if_over, if_filter, if_finally}
 use Rattle.match_stack.specs.PlainWalks.{state}
 use Rattle.match_stack.proofs.ItemVisits.{set_head, frame_is_visited}
-use Rattle.frame_rules.specs.Bytes.{spell}
-use Rattle.frame_rules.proofs.Bytes.{items_are_at}
+use Rattle.image_states.proofs.Lemmas.{items_are_at, signed}
 use Rattle.frame_rules.proofs.Tails.{tail-more}
-use Rattle.image_tables.proofs.BodyInstructions.{signed}
-use Rattle.match_bodies.specs.Callers.{caller_above, HasCaller}
 
 -- ---- a return address is popped
 

@@ -2,20 +2,15 @@
 use Rattle.std.proofs.Common.{◌≡◌, ℕ, ◌+◌, ◌==◌, true, false, Option, Some, None, refl, ap, ◌∙◌}
 use Rattle.std.specs.Prelude.{slice_get, ◌&&◌}
 use Rattle.std.proofs.lemmas.Bool.{and_from, and_parts, eq-eqb, eqb-true, false≢true}
-use Rattle.image_states.specs.Words.{Rax, Rcx, Cpu, RaiseException, Temporary, Instruction, LinearProgram, body_of, instruction_in, Layout, sizes, routine_of, address_of, functions_of, funclets_of, plan_of, sites_of}
+use Rattle.image_states.specs.Words.{Rax, Rcx, Cpu, RaiseException, Temporary, Instruction, LinearProgram, body_of, instruction_in, Layout, sizes, routine_of, address_of, functions_of, funclets_of, plan_of, sites_of, Frame, Resumption, AfterCall, SameOperation, operands_code, return_at, view_of, ReturnsThere, WorksAgain, SaysResumptions, is_some, is_ready, returns_there, works_again}
 use Rattle.seh_num.specs.Widths.{low}
 use Rattle.x64_machine.specs.Effect.{register}
 use Rattle.c_operations.specs.declared.operation.Operation.{Operation}
 use Rattle.c_operations.specs.declared.operation.Operation.TheVariants as operations
 use Rattle.c_operations.specs.Numbers.{width}
 use Rattle.linear_code.specs.declared.instruction.Instruction.TheVariants as instructions
-use Rattle.linear_machine.specs.Frames.{Frame, Resumption, AfterCall, SameOperation}
-use Rattle.template_code.specs.Slots.{operands_code}
-use Rattle.template_code.specs.Calls.{return_at}
 use Rattle.x64_templates.specs.Straight.{MachineView}
 use Rattle.x64_templates.specs.Implements.{high_of, IsReady}
-use Rattle.match_bodies.specs.ProgramImages.{view_of, ReturnsThere, WorksAgain, SaysResumptions}
-use Rattle.image_states.specs.Plans.{is_some, is_ready, returns_there, works_again}
 
 -- ---- tests
 

@@ -2,13 +2,11 @@
 use Rattle.std.proofs.Common.{◌≡◌, ℕ, zero, suc, ◌+◌, ◌-◌, ◌/◌, ◌%◌, ◌^◌, ◌<◌, ◌≤◌, Bool, true, false, cond, leb, ltb, List, [], ◌∷◌, ◌++◌, get_or, replicate, Option, Some, None, refl, ap, ◌∙◌, arith}
 use Rattle.std.specs.List.{AllByRecursion}
 use Rattle.std.proofs.lemmas.Bool.{and_from, and_left, and_right, lt-ltb, le-ltb, le-leb, lt-leb}
-use Rattle.image_states.specs.Words.{is_writable, Section, Import, Service, service_named, section_of, byte_in, with_slots}
+use Rattle.image_states.specs.Words.{is_writable, Section, Import, Service, service_named, section_of, byte_in, with_slots, with_number, is_among, pages, covers, or_else, with_address}
 use Rattle.flat_memory.specs.declared.protection.Protection.{Protection}
-use Rattle.flat_memory.specs.Memory.{with_number, is_among, distance}
+use Rattle.flat_memory.specs.Memory.{distance}
 use Rattle.flat_memory.proofs.Stores.{outside}
-use Rattle.host_layout.specs.Ranges.{pages}
 use Rattle.host_layout.specs.Services.{address_of}
-use Rattle.host_model.specs.Loading.{covers, or_else, with_address}
 
 -- ---- which section
 

@@ -1,21 +1,16 @@
 -- Templates are the same wherever everything is moved by as much.
 use Rattle.std.proofs.Common.{◌≡◌, ℕ, ◌+◌, ◌-◌, ◌^◌, ◌<◌, ◌≤◌, List, [], ◌∷◌, ◌++◌, None, refl, ap, arith}
 use Rattle.std.specs.List.{AllByRecursion}
-use Rattle.image_states.specs.Words.{W64, Rax, Rcx, Rsp, Instr, modrm, BuiltIn, Slot, Temporary, Instruction, Layout, size, sizes, fetch, template_size, code_from, IsInstructionNear}
-use Rattle.x64_instr.specs.declared.register.Reg.TheVariants.{Rdx}
+use Rattle.image_states.specs.Words.{W64, Rax, Rcx, Rsp, Instr, modrm, BuiltIn, Slot, Temporary, Instruction, Layout, size, sizes, fetch, template_size, code_from, IsInstructionNear, Rdx, opcode_register, keep, jump, jump_equal, call, compare_zero, test_code, arguments_code, call_code, clear_result, passing_code, finally_arguments, address_to, Links, template}
 use Rattle.x64_instr.specs.declared.operand.Base.TheVariants as bases
 use Rattle.x64_instr.specs.declared.instruction.Condition.TheVariants as conditions
 use Rattle.x64_instr.specs.declared.instruction.Target.TheVariants.{Relative}
 use Rattle.x64_instr.specs.declared.instruction.Instr.TheVariants as instrs
-use Rattle.x64_encode.specs.Chosen.{opcode_register}
 use Rattle.linear_code.specs.declared.instruction.Instruction.TheVariants as instructions
 use Rattle.template_code.specs.Operations.{move}
-use Rattle.template_code.specs.Slots.{keep}
-use Rattle.template_code.specs.Jumps.{distance, jump, jump_equal, call, compare_zero, test_code}
-use Rattle.template_code.specs.Calls.{arguments_code, call_code, clear_result, passing_code, finally_arguments, address_to}
-use Rattle.template_code.specs.Template.{Links, template}
+use Rattle.template_code.specs.Jumps.{distance}
 use Rattle.x64_emit.specs.Rooms.{code_room}
-use Rattle.x64_emit.proofs.Nearby.{test_small, arguments_small, passing_small, instruction_in_room}
+use Rattle.image_states.proofs.Lemmas.{test_small, arguments_small, passing_small, instruction_in_room}
 
 -- ---- distances
 

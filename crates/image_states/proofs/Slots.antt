@@ -3,15 +3,10 @@ use Rattle.std.proofs.Common.{◌≡◌, ℕ, ◌+◌, ◌≤◌, ◌==◌, Bool
 use Rattle.std.specs.Prelude.{slice_get, ◌&&◌, nat_le}
 use Rattle.std.proofs.lemmas.Bool.{and_parts, and_right, leb-true}
 use Rattle.std.proofs.lemmas.Option.{slice_get_within, get_or_from_slice_get}
-use Rattle.image_states.specs.Words.{LinearBody, LinearFunction, LinearFunclet, LinearProgram, FunctionBody, FuncletBody, function_body, funclet_body, Layout, RoutineView, has_call, leaf_if, funclet_frame, funclet, nothing, is_leaf, routine_of, plan_of, HasWholeImage}
-use Rattle.match_stack.specs.ImagePlan.{ImagePlan}
-use Rattle.image_link.specs.Fits.{FitsBody, FitsFunction}
-use Rattle.image_link.specs.Routines.{function_frame}
+use Rattle.image_states.specs.Words.{LinearBody, LinearFunction, LinearFunclet, LinearProgram, FunctionBody, FuncletBody, function_body, funclet_body, Layout, RoutineView, has_call, leaf_if, funclet_frame, funclet, nothing, is_leaf, routine_of, plan_of, HasWholeImage, ImagePlan, FitsBody, FitsFunction, function_frame, IsFuncletSized}
 use Rattle.image_link.specs.Routines as link
-use Rattle.x64_emit.proofs.Nearby.{all_at}
-use Rattle.image_tables.proofs.Lookups.{some_same, none_some}
+use Rattle.image_states.proofs.Lemmas.{all_at, some_same, none_some}
 use Rattle.match_bodies.specs.Layouts.{IsFuncletLayout, IsLayoutIf, IsLaidOut, AreLaidOut}
-use Rattle.image_states.specs.Compiled.{IsFuncletSized}
 use Rattle.image_states.proofs.Places.{is_function, is_funclet}
 
 -- ---- functions

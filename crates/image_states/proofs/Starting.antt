@@ -2,13 +2,10 @@
 use Rattle.std.proofs.Common.{◌≡◌, ◌+◌, ◌^◌, Bool, true, leb, List, [], ◌∷◌, Option, None, refl, ap, ◌∙◌, arith}
 use Rattle.std.specs.Prelude.{option_map}
 use Rattle.std.proofs.lemmas.Bool.{le-leb}
-use Rattle.image_states.specs.Words.{Image, Import, ImageContents, image_of, Table, Entry, LinearProgram, linked, HasWholeImage}
-use Rattle.pe_write.proofs.Programs.{listed}
+use Rattle.image_states.specs.Words.{Image, Import, ImageContents, image_of, Table, Entry, LinearProgram, linked, HasWholeImage, reason_unless, first_of, of_tables, table_refusal, has_place, place_refusal, first_unknown, import_refusal, is_code, has_entry, entry_refusal, load_refusal, ImagesStart, ImagesLoad}
+use Rattle.image_states.proofs.Lemmas.{listed, is, tables_are_read}
 use Rattle.host_model.specs.declared.refusal.LoadErr.{LoadErr}
 use Rattle.host_model.specs.declared.refusal.LoadErr.TheVariants as refusals
-use Rattle.host_model.specs.Loading.{reason_unless, first_of, of_tables, table_refusal, has_place, place_refusal, first_unknown, import_refusal, is_code, has_entry, entry_refusal, load_refusal}
-use Rattle.image_tables.proofs.Table.{is, tables_are_read}
-use Rattle.image_states.specs.StartLaws.{ImagesStart, ImagesLoad}
 use Rattle.image_states.proofs.Sections.{covered, above, here, past}
 use Rattle.image_states.proofs.Data.{globals, text, tables, infos, functions, agrees, stack_writes, arena_alone, data_alone}
 use Rattle.image_states.proofs.CodePlaced.{has_program}

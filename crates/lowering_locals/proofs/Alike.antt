@@ -2,12 +2,9 @@
 use Rattle.std.proofs.Common.{◌≡◌, ℕ, zero, suc, ◌-◌, List, ◌∷◌, refl, sym, ap, subst, ◌∙◌}
 use Rattle.std.proofs.lemmas.List.{length-replicate}
 use Rattle.std.specs.Prelude.{replicate}
-use Rattle.lowering_locals.specs.Words.{Instruction, LinearProgram, Waits, Configuration, waiting, act, main_arguments, IsTurn, Marks, next_marks, AreActivationsAlike, AreAlike, GoAlike, ComesMarked, called}
+use Rattle.lowering_locals.specs.Words.{Instruction, LinearProgram, Waits, Configuration, waiting, act, main_arguments, IsTurn, Marks, next_marks, AreActivationsAlike, AreAlike, GoAlike, ComesMarked, called, exec, Comes, StepsAreAlike, CallsAreAlike, called_with, StartsAreAlike, MarkedIsReached, MarkedContinues}
 use Rattle.linear_code.specs.declared.instruction.Instruction.TheVariants as instructions
-use Rattle.linear_machine.specs.Run.{exec}
-use Rattle.lowering_invariants.specs.Turns.{Comes}
 use Rattle.lowering_invariants.proofs.Same.{alike_is_same}
-use Rattle.lowering_locals.specs.UnsetLaws.{StepsAreAlike, CallsAreAlike, called_with, StartsAreAlike, MarkedIsReached, MarkedContinues}
 use Rattle.lowering_locals.proofs.Lists.{as_long, begun_alike}
 use Rattle.lowering_locals.proofs.TurnPairs.{over, Both, Halt, Move, ends_or_moves}
 use Rattle.lowering_locals.proofs.Steps.{Led, called_alike, act_both}

@@ -1,7 +1,6 @@
 -- What holds of a configuration holds of one that is alike.
 use Rattle.std.proofs.Common.{ℕ, List, [], ◌∷◌, ◌∙◌, subst}
-use Rattle.lowering_locals.specs.Words.{LinearProgram, AreActivations, HasActivations, owners_of, Waits, Marks, AreActivationsAlike}
-use Rattle.lowering_locals.specs.UnsetLaws.{AlikeHasActivations}
+use Rattle.lowering_locals.specs.Words.{LinearProgram, AreActivations, HasActivations, owners_of, Waits, Marks, AreActivationsAlike, AlikeHasActivations}
 use Rattle.lowering_locals.proofs.Lists.{locals_long}
 use Rattle.lowering_locals.proofs.Alike.{is_over}
 

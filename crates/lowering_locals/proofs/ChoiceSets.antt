@@ -2,12 +2,8 @@
 use Rattle.std.proofs.Common.{◌≡◌, ℕ, suc, ◌+◌, List, ◌∷◌, ◌++◌, subst, arith}
 use Rattle.std.proofs.lemmas.List.{length-replicate}
 use Rattle.std.specs.Prelude.{true, replicate, Option}
-use Rattle.lowering_locals.specs.Words.{Expression, Statement, If, IfElse, Return, Statements, Then, Temporary, Instruction, Jump, LinearProgram, BodyName, expression_size, returned_size, statement_size, statements_size, LoweringContext, expression_code, returned_code, return_code, statement_code, statements_code, SeenNames, IsPart, after_statement, expression_within, optional_within, locals_at, statement_sets, statements_sets, set_in}
-use Rattle.linear_code.specs.declared.instruction.Instruction.TheVariants.{JumpIfZero}
-use Rattle.lowering_expressions.proofs.Codes.{expression_length}
-use Rattle.seh_ir.proofs.StatementCodes.{returned_length, statement_length}
-use Rattle.lowering_follows.proofs.Segments.{IsSegmentAt, front, back}
-use Rattle.c_checked.proofs.ScopeTests.{itself, within}
+use Rattle.lowering_locals.specs.Words.{Expression, Statement, If, IfElse, Return, Statements, Then, Temporary, Instruction, Jump, LinearProgram, BodyName, expression_size, returned_size, statement_size, statements_size, LoweringContext, expression_code, returned_code, return_code, statement_code, statements_code, SeenNames, IsPart, after_statement, expression_within, optional_within, locals_at, statement_sets, statements_sets, set_in, JumpIfZero}
+use Rattle.lowering_locals.proofs.Lemmas.{expression_length, returned_length, statement_length, IsSegmentAt, front, back, itself, within}
 use Rattle.lowering_locals.proofs.StraightCode.{is_same, head_recorded, even_part, even_list, AllLead, both_lead}
 use Rattle.lowering_locals.proofs.ExpressionSets.{IsAround}
 use Rattle.lowering_locals.proofs.SetLists.{statement_long, statements_long, grows, statement_first, statements_first, begins}

@@ -1,19 +1,15 @@
 -- The code of an expression reads locals alone that are seen, and jumps within itself.
 use Rattle.std.proofs.Common.{◌≡◌, ℕ, ◌+◌, ◌<◌, ◌≤◌, List, [], ◌∷◌, ◌++◌, arith}
 use Rattle.std.specs.Prelude.{true, Option, Some, None}
-use Rattle.lowering_locals.specs.Words.{Operation, Expression, Temporary, Instruction, is_constant, ExceptionSource, NoException, OfFilter, KeptIn, Names, expression_size, expression_code, SeenNames, IsPart, expression_within, OperandsIn}
+use Rattle.lowering_locals.specs.Words.{Operation, Expression, Temporary, Instruction, is_constant, ExceptionSource, NoException, OfFilter, KeptIn, Names, expression_size, expression_code, SeenNames, IsPart, expression_within, OperandsIn, On, Node, Lvalue, Global, Indirection, Element, Arguments, Done, address_count, locate_size, read_size, conversion_size, arguments_size, node_size, conversion_code, unary_code, choice_code, code_code, abnormal_code, read_code, write_code, locate_code, arguments_code, node_code, node_within, lvalue_within, arguments_within}
 use Rattle.c_operations.specs.declared.operation.Operation.TheVariants as operations
 use Rattle.c_operations.specs.declared.operation.Pure.{Pure}
 use Rattle.c_operations.specs.declared.operation.Pure.TheVariants as pures
 use Rattle.c_checked.specs.declared.expression.Conversion.{Conversion}
 use Rattle.c_checked.specs.declared.expression.Conversion.TheVariants.{Kept, Extend, Scale}
 use Rattle.c_checked.specs.Expression as nodes
-use Rattle.c_checked.specs.Expression.{On, Node, Lvalue, Global, Indirection, Element, Arguments, Done, Next}
-use Rattle.lowering_sizes.specs.Sizes.{address_count, locate_size, read_size, conversion_size, arguments_size, node_size}
-use Rattle.lowering_expressions.specs.Expressions.{conversion_code, unary_code, choice_code, code_code, abnormal_code, read_code, write_code, locate_code, arguments_code, node_code}
-use Rattle.lowering_invariants.proofs.PlainExpressions.{all_append}
-use Rattle.c_checked.specs.LocalScopes.{node_within, lvalue_within, arguments_within}
-use Rattle.c_checked.proofs.ScopeTests.{both_left, both_right}
+use Rattle.c_checked.specs.Expression.{Next}
+use Rattle.lowering_locals.proofs.Lemmas.{all_append, both_left, both_right}
 use Rattle.lowering_locals.proofs.StraightCode.{Fine, AllFine, temporaries_in}
 
 -- where the code of an exception and the flag of a block are kept

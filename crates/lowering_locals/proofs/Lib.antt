@@ -1,3 +1,4 @@
+mod Lemmas
 pub mod Lists
 pub mod Events
 pub mod TurnPairs

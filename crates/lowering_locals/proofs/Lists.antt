@@ -2,7 +2,7 @@
 use Rattle.std.proofs.Common.{◌≡◌, ℕ, zero, suc, List, [], ◌∷◌, ◌++◌, length, refl, sym, ap, subst, arith}
 use Rattle.std.proofs.lemmas.List.{length-set}
 use Rattle.std.specs.Prelude.{Bool, true, false, slice_get, slice_set, slice_index, take, replicate, Option, Some, None}
-use Rattle.lowering_invariants.proofs.TurnStack.{same_it}
+use Rattle.lowering_locals.proofs.Lemmas.{same_it}
 use Rattle.lowering_locals.specs.Words.{Marks, marks_of, set_mark, IsSame, AreLocalsAlike, AreActivationsAlike}
 
 -- ---- locals

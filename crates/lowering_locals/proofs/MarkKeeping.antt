@@ -3,7 +3,7 @@ use Rattle.std.proofs.Common.{◌≡◌, ℕ, zero, suc, ◌<◌, List, [], ◌�
 use Rattle.std.proofs.lemmas.List.{length-set}
 use Rattle.std.specs.Prelude.{Bool, true, false, slice_get, slice_set, take, replicate, Option, Some, None}
 use Rattle.lowering_locals.specs.Words.{Marks, marks_of, set_mark, with_mark, IsSame, AreLocalsAlike, AreActivationsAlike, Marked}
-use Rattle.lowering_invariants.proofs.TurnStack.{same_it}
+use Rattle.lowering_locals.proofs.Lemmas.{same_it}
 
 -- ---- one activation
 

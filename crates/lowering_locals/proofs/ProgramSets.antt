@@ -3,24 +3,14 @@ use Rattle.std.proofs.Common.{◌≡◌, ℕ, zero, suc, ◌+◌, ◌<◌, ◌�
 use Rattle.std.proofs.lemmas.List.{length-map}
 use Rattle.std.proofs.lemmas.Option.{slice_get_within}
 use Rattle.std.specs.Prelude.{true, slice_get, replicate, get_or, Option, Some, None}
-use Rattle.lowering_locals.specs.Words.{funclets, Temporary, LinearProgram, LinearBody, LinearFunction, LinearFunclet, BodyName, FunctionBody, FuncletBody, funclet_body, body_of, flag_of, statements_size, Owner, statements_code, SeenNames, IsPart, function_locals, IsSetBody, IsSetMap, statements_sets, statements_funclet_sets}
+use Rattle.lowering_locals.specs.Words.{funclets, Temporary, LinearProgram, LinearBody, LinearFunction, LinearFunclet, BodyName, FunctionBody, FuncletBody, funclet_body, body_of, flag_of, statements_size, Owner, statements_code, SeenNames, IsPart, function_locals, IsSetBody, IsSetMap, statements_sets, statements_funclet_sets, IsSound, function_sound, functions_sound, function_body, constant, first_seen, function_within, functions_within, IsScoped, parameters_seen, function_sets, all_funclet_sets, list_of, sets_of}
 use Rattle.c_checked.specs.Program.{Program, Function}
 use Rattle.c_checked.specs.Sound as sound
-use Rattle.c_checked.specs.Sound.{IsSound, function_sound, functions_sound}
 use Rattle.linear_code.specs.declared.instruction.Instruction.TheVariants as instructions
-use Rattle.linear_machine.specs.Frames.{function_body}
-use Rattle.linear_machine.proofs.Ranges.{Range, part_of, both_parts, no_part, one_part}
-use Rattle.lowering_expressions.specs.Expressions.{constant}
+use Rattle.lowering_locals.proofs.Lemmas.{Range, part_of, both_parts, no_part, one_part, statements_length, statements_count, IsSegmentAt, front, back, whole_is_at, same_it, both_left, both_right, itself, is_parameter, within}
 use Rattle.seh_ir.specs.Lowered.{own_locals, all_locals, scope_of, lowered_function, lowered_funclets, all_funclets, lowered}
-use Rattle.seh_ir.proofs.StatementCodes.{statements_length}
-use Rattle.seh_ir.proofs.FuncletCounts.{statements_count}
-use Rattle.lowering_follows.proofs.Segments.{IsSegmentAt, front, back, whole_is_at}
-use Rattle.lowering_invariants.proofs.TurnStack.{same_it}
 use Rattle.lowering_invariants.proofs.Lowered.{lowered_is_whole}
-use Rattle.c_checked.specs.LocalScopes.{first_seen, function_within, functions_within, IsScoped}
-use Rattle.c_checked.proofs.ScopeTests.{both_left, both_right, itself, is_parameter, within}
 use Rattle.lowering_locals.proofs.RunSets.{set_map_reads_no_unset}
-use Rattle.lowering_locals.specs.Places.{parameters_seen, function_sets, all_funclet_sets, list_of, sets_of}
 use Rattle.lowering_locals.specs.ScopedLaws.{ScopedHasSetMap, ScopedReadsNoUnset}
 use Rattle.lowering_locals.proofs.StraightCode.{is_same, is_same_back, head_recorded, both_lead}
 use Rattle.lowering_locals.proofs.SetLists.{statements_long, statements_many, statements_first, begins}

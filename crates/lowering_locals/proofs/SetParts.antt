@@ -5,26 +5,14 @@ use Rattle.std.proofs.lemmas.Bool.{leb-true, ltb-true}
 use Rattle.std.proofs.lemmas.List.{length-replicate}
 use Rattle.std.specs.List.{AllByRecursion}
 use Rattle.std.specs.Prelude.{true, false, replicate, slice_get, Some, None}
-use Rattle.lowering_locals.specs.Words.{Expression, Inside, funclets_in, funclets, filter_funclet, statement_sound, Filter, Always, Funclet, Statement, Declare, Block, Evaluate, If, IfElse, For, DoWhile, Return, Break, Continue, Leave, TryExcept, TryFinally, Statements, Empty, Then, Local, Temporary, Instruction, Region, RegionKind, LinearProgram, LinearBody, LinearFunclet, BodyName, FuncletBody, funclet_body, body_of, holds, flag_of, expression_size, discarded_size, statement_size, statements_size, Owner, Names, LoweringContext, filter_names, finally_names, in_loop, in_try, in_except, in_guarded, expression_code, statement_code, statements_code, owner_of, SeenNames, with_local, IsPart, after_all_declared, after_statement, expression_within, with_flag, function_locals, owner_locals, locals_at, FinallyBegins, Leads, Guards, IsSetBody, statement_sets, statements_sets, filter_sets, finally_sets, statement_funclet_sets, statements_funclet_sets, set_in}
-use Rattle.c_checked.specs.Sound.{count_up, statements_sound}
+use Rattle.lowering_locals.specs.Words.{Expression, Inside, funclets_in, funclets, filter_funclet, statement_sound, Filter, Always, Funclet, Statement, Declare, Block, Evaluate, If, IfElse, For, DoWhile, Return, Break, Continue, Leave, TryExcept, TryFinally, Statements, Empty, Then, Local, Temporary, Instruction, Region, RegionKind, LinearProgram, LinearBody, LinearFunclet, BodyName, FuncletBody, funclet_body, body_of, holds, flag_of, expression_size, discarded_size, statement_size, statements_size, Owner, Names, LoweringContext, filter_names, finally_names, in_loop, in_try, in_except, in_guarded, expression_code, statement_code, statements_code, owner_of, SeenNames, with_local, IsPart, after_all_declared, after_statement, expression_within, with_flag, function_locals, owner_locals, locals_at, FinallyBegins, Leads, Guards, IsSetBody, statement_sets, statements_sets, filter_sets, finally_sets, statement_funclet_sets, statements_funclet_sets, set_in, count_up, statements_sound, statement_notes, statements_notes, except_names, finally_scope, function_of, filter_within, statement_within, statements_within}
 use Rattle.linear_code.specs.declared.instruction.Instruction.TheVariants as instructions
 use Rattle.linear_code.specs.declared.program.RegionKind.TheVariants as kinds
-use Rattle.linear_machine.proofs.Ranges.{Range, part_of, both_parts, no_part, one_part}
-use Rattle.lowering_sizes.specs.Sizes.{statement_notes, statements_notes}
-use Rattle.lowering_expressions.specs.Scope.{except_names, finally_scope}
+use Rattle.lowering_locals.proofs.Lemmas.{Range, part_of, both_parts, no_part, one_part, expression_length, statements_length, filter_count, statement_count, statements_count, IsSegmentAt, front, back, whole_is_at, all_append, same_it, all_map, both_left, both_right, sees_own, sees_before, itself, within, part_with}
 use Rattle.seh_ir.specs.Regions.{except_kind, region, statement_regions, statements_regions}
 use Rattle.seh_ir.specs.Funclets as funclets_of
 use Rattle.seh_ir.specs.Funclets.{filter_funclets, finally_funclet, in_funclet, statement_funclets, statements_funclets}
-use Rattle.lowering_expressions.proofs.Codes.{expression_length}
-use Rattle.seh_ir.proofs.StatementCodes.{statements_length}
-use Rattle.seh_ir.proofs.FuncletCounts.{filter_count, statement_count, statements_count}
 use Rattle.lowering_follows.proofs.FuncletNumbers.{count_front, count_back, counted}
-use Rattle.lowering_follows.proofs.Segments.{IsSegmentAt, front, back, whole_is_at}
-use Rattle.lowering_invariants.proofs.PlainExpressions.{all_append}
-use Rattle.lowering_invariants.specs.Bodies.{function_of}
-use Rattle.lowering_invariants.proofs.TurnStack.{same_it, all_map}
-use Rattle.c_checked.specs.LocalScopes.{filter_within, statement_within, statements_within}
-use Rattle.c_checked.proofs.ScopeTests.{both_left, both_right, sees_own, sees_before, itself, within, part_with}
 use Rattle.lowering_locals.proofs.StraightCode.{is_same, head_recorded, past_end, even_list, Fine, AllLead, both_lead, lead_at, straight}
 use Rattle.lowering_locals.proofs.ExpressionSets.{IsAround, expression_fine}
 use Rattle.lowering_locals.proofs.SetLists.{statements_long, filter_many, statement_many, statements_many, grows, all_grow, statements_first, begins}

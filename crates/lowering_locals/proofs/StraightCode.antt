@@ -3,12 +3,9 @@ use Rattle.std.proofs.Common.{◌≡◌, ◌⊎◌, inl, inr, ℕ, zero, suc, �
 use Rattle.std.proofs.lemmas.Bool.{cases_lt}
 use Rattle.std.specs.List.{AllByRecursion}
 use Rattle.std.specs.Prelude.{Bool, true, false, replicate, slice_get, Some}
-use Rattle.lowering_locals.specs.Words.{Slot, Local, Temporary, Instruction, LinearProgram, BodyName, is_constant, SeenNames, IsPart, with_slot, ReadsIn, OperandsIn, IsLocalOf, locals_at, Leads, set_in}
+use Rattle.lowering_locals.specs.Words.{Slot, Local, Temporary, Instruction, LinearProgram, BodyName, is_constant, SeenNames, IsPart, with_slot, ReadsIn, OperandsIn, IsLocalOf, locals_at, Leads, set_in, none_seen}
 use Rattle.linear_code.specs.declared.instruction.Instruction.TheVariants as instructions
-use Rattle.lowering_follows.proofs.Segments.{IsSegmentAt}
-use Rattle.lowering_invariants.proofs.TurnStack.{same_it}
-use Rattle.c_checked.proofs.ScopeTests.{sees_before}
-use Rattle.lowering_locals.specs.Places.{none_seen}
+use Rattle.lowering_locals.proofs.Lemmas.{IsSegmentAt, same_it, sees_before}
 
 -- ---- what is recorded at a place
 

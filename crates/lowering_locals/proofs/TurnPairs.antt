@@ -1,8 +1,7 @@
 -- Two turns that end alike, or lead to configurations that differ in their locals alone.
 use Rattle.std.proofs.Common.{◌≡◌, ℕ, ◌+◌, List, [], length, refl, sym, subst, ◌∙◌}
 use Rattle.std.specs.Prelude.{Bool, true, false, nat_lt, Option, Some, None}
-use Rattle.lowering_locals.specs.Words.{Event, Deep, Store, Configuration, Seen, Finished, Stuck, Next, pick, with_some, deeper}
-use Rattle.linear_machine.specs.Frames.{Running}
+use Rattle.lowering_locals.specs.Words.{Event, Deep, Store, Configuration, Seen, Finished, Stuck, Next, pick, with_some, deeper, Running}
 
 -- the same with other locals
 abbrev pub over_store : Store → List (List ℕ) → Store

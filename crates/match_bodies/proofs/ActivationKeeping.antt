@@ -2,8 +2,7 @@
 use Rattle.std.proofs.Common.{◌≡◌, ℕ, suc, ◌<◌, Bool, true, false, List, [], ◌∷◌, length, refl, sym, ap, ◌∙◌, arith, inl, inr}
 use Rattle.std.specs.Prelude.{◌==◌}
 use Rattle.std.proofs.lemmas.Bool.{eq-eqb, ne_eqb}
-use Rattle.match_bodies.specs.Words.{Activation, IsActivation, with_values}
-use Rattle.match_bodies.specs.SlotStores.{with_values_if}
+use Rattle.match_bodies.specs.Words.{Activation, IsActivation, with_values, with_values_if}
 
 -- ---- activations
 

@@ -1,11 +1,8 @@
 -- Where the locals of an activation are in the list.
 use Rattle.std.proofs.Common.{◌≡◌, ℕ, zero, suc, ◌+◌, ◌*◌, ◌≤◌, Some, List, [], ◌∷◌, ◌++◌, length, refl, sym, subst, ◌∙◌, arith, inl, inr, length-append}
 use Rattle.std.specs.Prelude.{slice_get}
-use Rattle.match_bodies.specs.Words.{STACK_END, Memory, Context, context_of, rsp, Functions, Funclet, Layout, LinearProgram, BodyName, FunctionBody, FuncletBody, Item, Waits, Searches, Unwinds, StackItem, Framed, Leaf, Searching, Unwinding, IsStack, after_frame, after_leaf, ImagePlan, Activation, locals_of, activations_below, HoldsWords, HasActivation, HoldsLocals, IsActivation, ActivationHasBase, home_end, Linked}
-use Rattle.match_stack.proofs.ItemVisits.{set_head}
-use Rattle.match_stack.proofs.StackKeeping.{rises}
-use Rattle.match_stack.proofs.ListEnds.{words_fit, in_stack}
-use Rattle.match_bodies.specs.SlotStores.{ActivationIsAt, ActivationsAreAt}
+use Rattle.match_bodies.specs.Words.{STACK_END, Memory, Context, context_of, rsp, Functions, Funclet, Layout, LinearProgram, BodyName, FunctionBody, FuncletBody, Item, Waits, Searches, Unwinds, StackItem, Framed, Leaf, Searching, Unwinding, IsStack, after_frame, after_leaf, ImagePlan, Activation, locals_of, activations_below, HoldsWords, HasActivation, HoldsLocals, IsActivation, ActivationHasBase, home_end, Linked, ActivationIsAt, ActivationsAreAt}
+use Rattle.match_bodies.proofs.Lemmas.{set_head, rises, words_fit, in_stack}
 
 -- ---- lists
 

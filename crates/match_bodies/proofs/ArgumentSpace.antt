@@ -2,10 +2,7 @@
 -- callee's (Microsoft x64 ABI, "Stack allocation"): a change of them leaves the list as it is.
 use Rattle.std.proofs.Common.{◌≡◌, ℕ, ◌+◌, ◌*◌, ◌≤◌, true, false, Option, Some, None, List, [], ◌∷◌, refl, sym, subst, ◌∙◌, arith, inr}
 use Rattle.match_bodies.specs.Words.{STACK_START, STACK_END, Memory, Context, rsp, Functions, Funclet, Layout, LinearProgram, LinearBody, BodyName, FunctionBody, FuncletBody, body_of, Frame, Item, Waits, Searches, Unwinds, StackFrame, StackItem, Framed, Leaf, Searching, Unwinding, IsStack, after_frame, ImagePlan, Activation, activations_below, temporaries_end, HasActivation, HasPointers, IsAbove, Linked, IsLinkedStack, IsFunctionLayout, IsLayoutIf, IsLaidOut, AreLaidOut, KeepsStackBut}
-use Rattle.match_stack.proofs.ItemVisits.{set_head}
-use Rattle.match_stack.proofs.ListEnds.{words_fit, end_within, in_stack}
-use Rattle.match_stack.proofs.ListMemories.{ReadsSame, higher, frame_above, words_kept, list_kept}
-use Rattle.match_stack.proofs.ListKeeping.{reads_other}
+use Rattle.match_bodies.proofs.Lemmas.{set_head, words_fit, end_within, in_stack, ReadsSame, higher, frame_above, words_kept, list_kept, reads_other}
 
 module _ (m m' : Memory) (t : Functions) (fs : List Funclet) (program : LinearProgram)
     (p : ImagePlan) (layouts : AreLaidOut program p) (room : ℕ) where

@@ -2,7 +2,7 @@
 use Rattle.std.proofs.Common.{◌≡◌, ◌<◌, Some, List, ◌∷◌, length, subst, arith, inl, inr}
 use Rattle.std.proofs.lemmas.Option.{slice_get_cases}
 use Rattle.match_bodies.specs.Words.{Memory, Context, Functions, Funclet, LinearProgram, LinearBody, BodyName, body_of, state, ImagePlan, GivesCallers, Sites, HasCaller, FindsReturn, HasProgram, IsProgramImage, setting_of}
-use Rattle.match_runs.proofs.Shadows.{past_frame}
+use Rattle.match_bodies.proofs.Lemmas.{past_frame}
 use Rattle.match_bodies.proofs.ReturnAddresses.{label_found}
 use Rattle.std.specs.Prelude.{ℕ}
 

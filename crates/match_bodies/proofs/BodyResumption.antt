@@ -8,7 +8,7 @@ use Rattle.eh_tables.specs.declared.code.UnwindCode.{UnwindCode}
 use Rattle.eh_tables.specs.declared.code.UnwindOperation.{UnwindOperation}
 use Rattle.eh_tables.specs.declared.code.UnwindOperation.TheVariants.{Allocate}
 use Rattle.eh_tables.specs.Tables.{Entry}
-use Rattle.match_stack.proofs.ItemVisits.{set_head}
+use Rattle.match_bodies.proofs.Lemmas.{set_head}
 use Rattle.match_stack.specs.HostUnwind.{on_top}
 use Rattle.match_bodies.proofs.StackContexts.{on_moved}
 use Rattle.match_bodies.proofs.StackTop.{leaf_layout}

@@ -1,9 +1,8 @@
 -- Each step within a body is matched.
 use Rattle.std.proofs.Common.{◌≡◌, ℕ, zero, ◌<◌, ◌^◌, Bool, true, false, Option, Some, None, refl, sym, ap, ◌∙◌, arith}
-use Rattle.match_bodies.specs.Words.{State, Operation, Gives, performed, is_reserved, Slot, Local, Instruction, LinearProgram, IsSlot, Configuration, is_constant, operand, act, instruction_at, exec, HasRule, Moves, turns_left, counts_of, IsWellMade, IsKnown, Setting, setting_of, RepresentsAt}
+use Rattle.match_bodies.specs.Words.{State, Operation, Gives, performed, is_reserved, Slot, Local, Instruction, LinearProgram, IsSlot, Configuration, is_constant, operand, act, instruction_at, exec, HasRule, Moves, turns_left, counts_of, IsWellMade, IsKnown, Setting, setting_of, RepresentsAt, LandsWell}
 use Rattle.linear_code.specs.declared.instruction.Instruction.TheVariants as instructions
 use Rattle.lowering_invariants.specs.Ready as ready
-use Rattle.lowering_invariants.specs.Waiting.{LandsWell}
 use Rattle.lowering_invariants.specs.SmallNumbers.{IsSmallCode}
 use Rattle.match_bodies.specs.StepLaws.{turns_per_step, Completes, IsWithinBody, StepsWithinBodiesAreMatched}
 use Rattle.match_bodies.proofs.TemplateRuns.{code, slots, has_slots}

@@ -3,13 +3,10 @@
 use Rattle.std.proofs.Common.{◌≡◌, ℕ, ◌+◌, ◌-◌, ◌≤◌, Bool, true, false, Some, None, Ok, List, [], ◌∷◌, ◌++◌, length, refl, sym, ap, subst, ◌∙◌, arith, append_assoc}
 use Rattle.std.specs.Prelude.{slice_get, slice_index}
 use Rattle.std.proofs.lemmas.List.{append-nil}
-use Rattle.match_bodies.specs.Words.{Memory, Rsp, Instr, Context, State, register, with_rip, word, Instruction, LinearBody, BodyName, body_of, size, sizes, thunk, IsNear, call, template, IsReturn, Steps, HasCode, HasThunk, StackItem, Framed, Leaf, ItemIsAt, OwnedBy, context_after, context_below, is_call, KeepsShadow, AllKeep, links_of, frame_with, FindsReturn, Setting, IsResumed}
+use Rattle.match_bodies.specs.Words.{Memory, Rsp, Instr, Context, State, register, with_rip, word, Instruction, LinearBody, BodyName, body_of, size, sizes, thunk, IsNear, call, template, IsReturn, Steps, HasCode, HasThunk, StackItem, Framed, Leaf, ItemIsAt, OwnedBy, context_after, context_below, is_call, KeepsShadow, AllKeep, links_of, frame_with, FindsReturn, Setting, IsResumed, Indirect}
 use Rattle.x64_instr.specs.declared.operand.Base.TheVariants as bases
 use Rattle.x64_instr.specs.declared.operand.RegisterOrMemory.TheVariants as places
-use Rattle.x64_instr.specs.declared.instruction.Target.TheVariants.{Indirect}
-use Rattle.x64_templates.proofs.PlacedCode.{thunk_encodable}
-use Rattle.x64_templates.proofs.Computes.{code_split}
-use Rattle.match_runs.proofs.Shadows.{straight, keep_first}
+use Rattle.match_bodies.proofs.Lemmas.{thunk_encodable, code_split, straight, keep_first}
 use Rattle.match_bodies.proofs.InstructionEffects.{others_of, Calls, jumps}
 use Rattle.match_bodies.proofs.SilentTurns.{program_kept}
 use Rattle.match_bodies.proofs.StackTop.{leaf_layout}

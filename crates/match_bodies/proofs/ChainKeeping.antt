@@ -1,8 +1,6 @@
 -- What a chain of steps keeps.
 use Rattle.std.proofs.Common.{◌≡◌, ℕ, zero, suc, ◌^◌, ◌<◌, false, List, [], ◌∷◌, length, refl, ap, subst, ◌∙◌, arith}
-use Rattle.match_bodies.specs.Words.{Protection, is_writable, may_write, State, Steps, Reaches, Enters, IsWellFormed}
-use Rattle.seh_records.specs.Laws.{AllSmall}
-use Rattle.x64_templates.specs.Straight.{AreSmall}
+use Rattle.match_bodies.specs.Words.{Protection, is_writable, may_write, State, Steps, Reaches, Enters, IsWellFormed, AllSmall, AreSmall}
 
 -- protections, and bytes that may not be written; and registers are as many, and small
 pub record Keeps (s u : State) : Type 0 where

@@ -2,17 +2,12 @@
 use Rattle.std.proofs.Common.{◌≡◌, ℕ, zero, ◌+◌, ◌≤◌, Bool, true, false, Option, Some, None, List, [], ◌∷◌, ◌++◌, length, take, refl, sym, ap, subst, ◌∙◌, arith, length-append, length-take-le}
 use Rattle.std.specs.Prelude.{nat_le, slice_get, slice_set, if◌then◌else◌}
 use Rattle.std.proofs.lemmas.Bool.{leb-true, le-leb}
-use Rattle.match_bodies.specs.Words.{Memory, State, Operation, Gives, performed, is_reserved, Slot, Local, Temporary, BodyState, with_slot, IsSlot, LinearBody, Configuration, Next, read, with_temporaries, forth, with_some, is_constant, operand, written, act, exec, sizes, Reg, Rax, Rcx, Layout, before, local_at, fetch_local, fetch, finish_code, compute_code, template_size, HasRule, Moves, HaveRoom, turns_left, counts_of, Setting, RepresentsAt}
+use Rattle.match_bodies.specs.Words.{Memory, State, Operation, Gives, performed, is_reserved, Slot, Local, Temporary, BodyState, with_slot, IsSlot, LinearBody, Configuration, Next, read, with_temporaries, forth, with_some, is_constant, operand, written, act, exec, sizes, Reg, Rax, Rcx, Layout, before, local_at, fetch_local, fetch, finish_code, compute_code, template_size, HasRule, Moves, HaveRoom, turns_left, counts_of, Setting, RepresentsAt, OperationResult, kept, computed, Computed}
 use Rattle.c_operations.specs.declared.operation.Operation.TheVariants as operations
 use Rattle.c_operations.specs.declared.operation.Pure.TheVariants.{Constant}
-use Rattle.c_operations.specs.Performed.{OperationResult}
 use Rattle.linear_code.specs.declared.instruction.Instruction.TheVariants as instructions
-use Rattle.linear_code.specs.Meaning.{kept}
 use Rattle.linear_machine.specs.Frames as linear
-use Rattle.linear_machine.specs.Instructions.{computed}
-use Rattle.template_code.proofs.Lengths.{compute_length}
-use Rattle.x64_templates.specs.Runs.{Computed}
-use Rattle.x64_templates.proofs.Computes.{compute_run}
+use Rattle.match_bodies.proofs.Lemmas.{compute_length, compute_run}
 use Rattle.lowering_invariants.specs.Ready as ready
 use Rattle.match_bodies.proofs.BodyViews.{IsCounted, count, room_here, holds_here, slots_here, locals_here}
 use Rattle.match_bodies.proofs.TemplateSlots.{Leaves}

@@ -2,12 +2,9 @@
 -- stored.
 use Rattle.std.proofs.Common.{◌≡◌, ℕ, zero, suc, ◌+◌, ◌*◌, ◌^◌, ◌<◌, ◌≤◌, Bool, true, false, Option, Some, None, List, [], ◌∷◌, ◌++◌, length, refl, sym, ap, subst, ◌∙◌, arith, inl, inr, append_assoc}
 use Rattle.std.specs.Prelude.{◌⊎◌, nat_lt, if◌then◌else◌}
-use Rattle.match_bodies.specs.Words.{Reg, Rax, Rsp, Instr, State, register, Functions, Funclet, LinearProgram, LinearBody, BodyName, body_of, Layout, sizes, fetched, local_at, keep_register, HasCode, StackItem, ImagePlan, AllKeep, Sites, begin_of, making_size, HasProgram, IsProgramImage, FindsReturn, LARGEST_FRAME, setting_of}
-use Rattle.x64_instr.specs.declared.register.Reg.TheVariants.{Rdx}
-use Rattle.template_code.specs.Slots.{temporary_at}
-use Rattle.template_code.specs.Calls.{parameter_register, stack_parameter, parameter_code, parameters_code, passing_code, arguments_code}
-use Rattle.x64_templates.proofs.Computes.{code_split}
-use Rattle.x64_templates.proofs.Encoded.{near}
+use Rattle.match_bodies.specs.Words.{Reg, Rax, Rsp, Instr, State, register, Functions, Funclet, LinearProgram, LinearBody, BodyName, body_of, Layout, sizes, fetched, local_at, keep_register, HasCode, StackItem, ImagePlan, AllKeep, Sites, begin_of, making_size, HasProgram, IsProgramImage, FindsReturn, LARGEST_FRAME, setting_of, Rdx, temporary_at, parameter_register, stack_parameter, parameter_code, parameters_code, passing_code}
+use Rattle.template_code.specs.Calls.{arguments_code}
+use Rattle.match_bodies.proofs.Lemmas.{code_split, near}
 use Rattle.match_bodies.specs.CodeSites as sites
 use Rattle.match_bodies.proofs.RoutineWalks.{StepsTo, steps_split, keeps_split, Beneath, IsPlain, AllPlain, Finds, ran}
 use Rattle.match_bodies.proofs.ReturnAddresses.{argument_found}

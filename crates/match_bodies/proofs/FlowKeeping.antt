@@ -2,14 +2,12 @@
 -- of its turns.
 use Rattle.std.proofs.Common.{◌≡◌, ℕ, zero, suc, ◌+◌, ◌^◌, ◌<◌, false, Ok, List, ◌∷◌, ◌++◌, inl, inr, length, get_or, refl, sym, ap, subst, ◌∙◌, arith}
 use Rattle.std.specs.Prelude.{slice_set}
-use Rattle.match_bodies.specs.Words.{Memory, executable, Rsp, Instr, leading, Context, kept_of, context_of, State, register, Functions, word, Funclet, LinearProgram, size, sizes, Reaches, HasCode, state, ImagePlan, GivesCallers, WalkGives, KeepsShadow, AllKeep, Sites, FindsReturn, HasProgram}
+use Rattle.match_bodies.specs.Words.{Memory, executable, Rsp, Instr, leading, Context, kept_of, context_of, State, register, Functions, word, Funclet, LinearProgram, size, sizes, Reaches, HasCode, state, ImagePlan, GivesCallers, WalkGives, KeepsShadow, AllKeep, Sites, FindsReturn, HasProgram, Flows, StoresOnce}
 use Rattle.x64_instr.specs.declared.instruction.Instr.TheVariants as instrs
-use Rattle.x64_templates.specs.Keeping.{is_call, Flows, StoresOnce}
+use Rattle.x64_templates.specs.Keeping.{is_call}
 use Rattle.x64_templates.specs.Chains.{AllTurns, IsInside, IsTurnOf}
-use Rattle.x64_templates.proofs.PlacedCode.{Encodable}
-use Rattle.x64_templates.proofs.Chains.{all_turns}
+use Rattle.match_bodies.proofs.Lemmas.{Encodable, all_turns, HeadAbove, straight}
 use Rattle.match_runs.specs.Shadow as shadows
-use Rattle.match_runs.proofs.Shadows.{HeadAbove, straight}
 use Rattle.match_bodies.proofs.BodyCallers.{gives_caller}
 
 no_call : (i : Instr) → is_call i ≡ false → shadows.calls i ≡ false

@@ -2,20 +2,12 @@
 use Rattle.std.proofs.Common.{◌≡◌, ℕ, ◌+◌, ◌-◌, ◌^◌, ◌<◌, ◌≤◌, Bool, true, false, List, [], ◌∷◌, ◌++◌, length, Some, refl, sym, ap, subst, ◌∙◌, arith, inl}
 use Rattle.std.specs.Prelude.{nat_le, if◌then◌else◌}
 use Rattle.std.proofs.lemmas.Bool.{lt-ltb, le-leb, lt-leb, leb-true, leb-false}
-use Rattle.match_bodies.specs.Words.{Memory, W32, W64, Rax, Rsp, Instr, is_encodable, State, register, with_rip, word, LinearBody, BodyName, body_of, size, sizes, IsNear, call, enter_code, check_stack, code_from, Steps, HasCode, StackItem, is_call, KeepsShadow, AllKeep, links_of, begin_of, making, making_size, frame_code, arguments_code, entry_code, FindsReturn, LARGEST_FRAME, Setting}
-use Rattle.seh_num.specs.declared.width.Width.TheVariants.{W8}
-use Rattle.x64_instr.specs.declared.register.Reg.TheVariants.{R11}
+use Rattle.match_bodies.specs.Words.{Memory, W32, W64, Rax, Rsp, Instr, is_encodable, State, register, with_rip, word, LinearBody, BodyName, body_of, size, sizes, IsNear, call, enter_code, check_stack, code_from, Steps, HasCode, StackItem, is_call, KeepsShadow, AllKeep, links_of, begin_of, making, making_size, frame_code, arguments_code, entry_code, FindsReturn, LARGEST_FRAME, Setting, W8, R11, opcode_register, above, first_touch, enter_large}
 use Rattle.x64_instr.specs.declared.operand.RegisterOrMemory.TheVariants as places
 use Rattle.x64_instr.specs.declared.operand.Operand.TheVariants as operands
 use Rattle.x64_instr.specs.declared.instruction.Operation.TheVariants as arithmetic
 use Rattle.x64_instr.specs.declared.instruction.Instr.TheVariants as instrs
-use Rattle.x64_encode.specs.Chosen.{opcode_register}
-use Rattle.template_code.specs.Operations.{above}
-use Rattle.template_code.specs.Probing.{first_touch, enter_large}
-use Rattle.template_code.proofs.Sizes.{call_size}
-use Rattle.x64_templates.proofs.Computes.{code_split}
-use Rattle.x64_templates.proofs.Encoded.{near}
-use Rattle.match_runs.proofs.Shadows.{keep_first}
+use Rattle.match_bodies.proofs.Lemmas.{call_size, code_split, near, keep_first}
 use Rattle.match_bodies.proofs.StackTop.{leaf_layout}
 use Rattle.match_bodies.proofs.InstructionEffects.{is_probing, falls, falls_by_rax, puts_rax}
 use Rattle.match_bodies.proofs.SilentTurns.{program_kept}

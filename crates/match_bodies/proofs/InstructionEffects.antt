@@ -1,9 +1,8 @@
 -- What single machine instructions of calls, entries and returns leave as it was.
 use Rattle.std.proofs.Common.{◌≡◌, ◌≢◌, ℕ, ◌+◌, ◌-◌, ◌%◌, ◌^◌, ◌<◌, ◌≤◌, Bool, true, false, List, [], ◌∷◌, length, Option, Some, None, Result, Ok, Err, refl, sym, ap, subst, ◌∙◌, arith, inl, inr, get_or-set_same, get_or-set_other, length-set}
 use Rattle.std.specs.Prelude.{◌⊎◌, slice_index, slice_set}
-use Rattle.match_bodies.specs.Words.{Width, W32, W64, Memory, may_write, first_refused, with_bytes, Reg, Rax, Rsp, RegisterOrMemory, Instr, word, readable, State, register, with_rip, effect}
+use Rattle.match_bodies.specs.Words.{Width, W32, W64, Memory, may_write, first_refused, with_bytes, Reg, Rax, Rsp, RegisterOrMemory, Instr, word, readable, State, register, with_rip, effect, with_number, loaded, stored, unless_refused, after_store, Relative, is_volatile, Answer, granted, with_register, with_flags, load, store, write, may_change, change, target_of}
 use Rattle.flat_memory.specs.declared.access.RefusedAccess.{RefusedAccess}
-use Rattle.flat_memory.specs.Memory.{with_number, loaded, stored, unless_refused, after_store}
 use Rattle.flat_memory.proofs.Stores.{untouched, loads_what_was_stored}
 use Rattle.x64_instr.specs.declared.register.Reg.TheVariants as regs
 use Rattle.x64_instr.specs.declared.operand.Base.TheVariants as bases
@@ -14,13 +13,11 @@ use Rattle.x64_instr.specs.declared.operand.Operand.TheVariants as operands
 use Rattle.x64_instr.specs.declared.instruction.Operation.{Operation}
 use Rattle.x64_instr.specs.declared.instruction.Operation.TheVariants as operations
 use Rattle.x64_instr.specs.declared.instruction.Target.{Target}
-use Rattle.x64_instr.specs.declared.instruction.Target.TheVariants.{Relative}
 use Rattle.x64_instr.specs.declared.instruction.Instr.TheVariants as instrs
 use Rattle.x64_instr.specs.Registers.{number}
 use Rattle.x64_machine.specs.Words.{added, subtracted}
-use Rattle.x64_templates.specs.Keeping.{is_volatile}
 use Rattle.seh_num.specs.Answers.{◌>>=◌}
-use Rattle.x64_machine.specs.Effect.{Answer, granted, with_register, with_flags, load, store, read, operand, write, may_change, computed, change, target_of}
+use Rattle.x64_machine.specs.Effect.{read, operand, computed}
 use Rattle.match_runs.specs.Shadow.{calls as is_a_call}
 
 -- ---- registers

@@ -2,13 +2,11 @@
 use Rattle.std.proofs.Common.{◌≡◌, ℕ, ◌+◌, ◌^◌, ◌<◌, ◌≤◌, Option, Some, None, [], ◌∷◌, ◌++◌, length, take, refl, sym, ap, subst, ◌∙◌, arith}
 use Rattle.std.specs.Prelude.{slice_get, slice_set, if◌then◌else◌}
 use Rattle.std.proofs.lemmas.Bool.{le-leb}
-use Rattle.match_bodies.specs.Words.{Rax, State, register, Slot, Local, Temporary, BodyState, with_slot, LinearBody, Configuration, Next, with_temporaries, forth, with_some, written, act, Layout, sizes, local_at, keep_local, keep, template_size, machine, ReachesBody, Moves, HaveRoom, turns_left, Setting, RepresentsAt}
+use Rattle.match_bodies.specs.Words.{Rax, State, register, Slot, Local, Temporary, BodyState, with_slot, LinearBody, Configuration, Next, with_temporaries, forth, with_some, written, act, Layout, sizes, local_at, keep_local, keep, template_size, machine, ReachesBody, Moves, HaveRoom, turns_left, Setting, RepresentsAt, not_landed, IsNextSlot}
 use Rattle.linear_code.specs.declared.instruction.Instruction.TheVariants as instructions
 use Rattle.linear_machine.specs.Frames as linear
-use Rattle.linear_machine.specs.Instructions.{not_landed}
-use Rattle.template_code.proofs.Lengths.{keep_length}
+use Rattle.match_bodies.proofs.Lemmas.{keep_length}
 use Rattle.x64_templates.proofs.Returns.{call_ends}
-use Rattle.lowering_invariants.specs.Ready.{IsNextSlot}
 use Rattle.match_bodies.proofs.BodyViews.{IsCounted, room_here, holds_here, locals_here}
 use Rattle.match_bodies.proofs.TemplateRuns.{code, frame, slots, v, sp_is, has_slots, template_here, next_address, Surroundings}
 use Rattle.match_bodies.proofs.SlotWrites.{locals_after, temporaries_after, FitsAfter, one_more}

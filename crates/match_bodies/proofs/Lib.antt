@@ -1,3 +1,4 @@
+mod Lemmas
 pub mod StackWalks
 pub mod UnwindWalks
 pub mod InstructionEffects

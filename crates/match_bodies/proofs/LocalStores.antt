@@ -1,15 +1,9 @@
 -- Other numbers in the locals of one activation leave the list as it is.
 use Rattle.std.proofs.Common.{◌≡◌, ℕ, ◌+◌, ◌*◌, ◌≤◌, true, false, Some, List, [], ◌∷◌, ◌++◌, length, refl, sym, ap, subst, ◌∙◌, arith, inl, inr}
 use Rattle.std.specs.Prelude.{slice_get}
-use Rattle.match_bodies.specs.Words.{STACK_START, STACK_END, Memory, Context, context_of, rsp, Functions, Funclet, Layout, LinearProgram, BodyName, FunctionBody, FuncletBody, Frame, Item, Waits, Searches, Unwinds, StackFrame, StackItem, Framed, Leaf, Searching, Unwinding, FrameIsAt, LeafIsAt, IsStack, after_frame, after_leaf, ImagePlan, Activation, locals_of, activations_below, HoldsWords, temporaries_end, HasActivation, HoldsLocals, IsActivation, ActivationHasBase, home_end, HasPointers, IsAbove, HasSpace, below_end, BodyWaits, Linked, IsLinkedStack, with_values, KeepsStackBut, OwnerHasFrame}
+use Rattle.match_bodies.specs.Words.{STACK_START, STACK_END, Memory, Context, context_of, rsp, Functions, Funclet, Layout, LinearProgram, BodyName, FunctionBody, FuncletBody, Frame, Item, Waits, Searches, Unwinds, StackFrame, StackItem, Framed, Leaf, Searching, Unwinding, FrameIsAt, LeafIsAt, IsStack, after_frame, after_leaf, ImagePlan, Activation, locals_of, activations_below, HoldsWords, temporaries_end, HasActivation, HoldsLocals, IsActivation, ActivationHasBase, home_end, HasPointers, IsAbove, HasSpace, below_end, BodyWaits, Linked, IsLinkedStack, with_values, KeepsStackBut, OwnerHasFrame, record_room, FrameWaits, LeafWaits, ActivationsAreStored}
 use Rattle.seh_walk.specs.Walk.{filter_return, finally_return}
-use Rattle.match_stack.proofs.ItemVisits.{set_head}
-use Rattle.match_stack.proofs.StackKeeping.{rises}
-use Rattle.match_stack.specs.ItemMatches.{record_room, FrameWaits, LeafWaits}
-use Rattle.match_stack.proofs.ListEnds.{words_fit, in_stack}
-use Rattle.match_stack.proofs.ListMemories.{ReadsSame, higher, words_kept, frame_kept, leaf_kept, own_kept, frame_above, frame_is_at, leaf_is_at, record_is_at, list_kept}
-use Rattle.match_stack.proofs.ListKeeping.{reads_other}
-use Rattle.match_bodies.specs.SlotStores.{ActivationsAreStored}
+use Rattle.match_bodies.proofs.Lemmas.{set_head, rises, words_fit, in_stack, ReadsSame, higher, words_kept, frame_kept, leaf_kept, own_kept, frame_above, frame_is_at, leaf_is_at, record_is_at, list_kept, reads_other}
 use Rattle.match_bodies.proofs.ActivationPlaces.{are_there, locals_count, got_before, got_last}
 use Rattle.match_bodies.proofs.ActivationKeeping.{with_count, is_lower, still_is, first_changes, later_changes}
 

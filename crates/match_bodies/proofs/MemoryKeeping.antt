@@ -1,8 +1,6 @@
 -- A memory in which no byte of the image has changed is the machine's, as before.
 use Rattle.std.proofs.Common.{◌≡◌, ℕ, List, sym, ap, ◌∙◌}
-use Rattle.match_bodies.specs.Words.{Protection, is_writable, Memory, Functions, Funclet, is_reserved, LinearProgram, Agrees, ImagePlan, Sites, IsProgramImage}
-use Rattle.seh_records.specs.Laws.{AreBytes}
-use Rattle.match_bodies.specs.ProgramImages.{IsMachineMemory}
+use Rattle.match_bodies.specs.Words.{Protection, is_writable, Memory, Functions, Funclet, is_reserved, LinearProgram, Agrees, ImagePlan, Sites, IsProgramImage, AreBytes, IsMachineMemory}
 use Rattle.match_bodies.proofs.ProgramKeeping.{KeepsImage, program_stays}
 
 module _ (t : Functions) (fs : List Funclet) (program : LinearProgram) (p : ImagePlan) (q : Sites)

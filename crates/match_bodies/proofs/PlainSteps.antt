@@ -3,13 +3,9 @@ use Rattle.std.proofs.Common.{◌≡◌, ℕ, zero, suc, ◌+◌, ◌*◌, ◌^�
 use Rattle.std.specs.Prelude.{nat_eq, slice_get, slice_index, slice_set}
 use Rattle.std.proofs.lemmas.List.{append-nil}
 use Rattle.std.proofs.lemmas.Option.{slice_get_within}
-use Rattle.match_bodies.specs.Words.{Event, Memory, State, Slot, Local, Temporary, Instruction, BodyState, IsSlot, LinearBody, body_of, Configuration, Next, local_of, read, forth, with_some, act, Layout, machine, InstructionDone, ReachesBody, template, template_size, body_size, offset_of, counts_of, locals_of, Moves, HaveRoom, links_of, turns_left, with_values, Setting, RepresentsAt}
+use Rattle.match_bodies.specs.Words.{Event, Memory, State, Slot, Local, Temporary, Instruction, BodyState, IsSlot, LinearBody, body_of, Configuration, Next, local_of, read, forth, with_some, act, Layout, machine, InstructionDone, ReachesBody, template, template_size, body_size, offset_of, counts_of, locals_of, Moves, HaveRoom, links_of, turns_left, with_values, Setting, RepresentsAt, JumpsTo, IsHeld, at_label, with_last, pick, tested}
 use Rattle.linear_code.specs.declared.instruction.Instruction.TheVariants as instructions
 use Rattle.linear_code.specs.Meaning as meanings
-use Rattle.linear_code.specs.Meaning.{JumpsTo}
-use Rattle.lowering_invariants.specs.Ready.{IsHeld}
-use Rattle.linear_machine.specs.Frames.{at_label, with_last, pick}
-use Rattle.linear_machine.specs.Instructions.{tested}
 use Rattle.match_bodies.proofs.ActivationPlaces.{locals_count}
 use Rattle.match_bodies.proofs.ActivationStores.{activated, same_activations}
 use Rattle.match_bodies.proofs.BodyViews.{IsCounted, placed, count, slots_here, locals_here}

@@ -1,13 +1,10 @@
 -- The program stays in a memory in which no byte of the image has changed.
 use Rattle.std.proofs.Common.{◌≡◌, ℕ, ◌+◌, ◌<◌, ◌≤◌, true, Some, List, [], ◌∷◌, length, sym, ap, subst, ◌∙◌, arith}
-use Rattle.match_bodies.specs.Words.{Service, address_of, Protection, is_readable, is_writable, Memory, Functions, Funclet, Instr, is_reserved, LinearProgram, LinearBody, BodyName, body_of, spelled, sizes, thunk, check_stack, code_from, body_size, HasCode, HasThunk, ImagePlan, Sites, links_of, begin_of, entry_code, code_of, service_of, HasService, HasProgram, IsProgramImage}
-use Rattle.host_layout.specs.declared.range.TheConstants.{IMAGE_BASE, IMAGE_RANGE_END}
+use Rattle.match_bodies.specs.Words.{Service, address_of, Protection, is_readable, is_writable, Memory, Functions, Funclet, Instr, is_reserved, LinearProgram, LinearBody, BodyName, body_of, spelled, sizes, thunk, check_stack, code_from, body_size, HasCode, HasThunk, ImagePlan, Sites, links_of, begin_of, entry_code, code_of, service_of, HasService, HasProgram, IsProgramImage, IMAGE_BASE, IMAGE_RANGE_END, IsInImage}
 use Rattle.host_layout.specs.declared.service.Service.TheVariants as services
-use Rattle.template_code.proofs.Sizes.{sizes_spelled, sizes_append, body_sizes}
+use Rattle.match_bodies.proofs.Lemmas.{sizes_spelled, sizes_append, body_sizes, same_number}
 use Rattle.x64_templates.specs.Placed.{IsCodeAt}
-use Rattle.x64_templates.proofs.PlacedCode.{same_number}
 use Rattle.x64_templates.proofs.Services.{thunk_size}
-use Rattle.match_bodies.specs.ProgramImages.{IsInImage}
 
 -- bytes of a range, and what may be done there
 pub record SameThere (m m' : Memory) (from to : ℕ) : Type 0 where

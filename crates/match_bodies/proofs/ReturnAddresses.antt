@@ -5,10 +5,7 @@ use Rattle.std.proofs.lemmas.Option.{slice_get_cases, slice_get_within, get_or_f
 use Rattle.std.proofs.lemmas.List.{append-nil}
 use Rattle.match_bodies.specs.Words.{Memory, Rax, Instr, Context, rsp, word, Instruction, LinearBody, BodyName, body_of, sizes, fetch, template, offset_of, code_from, IsReturn, HasCode, after_leaf, links_of, begin_of, making_size, frame_code, arguments_code, entry_code, frame_with, caller_above, HasCaller, FindsReturn, Setting, IsResumed}
 use Rattle.linear_code.specs.declared.instruction.Instruction.TheVariants as instructions
-use Rattle.template_code.proofs.Sizes.{sizes_append, template_sizes}
-use Rattle.x64_templates.proofs.Computes.{code_split}
-use Rattle.x64_templates.proofs.Linked.{template_placed}
-use Rattle.match_stack.proofs.ItemVisits.{frame_is_visited, leaf_is_visited}
+use Rattle.match_bodies.proofs.Lemmas.{sizes_append, template_sizes, code_split, template_placed, frame_is_visited, leaf_is_visited}
 use Rattle.match_bodies.proofs.StackTop.{leaf_layout}
 use Rattle.match_bodies.proofs.TemplateSizes.{template_some}
 use Rattle.match_bodies.specs.Setting.{HasProgram}

@@ -3,14 +3,10 @@
 use Rattle.std.proofs.Common.{◌≡◌, ℕ, zero, suc, ◌+◌, ◌^◌, ◌<◌, Option, Some, None, List, [], ◌∷◌, length, refl, sym, ap, subst, ◌∙◌, arith, inl, length-append}
 use Rattle.std.specs.Prelude.{slice_get}
 use Rattle.std.proofs.lemmas.List.{append-nil}
-use Rattle.match_bodies.specs.Words.{Memory, Rax, Rsp, Instr, State, register, with_rip, Slot, Local, Temporary, LinearBody, BodyName, body_of, Layout, size, sizes, fetch, fetch_local, local_at, epilogue, HasCode, StackItem, is_call, AllKeep, FindsReturn, Setting}
+use Rattle.match_bodies.specs.Words.{Memory, Rax, Rsp, Instr, State, register, with_rip, Slot, Local, Temporary, LinearBody, BodyName, body_of, Layout, size, sizes, fetch, fetch_local, local_at, epilogue, HasCode, StackItem, is_call, AllKeep, FindsReturn, Setting, return_code, give_back}
 use Rattle.x64_instr.specs.declared.instruction.Instr.TheVariants as instrs
 use Rattle.linear_code.specs.declared.instruction.Instruction.TheVariants as instructions
-use Rattle.template_code.specs.Calls.{return_code}
-use Rattle.x64_templates.proofs.Computes.{code_split}
-use Rattle.x64_templates.proofs.Encoded.{Fine, near}
-use Rattle.match_runs.proofs.Shadows.{keep_first}
-use Rattle.match_bodies.specs.CodeSites.{give_back}
+use Rattle.match_bodies.proofs.Lemmas.{code_split, Fine, near, keep_first}
 use Rattle.match_bodies.proofs.InstructionEffects.{rises}
 use Rattle.match_bodies.proofs.SilentTurns.{program_kept}
 use Rattle.match_bodies.proofs.RoutineWalks.{read_here, effect_here, code_next, StepsTo, steps_split, keeps_split, Beneath, AllPlain, Finds, Ran, ran}

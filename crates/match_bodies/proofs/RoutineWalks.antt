@@ -2,14 +2,9 @@
 use Rattle.std.proofs.Common.{◌≡◌, ℕ, zero, suc, ◌+◌, ◌%◌, ◌^◌, ◌<◌, ◌≤◌, Bool, true, false, List, [], ◌∷◌, ◌++◌, length, Option, Some, None, Ok, refl, sym, ap, subst, ◌∙◌, arith, inl, inr}
 use Rattle.std.specs.Prelude.{◌⊎◌, slice_index}
 use Rattle.std.proofs.lemmas.Bool.{cases_lt}
-use Rattle.match_bodies.specs.Words.{Protection, is_readable, is_writable, Memory, executable, may_read, may_write, first_refused, number_at, with_bytes, access, Reg, Rsp, Instr, leading, chosen, is_encodable, Context, context_of, State, register, with_rip, effect, rsp, Functions, word, readable, Funclet, LinearProgram, spelled, size, sizes, keep_register, Steps, Reaches, Enters, HasCode, StackItem, IsStack, Owned, context_below, state, ImagePlan, is_call, GivesCallers, WalkGives, AllKeep, Sites, HasProgram, caller_above, HasCaller, FindsReturn}
-use Rattle.x64_encode.proofs.Lengths.{longest}
+use Rattle.match_bodies.specs.Words.{Protection, is_readable, is_writable, Memory, executable, may_read, may_write, first_refused, number_at, with_bytes, access, Reg, Rsp, Instr, leading, chosen, is_encodable, Context, context_of, State, register, with_rip, effect, rsp, Functions, word, readable, Funclet, LinearProgram, spelled, size, sizes, keep_register, Steps, Reaches, Enters, HasCode, StackItem, IsStack, Owned, context_below, state, ImagePlan, is_call, GivesCallers, WalkGives, AllKeep, Sites, HasProgram, caller_above, HasCaller, FindsReturn, Agree, calls}
+use Rattle.match_bodies.proofs.Lemmas.{longest, same_number, bytes_kept, outside_page, bytes_split, spells, reads, kept_by_other_stores, nothing_below_is_owned, past_frame, straight, keep_first}
 use Rattle.x64_machine.specs.Effect.{step}
-use Rattle.x64_templates.proofs.PlacedCode.{same_number, bytes_kept, outside_page, bytes_split, spells, reads}
-use Rattle.match_stack.specs.Stack.{Agree}
-use Rattle.match_stack.proofs.StackKeeping.{kept_by_other_stores, nothing_below_is_owned}
-use Rattle.match_runs.specs.Shadow.{calls}
-use Rattle.match_runs.proofs.Shadows.{past_frame, straight, keep_first}
 use Rattle.match_bodies.proofs.StackWalks.{callers, on_stack}
 use Rattle.match_bodies.proofs.InstructionEffects.{others_of, is_idle, idle_leaves, idle_calls_nothing, store_leaves}
 use Rattle.match_bodies.proofs.SilentTurns.{program_kept}

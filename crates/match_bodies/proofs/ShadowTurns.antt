@@ -1,11 +1,9 @@
 -- Calls, returns, and the making of frames keep the shadow.
 use Rattle.std.proofs.Common.{◌≡◌, ℕ, ◌+◌, ◌^◌, ◌<◌, ◌≤◌, true, false, List, ◌∷◌, length, Ok, refl, sym, ap, subst, ◌∙◌, arith, inl, inr}
-use Rattle.match_bodies.specs.Words.{Memory, executable, number_at, Rax, Rsp, Instr, leading, is_encodable, Context, context_of, State, register, with_rip, effect, Functions, word, Funclet, size, IsNear, call, Steps, HasCode, StackItem, ItemIsAt, IsStack, OwnedBy, Owned, context_after, context_below, state, is_call, GivesCallers, WalkGives, KeepsShadow, caller_above, HasCaller, FindsReturn}
+use Rattle.match_bodies.specs.Words.{Memory, executable, number_at, Rax, Rsp, Instr, leading, is_encodable, Context, context_of, State, register, with_rip, effect, Functions, word, Funclet, size, IsNear, call, Steps, HasCode, StackItem, ItemIsAt, IsStack, OwnedBy, Owned, context_after, context_below, state, is_call, GivesCallers, WalkGives, KeepsShadow, caller_above, HasCaller, FindsReturn, caller_at}
 use Rattle.x64_instr.specs.declared.instruction.Instr.TheVariants as instrs
 use Rattle.template_code.specs.Jumps.{distance}
-use Rattle.template_code.proofs.Sizes.{call_size, arrives, short}
-use Rattle.match_runs.specs.Shadow.{caller_at}
-use Rattle.match_runs.proofs.Shadows.{past_frame, HeadAbove, straight, call_keeps, return_keeps}
+use Rattle.match_bodies.proofs.Lemmas.{call_size, arrives, short, past_frame, HeadAbove, straight, call_keeps, return_keeps}
 use Rattle.match_bodies.proofs.StackWalks.{callers, on_stack, stack_rises}
 use Rattle.match_bodies.proofs.InstructionEffects.{others_of, is_probing, probing_is_idle, idle_leaves, idle_calls_nothing, rax_stays, Sets, Calls, calls, Returns, returns, word_loads}
 use Rattle.match_bodies.proofs.RoutineWalks.{read_here, effect_here, word_number, Beneath, beneath_stays, callers_above}

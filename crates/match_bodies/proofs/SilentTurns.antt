@@ -4,22 +4,15 @@ use Rattle.std.proofs.Common.{◌≡◌, ◌≢◌, ℕ, zero, suc, ◌+◌, ◌
 use Rattle.std.specs.Prelude.{slice_get}
 use Rattle.std.proofs.lemmas.Bool.{le-leb, ne_eqb}
 use Rattle.std.proofs.lemmas.Option.{slice_get_cases}
-use Rattle.match_bodies.specs.Words.{W64, Event, Service, address_of, Protection, is_readable, is_writable, Memory, executable, may_write, Rsp, Instr, leading, chosen, State, Functions, distance, Funclet, arrivals, LinearProgram, LinearFunclet, FuncletBody, body_of, spelled, thunk, enter_code, check_stack, code_from, Steps, Reaches, Enters, HasCode, HasThunk, ImagePlan, AllKeep, Comes, Sites, begin_of, making, frame_code, arguments_code, entry_code, links_of, code_of, service_of, HasService, HasProgram, IsProgramImage}
+use Rattle.match_bodies.specs.Words.{W64, Event, Service, address_of, Protection, is_readable, is_writable, Memory, executable, may_write, Rsp, Instr, leading, chosen, State, Functions, distance, Funclet, arrivals, LinearProgram, LinearFunclet, FuncletBody, body_of, spelled, thunk, enter_code, check_stack, code_from, Steps, Reaches, Enters, HasCode, HasThunk, ImagePlan, AllKeep, Comes, Sites, begin_of, making, frame_code, arguments_code, entry_code, links_of, code_of, service_of, HasService, HasProgram, IsProgramImage, funclet_body, takes_frame, Runs, IsLive}
 use Rattle.host_layout.specs.declared.service.Service.TheVariants as services
 use Rattle.x64_instr.specs.declared.operand.RegisterOrMemory.TheVariants as places
 use Rattle.x64_instr.specs.declared.operand.Operand.TheVariants as operands
 use Rattle.x64_instr.specs.declared.instruction.Operation.TheVariants as operations
 use Rattle.x64_instr.specs.declared.instruction.Instr.TheVariants as instrs
-use Rattle.x64_encode.proofs.Lengths.{longest}
+use Rattle.match_bodies.proofs.Lemmas.{longest, bytes_kept, bytes_split, spells, reads, same_number, code_split, near}
 use Rattle.x64_machine.specs.declared.cpu.Cpu.{Cpu}
 use Rattle.host_model.specs.Dispatch.{no_flags}
-use Rattle.linear_machine.specs.Frames.{funclet_body}
-use Rattle.x64_templates.specs.Straight.{takes_frame}
-use Rattle.x64_templates.specs.Runs.{Runs}
-use Rattle.x64_templates.proofs.PlacedCode.{bytes_kept, bytes_split, spells, reads, same_number}
-use Rattle.x64_templates.proofs.Computes.{code_split}
-use Rattle.x64_templates.proofs.Encoded.{near}
-use Rattle.match_runs.specs.Comes.{IsLive}
 use Rattle.match_runs.proofs.Turns.{comes_by_step, comes_then}
 
 -- ---- code outlasts whatever changes no protection and no byte that may not be written

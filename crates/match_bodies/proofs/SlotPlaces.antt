@@ -2,12 +2,11 @@
 use Rattle.std.proofs.Common.{◌≡◌, ℕ, zero, suc, ◌+◌, ◌*◌, ◌^◌, ◌<◌, ◌≤◌, true, Option, Some, None, Ok, List, [], ◌∷◌, ◌++◌, length, refl, sym, ap, subst, ◌∙◌, arith, inl, inr}
 use Rattle.std.specs.Prelude.{◌⊎◌, slice_get, slice_index, nat_le, nat_lt}
 use Rattle.std.proofs.lemmas.Bool.{le-leb, lt-ltb}
-use Rattle.match_bodies.specs.Words.{STACK_START, STACK_END, Memory, may_write, number_at, rsp, word, Functions, Funclet, is_reserved, Counts, LinearProgram, LinearBody, FunctionBody, FuncletBody, Configuration, local_of, Layout, InTemporaries, InLocals, Agrees, IsBytes, Context, Item, StackItem, IsLinkedStack, ImagePlan, Activation, locals_of, HoldsWords, HasActivation, home_end, IsFunctionLayout, IsLeafLayout, IsFuncletLayout}
+use Rattle.match_bodies.specs.Words.{STACK_START, STACK_END, Memory, may_write, number_at, rsp, word, Functions, Funclet, is_reserved, Counts, LinearProgram, LinearBody, FunctionBody, FuncletBody, Configuration, local_of, Layout, InTemporaries, InLocals, Agrees, IsBytes, Context, Item, StackItem, IsLinkedStack, ImagePlan, Activation, locals_of, HoldsWords, HasActivation, home_end, IsFunctionLayout, IsLeafLayout, IsFuncletLayout, HasBase, SlotsHaveRoom, MemoryKeepsBase, KeepsReserved, HoldsBody}
 use Rattle.linear_machine.specs.Frames as linear
-use Rattle.x64_templates.specs.Frames.{HasBase, SlotsHaveRoom, MemoryKeepsBase, KeepsReserved, HoldsBody}
 use Rattle.x64_templates.specs.EntryStates.{body_in_memory}
 use Rattle.x64_templates.proofs.Entries.{holds_body_in_memory}
-use Rattle.match_stack.proofs.ListEnds.{words_fit, in_stack}
+use Rattle.match_bodies.proofs.Lemmas.{words_fit, in_stack}
 use Rattle.match_bodies.proofs.ActivationPlaces.{activations_are_at, got_last, locals_count, words_shorter}
 use Rattle.match_bodies.proofs.StackWords.{word_is, word_in}
 

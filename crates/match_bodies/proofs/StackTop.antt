@@ -1,10 +1,8 @@
 -- A body that runs is on top of what waits below it, as one that waits.
 use Rattle.std.proofs.Common.{◌≡◌, ℕ, ◌+◌, Bool, true, false, List, [], ◌∷◌, refl, sym, ap, subst, ◌∙◌, arith}
-use Rattle.match_bodies.specs.Words.{Rsp, context_of, State, register, Functions, word, Funclet, LinearProgram, LinearBody, BodyName, FunctionBody, FuncletBody, Waits, Configuration, regions_of, StackItem, Framed, Leaf, LeafIsAt, context_below, ImagePlan, Activation, activations_below, BodyWaits, On, Sites, IsLayoutIf, IsLeafLayout, IsLaidOut, HasProgram, IsProgramImage, frame_with, slots_end, last_temporary, InBody}
-use Rattle.x64_instr.specs.declared.register.Reg.TheVariants.{Rbx, Rbp, Rsi, Rdi, R12, R13, R14, R15}
-use Rattle.match_stack.specs.ImagePlan.{IsGiven}
-use Rattle.match_stack.proofs.ListEnds.{in_stack}
-use Rattle.match_bodies.specs.ProgramImages.{IsResumed, IsFramed}
+use Rattle.match_bodies.specs.Words.{Rsp, context_of, State, register, Functions, word, Funclet, LinearProgram, LinearBody, BodyName, FunctionBody, FuncletBody, Waits, Configuration, regions_of, StackItem, Framed, Leaf, LeafIsAt, context_below, ImagePlan, Activation, activations_below, BodyWaits, On, Sites, IsLayoutIf, IsLeafLayout, IsLaidOut, HasProgram, IsProgramImage, frame_with, slots_end, last_temporary, InBody, Rbx, Rbp, Rsi, Rdi, R12, R13, R14, R15, IsGiven, IsFramed}
+use Rattle.match_bodies.proofs.Lemmas.{in_stack}
+use Rattle.match_bodies.specs.ProgramImages.{IsResumed}
 
 module _ (t : Functions) (fs : List Funclet) (program : LinearProgram) (p : ImagePlan) (q : Sites)
   where

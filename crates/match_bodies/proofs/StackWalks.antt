@@ -1,9 +1,8 @@
 -- What a walk gives of a stack, and chains of instructions that keep the shadow.
 use Rattle.std.proofs.Common.{◌≡◌, ℕ, zero, suc, ◌+◌, List, [], ◌∷◌, sym, subst, arith}
 use Rattle.match_bodies.specs.Words.{Memory, Context, context_of, State, rsp, Functions, Funclet, Reaches, StackItem, Framed, Leaf, Searching, Unwinding, IsStack, after_frame, after_leaf, caller_frame, caller_of_leaf, state, GivesCallers, AllKeep}
-use Rattle.match_stack.proofs.ItemVisits.{set_head, frame_is_visited, leaf_is_visited, search_is_passed, unwinding_is_passed}
+use Rattle.match_bodies.proofs.Lemmas.{set_head, frame_is_visited, leaf_is_visited, search_is_passed, unwinding_is_passed, past_frame, past_host, at_end, HeadAbove, head_above, keep_first}
 pub use Rattle.match_bodies.specs.Callers.{callers}
-use Rattle.match_runs.proofs.Shadows.{past_frame, past_host, at_end, HeadAbove, head_above, keep_first}
 
 -- the walk gives them
 pub on_stack : (t : Functions) (m : Memory) (c : Context) (row : ℕ) (is : List StackItem)

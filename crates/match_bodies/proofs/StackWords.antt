@@ -4,7 +4,7 @@ use Rattle.std.specs.Prelude.{slice_get}
 use Rattle.match_bodies.specs.Words.{Memory, may_read, may_write, first_refused, number_at, access, is_readable, is_writable, word, readable, HoldsWords}
 use Rattle.flat_memory.specs.declared.protection.Rights.{Rights}
 use Rattle.flat_memory.specs.declared.protection.Rights.TheVariants.{Nothing, Read, ReadWrite}
-use Rattle.x64_templates.proofs.PlacedCode.{all_may}
+use Rattle.match_bodies.proofs.Lemmas.{all_may}
 
 -- what may be written may be read
 pub reads_what_writes : (r : Rights) → is_writable r ≡ true → is_readable r ≡ true

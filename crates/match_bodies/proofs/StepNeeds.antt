@@ -3,16 +3,13 @@
 use Rattle.std.proofs.Common.{◌≡◌, ℕ, zero, suc, ◌+◌, ◌≤◌, Bool, true, false, Option, Some, None, List, [], ◌∷◌, ◌++◌, length, refl, sym, ap, subst, ◌∙◌, arith, length-append}
 use Rattle.std.specs.Prelude.{slice_get}
 use Rattle.std.proofs.lemmas.Option.{slice_get_within}
-use Rattle.match_bodies.specs.Words.{State, Instruction, LinearProgram, LinearBody, BodyName, FunctionBody, FuncletBody, body_of, Frame, Item, Waits, Searches, Unwinds, Configuration, instruction_at, Activation, activations_below, IsFuncletPlan, OwnerHasFrame, IsWellMade, IsKnown, Setting, RepresentsAt}
+use Rattle.match_bodies.specs.Words.{State, Instruction, LinearProgram, LinearBody, BodyName, FunctionBody, FuncletBody, body_of, Frame, Item, Waits, Searches, Unwinds, Configuration, instruction_at, Activation, activations_below, IsFuncletPlan, OwnerHasFrame, IsWellMade, IsKnown, Setting, RepresentsAt, LinearFunction, instruction_in, IsAt, IsCalledBy, AreWaiting, IsReady}
 use Rattle.linear_code.specs.declared.instruction.Instruction.TheVariants as instructions
-use Rattle.linear_code.specs.Program.{LinearFunction}
 use Rattle.linear_machine.specs.Frames as linear
-use Rattle.linear_machine.specs.Run.{instruction_in}
 use Rattle.lowering_invariants.specs.Bodies.{function_of, owner_of}
-use Rattle.lowering_invariants.specs.Waiting.{IsAt, IsCalledBy, IsAbove, AreWaiting}
+use Rattle.lowering_invariants.specs.Waiting.{IsAbove}
 use Rattle.lowering_invariants.specs.Activations.{with_own, owners_of, WorksOn, IsActivationOf, AreActivations}
 use Rattle.lowering_invariants.specs.Depths.{depth_in, depth_at}
-use Rattle.lowering_invariants.specs.Ready.{IsReady}
 use Rattle.match_bodies.proofs.ActivationPlaces.{locals_count}
 use Rattle.match_bodies.proofs.HomeSpace.{CallerHasFrame}
 use Rattle.match_bodies.proofs.BodyViews.{IsCounted}

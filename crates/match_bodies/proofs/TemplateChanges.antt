@@ -1,10 +1,8 @@
 -- After a run of a template the next instruction begins, with other numbers in the body's slots.
 use Rattle.std.proofs.Common.{◌≡◌, ℕ, suc, ◌+◌, ◌*◌, ◌<◌, ◌≤◌, Bool, true, false, Some, Ok, List, [], ◌∷◌, length, refl, sym, ap, subst, ◌∙◌, arith, inl, inr}
 use Rattle.std.specs.Prelude.{◌⊎◌, slice_get}
-use Rattle.match_bodies.specs.Words.{STACK_START, STACK_END, Protection, is_writable, Memory, may_write, number_at, State, word, is_reserved, Counts, Layout, InTemporaries, InLocals, Activation, HoldsWords, IsData, KeepsStackBut}
-use Rattle.x64_templates.specs.Frames.{Changes}
-use Rattle.x64_templates.proofs.PlacedCode.{same_number}
-use Rattle.match_stack.specs.ListLaws.{KeepsStack}
+use Rattle.match_bodies.specs.Words.{STACK_START, STACK_END, Protection, is_writable, Memory, may_write, number_at, State, word, is_reserved, Counts, Layout, InTemporaries, InLocals, Activation, HoldsWords, IsData, KeepsStackBut, Changes, KeepsStack}
+use Rattle.match_bodies.proofs.Lemmas.{same_number}
 use Rattle.match_bodies.proofs.StackWords.{may_read_written, word_is, word_of}
 use Rattle.match_bodies.proofs.SlotPlaces.{SlotsPlaced, stack_is_reserved, in_stack_slots}
 use Rattle.match_bodies.proofs.ProgramKeeping.{KeepsImage}

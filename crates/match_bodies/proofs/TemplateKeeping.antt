@@ -1,18 +1,12 @@
 -- Each turn of the run of an instruction's template keeps the shadow.
 use Rattle.std.proofs.Common.{◌≡◌, ℕ, ◌+◌, ◌^◌, ◌<◌, ◌≤◌, List, [], ◌++◌, Option, Some, None, length, drop, refl, sym, ap, subst, ◌∙◌, arith, length-append, append_assoc}
 use Rattle.std.specs.Prelude.{slice_get, slice_index}
-use Rattle.match_bodies.specs.Words.{Memory, Rsp, Instr, State, register, Operation, Gives, performed, is_reserved, Slot, Local, Temporary, Instruction, LinearBody, Configuration, Layout, size, sizes, local_at, keep_local, keep, operands_code, finish_code, compute_code, IsNear, template, template_size, MachineView, machine, Reaches, FrameHolds, HasCode, AllKeep, HaveRoom, links_of, counts_of, Setting, RepresentsAt}
+use Rattle.match_bodies.specs.Words.{Memory, Rsp, Instr, State, register, Operation, Gives, performed, is_reserved, Slot, Local, Temporary, Instruction, LinearBody, Configuration, Layout, size, sizes, local_at, keep_local, keep, operands_code, finish_code, compute_code, IsNear, template, template_size, MachineView, machine, Reaches, FrameHolds, HasCode, AllKeep, HaveRoom, links_of, counts_of, Setting, RepresentsAt, work, test_code, information_code}
 use Rattle.c_operations.specs.declared.field.Field.{Field}
 use Rattle.linear_code.specs.declared.instruction.Instruction.TheVariants as instructions
-use Rattle.template_code.specs.Operations.{work}
-use Rattle.template_code.specs.Jumps.{test_code}
-use Rattle.template_code.specs.Calls.{information_code}
-use Rattle.template_code.proofs.Sizes.{sizes_append, template_sizes, jump_if_zero_size}
+use Rattle.match_bodies.proofs.Lemmas.{sizes_append, template_sizes, jump_if_zero_size, rest_of, code_split, Begun, operands_run, Worked, work_run, work_flow, separator_flow, jump_flow, keep_flow, operands_flow, information_flow, jump_if_zero_flow}
 use Rattle.x64_templates.specs.Exceptions.{IsField}
 use Rattle.x64_templates.specs.Implements.{HasOperands}
-use Rattle.x64_templates.proofs.Chains.{rest_of}
-use Rattle.x64_templates.proofs.Computes.{code_split, Begun, operands_run, Worked, work_run}
-use Rattle.x64_templates.proofs.Flows.{work_flow, separator_flow, jump_flow, keep_flow, operands_flow, information_flow, jump_if_zero_flow}
 use Rattle.match_bodies.proofs.TemplatePieces.{piece_there}
 use Rattle.match_bodies.proofs.BodyViews.{IsCounted, placed, room_here, holds_here}
 use Rattle.match_bodies.proofs.ChainKeeping.{Keeps, keeps_then, reaches_keeps}

@@ -2,9 +2,7 @@
 use Rattle.std.proofs.Common.{◌≡◌, ℕ, ◌+◌, ◌^◌, ◌<◌, Some, List, ◌∷◌, ◌++◌, length, get_or, refl, sym, ap, subst, ◌∙◌, arith, append_assoc}
 use Rattle.std.specs.Prelude.{slice_get}
 use Rattle.match_bodies.specs.Words.{Memory, Rsp, Instr, Context, kept_of, State, register, Instruction, LinearBody, BodyName, body_of, sizes, template, Reaches, HasCode, IsReturn, AllKeep, links_of, FindsReturn, Setting}
-use Rattle.template_code.proofs.Sizes.{sizes_append}
-use Rattle.x64_templates.proofs.Computes.{code_split}
-use Rattle.x64_templates.proofs.Flows.{IsFlow}
+use Rattle.match_bodies.proofs.Lemmas.{sizes_append, code_split, IsFlow}
 use Rattle.match_bodies.proofs.ReturnAddresses.{within_found, template_there}
 use Rattle.match_bodies.proofs.FlowKeeping.{IsBelow, from_state, flow_keeps}
 use Rattle.match_bodies.specs.Setting.{HasProgram}

@@ -3,15 +3,10 @@ use Rattle.std.proofs.Common.{◌≡◌, ℕ, zero, suc, ◌+◌, ◌^◌, ◌<�
 use Rattle.std.specs.Prelude.{slice_get, slice_index, drop}
 use Rattle.std.specs.List.{AllByRecursion}
 use Rattle.std.proofs.lemmas.Option.{slice_get_within, get_or_from_slice_get}
-use Rattle.match_bodies.specs.Words.{Event, Rsp, State, register, distance, arrivals, Instruction, BodyState, LinearBody, BodyName, FuncletBody, Configuration, Layout, template, template_size, code_from, offset_of, MachineView, machine, HasCode, ReachesBody, InstructionDone, Comes, HaveRoom, links_of, begin_of, entry_code, seen_by_templates, counts_of, frame_at, state_of, OwnerHasFrame, Setting, RepresentsAt}
+use Rattle.match_bodies.specs.Words.{Event, Rsp, State, register, distance, arrivals, Instruction, BodyState, LinearBody, BodyName, FuncletBody, Configuration, Layout, template, template_size, code_from, offset_of, MachineView, machine, HasCode, ReachesBody, InstructionDone, Comes, HaveRoom, links_of, begin_of, entry_code, seen_by_templates, counts_of, frame_at, state_of, OwnerHasFrame, Setting, RepresentsAt, HasSlots, step, FramePlace}
 use Rattle.linear_code.specs.declared.instruction.Instruction.TheVariants as instructions
-use Rattle.linear_code.specs.Meaning.{HasSlots, step}
-use Rattle.template_code.proofs.Sizes.{offset_next}
+use Rattle.match_bodies.proofs.Lemmas.{offset_next, code_split, body_instruction_run, template_placed}
 use Rattle.x64_templates.specs.CallStates.{sp_of}
-use Rattle.x64_templates.specs.Runs.{FramePlace}
-use Rattle.x64_templates.proofs.Computes.{code_split}
-use Rattle.x64_templates.proofs.InstructionRuns.{body_instruction_run}
-use Rattle.x64_templates.proofs.Linked.{template_placed}
 use Rattle.match_bodies.proofs.SilentTurns.{reaches_silently}
 use Rattle.match_bodies.proofs.HomeSpace.{CallerHasFrame}
 use Rattle.match_bodies.proofs.TemplateShadows.{kept_by_rest, is_after, ends_at, RunsKeep}

@@ -6,10 +6,8 @@ use Rattle.std.proofs.lemmas.List.{append-nil}
 use Rattle.std.proofs.lemmas.Option.{slice_get_within, get_or_from_slice_get}
 use Rattle.match_bodies.specs.Words.{Memory, Rsp, Instr, Context, kept_of, State, register, Instruction, BodyState, LinearBody, FuncletBody, Configuration, is_reserved, Layout, sizes, template, template_size, Agrees, IsBytes, Reaches, IsReturn, WalkGives, AllKeep, links_of, FindsReturn, counts_of, state_of, OwnerHasFrame, Setting, RepresentsAt}
 use Rattle.linear_code.specs.declared.instruction.Instruction.TheVariants as instructions
-use Rattle.template_code.proofs.Sizes.{offset_next}
+use Rattle.match_bodies.proofs.Lemmas.{offset_next, IsFlow, LabelsNear, body_most, labels_near}
 use Rattle.x64_templates.proofs.Bodies.{holds_same, changes_same}
-use Rattle.x64_templates.proofs.Flows.{IsFlow}
-use Rattle.x64_templates.proofs.InstructionRuns.{LabelsNear, body_most, labels_near}
 use Rattle.match_bodies.proofs.StackWalks.{callers, on_stack, keep_then}
 use Rattle.match_bodies.proofs.SilentTurns.{program_kept}
 use Rattle.match_bodies.proofs.BodyCallers.{begin_finds}

@@ -1,13 +1,10 @@
 -- Where an instruction begins, RIP is in its code: each template has a byte at least.
 use Rattle.std.proofs.Common.{◌≡◌, ℕ, suc, ◌+◌, ◌*◌, ◌%◌, ◌<◌, ◌≤◌, List, ◌++◌, length, get_or, Option, Some, None, ap, ◌∙◌, arith, length-append}
-use Rattle.match_bodies.specs.Words.{Width, Reg, Rax, Rcx, Rsp, RegisterOrMemory, Functions, Funclet, Slot, Local, Temporary, Instruction, LinearProgram, LinearBody, BodyName, body_of, Layout, size, sizes, before, fetched, local_at, fetch_local, keep_local, fetch, keep, operands_code, finish_code, epilogue, template_size, ImagePlan, InCode, Sites, IsProgramImage}
+use Rattle.match_bodies.specs.Words.{Width, Reg, Rax, Rcx, Rsp, RegisterOrMemory, Functions, Funclet, Slot, Local, Temporary, Instruction, LinearProgram, LinearBody, BodyName, body_of, Layout, size, sizes, before, fetched, local_at, fetch_local, keep_local, fetch, keep, operands_code, finish_code, epilogue, template_size, ImagePlan, InCode, Sites, IsProgramImage, prefixes, modrm_bits, opcode_bytes, place_bytes, modrm, put_back, finally_arguments}
 use Rattle.x64_encode.specs.declared.writing.Opcode.{Opcode}
 use Rattle.x64_encode.specs.declared.writing.Opcode.TheVariants as opcodes
-use Rattle.x64_encode.specs.Chosen.{prefixes, modrm_bits, opcode_bytes, place_bytes, modrm}
 use Rattle.linear_code.specs.declared.instruction.Instruction.TheVariants as instructions
-use Rattle.template_code.specs.Slots.{put_back}
-use Rattle.template_code.specs.Calls.{finally_arguments}
-use Rattle.template_code.proofs.Sizes.{sizes_append, call_size, jump_size, jump_if_zero_size, call_code_size, passing_call_size, offset_next}
+use Rattle.match_bodies.proofs.Lemmas.{sizes_append, call_size, jump_size, jump_if_zero_size, call_code_size, passing_call_size, offset_next}
 
 -- ---- bytes
 

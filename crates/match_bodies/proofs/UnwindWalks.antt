@@ -1,18 +1,14 @@
 -- Where an unwinding comes to, the walk gives the callers that were not entered below.
 use Rattle.std.proofs.Common.{◌≡◌, ℕ, ◌+◌, ◌<◌, ◌≤◌, Bool, true, false, Option, Some, None, List, [], ◌∷◌, length, sym, subst, ◌∙◌, arith}
 use Rattle.std.specs.Prelude.{nat_lt, nat_eq}
-use Rattle.match_bodies.specs.Words.{Memory, Context, context_of, rsp, Functions, distance, StackItem, Framed, Leaf, Searching, Unwinding, IsStack, after_frame, after_leaf, caller_frame, caller_of_leaf, state}
-use Rattle.virtual_unwind.specs.CallerOf.{CallerFrame}
+use Rattle.match_bodies.specs.Words.{Memory, Context, context_of, rsp, Functions, distance, StackItem, Framed, Leaf, Searching, Unwinding, IsStack, after_frame, after_leaf, caller_frame, caller_of_leaf, state, CallerFrame, decided_or, plain_unwind, drop_below}
 use Rattle.seh_walk.specs.declared.walk.WalkState.{WalkState}
 use Rattle.seh_walk.specs.Asked.{AskedRecord, first_finally, unwound}
 use Rattle.seh_unwind.specs.declared.unwind_result.UnwindResult.{UnwindResult}
 use Rattle.seh_unwind.specs.declared.unwind_result.UnwindResult.TheVariants.{Finally, Land, Stop}
 use Rattle.seh_unwind.specs.Unwind.{if_target, by_row, if_past, unwind}
-use Rattle.match_stack.specs.PlainWalks.{decided_or, plain_unwind}
-use Rattle.match_stack.proofs.ItemVisits.{set_head}
+use Rattle.match_bodies.proofs.Lemmas.{set_head, unique, none_below, one_below}
 use Rattle.match_stack.proofs.ListWalks.{unwinding_is_of_the_list}
-use Rattle.match_runs.specs.Shadow.{drop_below}
-use Rattle.match_runs.proofs.Shadows.{unique, none_below, one_below}
 use Rattle.match_bodies.proofs.StackWalks.{callers, on_stack, stack_rises}
 
 module _ (t : Functions) (m : Memory) where

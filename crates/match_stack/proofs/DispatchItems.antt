@@ -1,8 +1,7 @@
 -- A suspended search or unwinding is one item more.
 use Rattle.std.proofs.Common.{ℕ, ◌^◌, ◌<◌, List, ◌∷◌, refl, sym, subst, ◌∙◌, arith}
-use Rattle.match_stack.specs.Words.{Memory, with_bytes, Context, context_of, rsp, Functions, DispatchRecord, placed, filter_return, finally_return, Funclet, LinearProgram, Item, Searches, Unwinds, StackItem, Searching, Unwinding, context_below, ImagePlan, Activation, IsLinkedStack, On, RecordHasRoom}
+use Rattle.match_stack.specs.Words.{Memory, with_bytes, Context, context_of, rsp, Functions, DispatchRecord, placed, filter_return, finally_return, Funclet, LinearProgram, Item, Searches, Unwinds, StackItem, Searching, Unwinding, context_below, ImagePlan, Activation, IsLinkedStack, On, RecordHasRoom, RecordLeavesTheList, SearchIsOneMore, UnwindingIsOneMore}
 use Rattle.match_stack.proofs.ListKeeping.{misplaced_same, kept_by_stores_below}
-use Rattle.match_stack.specs.RecordLaws.{RecordLeavesTheList, SearchIsOneMore, UnwindingIsOneMore}
 use Rattle.match_stack.proofs.RecordMemory.{bytes, pushed_is, keeps_above, data_pushed, record_pushed, pointers_pushed, placed_keeps_above, data_placed}
 
 module _ (t : Functions) (fs : List Funclet) (program : LinearProgram) (p : ImagePlan) (m : Memory)

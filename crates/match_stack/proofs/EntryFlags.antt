@@ -1,8 +1,7 @@
 -- An entry's flags hide no record that would be asked.
 use Rattle.std.proofs.Common.{◌≡◌, ◌⊎◌, inl, inr, ℕ, zero, suc, ◌+◌, Bool, true, false, cond, Some, None, List, [], ◌∷◌, drop, refl, sym, ap, ◌∙◌}
-use Rattle.match_stack.specs.Words.{ScopeRecord, Info, Functions, AskedRecord, holding, rows_from, is_end, unwound, until, until_if, first_with_jump_target, first_finally, Funclet, LinearProgram, ImagePlan, IsFlagged}
-use Rattle.seh_walk.specs.Asked.{holds, is_searched, is_unwound, asked_by, searched}
-use Rattle.match_stack.specs.ImagePlan.{AllFinally, AllExcept}
+use Rattle.match_stack.specs.Words.{ScopeRecord, Info, Functions, AskedRecord, holding, rows_from, is_end, unwound, until, until_if, first_with_jump_target, first_finally, Funclet, LinearProgram, ImagePlan, IsFlagged, is_searched, is_unwound, asked_by, searched, AllFinally, AllExcept}
+use Rattle.seh_walk.specs.Asked.{holds}
 
 module _ (t : Functions) (fs : List Funclet) (program : LinearProgram) (p : ImagePlan) where
   finally_dropped : (row : ℕ) (xs : List ScopeRecord) → AllFinally t fs program p xs

@@ -2,10 +2,9 @@
 use Rattle.std.proofs.Common.{◌≡◌, ℕ, ◌+◌, ◌-◌, ◌*◌, ◌/◌, ◌%◌, ◌^◌, ◌<◌, ◌≤◌, false, Option, None, Ok, get_or, sym, ap, ◌∙◌, arith}
 use Rattle.std.specs.Prelude.{nat_lt, ◌&&◌}
 use Rattle.std.proofs.lemmas.Bool.{lt-ltb, le-leb}
-use Rattle.match_stack.specs.Words.{Memory, first_refused, may_read, number_at, with_number, access, word, readable, DispatchRecord, with_block, block_byte, placed, words, RECORD_SIZE}
+use Rattle.match_stack.specs.Words.{Memory, first_refused, may_read, number_at, with_number, access, word, readable, DispatchRecord, with_block, block_byte, placed, words, RECORD_SIZE, byte_of}
 use Rattle.flat_memory.specs.Memory.{distance}
-use Rattle.flat_memory.proofs.Stores.{among, stored_is_loaded}
-use Rattle.seh_records.specs.Words.{byte_of}
+use Rattle.match_stack.proofs.Lemmas.{among, stored_is_loaded}
 use Rattle.match_stack.proofs.MemoryReads.{number_same}
 
 module _ (m : Memory) (at : ℕ) (r : DispatchRecord) (top : at + RECORD_SIZE < 2 ^ 64) where

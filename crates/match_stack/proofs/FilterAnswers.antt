@@ -2,13 +2,9 @@
 use Rattle.std.proofs.Common.{◌≡◌, ◌⊎◌, inl, inr, ℕ, ◌%◌, ◌^◌, Bool, true, false, List, refl, ap, ◌∙◌, arith}
 use Rattle.std.specs.Prelude.{nat_eq, nat_lt, nat_le, not, ◌==◌, ℤ, pos, ◌-ℤ◌, if◌then◌else◌}
 use Rattle.std.proofs.lemmas.Bool.{leb-true, leb-false, le-ltb, lt-ltb}
-use Rattle.match_stack.specs.Words.{W32, low, context_of, State, register, rsp, Functions, DispatchRecord, Funclet, with_event, Exception, LinearProgram, Handler, Resumption, Configuration, Next, pick, noncontinuable, StackItem, ImagePlan, Activation}
+use Rattle.match_stack.specs.Words.{W32, low, context_of, State, register, rsp, Functions, DispatchRecord, Funclet, with_event, Exception, LinearProgram, Handler, Resumption, Configuration, Next, pick, noncontinuable, StackItem, ImagePlan, Activation, half, limit, signed, Rax, eax, filter_returned, if_searching, by_answer, by_sign, continued, accept, raise, resumed, SearchIsAnswered, AnswersAs}
 use Rattle.seh_num.specs.declared.event.Event.TheVariants as events
-use Rattle.seh_num.specs.Widths.{half, limit, signed}
-use Rattle.x64_instr.specs.declared.register.Reg.TheVariants.{Rax}
-use Rattle.host_model.specs.Dispatch.{eax, filter_returned, if_searching, by_answer, by_sign, continued}
-use Rattle.linear_machine.specs.Searching.{search, accept, raise, resumed}
-use Rattle.match_stack.specs.DispatchSteps.{SearchIsAnswered, AnswersAs}
+use Rattle.linear_machine.specs.Searching.{search}
 use Rattle.match_stack.specs.FilterReturns.{filter_turn, with_answer, answered, linear_answer, AsksTheNext, AskedTakesOver, ContinuesException, IsRaisedAnew, FilterReturns}
 use Rattle.match_stack.proofs.DispatchSteps.{answers_continue}
 

@@ -2,11 +2,9 @@
 use Rattle.std.proofs.Common.{◌≡◌, ◌⊎◌, inl, inr, ℕ, suc, ◌+◌, Bool, true, false, cond, Option, Some, None, List, [], ◌∷◌, drop, refl, ap, ◌∙◌, arith}
 use Rattle.std.specs.Prelude.{filter, ◌==◌, ◌++◌}
 use Rattle.std.specs.List.{AllByRecursion}
-use Rattle.match_stack.specs.Words.{ScopeRecord, Functions, distance, holding, first_with_jump_target, Funclet, row_before, Region, RegionKind, LinearProgram, BodyName, holds, handlers_in, ImagePlan, InCode, IsHandlerRow, IsOfKind, AreRegions, NoHandler, FirstHandler}
+use Rattle.match_stack.specs.Words.{ScopeRecord, Functions, distance, holding, first_with_jump_target, Funclet, row_before, Region, RegionKind, LinearProgram, BodyName, holds, handlers_in, ImagePlan, InCode, IsHandlerRow, IsOfKind, AreRegions, NoHandler, FirstHandler, handlers_of, SearchFindsTheHandlers}
 use Rattle.seh_walk.specs.Asked as rows
 use Rattle.linear_code.specs.declared.program.RegionKind.TheVariants as kinds
-use Rattle.linear_machine.specs.Regions.{handlers_of}
-use Rattle.match_stack.specs.ListLaws.{SearchFindsTheHandlers}
 use Rattle.match_stack.proofs.ScopeRows.{row_before_dropped, regions_dropped, dropped_again, all_dropped}
 
 module _ (t : Functions) (fs : List Funclet) (program : LinearProgram) (p : ImagePlan)

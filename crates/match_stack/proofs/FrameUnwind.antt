@@ -4,13 +4,9 @@ use Rattle.std.proofs.Common.{◌≡◌, ◌≢◌, ◌⊎◌, inl, inr, ℕ, su
 use Rattle.std.specs.Prelude.{filter, ◌==◌, ◌&&◌, ◌||◌}
 use Rattle.std.specs.List.{AllByRecursion}
 use Rattle.std.proofs.lemmas.Bool.{eq-eqb, ne_eqb}
-use Rattle.match_stack.specs.Words.{ScopeRecord, Functions, distance, AskedRecord, holding, is_end, until, first_finally, Funclet, row_before, Region, RegionKind, LinearProgram, Target, Waits, Unwinds, Store, Configuration, Seen, Next, pick, holds, left_store, unwind_body, ImagePlan, InCode, IsOfKind, AreRegions, NoBlock, Arrives, FirstBlock}
+use Rattle.match_stack.specs.Words.{ScopeRecord, Functions, distance, AskedRecord, holding, is_end, until, first_finally, Funclet, row_before, Region, RegionKind, LinearProgram, Target, Waits, Unwinds, Store, Configuration, Seen, Next, pick, holds, left_store, unwind_body, ImagePlan, InCode, IsOfKind, AreRegions, NoBlock, Arrives, FirstBlock, leads_to, stops, arrive, run_finally, leave_region, IsFinallyRow, target_rva, UnwindingRunsTheBlocks, UnwindingStopsAtTheTarget}
 use Rattle.seh_walk.specs.Asked as rows
 use Rattle.linear_code.specs.declared.program.RegionKind.TheVariants as kinds
-use Rattle.linear_machine.specs.Regions.{leads_to, stops}
-use Rattle.linear_machine.specs.Unwinding.{arrive, run_finally, leave_region}
-use Rattle.match_stack.specs.ImagePlan.{IsFinallyRow, target_rva}
-use Rattle.match_stack.specs.ListLaws.{UnwindingRunsTheBlocks, UnwindingStopsAtTheTarget}
 use Rattle.match_stack.proofs.ScopeRows.{row_before_dropped, regions_dropped, dropped_again, all_dropped}
 
 module _ (t : Functions) (fs : List Funclet) (program : LinearProgram) (p : ImagePlan)

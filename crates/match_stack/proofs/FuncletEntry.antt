@@ -4,13 +4,10 @@ use Rattle.std.specs.Prelude.{nat_eq, slice_index, slice_set}
 use Rattle.std.proofs.Math.ListN.{length-set}
 use Rattle.std.proofs.lemmas.List.{get_or-set_same, get_or-set_other}
 use Rattle.std.proofs.lemmas.Bool.{eqb-true, eqb-false}
-use Rattle.match_stack.specs.Words.{Memory, Rcx, Rsp, Context, context_of, State, register, rsp, word, Functions, DispatchRecord, placed, return_address_at, RecordFits, AllSmall, Funclet, entered, in_hand, LinearProgram, BodyName, Item, StackItem, Framed, Leaf, Searching, Unwinding, IsStack, after_frame, after_leaf, context_below, ImagePlan, Activation, Reaches, IsData, On, RecordHasRoom, pushed, IsWellFormed}
-use Rattle.x64_instr.specs.declared.register.Reg.TheVariants.{Rdx}
+use Rattle.match_stack.specs.Words.{Memory, Rcx, Rsp, Context, context_of, State, register, rsp, word, Functions, DispatchRecord, placed, return_address_at, RecordFits, AllSmall, Funclet, entered, in_hand, LinearProgram, BodyName, Item, StackItem, Framed, Leaf, Searching, Unwinding, IsStack, after_frame, after_leaf, context_below, ImagePlan, Activation, Reaches, IsData, On, RecordHasRoom, pushed, IsWellFormed, Rdx, IsFunclet, CanBeKept}
 use Rattle.match_stack.proofs.ItemVisits.{set_head}
-use Rattle.match_stack.specs.ImagePlan.{IsFunclet}
 use Rattle.match_stack.proofs.ListKeeping.{reaches_above}
 use Rattle.match_stack.proofs.RecordMemory.{IsPlace, place_of, bytes, pushed_is, keeps_above, word_pushed}
-use Rattle.match_stack.specs.HostSearch.{CanBeKept}
 use Rattle.match_stack.specs.DispatchStates.{Arrives}
 
 -- ---- registers

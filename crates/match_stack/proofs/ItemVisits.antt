@@ -2,15 +2,12 @@
 use Rattle.std.proofs.Common.{◌≡◌, ℕ, ◌+◌, ◌-◌, ◌%◌, ◌^◌, ◌<◌, ◌≤◌, true, Option, Some, None, Ok, List, [], ◌∷◌, length, refl, ap, ◌∙◌, arith}
 use Rattle.std.specs.Prelude.{nat_lt, nat_eq, not, slice_index, slice_set}
 use Rattle.std.proofs.lemmas.Bool.{lt-ltb}
-use Rattle.match_stack.specs.Words.{Memory, Instr, Context, context_of, Info, Entry, rsp, word, Functions, distance, fetched, RECORD_SIZE, WalkState, walk_in, filter_return, finally_return, StackFrame, FrameIsAt, LeafIsAt, after_frame, after_leaf, caller_frame, caller_of_leaf, state}
+use Rattle.match_stack.specs.Words.{Memory, Instr, Context, context_of, Info, Entry, rsp, word, Functions, distance, fetched, RECORD_SIZE, WalkState, walk_in, filter_return, finally_return, StackFrame, FrameIsAt, LeafIsAt, after_frame, after_leaf, caller_frame, caller_of_leaf, state, rsp_raised, Answer, popped, operations, CallerFrame, base_if, found, in_body, by_distance, past_prologue, of_entry, rising, risen, caller_in, visited, if_over, if_filter, framed, past_filter, past_finally, if_search, above, if_above, saved_in, FrameIsVisited, LeafIsVisited, SearchIsPassed, UnwindingIsPassed, StackIsOver}
 use Rattle.seh_num.specs.Answers.{◌>>=◌}
 use Rattle.eh_tables.specs.declared.code.UnwindCode.{UnwindCode}
 use Rattle.eh_tables.specs.declared.code.UnwindOperation.TheVariants.{Allocate}
-use Rattle.virtual_unwind.specs.Contexts.{rsp_raised}
-use Rattle.virtual_unwind.specs.Undone.{Answer, popped, operations}
-use Rattle.virtual_unwind.specs.CallerOf.{CallerFrame, base_if, unwound, found, in_body, by_distance, past_prologue, of_entry, rising, risen, caller_in}
-use Rattle.seh_walk.specs.Walk.{visited, if_over, if_filter, if_finally, framed, past_filter, past_finally, if_search, above, if_above, saved_in}
-use Rattle.match_stack.specs.WalkLaws.{FrameIsVisited, LeafIsVisited, SearchIsPassed, UnwindingIsPassed, StackIsOver}
+use Rattle.virtual_unwind.specs.CallerOf.{unwound}
+use Rattle.seh_walk.specs.Walk.{if_finally}
 
 pub set_head : (kept : List ℕ) (v : ℕ) → 0 < length kept → slice_index (slice_set kept 0 v) 0 ≡ v
 set_head [] v lt = absurd (omega arith)

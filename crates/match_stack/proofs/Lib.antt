@@ -1,3 +1,4 @@
+mod Lemmas
 pub mod ItemVisits
 pub mod MemoryReads
 pub mod StackKeeping

@@ -3,12 +3,9 @@
 use Rattle.std.proofs.Common.{◌≡◌, ℕ, ◌+◌, ◌^◌, ◌<◌, ◌≤◌, Bool, true, false, cond, Option, Some, Ok, List, refl, sym, ap, ◌∙◌, arith}
 use Rattle.std.specs.Prelude.{nat_lt}
 use Rattle.std.proofs.lemmas.Bool.{ltb-false}
-use Rattle.match_stack.specs.Words.{STACK_START, STACK_END, Protection, is_readable, Memory, with_bytes, first_refused, may_read, may_write, rsp, word, Functions, misplaced, return_address_at, RECORD_SIZE, PLACED_SIZE, Funclet, LinearProgram, BodyName, FunctionBody, FuncletBody, ImagePlan, Activation, Reaches, KeepsAbove}
-use Rattle.flat_memory.specs.Protections.{is_writable}
-use Rattle.seh_records.proofs.Unmoved.{fetched_by_its_bytes}
+use Rattle.match_stack.specs.Words.{STACK_START, STACK_END, Protection, is_readable, Memory, with_bytes, first_refused, may_read, may_write, rsp, word, Functions, misplaced, return_address_at, RECORD_SIZE, PLACED_SIZE, Funclet, LinearProgram, BodyName, FunctionBody, FuncletBody, ImagePlan, Activation, Reaches, KeepsAbove, is_writable, Leads, KeptByStoresBelow, KeptByOtherMemories}
+use Rattle.match_stack.proofs.Lemmas.{fetched_by_its_bytes}
 use Rattle.match_stack.proofs.MemoryReads.{SameCode, tail_at_same, refused_same, word_kept, word_same}
-use Rattle.match_stack.specs.ItemMatches.{Leads}
-use Rattle.match_stack.specs.ListLaws.{KeptByStoresBelow, KeptByOtherMemories}
 use Rattle.match_stack.proofs.ListMemories.{ReadsSame, list_kept}
 
 -- ---- stores below the stack pointer

@@ -1,12 +1,10 @@
 -- Searches and unwindings over a stack are those of its list.
 use Rattle.std.proofs.Common.{◌≡◌, ℕ, zero, suc, Bool, true, false, Option, Some, None, [], ◌∷◌, refl, ap, ◌∙◌, arith}
 use Rattle.std.specs.Prelude.{nat_lt, nat_eq}
-use Rattle.match_stack.specs.Words.{Context, context_of, rsp, Functions, distance, WalkState, AskedRecord, unwound, first_finally, SearchResult, search, UnwindResult, unwind, if_past, by_row, if_target, StackFrame, Framed, Leaf, Searching, Unwinding, after_frame, after_leaf, caller_frame, caller_of_leaf, state, chosen_or, asked_row, plain_search, decided_or, plain_unwind}
+use Rattle.match_stack.specs.Words.{Context, context_of, rsp, Functions, distance, WalkState, AskedRecord, unwound, first_finally, SearchResult, search, UnwindResult, unwind, if_past, by_row, if_target, StackFrame, Framed, Leaf, Searching, Unwinding, after_frame, after_leaf, caller_frame, caller_of_leaf, state, chosen_or, asked_row, plain_search, decided_or, plain_unwind, continue_walk, SearchIsOfTheList, UnwindingIsOfTheList}
 use Rattle.seh_walk.specs.Walk as walk
-use Rattle.seh_walk.specs.Walk.{continue_walk}
 use Rattle.seh_search.specs.Search as searches
 use Rattle.seh_unwind.specs.Unwind as unwinds
-use Rattle.match_stack.specs.WalkLaws.{SearchIsOfTheList, UnwindingIsOfTheList}
 use Rattle.match_stack.proofs.ItemVisits.{frame_is_visited, leaf_is_visited, search_is_passed, unwinding_is_passed, stack_is_over}
 
 -- ---- searches

@@ -2,19 +2,13 @@
 use Rattle.std.proofs.Common.{◌≡◌, ◌⊎◌, inl, inr, ℕ, ◌+◌, ◌-◌, ◌*◌, ◌/◌, ◌%◌, ◌^◌, ◌<◌, ◌≤◌, Bool, true, false, cond, Option, Some, None, Ok, refl, sym, ap, subst, ◌∙◌, arith}
 use Rattle.std.specs.Prelude.{nat_lt, nat_le, ◌&&◌}
 use Rattle.std.proofs.lemmas.Bool.{cases_lt, ltb-false}
-use Rattle.match_stack.specs.Words.{STACK_START, STACK_END, Memory, with_bytes, first_refused, may_read, may_write, with_number, number_at, access, word, readable, DispatchRecord, with_block, block_byte, misplaced, placed, fetched, return_address_at, words, RECORD_SIZE, PLACED_SIZE, KeepsAbove, IsData, RecordHasRoom, pushed}
-use Rattle.flat_memory.specs.Memory.{is_among, distance, unless_refused}
+use Rattle.match_stack.specs.Words.{STACK_START, STACK_END, Memory, with_bytes, first_refused, may_read, may_write, with_number, number_at, access, word, readable, DispatchRecord, with_block, block_byte, misplaced, placed, fetched, return_address_at, words, RECORD_SIZE, PLACED_SIZE, KeepsAbove, IsData, RecordHasRoom, pushed, is_among, unless_refused, AreBytes, IsUntouched, PushedRecordLeavesOthers, ReturnAddressIsPushed}
+use Rattle.flat_memory.specs.Memory.{distance}
 use Rattle.flat_memory.specs.Laws.{IsApart}
-use Rattle.flat_memory.proofs.Stores.{untouched, stored_is_loaded, writable_is_readable}
-use Rattle.seh_records.specs.Laws.{AreBytes}
-use Rattle.seh_records.proofs.Runs.{none_front, none_within}
+use Rattle.match_stack.proofs.Lemmas.{untouched, stored_is_loaded, writable_is_readable, none_front, none_within, placed_is_fetched, placing_leaves_others, fetched_by_its_bytes}
 use Rattle.seh_records.proofs.Places.{writable}
-use Rattle.seh_records.proofs.Placed.{placed_is_fetched, placing_leaves_others}
-use Rattle.seh_records.proofs.Unmoved.{fetched_by_its_bytes}
 use Rattle.match_stack.proofs.MemoryReads.{word_kept}
 use Rattle.match_stack.proofs.ExceptionPointers.{placed_points}
-use Rattle.match_stack.specs.StackRecords.{IsUntouched}
-use Rattle.match_stack.specs.RecordLaws.{PushedRecordLeavesOthers, ReturnAddressIsPushed}
 
 -- where a record may be placed
 pub record IsPlace (at : ℕ) : Type 0 where

@@ -1,11 +1,8 @@
 -- A record that is placed below a stack is one item more.
 use Rattle.std.proofs.Common.{◌≡◌, ◌⊎◌, ℕ, ◌+◌, ◌%◌, ◌^◌, ◌<◌, ◌≤◌, Bool, true, false, List, refl, sym, ap, ◌∙◌, arith, inl, inr}
 use Rattle.std.proofs.lemmas.Bool.{cases_lt}
-use Rattle.match_stack.specs.Words.{Memory, first_refused, may_read, Context, context_of, rsp, Functions, DispatchRecord, placed, RECORD_SIZE, is_search, filter_return, finally_return, StackItem, IsStack, IsBetween, RecordIsAt, context_below}
-use Rattle.seh_records.proofs.Runs.{none_within}
-use Rattle.seh_records.proofs.Placed.{placed_is_fetched, placing_leaves_others}
-use Rattle.match_stack.specs.Stack.{Owned}
-use Rattle.match_stack.specs.WalkLaws.{CanBePlaced, RecordIsOneMore}
+use Rattle.match_stack.specs.Words.{Memory, first_refused, may_read, Context, context_of, rsp, Functions, DispatchRecord, placed, RECORD_SIZE, is_search, filter_return, finally_return, StackItem, IsStack, IsBetween, RecordIsAt, context_below, Owned, CanBePlaced, RecordIsOneMore}
+use Rattle.match_stack.proofs.Lemmas.{none_within, placed_is_fetched, placing_leaves_others}
 use Rattle.match_stack.proofs.ExceptionPointers.{placed_points}
 use Rattle.match_stack.proofs.StackKeeping.{kept_by_other_stores, nothing_below_is_owned}
 

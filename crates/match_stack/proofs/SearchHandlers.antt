@@ -2,15 +2,10 @@
 use Rattle.std.proofs.Common.{◌≡◌, ◌⊎◌, inl, inr, ℕ, suc, ◌+◌, ◌%◌, ◌^◌, ◌<◌, ◌≤◌, Option, Some, None, List, [], ◌∷◌, ◌++◌, length, refl, sym, ap, subst, ◌∙◌, arith}
 use Rattle.std.specs.Prelude.{filter, drop}
 use Rattle.std.proofs.Math.Seq.{drop-nil}
-use Rattle.match_stack.specs.Words.{Memory, Context, context_of, ScopeRecord, Entry, rsp, Functions, distance, rows_from, first_with_jump_target, SearchResult, search, Funclet, row_before, Region, LinearProgram, BodyName, FunctionBody, FuncletBody, body_of, Frame, Handler, Item, Waits, Searches, Unwinds, holds, regions_of, handlers_in, handlers, StackFrame, StackItem, Framed, Leaf, Searching, Unwinding, FrameIsAt, LeafIsAt, IsStack, after_frame, after_leaf, state, asked_row, chosen_or, plain_search, ImagePlan, AreRegions, IsFlagged, IsHandlerRow, Gives, Activation, activations_below, HasActivation, Reaches, FrameWaits, LeafWaits, regions_from, IsAtRow, Onward, Aimed, Linked, NoHandler, FirstHandler, left_from, IsWide, FindsHandler, SearchedAs}
+use Rattle.match_stack.specs.Words.{Memory, Context, context_of, ScopeRecord, Entry, rsp, Functions, distance, rows_from, first_with_jump_target, SearchResult, search, Funclet, row_before, Region, LinearProgram, BodyName, FunctionBody, FuncletBody, body_of, Frame, Handler, Item, Waits, Searches, Unwinds, holds, regions_of, handlers_in, handlers, StackFrame, StackItem, Framed, Leaf, Searching, Unwinding, FrameIsAt, LeafIsAt, IsStack, after_frame, after_leaf, state, asked_row, chosen_or, plain_search, ImagePlan, AreRegions, IsFlagged, IsHandlerRow, Gives, Activation, activations_below, HasActivation, Reaches, FrameWaits, LeafWaits, regions_from, IsAtRow, Onward, Aimed, Linked, NoHandler, FirstHandler, left_from, IsWide, FindsHandler, SearchedAs, by_handler, chosen, rows_of, IsEntryOf, IsGiven, IsActivation, IsInstruction}
 use Rattle.seh_search.specs.declared.search_result.SearchResult.TheVariants as searches
-use Rattle.seh_search.specs.Search.{by_handler, chosen}
-use Rattle.host_model.specs.Dispatch.{rows_of}
 use Rattle.match_stack.proofs.StackKeeping.{rises}
 use Rattle.match_stack.proofs.ListWalks.{search_is_of_the_list}
-use Rattle.match_stack.specs.ImagePlan.{IsEntryOf, IsGiven}
-use Rattle.match_stack.specs.ItemMatches.{IsActivation}
-use Rattle.match_stack.specs.ListLaws.{IsInstruction}
 use Rattle.match_stack.proofs.ScopeRows.{row_before_short}
 use Rattle.match_stack.proofs.FrameSearch.{search_finds_the_handlers}
 use Rattle.match_stack.specs.SearchLaws.{SearchIsTheLists, SearchContinues}

@@ -1,18 +1,13 @@
 -- A turn that searches does what linear code's search does.
 use Rattle.std.proofs.Common.{◌≡◌, ◌⊎◌, inl, inr, ℕ, ◌+◌, ◌%◌, ◌^◌, ◌<◌, ◌≤◌, true, Option, Some, None, List, [], ◌∷◌, refl, sym, ap, ◌∙◌, arith}
-use Rattle.match_stack.specs.Words.{Code, Rcx, Rsp, Cpu, context_of, State, register, rsp, Functions, DispatchRecord, return_address_at, RecordFits, is_search, filter_return, walk_in, steps, SearchResult, search, Funclet, Turn, Continues, arrived, in_hand, if_placed, entered, Exception, LinearProgram, Handler, Resumption, Item, Waits, Searches, Configuration, StackItem, Searching, ImagePlan, Activation, RecordHasRoom, FindsHandler, SearchedAs, IsWellFormed}
+use Rattle.match_stack.specs.Words.{Code, Rcx, Rsp, Cpu, context_of, State, register, rsp, Functions, DispatchRecord, return_address_at, RecordFits, is_search, filter_return, walk_in, steps, SearchResult, search, Funclet, Turn, Continues, arrived, in_hand, if_placed, entered, Exception, LinearProgram, Handler, Resumption, Item, Waits, Searches, Configuration, StackItem, Searching, ImagePlan, Activation, RecordHasRoom, FindsHandler, SearchedAs, IsWellFormed, Ends, after_search, consult, Asks, Accepts, IsSearching, SearchTurns}
 use Rattle.seh_num.specs.declared.end.RunEnd.TheVariants as ends
-use Rattle.host_model.specs.Turns.{Ends}
-use Rattle.host_model.specs.Dispatch.{after_search}
-use Rattle.linear_machine.specs.Searching.{consult}
 use Rattle.match_stack.proofs.ListEnds.{in_stack}
 use Rattle.match_stack.proofs.RecordMemory.{IsPlace, place_of, pushed_record_leaves_others}
 use Rattle.match_stack.proofs.DispatchItems.{search_is_one_more}
-use Rattle.match_stack.specs.HostSearch.{Asks, Accepts}
 use Rattle.match_stack.proofs.ContextWidths.{wide_saved}
 use Rattle.match_stack.proofs.SearchHandlers.{search_continues}
 use Rattle.match_stack.specs.SearchOutcomes.{FilterBegins, TakesOver, NobodyTakesOver}
-use Rattle.match_stack.specs.TurnLaws.{IsSearching, SearchTurns}
 use Rattle.match_stack.proofs.FuncletEntry.{with_record, fits_in_hand, few_items, entered_stack, entered_first, arrives}
 
 module _ (t : Functions) (fs : List Funclet) (program : LinearProgram) (p : ImagePlan) (s : State)

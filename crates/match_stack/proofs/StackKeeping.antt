@@ -1,9 +1,7 @@
 -- A stack outlives what changes none of its bytes.
 use Rattle.std.proofs.Common.{◌≡◌, ℕ, ◌+◌, ◌<◌, ◌≤◌, Bool, true, false, List, [], ◌∷◌, ◌++◌, refl, ◌∙◌, arith, inl, inr}
-use Rattle.match_stack.specs.Words.{Memory, with_bytes, Context, context_of, rsp, Functions, DispatchRecord, RECORD_SIZE, filter_return, finally_return, StackItem, Framed, Leaf, Searching, Unwinding, RecordIsAt, IsStack, IsBetween, after_frame}
-use Rattle.seh_records.proofs.Unmoved.{fetched_by_its_bytes}
-use Rattle.match_stack.specs.Stack.{ItemIsAt, OwnedBy, context_after, context_at}
-use Rattle.match_stack.specs.WalkLaws.{KeptByOtherStores, NothingBelowIsOwned, SlotsAreFree}
+use Rattle.match_stack.specs.Words.{Memory, with_bytes, Context, context_of, rsp, Functions, DispatchRecord, RECORD_SIZE, filter_return, finally_return, StackItem, Framed, Leaf, Searching, Unwinding, RecordIsAt, IsStack, IsBetween, after_frame, ItemIsAt, OwnedBy, context_after, context_at, KeptByOtherStores, NothingBelowIsOwned, SlotsAreFree}
+use Rattle.match_stack.proofs.Lemmas.{fetched_by_its_bytes}
 use Rattle.match_stack.proofs.ItemVisits.{set_head}
 use Rattle.match_stack.proofs.MemoryReads.{tail_at_same, word_same}
 

@@ -3,19 +3,16 @@ use Rattle.std.proofs.Common.{◌≡◌, ◌≢◌, ◌⊎◌, inl, inr, ℕ, su
 use Rattle.std.specs.Prelude.{nat_eq}
 use Rattle.std.proofs.lemmas.Bool.{le-ltb, eq-eqb, ne_eqb}
 use Rattle.std.proofs.lemmas.List.{take_at}
-use Rattle.match_stack.specs.Words.{Event, Memory, Context, context_of, rsp, Functions, distance, AskedRecord, rows_from, unwound, until, until_if, first_finally, UnwindResult, if_past, if_target, by_row, Funclet, arrivals, row_before, Layout, Region, LinearProgram, BodyName, FunctionBody, FuncletBody, body_of, Frame, Target, Item, Waits, Searches, Unwinds, Store, Seen, Next, pick, regions_of, left_store, unwind_body, StackFrame, StackItem, Framed, Leaf, Searching, Unwinding, FrameIsAt, LeafIsAt, IsStack, after_frame, after_leaf, caller_frame, caller_of_leaf, state, decided_or, plain_unwind, ImagePlan, Gives, Activation, activations_below, HasActivation, FrameWaits, LeafWaits, regions_from, IsAtRow, Aimed, Linked, NoBlock, Arrives, FirstBlock, left_from, IsWide, store_of, Course, RunsBlock, UnwoundAs}
+use Rattle.match_stack.specs.Words.{Event, Memory, Context, context_of, rsp, Functions, distance, AskedRecord, rows_from, unwound, until, until_if, first_finally, UnwindResult, if_past, if_target, by_row, Funclet, arrivals, row_before, Layout, Region, LinearProgram, BodyName, FunctionBody, FuncletBody, body_of, Frame, Target, Item, Waits, Searches, Unwinds, Store, Seen, Next, pick, regions_of, left_store, unwind_body, StackFrame, StackItem, Framed, Leaf, Searching, Unwinding, FrameIsAt, LeafIsAt, IsStack, after_frame, after_leaf, caller_frame, caller_of_leaf, state, decided_or, plain_unwind, ImagePlan, Gives, Activation, activations_below, HasActivation, FrameWaits, LeafWaits, regions_from, IsAtRow, Aimed, Linked, NoBlock, Arrives, FirstBlock, left_from, IsWide, store_of, Course, RunsBlock, UnwoundAs, target_past, locals_of, IsAbove, AimedHere, on_top}
 use Rattle.seh_unwind.specs.declared.unwind_result.UnwindResult.TheVariants as unwinds
 use Rattle.linear_machine.specs.Unwinding as linear
-use Rattle.linear_machine.specs.Unwinding.{target_past}
 use Rattle.match_stack.proofs.StackKeeping.{rises}
 use Rattle.match_stack.proofs.ListWalks.{unwinding_is_of_the_list}
-use Rattle.match_stack.specs.ItemMatches.{locals_of, IsAbove, AimedHere}
 use Rattle.match_stack.proofs.ScopeRows.{row_before_short}
 use Rattle.match_stack.proofs.FrameUnwind.{unwinding_runs_the_blocks, unwinding_stops_at_the_target}
 use Rattle.match_stack.proofs.ContextWidths.{wide_after, wide_after_leaf, wide_saved, wide_walk}
 use Rattle.match_stack.proofs.EntryFlags.{unwound_all}
 use Rattle.match_stack.proofs.SearchHandlers.{at_first_row, none_from, body_reaches, entry_of_body, flags_of_body, few_of_body, instruction_of_body}
-use Rattle.match_stack.specs.HostUnwind.{on_top}
 use Rattle.match_stack.specs.UnwindLaws.{UnwindingIsTheLists}
 
 -- the locals that are left are those of the activations below

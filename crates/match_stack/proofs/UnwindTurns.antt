@@ -1,19 +1,15 @@
 -- A turn that unwinds does what linear code's unwinding does.
 use Rattle.std.proofs.Common.{◌≡◌, ◌⊎◌, inl, inr, ℕ, zero, suc, ◌+◌, ◌^◌, ◌<◌, ◌≤◌, Option, Some, None, List, [], ◌∷◌, ◌++◌, length, refl, sym, ap, subst, ◌∙◌, arith}
 use Rattle.std.specs.Prelude.{not, ◌==◌, slice_index}
-use Rattle.match_stack.specs.Words.{W32, Code, Event, low, Context, State, rsp, Functions, distance, DispatchRecord, RecordFits, AllSmall, finally_return, walk_in, steps, UnwindResult, unwind, Funclet, Turn, Continues, arrivals, arrived, in_hand, if_placed, entered, unwinds_on, LinearProgram, Waits, Unwinds, Seen, Next, StackItem, Unwinding, ImagePlan, HasSpace, below_end, record_room, RecordHasRoom, IsWide, store_of, Course, RunsBlock, UnwoundAs, IsWellFormed}
+use Rattle.match_stack.specs.Words.{W32, Code, Event, low, Context, State, rsp, Functions, distance, DispatchRecord, RecordFits, AllSmall, finally_return, walk_in, steps, UnwindResult, unwind, Funclet, Turn, Continues, arrivals, arrived, in_hand, if_placed, entered, unwinds_on, LinearProgram, Waits, Unwinds, Seen, Next, StackItem, Unwinding, ImagePlan, HasSpace, below_end, record_room, RecordHasRoom, IsWide, store_of, Course, RunsBlock, UnwoundAs, IsWellFormed, landed, at_landing, by_purpose, after_unwind, HasPurpose, Lands, IsUnwinding, UnwindTurns}
 use Rattle.seh_num.specs.declared.event.Event.TheVariants as events
-use Rattle.host_model.specs.Dispatch.{landed, at_landing, by_purpose, after_unwind}
 use Rattle.linear_machine.specs.Unwinding as linear
-use Rattle.match_stack.specs.ItemMatches.{HasPurpose}
 use Rattle.match_stack.proofs.ListEnds.{in_stack}
 use Rattle.match_stack.proofs.RecordMemory.{pushed_record_leaves_others}
 use Rattle.match_stack.proofs.DispatchItems.{unwinding_is_one_more}
 use Rattle.match_stack.proofs.ContextWidths.{wide_walk}
-use Rattle.match_stack.specs.HostUnwind.{Lands}
 use Rattle.match_stack.proofs.UnwindBlocks.{unwinding_is_the_lists}
 use Rattle.match_stack.specs.UnwindOutcomes.{landing_value, landing_events, Unwound, BlockBegins, LandsThere}
-use Rattle.match_stack.specs.TurnLaws.{IsUnwinding, UnwindTurns}
 use Rattle.match_stack.proofs.FuncletEntry.{with_record, fits_in_hand, few_items, entered_first, entered_frame, arrives}
 use Rattle.match_stack.proofs.DispatchSteps.{none_small}
 

@@ -2,13 +2,10 @@
 use Rattle.std.proofs.Common.{◌≡◌, ℕ, ◌/◌, ◌<◌, ◌≤◌, Bool, true, false, cond, leb, ltb, ℤ, Option, Some, None, refl, sym, ap, ◌∙◌, arith, inl, inr}
 use Rattle.std.specs.Prelude.{◌⊎◌, nat_eq}
 use Rattle.std.proofs.lemmas.Bool.{and_parts, and_from, leb-true, ltb-true, eqb-true, ne_eqb, le-leb, lt-ltb, cases_lt}
-use Rattle.match_turns.specs.Words.{Protection, is_writable, Memory, may_write, rights_asked, protected, is_reserved, Agrees, KeepsStack, Setting, IsMachineMemory}
-use Rattle.host_layout.specs.declared.range.TheConstants.{ARENA_START, ARENA_END}
+use Rattle.match_turns.specs.Words.{Protection, is_writable, Memory, may_write, rights_asked, protected, is_reserved, Agrees, KeepsStack, Setting, IsMachineMemory, ARENA_START, ARENA_END, rights_numbered, with_rights}
 use Rattle.host_layout.specs.Ranges.{in_arena}
 use Rattle.flat_memory.specs.declared.protection.Rights.{Rights}
-use Rattle.flat_memory.specs.Protections.{rights_numbered}
-use Rattle.flat_memory.specs.Memory.{with_rights}
-use Rattle.match_bodies.proofs.ProgramKeeping.{program_stays}
+use Rattle.match_turns.proofs.Lemmas.{program_stays}
 
 -- what a change of rights leaves
 record KeepsRest (m m' : Memory) : Type 0 where

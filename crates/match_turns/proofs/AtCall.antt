@@ -3,7 +3,7 @@ use Rattle.std.proofs.Common.{◌≡◌, ◌≢◌, ℕ, ◌+◌, ◌<◌, ◌�
 use Rattle.std.specs.Prelude.{slice_get}
 use Rattle.match_turns.specs.Words.{State, LinearFunction, Configuration, HaveRoom, Setting, RepresentsAt}
 use Rattle.linear_code.specs.declared.instruction.Instruction.TheVariants as instructions
-use Rattle.match_bodies.proofs.BodyViews.{IsCounted}
+use Rattle.match_turns.proofs.Lemmas.{IsCounted}
 
 -- the instruction of a call begins: linear code, the machine beside it, and the callee
 pub record AtCall (setting : Setting) : Type 0 where

@@ -1,11 +1,10 @@
 -- A body continues wherever an exception of it is continued: after its call, or at the same
 -- operation.
 use Rattle.std.proofs.Common.{ℕ, List, inl}
-use Rattle.match_turns.specs.Words.{State, Functions, Funclet, LinearProgram, AfterCall, SameOperation, Configuration, ImagePlan, LeadsTo, Sites}
+use Rattle.match_turns.specs.Words.{State, Functions, Funclet, LinearProgram, AfterCall, SameOperation, Configuration, ImagePlan, LeadsTo, Sites, BodiesContinue}
 use Rattle.match_bodies.specs.Bodies.{RepresentsAt}
 use Rattle.match_turns.specs.DispatchOutcome.{Represents}
 use Rattle.match_turns.proofs.OperationSteps.{continuations}
-use Rattle.match_turns.specs.RaiseLaws.{BodiesContinue}
 use Rattle.match_turns.proofs.RaiseContinuation.{continuations_after_calls}
 
 begun_represents : (t : Functions) (fs : List Funclet) (program : LinearProgram) (p : ImagePlan)

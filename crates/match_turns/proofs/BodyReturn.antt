@@ -2,21 +2,11 @@
 use Rattle.std.proofs.Common.{◌≡◌, ℕ, zero, suc, ◌+◌, ◌≤◌, true, Option, Some, None, length, refl, sym, subst, ◌∙◌, arith, length-append}
 use Rattle.std.specs.Prelude.{slice_get}
 use Rattle.std.proofs.lemmas.List.{length-drop}
-use Rattle.match_turns.specs.Words.{Rax, Rsp, State, register, Slot, Local, Temporary, IsSlot, Configuration, read, Layout, return_code, fetch, local_at, MachineView, machine, HasBack, with_sp, moved, Returned, Reaches, HaveRoom, IsWellFormed, AllKeep, counts_of, Setting, RepresentsAt}
+use Rattle.match_turns.specs.Words.{Rax, Rsp, State, register, Slot, Local, Temporary, IsSlot, Configuration, read, Layout, return_code, fetch, local_at, MachineView, machine, HasBack, with_sp, moved, Returned, Reaches, HaveRoom, IsWellFormed, AllKeep, counts_of, Setting, RepresentsAt, epilogue, fetch_local}
 use Rattle.linear_code.specs.declared.instruction.Instruction.TheVariants as instructions
-use Rattle.template_code.specs.Calls.{epilogue}
-use Rattle.template_code.specs.Slots.{fetch_local}
-use Rattle.x64_templates.proofs.Entries.{number_small}
-use Rattle.x64_templates.proofs.Encoded.{fetch_fine}
-use Rattle.x64_templates.proofs.Returns.{sp_moved, return_run}
-use Rattle.match_bodies.proofs.InstructionEffects.{others_of}
-use Rattle.match_bodies.proofs.RoutineWalks.{reaches_steps}
+use Rattle.match_turns.proofs.Lemmas.{number_small, fetch_fine, sp_moved, return_run, others_of, reaches_steps, may_read_written, word_is, reaches_keeps, stays_well_formed, IsCounted, sp_low, frame_top, room_here, holds_here, slots_here, v, frame, slots, same_state, template_here, has_slots, sp_is, index_of}
 use Rattle.match_bodies.proofs.ReturnKeeping.{fetch_plain, returns_keep}
 use Rattle.match_turns.proofs.ReturnAddressPlace.{top_of, begins_beneath}
-use Rattle.match_bodies.proofs.StackWords.{may_read_written, word_is}
-use Rattle.match_bodies.proofs.ChainKeeping.{reaches_keeps, stays_well_formed}
-use Rattle.match_bodies.proofs.BodyViews.{IsCounted, sp_low, frame_top, room_here, holds_here, slots_here}
-use Rattle.match_bodies.proofs.TemplateRuns.{v, frame, slots, same_state, template_here, has_slots, sp_is, index_of}
 
 -- ---- how long a return takes
 

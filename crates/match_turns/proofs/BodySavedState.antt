@@ -2,10 +2,9 @@
 -- and RIP at the instruction or, where a call is the last of its code, at the next one.
 use Rattle.std.proofs.Common.{◌≡◌, ℕ, zero, suc, ◌+◌, ◌^◌, ◌<◌, ◌≤◌, List, [], ◌∷◌, length, Option, Some, None, Ok, sym, subst, arith}
 use Rattle.std.specs.Prelude.{slice_get, take}
-use Rattle.match_turns.specs.Words.{STACK_END, Memory, Rsp, Cpu, State, register, word, Functions, Funclet, Layout, LinearProgram, LinearFunclet, BodyName, FunctionBody, FuncletBody, body_of, Frame, Item, Waits, Searches, Unwinds, Configuration, context_below, ImagePlan, InCode, activations_below, home_end, below_end, HoldsWords, HasActivation, HasSpace, SameRegions, HasPointers, FuncletIsAbove, IsAbove, On, Sites, slots_end, last_temporary}
-use Rattle.linear_machine.specs.Frames.{with_last}
+use Rattle.match_turns.specs.Words.{STACK_END, Memory, Rsp, Cpu, State, register, word, Functions, Funclet, Layout, LinearProgram, LinearFunclet, BodyName, FunctionBody, FuncletBody, body_of, Frame, Item, Waits, Searches, Unwinds, Configuration, context_below, ImagePlan, InCode, activations_below, home_end, below_end, HoldsWords, HasActivation, HasSpace, SameRegions, HasPointers, FuncletIsAbove, IsAbove, On, Sites, slots_end, last_temporary, with_last}
 use Rattle.match_bodies.specs.Bodies.{InBody, RepresentsAt}
-use Rattle.match_bodies.proofs.BodyResumption.{IsFront}
+use Rattle.match_turns.proofs.Lemmas.{IsFront}
 
 -- the first of some words
 pub first_words : (m : Memory) (vs : List ℕ) (n : ℕ) → IsFront m vs (take n vs)

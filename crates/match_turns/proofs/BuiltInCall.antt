@@ -1,15 +1,10 @@
 -- A built-in function is called: RAX is cleared, the arguments are passed, and the thunk leads to
 -- the service.
 use Rattle.std.proofs.Common.{◌≡◌, ℕ, ◌+◌, ◌≤◌, [], ◌∷◌, refl, ap, subst, arith}
-use Rattle.match_turns.specs.Words.{opcode_register, Flags, Temporary, BodyState, size, sizes, keep, IsNear, return_at, begin_call, call_code, clear_result, MachineView, machine, sp_of, with_four, pushed, HasBelow, Reaches, HasCode, FramePlace, Roomy, FrameHolds}
-use Rattle.x64_machine.specs.Effect.{effect}
-use Rattle.template_code.specs.Calls.{call_built_in_code}
+use Rattle.match_turns.specs.Words.{opcode_register, Flags, Temporary, BodyState, size, sizes, keep, IsNear, return_at, begin_call, call_code, clear_result, MachineView, machine, sp_of, with_four, pushed, HasBelow, Reaches, HasCode, FramePlace, Roomy, FrameHolds, effect, call_built_in_code}
 use Rattle.x64_templates.specs.Thunks.{HasThunk}
-use Rattle.x64_templates.proofs.PlacedCode.{reaches_then}
-use Rattle.x64_templates.proofs.Computes.{code_split}
+use Rattle.match_turns.proofs.Lemmas.{reaches_then, code_split, call_begins, thunk_reaches, pushed_thunk}
 use Rattle.x64_templates.proofs.Jumps.{one_reaches}
-use Rattle.x64_templates.proofs.Calls.{call_begins}
-use Rattle.x64_templates.proofs.Services.{thunk_reaches, pushed_thunk}
 
 abbrev pub cleared : MachineView → MachineView
 cleared v = record { rax = 0; rcx = v.rcx; rdx = v.rdx; rest = v.rest; memory = v.memory }

@@ -5,14 +5,7 @@ use Rattle.std.specs.Prelude.{◌==◌, false, slice_get, take}
 use Rattle.match_turns.specs.Words.{W64, loaded, IMAGE_BASE, IMAGE_RANGE_END, STACK_START, STACK_END, address_of, Rsp, Instr, opcode_register, Cpu, State, register, BuiltIn, Put, Protect, RaiseException, Temporary, BodyState, LinearBody, Configuration, regions_of, body_of, waiting, instruction_at, Layout, size, sizes, put_back, keep, temporary_at, call, IsNear, arguments_code, return_at, begin_call, clear_result, template, template_size, MachineView, machine, pushed, Reaches, HasCode, KeepsAbove, IsWellFormed, IsLive, Comes, links_of, service_of, IsWellMade, IsKnown, Setting, InBody, IsMachineMemory, IsResumed, RepresentsAt}
 use Rattle.std.proofs.lemmas.List.{length-drop}
 use Rattle.linear_code.specs.declared.instruction.Instruction.TheVariants as instructions
-use Rattle.template_code.proofs.Sizes.{sizes_append, call_size, template_sizes}
-use Rattle.match_stack.proofs.FuncletEntry.{set_small}
-use Rattle.match_bodies.proofs.TemplateSizes.{template_some}
-use Rattle.match_bodies.proofs.SilentTurns.{reaches_silently}
-use Rattle.match_bodies.proofs.StepNeeds.{counted_here, code_at}
-use Rattle.match_bodies.proofs.ChainKeeping.{reaches_keeps, stays_well_formed}
-use Rattle.match_bodies.proofs.TemplateRuns.{frame, slots, v, same_state, template_here, has_slots, next_address, sp_is}
-use Rattle.match_bodies.proofs.BodyViews.{IsCounted, sp_low, frame_top, room_here, holds_here}
+use Rattle.match_turns.proofs.Lemmas.{sizes_append, call_size, template_sizes, set_small, template_some, reaches_silently, counted_here, code_at, reaches_keeps, stays_well_formed, frame, slots, v, same_state, template_here, has_slots, next_address, sp_is, IsCounted, sp_low, frame_top, room_here, holds_here}
 use Rattle.match_turns.proofs.FunctionFrame.{same_itself}
 use Rattle.match_turns.proofs.CallResult.{offset_most}
 use Rattle.match_turns.proofs.BuiltInCall.{with_arguments_of, ServiceReached, service_reached}

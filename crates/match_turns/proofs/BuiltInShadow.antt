@@ -3,13 +3,7 @@ use Rattle.std.proofs.Common.{◌≡◌, ℕ, ◌+◌, ◌-◌, Some, List, [], 
 use Rattle.std.specs.Prelude.{slice_get}
 use Rattle.match_turns.specs.Words.{address_of, Memory, Rsp, Instr, opcode_register, State, register, BuiltIn, Put, Protect, RaiseException, Temporary, Configuration, Layout, size, sizes, put_back, keep, temporary_at, IsNear, call, arguments_code, return_at, clear_result, Reaches, AllKeep, HaveRoom, service_of, FindsReturn, Setting, IsResumed, RepresentsAt}
 use Rattle.linear_code.specs.declared.instruction.Instruction.TheVariants as instructions
-use Rattle.template_code.proofs.Sizes.{sizes_append, call_size}
-use Rattle.match_bodies.proofs.InstructionEffects.{others_of}
-use Rattle.match_bodies.proofs.RoutineWalks.{StepsTo, reaches_steps, steps_split, keeps_split, AllPlain}
-use Rattle.match_bodies.proofs.EntryKeeping.{arguments_plain}
-use Rattle.match_bodies.proofs.CallKeeping.{calls_keep, CalleeBegins, callee_begins, thunk_keeps}
-use Rattle.match_bodies.proofs.BodyViews.{IsCounted, sp_low, room_here}
-use Rattle.match_bodies.proofs.TemplateRuns.{has_slots}
+use Rattle.match_turns.proofs.Lemmas.{sizes_append, call_size, others_of, StepsTo, reaches_steps, steps_split, keeps_split, AllPlain, arguments_plain, calls_keep, CalleeBegins, callee_begins, thunk_keeps, IsCounted, sp_low, room_here, has_slots}
 use Rattle.match_turns.proofs.ReturnAddressPlace.{top_of, begins_beneath}
 
 clear_size : size clear_result ≡ 5

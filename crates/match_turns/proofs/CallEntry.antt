@@ -5,26 +5,12 @@ use Rattle.std.specs.Prelude.{nat_lt, slice_get, drop}
 use Rattle.std.proofs.lemmas.Bool.{cases_lt, lt-ltb}
 use Rattle.std.proofs.lemmas.Option.{slice_get_within}
 use Rattle.std.proofs.lemmas.List.{append-nil, length-drop, length-take}
-use Rattle.match_turns.specs.Words.{STACK_START, STACK_END, Memory, may_write, number_at, Protection, Rsp, Instr, State, register, distance, word, arrivals, Temporary, LinearBody, FunctionBody, body_of, Waits, Configuration, instruction_in, waiting, Layout, sizes, put_back, keep, temporary_at, IsNear, call, return_at, arguments_code, passing_code, parameters_code, context_below, home_end, HoldsWords, return_of, ReturnsTo, On, AllKeep, Comes, AreSmall, function_arguments, FindsReturn, IsLayoutIf, turns_left, slots_end, KeepsStackBut, begun, LARGEST_FRAME, Setting, IsMachineMemory, IsResumed, RepresentsAt}
+use Rattle.match_turns.specs.Words.{STACK_START, STACK_END, Memory, may_write, number_at, Protection, Rsp, Instr, State, register, distance, word, arrivals, Temporary, LinearBody, FunctionBody, body_of, Waits, Configuration, instruction_in, waiting, Layout, sizes, put_back, keep, temporary_at, IsNear, call, return_at, arguments_code, passing_code, parameters_code, context_below, home_end, HoldsWords, return_of, ReturnsTo, On, AllKeep, Comes, AreSmall, function_arguments, FindsReturn, IsLayoutIf, turns_left, slots_end, KeepsStackBut, begun, LARGEST_FRAME, Setting, IsMachineMemory, IsResumed, RepresentsAt, passing_call_code}
 use Rattle.linear_code.specs.declared.instruction.Instruction.TheVariants as instructions
-use Rattle.template_code.specs.Calls.{passing_call_code}
-use Rattle.template_code.proofs.Sizes.{sizes_append, call_size}
-use Rattle.x64_templates.proofs.PlacedCode.{same_number}
-use Rattle.x64_templates.proofs.Entries.{pushed_back}
-use Rattle.match_runs.proofs.Turns.{comes_then}
+use Rattle.match_turns.proofs.Lemmas.{sizes_append, call_size, same_number, pushed_back, comes_then, others_of, StepsTo, reaches_steps, enters_steps, AllPlain, plain_both, arguments_plain, passing_plain, parameters_plain, entry_ran, calls_keep, CalleeBegins, reaches_silently, enters_silently, program_reaches, locals_count, KeepsImage, Keeps, keeps_then, enters_keeps, stays_well_formed, stack_is_reserved, room_here, slots_here, may_read_written, word_of}
 use Rattle.match_bodies.specs.CodeSites as sites
-use Rattle.match_bodies.proofs.InstructionEffects.{others_of}
-use Rattle.match_bodies.proofs.RoutineWalks.{StepsTo, reaches_steps, enters_steps, AllPlain}
-use Rattle.match_bodies.proofs.EntryKeeping.{plain_both, arguments_plain, passing_plain, parameters_plain, entry_ran}
-use Rattle.match_bodies.proofs.CallKeeping.{calls_keep, CalleeBegins, callee_begins as callee_entered}
-use Rattle.match_bodies.proofs.SilentTurns.{reaches_silently, enters_silently, program_reaches}
-use Rattle.match_bodies.proofs.ActivationPlaces.{locals_count}
-use Rattle.match_bodies.proofs.ProgramKeeping.{KeepsImage}
+use Rattle.match_bodies.proofs.CallKeeping.{callee_begins as callee_entered}
 use Rattle.match_bodies.proofs.MemoryKeeping.{memory_stays}
-use Rattle.match_bodies.proofs.ChainKeeping.{Keeps, keeps_then, enters_keeps, stays_well_formed}
-use Rattle.match_bodies.proofs.SlotPlaces.{stack_is_reserved}
-use Rattle.match_bodies.proofs.BodyViews.{room_here, slots_here}
-use Rattle.match_bodies.proofs.StackWords.{may_read_written, word_of}
 use Rattle.match_turns.proofs.ReturnAddressPlace.{top_of, begins_beneath}
 use Rattle.match_turns.proofs.FunctionFrame.{function_begins}
 use Rattle.match_turns.proofs.CallWaitingCaller as awaiting

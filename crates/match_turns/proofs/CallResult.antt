@@ -5,23 +5,12 @@ use Rattle.std.specs.Prelude.{◌⊎◌, slice_get, slice_index}
 use Rattle.std.proofs.lemmas.Bool.{eq-eqb, ne_eqb}
 use Rattle.std.proofs.lemmas.Option.{slice_get_within}
 use Rattle.match_turns.specs.Words.{Event, Memory, Rax, Rsp, Instr, Context, State, register, rsp, Functions, distance, Funclet, arrivals, Temporary, Instruction, BodyState, with_slot, LinearProgram, LinearBody, BodyName, FuncletBody, body_of, Frame, Item, Waits, Configuration, Layout, sizes, keep, template, body_size, offset_of, machine, HasCode, Reaches, ReachesBody, StackItem, ImagePlan, Activation, locals_of, On, on_top, IsWellFormed, AllKeep, HaveRoom, Sites, links_of, seen_by_templates, counts_of, OwnerHasFrame, with_values, Setting, IsMachineMemory}
-use Rattle.template_code.proofs.Sizes.{sizes_append, template_sizes}
-use Rattle.x64_templates.proofs.Computes.{code_split}
+use Rattle.match_turns.proofs.Lemmas.{sizes_append, template_sizes, code_split, call_ends, keep_flow, first_in_code, waits_in_body, locals_count, same_activations, Keeps, reaches_keeps, stays_well_formed, IsCounted, is_machine, room_here, holds_here, slots_here, locals_here, Leaves, Ran, represents_next, kept_by_rest, is_here, is_after, ends_at, RunsKeep, one_piece, code, y, v, frame, slots, template_here, next_address, sp_is, silent_at, dropped, Surroundings}
 use Rattle.x64_templates.specs.Epilogues.{IsReturn}
-use Rattle.x64_templates.proofs.Returns.{call_ends}
-use Rattle.x64_templates.proofs.Flows.{keep_flow}
 use Rattle.match_bodies.specs.Bodies.{RepresentsAt}
-use Rattle.match_bodies.proofs.TemplateSizes.{first_in_code}
-use Rattle.match_bodies.proofs.BodyResumption.{again, waits_in_body}
-use Rattle.match_bodies.proofs.ActivationPlaces.{locals_count}
-use Rattle.match_bodies.proofs.ActivationStores.{same_activations}
+use Rattle.match_bodies.proofs.BodyResumption.{again}
 use Rattle.match_bodies.proofs.HomeSpace.{CallerHasFrame}
-use Rattle.match_bodies.proofs.ChainKeeping.{Keeps, reaches_keeps, stays_well_formed}
-use Rattle.match_bodies.proofs.BodyViews.{IsCounted, is_machine, placed, count, room_here, holds_here, slots_here, locals_here}
-use Rattle.match_bodies.proofs.TemplateSlots.{Leaves}
-use Rattle.match_bodies.proofs.NextInstruction.{Ran, represents_next}
-use Rattle.match_bodies.proofs.TemplateShadows.{kept_by_rest, is_here, is_after, ends_at, RunsKeep, one_piece}
-use Rattle.match_bodies.proofs.TemplateRuns.{code, y, v, frame, slots, template_here, next_address, sp_is, silent_at, dropped, Surroundings}
+use Rattle.match_bodies.proofs.BodyViews.{placed, count}
 
 -- an instruction of a body begins within it
 pub offset_most : (y : Layout) (body : List Instruction) (number : ℕ)

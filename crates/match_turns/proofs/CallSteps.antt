@@ -2,25 +2,17 @@
 use Rattle.std.proofs.Common.{◌≡◌, ℕ, ◌+◌, ◌-◌, ◌<◌, ◌≤◌, Bool, true, false, Some, List, [], ◌∷◌, length, refl, sym, ap, subst, ◌∙◌, arith, inl, inr}
 use Rattle.std.specs.Prelude.{◌⊎◌, nat_lt, slice_get, get_or, drop}
 use Rattle.std.proofs.lemmas.Option.{slice_get_within, slice_get-get_or}
-use Rattle.match_turns.specs.Words.{State, Deep, Slot, Local, Temporary, Instruction, LinearBody, FunctionBody, FuncletBody, body_of, function_body, Item, Waits, Searches, Unwinds, Frame, Configuration, Next, Finished, pick, read, local_of, waiting, begin_function, instruction_at, Activation, IsMatched, function_of, IsInstructionOf, IsHeld, AreWaiting, with_own, owners_of, IsFuncletPlan, turns_left, IsWellMade, IsKnown, KnownNext, turns_per_step, OwnerHasFrame, Setting, setting_of, RepresentsAt}
+use Rattle.match_turns.specs.Words.{State, Deep, Slot, Local, Temporary, Instruction, LinearBody, FunctionBody, FuncletBody, body_of, function_body, Item, Waits, Searches, Unwinds, Frame, Configuration, Next, Finished, pick, read, local_of, waiting, begin_function, instruction_at, Activation, IsMatched, function_of, IsInstructionOf, IsHeld, AreWaiting, with_own, owners_of, IsFuncletPlan, turns_left, IsWellMade, IsKnown, KnownNext, turns_per_step, OwnerHasFrame, Setting, setting_of, RepresentsAt, Fails, IsCallee, PassesWell, MayWait, IsCalledBy, FunctionsApart, CallBegins}
 use Rattle.linear_code.specs.declared.instruction.Instruction.TheVariants as instructions
-use Rattle.match_runs.specs.Matched.{Fails}
-use Rattle.match_runs.proofs.Matches.{fails_at_once}
-use Rattle.lowering_invariants.specs.Bodies.{IsCallee}
-use Rattle.lowering_invariants.specs.Room.{PassesWell}
-use Rattle.lowering_invariants.specs.Waiting.{MayWait, IsCalledBy, IsAbove}
+use Rattle.match_turns.proofs.Lemmas.{fails_at_once, locals_count, some_is, label_in, body_there, owned_count, leaf_or_funclet, owner_waits, counted_here, code_at, ready_here, each}
+use Rattle.lowering_invariants.specs.Waiting.{IsAbove}
 use Rattle.lowering_invariants.specs.Activations.{WorksOn}
-use Rattle.match_bodies.proofs.ActivationPlaces.{locals_count}
-use Rattle.match_bodies.proofs.StepNeeds.{some_is, label_in, body_there, owned_count, leaf_or_funclet, owner_waits, counted_here, code_at, ready_here}
-use Rattle.match_bodies.proofs.TemplateRuns.{each}
-use Rattle.match_turns.specs.CallOutcome.{FunctionsApart}
 use Rattle.match_turns.specs.CallLaws.{ReturnsAreMatched, CallsBegin}
 use Rattle.match_turns.proofs.CallResult.{IsSurrounded}
 use Rattle.match_turns.proofs.FunctionReturn as returning
 use Rattle.match_turns.proofs.CallActs.{call_acts}
 use Rattle.match_turns.proofs.CallEntry as called
 use Rattle.match_turns.proofs.AtCall.{AtCall}
-use Rattle.match_turns.specs.SettingOutcome.{CallBegins}
 
 module _ (setting : Setting) (made : IsWellMade setting.program setting.plan) where
   open setting use {functions as t, funclets as fs, program, plan as p, sites as q, image}

@@ -6,7 +6,7 @@ use Rattle.match_turns.specs.Words.{STACK_START, STACK_END, Protection, is_writa
 use Rattle.seh_records.proofs.Placed.{placing_leaves_others}
 use Rattle.match_stack.proofs.RecordMemory.{place_of, placed_keeps_above}
 use Rattle.match_bodies.specs.ProgramImages.{IsMachineMemory}
-use Rattle.match_bodies.proofs.SilentTurns.{KeepsCode, program_kept}
+use Rattle.match_turns.proofs.Lemmas.{KeepsCode, program_kept}
 
 -- the whole stack is reserved
 stack_is_reserved : (globals : List ℕ) (a : ℕ) → STACK_START ≤ a → a < STACK_END

@@ -2,13 +2,11 @@
 use Rattle.std.proofs.Common.{◌≡◌, ℕ, ◌+◌, ◌≤◌, Bool, true, false, List, [], ◌∷◌, ◌++◌, length, refl, ap, ◌∙◌, arith, inl, inr, append_assoc}
 use Rattle.std.specs.Prelude.{nat_lt}
 use Rattle.std.proofs.lemmas.List.{append-nil}
-use Rattle.match_turns.specs.Words.{Event, Context, State, Functions, Funclet, Turn, Continues, with_event, arrived, turn, Deep, Instruction, LinearProgram, Configuration, Seen, Finished, Next, pick, act, ImagePlan, KeepsShadow, IsLive, Comes, LeadsTo, IsMatched, Sites, turns_left, KnownNext, entry_turns, KeepsWith}
+use Rattle.match_turns.specs.Words.{Event, Context, State, Functions, Funclet, Turn, Continues, with_event, arrived, turn, Deep, Instruction, LinearProgram, Configuration, Seen, Finished, Next, pick, act, ImagePlan, KeepsShadow, IsLive, Comes, LeadsTo, IsMatched, Sites, turns_left, KnownNext, entry_turns, KeepsWith, Ends, with_events, ContinuesAs, EndsRun}
 use Rattle.seh_num.specs.declared.end.RunEnd.TheVariants as ends
-use Rattle.host_model.specs.Turns.{Ends}
-use Rattle.match_runs.proofs.Turns.{comes_one}
-use Rattle.match_runs.proofs.Matches.{silently_before, silently_after}
+use Rattle.match_turns.proofs.Lemmas.{comes_one, silently_before, silently_after}
 use Rattle.match_bodies.specs.Bodies.{RepresentsAt}
-use Rattle.match_turns.specs.DispatchOutcome.{with_events, Represents, ContinuesAs, EntersFunclet, EndsRun, Outcome}
+use Rattle.match_turns.specs.DispatchOutcome.{Represents, EntersFunclet, Outcome}
 
 -- an event that is shown first
 pub arrived_with : (t : Functions) (fs : List Funclet) (e : Event) (x : Turn)

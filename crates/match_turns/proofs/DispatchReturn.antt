@@ -1,16 +1,10 @@
 -- At the host's return addresses: a filter has answered, a `__finally` block has ended.
 use Rattle.std.proofs.Common.{◌≡◌, ℕ, zero, ◌+◌, ◌*◌, ◌≤◌, Bool, true, List, [], ◌∷◌, ◌++◌, Option, Some, None, refl, sym, ap, subst, ◌∙◌, arith, inl, inr, append_assoc, length-append}
 use Rattle.std.proofs.lemmas.List.{append-nil}
-use Rattle.match_turns.specs.Words.{W32, Event, signed, Rsp, Context, context_of, State, register, rsp, distance, DispatchRecord, placed, fetched, Turn, Continues, with_event, arrivals, arrived, accepted, searches_on, unwinds_on, finally_returned, Exception, noncontinuable, raise_event, Region, Handler, Target, Resumption, AfterCall, SameOperation, Waits, Unwinds, Item, Frame, Store, Seen, Next, Configuration, handlers, search, accept, resumed, unwind, end_finally, exec, StackItem, Unwinding, Activation, locals_of, On, RecordHasRoom, store_of, IsWellFormed, Unwound, placed_in, SearchIsAnswered, filter_turn, linear_answer, HasRule, WalkGives, callers, held_below, turns_left, FlagsFit, NoneLanded, Setting, IsMachineMemory, Continuations, Outcome, Shows}
+use Rattle.match_turns.specs.Words.{W32, Event, signed, Rsp, Context, context_of, State, register, rsp, distance, DispatchRecord, placed, fetched, Turn, Continues, with_event, arrivals, arrived, accepted, searches_on, unwinds_on, finally_returned, Exception, noncontinuable, raise_event, Region, Handler, Target, Resumption, AfterCall, SameOperation, Waits, Unwinds, Item, Frame, Store, Seen, Next, Configuration, handlers, search, accept, resumed, unwind, end_finally, exec, StackItem, Unwinding, Activation, locals_of, On, RecordHasRoom, store_of, IsWellFormed, Unwound, placed_in, SearchIsAnswered, filter_turn, linear_answer, HasRule, WalkGives, callers, held_below, turns_left, FlagsFit, NoneLanded, Setting, IsMachineMemory, Continuations, Outcome, Shows, eax, again, restored, if_unwinding, AnswersAs, with_answer, answered, AsksTheNext, AskedTakesOver, ContinuesException, IsRaisedAnew}
 use Rattle.seh_num.specs.declared.event.Event.TheVariants as events
-use Rattle.host_model.specs.Dispatch.{eax, again, restored, if_unwinding}
-use Rattle.match_stack.proofs.ListEnds.{in_stack}
-use Rattle.match_stack.specs.DispatchSteps.{AnswersAs}
-use Rattle.match_stack.specs.FilterReturns.{with_answer, answered, AsksTheNext, AskedTakesOver, ContinuesException, IsRaisedAnew}
-use Rattle.match_stack.proofs.DispatchSteps.{answers_continue, finally_returns_unwind}
+use Rattle.match_turns.proofs.Lemmas.{in_stack, answers_continue, finally_returns_unwind, none_below, on_stack, stack_rises}
 use Rattle.match_stack.proofs.FilterAnswers.{filter_returns}
-use Rattle.match_runs.proofs.Shadows.{none_below}
-use Rattle.match_bodies.proofs.StackWalks.{on_stack, stack_rises}
 use Rattle.match_turns.proofs.DispatchMemory.{memory_untouched, placing}
 use Rattle.match_turns.proofs.DispatchOutcomeSteps.{arrived_with, with_one, with_two, with_none, outcome_same, outcome_more}
 use Rattle.match_turns.proofs.UnwindTurn.{unwound}

@@ -3,10 +3,7 @@ use Rattle.std.proofs.Common.{◌≡◌, ℕ, true, List, [], ◌∷◌, Some, r
 use Rattle.std.specs.Prelude.{slice_get}
 use Rattle.match_turns.specs.Words.{Cpu, context_of, State, distance, arrivals, Temporary, Instruction, LinearBody, body_of, SameOperation, Waits, Configuration, StackItem, InCode, Activation, locals_of, On, IsWellFormed, WorksAgain, IsWellMade, template_size, Setting, InBody, IsMachineMemory, WorksOn}
 use Rattle.linear_code.specs.declared.instruction.Instruction.TheVariants as instructions
-use Rattle.match_bodies.proofs.TemplateSizes.{address_next}
-use Rattle.match_bodies.proofs.BodyResumption.{waits_in_body, all_front}
-use Rattle.match_bodies.proofs.TemplateRuns.{get_or_is}
-use Rattle.match_bodies.proofs.StepNeeds.{label_in, body_there}
+use Rattle.match_turns.proofs.Lemmas.{address_next, waits_in_body, all_front, get_or_is, label_in, body_there}
 use Rattle.match_turns.proofs.OperationCode.{some_finish, whole_size, silent_within}
 
 module _ (setting : Setting) (made : IsWellMade setting.program setting.plan)

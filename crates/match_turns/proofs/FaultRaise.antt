@@ -3,16 +3,12 @@
 use Rattle.std.proofs.Common.{◌≡◌, ℕ, zero, suc, ◌^◌, ◌<◌, Bool, true, false, List, [], ◌∷◌, ◌++◌, Option, Some, None, Err, refl, ap, subst, ◌∙◌, arith}
 use Rattle.std.specs.Prelude.{slice_index, replicate}
 use Rattle.std.proofs.lemmas.Bool.{ne_eqb}
-use Rattle.match_turns.specs.Words.{Code, Instr, context_of, State, step, rsp, arrived, write_number, parameters, raised, Raises, Exception, raise_event, is_reserved, Operation, Slot, Temporary, Instruction, Layout, SameOperation, Configuration, Next, raise, act, exec, operands_code, finish_code, KeepsAbove, IsException, IsLive, HasRule, IsMatched, callers, turns_left, IsWellMade, IsKnown, KnownNext, seen_by_templates, FlagsFit, ComesTo, Setting, IsResumed, Represents, Shows, WorksOn}
+use Rattle.match_turns.specs.Words.{Code, Instr, context_of, State, step, rsp, arrived, write_number, parameters, raised, Raises, Exception, raise_event, is_reserved, Operation, Slot, Temporary, Instruction, Layout, SameOperation, Configuration, Next, raise, act, exec, operands_code, finish_code, KeepsAbove, IsException, IsLive, HasRule, IsMatched, callers, turns_left, IsWellMade, IsKnown, KnownNext, seen_by_templates, FlagsFit, ComesTo, Setting, IsResumed, Represents, Shows, WorksOn, AllSmall, IsSmallAccess}
 use Rattle.x64_machine.specs.declared.outcome.Stop.TheVariants as stops
-use Rattle.seh_records.specs.Laws.{AllSmall}
 use Rattle.linear_code.specs.declared.instruction.Instruction.TheVariants as instructions
 use Rattle.x64_templates.specs.Runs.{Finished}
-use Rattle.lowering_invariants.specs.SmallNumbers.{IsSmallAccess}
 use Rattle.lowering_invariants.proofs.Results.{IsSmallOutcome, outcome_small}
-use Rattle.match_runs.proofs.Turns.{comes_nowhere}
-use Rattle.match_bodies.proofs.StackWalks.{on_stack}
-use Rattle.match_bodies.proofs.BodyViews.{is_machine}
+use Rattle.match_turns.proofs.Lemmas.{comes_nowhere, on_stack, is_machine}
 use Rattle.match_turns.proofs.DispatchStart.{raised_as}
 use Rattle.match_turns.proofs.HostRequest.{Asks, asks_host}
 use Rattle.match_turns.proofs.HostTurns.{fault_turns, raised_keeps, matched_when_shown}

@@ -1,19 +1,10 @@
 -- A filter reads a field of its exception.
 use Rattle.std.proofs.Common.{◌≡◌, ◌+◌, ◌<◌, ◌≤◌, length, Some, None, refl, ap, subst, arith}
 use Rattle.std.specs.Prelude.{slice_get}
-use Rattle.match_turns.specs.Words.{State, Field, field_of, Slot, Local, Temporary, BodyState, with_slot, LinearBody, FuncletBody, Configuration, Next, act, Layout, sizes, template_size, machine, ReachesBody, IsField, Moves, HaveRoom, IsFuncletPlan, turns_left, IsFilterBody, Setting, RepresentsAt}
+use Rattle.match_turns.specs.Words.{State, Field, field_of, Slot, Local, Temporary, BodyState, with_slot, LinearBody, FuncletBody, Configuration, Next, act, Layout, sizes, template_size, machine, ReachesBody, IsField, Moves, HaveRoom, IsFuncletPlan, turns_left, IsFilterBody, Setting, RepresentsAt, information_code, IsNextSlot}
 use Rattle.linear_code.specs.declared.instruction.Instruction.TheVariants as instructions
 use Rattle.linear_machine.specs.Frames as linear
-use Rattle.template_code.specs.Calls.{information_code}
-use Rattle.template_code.proofs.Lengths.{keep_length}
-use Rattle.x64_templates.proofs.Information.{information_run}
-use Rattle.lowering_invariants.specs.Ready.{IsNextSlot}
-use Rattle.match_bodies.proofs.BodyViews.{IsCounted, room_here, holds_here}
-use Rattle.match_bodies.proofs.TemplateRuns.{code, frame, slots, v, sp_is, has_slots, template_here, next_address, Surroundings}
-use Rattle.match_bodies.proofs.SlotWrites.{locals_after, temporaries_after, FitsAfter, one_more}
-use Rattle.match_bodies.proofs.TemplateKeeping.{information_keeps}
-use Rattle.match_bodies.proofs.PlainSteps.{GoesInside, from_here, label_small, moves_to}
-use Rattle.match_bodies.proofs.ComputeStep.{stored, writes, leaves_stored}
+use Rattle.match_turns.proofs.Lemmas.{keep_length, information_run, IsCounted, room_here, holds_here, code, frame, slots, v, sp_is, has_slots, template_here, next_address, Surroundings, locals_after, temporaries_after, FitsAfter, one_more, information_keeps, GoesInside, from_here, label_small, moves_to, stored, writes, leaves_stored}
 use Rattle.match_turns.proofs.FilterRecord.{pointers_here, reads_exception}
 
 information_size : (y : Layout) (to : Slot) (field : Field)

@@ -1,14 +1,12 @@
 -- A filter's frame leads to the record of its search, which carries its exception.
 use Rattle.std.proofs.Common.{◌≡◌, ℕ, ◌+◌, ◌^◌, ◌<◌, ◌≤◌, List, [], ◌∷◌, Some, Ok, refl, sym, subst, ◌∙◌, arith}
 use Rattle.std.specs.Prelude.{replicate}
-use Rattle.match_turns.specs.Words.{STACK_START, STACK_END, bytes_of, Memory, number_at, Rsp, Context, context_of, State, register, rsp, word, Functions, DispatchRecord, fetched, RecordFits, Funclet, Field, ExceptionCode, ExceptionFlags, NumberParameters, ExceptionInformation, Exception, field_of, LinearProgram, LinearFunclet, Frame, Handler, Resumption, Item, Waits, Searches, Unwinds, Configuration, field_at, field_width, IsField, StackItem, Framed, Leaf, Searching, Unwinding, IsStack, context_below, ImagePlan, Activation, activations_below, HasPointers, FuncletIsAbove, IsAbove, Linked, Sites, IsFilterBody}
+use Rattle.match_turns.specs.Words.{STACK_START, STACK_END, bytes_of, Memory, number_at, Rsp, Context, context_of, State, register, rsp, word, Functions, DispatchRecord, fetched, RecordFits, Funclet, Field, ExceptionCode, ExceptionFlags, NumberParameters, ExceptionInformation, Exception, field_of, LinearProgram, LinearFunclet, Frame, Handler, Resumption, Item, Waits, Searches, Unwinds, Configuration, field_at, field_width, IsField, StackItem, Framed, Leaf, Searching, Unwinding, IsStack, context_below, ImagePlan, Activation, activations_below, HasPointers, FuncletIsAbove, IsAbove, Linked, Sites, IsFilterBody, MayRead}
 use Rattle.linear_code.specs.declared.program.FuncletKind.TheVariants as funclets
-use Rattle.x64_templates.specs.Exceptions.{MayRead, HasException}
-use Rattle.x64_templates.proofs.Information.{field_number}
+use Rattle.x64_templates.specs.Exceptions.{HasException}
+use Rattle.match_turns.proofs.Lemmas.{field_number, in_stack, word_is, may_read_written}
 use Rattle.match_stack.specs.ItemMatches as linked
-use Rattle.match_stack.proofs.ListEnds.{in_stack}
 use Rattle.match_bodies.specs.Bodies.{RepresentsAt}
-use Rattle.match_bodies.proofs.StackWords.{word_is, may_read_written}
 use Rattle.match_turns.proofs.RecordFields.{recorded_field, field_is_at, field_is, field_fits, field_small}
 
 -- below a filter its search is the first

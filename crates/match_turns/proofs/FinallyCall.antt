@@ -4,28 +4,13 @@ use Rattle.std.proofs.Common.{◌≡◌, ℕ, ◌+◌, ◌-◌, ◌^◌, ◌<◌
 use Rattle.std.specs.Prelude.{slice_get, drop}
 use Rattle.std.proofs.lemmas.List.{length-drop, get_or-set_same}
 use Rattle.seh_num.specs.declared.event.Event.TheVariants as events
-use Rattle.match_turns.specs.Words.{STACK_START, STACK_END, Rdx, Rsp, context_of, State, register, distance, word, arrivals, of_test, LinearBody, BodyName, FuncletBody, body_of, funclet_body, Waits, Configuration, instruction_in, Layout, sizes, IsNear, finally_arguments, MachineView, machine, pushed, HasBelow, Reaches, context_below, InCode, by_parent, parent_body, IsFunclet, HasActivation, return_of, ReturnsTo, KeepsAbove, On, IsWellFormed, AllKeep, Comes, AllReturnsStayInRegions, IsFinallyKind, parent_of, IsFuncletOf, HaveRoom, slots_end, Setting, InBody, IsMachineMemory, IsResumed, RepresentsAt}
+use Rattle.match_turns.specs.Words.{STACK_START, STACK_END, Rdx, Rsp, context_of, State, register, distance, word, arrivals, of_test, LinearBody, BodyName, FuncletBody, body_of, funclet_body, Waits, Configuration, instruction_in, Layout, sizes, IsNear, finally_arguments, MachineView, machine, pushed, HasBelow, Reaches, context_below, InCode, by_parent, parent_body, IsFunclet, HasActivation, return_of, ReturnsTo, KeepsAbove, On, IsWellFormed, AllKeep, Comes, AllReturnsStayInRegions, IsFinallyKind, parent_of, IsFuncletOf, HaveRoom, slots_end, Setting, InBody, IsMachineMemory, IsResumed, RepresentsAt, by_kind, is_finally}
 use Rattle.x64_instr.specs.declared.instruction.Instr.TheVariants as instrs
-use Rattle.host_model.specs.Funclets.{by_kind}
 use Rattle.linear_code.specs.declared.instruction.Instruction.TheVariants as instructions
 use Rattle.linear_code.specs.declared.program.FuncletKind.TheVariants as funclets
-use Rattle.x64_templates.proofs.Unwinds.{with_two, FinallyCalled, finally_begins}
-use Rattle.x64_templates.proofs.Entries.{pushed_back}
+use Rattle.match_turns.proofs.Lemmas.{with_two, FinallyCalled, finally_begins, pushed_back, reaches_above, kept_by_stores_below, first_in_code, on_moved, reaches_comes, others_of, reaches_steps, calls_keep, OnTop, body_on_top, may_read_written, word_of, reaches_keeps, stays_well_formed, IsCounted, sp_low, frame_top, v, same_state, template_here, sp_is}
 use Rattle.match_stack.specs.ItemMatches as linked
-use Rattle.match_stack.proofs.ListKeeping.{reaches_above, kept_by_stores_below}
 use Rattle.match_stack.proofs.SearchHandlers.{body_reaches}
-use Rattle.match_bodies.specs.ProgramImages.{is_finally}
-use Rattle.match_bodies.proofs.TemplateSizes.{first_in_code}
-use Rattle.match_bodies.proofs.StackContexts.{on_moved}
-use Rattle.match_bodies.proofs.SilentTurns.{reaches_comes}
-use Rattle.match_bodies.proofs.InstructionEffects.{others_of}
-use Rattle.match_bodies.proofs.RoutineWalks.{reaches_steps}
-use Rattle.match_bodies.proofs.CallKeeping.{calls_keep}
-use Rattle.match_bodies.proofs.StackTop.{OnTop, body_on_top}
-use Rattle.match_bodies.proofs.StackWords.{may_read_written, word_of}
-use Rattle.match_bodies.proofs.ChainKeeping.{reaches_keeps, stays_well_formed}
-use Rattle.match_bodies.proofs.BodyViews.{IsCounted, sp_low, frame_top}
-use Rattle.match_bodies.proofs.TemplateRuns.{v, same_state, template_here, sp_is}
 use Rattle.match_turns.proofs.ReturnAddressPlace.{top_of, begins_beneath}
 use Rattle.match_turns.proofs.FinallyCallReturn.{offset_most, after_call}
 use Rattle.match_turns.proofs.FuncletFrame.{ArrivesBelow}

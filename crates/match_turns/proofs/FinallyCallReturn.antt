@@ -2,15 +2,11 @@
 use Rattle.std.proofs.Common.{◌≡◌, ℕ, zero, suc, ◌+◌, ◌<◌, ◌≤◌, Option, Some, None, List, [], ◌∷◌, length, get_or, refl, sym, ap, subst, ◌∙◌, arith}
 use Rattle.std.specs.Prelude.{slice_get, replicate}
 use Rattle.std.proofs.lemmas.List.{append-nil}
-use Rattle.match_turns.specs.Words.{Rsp, Context, State, register, distance, arrivals, Slot, Instruction, LinearBody, LinearFunclet, BodyName, FuncletBody, body_of, Frame, Item, Waits, Configuration, Next, with_some, read, instruction_in, end_finally, end_funclet, end_body, act, Layout, sizes, call, finally_arguments, return_code, template_size, body_size, offset_of, HasBack, Reaches, context_below, AllReturnsStayInRegions, HaveRoom, InCode, Activation, locals_of, activations_below, return_of, ReturnsTo, On, IsWellFormed, Moves, links_of, held_below, turns_left, Setting, InBody, RepresentsAt}
+use Rattle.match_turns.specs.Words.{Rsp, Context, State, register, distance, arrivals, Slot, Instruction, LinearBody, LinearFunclet, BodyName, FuncletBody, body_of, Frame, Item, Waits, Configuration, Next, with_some, read, instruction_in, end_finally, end_funclet, end_body, act, Layout, sizes, call, finally_arguments, return_code, template_size, body_size, offset_of, HasBack, Reaches, context_below, AllReturnsStayInRegions, HaveRoom, InCode, Activation, locals_of, activations_below, return_of, ReturnsTo, On, IsWellFormed, Moves, links_of, held_below, turns_left, Setting, InBody, RepresentsAt, forth}
 use Rattle.linear_code.specs.declared.instruction.Instruction.TheVariants as instructions
 use Rattle.linear_code.specs.declared.program.FuncletKind.TheVariants as funclets
-use Rattle.linear_machine.specs.Frames.{forth}
-use Rattle.template_code.proofs.Sizes.{sizes_append, call_size, template_sizes, offset_next}
-use Rattle.match_bodies.proofs.SilentTurns.{reaches_silently}
-use Rattle.match_bodies.proofs.BodyResumption.{again, waits_in_body, all_front}
-use Rattle.match_bodies.proofs.BodyViews.{IsCounted}
-use Rattle.match_bodies.proofs.TemplateRuns.{get_or_is}
+use Rattle.match_turns.proofs.Lemmas.{sizes_append, call_size, template_sizes, offset_next, reaches_silently, waits_in_body, all_front, IsCounted, get_or_is}
+use Rattle.match_bodies.proofs.BodyResumption.{again}
 use Rattle.match_turns.proofs.BodyReturn as leaving
 use Rattle.match_turns.proofs.BodyReturn.{returns_soon}
 

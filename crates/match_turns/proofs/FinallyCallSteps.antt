@@ -2,14 +2,10 @@
 use Rattle.std.proofs.Common.{◌≡◌, ℕ, ◌+◌, Bool, true, false, Some, [], ◌∷◌, ◌++◌, length, refl, ap, ◌∙◌, arith, inl, inr}
 use Rattle.std.specs.Prelude.{nat_lt, slice_get}
 use Rattle.seh_num.specs.declared.event.Event.TheVariants as events
-use Rattle.match_turns.specs.Words.{State, Deep, Instruction, FuncletKind, LinearBody, Waits, Configuration, Finished, Next, pick, with_some, deeper, act, instruction_at, flag_of, begin_finally, IsMatched, LeadsTo, IsFinallyKind, IsInstructionOf, IsFuncletOf, turns_left, IsWellMade, IsKnown, KnownNext, turns_per_step, entry_turns, FlagsFit, Setting, setting_of, RepresentsAt}
+use Rattle.match_turns.specs.Words.{State, Deep, Instruction, FuncletKind, LinearBody, Waits, Configuration, Finished, Next, pick, with_some, deeper, act, instruction_at, flag_of, begin_finally, IsMatched, LeadsTo, IsFinallyKind, IsInstructionOf, IsFuncletOf, turns_left, IsWellMade, IsKnown, KnownNext, turns_per_step, entry_turns, FlagsFit, Setting, setting_of, RepresentsAt, SeparatorsFollow}
 use Rattle.linear_code.specs.declared.instruction.Instruction.TheVariants as instructions
 use Rattle.linear_code.specs.declared.program.FuncletKind.TheVariants as funclets
-use Rattle.match_runs.proofs.Matches.{silently_after, fails_at_once}
-use Rattle.match_bodies.proofs.ActivationPlaces.{locals_count}
-use Rattle.match_bodies.proofs.StepNeeds.{counted_here, code_at}
-use Rattle.match_bodies.proofs.TemplateRuns.{each}
-use Rattle.match_turns.specs.FuncletEntry.{SeparatorsFollow}
+use Rattle.match_turns.proofs.Lemmas.{silently_after, fails_at_once, locals_count, counted_here, code_at, each}
 use Rattle.match_turns.proofs.FinallyEntry.{block_leads}
 use Rattle.match_turns.proofs.DispatchSpace.{shallow_is}
 use Rattle.match_turns.specs.BlockLaws.{BlockCallsAreMatched}

@@ -3,38 +3,15 @@ use Rattle.std.proofs.Common.{◌≡◌, ℕ, zero, suc, ◌+◌, ◌*◌, ◌<�
 use Rattle.std.specs.Prelude.{slice_get, slice_index, slice_set}
 use Rattle.std.proofs.lemmas.Option.{slice_get_within, slice_get_cases}
 use Rattle.std.proofs.lemmas.List.{append-nil}
-use Rattle.match_turns.specs.Words.{STACK_START, STACK_END, W32, low, Event, Memory, number_at, Rax, Rcx, Rdx, Rsp, Instr, State, register, of_test, no_exception, Local, FuncletKind, BodyState, with_slot, LinearBody, LinearFunclet, BodyName, FuncletBody, funclet_body, Item, Store, Configuration, flag_of, Layout, sizes, move, put_back, keep, local_at, machine, HasCode, Enters, FramePlace, ReachesBody, StackItem, is_encodable, IsFinallyKind, parent_of, function_of, owner_of, IsFuncletOf, owners_of, by_parent, Activation, locals_of, IsActivation, HasSpace, below_end, record_room, HasPointers, FuncletIsAbove, IsWellFormed, KeepsShadow, AllKeep, LeadsTo, parent_base, keep_argument, FindsReturn, with_values, OwnerHasFrame, IsKnown, entry_turns, FlagsFit, LARGEST_FRAME, Setting, HasProgram, IsMachineMemory, RepresentsAt}
+use Rattle.match_turns.specs.Words.{STACK_START, STACK_END, W32, low, Event, Memory, number_at, Rax, Rcx, Rdx, Rsp, Instr, State, register, of_test, no_exception, Local, FuncletKind, BodyState, with_slot, LinearBody, LinearFunclet, BodyName, FuncletBody, funclet_body, Item, Store, Configuration, flag_of, Layout, sizes, move, put_back, keep, local_at, machine, HasCode, Enters, FramePlace, ReachesBody, StackItem, is_encodable, IsFinallyKind, parent_of, function_of, owner_of, IsFuncletOf, owners_of, by_parent, Activation, locals_of, IsActivation, HasSpace, below_end, record_room, HasPointers, FuncletIsAbove, IsWellFormed, KeepsShadow, AllKeep, LeadsTo, parent_base, keep_argument, FindsReturn, with_values, OwnerHasFrame, IsKnown, entry_turns, FlagsFit, LARGEST_FRAME, Setting, HasProgram, IsMachineMemory, RepresentsAt, set_local, flag_in, keep_local, Steps, is_call, begin_of, making_size, frame_at, state_of}
 use Rattle.linear_code.specs.declared.program.FuncletKind.TheVariants as funclets
 use Rattle.linear_machine.specs.Frames as linear
-use Rattle.linear_machine.specs.Frames.{set_local}
-use Rattle.linear_machine.specs.Unwinding.{flag_in}
-use Rattle.template_code.specs.Slots.{fetched, keep_local}
-use Rattle.template_code.proofs.Sizes.{sizes_append}
-use Rattle.x64_templates.specs.Runs.{Steps}
-use Rattle.x64_templates.proofs.Computes.{code_split}
-use Rattle.x64_templates.proofs.Encoded.{near}
-use Rattle.x64_templates.proofs.PlacedCode.{enters_then}
-use Rattle.x64_templates.proofs.FuncletEntries.{flag_run}
-use Rattle.x64_templates.proofs.FilterEntries.{Within}
-use Rattle.match_runs.specs.Shadow.{is_call}
-use Rattle.match_runs.proofs.Shadows.{straight, keep_first}
-use Rattle.match_bodies.specs.CodeSites.{begin_of, making_size, arguments_code}
-use Rattle.match_bodies.proofs.InstructionEffects.{others_of}
-use Rattle.match_bodies.proofs.SilentTurns.{program_kept, enters_silently}
-use Rattle.match_bodies.proofs.RoutineWalks.{Ran as MidRan, read_here, StepsTo, reaches_steps, enters_steps, keeps_split, Beneath, beneath_by, callers_above, Finds, ran}
+use Rattle.template_code.specs.Slots.{fetched}
+use Rattle.match_turns.proofs.Lemmas.{sizes_append, code_split, near, enters_then, flag_run, Within, straight, keep_first, others_of, program_kept, enters_silently, read_here, StepsTo, reaches_steps, enters_steps, keeps_split, Beneath, beneath_by, callers_above, Finds, ran, label_found, argument_found, frame_there, EntryRan, locals_count, activated, reaches_keeps, enters_keeps, stays_well_formed, SlotsPlaced, IsCounted, frame_top, room_here, holds_here, slots_here, locals_here, Leaves, Ran, returns, new_on, represents_next, set_length, local_after}
+use Rattle.match_bodies.specs.CodeSites.{arguments_code}
+use Rattle.match_bodies.proofs.RoutineWalks.{Ran as MidRan}
 use Rattle.match_bodies.proofs.ShadowTurns.{gives_here}
-use Rattle.match_bodies.proofs.ReturnAddresses.{label_found, argument_found}
-use Rattle.match_bodies.proofs.FrameMaking.{frame_there}
-use Rattle.match_bodies.proofs.EntryKeeping.{EntryRan}
-use Rattle.match_bodies.specs.BodyViews.{frame_at, state_of}
-use Rattle.match_bodies.proofs.ActivationPlaces.{locals_count}
-use Rattle.match_bodies.proofs.ActivationStores.{activated}
-use Rattle.match_bodies.proofs.ChainKeeping.{reaches_keeps, enters_keeps, stays_well_formed}
-use Rattle.match_bodies.proofs.SlotPlaces.{SlotsPlaced}
-use Rattle.match_bodies.proofs.BodyViews.{IsCounted, frame_top, placed, count, room_here, holds_here, slots_here, locals_here}
-use Rattle.match_bodies.proofs.TemplateSlots.{Leaves}
-use Rattle.match_bodies.proofs.NextInstruction.{Ran, returns, new_on, represents_next}
-use Rattle.match_bodies.proofs.SlotWrites.{set_length, local_after}
+use Rattle.match_bodies.proofs.BodyViews.{placed, count}
 use Rattle.match_turns.proofs.FuncletPrologue.{LeadsBy}
 use Rattle.match_turns.proofs.FuncletFrame.{ArrivesBelow, IsPlanned, funclet_planned, HasFrame, first_frame, beginning, begins}
 use Rattle.match_turns.proofs.FuncletConfiguration.{HasLocals, activation_at, as_many, no_leaf, parent_locals, leads_by, locals_counted, owner_framed}

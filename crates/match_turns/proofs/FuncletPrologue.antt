@@ -1,23 +1,11 @@
 -- Where a funclet begins its frame is made, and the base is kept in it: RDX, or what the parent's
 -- frame in RDX keeps.
 use Rattle.std.proofs.Common.{◌≡◌, ℕ, ◌+◌, ◌-◌, ◌%◌, ◌^◌, ◌<◌, ◌≤◌, true, false, Option, Some, None, Ok, List, [], ◌∷◌, ◌++◌, length, refl, ap, subst, ◌∙◌, arith}
-use Rattle.match_turns.specs.Words.{Memory, may_read, may_write, first_refused, number_at, access, word, readable, Rax, Rdx, Instr, Flags, Answer, W64, low, sizes, enter_code, keep_register, MachineView, machine, Executes, sp_of, with_sp, moved, HasCode, Enters, keep_base}
+use Rattle.match_turns.specs.Words.{Memory, may_read, may_write, first_refused, number_at, access, word, readable, Rax, Rdx, Instr, Flags, Answer, W64, low, sizes, enter_code, keep_register, MachineView, machine, Executes, sp_of, with_sp, moved, HasCode, Enters, keep_base, load, keep_parents_base}
 use Rattle.seh_num.specs.Answers.{◌>>=◌}
-use Rattle.x64_machine.specs.Effect.{load}
 use Rattle.template_code.specs.Slots.{fetched}
-use Rattle.template_code.specs.Calls.{keep_parents_base}
-use Rattle.template_code.proofs.Sizes.{sizes_append}
-use Rattle.x64_templates.proofs.PlacedCode.{all_may, load_at, enters_then}
-use Rattle.x64_templates.proofs.Straight.{executes_one, executes_then}
-use Rattle.x64_templates.proofs.Cells.{put}
+use Rattle.match_turns.proofs.Lemmas.{sizes_append, all_may, load_at, enters_then, executes_one, executes_then, put, code_split, runs_view, near, sp_moved, enter_run, kept_at, keeps_register, HasCell, keeps_of_cell, funclet_enters, Within, within_cell}
 use Rattle.x64_templates.proofs.Calls.{word_is}
-use Rattle.x64_templates.proofs.Computes.{code_split, runs_view}
-use Rattle.x64_templates.proofs.Encoded.{near}
-use Rattle.x64_templates.proofs.Returns.{sp_moved, enter_run}
-use Rattle.x64_templates.proofs.Parameters.{kept_at, keeps_register}
-use Rattle.x64_templates.proofs.Funclets.{HasCell, keeps_of_cell}
-use Rattle.x64_templates.proofs.FuncletEntries.{funclet_enters}
-use Rattle.x64_templates.proofs.FilterEntries.{Within, within_cell}
 
 -- a word that is read may be read
 pub word_readable : (m : Memory) (at v : ℕ) → word m at ≡ Ok v

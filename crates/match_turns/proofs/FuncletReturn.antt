@@ -5,9 +5,7 @@ use Rattle.std.specs.Prelude.{slice_get, replicate}
 use Rattle.match_turns.specs.Words.{W32, low, Rsp, context_of, State, register, Exception, Slot, Region, LinearFunclet, FuncletBody, Frame, Handler, Target, Resumption, Item, Waits, Searches, Unwinds, Configuration, Next, with_some, read, answer, end_funclet, end_body, act, exec, return_code, StackItem, Searching, Unwinding, context_below, activations_below, On, SearchIsAnswered, linear_answer, Comes, HasRule, IsMatched, HaveRoom, AreWaiting, turns_left, KnownNext, FlagsFit, waiting_below, Setting, IsMachineMemory, RepresentsAt, Continuations, Represents}
 use Rattle.linear_code.specs.declared.instruction.Instruction.TheVariants as instructions
 use Rattle.linear_code.specs.declared.program.FuncletKind.TheVariants as funclets
-use Rattle.match_bodies.proofs.StackContexts.{on_moved}
-use Rattle.match_bodies.proofs.SilentTurns.{reaches_silently}
-use Rattle.match_bodies.proofs.BodyViews.{IsCounted}
+use Rattle.match_turns.proofs.Lemmas.{on_moved, reaches_silently, IsCounted}
 use Rattle.match_turns.proofs.BodyReturn as leaving
 use Rattle.match_turns.proofs.BodyReturn.{returns_soon}
 use Rattle.match_turns.proofs.DispatchReturnSteps.{filter_step, finally_step}

@@ -3,7 +3,7 @@ use Rattle.std.proofs.Common.{◌≡◌, ℕ, zero, Option, Some, None, List, []
 use Rattle.std.specs.Prelude.{slice_get}
 use Rattle.match_turns.specs.Words.{State, Slot, LinearFunclet, FuncletBody, Item, Waits, Searches, Unwinds, Configuration, read, act, instruction_at, exec, FuncletIsAbove, IsAbove, HasRule, Moves, IsMatched, turns_left, IsWellMade, IsKnown, KnownNext, turns_per_step, FlagsFit, Setting, setting_of, RepresentsAt, Continuations, Represents}
 use Rattle.linear_code.specs.declared.instruction.Instruction.TheVariants as instructions
-use Rattle.match_bodies.proofs.StepNeeds.{counted_here, code_at, ready_here}
+use Rattle.match_turns.proofs.Lemmas.{counted_here, code_at, ready_here}
 use Rattle.match_turns.proofs.FuncletSteps.{reads_some, returns_of_blocks_are_matched}
 use Rattle.match_turns.specs.EndLaws.{FuncletReturnsAreMatched}
 use Rattle.match_turns.proofs.FuncletReturn.{filter_returns, block_returns}

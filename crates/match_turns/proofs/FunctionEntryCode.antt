@@ -2,11 +2,9 @@
 use Rattle.std.proofs.Common.{◌≡◌, ℕ, ◌+◌, Bool, Some, List, ◌++◌, length, sym, ap, subst, ◌∙◌, arith}
 use Rattle.std.specs.Prelude.{slice_get}
 use Rattle.match_turns.specs.Words.{Memory, Instr, Functions, Funclet, LinearProgram, LinearFunction, FunctionBody, function_body, body_of, Layout, sizes, parameters_code, code_from, HasCode, ImagePlan, Sites, links_of, frame_code, function_arguments, entry_code, IsProgramImage}
-use Rattle.template_code.proofs.Sizes.{sizes_append}
-use Rattle.x64_templates.proofs.Computes.{code_split}
+use Rattle.match_turns.proofs.Lemmas.{sizes_append, code_split, making_steps}
 use Rattle.match_bodies.specs.CodeSites.{arguments_code}
 use Rattle.match_bodies.specs.ProgramImages.{HasProgram}
-use Rattle.match_bodies.proofs.FrameMaking.{making_steps}
 
 abbrev pub making_frame : ImagePlan → Sites → ℕ → Bool → List Instr
 making_frame p q f leaf = frame_code (p.layout (FunctionBody f)).frame (q.function f) q.check_stack

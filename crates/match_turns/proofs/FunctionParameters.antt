@@ -2,21 +2,11 @@
 use Rattle.std.proofs.Common.{◌≡◌, ℕ, zero, suc, ◌+◌, ◌-◌, ◌*◌, ◌^◌, ◌<◌, ◌≤◌, true, false, Some, None, List, ◌++◌, length, refl, sym, ap, subst, ◌∙◌, arith, inl, inr, length-append}
 use Rattle.std.specs.Prelude.{◌⊎◌, slice_index, nat_lt}
 use Rattle.std.proofs.lemmas.Bool.{cases_lt, lt-ltb, le-ltb}
-use Rattle.match_turns.specs.Words.{STACK_START, STACK_END, Memory, may_write, number_at, Protection, is_writable, Rsp, Flags, State, register, is_reserved, Local, Temporary, LinearBody, FunctionBody, body_of, function_body, Layout, sizes, spelled, IsNear, return_at, passing_code, parameters_code, MachineView, machine, HasBelow, with_arguments, HasBase, MemoryKeepsBase, IsBytes, Agrees, HasCode, Reaches, Enters, FramePlace, Roomy, ReachesBody, counts_of, LARGEST_FRAME, Setting}
+use Rattle.match_turns.specs.Words.{STACK_START, STACK_END, Memory, may_write, number_at, Protection, is_writable, Rsp, Flags, State, register, is_reserved, Local, Temporary, LinearBody, FunctionBody, body_of, function_body, Layout, sizes, spelled, IsNear, return_at, passing_code, parameters_code, MachineView, machine, HasBelow, with_arguments, HasBase, MemoryKeepsBase, IsBytes, Agrees, HasCode, Reaches, Enters, FramePlace, Roomy, ReachesBody, counts_of, LARGEST_FRAME, Setting, stack_parameter, parameter_code, OnStack, IsFunctionFrame, body_in_memory, FreshFrame, InTemporaries, InLocals, KeepsReserved}
 use Rattle.linear_code.specs.declared.instruction.Instruction.TheVariants as instructions
-use Rattle.template_code.specs.Calls.{stack_parameter, parameter_code}
-use Rattle.x64_templates.specs.EntryStates.{OnStack, IsFunctionFrame, body_in_memory, FreshFrame}
-use Rattle.x64_templates.specs.Frames.{InTemporaries, InLocals, KeepsReserved}
-use Rattle.x64_templates.proofs.PlacedCode.{bytes_kept, same_number, enters_then}
-use Rattle.x64_templates.proofs.Entries.{pushed_agrees, pushed_bytes}
+use Rattle.match_turns.proofs.Lemmas.{bytes_kept, same_number, enters_then, pushed_agrees, pushed_bytes, making_steps, stack_is_reserved, may_read_written, holds_here, index_of, Keeps, keeps_then, reaches_keeps, enters_keeps}
 use Rattle.x64_templates.proofs.Entering.{fresh_holds, parameters_run}
 use Rattle.match_bodies.specs.CodeSites.{arguments_code}
-use Rattle.match_bodies.proofs.FrameMaking.{making_steps}
-use Rattle.match_bodies.proofs.SlotPlaces.{stack_is_reserved}
-use Rattle.match_bodies.proofs.StackWords.{may_read_written}
-use Rattle.match_bodies.proofs.BodyViews.{holds_here}
-use Rattle.match_bodies.proofs.TemplateRuns.{index_of}
-use Rattle.match_bodies.proofs.ChainKeeping.{Keeps, keeps_then, reaches_keeps, enters_keeps}
 use Rattle.match_turns.proofs.CallArguments as calling
 use Rattle.match_turns.proofs.CallWaitingCaller.{back_near}
 use Rattle.match_turns.proofs.FunctionLocals.{argument_is}

@@ -3,20 +3,12 @@ use Rattle.std.proofs.Common.{◌≡◌, ◌≢◌, ℕ, ◌+◌, ◌<◌, Some,
 use Rattle.std.specs.Prelude.{get_or, slice_get, replicate}
 use Rattle.std.proofs.lemmas.List.{append-nil, length-drop}
 use Rattle.std.proofs.lemmas.Option.{slice_get-get_or}
-use Rattle.match_turns.specs.Words.{W32, signed, Rsp, Context, State, register, distance, arrivals, Slot, LinearBody, LinearFunclet, FunctionBody, FuncletBody, body_of, funclet_body, Frame, Item, Waits, Store, Configuration, Finished, Next, with_some, read, instruction_in, left_store, end_body, act, Layout, return_code, MachineView, machine, HasBack, with_sp, moved, Returned, Reaches, context_below, Activation, activations_below, return_of, ReturnsTo, On, store_of, on_top, IsWellFormed, AllKeep, Moves, HaveRoom, held_below, turns_left, slots_end, Setting, RepresentsAt}
+use Rattle.match_turns.specs.Words.{W32, signed, Rsp, Context, State, register, distance, arrivals, Slot, LinearBody, LinearFunclet, FunctionBody, FuncletBody, body_of, funclet_body, Frame, Item, Waits, Store, Configuration, Finished, Next, with_some, read, instruction_in, left_store, end_body, act, Layout, return_code, MachineView, machine, HasBack, with_sp, moved, Returned, Reaches, context_below, Activation, activations_below, return_of, ReturnsTo, On, store_of, on_top, IsWellFormed, AllKeep, Moves, HaveRoom, held_below, turns_left, slots_end, Setting, RepresentsAt, return, Exits}
 use Rattle.linear_code.specs.declared.instruction.Instruction.TheVariants as instructions
 use Rattle.linear_code.specs.declared.program.FuncletKind.TheVariants as kinds
-use Rattle.linear_machine.specs.Instructions.{return}
 use Rattle.source_meaning.specs.declared.ended.Ended.TheVariants as ends
-use Rattle.x64_templates.proofs.PlacedCode.{reaches_then}
-use Rattle.x64_templates.proofs.Returns.{sp_moved}
+use Rattle.match_turns.proofs.Lemmas.{reaches_then, sp_moved, keep_then, reaches_silently, reaches_keeps, stays_well_formed, IsCounted, v, slots, same_state, index_of}
 use Rattle.match_stack.proofs.UnwindBlocks.{left_activations}
-use Rattle.match_runs.specs.Matched.{Exits}
-use Rattle.match_bodies.proofs.StackWalks.{keep_then}
-use Rattle.match_bodies.proofs.SilentTurns.{reaches_silently}
-use Rattle.match_bodies.proofs.ChainKeeping.{reaches_keeps, stays_well_formed}
-use Rattle.match_bodies.proofs.BodyViews.{IsCounted}
-use Rattle.match_bodies.proofs.TemplateRuns.{v, slots, same_state, index_of}
 use Rattle.match_turns.proofs.CallResult.{IsSurrounded, answered}
 use Rattle.match_turns.proofs.CallReturn.{returns_at, resumes}
 use Rattle.match_turns.proofs.BodyReturn as leaving

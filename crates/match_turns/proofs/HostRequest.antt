@@ -2,12 +2,8 @@
 use Rattle.std.proofs.Common.{◌≡◌, ℕ, ◌+◌, ◌^◌, ◌<◌, ◌≤◌, Bool, true, false, cond, List, ◌∷◌, Some, None, ap, ◌∙◌, arith}
 use Rattle.std.specs.Prelude.{nat_lt}
 use Rattle.std.proofs.lemmas.Bool.{le-ltb}
-use Rattle.match_turns.specs.Words.{STACK_START, STACK_END, Memory, first_refused, may_write, with_bytes, Cpu, context_of, State, rsp, Waits, Configuration, StackItem, Activation, KeepsAbove, IsWellFormed, AsksHost, Setting, HasProgram, InBody, IsMachineMemory, IsResumed}
-use Rattle.seh_records.specs.Record.{return_address_at, misplaced, place_below}
-use Rattle.x64_templates.proofs.PlacedCode.{all_may}
-use Rattle.match_stack.proofs.ListEnds.{in_stack}
-use Rattle.match_stack.proofs.ListKeeping.{kept_by_stores_below}
-use Rattle.match_bodies.proofs.StackTop.{body_on_top}
+use Rattle.match_turns.specs.Words.{STACK_START, STACK_END, Memory, first_refused, may_write, with_bytes, Cpu, context_of, State, rsp, Waits, Configuration, StackItem, Activation, KeepsAbove, IsWellFormed, AsksHost, Setting, HasProgram, InBody, IsMachineMemory, IsResumed, return_address_at, misplaced, place_below}
+use Rattle.match_turns.proofs.Lemmas.{all_may, in_stack, kept_by_stores_below, body_on_top}
 
 -- in the stack, far enough above its start, a record can be placed
 pub record_fits : (m : Memory) (sp : ℕ) → STACK_START + 1592 ≤ sp → sp ≤ STACK_END

@@ -1,3 +1,4 @@
+mod Lemmas
 pub mod CallResult
 pub mod CallReturn
 pub mod ReturnAddressPlace

@@ -4,27 +4,11 @@ use Rattle.std.proofs.Common.{◌≡◌, ℕ, zero, ◌+◌, ◌-◌, ◌%◌, �
 use Rattle.std.specs.Prelude.{slice_get}
 use Rattle.std.proofs.lemmas.List.{length-drop}
 use Rattle.std.proofs.lemmas.Option.{slice_get_within}
-use Rattle.match_turns.specs.Words.{W64, IMAGE_BASE, IMAGE_RANGE_END, STACK_START, STACK_END, address_of, Memory, loaded, Rcx, Rsp, Instr, Context, Cpu, context_of, State, register, Functions, Funclet, arrived, unwound_locally, Local, Instruction, LinearProgram, LinearBody, Frame, Item, Waits, Configuration, body_of, local_unwind, act, instruction_at, exec, Layout, size, sizes, move, IsNear, MachineView, machine, pushed, Reaches, HasCode, StackItem, Framed, Leaf, ImagePlan, InCode, Activation, SameRegions, Aimed, Linked, KeepsAbove, IsWellFormed, AllKeep, Comes, HasRule, IsMatched, LandsWell, callers, links_of, turns_left, IsWellMade, IsKnown, KnownNext, turns_per_step, FlagsFit, NoneLanded, Setting, setting_of, InBody, IsMachineMemory, IsResumed, RepresentsAt, Represents}
+use Rattle.match_turns.specs.Words.{W64, IMAGE_BASE, IMAGE_RANGE_END, STACK_START, STACK_END, address_of, Memory, loaded, Rcx, Rsp, Instr, Context, Cpu, context_of, State, register, Functions, Funclet, arrived, unwound_locally, Local, Instruction, LinearProgram, LinearBody, Frame, Item, Waits, Configuration, body_of, local_unwind, act, instruction_at, exec, Layout, size, sizes, move, IsNear, MachineView, machine, pushed, Reaches, HasCode, StackItem, Framed, Leaf, ImagePlan, InCode, Activation, SameRegions, Aimed, Linked, KeepsAbove, IsWellFormed, AllKeep, Comes, HasRule, IsMatched, LandsWell, callers, links_of, turns_left, IsWellMade, IsKnown, KnownNext, turns_per_step, FlagsFit, NoneLanded, Setting, setting_of, InBody, IsMachineMemory, IsResumed, RepresentsAt, Represents, modrm, address_to, local_unwind_code, AimedHere, LocalUnwindsAreMatched}
 use Rattle.host_layout.specs.declared.service.Service.TheVariants as services
 use Rattle.x64_instr.specs.declared.instruction.Instr.TheVariants as instrs
-use Rattle.x64_encode.specs.Chosen.{modrm}
 use Rattle.linear_code.specs.declared.instruction.Instruction.TheVariants as instructions
-use Rattle.template_code.specs.Calls.{address_to, local_unwind_code}
-use Rattle.template_code.proofs.Sizes.{address_size, call_size, short, template_sizes}
-use Rattle.x64_templates.proofs.PlacedCode.{reaches_then}
-use Rattle.x64_templates.proofs.Services.{thunk_reaches, pushed_thunk}
-use Rattle.x64_templates.proofs.Unwinds.{with_two, local_unwind_begins}
-use Rattle.match_stack.specs.ItemMatches.{AimedHere}
-use Rattle.match_stack.proofs.FuncletEntry.{set_small}
-use Rattle.match_bodies.proofs.SilentTurns.{reaches_silently}
-use Rattle.match_bodies.proofs.InstructionEffects.{others_of}
-use Rattle.match_bodies.proofs.RoutineWalks.{StepsTo, reaches_steps, steps_split, keeps_split, AllPlain}
-use Rattle.match_bodies.proofs.CallKeeping.{calls_keep, CalleeBegins, callee_begins, thunk_keeps}
-use Rattle.match_bodies.proofs.BodyResumption.{all_front}
-use Rattle.match_bodies.proofs.StepNeeds.{some_is, counted_here, code_at}
-use Rattle.match_bodies.proofs.ChainKeeping.{reaches_keeps, stays_well_formed}
-use Rattle.match_bodies.proofs.TemplateRuns.{v, same_state, template_here, next_address, sp_is}
-use Rattle.match_bodies.proofs.BodyViews.{IsCounted, sp_low, frame_top}
+use Rattle.match_turns.proofs.Lemmas.{address_size, call_size, short, template_sizes, reaches_then, thunk_reaches, pushed_thunk, with_two, local_unwind_begins, set_small, reaches_silently, others_of, StepsTo, reaches_steps, steps_split, keeps_split, AllPlain, calls_keep, CalleeBegins, callee_begins, thunk_keeps, all_front, some_is, counted_here, code_at, reaches_keeps, stays_well_formed, v, same_state, template_here, next_address, sp_is, IsCounted, sp_low, frame_top}
 use Rattle.match_turns.proofs.ReturnAddressPlace.{top_of, begins_beneath}
 use Rattle.match_turns.proofs.CallResult.{offset_most}
 use Rattle.match_turns.proofs.CallRegions.{apart_same}
@@ -36,7 +20,6 @@ use Rattle.match_turns.proofs.HostPage.{host_silent}
 use Rattle.match_turns.proofs.DispatchWalks.{service_walk}
 use Rattle.match_turns.proofs.HostTurns.{local_unwind_turns, local_unwind_keeps, matched_when_shown}
 use Rattle.match_turns.specs.LocalUnwindPlaces.{AreFollowed, StayInside}
-use Rattle.match_turns.specs.RaiseLaws.{LocalUnwindsAreMatched}
 use Rattle.match_turns.proofs.WaitingBodies.{none_landed_below}
 use Rattle.match_turns.proofs.BodySavedState.{in_body}
 

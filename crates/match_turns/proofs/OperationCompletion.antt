@@ -3,26 +3,12 @@ use Rattle.std.proofs.Common.{◌≡◌, ℕ, zero, ◌+◌, ◌*◌, ◌^◌, �
 use Rattle.std.specs.Prelude.{slice_index, slice_set}
 use Rattle.std.proofs.lemmas.List.{append-nil}
 use Rattle.std.proofs.lemmas.Option.{slice_get_within}
-use Rattle.match_turns.specs.Words.{Memory, Rax, Rcx, Rsp, Instr, State, register, Gives, Operation, Slot, Temporary, Layout, Instruction, BodyState, with_slot, HasSlots, LinearBody, Configuration, Next, act, exec, sizes, operands_code, finish_code, machine, ReachesBody, FramePlace, locals_of, AllKeep, Comes, HasRule, Moves, turns_left, IsWellMade, IsKnown, seen_by_templates, counts_of, with_values, ComesTo, Setting, RepresentsAt, WorksOn}
+use Rattle.match_turns.specs.Words.{Memory, Rax, Rcx, Rsp, Instr, State, register, Gives, Operation, Slot, Temporary, Layout, Instruction, BodyState, with_slot, HasSlots, LinearBody, Configuration, Next, act, exec, sizes, operands_code, finish_code, machine, ReachesBody, FramePlace, locals_of, AllKeep, Comes, HasRule, Moves, turns_left, IsWellMade, IsKnown, seen_by_templates, counts_of, with_values, ComesTo, Setting, RepresentsAt, WorksOn, written}
 use Rattle.linear_code.specs.declared.instruction.Instruction.TheVariants as instructions
 use Rattle.linear_machine.specs.Frames as linear
-use Rattle.linear_machine.specs.Instructions.{written}
-use Rattle.template_code.proofs.Lengths.{compute_length}
+use Rattle.match_turns.proofs.Lemmas.{compute_length, reaches_silently, locals_count, activated, IsCounted, is_machine, Keeps, reaches_keeps, stays_well_formed, Leaves, further, Ran, represents_next, kept_by_rest, is_here, is_after, ends_at, RunsKeep, finish_keeps, Surroundings, dropped, has_slots, next_address, silent_at, locals_after, temporaries_after, FitsAfter, one_more, at_other, label_small, stored, writes, fits_when_read, leaves_stored, held_here, goes_inside}
 use Rattle.x64_templates.specs.Runs.{Finished}
-use Rattle.match_bodies.proofs.SilentTurns.{reaches_silently}
-use Rattle.match_bodies.proofs.ActivationPlaces.{locals_count}
-use Rattle.match_bodies.proofs.ActivationStores.{activated}
-use Rattle.match_bodies.proofs.BodyViews.{IsCounted, is_machine, placed}
-use Rattle.match_bodies.proofs.ChainKeeping.{Keeps, reaches_keeps, stays_well_formed}
-use Rattle.match_bodies.proofs.TemplateSlots.{Leaves}
-use Rattle.match_bodies.proofs.NextInstruction.{further, Ran, represents_next}
-use Rattle.match_bodies.proofs.TemplateShadows.{kept_by_rest, is_here, is_after, ends_at, RunsKeep}
-use Rattle.match_bodies.proofs.TemplateKeeping.{finish_keeps}
-use Rattle.match_bodies.proofs.TemplateRuns.{Surroundings, dropped, has_slots, next_address, silent_at}
-use Rattle.match_bodies.proofs.SlotWrites.{locals_after, temporaries_after, FitsAfter, one_more}
-use Rattle.match_bodies.proofs.PlainSteps.{at_other, label_small}
-use Rattle.match_bodies.proofs.ComputeStep.{stored, writes, fits_when_read, leaves_stored}
-use Rattle.match_bodies.proofs.StepNeeds.{held_here, goes_inside}
+use Rattle.match_bodies.proofs.BodyViews.{placed}
 use Rattle.match_turns.proofs.OperationMeaning.{acts_as}
 use Rattle.match_turns.proofs.OperationCode.{some_finish, whole_size}
 use Rattle.match_turns.proofs.OperationInProgress as inside

@@ -9,13 +9,8 @@ use Rattle.c_operations.specs.declared.operation.Operation.TheVariants as operat
 use Rattle.linear_code.specs.declared.instruction.Instruction.TheVariants as instructions
 use Rattle.x64_templates.specs.Implements.{IsReady, HasOperands}
 use Rattle.x64_templates.specs.Runs.{Finished}
-use Rattle.x64_templates.proofs.Computes.{finish_run}
+use Rattle.match_turns.proofs.Lemmas.{finish_run, first_in_code, IsCounted, room_here, holds_here, code, frame, slots, has_slots, sp_is, Surroundings, same_constant, some_is, label_in, counted_here, around_here, code_at}
 use Rattle.match_bodies.specs.Bodies.{InBody}
-use Rattle.match_bodies.proofs.TemplateSizes.{first_in_code}
-use Rattle.match_bodies.proofs.BodyViews.{IsCounted, room_here, holds_here}
-use Rattle.match_bodies.proofs.TemplateRuns.{code, frame, slots, has_slots, sp_is, Surroundings}
-use Rattle.match_bodies.proofs.ComputeStep.{same_constant}
-use Rattle.match_bodies.proofs.StepNeeds.{some_is, label_in, counted_here, around_here, code_at}
 use Rattle.match_turns.proofs.OperationMeaning.{nothing_landed}
 use Rattle.match_turns.proofs.OperationCode.{finish_is_at}
 

@@ -1,15 +1,11 @@
 -- Each operation is matched, wherever the machine is.
 use Rattle.std.proofs.Common.{◌≡◌, ℕ, zero, ◌+◌, Bool, List, Option, Some, sym, subst, ◌∙◌, arith, inl, inr}
-use Rattle.match_turns.specs.Words.{Code, State, Functions, Funclet, Operation, OperationResult, Gives, Raises, Undefined, is_reserved, Slot, Local, Temporary, Instruction, LinearProgram, Configuration, body_of, act, instruction_at, exec, ImagePlan, IsTemporary, ReadsWell, IsInstructionOf, IsReady, HasRule, Moves, IsMatched, Sites, turns_left, IsWellMade, IsKnown, KnownNext, turns_per_step, FlagsFit, ComesTo, Setting, setting_of, WorksOn}
+use Rattle.match_turns.specs.Words.{Code, State, Functions, Funclet, Operation, OperationResult, Gives, Raises, Undefined, is_reserved, Slot, Local, Temporary, Instruction, LinearProgram, Configuration, body_of, act, instruction_at, exec, ImagePlan, IsTemporary, ReadsWell, IsInstructionOf, IsReady, HasRule, Moves, IsMatched, Sites, turns_left, IsWellMade, IsKnown, KnownNext, turns_per_step, FlagsFit, ComesTo, Setting, setting_of, WorksOn, RetriesAreMatched, ContinuationsAtOperations, OperationsAreMatched}
 use Rattle.linear_code.specs.declared.instruction.Instruction.TheVariants as instructions
-use Rattle.match_runs.proofs.Matches.{matched_after, matched_slower}
-use Rattle.match_runs.proofs.Turns.{comes_nowhere}
+use Rattle.match_turns.proofs.Lemmas.{matched_after, matched_slower, comes_nowhere, each, some_is, label_in, body_there}
 use Rattle.match_bodies.specs.Bodies.{RepresentsAt}
-use Rattle.match_bodies.proofs.TemplateRuns.{each}
 use Rattle.match_bodies.proofs.BodySteps.{within_body}
-use Rattle.match_bodies.proofs.StepNeeds.{some_is, label_in, body_there}
 use Rattle.match_turns.specs.DispatchOutcome.{Represents}
-use Rattle.match_turns.specs.FaultLaws.{RetriesAreMatched, ContinuationsAtOperations, OperationsAreMatched}
 use Rattle.match_turns.proofs.OperationMeaning.{comes_to_something, undefined, not_constant, fault_reads}
 use Rattle.match_turns.proofs.OperationOperands.{fetched}
 use Rattle.match_turns.proofs.FaultRaise.{raised_at_once}

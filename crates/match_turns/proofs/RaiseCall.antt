@@ -4,16 +4,14 @@ use Rattle.std.specs.Prelude.{nat_eq, replicate, slice_get, slice_index, if◌th
 use Rattle.std.proofs.lemmas.Bool.{eq-eqb}
 use Rattle.std.proofs.lemmas.List.{get_or-drop}
 use Rattle.std.proofs.lemmas.Option.{slice_get-get_or}
-use Rattle.match_turns.specs.Words.{W32, Code, low, Rcx, Rdx, address_of, context_of, State, register, arrived, raised, RaiseException, Exception, raise_event, Temporary, Instruction, LinearProgram, AfterCall, Configuration, Next, with_some, last_temporaries, raise, count_of, waiting, built_in, act, instruction_at, exec, IsException, HasRule, IsMatched, callers, turns_left, IsWellMade, IsKnown, KnownNext, turns_per_step, FlagsFit, Setting, setting_of, RepresentsAt, Represents}
+use Rattle.match_turns.specs.Words.{W32, Code, low, Rcx, Rdx, address_of, context_of, State, register, arrived, raised, RaiseException, Exception, raise_event, Temporary, Instruction, LinearProgram, AfterCall, Configuration, Next, with_some, last_temporaries, raise, count_of, waiting, built_in, act, instruction_at, exec, IsException, HasRule, IsMatched, callers, turns_left, IsWellMade, IsKnown, KnownNext, turns_per_step, FlagsFit, Setting, setting_of, RepresentsAt, Represents, RaisesAreMatched}
 use Rattle.host_layout.specs.declared.service.Service.TheVariants as services
 use Rattle.source_meaning.specs.Expressions as expressions
 use Rattle.linear_code.specs.declared.instruction.Instruction.TheVariants as instructions
-use Rattle.match_bodies.proofs.StepNeeds.{counted_here, ready_here}
-use Rattle.match_bodies.proofs.BodyViews.{slots_here}
+use Rattle.match_turns.proofs.Lemmas.{counted_here, ready_here, slots_here}
 use Rattle.match_turns.proofs.DispatchStart.{raised_as}
 use Rattle.match_turns.proofs.DispatchWalks.{service_walk}
 use Rattle.match_turns.proofs.HostTurns.{raise_turns, raise_keeps, matched_when_shown}
-use Rattle.match_turns.specs.RaiseLaws.{RaisesAreMatched}
 use Rattle.match_turns.proofs.BuiltInRequest as asking
 
 -- an argument, among the last temporaries

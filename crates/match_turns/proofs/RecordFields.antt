@@ -2,15 +2,12 @@
 use Rattle.std.proofs.Common.{◌≡◌, ℕ, zero, suc, ◌+◌, ◌*◌, ◌%◌, ◌^◌, ◌<◌, Bool, true, false, cond, List, get_or, Option, Some, None, refl, sym, ap, ◌∙◌, arith}
 use Rattle.std.specs.Prelude.{not, ◌==◌, replicate, nat_eq}
 use Rattle.std.proofs.lemmas.Bool.{eqb-true, ne_eqb}
-use Rattle.match_turns.specs.Words.{bytes_of, Memory, first_refused, may_read, number_at, Functions, DispatchRecord, fetched, RecordFits, Funclet, parameters, write_number, Field, ExceptionCode, ExceptionFlags, NumberParameters, ExceptionInformation, Exception, of_test, field_of, LinearProgram, field_at, field_width, IsField, ImagePlan}
+use Rattle.match_turns.specs.Words.{bytes_of, Memory, first_refused, may_read, number_at, Functions, DispatchRecord, fetched, RecordFits, Funclet, parameters, write_number, Field, ExceptionCode, ExceptionFlags, NumberParameters, ExceptionInformation, Exception, of_test, field_of, LinearProgram, field_at, field_width, IsField, ImagePlan, if_readable, if_marked, of_kind, kind_of, recorded, mark, count, parameter_of, HasException}
 use Rattle.seh_records.specs.declared.dispatch.Kind.{Kind}
-use Rattle.seh_records.specs.Record.{if_readable, if_marked, of_kind, kind_of, recorded, word, mark}
+use Rattle.seh_records.specs.Record.{word}
 use Rattle.seh_records.proofs.Fetched.{word_in}
-use Rattle.host_model.specs.Dispatch.{count}
-use Rattle.source_meaning.specs.Expressions.{count_of, parameter_of}
-use Rattle.x64_templates.proofs.Information.{field_number}
-use Rattle.match_stack.specs.ItemMatches.{HasException}
-use Rattle.match_bodies.proofs.StepNeeds.{some_is}
+use Rattle.source_meaning.specs.Expressions.{count_of}
+use Rattle.match_turns.proofs.Lemmas.{field_number, some_is}
 
 -- what is fetched is what is there
 record IsRecorded (m : Memory) (at : ℕ) (r : DispatchRecord) : Type 0 where

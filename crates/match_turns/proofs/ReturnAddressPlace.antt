@@ -2,9 +2,7 @@
 -- address.
 use Rattle.std.proofs.Common.{ℕ, ◌+◌, ◌≤◌, List, refl, sym, subst, arith}
 use Rattle.match_turns.specs.Words.{STACK_END, Rsp, State, register, Item, Configuration, IsStack, context_below, Activation, Setting, RepresentsAt}
-use Rattle.match_bodies.proofs.InstructionEffects.{others_of}
-use Rattle.match_bodies.proofs.RoutineWalks.{Beneath, beneath_by}
-use Rattle.match_bodies.proofs.BodyViews.{IsCounted, frame_top}
+use Rattle.match_turns.proofs.Lemmas.{others_of, Beneath, beneath_by, IsCounted, frame_top}
 use Rattle.match_turns.proofs.FuncletFrame.{ArrivesBelow}
 
 module _ (setting : Setting) where

@@ -4,8 +4,7 @@ use Rattle.std.specs.Prelude.{◌⊎◌}
 use Rattle.std.proofs.lemmas.Bool.{cases_lt}
 use Rattle.std.proofs.lemmas.List.{get_or-set_same, length-set}
 use Rattle.match_turns.specs.Words.{W64, STACK_START, STACK_END, may_read, may_write, number_at, with_number, access, loaded, Rsp, Cpu, Flags, State, register, back, KeepsAbove, IsData, IsUntouched, MachineView, machine, pushed, HasBelow, HasBack}
-use Rattle.x64_templates.proofs.PlacedCode.{all_may}
-use Rattle.x64_templates.proofs.Entries.{beside, pushed_back, pushed_bytes}
+use Rattle.match_turns.proofs.Lemmas.{all_may, beside, pushed_back, pushed_bytes}
 
 module _ (v : MachineView) (sp ret : ℕ) (low : STACK_START + 8 ≤ sp) (high : sp ≤ STACK_END)
     (data_alone : IsData v.memory) (may : (a : ℕ) → STACK_START ≤ a → a < STACK_END

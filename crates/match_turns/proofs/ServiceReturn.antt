@@ -7,23 +7,9 @@ use Rattle.std.proofs.lemmas.Option.{slice_get_within}
 use Rattle.match_turns.specs.Words.{Event, Memory, Rsp, Instr, Context, kept_of, State, register, distance, arrivals, Continues, turn, BuiltIn, Temporary, BodyState, with_slot, LinearBody, Configuration, Next, act, sizes, keep, call, arguments_code, return_at, begin_call, clear_result, MachineView, machine, sp_of, ReachesBody, locals_of, KeepsAbove, KeepsStack, WalkGives, KeepsShadow, AllKeep, Comes, Moves, HaveRoom, turns_left, counts_of, with_values, OwnerHasFrame, Setting, HasProgram, IsMachineMemory, RepresentsAt}
 use Rattle.linear_code.specs.declared.instruction.Instruction.TheVariants as instructions
 use Rattle.linear_machine.specs.Frames as linear
-use Rattle.template_code.proofs.Sizes.{sizes_append, call_size}
+use Rattle.match_turns.proofs.Lemmas.{sizes_append, call_size, index_other, call_ends, keep_flow, comes_then, silent_here, reaches_silently, program_reaches, locals_count, same_activations, IsCounted, room_here, holds_here, locals_here, Keeps, keeps_then, reaches_keeps, stays_well_formed, Ran, represents_next, kept_by_rest, caller_here, beyond_here, is_here, is_after, ends_at, ends_gives, IsPast, one_piece, past_ends, frame, slots, has_slots, silent_at, dropped, Surroundings, one_more, label_small, leaves_stored}
 use Rattle.x64_templates.specs.Straight.{AreSmall}
-use Rattle.x64_templates.proofs.Keeping.{index_other}
-use Rattle.x64_templates.proofs.Returns.{call_ends}
-use Rattle.x64_templates.proofs.Flows.{keep_flow}
-use Rattle.match_runs.proofs.Turns.{comes_then}
-use Rattle.match_bodies.proofs.SilentTurns.{silent_here, reaches_silently, program_reaches}
-use Rattle.match_bodies.proofs.ActivationPlaces.{locals_count}
-use Rattle.match_bodies.proofs.ActivationStores.{same_activations}
-use Rattle.match_bodies.proofs.BodyViews.{IsCounted, placed, room_here, holds_here, locals_here}
-use Rattle.match_bodies.proofs.ChainKeeping.{Keeps, keeps_then, reaches_keeps, stays_well_formed}
-use Rattle.match_bodies.proofs.NextInstruction.{Ran, represents_next}
-use Rattle.match_bodies.proofs.TemplateShadows.{kept_by_rest, caller_here, beyond_here, is_here, is_after, ends_at, ends_gives, IsPast, one_piece, past_ends}
-use Rattle.match_bodies.proofs.TemplateRuns.{frame, slots, has_slots, silent_at, dropped, Surroundings}
-use Rattle.match_bodies.proofs.SlotWrites.{one_more}
-use Rattle.match_bodies.proofs.PlainSteps.{label_small}
-use Rattle.match_bodies.proofs.ComputeStep.{leaves_stored}
+use Rattle.match_bodies.proofs.BodyViews.{placed}
 use Rattle.match_turns.proofs.BuiltInRequest.{clear_size}
 use Rattle.match_turns.proofs.ReturnAddressPush.{keeps_above, sp_there as returned_sp, sp_saved}
 use Rattle.match_turns.proofs.BodyOtherMemory.{elsewhere, source_elsewhere, represents_elsewhere, same_activations as same_acts, same_code}

@@ -4,13 +4,7 @@ use Rattle.std.proofs.Common.{◌≡◌, ℕ, ◌+◌, ◌^◌, ◌<◌, ◌≤�
 use Rattle.std.specs.Prelude.{Result, slice_index, slice_set, if◌then◌else◌}
 use Rattle.match_turns.specs.Words.{W64, RefusedAccess, address_of, service_at, in_host_page, Memory, executable, loaded, Rsp, leading, Context, kept_of, context_of, State, register, hosted, execute, step, rsp, distance, readable, word, filter_return, finally_return, arrivals, BuiltIn, Put, Protect, RaiseException, Configuration, state, activations_below, KeepsStack, drop_below, started, served, GivesCallers, WalkGives, KeepsShadow, caller_above, service_of, Setting, HasProgram, RepresentsAt}
 use Rattle.x64_machine.specs.declared.outcome.Stop.TheVariants as stops
-use Rattle.x64_templates.proofs.Keeping.{index_other}
-use Rattle.match_stack.proofs.ListKeeping.{reads_other, kept_by_other_memories}
-use Rattle.match_runs.proofs.Shadows.{none_below, one_below, host_keeps}
-use Rattle.match_bodies.proofs.StackWalks.{on_stack}
-use Rattle.match_bodies.proofs.BodyCallers.{gives_caller}
-use Rattle.match_bodies.proofs.BodyViews.{IsCounted, sp_low, frame_top}
-use Rattle.match_bodies.proofs.TemplateShadows.{kept_here, caller_here, Below}
+use Rattle.match_turns.proofs.Lemmas.{index_other, reads_other, kept_by_other_memories, none_below, one_below, host_keeps, on_stack, gives_caller, IsCounted, sp_low, frame_top, kept_here, caller_here, Below}
 use Rattle.match_turns.proofs.BodyOtherMemory.{higher_stack}
 
 -- at a service of a built-in function the host continues

@@ -3,7 +3,7 @@ use Rattle.std.proofs.Common.{◌≡◌, ℕ, ◌+◌, ◌<◌, Bool, true, fals
 use Rattle.std.specs.Prelude.{slice_get}
 use Rattle.match_turns.specs.Words.{State, BuiltIn, Put, Protect, Local, Instruction, LinearProgram, Configuration, instruction_at, LandsWell, IsWellMade, IsKnown, Setting, setting_of, RepresentsAt}
 use Rattle.linear_code.specs.declared.instruction.Instruction.TheVariants as instructions
-use Rattle.match_bodies.proofs.StepNeeds.{some_is, counted_here, around_here, code_at, held_here, goes_inside, ready_here}
+use Rattle.match_turns.proofs.Lemmas.{some_is, counted_here, around_here, code_at, held_here, goes_inside, ready_here}
 use Rattle.match_turns.specs.ServiceLaws.{InformationIsMatched, PutsAreMatched, ProtectsAreMatched}
 use Rattle.match_turns.proofs.ServiceTurns.{put_step, protect_step}
 use Rattle.match_turns.proofs.FilterInformationStep.{information_step}

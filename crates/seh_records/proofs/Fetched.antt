@@ -2,16 +2,8 @@
 use Rattle.std.proofs.Common.{◌≡◌, ℕ, zero, suc, ◌+◌, ◌*◌, ◌%◌, ◌^◌, ◌<◌, ◌≤◌, Bool, true, false, Some, None, List, [], ◌∷◌, ◌++◌, length, get_or, append_assoc, length-append, refl, sym, ap, ◌∙◌, arith, lit<}
 use Rattle.std.proofs.lemmas.Bool.{eq-eqb}
 use Rattle.std.proofs.lemmas.List.{get_or-append-add, get_or_append_left, append-nil}
-use Rattle.seh_num.specs.Widths.{if_set}
-use Rattle.flat_memory.specs.Memory.{Memory, next, number_at, first_refused, may_read}
+use Rattle.seh_records.specs.Vocabulary.{if_set, Memory, next, number_at, first_refused, may_read, Kind, Search, ExceptionUnwind, LocalUnwind, DispatchRecord, words_at, AreBytes, RecordFits, RecordIsFetched, words, head, front, back, mark, number_of, kind_of, fetched, if_readable, if_marked, of_kind, recorded, word, half, words_from, eflags, flags_of, RECORD_SIZE}
 use Rattle.x64_machine.specs.declared.cpu.Flags.{Flags}
-use Rattle.seh_records.specs.declared.dispatch.Kind.{Kind}
-use Rattle.seh_records.specs.declared.dispatch.Kind.TheVariants.{Search, ExceptionUnwind, LocalUnwind}
-use Rattle.seh_records.specs.declared.dispatch.DispatchRecord.{DispatchRecord}
-use Rattle.seh_records.specs.Words.{words_at}
-use Rattle.seh_records.specs.Laws.{AreBytes, RecordFits, RecordIsFetched}
-use Rattle.seh_records.specs.Record.{words, head, front, back, mark, number_of, kind_of, fetched, if_readable, if_marked, of_kind, recorded, word, half, words_from, eflags, flags_of}
-use Rattle.seh_records.specs.declared.layout.TheConstants.{RECORD_SIZE}
 
 -- ---- halves of words
 

@@ -3,19 +3,11 @@ use Rattle.std.proofs.Common.{◌≡◌, ℕ, zero, suc, ◌+◌, ◌-◌, ◌*�
 use Rattle.std.specs.Prelude.{◌⊎◌, replicate}
 use Rattle.std.proofs.lemmas.Bool.{cases_lt}
 use Rattle.std.proofs.lemmas.List.{get_or-append-add, get_or_append_left}
-use Rattle.flat_memory.specs.Memory.{Memory, is_among, distance, number_at, with_number, with_bytes}
-use Rattle.flat_memory.specs.Laws.{IsApart}
-use Rattle.flat_memory.proofs.Stores.{leaves_others, stored_is_loaded}
-use Rattle.seh_records.specs.declared.dispatch.Kind.{Kind}
-use Rattle.seh_records.specs.declared.dispatch.Kind.TheVariants.{Search, ExceptionUnwind, LocalUnwind}
-use Rattle.seh_records.specs.declared.dispatch.DispatchRecord.{DispatchRecord}
-use Rattle.seh_records.specs.Words.{with_words, words_at}
-use Rattle.seh_records.specs.Record.{words, head, front, back, number_of, eflags, placed, fetched}
-use Rattle.seh_records.specs.Laws.{AllSmall, AreBytes, Readable, RecordFits, PlacedIsRecord, PlacedIsFetched, PlacedIsFetchedWhereNotRefused, PlacingLeavesOthers}
+use Rattle.seh_records.specs.Vocabulary.{Memory, is_among, distance, number_at, with_number, with_bytes, IsApart, Kind, Search, ExceptionUnwind, LocalUnwind, DispatchRecord, with_words, words_at, words, head, front, back, number_of, eflags, placed, fetched, AllSmall, AreBytes, Readable, RecordFits, PlacedIsRecord, PlacedIsFetched, PlacedIsFetchedWhereNotRefused, PlacingLeavesOthers, RECORD_SIZE}
+use Rattle.seh_records.proofs.Lemmas.{leaves_others, stored_is_loaded}
 use Rattle.seh_records.proofs.Block.{outside, one_block}
 use Rattle.seh_records.proofs.Places.{readable_bytes, below_top}
 use Rattle.seh_records.proofs.Fetched.{run_is, fetched_back, count_words, eflags_small}
-use Rattle.seh_records.specs.declared.layout.TheConstants.{RECORD_SIZE}
 
 -- ---- words that come before others
 

@@ -3,11 +3,9 @@ use Rattle.std.proofs.Common.{◌≡◌, ℕ, ◌+◌, ◌*◌, ◌%◌, ◌^◌
 use Rattle.std.specs.Prelude.{nat_lt}
 use Rattle.std.proofs.lemmas.Bool.{ltb-false}
 use Rattle.host_layout.specs.declared.range.TheConstants.{STACK_START}
-use Rattle.flat_memory.specs.Memory.{Memory, first_refused, may_read, may_write}
-use Rattle.flat_memory.proofs.Stores.{writable_is_readable}
-use Rattle.seh_records.specs.Record.{misplaced, return_address_at}
+use Rattle.seh_records.specs.Vocabulary.{Memory, first_refused, may_read, may_write, misplaced, return_address_at, RECORD_SIZE, PLACED_SIZE}
+use Rattle.seh_records.proofs.Lemmas.{writable_is_readable}
 use Rattle.seh_records.proofs.Runs.{none_within}
-use Rattle.seh_records.specs.declared.layout.TheConstants.{RECORD_SIZE, PLACED_SIZE}
 
 -- then all its words may be written
 pub writable : (m : Memory) (at : ℕ) → misplaced m at ≡ None

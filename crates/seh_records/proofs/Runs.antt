@@ -4,10 +4,7 @@ use Rattle.std.proofs.lemmas.List.{take_more_set}
 use Rattle.std.specs.Prelude.{Ok, Err}
 use Rattle.flat_memory.specs.declared.access.RefusedAccess.{RefusedAccess}
 use Rattle.seh_num.specs.declared.width.Width.{Width}
-use Rattle.seh_num.specs.declared.width.Width.TheVariants.{W64}
-use Rattle.seh_num.specs.Widths.{bytes_of}
-use Rattle.flat_memory.specs.Memory.{Memory, next, first_refused, may_read, may_write, loaded, access, number_at, with_number, with_bytes, after_store, unless_refused}
-use Rattle.seh_records.specs.Words.{with_words, words_at}
+use Rattle.seh_records.specs.Vocabulary.{W64, bytes_of, Memory, next, first_refused, may_read, may_write, loaded, access, number_at, with_number, with_bytes, after_store, unless_refused, with_words, words_at}
 
 -- the first refused of two runs
 abbrev pub or_else : Option ℕ → Option ℕ → Option ℕ

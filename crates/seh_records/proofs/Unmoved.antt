@@ -1,18 +1,8 @@
 -- What is fetched rests on the bytes past the home space alone.
 use Rattle.std.proofs.Common.{◌≡◌, ℕ, zero, suc, ◌+◌, ◌*◌, ◌%◌, ◌^◌, ◌<◌, ◌≤◌, Bool, true, false, Option, Some, None, List, ◌∷◌, refl, sym, ap, ◌∙◌, arith, lit≤}
 use Rattle.std.specs.Prelude.{nat_eq}
-use Rattle.seh_num.specs.Widths.{bytes_of}
-use Rattle.flat_memory.specs.declared.protection.Protection.{Protection}
-use Rattle.flat_memory.specs.Protections.{is_readable}
-use Rattle.flat_memory.specs.Memory.{Memory, next, first_refused, may_read, may_write, number_at, with_number, with_bytes, unless_refused, after_store}
-use Rattle.flat_memory.specs.Laws.{IsApart}
-use Rattle.flat_memory.proofs.Stores.{untouched, keeps_modes}
-use Rattle.seh_records.specs.declared.dispatch.Kind.{Kind}
-use Rattle.seh_records.specs.declared.dispatch.DispatchRecord.{DispatchRecord}
-use Rattle.seh_records.specs.Words.{words_at}
-use Rattle.seh_records.specs.Record.{fetched, if_readable, if_marked, of_kind, kind_of, recorded, mark, word, words_from, flags_of}
-use Rattle.seh_records.specs.Laws.{FetchedByItsBytes, StoresLeaveIt}
-use Rattle.seh_records.specs.declared.layout.TheConstants.{RECORD_SIZE}
+use Rattle.seh_records.specs.Vocabulary.{bytes_of, Protection, is_readable, Memory, next, first_refused, may_read, may_write, number_at, with_number, with_bytes, unless_refused, after_store, IsApart, Kind, DispatchRecord, words_at, fetched, if_readable, if_marked, of_kind, kind_of, recorded, mark, word, words_from, flags_of, FetchedByItsBytes, StoresLeaveIt, RECORD_SIZE}
+use Rattle.seh_records.proofs.Lemmas.{untouched, keeps_modes}
 
 number_same : (byte other : ℕ → ℕ) (n x : ℕ) → x + n < 2 ^ 64
     → ((i : ℕ) → i < n → other (x + i) ≡ byte (x + i)) → number_at other n x ≡ number_at byte n x

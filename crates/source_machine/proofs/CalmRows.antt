@@ -2,15 +2,9 @@
 use Rattle.std.proofs.Common.{◌≡◌, ℕ, zero, suc, refl, sym, ◌∙◌, inl, inr}
 use Rattle.std.specs.Prelude.{Bool, true, false, not, ◌&&◌, ◌||◌, ◌⊎◌, pos, None}
 use Rattle.std.proofs.lemmas.Bool.{cases_Bool, true≢false}
-use Rattle.c_checked.specs.Program.{Program}
-use Rattle.c_checked.specs.Statement.{Evaluate, Leave}
-use Rattle.source_meaning.specs.Meaning.{computed}
+use Rattle.source_machine.specs.Words.{Program, Evaluate, Leave, computed, Machine, step, is_over, first, after, raises_inside}
 use Rattle.source_meaning.specs.Short.{lit, raise, answer}
 use Rattle.source_meaning.specs.Rows.{exit, sum_and_return, null_store_caught, filter_then_finally, continue_same_operand, return_flags, leave_flags, raise_in_filter, raise_in_finally, continue_noncontinuable}
-use Rattle.source_machine.specs.Machine.{Machine, step}
-use Rattle.source_machine.specs.StepLaws.{is_over}
-use Rattle.source_machine.specs.Runs.{first, after}
-use Rattle.source_machine.specs.Plain.{raises_inside}
 use Rattle.source_machine.specs.CalmRows.{TameRows, PlainRows, RaisesInFilters, RaisesInFinallys, FlagOneAtReturn, FlagZeroAtEnd, FlagZeroAtLeave, handled_in_filter, raising_after}
 use Rattle.source_machine.proofs.RunPrefixes.{over_stays, no_raise}
 use Rattle.source_machine.proofs.Tameness.{ended_is_tame}

@@ -2,34 +2,10 @@
 use Rattle.std.proofs.Common.{◌≡◌, ℕ, List, [], ◌∷◌, length, refl, sym, ap, ◌∙◌, Option, Some, None}
 use Rattle.std.specs.Prelude.{Bool, true, false, nat_eq, nat_lt, ◌^◌, reverse}
 use Rattle.std.proofs.lemmas.List.{length-reverse}
-use Rattle.c_checked.specs.Program.{Program}
-use Rattle.c_checked.specs.Expression.{Expression}
-use Rattle.c_checked.specs.Statement.{Statement, Statements}
-use Rattle.source_meaning.specs.declared.ended.Ended.{Ended}
-use Rattle.source_meaning.specs.declared.ended.Ended.TheVariants.{Deep}
-use Rattle.source_meaning.specs.State.{Exception, State, Result, Value, Normal, Continued, Target, End}
-use Rattle.source_meaning.specs.State.{Outcome, Gives, choose, with_value, and_then, emit}
+use Rattle.source_machine.specs.Words.{Program, Expression, Statement, Statements, Ended, Deep, Exception, State, Result, Value, Normal, Continued, Target, End, Outcome, Gives, choose, with_value, and_then, emit, Handler, Does, ended_call, all, optional, in_loop, landing, finally_after, noncontinuable, search, W32, low, Place, context_at, OperandFrame, AssignmentFrame, StatementFrame, SequelFrame, BodyFrame, ContinuationFrame, Operand, Assignment, InStatement, Sequel, Body, EndsCall, Lands, Finishes, Plan, chosen, operand_plan, assignment_plan, evaluated, branch, answer_plan, in_statement_plan, sequel_plan, body_plan, Machine, follow, over, after_value, after_normal, after_body, left_call, target_landed, landed, finished, resumed, outside, given, unless_deep, below, operand_meaning, assignment_meaning, branch_meaning, in_statement_meaning, sequel_meaning, body_meaning, through, through_all, comes_to}
 use Rattle.source_meaning.specs.Tasks as tasks
-use Rattle.source_meaning.specs.Tasks.{Handler, Does}
-use Rattle.source_meaning.specs.Expressions.{ended_call, all}
-use Rattle.source_meaning.specs.Statements.{optional, in_loop, landing, finally_after}
-use Rattle.source_meaning.specs.Raises.{noncontinuable, search}
-use Rattle.seh_num.specs.declared.width.Width.TheVariants.{W32}
 use Rattle.seh_num.specs.declared.event.Event.TheVariants as events
-use Rattle.seh_num.specs.Widths.{low}
 use Rattle.source_machine.specs.Frames as frames
-use Rattle.source_machine.specs.Frames.{Place, context_at, OperandFrame, AssignmentFrame}
-use Rattle.source_machine.specs.Frames.{StatementFrame, SequelFrame, BodyFrame, ContinuationFrame, Operand}
-use Rattle.source_machine.specs.Frames.{Assignment, InStatement, Sequel, Body, EndsCall, Lands}
-use Rattle.source_machine.specs.Frames.{Finishes, Plan}
-use Rattle.source_machine.specs.Plans.{chosen, operand_plan, assignment_plan, evaluated, branch}
-use Rattle.source_machine.specs.Plans.{answer_plan, in_statement_plan, sequel_plan, body_plan}
-use Rattle.source_machine.specs.Machine.{Machine, follow, over, after_value, after_normal}
-use Rattle.source_machine.specs.Machine.{after_body, left_call, target_landed, landed, finished}
-use Rattle.source_machine.specs.Machine.{resumed, outside, given, unless_deep}
-use Rattle.source_machine.specs.FrameMeanings.{below, operand_meaning, assignment_meaning, branch_meaning}
-use Rattle.source_machine.specs.FrameMeanings.{in_statement_meaning, sequel_meaning, body_meaning}
-use Rattle.source_machine.specs.FrameMeanings.{through, through_all, comes_to}
 
 module _ (program : Program) (d : Does) where
   abbrev pub comes : Machine → Outcome

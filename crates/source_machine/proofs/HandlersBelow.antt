@@ -5,8 +5,7 @@ use Rattle.std.specs.Prelude.{reverse, slice_get, Some}
 use Rattle.std.proofs.lemmas.Option.{slice_get_cases}
 use Rattle.std.proofs.lemmas.List.{reverse-append, take_all}
 use Rattle.std.proofs.Math.Seq.{take-suc}
-use Rattle.source_meaning.specs.Tasks.{Handler}
-use Rattle.source_machine.specs.FrameMeanings.{found, below}
+use Rattle.source_machine.specs.Words.{Handler, found, below}
 
 reverse-one : (h : Handler) (hs : List Handler) → reverse (hs ++ h ∷ []) ≡ h ∷ reverse hs
 reverse-one h hs = reverse-append hs (h ∷ [])

@@ -2,18 +2,9 @@
 use Rattle.std.proofs.Common.{◌≡◌, ℕ, zero, suc, ◌+◌, ◌≤◌, ◌<◌, refl, sym, ap, ◌∙◌, subst, arith, inl, inr}
 use Rattle.std.specs.Prelude.{◌⊎◌, Bool, true, false, ◌&&◌, ℤ}
 use Rattle.std.proofs.lemmas.Bool.{cases_Bool}
-use Rattle.c_checked.specs.Program.{Program}
-use Rattle.source_meaning.specs.Tasks.{Task}
-use Rattle.source_meaning.specs.Meaning.{does, ran}
-use Rattle.source_machine.specs.Frames.{Place, Next, Over, Start}
-use Rattle.source_machine.specs.Machine.{Machine, step, done, started}
-use Rattle.source_machine.specs.FrameMeanings.{comes_to}
-use Rattle.source_machine.specs.StepLaws.{is_over, distance}
+use Rattle.source_machine.specs.Words.{Program, Task, does, ran, Place, Next, Over, Start, Machine, step, done, started, comes_to, is_over, distance, first, after, is_raise, raises_inside, PlainBefore, OneRun, ComesToEnd, RaisesShow}
 use Rattle.source_machine.proofs.StepDistance.{decreases}
 use Rattle.source_machine.proofs.WholeRuns.{all_keep}
-use Rattle.source_machine.specs.Runs.{first, after}
-use Rattle.source_machine.specs.Plain.{is_raise, raises_inside}
-use Rattle.source_machine.specs.CalmLaws.{PlainBefore, OneRun, ComesToEnd, RaisesShow}
 use Rattle.source_machine.proofs.StepsLeft.{with_left, alike}
 
 -- ---- a machine whose run is over

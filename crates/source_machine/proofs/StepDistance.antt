@@ -2,41 +2,14 @@
 use Rattle.std.proofs.Common.{◌≡◌, ℕ, zero, suc, ◌+◌, ◌*◌, ◌<◌, List, [], ◌∷◌, length, refl, arith}
 use Rattle.std.proofs.Common.{lit<, Option, Some, None}
 use Rattle.std.specs.Prelude.{Bool, true, false, nat_eq, nat_lt, slice_get, ◌^◌}
-use Rattle.seh_num.specs.declared.width.Width.TheVariants.{W32}
-use Rattle.seh_num.specs.Widths.{low}
-use Rattle.c_operations.specs.declared.built_in.BuiltIn.{BuiltIn}
-use Rattle.c_operations.specs.declared.built_in.BuiltIn.TheVariants.{Put, Protect, RaiseException}
-use Rattle.c_operations.specs.declared.operation.Operation.{Operation}
+use Rattle.source_machine.specs.Words.{W32, low, BuiltIn, Put, Protect, RaiseException, Operation, performed, Program, Function, Expression, On, Node, Lvalue, Local, Global, Indirection, Element, Arguments, Done, Filter, Always, Funclet, Statement, Statements, Empty, Declared, is_reserved, Exception, Result, Value, Normal, Returned, Continued, LeftTry, Target, End, Handler, Task, Place, Callee, OperandFrame, AssignmentFrame, StatementFrame, SequelFrame, BodyFrame, ContinuationFrame, Operand, Assignment, InStatement, Sequel, Body, EndsCall, Lands, Finishes, Next, Over, Give, Start, Begin, Plan, Then, Push, chosen, node_plan, expression_plan, find_plan, pass_plan, operand_plan, assignment_plan, evaluated, branch, answer_plan, in_statement_plan, sequel_plan, body_plan, proceed_plan, declare_plan, statement_plan, Machine, follow, unless_deep, started, begun, fetched, put, operated, entered, built_in, called, declared, asked_by, asked, searched, target_landed, landed, finished, left_call, after_value, after_normal, after_body, resumed, given, outside, done, is_deep, with_local, is_over, operand_worth, assignment_worth, statement_worth, worth, all_worth, next_worth, distance, Decreases}
 use Rattle.c_operations.specs.Performed as performing
-use Rattle.c_operations.specs.Performed.{performed}
-use Rattle.c_checked.specs.Program.{Program, Function}
 use Rattle.c_checked.specs.Expression as nodes
-use Rattle.c_checked.specs.Expression.{Expression, On, Node, Lvalue, Local, Global, Indirection}
-use Rattle.c_checked.specs.Expression.{Element, Arguments, Done, Next as Another}
+use Rattle.c_checked.specs.Expression.{Next as Another}
 use Rattle.c_checked.specs.Statement as statements
-use Rattle.c_checked.specs.Statement.{Filter, Always, Funclet, Statement, Statements, Empty}
-use Rattle.c_checked.specs.Statement.{Then as Followed, Declared}
-use Rattle.source_meaning.specs.Source.{is_reserved}
-use Rattle.source_meaning.specs.State.{Exception, Result, Value, Normal, Returned, Continued, LeftTry}
-use Rattle.source_meaning.specs.State.{Target, End}
+use Rattle.c_checked.specs.Statement.{Then as Followed}
 use Rattle.source_meaning.specs.Tasks as tasks
-use Rattle.source_meaning.specs.Tasks.{Handler, Task}
 use Rattle.source_machine.specs.Frames as frames
-use Rattle.source_machine.specs.Frames.{Place, Callee, OperandFrame, AssignmentFrame}
-use Rattle.source_machine.specs.Frames.{StatementFrame, SequelFrame, BodyFrame, ContinuationFrame, Operand}
-use Rattle.source_machine.specs.Frames.{Assignment, InStatement, Sequel, Body, EndsCall, Lands}
-use Rattle.source_machine.specs.Frames.{Finishes, Next, Over, Give, Start, Begin, Plan, Then, Push}
-use Rattle.source_machine.specs.Plans.{chosen, node_plan, expression_plan, find_plan, pass_plan}
-use Rattle.source_machine.specs.Plans.{operand_plan, assignment_plan, evaluated, branch}
-use Rattle.source_machine.specs.Plans.{answer_plan, in_statement_plan, sequel_plan, body_plan}
-use Rattle.source_machine.specs.Plans.{proceed_plan, declare_plan, statement_plan}
-use Rattle.source_machine.specs.Machine.{Machine, follow, unless_deep, started, begun}
-use Rattle.source_machine.specs.Machine.{fetched, put, operated, entered, built_in, called}
-use Rattle.source_machine.specs.Machine.{declared, asked_by, asked, searched, target_landed, landed}
-use Rattle.source_machine.specs.Machine.{finished, left_call, after_value, after_normal, after_body}
-use Rattle.source_machine.specs.Machine.{resumed, given, outside, done, is_deep, with_local}
-use Rattle.source_machine.specs.StepLaws.{is_over, operand_worth, assignment_worth, statement_worth}
-use Rattle.source_machine.specs.StepLaws.{worth, all_worth, next_worth, distance, Decreases}
 
 plan_worth : Plan → ℕ
 plan_worth (Then next) = next_worth next

@@ -2,33 +2,10 @@
 use Rattle.std.proofs.Common.{ℕ, zero, suc, List, [], ◌∷◌, ◌++◌, length, refl, Option, Some, None}
 use Rattle.std.specs.Prelude.{Bool, true, false, nat_eq, slice_get}
 use Rattle.std.proofs.lemmas.List.{append-nil}
-use Rattle.seh_num.specs.declared.event.Event.{Event}
-use Rattle.c_operations.specs.declared.built_in.BuiltIn.{BuiltIn}
-use Rattle.c_operations.specs.declared.built_in.BuiltIn.TheVariants.{Put, Protect, RaiseException}
-use Rattle.c_operations.specs.declared.operation.Operation.{Operation}
+use Rattle.source_machine.specs.Words.{Event, BuiltIn, Put, Protect, RaiseException, Operation, performed, Program, Function, Lvalue, Local, Global, Indirection, Element, Filter, Always, Funclet, Statements, is_reserved, Exception, Result, Value, Normal, Returned, Continued, LeftTry, Target, End, Handler, Task, IsPrefixOf, Place, Callee, ContinuationFrame, Operand, Assignment, InStatement, Sequel, Body, EndsCall, Lands, Finishes, Next, Over, Give, Start, Begin, Plan, Then, Push, operand_plan, assignment_plan, in_statement_plan, sequel_plan, body_plan, Machine, follow, unless_deep, started, begun, fetched, put, operated, entered, built_in, called, asked_by, asked, searched, target_landed, landed, finished, left_call, after_value, after_normal, after_body, resumed, given, outside, done, is_deep, with_local, Extends}
 use Rattle.c_operations.specs.Performed as performing
-use Rattle.c_operations.specs.Performed.{performed}
-use Rattle.c_checked.specs.Program.{Program, Function}
-use Rattle.c_checked.specs.Expression.{Lvalue, Local, Global, Indirection, Element}
-use Rattle.c_checked.specs.Statement.{Filter, Always, Funclet, Statements}
-use Rattle.source_meaning.specs.Source.{is_reserved}
-use Rattle.source_meaning.specs.State.{Exception, Result, Value, Normal, Returned, Continued, LeftTry}
-use Rattle.source_meaning.specs.State.{Target, End}
 use Rattle.source_meaning.specs.Tasks as tasks
-use Rattle.source_meaning.specs.Tasks.{Handler, Task}
-use Rattle.source_meaning.specs.Laws.{IsPrefixOf}
 use Rattle.source_machine.specs.Frames as frames
-use Rattle.source_machine.specs.Frames.{Place, Callee, ContinuationFrame, Operand, Assignment, InStatement}
-use Rattle.source_machine.specs.Frames.{Sequel, Body, EndsCall, Lands, Finishes, Next, Over, Give}
-use Rattle.source_machine.specs.Frames.{Start, Begin, Plan, Then, Push}
-use Rattle.source_machine.specs.Plans.{operand_plan, assignment_plan, in_statement_plan}
-use Rattle.source_machine.specs.Plans.{sequel_plan, body_plan}
-use Rattle.source_machine.specs.Machine.{Machine, follow, unless_deep, started, begun, fetched, put}
-use Rattle.source_machine.specs.Machine.{operated, entered, built_in, called, asked_by, asked}
-use Rattle.source_machine.specs.Machine.{searched, target_landed, landed, finished, left_call}
-use Rattle.source_machine.specs.Machine.{after_value, after_normal, after_body, resumed, given}
-use Rattle.source_machine.specs.Machine.{outside, done, is_deep, with_local}
-use Rattle.source_machine.specs.StepLaws.{Extends}
 
 nothing : (es : List Event) → IsPrefixOf es es
 nothing es = ([], append-nil es)

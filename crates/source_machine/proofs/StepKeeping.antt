@@ -4,35 +4,15 @@ use Rattle.std.proofs.Common.{sym, ap, ◌∙◌, arith, Option, Some, None}
 use Rattle.std.specs.Prelude.{slice_get}
 use Rattle.std.proofs.lemmas.List.{append_assoc, append-nil, reverse-append, length-append}
 use Rattle.std.proofs.Math.Seq.{take-append_seam}
-use Rattle.c_operations.specs.declared.built_in.BuiltIn.{BuiltIn}
-use Rattle.c_operations.specs.declared.built_in.BuiltIn.TheVariants.{Put, Protect, RaiseException}
-use Rattle.c_operations.specs.declared.operation.Operation.{Operation}
+use Rattle.source_machine.specs.Words.{BuiltIn, Put, Protect, RaiseException, Operation, performed, Program, Function, Node, Lvalue, Local, Global, Indirection, Element, Arguments, Done, Filter, Statements, Empty, Declared, Undefined, is_reserved, End, Gives, deeper, with_value, and_then, Handler, Task, Does, counted, tried, locate, read, write, each, all, ended_call, enter, call_built_in, node, declare, declare_each, statement, perform, does, Place, context_at, Callee, Next, Over, Give, Start, Begin, node_plan, find_plan, pass_plan, proceed_plan, declare_plan, Machine, follow, started, fetched, put, operated, entered, built_in, called, declared, with_local, handler_at, guarded, without_last, done, is_deep, call, through, through_all, reaches, KeepsMeaning}
 use Rattle.c_operations.specs.Performed as performing
-use Rattle.c_operations.specs.Performed.{performed}
-use Rattle.c_checked.specs.Program.{Program, Function}
 use Rattle.c_checked.specs.Expression as nodes
-use Rattle.c_checked.specs.Expression.{Node, Lvalue, Local, Global, Indirection, Element, Arguments}
-use Rattle.c_checked.specs.Expression.{Done, Next as Another}
+use Rattle.c_checked.specs.Expression.{Next as Another}
 use Rattle.c_checked.specs.Statement as statements
-use Rattle.c_checked.specs.Statement.{Filter, Statements, Empty, Then as Followed, Declared}
-use Rattle.source_meaning.specs.declared.ended.Ended.TheVariants.{Undefined}
-use Rattle.source_meaning.specs.Source.{is_reserved}
-use Rattle.source_meaning.specs.State.{End, Gives, deeper, with_value, and_then}
+use Rattle.c_checked.specs.Statement.{Then as Followed}
 use Rattle.source_meaning.specs.Tasks as tasks
-use Rattle.source_meaning.specs.Tasks.{Handler, Task, Does, counted}
-use Rattle.source_meaning.specs.Expressions.{tried, locate, read, write, each, all, ended_call, enter}
-use Rattle.source_meaning.specs.Expressions.{call_built_in, node}
-use Rattle.source_meaning.specs.Statements.{declare, declare_each, statement}
-use Rattle.source_meaning.specs.Meaning.{perform, does}
 use Rattle.source_meaning.proofs.RemainingSteps.{does_is}
 use Rattle.source_machine.specs.Frames as frames
-use Rattle.source_machine.specs.Frames.{Place, context_at, Callee, Next, Over, Give, Start, Begin}
-use Rattle.source_machine.specs.Plans.{node_plan, find_plan, pass_plan, proceed_plan, declare_plan}
-use Rattle.source_machine.specs.Machine.{Machine, follow, started, fetched, put, operated, entered}
-use Rattle.source_machine.specs.Machine.{built_in, called, declared, with_local, handler_at}
-use Rattle.source_machine.specs.Machine.{guarded, without_last, done, is_deep}
-use Rattle.source_machine.specs.FrameMeanings.{call, through, through_all, reaches}
-use Rattle.source_machine.specs.StepLaws.{KeepsMeaning}
 use Rattle.source_machine.proofs.FrameKeeping.{comes, from, over_keeps, deep_keeps, evaluated_keeps}
 use Rattle.source_machine.proofs.FrameKeeping.{given_keeps}
 use Rattle.source_machine.proofs.TaskKeeping.{begun_keeps, searched_keeps}

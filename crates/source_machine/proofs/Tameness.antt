@@ -3,10 +3,8 @@ use Rattle.std.proofs.Common.{◌≡◌, ℕ, ◌+◌, ◌-◌, ◌≤◌, sym, 
 use Rattle.std.specs.Prelude.{true}
 use Rattle.std.proofs.lemmas.Bool.{cases_lt}
 use Rattle.seh_num.specs.Shown.{Shown}
-use Rattle.source_meaning.specs.Meaning.{is_calm, Calm}
+use Rattle.source_machine.specs.Words.{is_calm, Calm, Ended, TameIsCalm, EndedIsTame}
 use Rattle.source_meaning.proofs.MoreSteps.{calm_before, end_stays}
-use Rattle.source_meaning.specs.declared.ended.Ended.{Ended}
-use Rattle.source_machine.specs.CalmLaws.{TameIsCalm, EndedIsTame}
 
 pub tame_is_calm : TameIsCalm
 tame_is_calm program arg tame n = tame n

@@ -3,22 +3,10 @@ use Rattle.std.proofs.Common.{◌≡◌, ℕ, zero, suc, ◌<◌, length, refl, 
 use Rattle.std.proofs.Common.{Some, None}
 use Rattle.std.specs.Prelude.{slice_get}
 use Rattle.std.proofs.lemmas.Option.{slice_get_within}
-use Rattle.c_checked.specs.Program.{Program}
-use Rattle.c_checked.specs.Expression.{On}
+use Rattle.source_machine.specs.Words.{Program, On, Filter, Always, Funclet, Statement, Unhandled, Exception, choose, deeper, with_value, and_then, emit, Handler, Task, Does, statement, in_loop, finally_after, raise_event, search_by, search, perform, Place, context_at, ends, statement_plan, Machine, follow, begun, asked_by, asked, searched, is_deep, found, below}
 use Rattle.c_checked.specs.Statement as statements
-use Rattle.c_checked.specs.Statement.{Filter, Always, Funclet, Statement}
-use Rattle.source_meaning.specs.declared.ended.Ended.TheVariants.{Unhandled}
-use Rattle.source_meaning.specs.State.{Exception, choose, deeper, with_value, and_then, emit}
 use Rattle.source_meaning.specs.Tasks as tasks
-use Rattle.source_meaning.specs.Tasks.{Handler, Task, Does}
-use Rattle.source_meaning.specs.Statements.{statement, in_loop, finally_after}
-use Rattle.source_meaning.specs.Raises.{raise_event, search_by, search}
-use Rattle.source_meaning.specs.Meaning.{perform}
 use Rattle.source_machine.specs.Frames as frames
-use Rattle.source_machine.specs.Frames.{Place, context_at}
-use Rattle.source_machine.specs.Plans.{ends, statement_plan}
-use Rattle.source_machine.specs.Machine.{Machine, follow, begun, asked_by, asked, searched, is_deep}
-use Rattle.source_machine.specs.FrameMeanings.{found, below}
 use Rattle.source_machine.proofs.HandlersBelow.{length-below, all_below}
 use Rattle.source_machine.proofs.FrameKeeping.{comes, from, over_keeps, deep_keeps, evaluated_keeps}
 

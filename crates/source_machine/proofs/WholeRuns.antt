@@ -4,16 +4,7 @@ use Rattle.std.proofs.Common.{subst, arith, inl, inr}
 use Rattle.std.specs.Prelude.{true}
 use Rattle.std.proofs.lemmas.Bool.{cases_Bool}
 use Rattle.std.proofs.lemmas.List.{append_assoc, append-nil}
-use Rattle.seh_num.specs.declared.event.Event.{Event}
-use Rattle.c_checked.specs.Program.{Program}
-use Rattle.source_meaning.specs.State.{state_of}
-use Rattle.source_meaning.specs.Meaning.{does}
-use Rattle.source_meaning.specs.Laws.{IsPrefixOf}
-use Rattle.source_machine.specs.Frames.{Next, Over}
-use Rattle.source_machine.specs.Machine.{Machine, step}
-use Rattle.source_machine.specs.Runs.{after}
-use Rattle.source_machine.specs.FrameMeanings.{reaches, comes_to}
-use Rattle.source_machine.specs.StepLaws.{is_over, distance, ShowsBefore}
+use Rattle.source_machine.specs.Words.{Event, Program, state_of, does, IsPrefixOf, Next, Over, Machine, step, after, reaches, comes_to, is_over, distance, ShowsBefore}
 use Rattle.source_machine.proofs.StepKeeping.{keeps_meaning}
 use Rattle.source_machine.proofs.StepDistance.{decreases}
 use Rattle.source_machine.proofs.StepEvents.{extends}

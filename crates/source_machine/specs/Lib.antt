@@ -8,3 +8,4 @@ pub mod Tame
 pub mod Plain
 pub mod CalmLaws
 pub mod CalmRows
+pub mod Words

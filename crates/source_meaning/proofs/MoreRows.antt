@@ -1,12 +1,6 @@
 -- The further worked programs, computed.
 use Rattle.std.proofs.Common.{refl}
-use Rattle.source_meaning.specs.Meaning.{computed}
-use Rattle.source_meaning.specs.MoreRows.{FilterAskedOnceUnderCollision, CollidedTwice}
-use Rattle.source_meaning.specs.MoreRows.{TargetInOuterActivation, TwoFiltersOfOneFault}
-use Rattle.source_meaning.specs.MoreRows.{BreakThroughFinally, ReturnThroughTwoFinallys, StoreAcrossPages}
-use Rattle.source_meaning.specs.MoreRows.{FaultAddressInFilter, UndefinedReservedAccess}
-use Rattle.source_meaning.specs.MoreRows.{ConversionsAndShifts, Operators, SixArguments, SumToArgument}
-use Rattle.source_meaning.specs.MoreRows.{Loops, DeepRecursion}
+use Rattle.source_meaning.specs.Words.{computed, FilterAskedOnceUnderCollision, CollidedTwice, TargetInOuterActivation, TwoFiltersOfOneFault, BreakThroughFinally, ReturnThroughTwoFinallys, StoreAcrossPages, FaultAddressInFilter, UndefinedReservedAccess, ConversionsAndShifts, Operators, SixArguments, SumToArgument, Loops, DeepRecursion}
 
 pub filter_asked_once_under_collision : FilterAskedOnceUnderCollision
 unfolding computed

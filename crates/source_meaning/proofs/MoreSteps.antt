@@ -4,16 +4,9 @@ use Rattle.std.proofs.Common.{subst, arith, inl, inr}
 use Rattle.std.specs.Prelude.{Bool, true, false, slice_get, ℤ, Option, Some, None, ◌⊎◌}
 use Rattle.std.proofs.lemmas.List.{append_assoc, append-nil}
 use Rattle.std.proofs.lemmas.Option.{none-some}
-use Rattle.seh_num.specs.declared.event.Event.{Event}
+use Rattle.source_meaning.specs.Words.{Event, Program, State, Result, Value, End, Outcome, Gives, how_of, state_of, counted, enter, perform, within, start, outside, main_arguments, ran, shows, meaning, is_calm, IsPrefixOf, ShowsMore, EndStays, CalmBefore, EventsGrow}
 use Rattle.seh_num.specs.Shown.{Shown}
-use Rattle.c_checked.specs.Program.{Program}
 use Rattle.source_meaning.specs.declared.ended.Ended.{Ended}
-use Rattle.source_meaning.specs.State.{State, Result, Value, End, Outcome, Gives, how_of, state_of}
-use Rattle.source_meaning.specs.Tasks.{counted}
-use Rattle.source_meaning.specs.Expressions.{enter}
-use Rattle.source_meaning.specs.Meaning.{perform, within, start, outside, main_arguments, ran, shows}
-use Rattle.source_meaning.specs.Meaning.{meaning, is_calm}
-use Rattle.source_meaning.specs.Laws.{IsPrefixOf, ShowsMore, EndStays, CalmBefore, EventsGrow}
 use Rattle.source_meaning.proofs.Relations.{Relation, with_left}
 use Rattle.source_meaning.proofs.RelatedMeanings.{Related, perform_go, enter_go}
 use Rattle.source_meaning.proofs.RemainingSteps.{enters_within}

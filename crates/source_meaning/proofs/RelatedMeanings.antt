@@ -9,25 +9,8 @@ use Rattle.c_checked.specs.declared.expression.Access.{Access}
 use Rattle.c_operations.specs.declared.built_in.BuiltIn.{BuiltIn}
 use Rattle.c_operations.specs.declared.built_in.BuiltIn.TheVariants.{Put, Protect, RaiseException}
 use Rattle.c_checked.specs.Expression as nodes
-use Rattle.c_checked.specs.Expression.{Expression, On, Node, Lvalue, Local, Global, Indirection}
-use Rattle.c_checked.specs.Expression.{Element, Arguments, Done, Next}
-use Rattle.c_checked.specs.Statement.{Declared, Filter, Always, Funclet, Statement, Declare, Block}
-use Rattle.c_checked.specs.Statement.{Evaluate, If, IfElse, For, DoWhile, Return, Break, Continue}
-use Rattle.c_checked.specs.Statement.{Leave, TryExcept, TryFinally, Statements, Empty, Then}
-use Rattle.c_checked.specs.Program.{Program, Function}
-use Rattle.source_meaning.specs.declared.ended.Ended.TheVariants.{Unhandled, Undefined}
+use Rattle.source_meaning.specs.Words.{Expression, On, Node, Lvalue, Local, Global, Indirection, Element, Arguments, Done, Next, Declared, Filter, Always, Funclet, Statement, Declare, Block, Evaluate, If, IfElse, For, DoWhile, Return, Break, Continue, Leave, TryExcept, TryFinally, Statements, Empty, Then, Program, Function, Unhandled, Undefined, Exception, State, Value, Normal, Returned, Broke, Continued, LeftTry, Target, End, Outcome, set_memory, Handler, Context, Task, Eval, Locate, Run, ForIteration, DoIteration, TryBody, Raise, RunFilter, RunFinally, Retry, Does, tried, operate, locate, load, read, write, each, all, enter, call_built_in, node, expression, optional, declare, declare_each, statement, for_iteration, do_iteration, noncontinuable, answered, search_by, search, run_filter, run_finally, perform}
 use Rattle.source_meaning.specs.Source.{is_reserved}
-use Rattle.source_meaning.specs.State.{Exception, State, Value, Normal, Returned, Broke, Continued}
-use Rattle.source_meaning.specs.State.{LeftTry, Target, End, Outcome, set_memory}
-use Rattle.source_meaning.specs.Tasks.{Handler, Context, Task, Eval, Locate, Run, ForIteration}
-use Rattle.source_meaning.specs.Tasks.{DoIteration, TryBody, Raise, RunFilter, RunFinally, Retry, Does}
-use Rattle.source_meaning.specs.Expressions.{tried, operate, locate, load, read, write, each, all, enter}
-use Rattle.source_meaning.specs.Expressions.{call_built_in, node, expression}
-use Rattle.source_meaning.specs.Statements.{optional, declare, declare_each, statement, for_iteration}
-use Rattle.source_meaning.specs.Statements.{do_iteration}
-use Rattle.source_meaning.specs.Raises.{noncontinuable, answered, search_by, search, run_filter}
-use Rattle.source_meaning.specs.Raises.{run_finally}
-use Rattle.source_meaning.specs.Meaning.{perform}
 use Rattle.source_meaning.proofs.Relations.{Relation, Go, GoWith, give, value_go, then_go, loop_go}
 use Rattle.source_meaning.proofs.Relations.{choice_go, deeper_go, landing_go, finally_go, ended_go}
 

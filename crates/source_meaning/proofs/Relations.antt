@@ -2,13 +2,7 @@
 -- and how it goes through what is done with an outcome.
 use Rattle.std.proofs.Common.{◌≡◌, ℕ, ◌+◌, List, [], ◌∷◌, ◌++◌, Some, None, refl}
 use Rattle.std.specs.Prelude.{Bool, true, false, nat_lt, nat_eq, take}
-use Rattle.seh_num.specs.declared.event.Event.{Event}
-use Rattle.source_meaning.specs.declared.ended.Ended.TheVariants.{Deep}
-use Rattle.source_meaning.specs.State.{Exception, State, Result, Value, Normal, Returned, Broke, Continued}
-use Rattle.source_meaning.specs.State.{LeftTry, Target, End, Outcome, Gives, choose, depth, deeper}
-use Rattle.source_meaning.specs.State.{with_value, and_then}
-use Rattle.source_meaning.specs.Expressions.{ended_call}
-use Rattle.source_meaning.specs.Statements.{in_loop, landing, finally_after}
+use Rattle.source_meaning.specs.Words.{Event, Deep, Exception, State, Result, Value, Normal, Returned, Broke, Continued, LeftTry, Target, End, Outcome, Gives, choose, depth, deeper, with_value, and_then, ended_call, in_loop, landing, finally_after}
 
 abbrev pub with_left : ℕ → State → State
 with_left l st = record st { steps_left = l }

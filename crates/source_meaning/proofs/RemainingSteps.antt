@@ -2,12 +2,7 @@
 -- left after it than before.
 use Rattle.std.proofs.Common.{◌≡◌, ℕ, zero, suc, ◌≤◌, List, refl, sym, ap, ◌∙◌, subst, arith}
 use Rattle.std.specs.Prelude.{true, Option, None}
-use Rattle.c_checked.specs.Program.{Program, Function}
-use Rattle.source_meaning.specs.State.{State, Result, End, Outcome, Gives, state_of}
-use Rattle.source_meaning.specs.Tasks.{Context, Task, Does, counted}
-use Rattle.source_meaning.specs.Expressions.{enter}
-use Rattle.source_meaning.specs.Meaning.{perform, within, does}
-use Rattle.source_meaning.specs.Laws.{DoesIs, NeverRises}
+use Rattle.source_meaning.specs.Words.{Program, Function, State, Result, End, Outcome, Gives, state_of, Context, Task, Does, counted, enter, perform, within, does, DoesIs, NeverRises}
 use Rattle.source_meaning.proofs.Relations.{Relation, with_left}
 use Rattle.source_meaning.proofs.RelatedMeanings.{Related, perform_go, enter_go}
 

@@ -1,9 +1,6 @@
 -- The worked programs, computed.
 use Rattle.std.proofs.Common.{refl}
-use Rattle.source_meaning.specs.Meaning.{computed}
-use Rattle.source_meaning.specs.Rows.{SumAndReturn, NullStoreCaught, FilterThenFinally}
-use Rattle.source_meaning.specs.Rows.{ContinueSameOperand, ReturnAndLeaveFlags, DivisionFaultsUnhandled}
-use Rattle.source_meaning.specs.Rows.{RaiseInFilter, RaiseInFinally, ContinueNoncontinuable}
+use Rattle.source_meaning.specs.Words.{computed, SumAndReturn, NullStoreCaught, FilterThenFinally, ContinueSameOperand, ReturnAndLeaveFlags, DivisionFaultsUnhandled, RaiseInFilter, RaiseInFinally, ContinueNoncontinuable}
 
 pub sum_and_return : SumAndReturn
 unfolding computed

@@ -2,19 +2,17 @@
 use Rattle.std.proofs.Common.{ℕ, ◌*◌, ◌≡◌, ◌+◌, ◌-◌, ◌≤◌, List, [], ◌∷◌, length, map, Option, Some, None, refl, arith}
 use Rattle.std.specs.List.{AllByRecursion}
 use Rattle.std.proofs.lemmas.Bool.{leb-true}
-use Rattle.text_bounds.specs.Words.{Program, Function, resolve, Local, Temporary, Instruction, LinearBody, LinearFunclet, LinearProgram, lowered_function, all_funclets, lowered, tables_room, function_bodies, funclet_bodies}
+use Rattle.text_bounds.specs.Words.{Program, Function, resolve, Local, Temporary, Instruction, LinearBody, LinearFunclet, LinearProgram, lowered_function, all_funclets, lowered, tables_room, function_bodies, funclet_bodies, IsSound, LinearFunction, FitsSlot, FitsInstruction, FitsBody, FitsFunction, FitsKind, FitsFunclet, text_room, program_tables_room, other_room, AcceptedFits, TextsFit}
 use Rattle.c_operations.specs.declared.field.Field.{Field}
 use Rattle.c_operations.specs.declared.field.Field.TheVariants as fields
 use Rattle.c_checked.specs.Sound as sound
-use Rattle.c_checked.specs.Sound.{IsSound}
 use Rattle.c_lex.proofs.Covering.{few_tokens}
 use Rattle.c_syntax.proofs.NodesOfPrograms.{program as program_nodes}
-use Rattle.c_resolved.proofs.SoundPrograms.{accepted_is_sound}
+use Rattle.text_bounds.proofs.Lemmas.{accepted_is_sound}
 use Rattle.linear_code.specs.declared.slot.Slot.{Slot}
 use Rattle.linear_code.specs.declared.instruction.Instruction.TheVariants as instructions
 use Rattle.linear_code.specs.declared.program.FuncletKind.{FuncletKind}
 use Rattle.linear_code.specs.declared.program.FuncletKind.TheVariants as kinds
-use Rattle.linear_code.specs.Program.{LinearFunction}
 use Rattle.seh_ir.specs.Slots.{slot_temporaries, instruction_temporaries, temporaries_in}
 use Rattle.seh_ir.proofs.EveryFunclet.{funclets_any}
 use Rattle.lowering_follows.proofs.SoundExpressions.{both_left, both_right}
@@ -23,9 +21,7 @@ use Rattle.lowering_invariants.specs.Slots.{IsAmong, IsField, IsPlain, IsSmallBo
 use Rattle.text_bounds.proofs.StatementNesting.{accepted_is_small}
 use Rattle.x64_emit.specs.Near.{IsFieldNear}
 use Rattle.image_link.specs.Routines as links
-use Rattle.image_link.specs.Fits.{FitsSlot, FitsInstruction, FitsBody, FitsFunction, FitsKind, FitsFunclet, text_room, program_tables_room, other_room}
 use Rattle.text_bounds.proofs.ProgramRooms.{lowered_is_bounded}
-use Rattle.text_bounds.specs.BoundLaws.{AcceptedFits, TextsFit}
 use Rattle.text_bounds.proofs.CodeIsBounded.{code_is_bounded}
 use Rattle.host_layout.specs.declared.limit.TheConstants.{MOST_IMAGE}
 

@@ -3,18 +3,14 @@ use Rattle.std.proofs.Common.{◌≡◌, ℕ, ◌+◌, ◌≤◌, max, refl, sym
 use Rattle.std.proofs.lemmas.Bool.{leb-true}
 use Rattle.std.specs.Prelude.{Bool, true, false, nat_le, nat_eq, if◌then◌else◌, List, [], ◌∷◌, length, map, Option, Some, None}
 use Rattle.c_checked.specs.Expression as nodes
-use Rattle.text_bounds.specs.Words.{Node, CType, Field, Literal, Arithmetic, start, height, Fault, TypedNode, compound_assigned, assigned, comma_of, Entity, LocalVariable, GlobalVariable, GlobalArray, UserFunction, BuiltInFunction, CodeFunction, AbnormalFunction, BuiltInConstant, Names, FaultAt, ResolvedExpression, ruled, rule_1, rule_2, rule_3, given_that, literal, name, field, Wanted, built_in_wants, fits, passed, Argument, Passed, before, spoiled, pass, pass_all, called, call_with, only_where, call, changed, resolve_expression, resolve_arguments, OfType, ZeroLiteral, expression_nesting, node_nesting, expression_reads, node_reads}
+use Rattle.text_bounds.specs.Words.{Node, CType, Field, Literal, Arithmetic, start, height, Fault, TypedNode, compound_assigned, assigned, comma_of, Entity, LocalVariable, GlobalVariable, GlobalArray, UserFunction, BuiltInFunction, CodeFunction, AbnormalFunction, BuiltInConstant, Names, FaultAt, ResolvedExpression, ruled, rule_1, rule_2, rule_3, given_that, literal, name, field, Wanted, built_in_wants, fits, passed, Argument, Passed, before, spoiled, pass, pass_all, called, call_with, only_where, call, changed, resolve_expression, resolve_arguments, OfType, ZeroLiteral, expression_nesting, node_nesting, expression_reads, node_reads, heights, plain, typed, good, arguments_nesting, arguments_read}
 use Rattle.c_operations.specs.declared.field.Field.TheVariants as fields
 use Rattle.c_syntax.specs.declared.expression.Base.TheVariants.{UnsignedLongLong}
 use Rattle.c_syntax.specs.declared.expression.Field.TheVariants as record_fields
 use Rattle.c_syntax.specs.declared.expression.Literal.TheVariants as literals
 use Rattle.c_syntax.specs.Expression as trees
-use Rattle.c_syntax.specs.Expression.{Expression, heights}
-use Rattle.c_resolved.specs.Types.{plain}
+use Rattle.c_syntax.specs.Expression.{Expression}
 use Rattle.c_resolved.specs.declared.fault.Fault.TheVariants.{TypeClash}
-use Rattle.c_resolved.specs.Operators.{typed}
-use Rattle.c_resolved.specs.Expressions.{good}
-use Rattle.lowering_invariants.specs.Nesting.{arguments_nesting, arguments_read}
 use Rattle.text_bounds.proofs.OperatorNesting.{nesting, reads, IsShallowIn, ShallowIf, deeper, binary_shallow, element_shallow, assigned_shallow, compound_shallow, comma_shallow, incremented_shallow, unary_shallow, cast_shallow, conditional_shallow}
 
 -- ---- rules

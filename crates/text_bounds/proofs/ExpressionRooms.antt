@@ -1,6 +1,6 @@
 -- The code of an expression takes no more than its room.
 use Rattle.std.proofs.Common.{◌≡◌, ℕ, ◌+◌, ◌≤◌, List, [], ◌∷◌, ◌++◌, Option, Some, None, sym, arith, zero-add}
-use Rattle.text_bounds.specs.Words.{Conversion, Expression, Node, Lvalue, Temporary, Instruction, expression_size, constant, copy, expression_code, instruction_room, code_room, conversion_room, read_room, write_room, expression_room, locate_room, arguments_room, node_room}
+use Rattle.text_bounds.specs.Words.{Conversion, Expression, Node, Lvalue, Temporary, Instruction, expression_size, constant, copy, expression_code, instruction_room, code_room, conversion_room, read_room, write_room, expression_room, locate_room, arguments_room, node_room, On, Global, Indirection, Element, Arguments, Done, Next, Jump, JumpIfZero, Call, CallBuiltIn, address_count, read_size, locate_size, conversion_size, combine, argument_count, chosen_of, conversion_code, unary_code, choice_code, code_code, abnormal_code, read_code, write_code, address_code, locate_code, arguments_code, node_code, address_room}
 use Rattle.c_operations.specs.declared.operation.Operation.TheVariants.{Pure, Divide}
 use Rattle.c_operations.specs.declared.operation.Signedness.TheVariants.{Signed}
 use Rattle.c_operations.specs.declared.operation.Size.TheVariants.{Long}
@@ -8,14 +8,9 @@ use Rattle.c_operations.specs.declared.operation.Pure.{Pure as Pure'}
 use Rattle.c_operations.specs.declared.operation.Pure.TheVariants as pures
 use Rattle.c_checked.specs.declared.expression.Conversion.TheVariants as conversions
 use Rattle.c_checked.specs.Expression as nodes
-use Rattle.c_checked.specs.Expression.{On, Global, Indirection, Element, Arguments, Done, Next}
-use Rattle.linear_code.specs.declared.instruction.Instruction.TheVariants.{Jump, JumpIfZero, Call, CallBuiltIn}
 use Rattle.lowering_expressions.specs.declared.scope.ExceptionSource.{ExceptionSource}
 use Rattle.lowering_expressions.specs.declared.scope.ExceptionSource.TheVariants.{NoException, OfFilter, KeptIn}
 use Rattle.lowering_expressions.specs.declared.scope.Names.{Names}
-use Rattle.lowering_sizes.specs.Sizes.{address_count, read_size, locate_size, conversion_size}
-use Rattle.lowering_expressions.specs.Expressions.{combine, argument_count, chosen_of, conversion_code, unary_code, choice_code, code_code, abnormal_code, read_code, write_code, address_code, locate_code, arguments_code, node_code}
-use Rattle.text_bounds.specs.Rooms.{address_room}
 
 pub room_append : (is js : List Instruction) → code_room (is ++ js) ≡ code_room is + code_room js
 room_append [] js = sym (zero-add (code_room js))

@@ -2,7 +2,7 @@
 use Rattle.std.proofs.Common.{◌≡◌, ℕ, ◌+◌, ◌*◌, ◌≤◌, refl, sym, subst, arith}
 use Rattle.std.proofs.Math.Nat.{mul-add, mul-one}
 use Rattle.std.specs.Prelude.{Bool, true, false, nat_le, nat_eq, if◌then◌else◌, List, [], ◌∷◌, length, map, Option, Some, None}
-use Rattle.text_bounds.specs.Words.{Node, CType, Field, Literal, Arithmetic, start, Fault, access_of, TypedNode, int, compound_assigned, assigned, comma_of, Entity, LocalVariable, GlobalVariable, GlobalArray, UserFunction, BuiltInFunction, CodeFunction, AbnormalFunction, BuiltInConstant, Names, FaultAt, ResolvedExpression, ruled, rule_1, rule_2, rule_3, given_that, literal, name, field, Wanted, built_in_wants, fits, passed, Argument, Passed, before, spoiled, pass, pass_all, called, call_with, only_where, call, changed, resolve_expression, resolve_arguments, OfType, ZeroLiteral, Weights, NodesAdd}
+use Rattle.text_bounds.specs.Words.{Node, CType, Field, Literal, Arithmetic, start, Fault, access_of, TypedNode, int, compound_assigned, assigned, comma_of, Entity, LocalVariable, GlobalVariable, GlobalArray, UserFunction, BuiltInFunction, CodeFunction, AbnormalFunction, BuiltInConstant, Names, FaultAt, ResolvedExpression, ruled, rule_1, rule_2, rule_3, given_that, literal, name, field, Wanted, built_in_wants, fits, passed, Argument, Passed, before, spoiled, pass, pass_all, called, call_with, only_where, call, changed, resolve_expression, resolve_arguments, OfType, ZeroLiteral, Weights, NodesAdd, nodes_of_arguments}
 use Rattle.c_operations.specs.declared.field.Field.{Field as Field'}
 use Rattle.c_operations.specs.declared.operation.Size.{Size}
 use Rattle.c_checked.specs.Expression as nodes
@@ -11,7 +11,6 @@ use Rattle.c_syntax.specs.declared.expression.Literal.TheVariants as literals
 use Rattle.c_syntax.specs.Expression as trees
 use Rattle.c_syntax.specs.Expression.{Expression}
 use Rattle.c_syntax.specs.Nodes as counted
-use Rattle.c_syntax.specs.Nodes.{nodes_of_arguments}
 use Rattle.text_bounds.proofs.Times.{times_1, times_2, times_3}
 use Rattle.text_bounds.proofs.OperatorWeights.{weight, LightIf, lighter, typed_weight, binary_light, element_light, incremented_light, assigned_light, compound_light, unary_light, cast_light, conditional_light, comma_light}
 

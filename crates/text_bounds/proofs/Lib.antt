@@ -1,3 +1,4 @@
+mod Lemmas
 pub mod Times
 pub mod OperatorWeights
 pub mod ExpressionWeights

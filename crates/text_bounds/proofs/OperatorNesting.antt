@@ -2,11 +2,10 @@
 use Rattle.std.proofs.Common.{◌≡◌, ℕ, ◌+◌, ◌≤◌, refl, arith}
 use Rattle.std.specs.Prelude.{Bool, true, false, ◌&&◌, ◌||◌, if◌then◌else◌, Option, Some, None}
 use Rattle.c_checked.specs.Expression as nodes
-use Rattle.text_bounds.specs.Words.{Expression, Node, Lvalue, Fixity, CType, Arithmetic, Comparison, BinaryOperator, UnaryOperator, Increment, TypedNode, only_if, as_is, as_type, can_become, is_additive, right_operand, on_integers, sum, difference, arithmetic_of, comparison_of, binary_of, lvalue_of, with_lvalue, address, unary_of, cast_of, element_of, assigned, compound_assigned, incremented, branch_type, as_branch, chosen, conditional_of, comma_of, is_shift, working_type, is_pointer, is_integer, is_void, is_sized_pointer, is_scalar, expression_nesting, node_nesting, expression_reads, node_reads}
+use Rattle.text_bounds.specs.Words.{Expression, Node, Lvalue, Fixity, CType, Arithmetic, Comparison, BinaryOperator, UnaryOperator, Increment, TypedNode, only_if, as_is, as_type, can_become, is_additive, right_operand, on_integers, sum, difference, arithmetic_of, comparison_of, binary_of, lvalue_of, with_lvalue, address, unary_of, cast_of, element_of, assigned, compound_assigned, incremented, branch_type, as_branch, chosen, conditional_of, comma_of, is_shift, working_type, is_pointer, is_integer, is_void, is_sized_pointer, is_scalar, expression_nesting, node_nesting, expression_reads, node_reads, lvalue_nesting, lvalue_reads}
 use Rattle.c_syntax.specs.declared.operator.Arithmetic.TheVariants as arithmetic
 use Rattle.c_syntax.specs.declared.operator.BinaryOperator.TheVariants as binary
 use Rattle.c_syntax.specs.declared.operator.UnaryOperator.TheVariants as unary
-use Rattle.lowering_invariants.specs.Nesting.{lvalue_nesting, lvalue_reads}
 
 abbrev pub nesting : TypedNode → ℕ
 nesting t = node_nesting t.node

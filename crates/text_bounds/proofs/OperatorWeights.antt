@@ -1,16 +1,13 @@
 -- What an operator makes of operands weighs at most so much more than they do.
 use Rattle.std.proofs.Common.{◌≡◌, ℕ, ◌+◌, ◌≤◌, refl, ap, arith}
 use Rattle.std.specs.Prelude.{Bool, true, false, ◌&&◌, ◌||◌, if◌then◌else◌, Option, Some, None}
-use Rattle.text_bounds.specs.Words.{Conversion, Kept, Expression, Node, Lvalue, Fixity, CType, Arithmetic, Comparison, BinaryOperator, UnaryOperator, Increment, TypedNode, only_if, as_is, as_type, can_become, is_additive, right_operand, on_integers, sum, difference, arithmetic_of, comparison_of, binary_of, lvalue_of, with_lvalue, address, unary_of, cast_of, element_of, assigned, compound_assigned, incremented, branch_type, as_branch, chosen, conditional_of, comma_of, is_shift, working_type, is_pointer, is_integer, is_void, is_sized_pointer, is_scalar, conversion, access_of, Weights, NodesAdd}
+use Rattle.text_bounds.specs.Words.{Conversion, Kept, Expression, Node, Lvalue, Fixity, CType, Arithmetic, Comparison, BinaryOperator, UnaryOperator, Increment, TypedNode, only_if, as_is, as_type, can_become, is_additive, right_operand, on_integers, sum, difference, arithmetic_of, comparison_of, binary_of, lvalue_of, with_lvalue, address, unary_of, cast_of, element_of, assigned, compound_assigned, incremented, branch_type, as_branch, chosen, conditional_of, comma_of, is_shift, working_type, is_pointer, is_integer, is_void, is_sized_pointer, is_scalar, conversion, access_of, Weights, NodesAdd, Pure, as_index, operation_in, long_operation, moved, compared, void_pointer, increment_operator, pointed, bytes_in, scaled, promoted, common}
 use Rattle.c_operations.specs.declared.operation.Operation.{Operation}
-use Rattle.c_operations.specs.declared.operation.Pure.{Pure}
 use Rattle.c_checked.specs.declared.expression.Access.{Access}
 use Rattle.c_checked.specs.Expression as nodes
 use Rattle.c_syntax.specs.declared.operator.Arithmetic.TheVariants as arithmetic
 use Rattle.c_syntax.specs.declared.operator.BinaryOperator.TheVariants as binary
 use Rattle.c_syntax.specs.declared.operator.UnaryOperator.TheVariants as unary
-use Rattle.c_resolved.specs.Operators.{as_index, operation_in, long_operation, moved, compared, void_pointer, increment_operator}
-use Rattle.c_resolved.specs.Types.{pointed, bytes_in, scaled, promoted, common}
 
 -- with what its conversion adds at most
 abbrev pub weight : Weights → TypedNode → ℕ

@@ -1,12 +1,8 @@
 -- The code and the tables of a program take no more than the room of its functions.
 use Rattle.std.proofs.Common.{◌≡◌, ℕ, ◌+◌, ◌*◌, ◌≤◌, List, [], ◌∷◌, length, map, None, refl, arith, length-append}
-use Rattle.text_bounds.specs.Words.{Function, Temporary, LinearFunclet, Owner, constant, statements_code, lowered_function, all_funclets, tables_room, function_bodies, funclet_bodies, functions_room}
+use Rattle.text_bounds.specs.Words.{Function, Temporary, LinearFunclet, Owner, constant, statements_code, lowered_function, all_funclets, tables_room, function_bodies, funclet_bodies, functions_room, funclets, Return, all_locals, scope_of, lowered_funclets, room}
 use Rattle.c_checked.specs.Sound as sound
-use Rattle.c_checked.specs.Sound.{funclets}
-use Rattle.linear_code.specs.declared.instruction.Instruction.TheVariants.{Return}
-use Rattle.seh_ir.specs.Lowered.{all_locals, scope_of, lowered_funclets}
 use Rattle.seh_ir.proofs.FuncletCounts.{statements_count}
-use Rattle.image_link.specs.Fits.{room}
 use Rattle.text_bounds.specs.RoomLaws.{LoweredIsBounded}
 use Rattle.text_bounds.proofs.ExpressionRooms.{room_append}
 use Rattle.text_bounds.proofs.StatementRooms.{funclets_room, funclets_append, statements_bound}

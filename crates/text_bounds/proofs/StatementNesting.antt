@@ -3,16 +3,14 @@ use Rattle.std.proofs.Common.{◌≡◌, ℕ, ◌+◌, ◌≤◌, max, refl, sym
 use Rattle.std.specs.Prelude.{Bool, true, false, if◌then◌else◌, List, [], ◌∷◌, ◌++◌, map, Option, Some, None}
 use Rattle.c_checked.specs.Expression as nodes
 use Rattle.c_checked.specs.Statement as checked
-use Rattle.text_bounds.specs.Words.{Base, CType, start, ExternalDeclaration, Globals, Statement, Statements, ForInitialiser, Declaring, Evaluating, is_void, size_of, TypedNode, Names, FaultAt, resolve_expression, file_of, empty_file, with_parameters, around, function_of, functions_of, resolve, Scope, Near, Beyond, past_finally, with_number, Environment, Numbering, names_at, filter_names, inside, any, condition, to_type, to_answer, Value, Optional, declare, declare_all, only, returned, always, ResolvedFilter, resolve_filter, names_only, resolve_for_initialiser, resolve_statement, resolve_statements, height, expression_nesting, expression_reads}
+use Rattle.text_bounds.specs.Words.{Base, CType, start, ExternalDeclaration, Globals, Statement, Statements, ForInitialiser, Declaring, Evaluating, is_void, size_of, TypedNode, Names, FaultAt, resolve_expression, file_of, empty_file, with_parameters, around, function_of, functions_of, resolve, Scope, Near, Beyond, past_finally, with_number, Environment, Numbering, names_at, filter_names, inside, any, condition, to_type, to_answer, Value, Optional, declare, declare_all, only, returned, always, ResolvedFilter, resolve_filter, names_only, resolve_for_initialiser, resolve_statement, resolve_statements, height, expression_nesting, expression_reads, statement_notes, statements_notes, most_of_optional, most_of_declared, most_of_filter, most_of_statement, most_of, AreShallow}
 use Rattle.c_syntax.specs.Expression.{Expression}
 use Rattle.c_syntax.specs.Program.{Function}
 use Rattle.c_syntax.specs.Statement as statements
 use Rattle.c_syntax.specs.Statement.{Local}
 use Rattle.c_resolved.specs.Statements.{optional}
 use Rattle.c_syntax.specs.Limits.{every_limit, EachWithinFirst, height_of, height_of_locals, height_of_for_initialiser, expressions_over, expressions_over_all, statements_over, statements_over_all, over_block_item}
-use Rattle.c_resolved.proofs.SoundPrograms.{accepted_is_sound}
-use Rattle.lowering_sizes.specs.Sizes.{statement_notes, statements_notes}
-use Rattle.lowering_invariants.specs.Nesting.{most_of_optional, most_of_declared, most_of_filter, most_of_statement, most_of, AreShallow}
+use Rattle.text_bounds.proofs.Lemmas.{accepted_is_sound}
 use Rattle.lowering_invariants.proofs.Small.{lowered_is_small}
 use Rattle.text_bounds.specs.NestingLaws.{ResolvedIsShallow, AcceptedIsSmall}
 use Rattle.text_bounds.proofs.OperatorNesting.{ShallowIf}

@@ -1,7 +1,7 @@
 -- The code of statements, of the filters and `__finally` blocks in them, and their scope records
 -- take no more than their room.
 use Rattle.std.proofs.Common.{◌≡◌, ℕ, ◌+◌, ◌-◌, ◌*◌, ◌≤◌, List, [], ◌∷◌, ◌++◌, length, Option, Some, None, sym, arith, zero-add, length-append}
-use Rattle.text_bounds.specs.Words.{Expression, Local, Temporary, LinearBody, LinearFunclet, Owner, expression_size, copy, expression_code, statements_code, instruction_room, code_room, discarded_room, condition_room, initialiser_room, all_declared_room, returned_room, statement_room, statements_room}
+use Rattle.text_bounds.specs.Words.{Expression, Local, Temporary, LinearBody, LinearFunclet, Owner, expression_size, copy, expression_code, statements_code, instruction_room, code_room, discarded_room, condition_room, initialiser_room, all_declared_room, returned_room, statement_room, statements_room, discarded_size, condition_size, declared_size, all_declared_size, statement_size, statements_size, jump_code, return_code, leave_code, discarded_code, returned_code, condition_code, initialiser_code, declared_code, all_declared_code, landed, repeated, statement_code, declared_room, filter_room}
 use Rattle.c_checked.specs.Statement as statements
 use Rattle.c_checked.specs.Statement.{Declared, Filter, Always, Funclet, Statement, Declare, Block, Evaluate, If, IfElse, For, DoWhile, Break, Continue, Leave, TryExcept, TryFinally, Statements, Empty, Then}
 use Rattle.linear_code.specs.declared.instruction.Instruction.TheVariants as instructions
@@ -10,12 +10,9 @@ use Rattle.lowering_expressions.specs.declared.scope.Names.{Names}
 use Rattle.lowering_expressions.specs.declared.scope.LoweringContext.{LoweringContext}
 use Rattle.lowering_expressions.specs.declared.scope.Way.{Way}
 use Rattle.lowering_expressions.specs.declared.scope.Way.TheVariants.{Nowhere, Jumps, Unwinds}
-use Rattle.lowering_sizes.specs.Sizes.{discarded_size, condition_size, declared_size, all_declared_size, statement_size, statements_size}
 use Rattle.lowering_expressions.specs.Scope.{except_names, filter_names, finally_names, finally_scope, in_loop, in_try, in_except, in_guarded}
-use Rattle.seh_ir.specs.Statements.{jump_code, return_code, leave_code, discarded_code, returned_code, condition_code, initialiser_code, declared_code, all_declared_code, landed, repeated, statement_code}
 use Rattle.seh_ir.specs.Regions.{region, except_kind, statement_regions, statements_regions}
 use Rattle.seh_ir.specs.Funclets.{filter_funclets, finally_funclet, in_funclet, statement_funclets, statements_funclets}
-use Rattle.text_bounds.specs.Rooms.{declared_room, filter_room}
 use Rattle.text_bounds.proofs.ExpressionRooms.{room_append, expression_bound}
 
 -- ---- funclets: their code and their scope records

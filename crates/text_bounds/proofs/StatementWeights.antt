@@ -3,7 +3,7 @@ use Rattle.std.proofs.Common.{◌≡◌, ℕ, ◌+◌, ◌*◌, ◌≤◌, arith
 use Rattle.std.proofs.Math.Nat.{mul-add, mul-one}
 use Rattle.std.specs.Prelude.{Bool, true, false, if◌then◌else◌, List, [], ◌∷◌, ◌++◌, length, map, Option, Some, None}
 use Rattle.c_operations.specs.declared.operation.Size.TheVariants as sizes
-use Rattle.text_bounds.specs.Words.{Kept, Base, CType, start, ExternalDeclaration, Globals, Statement, Statements, ForInitialiser, Declaring, Evaluating, nodes_of, is_void, size_of, TypedNode, int, Names, FaultAt, resolve_expression, file_of, empty_file, with_parameters, around, function_of, functions_of, Scope, Near, Beyond, past_finally, with_number, Environment, Numbering, names_at, filter_names, inside, any, condition, to_type, to_answer, Value, Optional, declare, declare_all, only, returned, always, ResolvedFilter, resolve_filter, names_only, resolve_for_initialiser, resolve_statement, resolve_statements, Weights, optional, NodesAdd, StatementsAdd}
+use Rattle.text_bounds.specs.Words.{Kept, Base, CType, start, ExternalDeclaration, Globals, Statement, Statements, ForInitialiser, Declaring, Evaluating, nodes_of, is_void, size_of, TypedNode, int, Names, FaultAt, resolve_expression, file_of, empty_file, with_parameters, around, function_of, functions_of, Scope, Near, Beyond, past_finally, with_number, Environment, Numbering, names_at, filter_names, inside, any, condition, to_type, to_answer, Value, Optional, declare, declare_all, only, returned, always, ResolvedFilter, resolve_filter, names_only, resolve_for_initialiser, resolve_statement, resolve_statements, Weights, optional, NodesAdd, StatementsAdd, nodes_of_optional, nodes_of_locals, nodes_of_for_initialiser, nodes_of_statement, nodes_of_statements, nodes_of_globals, nothing}
 use Rattle.c_checked.specs.Expression as nodes
 use Rattle.c_checked.specs.Program as checked_program
 use Rattle.c_checked.specs.Statement as checked
@@ -13,8 +13,7 @@ use Rattle.c_syntax.specs.Program.{Function}
 use Rattle.c_syntax.specs.Statement as statements
 use Rattle.c_syntax.specs.Statement.{Local}
 use Rattle.c_syntax.specs.Nodes as counted
-use Rattle.c_syntax.specs.Nodes.{nodes_of_optional, nodes_of_locals, nodes_of_for_initialiser, nodes_of_statement, nodes_of_statements, nodes_of_globals}
-use Rattle.c_resolved.specs.Statements.{nothing, optional as optional_of}
+use Rattle.c_resolved.specs.Statements.{optional as optional_of}
 use Rattle.text_bounds.specs.WeightLaws.{WeightIsBounded}
 use Rattle.text_bounds.proofs.Times.{times_1, times_2, times_3, times_4, once}
 use Rattle.text_bounds.proofs.OperatorWeights.{LightIf, typed_weight, kept_weight}

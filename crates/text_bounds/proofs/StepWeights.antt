@@ -1,10 +1,9 @@
 -- The program of a text begins at most three steps for each node without a turn.
 use Rattle.std.proofs.Common.{◌≡◌, ℕ, ◌*◌, ◌≤◌, refl, arith}
 use Rattle.std.specs.Prelude.{List, Option, Some, None}
-use Rattle.text_bounds.specs.Words.{Expression, ExternalDeclaration, nodes_of, resolve, Weights, optional, NodesAdd, StatementsAdd}
+use Rattle.text_bounds.specs.Words.{Expression, ExternalDeclaration, nodes_of, resolve, Weights, optional, NodesAdd, StatementsAdd, weight_of}
 use Rattle.text_bounds.proofs.StatementWeights.{weight_is_bounded}
 use Rattle.lowering_follows.specs.Weights.{expression_weight, node_weight, arguments_weight, optional_weight, all_declared_weight, statement_weight, statements_weight}
-use Rattle.lowering_follows.specs.StepsPerTurn.{weight_of}
 
 -- each expression begins a step of its own, with its conversion
 abbrev weights : Weights

@@ -1,10 +1,9 @@
 -- How many steps a turn of the linear code of an accepted text represents at most.
 use Rattle.std.proofs.Common.{◌≡◌, ℕ, ◌+◌, ◌*◌, ◌-◌, ◌≤◌, sym, ap, ◌∙◌, arith}
 use native.Mathlib.Nat.{mul-add}
-use Rattle.text_bounds.specs.Words.{Program, LinearProgram, lowered}
-use Rattle.c_resolved.proofs.SoundPrograms.{accepted_is_sound}
+use Rattle.text_bounds.specs.Words.{Program, LinearProgram, lowered, steps_per_turn_of}
+use Rattle.text_bounds.proofs.Lemmas.{accepted_is_sound}
 use Rattle.lowering_follows.specs.FollowLaws.{NoMore}
-use Rattle.lowering_follows.specs.StepsPerTurn.{steps_per_turn_of}
 use Rattle.lowering_follows.proofs.ProgramLowering.{lowered_follows, lowered_shows_no_more}
 use Rattle.text_bounds.specs.StepsPerTurnLaws.{steps_per_turn_in, program_of, StepsPerTurnAreBounded, AcceptedFollows, AcceptedShowsNoMore}
 use Rattle.text_bounds.proofs.StepWeights.{resolved_weight}

@@ -1,2 +1,3 @@
+mod Lemmas
 pub mod Rooms
 pub mod Nearby

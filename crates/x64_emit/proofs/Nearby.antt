@@ -3,28 +3,12 @@ use Rattle.std.proofs.Common.{◌≡◌, ℕ, zero, suc, ◌+◌, ◌-◌, ◌*�
 use Rattle.std.specs.Prelude.{OnOk}
 use Rattle.std.specs.List.{AllByRecursion}
 use Rattle.std.proofs.lemmas.Grind.{flat_map-append}
-use Rattle.seh_num.specs.declared.width.Width.TheVariants.{W32, W64}
-use Rattle.x64_instr.specs.declared.instruction.Instr.{Instr}
-use Rattle.x64_encode.specs.Chosen.{chosen, is_signed}
-use Rattle.template_code.specs.Bytes.{spelled, sizes}
-use Rattle.template_code.specs.Slots.{temporary_at, fetched, fetch}
-use Rattle.template_code.specs.Jumps.{distance, compare_zero, test_code}
-use Rattle.template_code.specs.Calls.{keep_register, arguments_code, passing_code, parameter_code, parameters_code}
-use Rattle.template_code.specs.Template.{Links, template, template_size, body_size, code_from}
-use Rattle.x64_emit.specs.Near.{IsInstructionNear, IsNear}
-use Rattle.x64_emit.specs.Rooms.{instruction_room, code_room}
-use Rattle.x64_emit.specs.Bodies.{label_list}
+use Rattle.x64_emit.specs.Words.{W32, W64, Instr, chosen, is_signed, spelled, sizes, temporary_at, fetched, fetch, distance, compare_zero, test_code, keep_register, arguments_code, passing_code, parameter_code, parameters_code, Links, template, template_size, body_size, code_from, IsInstructionNear, IsNear, instruction_room, code_room, label_list, Instruction, Layout, Slot, Local, Rax, Rsp}
 use Rattle.x64_emit.proofs.Rooms.{template_in_room}
-use Rattle.linear_code.specs.declared.instruction.Instruction.{Instruction}
 use Rattle.linear_code.specs.declared.instruction.Instruction.TheVariants as instructions
-use Rattle.template_code.specs.declared.layout.Layout.{Layout}
-use Rattle.linear_code.specs.declared.slot.Slot.{Slot}
-use Rattle.linear_code.specs.declared.slot.Slot.TheVariants.{Local}
 use Rattle.c_operations.specs.declared.operation.Operation.TheVariants as operations
 use Rattle.c_operations.specs.declared.operation.Pure.TheVariants as pures
-use Rattle.x64_instr.specs.declared.register.Reg.TheVariants.{Rax, Rsp}
-use Rattle.template_code.proofs.Sizes.{sizes_spelled, template_sizes, short}
-use Rattle.template_code.proofs.Lengths.{sizes_small, fetch_length, PassesFew}
+use Rattle.x64_emit.proofs.Lemmas.{sizes_spelled, template_sizes, short, sizes_small, fetch_length, PassesFew}
 
 pub on_ok : {A E : Type 0} (P Q : Type 0) (r : Result A E) → (P → Q) → OnOk r P → OnOk r Q
 on_ok P Q (Ok x) f p = f p

@@ -2,16 +2,14 @@
 use Rattle.std.proofs.Common.{ℕ, zero, suc, ◌+◌, ◌-◌, ◌*◌, ◌≤◌, Bool, true, false, cond, List, [], ◌∷◌, ◌++◌, length, Option, Some, None, arith, length-append}
 use Rattle.std.specs.Prelude.{◌==◌, ◌%◌}
 use Rattle.seh_num.specs.declared.width.Width.{Width}
-use Rattle.seh_num.specs.declared.width.Width.TheVariants.{W8, W16, W32, W64}
+use Rattle.x64_emit.specs.Words.{W8, W16, W32, W64, Rax, Rcx, Rdx, Rsp, R8, R9, little, is_signed, has_rex, prefixes, mode, displacement, sib, at_register, place_bytes, modrm_bits, modrm, opcode_register, Slot, Local, Temporary, Instruction, Layout, size, sizes, local_at, temporary_at, fetched, fetch_local, keep_local, fetch, keep, operands_code, finish_code, compute_code, compare_zero, field_load, epilogue, passing_code, arguments_code, call_code, clear_result, call_finally_code, local_unwind_code, template_size, slot_room, instruction_room}
 use Rattle.seh_num.specs.Widths.{low}
 use Rattle.x64_instr.specs.declared.register.Reg.{Reg}
-use Rattle.x64_instr.specs.declared.register.Reg.TheVariants.{Rax, Rcx, Rdx, Rsp, R8, R9}
 use Rattle.x64_instr.specs.declared.operand.RegisterOrMemory.TheVariants as places
 use Rattle.x64_instr.specs.declared.operand.Operand.TheVariants as operands
 use Rattle.x64_instr.specs.declared.instruction.Instr.TheVariants as instrs
 use Rattle.x64_instr.specs.Registers.{number}
 use Rattle.x64_encode.specs.declared.writing.Opcode.TheVariants as opcodes
-use Rattle.x64_encode.specs.Chosen.{little, is_signed, has_rex, prefixes, mode, displacement, sib, at_register, place_bytes, modrm_bits, modrm, opcode_register}
 use Rattle.c_operations.specs.declared.operation.Size.{Size}
 use Rattle.c_operations.specs.declared.operation.Size.TheVariants.{Int, Long}
 use Rattle.c_operations.specs.declared.operation.Signedness.{Signedness}
@@ -25,20 +23,9 @@ use Rattle.c_operations.specs.declared.operation.Operation.TheVariants as operat
 use Rattle.c_operations.specs.declared.field.Field.{Field}
 use Rattle.c_operations.specs.declared.field.Field.TheVariants as fields
 use Rattle.c_operations.specs.Numbers.{width}
-use Rattle.linear_code.specs.declared.slot.Slot.{Slot}
-use Rattle.linear_code.specs.declared.slot.Slot.TheVariants.{Local, Temporary}
-use Rattle.linear_code.specs.declared.instruction.Instruction.{Instruction}
 use Rattle.linear_code.specs.declared.instruction.Instruction.TheVariants as instructions
-use Rattle.template_code.specs.declared.layout.Layout.{Layout}
-use Rattle.template_code.specs.Bytes.{size, sizes}
 use Rattle.template_code.specs.Operations.{above, compare, extended, pure_code, before, work}
-use Rattle.template_code.specs.Slots.{local_at, temporary_at, fetched, fetch_local, keep_local, fetch, keep, operands_code, finish_code, compute_code}
-use Rattle.template_code.specs.Jumps.{compare_zero}
-use Rattle.template_code.specs.Calls.{field_load, epilogue, passing_code, arguments_code, call_code, clear_result, call_finally_code, local_unwind_code}
-use Rattle.template_code.specs.Template.{template_size}
-use Rattle.template_code.proofs.Sizes.{sizes_append, passing_call_size, jump_size, jump_if_zero_size, call_code_size}
-use Rattle.template_code.proofs.Lengths.{PassesFew}
-use Rattle.x64_emit.specs.Rooms.{slot_room, instruction_room}
+use Rattle.x64_emit.proofs.Lemmas.{sizes_append, passing_call_size, jump_size, jump_if_zero_size, call_code_size, PassesFew}
 
 -- ---- a word in memory
 

@@ -4,3 +4,4 @@ pub mod Linking
 pub mod Entries
 pub mod Rooms
 pub mod Bodies
+pub mod Words

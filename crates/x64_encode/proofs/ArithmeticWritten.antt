@@ -3,24 +3,14 @@ use Rattle.std.proofs.Common.{◌≡◌, ℕ, ◌+◌, ◌-◌, ◌*◌, ◌/◌
 use Rattle.std.proofs.lemmas.Bool.{ltb-true, lt-ltb, le-ltb, le-leb}
 use Rattle.std.proofs.lemmas.Bool.Decides.{leb_tells}
 use Rattle.std.specs.Prelude.{◌&&◌, ◌||◌, nat_lt, nat_le}
-use Rattle.seh_num.specs.declared.width.Width.{Width}
-use Rattle.seh_num.specs.declared.width.Width.TheVariants.{W8, W16, W32, W64}
-use Rattle.seh_num.specs.Widths.{bytes_of, limit, low}
-use Rattle.x64_instr.specs.declared.register.Reg.{Reg}
-use Rattle.x64_instr.specs.declared.operand.RegisterOrMemory.{RegisterOrMemory}
+use Rattle.x64_encode.specs.Words.{Width, W8, W16, W32, W64, bytes_of, limit, low, Reg, RegisterOrMemory, Operation, Instr, Read, ◌>>=◌, number, signed, immediate_of, register_of_low_bits, rm_extension, given, operation, group_1, group_11, move_immediate, row, after_prefixes, instr, little, is_signed, wide, place_bytes, modrm_bits, modrm, opcode_register, sized_opcode, opcode_extension, immediate_bytes, arithmetic_bytes, move_bytes, is_place, is_immediate}
 use Rattle.x64_instr.specs.declared.operand.RegisterOrMemory.TheVariants as places
 use Rattle.x64_instr.specs.declared.operand.Operand.TheVariants as operands
 use Rattle.x64_encode.specs.declared.writing.Opcode.TheVariants as opcodes
-use Rattle.x64_instr.specs.declared.instruction.Operation.{Operation}
 use Rattle.x64_instr.specs.declared.instruction.Operation.TheVariants as operations
-use Rattle.x64_instr.specs.declared.instruction.Instr.{Instr}
 use Rattle.x64_instr.specs.declared.instruction.Instr.TheVariants as instrs
 use Rattle.x64_instr.specs.Registers as regs
-use Rattle.x64_instr.specs.Reading.{Read, ◌>>=◌, number, signed}
-use Rattle.x64_instr.specs.Operands.{immediate_of, register_of_low_bits}
-use Rattle.x64_instr.specs.Spelling.{rm_extension, given, operation, group_1, group_11, move_immediate, row, after_prefixes, instr}
-use Rattle.x64_encode.specs.Chosen.{little, is_signed, wide, place_bytes, modrm_bits, modrm, opcode_register, sized_opcode, opcode_extension, immediate_bytes, arithmetic_bytes, move_bytes, is_place, is_immediate}
-use Rattle.x64_instr.proofs.RegisterNumbers.{number_small}
+use Rattle.x64_encode.proofs.Lemmas.{number_small}
 use Rattle.x64_encode.proofs.Operands.{read_as, number_little, signed_little}
 use Rattle.x64_encode.proofs.OpcodesAgain.{is_word, wide_small, width_read, modrm_prefixes, open_one, width_is, listed, rm_digit_read, IsOpcode, rm_r_again, rm_digit_again, register_prefixes, open_register, lowest_read, immediate_row, row_move_number, row_arithmetic_number, row_arithmetic}
 

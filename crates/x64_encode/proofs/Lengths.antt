@@ -1,27 +1,15 @@
 -- No chosen spelling is longer than 15 bytes.
 use Rattle.std.proofs.Common.{◌≡◌, ℕ, zero, suc, ◌+◌, ◌*◌, ◌/◌, ◌%◌, ◌≤◌, Bool, true, false, cond, List, [], ◌∷◌, ◌++◌, Option, Some, None, refl, ap, arith, length, length-append}
 use Rattle.std.specs.Prelude.{◌==◌}
-use Rattle.seh_num.specs.declared.width.Width.{Width}
-use Rattle.seh_num.specs.declared.width.Width.TheVariants.{W8, W16, W32, W64}
-use Rattle.seh_num.specs.Widths.{bytes_of, low}
-use Rattle.x64_instr.specs.declared.register.Reg.{Reg}
-use Rattle.x64_instr.specs.declared.operand.Base.{Base}
+use Rattle.x64_encode.specs.Words.{Width, W8, W16, W32, W64, bytes_of, low, Reg, Base, Index, RegisterOrMemory, Operation, Count, Relative, Indirect, Instr, immediate_of, little, is_signed, wide, has_rex, prefixes, opcode_bytes, mode, displacement, sib, at_register, memory_bytes, place_bytes, modrm_bits, modrm, opcode_register, sized_opcode, opcode_extension, unary_opcode_extension, division_opcode_extension, direction_opcode_extension, condition_number, extend_opcode, extend_width, immediate_bytes, arithmetic_bytes, move_bytes, count_bytes, plain_bytes, encoded_len}
 use Rattle.x64_instr.specs.declared.operand.Base.TheVariants as bases
-use Rattle.x64_instr.specs.declared.operand.Index.{Index}
-use Rattle.x64_instr.specs.declared.operand.RegisterOrMemory.{RegisterOrMemory}
 use Rattle.x64_instr.specs.declared.operand.RegisterOrMemory.TheVariants as places
 use Rattle.x64_instr.specs.declared.operand.Operand.TheVariants as operands
 use Rattle.x64_encode.specs.declared.writing.Opcode.{Opcode}
 use Rattle.x64_encode.specs.declared.writing.Opcode.TheVariants as opcodes
-use Rattle.x64_instr.specs.declared.instruction.Operation.{Operation}
-use Rattle.x64_instr.specs.declared.instruction.Count.{Count}
 use Rattle.x64_instr.specs.declared.instruction.Count.TheVariants as counts
-use Rattle.x64_instr.specs.declared.instruction.Target.TheVariants.{Relative, Indirect}
-use Rattle.x64_instr.specs.declared.instruction.Instr.{Instr}
 use Rattle.x64_instr.specs.declared.instruction.Instr.TheVariants as instrs
 use Rattle.x64_instr.specs.Registers.{number}
-use Rattle.x64_instr.specs.Operands.{immediate_of}
-use Rattle.x64_encode.specs.Chosen.{little, is_signed, wide, has_rex, prefixes, opcode_bytes, mode, displacement, sib, at_register, memory_bytes, place_bytes, modrm_bits, modrm, opcode_register, sized_opcode, opcode_extension, unary_opcode_extension, division_opcode_extension, direction_opcode_extension, condition_number, extend_opcode, extend_width, immediate_bytes, arithmetic_bytes, move_bytes, count_bytes, plain_bytes, encoded_len}
 
 pub length-little : (n v : ℕ) → length (little n v) ≡ n
 length-little zero v = refl

@@ -1,3 +1,4 @@
+mod Lemmas
 pub mod Operands
 pub mod OpcodesAgain
 pub mod ArithmeticWritten

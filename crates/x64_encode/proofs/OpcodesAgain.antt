@@ -2,28 +2,17 @@
 use Rattle.std.proofs.Common.{◌≡◌, ◌≢◌, ℕ, ◌+◌, ◌*◌, ◌/◌, ◌%◌, ◌<◌, Bool, true, false, not, cond, eqb, List, [], ◌∷◌, ◌++◌, Some, None, refl, sym, ap, ◌∙◌, append_assoc, arith, eq-eqb}
 use Rattle.std.proofs.lemmas.Bool.{ne_eqb, eqb-true, not-false}
 use Rattle.std.specs.Prelude.{◌&&◌}
-use Rattle.seh_num.specs.declared.width.Width.{Width}
-use Rattle.seh_num.specs.declared.width.Width.TheVariants.{W8, W16, W32, W64}
-use Rattle.x64_instr.specs.declared.register.Reg.{Reg}
+use Rattle.x64_encode.specs.Words.{Width, W8, W16, W32, W64, Reg, RegisterOrMemory, Prefixes, Operation, Condition, Instr, Read, ◌>>=◌, byte, signed, bit, width_of, sized, immediate_of, register_of_reg_field, register_of_low_bits, modrm_with_register, is_listed, rm_and_register, rm_and_opcode_extension, source, rm_r, r_rm, rm_extension, group_1, group_11, group_3, load, move_immediate, plain_row, row, two_byte_row, after_prefixes, after_size, instr, wide, has_rex, prefixes, high_bits, place_bytes, modrm_bits, modrm, opcode_register, sized_opcode, opcode_extension, condition_number, is_place}
 use Rattle.x64_instr.specs.declared.register.Reg.TheVariants.{Rax, Rcx, Rdx, Rbx, Rsp, Rbp, Rsi, Rdi, R8, R9, R10, R11, R12, R13, R14, R15}
-use Rattle.x64_instr.specs.declared.operand.RegisterOrMemory.{RegisterOrMemory}
 use Rattle.x64_instr.specs.declared.operand.RegisterOrMemory.TheVariants as places
 use Rattle.x64_instr.specs.declared.operand.Operand.{Operand}
 use Rattle.x64_instr.specs.declared.operand.Operand.TheVariants as operands
-use Rattle.x64_instr.specs.declared.prefixes.Prefixes.{Prefixes}
 use Rattle.x64_encode.specs.declared.writing.Opcode.TheVariants as opcodes
-use Rattle.x64_instr.specs.declared.instruction.Operation.{Operation}
 use Rattle.x64_instr.specs.declared.instruction.Operation.TheVariants as operations
-use Rattle.x64_instr.specs.declared.instruction.Condition.{Condition}
 use Rattle.x64_instr.specs.declared.instruction.Condition.TheVariants as conditions
-use Rattle.x64_instr.specs.declared.instruction.Instr.{Instr}
 use Rattle.x64_instr.specs.declared.instruction.Instr.TheVariants as instrs
 use Rattle.x64_instr.specs.Registers as regs
-use Rattle.x64_instr.specs.Reading.{Read, ◌>>=◌, byte, signed, bit}
-use Rattle.x64_instr.specs.Operands.{width_of, sized, immediate_of, register_of_reg_field, register_of_low_bits, modrm_with_register, is_listed, rm_and_register, rm_and_opcode_extension, source}
-use Rattle.x64_instr.specs.Spelling.{rm_r, r_rm, rm_extension, group_1, group_11, group_3, load, move_immediate, plain_row, row, two_byte_row, after_prefixes, after_size, instr}
-use Rattle.x64_encode.specs.Chosen.{wide, has_rex, prefixes, high_bits, place_bytes, modrm_bits, modrm, opcode_register, sized_opcode, opcode_extension, condition_number, is_place}
-use Rattle.x64_instr.proofs.RegisterNumbers.{number_small}
+use Rattle.x64_encode.proofs.Lemmas.{number_small}
 use Rattle.x64_encode.proofs.Operands.{read_as, joined, High, IsRead, read_place, high_small}
 
 -- ---- prefixes

@@ -3,23 +3,13 @@ use Rattle.std.proofs.Common.{◌≡◌, ◌≢◌, ℕ, zero, suc, ◌+◌, ◌
 use Rattle.std.proofs.lemmas.Bool.{ne_eqb, cases_eq, and_parts, or_cases, ltb-true, leb-true, le-ltb, lt-ltb}
 use Rattle.std.proofs.Math.Nat.{pow-suc}
 use Rattle.std.specs.Prelude.{◌⊎◌, nat_lt, nat_le}
-use Rattle.seh_num.specs.declared.width.Width.{Width}
-use Rattle.seh_num.specs.declared.width.Width.TheVariants.{W8, W16, W32, W64}
-use Rattle.seh_num.specs.Widths.{bytes_of, limit, half, low}
-use Rattle.x64_instr.specs.declared.register.Reg.{Reg}
+use Rattle.x64_encode.specs.Words.{Width, W8, W16, W32, W64, bytes_of, limit, half, low, Reg, Base, Index, RegisterOrMemory, Prefixes, Read, ◌>>=◌, byte, number, signed, extended, bit, register_of_low_bits, scale, index_of_sib, memory, displaced, sib_operand, memory_operand, place, little, is_signed, base_number, index_number, high_bits, mode, displacement, scale_number, sib, at_register, memory_bytes, place_bytes, is_index, is_place}
 use Rattle.x64_instr.specs.declared.operand.Scale.{Scale}
 use Rattle.x64_instr.specs.declared.operand.Scale.TheVariants.{One, Two, Four, Eight}
-use Rattle.x64_instr.specs.declared.operand.Base.{Base}
 use Rattle.x64_instr.specs.declared.operand.Base.TheVariants as bases
-use Rattle.x64_instr.specs.declared.operand.Index.{Index}
-use Rattle.x64_instr.specs.declared.operand.RegisterOrMemory.{RegisterOrMemory}
 use Rattle.x64_instr.specs.declared.operand.RegisterOrMemory.TheVariants as places
-use Rattle.x64_instr.specs.declared.prefixes.Prefixes.{Prefixes}
 use Rattle.x64_instr.specs.Registers as regs
-use Rattle.x64_instr.specs.Reading.{Read, ◌>>=◌, byte, number, signed, extended, bit}
-use Rattle.x64_instr.specs.Operands.{register_of_low_bits, scale, index_of_sib, memory, displaced, sib_operand, memory_operand, place}
-use Rattle.x64_instr.proofs.RegisterNumbers.{register_number, number_small}
-use Rattle.x64_encode.specs.Chosen.{little, is_signed, base_number, index_number, high_bits, mode, displacement, scale_number, sib, at_register, memory_bytes, place_bytes, is_index, is_place}
+use Rattle.x64_encode.proofs.Lemmas.{register_number, number_small}
 
 abbrev pub read_as : {A : Type 0} → A → List ℕ → Read A
 read_as x rest = Some (x, rest)

@@ -3,11 +3,7 @@ use Rattle.std.proofs.Common.{◌≡◌, ◌≢◌, ℕ, ◌+◌, ◌-◌, ◌*�
 use Rattle.std.proofs.lemmas.Bool.{ne_eqb, and_parts, ltb-true}
 use Rattle.std.proofs.lemmas.List.{append-nil}
 use Rattle.std.specs.Prelude.{◌&&◌, ◌||◌, option_map}
-use Rattle.seh_num.specs.declared.width.Width.{Width}
-use Rattle.seh_num.specs.declared.width.Width.TheVariants.{W8, W16, W32, W64}
-use Rattle.seh_num.specs.Widths.{low}
-use Rattle.x64_instr.specs.declared.register.Reg.{Reg}
-use Rattle.x64_instr.specs.declared.operand.RegisterOrMemory.{RegisterOrMemory}
+use Rattle.x64_encode.specs.Words.{Width, W8, W16, W32, W64, low, Reg, RegisterOrMemory, Count, Condition, Relative, Indirect, Instr, Read, ◌>>=◌, byte, number, signed, bit, width_of, sized_narrow, immediate_of, is_listed, rm_and_register, r_rm, rm_extension, given, direction, group_2_immediate, group_2_cl, group_5, load, extend, address_to, plain_row, row, two_byte_row, after_prefixes, after_size, instr, IsEncoding, leading, little, is_signed, wide, has_rex, place_bytes, modrm_bits, modrm, sized_opcode, opcode_extension, division_opcode_extension, direction_opcode_extension, condition_number, extend_width, extend_opcode, immediate_bytes, count_bytes, chosen, encoded_len, is_place, is_wide, is_immediate, is_widened, is_count, is_encodable, IsEncodable}
 use Rattle.x64_instr.specs.declared.operand.RegisterOrMemory.TheVariants as places
 use Rattle.x64_instr.specs.declared.operand.Operand.TheVariants as operands
 use Rattle.x64_encode.specs.declared.writing.Opcode.TheVariants as opcodes
@@ -18,18 +14,10 @@ use Rattle.x64_instr.specs.declared.instruction.Division.{Division}
 use Rattle.x64_instr.specs.declared.instruction.Division.TheVariants.{Unsigned, Signed}
 use Rattle.x64_instr.specs.declared.instruction.Direction.{Direction}
 use Rattle.x64_instr.specs.declared.instruction.Direction.TheVariants.{Left, Right, ArithmeticRight}
-use Rattle.x64_instr.specs.declared.instruction.Count.{Count}
 use Rattle.x64_instr.specs.declared.instruction.Count.TheVariants as counts
-use Rattle.x64_instr.specs.declared.instruction.Condition.{Condition}
-use Rattle.x64_instr.specs.declared.instruction.Target.TheVariants.{Relative, Indirect}
-use Rattle.x64_instr.specs.declared.instruction.Instr.{Instr}
 use Rattle.x64_instr.specs.declared.instruction.Instr.TheVariants as instrs
 use Rattle.x64_instr.specs.Registers as regs
-use Rattle.x64_instr.specs.Reading.{Read, ◌>>=◌, byte, number, signed, bit}
-use Rattle.x64_instr.specs.Operands.{width_of, sized_narrow, immediate_of, is_listed, rm_and_register}
-use Rattle.x64_instr.specs.Spelling.{r_rm, rm_extension, given, direction, group_2_immediate, group_2_cl, group_5, load, extend, address_to, plain_row, row, two_byte_row, after_prefixes, after_size, instr, IsEncoding, leading}
-use Rattle.x64_encode.specs.Chosen.{little, is_signed, wide, has_rex, place_bytes, modrm_bits, modrm, sized_opcode, opcode_extension, division_opcode_extension, direction_opcode_extension, condition_number, extend_width, extend_opcode, immediate_bytes, count_bytes, chosen, encoded_len, is_place, is_wide, is_immediate, is_widened, is_count, is_encodable, IsEncodable}
-use Rattle.x64_instr.proofs.RegisterNumbers.{number_small}
+use Rattle.x64_encode.proofs.Lemmas.{number_small}
 use Rattle.x64_encode.proofs.Operands.{read_as, signed_little, high_small}
 use Rattle.x64_encode.proofs.OpcodesAgain.{is_word, read_prefixes, modrm_prefixes, open_one, open_two, width_is, bits_top, digit_read, operands_read, listed, r_rm_read, rm_digit_read, rm_r_again, r_rm_again, rm_digit_again, open_register, lowest_read, push_row, pop_row, row_move, row_load, row_test, third, row_third, from_memory, row_arithmetic_load, row_jump_if, row_set}
 use Rattle.x64_encode.proofs.ArithmeticWritten.{impossible, limit_least, immediate_read, is_84, is_88, is_8A, is_F6, move_place, again_move_number, either, again_arithmetic_number, is_arithmetic, again_arithmetic}

@@ -2,16 +2,11 @@
 use Rattle.std.proofs.Common.{◌≡◌, ◌≢◌, ℕ, ◌+◌, ◌-◌, ◌<◌, Bool, true, false, ltb, leb, eqb, ℤ, pos, negsuc, ◌-ℤ◌, refl, sym, ap, ◌∙◌, arith, inl, inr}
 use Rattle.std.specs.Prelude.{not, ◌||◌, int_lt, int_le}
 use Rattle.std.proofs.lemmas.Bool.{cases_lt, cases_eq, lt-ltb, le-ltb, le-leb, lt-leb, eq-eqb, ne_eqb}
-use Rattle.seh_num.specs.declared.width.Width.{Width}
-use Rattle.seh_num.specs.Widths.{limit, half, low, signed, wrapped}
-use Rattle.seh_num.specs.Division.{is_signed}
+use Rattle.x64_laws.specs.Words.{Width, limit, half, low, signed, wrapped, is_signed, subtracted, differ, compares}
 use Rattle.x64_instr.specs.declared.instruction.Condition.{Condition}
 use Rattle.x64_instr.specs.declared.instruction.Condition.TheVariants as conditions
-use Rattle.x64_machine.specs.Words.{subtracted}
-use Rattle.x64_machine.specs.Shifts.{differ}
 use Rattle.x64_machine.specs.Conditions.{holds}
-use Rattle.x64_laws.specs.Comparing.{compares}
-use Rattle.x64_machine.proofs.Numbers.{low_below, signed_low, signed_high}
+use Rattle.x64_laws.proofs.Lemmas.{low_below, signed_low, signed_high}
 use Rattle.x64_machine.proofs.Differences.{difference_zero, signed_less}
 use Rattle.x64_laws.proofs.Numbers.{wrapped_signed}
 use Rattle.x64_laws.proofs.Results.{difference_bits}

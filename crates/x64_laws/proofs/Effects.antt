@@ -1,22 +1,11 @@
 -- What instructions on registers leave.
 use Rattle.std.proofs.Common.{◌≡◌, ℕ, ◌+◌, ◌-◌, ◌*◌, ◌^◌, ◌<◌, Bool, List, length, get_or, set, ℤ, pos, ◌+ℤ◌, ◌-ℤ◌, ◌*ℤ◌, refl, sym, ap, subst, ◌∙◌, arith, get_or-set_same, get_or-set_other}
 use Rattle.std.specs.Prelude.{not, nat_lt, nat_le}
-use Rattle.seh_num.specs.declared.width.Width.{Width}
-use Rattle.seh_num.specs.declared.width.Width.TheVariants.{W8, W16, W32, W64}
-use Rattle.seh_num.specs.Widths.{limit, low, signed, wrapped}
-use Rattle.seh_num.specs.Division.{is_signed}
-use Rattle.x64_instr.specs.declared.register.Reg.{Reg}
-use Rattle.x64_instr.specs.declared.instruction.Direction.TheVariants.{ArithmeticRight}
-use Rattle.x64_instr.specs.Registers.{number}
-use Rattle.x64_instr.proofs.RegisterNumbers.{number_small, number_once}
+use Rattle.x64_laws.specs.Words.{Width, W8, W16, W32, W64, limit, low, signed, wrapped, is_signed, Reg, ArithmeticRight, number, flags_of, added, subtracted, multiplied, merged, count_of, shifted, shift_flags, IsOf, flags_for, product_flags, IsFloor, AddIsSum, SubIsDifference, ImulIsProduct, ImulByIsProduct, NegIsNegative, MovsxKeepsSigned, MovzxKeepsUnsigned, SarIsFloor, CmpDecides}
+use Rattle.x64_laws.proofs.Lemmas.{number_small, number_once, limits, low_below, twice, signed_low, signed_twice, wrapped_below}
 use Rattle.x64_machine.specs.declared.cpu.Flags.{Flags}
-use Rattle.x64_machine.specs.Words.{flags_of, added, subtracted, multiplied, merged}
-use Rattle.x64_machine.specs.Shifts.{count_of, shifted, shift_flags}
 use Rattle.x64_machine.specs.Effect.{State, register, amount}
-use Rattle.x64_machine.proofs.Numbers.{limits, low_below, twice, signed_low, signed_twice, wrapped_below}
 use Rattle.x64_laws.specs.Destinations.{HasRegisters, unsigned_in, signed_in, Puts}
-use Rattle.x64_laws.specs.Arithmetic.{IsOf, flags_for, product_flags, IsFloor, AddIsSum, SubIsDifference, ImulIsProduct, ImulByIsProduct, NegIsNegative, MovsxKeepsSigned, MovzxKeepsUnsigned, SarIsFloor}
-use Rattle.x64_laws.specs.Comparing.{CmpDecides}
 use Rattle.x64_laws.proofs.Numbers.{half_positive, limit_positive, half_at_most, signed_wrapped, is_signed_wider}
 use Rattle.x64_laws.proofs.Results.{sum_bits, difference_bits, product_bits}
 use Rattle.x64_laws.proofs.Floors.{shifted_floor, shifted_below}

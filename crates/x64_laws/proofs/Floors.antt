@@ -4,13 +4,8 @@ use Rattle.std.proofs.Math.IntN.{neg_ℤ, pos-*ℤ-pos, negsuc-*ℤ-pos}
 use Rattle.std.proofs.Math.Nat.{mul_comm, mul_assoc, one-mul, mul-add, suc-mul, mod-add-div, mod-lt, div-le_self, pow-succ', mul-add-div, mul-le-mul_left, mul-le-mul_right, div-eq_of_lt}
 use Rattle.std.proofs.lemmas.Bool.{cases_lt, lt-ltb, le-ltb}
 use Rattle.std.proofs.lemmas.Int.{ints}
-use Rattle.seh_num.specs.declared.width.Width.{Width}
-use Rattle.seh_num.specs.declared.width.Width.TheVariants.{W8, W16, W32, W64}
-use Rattle.seh_num.specs.Widths.{bytes_of, limit, half, low, signed}
-use Rattle.x64_instr.specs.declared.instruction.Direction.TheVariants.{ArithmeticRight}
-use Rattle.x64_machine.specs.Shifts.{shifted}
-use Rattle.x64_laws.specs.Arithmetic.{IsFloor}
-use Rattle.x64_machine.proofs.Numbers.{limits, low_is, low_below, signed_low, signed_high}
+use Rattle.x64_laws.specs.Words.{Width, W8, W16, W32, W64, bytes_of, limit, half, low, signed, ArithmeticRight, shifted, IsFloor}
+use Rattle.x64_laws.proofs.Lemmas.{limits, low_is, low_below, signed_low, signed_high}
 
 -- a number that isn't below 0
 floor_pos : (a p : ℕ) → 0 < p → IsFloor (pos a) p (pos (a / p))

@@ -3,15 +3,11 @@ use Rattle.std.proofs.Common.{◌≡◌, ℕ, zero, suc, ◌+◌, ◌-◌, ◌*�
 use Rattle.std.specs.Prelude.{◌&&◌, ◌||◌}
 use Rattle.std.proofs.Math.Nat.{pow-suc}
 use Rattle.std.proofs.lemmas.Bool.{cases_lt, lt-ltb, le-ltb, le-leb}
-use Rattle.seh_num.specs.declared.width.Width.{Width}
-use Rattle.seh_num.specs.declared.width.Width.TheVariants.{W8, W16, W32, W64}
-use Rattle.seh_num.specs.Widths.{bytes_of, limit, half}
-use Rattle.x64_instr.specs.Reading.{Read, ◌>>=◌, byte, number, signed, extended}
-use Rattle.x64_instr.specs.Spelling.{given}
+use Rattle.x64_laws.specs.Words.{Width, W8, W16, W32, W64, bytes_of, limit, half, Read, ◌>>=◌, byte, extended, given, AreByteValues}
+use Rattle.x64_instr.specs.Reading.{number, signed}
 use Rattle.x64_instr.proofs.Readers.{pair, bind_some}
 use Rattle.x64_encode.specs.Chosen.{is_signed}
-use Rattle.x64_laws.specs.Spelled.{AreByteValues}
-use Rattle.x64_machine.proofs.Numbers.{limits}
+use Rattle.x64_laws.proofs.Lemmas.{limits}
 use Rattle.x64_laws.proofs.Numbers.{half_at_most}
 
 -- what was given of these bytes

@@ -1,3 +1,4 @@
+mod Lemmas
 pub mod Numbers
 pub mod Results
 pub mod AfterCompare

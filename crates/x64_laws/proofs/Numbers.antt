@@ -3,11 +3,8 @@ use Rattle.std.proofs.Common.{◌≡◌, ℕ, zero, suc, ◌+◌, ◌-◌, ◌*�
 use Rattle.std.proofs.Math.IntN.{neg_ℤ}
 use Rattle.std.proofs.lemmas.Bool.{cases_lt, lt-ltb, ltb-true}
 use Rattle.std.proofs.lemmas.Int.{ints}
-use Rattle.seh_num.specs.declared.width.Width.{Width}
-use Rattle.seh_num.specs.declared.width.Width.TheVariants.{W8, W16, W32, W64}
-use Rattle.seh_num.specs.Widths.{bytes_of, limit, half, low, signed, wrapped}
-use Rattle.seh_num.specs.Division.{is_signed}
-use Rattle.x64_machine.proofs.Numbers.{limits, low_is, low_below, signed_low, signed_high, signed_twice}
+use Rattle.x64_laws.specs.Words.{Width, W8, W16, W32, W64, bytes_of, limit, half, low, signed, wrapped, is_signed}
+use Rattle.x64_laws.proofs.Lemmas.{limits, low_is, low_below, signed_low, signed_high, signed_twice}
 
 -- numbers that differ by multiples of the limit have the same low bits
 pub low_same : (w : Width) (x y k m : ℕ) → x + limit w * k ≡ y + limit w * m → low w x ≡ low w y

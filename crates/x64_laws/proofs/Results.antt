@@ -4,9 +4,8 @@ use Rattle.std.proofs.Math.IntN.{neg_ℤ, *ℤ_comm, pos-*ℤ-pos, pos-*ℤ-negs
 use Rattle.std.proofs.Math.Nat.{mul_comm, mul-add, mul-suc}
 use Rattle.std.proofs.lemmas.Bool.{cases_lt}
 use Rattle.std.proofs.lemmas.Int.{ints}
-use Rattle.seh_num.specs.declared.width.Width.{Width}
-use Rattle.seh_num.specs.Widths.{limit, half, low, signed, wrapped}
-use Rattle.x64_machine.proofs.Numbers.{signed_low, signed_high}
+use Rattle.x64_laws.specs.Words.{Width, limit, half, low, signed, wrapped}
+use Rattle.x64_laws.proofs.Lemmas.{signed_low, signed_high}
 use Rattle.x64_laws.proofs.Numbers.{low_same, wrapped_from, wrapped_neg}
 
 -- a signed number is its bits less a multiple of the limit

@@ -2,14 +2,9 @@
 use Rattle.std.proofs.Common.{◌≡◌, ℕ, ◌+◌, ◌-◌, ◌/◌, ◌%◌, ◌^◌, ◌<◌, ◌≤◌, Bool, true, false, cond, eqb, ltb, leb, List, [], Option, Some, refl, sym, ap, subst, ◌∙◌, arith, inl, inr}
 use Rattle.std.specs.Prelude.{not, ◌&&◌, ◌||◌, ◌⊎◌}
 use Rattle.std.proofs.lemmas.Bool.{eqb-true, and_parts, lt-ltb, ltb-true, true≢false}
-use Rattle.seh_num.specs.declared.width.Width.{Width}
-use Rattle.seh_num.specs.declared.width.Width.TheVariants.{W8, W16, W32, W64}
-use Rattle.seh_num.specs.Widths.{bytes_of, limit, half}
-use Rattle.x64_instr.specs.declared.register.Reg.{Reg}
-use Rattle.x64_instr.specs.declared.operand.RegisterOrMemory.{RegisterOrMemory}
+use Rattle.x64_laws.specs.Words.{Width, W8, W16, W32, W64, bytes_of, limit, half, Reg, RegisterOrMemory, Prefixes, Instr, number, Read, ◌>>=◌, byte, bit, width_of, sized, sized_narrow, immediate_of, register_of_low_bits, rm_and_register, rm_and_opcode_extension, source, given, operation, direction, condition, group_1, group_11, test_immediate, group_3, group_2_immediate, group_2_cl, group_5, move_immediate, sign_extend, extend, load, multiply_by, address_to, load_address, jump_if, set_if, jump, call, no_operation, arithmetic_form, arithmetic_row, plain_row, row, extend_row, two_byte_row, after_prefixes, after_size, instr, is_place, is_wide, is_immediate, SpelledIsEncodable, SpelledIsShort}
 use Rattle.x64_instr.specs.declared.operand.RegisterOrMemory.TheVariants as places
 use Rattle.x64_instr.specs.declared.operand.Operand.TheVariants as operands
-use Rattle.x64_instr.specs.declared.prefixes.Prefixes.{Prefixes}
 use Rattle.x64_instr.specs.declared.instruction.Operation.{Operation}
 use Rattle.x64_instr.specs.declared.instruction.Unary.TheVariants.{Not, Negate}
 use Rattle.x64_instr.specs.declared.instruction.Extension.{Extension}
@@ -17,16 +12,10 @@ use Rattle.x64_instr.specs.declared.instruction.Extension.TheVariants.{Sign, Zer
 use Rattle.x64_instr.specs.declared.instruction.Division.TheVariants.{Unsigned, Signed}
 use Rattle.x64_instr.specs.declared.instruction.Count.TheVariants as counts
 use Rattle.x64_instr.specs.declared.instruction.Target.TheVariants.{Relative, Indirect}
-use Rattle.x64_instr.specs.declared.instruction.Instr.{Instr}
 use Rattle.x64_instr.specs.declared.instruction.Instr.TheVariants as instrs
-use Rattle.x64_instr.specs.Registers.{number}
-use Rattle.x64_instr.specs.Reading.{Read, ◌>>=◌, byte, signed, bit}
+use Rattle.x64_instr.specs.Reading.{signed}
 use Rattle.x64_instr.specs.Reading as reading
-use Rattle.x64_instr.specs.Operands.{width_of, sized, sized_narrow, immediate_of, register_of_low_bits, rm_and_register, rm_and_opcode_extension, source}
-use Rattle.x64_instr.specs.Spelling.{given, operation, direction, condition, group_1, group_11, test_immediate, group_3, group_2_immediate, group_2_cl, group_5, move_immediate, sign_extend, extend, load, multiply_by, address_to, load_address, jump_if, set_if, jump, call, no_operation, arithmetic_form, arithmetic_row, plain_row, row, extend_row, two_byte_row, after_prefixes, after_size, instr}
-use Rattle.x64_encode.specs.Chosen.{is_place, is_wide, is_immediate}
-use Rattle.x64_laws.specs.Spelled.{SpelledIsEncodable, SpelledIsShort}
-use Rattle.x64_machine.proofs.Numbers.{limits}
+use Rattle.x64_laws.proofs.Lemmas.{limits}
 use Rattle.x64_laws.proofs.Numbers.{half_at_most}
 use Rattle.x64_laws.proofs.Giving.{Gives, at_most, byte-Gives, fail-Gives, bind-Gives, map-Gives, if-Gives, given-Gives, number-Gives, limit_is, both_true, signed-Gives}
 use Rattle.x64_laws.proofs.SpelledOperands.{Anything, IsDisplacement, IsPlace, IsCode, byte_displacement, long_displacement, FirstIsPlace, rm_and_register-Gives, rm_and_opcode_extension-Gives, rm_r-Gives, r_rm-Gives, rm_extension-Gives, done_within}

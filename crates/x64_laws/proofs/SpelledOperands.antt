@@ -2,23 +2,15 @@
 use Rattle.std.proofs.Common.{◌≡◌, ℕ, ◌+◌, ◌-◌, ◌*◌, ◌/◌, ◌%◌, ◌<◌, Bool, true, cond, eqb, List, Option, Some, None, refl, ap, ◌∙◌, arith, inl, inr}
 use Rattle.std.specs.Prelude.{not, ◌&&◌}
 use Rattle.std.proofs.lemmas.Bool.{cases_eq, eq-eqb, ne_eqb}
-use Rattle.seh_num.specs.declared.width.Width.{Width}
-use Rattle.seh_num.specs.declared.width.Width.TheVariants.{W8, W32, W64}
-use Rattle.x64_instr.specs.declared.register.Reg.{Reg}
+use Rattle.x64_laws.specs.Words.{Width, W8, W32, W64, Reg, RegisterOrMemory, Prefixes, Instr, register, Read, ◌>>=◌, byte, bit, register_of_reg_field, register_of_low_bits, scale, index_of_sib, memory, displaced, sib_operand, memory_operand, place, modrm_with_register, modrm_with_opcode_extension, is_listed, rm_and_register, rm_and_opcode_extension, rm_r, r_rm, rm_extension, is_index, is_place, is_encodable}
 use Rattle.x64_instr.specs.declared.operand.Base.TheVariants as bases
 use Rattle.x64_instr.specs.declared.operand.Index.{Index}
-use Rattle.x64_instr.specs.declared.operand.RegisterOrMemory.{RegisterOrMemory}
 use Rattle.x64_instr.specs.declared.operand.RegisterOrMemory.TheVariants as places
 use Rattle.x64_instr.specs.declared.operand.Operand.{Operand}
 use Rattle.x64_instr.specs.declared.operand.Operand.TheVariants as operands
-use Rattle.x64_instr.specs.declared.prefixes.Prefixes.{Prefixes}
-use Rattle.x64_instr.specs.declared.instruction.Instr.{Instr}
-use Rattle.x64_instr.specs.Registers.{register}
-use Rattle.x64_instr.specs.Reading.{Read, ◌>>=◌, byte, signed, bit}
-use Rattle.x64_instr.specs.Operands.{register_of_reg_field, register_of_low_bits, scale, index_of_sib, memory, displaced, sib_operand, memory_operand, place, modrm_with_register, modrm_with_opcode_extension, is_listed, rm_and_register, rm_and_opcode_extension}
-use Rattle.x64_instr.specs.Spelling.{rm_r, r_rm, rm_extension}
-use Rattle.x64_instr.proofs.RegisterNumbers.{number_register}
-use Rattle.x64_encode.specs.Chosen.{is_signed, is_index, is_place, is_encodable}
+use Rattle.x64_instr.specs.Reading.{signed}
+use Rattle.x64_laws.proofs.Lemmas.{number_register}
+use Rattle.x64_encode.specs.Chosen.{is_signed}
 use Rattle.x64_laws.proofs.Giving.{Gives, at_most, byte-Gives, done-Gives, fail-Gives, bind-Gives, map-Gives, if-Gives, both_true, signed-Gives}
 
 -- ---- what is to be

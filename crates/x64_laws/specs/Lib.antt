@@ -2,3 +2,4 @@ pub mod Destinations
 pub mod Arithmetic
 pub mod Comparing
 pub mod Spelled
+pub mod Words

@@ -1,3 +1,4 @@
+mod Lemmas
 pub mod Steps
 pub mod RestsOfPages
 pub mod Paging

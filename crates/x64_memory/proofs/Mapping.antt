@@ -4,15 +4,8 @@ use Rattle.std.proofs.lemmas.Bool.{cases_eq, cases_lt, ne_eqb, lt-ltb, le-ltb, l
 use Rattle.std.proofs.lemmas.List.{length-replicate, get_or-append-add, get_or_append_left, get_or-take, get_or-drop, length-take-le}
 use borrow.Rule.Slice.PartMut.{put_mid, post_of}
 use Rattle.std.proofs.lemmas.Slice.{drop-put_mid}
-use Rattle.flat_memory.specs.declared.protection.Protection.{Protection}
-use Rattle.flat_memory.specs.Memory.{Memory}
-use Rattle.x64_memory.specs.declared.page.Page.{Page}
-use Rattle.x64_memory.specs.declared.region.Region.{Region}
-use Rattle.x64_memory.specs.declared.stretch.Stretch.{Stretch}
-use Rattle.x64_memory.specs.Stretches.{has_number, index_of, page_at, page_numbered, AreOrdered, count_from, end_from}
+use Rattle.x64_memory.specs.Words.{Protection, Memory, Page, Region, Stretch, has_number, index_of, page_at, page_numbered, AreOrdered, count_from, end_from, page_mode, page_byte, paged, has_page, HasArena, zero_page, IsWholeRegion, region_mode, covers, with_region, unmapped, in_regions, HoldsArena, filled}
 use Rattle.x64_memory.proofs.Ordered.{within, before, past, page_added, ordered_more, count_more, end_more}
-use Rattle.x64_memory.specs.Pages.{page_mode, page_byte, paged, has_page, HasArena, zero_page}
-use Rattle.x64_memory.specs.Regions.{IsWholeRegion, region_mode, covers, with_region, unmapped, in_regions, HoldsArena, filled}
 use Rattle.x64_memory.proofs.Paging.{page_changed}
 
 -- ---- a region over others

@@ -4,9 +4,7 @@ use Rattle.std.specs.Prelude.{slice_get}
 use Rattle.std.specs.List.Sorted.{IsNonDecreasingBy}
 use Rattle.std.proofs.lemmas.Bool.{cases_eq, cases_lt, ne_eqb, lt-ltb, le-ltb, le-leb, lt-leb, cond-true, cond-false}
 use Rattle.std.proofs.lemmas.Option.{same_Some, none-some, slice_get_read}
-use Rattle.x64_memory.specs.declared.page.Page.{Page}
-use Rattle.x64_memory.specs.declared.stretch.Stretch.{Stretch}
-use Rattle.x64_memory.specs.Stretches.{has_number, index_of, page_at, page_numbered, AreOrdered, count_from, end_from}
+use Rattle.x64_memory.specs.Words.{Page, Stretch, has_number, index_of, page_at, page_numbered, AreOrdered, count_from, end_from}
 
 -- ---- one stretch
 

@@ -3,14 +3,10 @@ use Rattle.std.proofs.Common.{◌≡◌, ◌≢◌, ℕ, ◌+◌, ◌-◌, ◌/�
 use Rattle.std.proofs.Math.Nat.{pow-suc, div-div-eq-div-mul}
 use Rattle.std.proofs.lemmas.Bool.{cases_eq, cases_lt, ne_eqb, lt-ltb, le-ltb, le-leb, lt-leb}
 use Rattle.std.proofs.lemmas.List.{get_or-drop}
-use Rattle.flat_memory.specs.declared.protection.Protection.{Protection}
+use Rattle.x64_memory.specs.Words.{Protection, with_bytes, with_number, distance, may_write, with_rights, is_writable, Page, page_mode, page_byte, paged, page_with_number, IsRestOfPage, has_page, with_page}
 use Rattle.flat_memory.specs.declared.protection.TheConstants.{UNMAPPED}
-use Rattle.flat_memory.specs.Memory.{with_bytes, with_number, distance, may_write, with_rights}
 use Rattle.flat_memory.specs.declared.protection.Rights.{Rights}
-use Rattle.flat_memory.specs.Protections.{is_writable}
-use Rattle.flat_memory.proofs.Stores.{among, beyond, outside}
-use Rattle.x64_memory.specs.declared.page.Page.{Page}
-use Rattle.x64_memory.specs.Pages.{page_mode, page_byte, paged, page_with_number, IsRestOfPage, has_page, with_page}
+use Rattle.x64_memory.proofs.Lemmas.{among, beyond, outside}
 
 module _ (old new : ℕ → Option Page) (k : ℕ) (p : Page)
     (has : (q : ℕ) → new q ≡ cond (eqb q k) (Some p) (old q)) where

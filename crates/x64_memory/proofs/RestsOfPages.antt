@@ -2,13 +2,9 @@
 use Rattle.std.proofs.Common.{Ok, Err, ◌≡◌, ℕ, zero, suc, ◌+◌, ◌*◌, ◌%◌, ◌^◌, ◌<◌, ◌≤◌, Bool, true, false, Option, Some, None, refl, sym, ap, ◌∙◌, arith, List, ◌∷◌, ◌++◌, length, take, drop, get_or, drop-cons}
 use Rattle.seh_num.specs.declared.width.Width.{Width}
 use Rattle.seh_num.specs.declared.width.Width.TheVariants.{W8, W16, W32, W64}
-use Rattle.seh_num.specs.Widths.{bytes_of}
+use Rattle.x64_memory.specs.Words.{bytes_of, Protection, Memory, next, executable, may_read, may_write, first_refused, number_at, access, refused, loaded, stored, is_readable, is_writable, IsRestOfPage}
 use Rattle.x64_memory.proofs.Steps.{first_refused-here}
 use Rattle.byteorder.specs.Endian.{little_from, little_number}
-use Rattle.flat_memory.specs.declared.protection.Protection.{Protection}
-use Rattle.flat_memory.specs.Memory.{Memory, next, executable, may_read, may_write, first_refused, number_at, access, refused, loaded, stored}
-use Rattle.flat_memory.specs.Protections.{is_readable, is_writable}
-use Rattle.x64_memory.specs.Pages.{IsRestOfPage}
 
 -- the number in some bytes, from the i-th on
 number_from : (byte : ℕ → ℕ) (xs : List ℕ) (at i n : ℕ)

@@ -1,8 +1,7 @@
 -- One byte more of an access.
 use Rattle.std.proofs.Common.{Result, Ok, Err, not, ◌≡◌, ℕ, zero, suc, ◌+◌, ◌-◌, ◌*◌, ◌^◌, ◌<◌, ◌≤◌, Bool, true, false, cond, Option, Some, None, refl, sym, ap, ◌∙◌, arith, []}
 use Rattle.std.proofs.Math.Nat.{pow-suc, pow-le-pow_right}
-use Rattle.flat_memory.specs.Memory.{Memory, next, executable, first_refused, number_at, may_read}
-use Rattle.x64_memory.specs.Pages.{readable_byte, or_number, number_or_refused}
+use Rattle.x64_memory.specs.Words.{Memory, next, executable, first_refused, number_at, may_read, readable_byte, or_number, number_or_refused}
 
 pub first_refused-more : (may : ℕ → Bool) (n m at : ℕ) → n ≡ m + 1 → may at ≡ true
     → first_refused may m (next at) ≡ first_refused may n at

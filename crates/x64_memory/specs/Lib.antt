@@ -2,3 +2,4 @@ pub mod Stretches
 pub mod Pages
 pub mod Regions
 pub mod PageMaps
+pub mod Words

@@ -1,16 +1,15 @@
 -- Loads and stores of the source, which can fault.
 use Rattle.std.proofs.Common.{◌≡◌, ℕ, zero, suc, ◌+◌, ◌*◌, ◌/◌, ◌%◌, ◌^◌, ◌<◌, Bool, true, false, cond, [], ◌∷◌, Option, Some, None, Ok, Err, refl, sym, ap, ◌∙◌, arith}
 use Rattle.std.specs.Prelude.{not}
-use Rattle.x64_templates.specs.Words.{Width, W8, W16, W32, W64, bytes_of, low, Protection, is_readable, is_writable, Memory, next, first_refused, may_read, may_write, number_at, with_number, with_bytes, access, unless_refused, IsApart, Rax, Rcx, Instr, Flags, ◌>>=◌, granted, effect, Gives, MachineView, machine, Agrees, above, move, Implements}
+use Rattle.x64_templates.specs.Words.{Width, W8, W16, W32, W64, bytes_of, low, Protection, is_readable, is_writable, Memory, next, first_refused, may_read, may_write, number_at, with_number, with_bytes, access, unless_refused, IsApart, Rax, Rcx, Instr, Flags, ◌>>=◌, granted, effect, Gives, MachineView, machine, Agrees, above, move, Implements, is_among, refused, refusal}
 use Rattle.flat_memory.specs.declared.access.RefusedAccess.TheVariants as accesses
-use Rattle.flat_memory.specs.Memory.{distance, is_among, refused}
+use Rattle.flat_memory.specs.Memory.{distance}
 use Rattle.host_layout.specs.Ranges.{in_guard}
-use Rattle.flat_memory.proofs.Stores.{untouched}
+use Rattle.x64_templates.proofs.Lemmas.{untouched}
 use Rattle.x64_instr.specs.declared.operand.RegisterOrMemory.TheVariants as places
 use Rattle.x64_instr.specs.declared.operand.Operand.TheVariants as operands
 use Rattle.x64_instr.specs.declared.instruction.Instr.TheVariants as instrs
 use Rattle.x64_machine.specs.declared.outcome.Stop.TheVariants as stops
-use Rattle.x64_machine.specs.Effect.{refusal}
 use Rattle.x64_machine.specs.Effect as machines
 use Rattle.c_operations.specs.Performed as meaning
 use Rattle.template_code.specs.Operations.{load}

@@ -2,10 +2,9 @@
 use Rattle.std.proofs.Common.{◌≡◌, ℕ, ◌+◌, ◌%◌, ◌^◌, ◌<◌, ◌≤◌, Bool, true, false, cond, eqb, [], ◌∷◌, Option, Some, None, refl, sym, ap, ◌∙◌, arith, inl, inr}
 use Rattle.std.specs.Prelude.{◌⊎◌}
 use Rattle.std.proofs.lemmas.Bool.{cases_lt, cases_eq, eq-eqb, ne_eqb}
-use Rattle.x64_templates.specs.Words.{Protection, is_writable, Memory, may_write, number_at, with_number, with_bytes, Rcx, Rsp, Slot, Local, Temporary, BodyState, Counts, with_slot, IsSlot, Layout, MachineView, Executes, fetched, put_back, temporary_at, local_at, keep_local, keep, slot_at, InTemporaries, InLocals, HasBase, SlotsHaveRoom, MemoryKeepsBase, KeepsReserved, Agrees, HoldsBody, IsBytes}
-use Rattle.flat_memory.proofs.Stores.{untouched, stored_is_loaded}
+use Rattle.x64_templates.specs.Words.{Protection, is_writable, Memory, may_write, number_at, with_number, with_bytes, Rcx, Rsp, Slot, Local, Temporary, BodyState, Counts, with_slot, IsSlot, Layout, MachineView, Executes, fetched, put_back, temporary_at, local_at, keep_local, keep, slot_at, InTemporaries, InLocals, HasBase, SlotsHaveRoom, MemoryKeepsBase, KeepsReserved, Agrees, HoldsBody, IsBytes, Changes}
+use Rattle.x64_templates.proofs.Lemmas.{untouched, stored_is_loaded}
 use Rattle.x64_templates.proofs.PlacedCode.{same_number}
-use Rattle.x64_templates.specs.Frames.{Changes}
 use Rattle.x64_templates.proofs.Straight.{executes_then}
 use Rattle.x64_templates.proofs.Accesses.{digits}
 use Rattle.x64_templates.proofs.Cells.{put, sp_of, written, to_sp, to_rcx, slot_high, slot_bytes, may_write_slot, sp_address, base_address, fetch_base}

@@ -1,17 +1,14 @@
 -- Calls, entries and returns.
 use Rattle.std.proofs.Common.{◌≡◌, ◌≢◌, ℕ, ◌+◌, ◌-◌, ◌%◌, ◌^◌, ◌<◌, ◌≤◌, List, [], ◌∷◌, get_or, set, None, Ok, refl, ap, ◌∙◌, arith, get_or-set_other}
-use Rattle.x64_templates.specs.Words.{W64, low, first_refused, may_read, may_write, number_at, Rcx, Rdx, Rsp, R8, R9, Relative, Instr, Flags, ◌>>=◌, State, Answer, with_rip, load, store, effect, Temporary, BodyState, MachineView, machine, Executes, size, sizes, fetched, temporary_at, distance, call, IsNear, return_at, begin_call, sp_of, with_four, pushed, HasBelow, Reaches, HasCode, FramePlace, Roomy, FrameHolds}
+use Rattle.x64_templates.specs.Words.{W64, low, first_refused, may_read, may_write, number_at, Rcx, Rdx, Rsp, R8, R9, Relative, Instr, Flags, ◌>>=◌, State, Answer, with_rip, load, store, effect, Temporary, BodyState, MachineView, machine, Executes, size, sizes, fetched, temporary_at, distance, call, IsNear, return_at, begin_call, sp_of, with_four, pushed, HasBelow, Reaches, HasCode, FramePlace, Roomy, FrameHolds, arguments_code, CallBegun}
 use Rattle.x64_instr.specs.declared.instruction.Instr.TheVariants as instrs
 use Rattle.x64_templates.proofs.PlacedCode.{all_may, store_at, load_at, reaches_then}
-use Rattle.template_code.specs.Calls.{arguments_code}
 use Rattle.x64_templates.proofs.Straight.{executes_one, executes_then}
 use Rattle.x64_templates.proofs.Cells.{may_read_slot, sp_address}
 use Rattle.x64_templates.proofs.Encoded.{Fine, near}
 use Rattle.x64_templates.proofs.Computes.{code_split, runs_view}
 use Rattle.x64_templates.proofs.Jumps.{one_reaches}
-use Rattle.template_code.proofs.Sizes.{arrives, short}
-use Rattle.template_code.proofs.Sizes.{call_size}
-use Rattle.x64_templates.specs.Returned.{CallBegun}
+use Rattle.x64_templates.proofs.Lemmas.{arrives, short, call_size}
 
 -- ---- four arguments
 

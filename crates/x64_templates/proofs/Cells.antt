@@ -2,7 +2,7 @@
 use Rattle.std.proofs.Common.{◌≡◌, ℕ, ◌+◌, ◌%◌, ◌^◌, ◌<◌, ◌≤◌, Bool, true, false, [], ◌∷◌, get_or, Option, Some, None, Ok, refl, sym, ap, ◌∙◌, arith, inl, inr}
 use Rattle.std.specs.Prelude.{◌⊎◌}
 use Rattle.x64_templates.specs.Words.{W64, low, Memory, first_refused, may_read, may_write, number_at, with_number, with_bytes, Reg, Rax, Rcx, Rsp, Flags, ◌>>=◌, Answer, load, store, Slot, Local, Temporary, BodyState, Counts, IsSlot, Layout, MachineView, machine, Executes, fetched, put_back, temporary_at, local_at, fetch_local, fetch, slot_at, InTemporaries, InLocals, HasBase, SlotsHaveRoom, MemoryKeepsBase, HoldsBody}
-use Rattle.flat_memory.proofs.Stores.{writable_is_readable}
+use Rattle.x64_templates.proofs.Lemmas.{writable_is_readable}
 use Rattle.x64_templates.proofs.PlacedCode.{all_may, store_at, load_at}
 use Rattle.x64_templates.proofs.Straight.{executes_one, executes_then}
 

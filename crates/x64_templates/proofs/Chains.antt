@@ -2,12 +2,11 @@
 use Rattle.std.proofs.Common.{◌≡◌, ℕ, zero, suc, ◌+◌, ◌%◌, ◌^◌, true, List, [], ◌∷◌, ◌++◌, length, Some, Ok, refl, ap, sym, subst, ◌∙◌, arith, append_assoc, inl, inr}
 use Rattle.std.specs.Prelude.{◌⊎◌}
 use Rattle.x64_templates.specs.Words.{executable, Instr, leading, chosen, is_encodable, kept_of, State, Answer, with_rip, effect, size, sizes, spelled, Runs, Reaches, HasCode, keeps_registers, stores_nothing, StoresNothing, Flows, StoresOnce}
-use Rattle.x64_encode.proofs.Lengths.{longest}
+use Rattle.x64_templates.proofs.Lemmas.{longest, sizes_append}
 use Rattle.x64_machine.specs.Effect.{step}
 use Rattle.x64_templates.specs.Chains.{AllTurns, IsInside, IsTurnOf}
 use Rattle.x64_templates.proofs.PlacedCode.{Encodable, outside_page, bytes_split, bytes_kept, spells, reads}
 use Rattle.x64_templates.proofs.Keeping.{keeps, calls_nothing}
-use Rattle.template_code.proofs.Sizes.{sizes_append}
 
 -- ---- one step
 

@@ -1,14 +1,12 @@
 -- Comparisons by the flags.
 use Rattle.std.proofs.Common.{◌≡◌, ℕ, ◌+◌, ◌-◌, ◌%◌, ◌^◌, ◌<◌, Bool, true, false, cond, List, [], ◌∷◌, Ok, ℤ, refl, ap, ◌∙◌, arith}
 use Rattle.std.specs.Prelude.{not, int_lt}
-use Rattle.x64_templates.specs.Words.{Width, W8, W32, low, signed, Rax, Rcx, Instr, Flags, subtracted, holds, Size, Signedness, Unsigned, Signed, Relation, width, effects, MachineView, machine, Yields, size, sizes, compare}
+use Rattle.x64_templates.specs.Words.{Width, W8, W32, low, signed, Rax, Rcx, Instr, Flags, subtracted, holds, Size, Signedness, Unsigned, Signed, Relation, width, effects, MachineView, machine, Yields, size, sizes, compare, is_less, are_equal, are_related, compared, less, not_less}
 use Rattle.x64_instr.specs.declared.instruction.Condition.{Condition}
 use Rattle.x64_instr.specs.declared.instruction.Condition.TheVariants as conditions
-use Rattle.x64_machine.proofs.Numbers.{low_below, signed_twice}
+use Rattle.x64_templates.proofs.Lemmas.{low_below, signed_twice}
 use Rattle.x64_machine.proofs.Differences.{difference_zero, signed_less}
 use Rattle.c_operations.specs.declared.operation.Relation.TheVariants as relations
-use Rattle.c_operations.specs.Numbers.{is_less, are_equal, are_related}
-use Rattle.template_code.specs.Operations.{compared, less, not_less}
 
 -- ---- what conditions say after a comparison
 

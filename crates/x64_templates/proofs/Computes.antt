@@ -1,16 +1,14 @@
 -- The code of an operation does what the operation means.
 use Rattle.std.proofs.Common.{◌≡◌, ℕ, ◌+◌, ◌%◌, ◌^◌, ◌<◌, ◌≤◌, Bool, true, false, List, [], ◌∷◌, ◌++◌, length, get_or, Option, Some, Err, refl, sym, ap, subst, ◌∙◌, arith, length-append}
 use Rattle.std.proofs.lemmas.Grind.{flat_map-append}
-use Rattle.x64_templates.specs.Words.{Code, Memory, executable, with_number, with_bytes, Rax, Rcx, Instr, IsEncoding, leading, chosen, Flags, State, with_rip, effect, IsCodeAt, IsPlaced, spelled, Slot, Operation, BodyState, with_slot, OperationResult, Gives, Raises, Undefined, performed, step, kept, MachineView, machine, Executes, size, sizes, before, work, fetch, keep, operands_code, finish_code, compute_code, slot_at, IsBytes, IsReady, HasOperands, LeavesResult, Implements, Reaches, HasCode, FramePlace, Roomy, FrameHolds, IsThere, ReachesBody, Finished, Computed}
-use Rattle.x64_encode.proofs.Lengths.{longest}
+use Rattle.x64_templates.specs.Words.{Code, Memory, executable, with_number, with_bytes, Rax, Rcx, Instr, IsEncoding, leading, chosen, Flags, State, with_rip, effect, IsCodeAt, IsPlaced, spelled, Slot, Operation, BodyState, with_slot, OperationResult, Gives, Raises, Undefined, performed, step, kept, MachineView, machine, Executes, size, sizes, before, work, fetch, keep, operands_code, finish_code, compute_code, slot_at, IsBytes, IsReady, HasOperands, LeavesResult, Implements, Reaches, HasCode, FramePlace, Roomy, FrameHolds, IsThere, ReachesBody, Finished, Computed, HeadFaults}
+use Rattle.x64_templates.proofs.Lemmas.{longest, sizes_spelled, sizes_append}
 use Rattle.x64_machine.specs.declared.outcome.Stop.TheVariants as stops
 use Rattle.x64_machine.specs.Effect as machines
 use Rattle.x64_templates.proofs.PlacedCode.{fetches, Encodable, outside_page, bytes_split, spells, leading-again, reaches_then}
 use Rattle.c_operations.specs.declared.operation.Operation.TheVariants as operations
 use Rattle.linear_code.specs.declared.instruction.Instruction.TheVariants as instructions
-use Rattle.x64_templates.specs.Implements.{HeadFaults}
 use Rattle.x64_templates.proofs.Straight.{straight_runs, executes_nothing, executes_then}
-use Rattle.template_code.proofs.Sizes.{sizes_spelled, sizes_append}
 use Rattle.x64_templates.proofs.Divisions.{half_set}
 use Rattle.x64_templates.proofs.Implements.{works}
 use Rattle.x64_templates.proofs.Cells.{put, sp_of, fetch_does}

@@ -4,18 +4,13 @@ use Rattle.std.specs.Prelude.{Result}
 use Rattle.std.proofs.Math.Nat.{div-le_self, mod-le}
 use Rattle.std.proofs.lemmas.Bool.{cases_lt, lt-ltb, le-ltb}
 use Rattle.std.proofs.lemmas.Int.{ints}
-use Rattle.x64_templates.specs.Words.{Width, W8, W16, W32, W64, DivFault, limit, half, low, signed, wrapped, Memory, Rax, Rcx, Rdx, Instr, Flags, joined, with_quotient, effect, Size, Int, Long, Signedness, Unsigned, Signed, width, MachineView, machine, Executes, Agrees, move, high_half, LeavesResult, Implements}
+use Rattle.x64_templates.specs.Words.{Width, W8, W16, W32, W64, DivFault, limit, half, low, signed, wrapped, Memory, Rax, Rcx, Rdx, Instr, Flags, joined, with_quotient, effect, Size, Int, Long, Signedness, Unsigned, Signed, width, MachineView, machine, Executes, Agrees, move, high_half, LeavesResult, Implements, signed_double, wrapped_both, signed_part, unsigned_part, quotient, remainder, division, high_of}
 use Rattle.seh_num.specs.declared.division.DivFault.TheVariants as faults
 use Rattle.seh_num.specs.Division.{divided_signed, divided_unsigned}
 use Rattle.x64_instr.specs.declared.operand.RegisterOrMemory.TheVariants as places
 use Rattle.x64_instr.specs.declared.instruction.Instr.TheVariants as instrs
-use Rattle.x64_machine.specs.Dividing.{signed_double, wrapped_both}
-use Rattle.c_operations.specs.Performed.{signed_part, unsigned_part, quotient, remainder}
-use Rattle.template_code.specs.Operations.{division}
-use Rattle.x64_templates.specs.Implements.{high_of}
 use Rattle.x64_templates.proofs.Straight.{executes_one, executes_then}
-use Rattle.c_operations.proofs.SmallResults.{of_size}
-use Rattle.x64_machine.proofs.Numbers.{low_is, low_below, twice, signed_low, signed_high, signed_twice, wrapped_below}
+use Rattle.x64_templates.proofs.Lemmas.{of_size, low_is, low_below, twice, signed_low, signed_high, signed_twice, wrapped_below}
 
 -- ---- the numbers
 

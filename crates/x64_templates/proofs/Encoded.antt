@@ -1,15 +1,13 @@
 -- Each instruction of an operation has a spelling, is followed by the next, and begins no epilogue.
 use Rattle.std.proofs.Common.{◌≡◌, ℕ, ◌^◌, ◌<◌, Bool, true, false, ltb, List, [], ◌∷◌, ◌++◌, Option, Some, None, refl, arith}
 use Rattle.std.proofs.lemmas.Bool.{lt-ltb}
-use Rattle.x64_templates.specs.Words.{Width, W8, W16, W32, W64, low, Reg, Rax, Rcx, Rsp, Instr, is_encodable, Slot, Local, Temporary, Size, Int, Long, Signedness, Unsigned, Signed, Relation, Pure, Operation, width, Counts, IsSlot, Layout, is_straight, AllStraight, begins_epilogue, takes_frame, NoneTakesFrame, compare, extended, pure_code, high_half, before, work, fetched, put_back, temporary_at, local_at, fetch_local, keep_local, fetch, keep, operands_code, finish_code, HasBase, SlotsHaveRoom}
-use Rattle.x64_encode.specs.Chosen.{is_signed}
+use Rattle.x64_templates.specs.Words.{Width, W8, W16, W32, W64, low, Reg, Rax, Rcx, Rsp, Instr, is_encodable, Slot, Local, Temporary, Size, Int, Long, Signedness, Unsigned, Signed, Relation, Pure, Operation, width, Counts, IsSlot, Layout, is_straight, AllStraight, begins_epilogue, takes_frame, NoneTakesFrame, compare, extended, pure_code, high_half, before, work, fetched, put_back, temporary_at, local_at, fetch_local, keep_local, fetch, keep, operands_code, finish_code, HasBase, SlotsHaveRoom, is_signed, is_rsp_place, is_subtraction, is_number}
 use Rattle.x64_templates.proofs.PlacedCode.{Encodable}
 use Rattle.c_operations.specs.declared.operation.Relation.TheVariants as relations
 use Rattle.c_operations.specs.declared.operation.Pure.TheVariants as pures
 use Rattle.c_operations.specs.declared.operation.Operation.TheVariants as operations
 use Rattle.std.specs.Prelude.{◌&&◌}
 use Rattle.x64_instr.specs.declared.instruction.Instr.TheVariants as instrs
-use Rattle.x64_templates.specs.Straight.{is_rsp_place, is_subtraction, is_number}
 use Rattle.x64_templates.proofs.Cells.{reg}
 
 -- an instruction that has a spelling, is followed by the next, and begins no epilogue

@@ -1,11 +1,9 @@
 -- A function begins: its frame holds its arguments.
 use Rattle.std.proofs.Common.{◌≡◌, ◌≢◌, ℕ, zero, suc, ◌+◌, ◌-◌, ◌^◌, ◌<◌, ◌≤◌, cond, List, [], ◌∷◌, length, get_or, set, refl, sym, subst, ◌∙◌, arith, inl, inr, get_or-set_other, length-append}
 use Rattle.std.proofs.lemmas.Bool.{cases_lt, lt-ltb, le-ltb}
-use Rattle.x64_templates.specs.Words.{Memory, Rax, Rsp, Flags, State, BodyState, MachineView, machine, sizes, fetched, local_at, parameter_register, keep_register, stack_parameter, parameter_code, parameters_code, enter_code, sp_of, with_sp, moved, with_arguments, InRegisters, OnStack, IsFunctionFrame, body_in_memory, FreshFrame, ChangesOwn, HasCode, FramePlace, Roomy, FrameHolds, ReachesBody, Enters}
-use Rattle.template_code.specs.Calls.{function_entry}
+use Rattle.x64_templates.specs.Words.{Memory, Rax, Rsp, Flags, State, BodyState, MachineView, machine, sizes, fetched, local_at, parameter_register, keep_register, stack_parameter, parameter_code, parameters_code, enter_code, sp_of, with_sp, moved, with_arguments, InRegisters, OnStack, IsFunctionFrame, body_in_memory, FreshFrame, ChangesOwn, HasCode, FramePlace, Roomy, FrameHolds, ReachesBody, Enters, function_entry, EntersBody}
 use Rattle.x64_templates.proofs.PlacedCode.{enters_then}
-use Rattle.x64_templates.specs.Runs.{EntersBody}
-use Rattle.template_code.proofs.Sizes.{sizes_append}
+use Rattle.x64_templates.proofs.Lemmas.{sizes_append}
 use Rattle.x64_templates.proofs.Encoded.{Fine, fine_both, near}
 use Rattle.x64_templates.proofs.Computes.{code_split, runs_view}
 use Rattle.x64_templates.proofs.Returns.{sp_moved, enter_run}

@@ -3,10 +3,9 @@ use Rattle.std.proofs.Common.{◌≡◌, ℕ, zero, suc, ◌+◌, ◌-◌, ◌*�
 use Rattle.std.specs.Prelude.{◌⊎◌}
 use Rattle.std.proofs.Math.Nat.{pow-suc}
 use Rattle.std.proofs.lemmas.Bool.{cases_lt}
-use Rattle.x64_templates.specs.Words.{Memory, next, may_write, number_at, with_number, ReadWrite, is_readable, is_writable, Counts, Layout, MachineView, slot_at, InTemporaries, InLocals, MemoryKeepsBase, KeepsReserved, Agrees, HoldsBody, IsBytes, pushed, HasBelow, HasBack, body_in_memory}
-use Rattle.flat_memory.proofs.Stores.{untouched, stored_is_loaded}
+use Rattle.x64_templates.specs.Words.{Memory, next, may_write, number_at, with_number, ReadWrite, is_readable, is_writable, Counts, Layout, MachineView, slot_at, InTemporaries, InLocals, MemoryKeepsBase, KeepsReserved, Agrees, HoldsBody, IsBytes, pushed, HasBelow, HasBack, body_in_memory, Nothing, Read}
+use Rattle.x64_templates.proofs.Lemmas.{untouched, stored_is_loaded}
 use Rattle.flat_memory.specs.declared.protection.Rights.{Rights}
-use Rattle.flat_memory.specs.declared.protection.Rights.TheVariants.{Nothing, Read}
 use Rattle.x64_templates.proofs.Accesses.{digits}
 
 -- ---- numbers in memory

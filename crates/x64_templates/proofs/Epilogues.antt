@@ -1,9 +1,8 @@
 -- No template but that of a return has an instruction that could be in an epilogue, and sizes of
 -- slots are fixed where they are 128 bytes or more above their base.
 use Rattle.std.proofs.Common.{◌≡◌, ℕ, zero, suc, ◌+◌, ◌-◌, true, false, List, [], ◌∷◌, ◌++◌, refl, arith}
-use Rattle.x64_templates.specs.Words.{Rax, Instr, Slot, Temporary, Field, ExceptionCode, ExceptionFlags, NumberParameters, ExceptionInformation, Instruction, Counts, IsSlot, HasSlots, Layout, begins_epilogue, sizes, fetch, keep, operands_code, finish_code, compare_zero, jump_equal, test_code, begin_call, field_load, Links, template, SlotsHaveRoom}
+use Rattle.x64_templates.specs.Words.{Rax, Instr, Slot, Temporary, Field, ExceptionCode, ExceptionFlags, NumberParameters, ExceptionInformation, Instruction, Counts, IsSlot, HasSlots, Layout, begins_epilogue, sizes, fetch, keep, operands_code, finish_code, compare_zero, jump_equal, test_code, begin_call, field_load, Links, template, SlotsHaveRoom, call_code, passing_code}
 use Rattle.linear_code.specs.declared.instruction.Instruction.TheVariants as instructions
-use Rattle.template_code.specs.Calls.{call_code, passing_code}
 use Rattle.x64_templates.proofs.Encoded.{Fine, fine_both, fetch_fine, keep_fine, operands_fine, finish_fine}
 use Rattle.x64_templates.specs.Epilogues.{NoEpilogue, IsReturn}
 

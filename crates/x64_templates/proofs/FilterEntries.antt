@@ -4,7 +4,7 @@ use Rattle.std.proofs.Common.{◌≡◌, ℕ, ◌+◌, ◌^◌, ◌<◌, ◌≤�
 use Rattle.std.specs.Prelude.{◌⊎◌}
 use Rattle.std.proofs.lemmas.Bool.{cases_lt}
 use Rattle.x64_templates.specs.Words.{Memory, may_write, with_number, Instr, spelled, MachineView, IsBytes, HasCode}
-use Rattle.flat_memory.proofs.Stores.{untouched}
+use Rattle.x64_templates.proofs.Lemmas.{untouched}
 use Rattle.x64_templates.proofs.PlacedCode.{bytes_kept}
 use Rattle.x64_templates.proofs.Accesses.{digits}
 use Rattle.x64_templates.proofs.Parameters.{kept_at}

@@ -6,7 +6,7 @@ use Rattle.x64_templates.specs.Words.{Width, W8, W16, W32, W64, Rax, Rcx, Rsp, I
 use Rattle.c_operations.specs.declared.operation.Relation.TheVariants as relations
 use Rattle.c_operations.specs.declared.operation.Pure.TheVariants as pures
 use Rattle.c_operations.specs.declared.operation.Operation.TheVariants as operations
-use Rattle.template_code.proofs.Sizes.{short}
+use Rattle.x64_templates.proofs.Lemmas.{short}
 use Rattle.x64_templates.proofs.PlacedCode.{Encodable}
 use Rattle.x64_templates.proofs.Keeping.{keeps_both, nothing_both, nothing_keeps, flows, flows_to, once_after, nothing_once}
 use Rattle.x64_templates.proofs.Cells.{reg}

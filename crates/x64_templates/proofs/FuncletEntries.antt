@@ -3,7 +3,7 @@ use Rattle.std.proofs.Common.{◌≡◌, ℕ, ◌+◌, ◌-◌, ◌%◌, ◌^◌
 use Rattle.x64_templates.specs.Words.{W32, low, may_write, Rax, Rcx, Instr, Flags, Slot, BodyState, with_slot, MachineView, machine, sizes, move, keep, enter_code, keep_register, keep_base, sp_of, moved, HasCode, FramePlace, Roomy, FrameHolds, IsThere, ReachesBody, Enters}
 use Rattle.x64_templates.proofs.PlacedCode.{enters_then, all_may}
 use Rattle.x64_templates.proofs.Straight.{executes_one}
-use Rattle.template_code.proofs.Sizes.{sizes_append}
+use Rattle.x64_templates.proofs.Lemmas.{sizes_append}
 use Rattle.x64_templates.proofs.Cells.{put}
 use Rattle.x64_templates.proofs.Encoded.{near}
 use Rattle.x64_templates.proofs.Computes.{Reached, code_split, runs_view, leads_kept}

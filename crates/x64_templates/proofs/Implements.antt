@@ -2,7 +2,7 @@
 use Rattle.std.proofs.Common.{ℕ, ◌^◌, ◌<◌, Bool, refl}
 use Rattle.x64_templates.specs.Words.{Memory, Pure, Operation, performed, MachineView, Agrees, work, IsReady, Implements}
 use Rattle.c_operations.specs.declared.operation.Operation.TheVariants as operations
-use Rattle.c_operations.proofs.SmallResults.{result_small}
+use Rattle.x64_templates.proofs.Lemmas.{result_small}
 use Rattle.x64_templates.proofs.Pures.{pure_gives}
 use Rattle.x64_templates.proofs.Divisions.{quotient_implemented, remainder_implemented}
 use Rattle.x64_templates.proofs.Accesses.{load_implemented, store_implemented}

@@ -1,9 +1,7 @@
 -- A filter reads of its exception.
 use Rattle.std.proofs.Common.{◌≡◌, ℕ, ◌+◌, ◌*◌, ◌%◌, ◌^◌, ◌<◌, ◌≤◌, true, false, [], ◌∷◌, length, Option, None, Ok, refl, ap, subst, ◌∙◌, arith}
-use Rattle.x64_templates.specs.Words.{Width, W32, W64, bytes_of, low, Memory, may_read, number_at, access, first_refused, Rax, Rsp, Instr, Flags, ◌>>=◌, Answer, granted, load, effect, Slot, Field, ExceptionCode, ExceptionFlags, NumberParameters, ExceptionInformation, BodyState, with_slot, MachineView, machine, Executes, sizes, fetched, field_load, information_code, sp_of, IsField, HasCode, FramePlace, Roomy, FrameHolds, IsThere, ReachesBody}
+use Rattle.x64_templates.specs.Words.{Width, W32, W64, bytes_of, low, Memory, may_read, number_at, access, first_refused, Rax, Rsp, Instr, Flags, ◌>>=◌, Answer, granted, load, effect, Slot, Field, ExceptionCode, ExceptionFlags, NumberParameters, ExceptionInformation, BodyState, with_slot, MachineView, machine, Executes, sizes, fetched, field_load, information_code, sp_of, IsField, HasCode, FramePlace, Roomy, FrameHolds, IsThere, ReachesBody, field_at, field_width, MayRead, HasException}
 use Rattle.x64_templates.proofs.PlacedCode.{all_may}
-use Rattle.template_code.specs.Calls.{field_at}
-use Rattle.x64_templates.specs.Exceptions.{field_width, MayRead, HasException}
 use Rattle.x64_templates.proofs.Straight.{executes_one, executes_then}
 use Rattle.x64_templates.proofs.Cells.{put}
 use Rattle.x64_templates.proofs.Encoded.{Fine, near}

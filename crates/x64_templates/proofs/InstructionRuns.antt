@@ -1,15 +1,12 @@
 -- Every instruction that needs no dispatcher does what it means, wherever its template is placed.
 use Rattle.std.proofs.Common.{◌≡◌, ℕ, zero, suc, ◌+◌, ◌^◌, ◌<◌, ◌≤◌, Bool, true, false, cond, eqb, List, [], ◌∷◌, length, get_or, Option, Some, None, refl, sym, subst, ◌∙◌, arith, length-append}
-use Rattle.x64_templates.specs.Words.{Rax, Flags, Slot, Local, Temporary, Operation, Instruction, BodyState, with_slot, OperationResult, Gives, Raises, Undefined, performed, Next, JumpsTo, kept, step, HasSlots, Layout, MachineView, machine, size, sizes, work, fetch, keep, keep_local, local_at, operands_code, finish_code, compute_code, compare_zero, jump_equal, jump_if_zero_code, test_code, IsNear, Links, template, template_size, offset_of, code_from, HasCode, FramePlace, Roomy, FrameHolds, ReachesBody, Computed, InstructionDone}
+use Rattle.x64_templates.specs.Words.{Rax, Flags, Slot, Local, Temporary, Operation, Instruction, BodyState, with_slot, OperationResult, Gives, Raises, Undefined, performed, Next, JumpsTo, kept, step, HasSlots, Layout, MachineView, machine, size, sizes, work, fetch, keep, keep_local, local_at, operands_code, finish_code, compute_code, compare_zero, jump_equal, jump_if_zero_code, test_code, IsNear, Links, template, template_size, offset_of, code_from, HasCode, FramePlace, Roomy, FrameHolds, ReachesBody, Computed, InstructionDone, nowhere, body_size, HasLabels}
 use Rattle.linear_code.specs.declared.instruction.Instruction.TheVariants as instructions
-use Rattle.template_code.specs.Template.{nowhere, body_size, HasLabels}
 use Rattle.x64_templates.proofs.Cells.{sp_of}
-use Rattle.template_code.proofs.Lengths.{fetch_length, compute_length}
+use Rattle.x64_templates.proofs.Lemmas.{fetch_length, compute_length, jump_if_zero_size, template_sizes, offset_next}
 use Rattle.x64_templates.proofs.Computes.{compute_run}
 use Rattle.x64_templates.proofs.Jumps.{jump_run, separator_run, jump_if_zero_comes}
-use Rattle.template_code.proofs.Sizes.{jump_if_zero_size}
 use Rattle.x64_templates.proofs.Linked.{template_placed}
-use Rattle.template_code.proofs.Sizes.{template_sizes, offset_next}
 
 -- ---- turns
 

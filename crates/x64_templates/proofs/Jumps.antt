@@ -1,13 +1,11 @@
 -- Jumps come to their labels.
-use Rattle.template_code.proofs.Sizes.{arrives, short, jump_if_size}
+use Rattle.x64_templates.proofs.Lemmas.{arrives, short, jump_if_size, sizes_append}
 use Rattle.std.proofs.Common.{◌≡◌, ℕ, ◌+◌, ◌-◌, ◌%◌, ◌^◌, ◌<◌, Bool, true, false, cond, eqb, [], ◌∷◌, ◌++◌, length, Ok, refl, sym, ap, subst, ◌∙◌, arith, length-append}
-use Rattle.x64_templates.specs.Words.{W64, low, Memory, Rax, Relative, Instr, chosen, is_encodable, Flags, subtracted, State, effect, Slot, BodyState, takes_frame, MachineView, machine, size, sizes, fetch, distance, jump_equal, jump_code, compare_zero, test_code, jump_if_zero_code, separator_code, IsNear, IsBytes, Reaches, Enters, HasCode, FramePlace, Roomy, FrameHolds, IsThere, ReachesBody}
+use Rattle.x64_templates.specs.Words.{W64, low, Memory, Rax, Relative, Instr, chosen, is_encodable, Flags, subtracted, State, effect, Slot, BodyState, takes_frame, MachineView, machine, size, sizes, fetch, distance, jump_equal, jump_code, compare_zero, test_code, jump_if_zero_code, separator_code, IsNear, IsBytes, Reaches, Enters, HasCode, FramePlace, Roomy, FrameHolds, IsThere, ReachesBody, jump}
 use Rattle.x64_instr.specs.declared.instruction.Condition.TheVariants as conditions
 use Rattle.x64_instr.specs.declared.instruction.Instr.TheVariants as instrs
 use Rattle.x64_templates.proofs.PlacedCode.{bytes_split, reaches_then}
-use Rattle.template_code.specs.Jumps.{jump}
 use Rattle.x64_templates.proofs.Straight.{one_runs, one_enters_frame}
-use Rattle.template_code.proofs.Sizes.{sizes_append}
 use Rattle.x64_templates.proofs.Cells.{put, sp_of, fetch_does}
 use Rattle.x64_templates.proofs.Encoded.{fetch_fine}
 use Rattle.x64_templates.proofs.Computes.{code_split, runs_view}

@@ -1,15 +1,12 @@
 -- What instructions leave of RSP, the nonvolatile registers and memory.
 use Rattle.std.proofs.Common.{◌≡◌, ℕ, zero, suc, ◌<◌, ◌≤◌, Bool, true, false, cond, Result, Ok, Err, List, [], ◌∷◌, ◌++◌, refl, ap, subst, ◌∙◌, arith, inl, inr}
 use Rattle.std.specs.Prelude.{◌⊎◌, slice_index, slice_set}
-use Rattle.x64_templates.specs.Words.{Width, W8, DivFault, low, Reg, Rax, Rcx, Rdx, R8, R9, R11, RegisterOrMemory, Operand, Unary, Direction, Instr, number, Cpu, kept_of, merged, multiplied, count_of, shifted, shift_flags, divided, joined, ◌>>=◌, State, Answer, granted, register, with_register, with_flags, address_of, store, read, operand, write, may_change, computed, change, is_compare, unary, unary_of, amount, shift_by, multiply, multiply_by, with_quotient, sign_of_rax, widened, condition_byte, effect, keeps_registers, stores_nothing, KeepsRegisters, StoresNothing, Flows, StoresOnce}
-use Rattle.flat_memory.specs.Memory.{stored, after_store}
-use Rattle.x64_instr.specs.declared.register.Reg.TheVariants.{R10}
+use Rattle.x64_templates.specs.Words.{Width, W8, DivFault, low, Reg, Rax, Rcx, Rdx, R8, R9, R11, RegisterOrMemory, Operand, Unary, Direction, Instr, number, Cpu, kept_of, merged, multiplied, count_of, shifted, shift_flags, divided, joined, ◌>>=◌, State, Answer, granted, register, with_register, with_flags, address_of, store, read, operand, write, may_change, computed, change, is_compare, unary, unary_of, amount, shift_by, multiply, multiply_by, with_quotient, sign_of_rax, widened, condition_byte, effect, keeps_registers, stores_nothing, KeepsRegisters, StoresNothing, Flows, StoresOnce, stored, after_store, R10, is_volatile, is_volatile_or_memory, is_register, is_call}
 use Rattle.x64_instr.specs.declared.operand.RegisterOrMemory.TheVariants as places
 use Rattle.x64_instr.specs.declared.instruction.Operation.{Operation}
 use Rattle.x64_instr.specs.declared.instruction.Operation.TheVariants as operations
 use Rattle.x64_instr.specs.declared.instruction.Instr.TheVariants as instrs
 use Rattle.x64_machine.specs.Effect.{compare}
-use Rattle.x64_templates.specs.Keeping.{is_volatile, is_volatile_or_memory, is_register, is_call}
 
 -- ---- registers
 

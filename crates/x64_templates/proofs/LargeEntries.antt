@@ -2,18 +2,16 @@
 use Rattle.std.proofs.Common.{◌≡◌, ℕ, ◌+◌, ◌-◌, ◌^◌, ◌<◌, ◌≤◌, true, false, ltb, List, [], ◌∷◌, length, set, Ok, refl, sym, ap, subst, ◌∙◌, arith, inl, inr, get_or-set_same, length-set}
 use Rattle.std.specs.Prelude.{◌⊎◌}
 use Rattle.std.proofs.lemmas.Bool.{cases_lt, lt-ltb}
-use Rattle.x64_templates.specs.Words.{W32, W64, low, may_write, Rax, Rsp, Instr, Flags, subtracted, effect, spelled, MachineView, machine, size, sizes, call, IsNear, sp_of, with_sp, pushed, HasBelow, moved, check_stack, Reaches, HasCode}
+use Rattle.x64_templates.specs.Words.{W32, W64, low, may_write, Rax, Rsp, Instr, Flags, subtracted, effect, spelled, MachineView, machine, size, sizes, call, IsNear, sp_of, with_sp, pushed, HasBelow, moved, check_stack, Reaches, HasCode, opcode_register, enter_large}
 use Rattle.x64_instr.specs.declared.operand.RegisterOrMemory.TheVariants as places
 use Rattle.x64_instr.specs.declared.operand.Operand.TheVariants as operands
 use Rattle.x64_instr.specs.declared.instruction.Operation.TheVariants as arithmetic
 use Rattle.x64_instr.specs.declared.instruction.Instr.TheVariants as instrs
-use Rattle.x64_encode.specs.Chosen.{opcode_register}
 use Rattle.x64_templates.proofs.PlacedCode.{bytes_kept, reaches_then}
-use Rattle.template_code.specs.Probing.{enter_large}
 use Rattle.x64_templates.proofs.Cells.{put}
 use Rattle.x64_templates.proofs.Computes.{code_split}
 use Rattle.x64_templates.proofs.Jumps.{one_reaches}
-use Rattle.template_code.proofs.Sizes.{call_size}
+use Rattle.x64_templates.proofs.Lemmas.{call_size}
 use Rattle.x64_templates.proofs.Calls.{call_reaches}
 use Rattle.x64_templates.proofs.Entries.{beside, pushed_back}
 use Rattle.x64_templates.proofs.Probing.{Touchable, with_eleventh, check_run}

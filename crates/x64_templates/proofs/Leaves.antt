@@ -4,7 +4,7 @@ use Rattle.std.proofs.Common.{◌≡◌, ℕ, zero, suc, ◌+◌, ◌-◌, ◌%�
 use Rattle.std.specs.Prelude.{Result}
 use Rattle.std.proofs.lemmas.Bool.{cases_eq}
 use Rattle.x64_templates.specs.Words.{Width, W8, W64, DivFault, bytes_of, low, Protection, is_writable, Memory, next, first_refused, may_write, access, unless_refused, with_number, with_bytes, IsApart, Reg, Rax, Rdx, Rsp, RegisterOrMemory, Operand, Unary, Direction, Target, Instr, Cpu, multiplied, count_of, shifted, shift_flags, divided, joined, ◌>>=◌, State, Answer, granted, register, with_register, with_flags, with_rip, address_of, load, store, read, operand, write, may_change, computed, change, is_compare, unary, unary_of, amount, shift_by, multiply, multiply_by, with_quotient, sign_of_rax, widened, condition_byte, jumped, push, pop, target_of, effect, is_straight}
-use Rattle.flat_memory.proofs.Stores.{untouched}
+use Rattle.x64_templates.proofs.Lemmas.{untouched}
 use Rattle.x64_instr.specs.declared.operand.RegisterOrMemory.TheVariants as places
 use Rattle.x64_instr.specs.declared.instruction.Operation.{Operation}
 use Rattle.x64_instr.specs.declared.instruction.Operation.TheVariants as operations

@@ -1,3 +1,4 @@
+mod Lemmas
 pub mod Keeping
 pub mod Leaves
 pub mod Registers

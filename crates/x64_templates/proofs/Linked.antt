@@ -1,5 +1,5 @@
 -- Where the template of each instruction of a body is placed.
-use Rattle.template_code.proofs.Sizes.{template_sizes}
+use Rattle.x64_templates.proofs.Lemmas.{template_sizes}
 use Rattle.std.proofs.Common.{◌≡◌, ℕ, zero, suc, ◌+◌, ◌<◌, List, [], ◌∷◌, length, get_or, subst, arith}
 use Rattle.x64_templates.specs.Words.{Memory, Instruction, Layout, Links, template, template_size, offset_of, code_from, HasCode}
 use Rattle.x64_templates.proofs.Computes.{code_split}

@@ -1,8 +1,7 @@
 -- What a caller passes is what the callee finds.
 use Rattle.std.proofs.Common.{◌≡◌, ◌≢◌, ℕ, ◌+◌, ◌-◌, true, false, ltb, length, set, refl, ap, ◌∙◌, arith, get_or-set_same, get_or-set_other, length-set}
 use borrow.Author.Tests.{ltb-true, ltb-false}
-use Rattle.x64_templates.specs.Words.{Temporary, BodyState, MachineView, return_at, with_four, pushed, InRegisters, FramePlace}
-use Rattle.x64_templates.specs.EntryStates.{passed}
+use Rattle.x64_templates.specs.Words.{Temporary, BodyState, MachineView, return_at, with_four, pushed, InRegisters, FramePlace, passed}
 
 -- the callee's view: the first four arguments in registers, and the return address pushed
 abbrev pub called_view : FramePlace → ℕ → MachineView → ℕ → BodyState → MachineView

@@ -2,8 +2,7 @@
 use Rattle.std.proofs.Common.{◌≡◌, ℕ, zero, suc, ◌+◌, ◌-◌, ◌*◌, ◌%◌, ◌^◌, ◌<◌, ◌≤◌, Bool, true, false, cond, ltb, List, [], ◌∷◌, ◌++◌, length, Option, None, Some, Ok, refl, sym, ap, subst, ◌∙◌, arith, length-append}
 use Rattle.std.proofs.lemmas.Bool.{le-leb, le-ltb, lt-ltb}
 use Rattle.std.proofs.lemmas.List.{append-nil}
-use Rattle.x64_templates.specs.Words.{W64, Protection, is_writable, Memory, next, executable, may_read, may_write, first_refused, number_at, with_number, with_bytes, access, unless_refused, Instr, IsEncoding, leading, chosen, is_encodable, ◌>>=◌, State, granted, with_rip, load, store, effect, IsCodeAt, IsPlaced, thunk, Runs, Reaches, Enters}
-use Rattle.x64_instr.specs.Spelling.{instr}
+use Rattle.x64_templates.specs.Words.{W64, Protection, is_writable, Memory, next, executable, may_read, may_write, first_refused, number_at, with_number, with_bytes, access, unless_refused, Instr, IsEncoding, leading, chosen, is_encodable, ◌>>=◌, State, granted, with_rip, load, store, effect, IsCodeAt, IsPlaced, thunk, Runs, Reaches, Enters, instr}
 use Rattle.x64_instr.proofs.Table as tables
 use Rattle.x64_encode.proofs.Written as written
 use Rattle.host_layout.specs.Services.{in_host_page}

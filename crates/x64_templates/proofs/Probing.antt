@@ -1,12 +1,11 @@
 -- A large frame is entered by way of `__chkstk`.
 use Rattle.std.proofs.Common.{◌≡◌, ◌≢◌, ℕ, ◌+◌, ◌-◌, ◌%◌, ◌^◌, ◌<◌, ◌≤◌, true, List, [], ◌∷◌, length, get_or, set, Ok, refl, sym, ap, subst, ◌∙◌, arith, get_or-set_same, get_or-set_other, length-set}
-use Rattle.x64_templates.specs.Words.{W8, W64, low, Memory, may_read, number_at, Rax, Rsp, R11, Instr, Flags, subtracted, ◌>>=◌, Answer, computed, load, with_flags, effect, MachineView, machine, Executes, size, sizes, above, sp_of, HasBack, moved, check_stack, Reaches, HasCode}
+use Rattle.x64_templates.specs.Words.{W8, W64, low, Memory, may_read, number_at, Rax, Rsp, R11, Instr, Flags, subtracted, ◌>>=◌, Answer, computed, load, with_flags, effect, MachineView, machine, Executes, size, sizes, above, sp_of, HasBack, moved, check_stack, Reaches, HasCode, first_touch}
 use Rattle.x64_instr.specs.declared.operand.RegisterOrMemory.TheVariants as places
 use Rattle.x64_instr.specs.declared.operand.Operand.TheVariants as operands
 use Rattle.x64_instr.specs.declared.instruction.Operation.TheVariants as arithmetic
 use Rattle.x64_instr.specs.declared.instruction.Instr.TheVariants as instrs
 use Rattle.x64_templates.proofs.PlacedCode.{all_may, reaches_then}
-use Rattle.template_code.specs.Probing.{first_touch}
 use Rattle.x64_templates.proofs.Straight.{executes_one, executes_then}
 use Rattle.x64_templates.proofs.Encoded.{Fine}
 use Rattle.x64_templates.proofs.Computes.{code_split, runs_view}

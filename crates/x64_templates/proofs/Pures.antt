@@ -5,9 +5,8 @@ use Rattle.std.specs.Int.Bits.{and_lt}
 use Rattle.std.proofs.Math.Nat.{div-le_self}
 use Rattle.std.proofs.lemmas.Int.{ints}
 use Rattle.std.proofs.lemmas.Nat.{or_lt, xor_lt}
-use Rattle.x64_templates.specs.Words.{Width, W8, W16, W32, W64, limit, half, low, signed, wrapped, Instr, Flags, added, subtracted, multiplied, effect, Size, Int, Long, Signedness, Unsigned, Signed, Pure, MachineView, machine, Yields, pure_code}
+use Rattle.x64_templates.specs.Words.{Width, W8, W16, W32, W64, limit, half, low, signed, wrapped, Instr, Flags, added, subtracted, multiplied, effect, Size, Int, Long, Signedness, Unsigned, Signed, Pure, MachineView, machine, Yields, pure_code, shifted_right, result_of}
 use Rattle.c_operations.specs.declared.operation.Pure.TheVariants as pures
-use Rattle.c_operations.specs.Numbers.{shifted_right, result_of}
 use Rattle.x64_templates.proofs.Straight.{executes_one, executes_nothing}
 use Rattle.x64_templates.proofs.Compares.{compares}
 

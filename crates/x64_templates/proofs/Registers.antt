@@ -1,14 +1,13 @@
 -- Registers stay as many as they are, and numbers of 64 bits.
 use Rattle.std.proofs.Common.{◌≡◌, ℕ, zero, suc, ◌+◌, ◌-◌, ◌%◌, ◌^◌, ◌<◌, Bool, true, false, cond, Option, Some, None, Ok, Err, refl, sym, ap, subst, ◌∙◌, arith}
 use Rattle.std.specs.Prelude.{Result}
-use Rattle.x64_templates.specs.Words.{Width, W8, W64, DivFault, bytes_of, low, first_refused, may_write, access, unless_refused, with_number, with_bytes, Reg, Rax, Rdx, Rsp, RegisterOrMemory, Operand, Unary, Direction, Target, Instr, Cpu, multiplied, count_of, shifted, shift_flags, divided, joined, ◌>>=◌, State, Answer, granted, register, with_register, with_flags, with_rip, address_of, load, store, read, operand, write, may_change, computed, change, is_compare, unary, unary_of, amount, shift_by, multiply, multiply_by, with_quotient, sign_of_rax, widened, condition_byte, jumped, push, pop, target_of, effect, number, W16, W32, merged, holds}
+use Rattle.x64_templates.specs.Words.{Width, W8, W64, DivFault, bytes_of, low, first_refused, may_write, access, unless_refused, with_number, with_bytes, Reg, Rax, Rdx, Rsp, RegisterOrMemory, Operand, Unary, Direction, Target, Instr, Cpu, multiplied, count_of, shifted, shift_flags, divided, joined, ◌>>=◌, State, Answer, granted, register, with_register, with_flags, with_rip, address_of, load, store, read, operand, write, may_change, computed, change, is_compare, unary, unary_of, amount, shift_by, multiply, multiply_by, with_quotient, sign_of_rax, widened, condition_byte, jumped, push, pop, target_of, effect, number, W16, W32, merged, holds, AreSmall}
 use Rattle.x64_instr.specs.declared.operand.RegisterOrMemory.TheVariants as places
 use Rattle.x64_instr.specs.declared.instruction.Operation.{Operation}
 use Rattle.x64_instr.specs.declared.instruction.Operation.TheVariants as operations
 use Rattle.x64_instr.specs.declared.instruction.Instr.TheVariants as instrs
 use Rattle.x64_machine.specs.Effect.{compare}
 use Rattle.std.specs.Prelude.{List, [], ◌∷◌, length, slice_index, slice_set}
-use Rattle.x64_templates.specs.Straight.{AreSmall}
 use Rattle.x64_templates.proofs.Leaves.{bound}
 
 -- ---- registers

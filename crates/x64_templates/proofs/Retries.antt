@@ -1,15 +1,12 @@
 -- A fault in a body, and the operation made again.
 use Rattle.std.proofs.Common.{◌≡◌, ℕ, suc, ◌+◌, ◌^◌, ◌<◌, ◌≤◌, Bool, List, ◌++◌, length, get_or, Option, Some, sym, ap, subst, ◌∙◌, arith, length-append}
-use Rattle.x64_templates.specs.Words.{Code, Flags, Slot, Instruction, Operation, BodyState, with_slot, OperationResult, Gives, Raises, Undefined, performed, InstructionEffect, Faults, step, run, HasSlots, Layout, MachineView, machine, sizes, operands_code, finish_code, Links, template, template_size, offset_of, HasOperands, HasCode, FramePlace, Roomy, FrameHolds, ChangesOwn, ReachesBody, Finished, InstructionDone, IsLinked}
+use Rattle.x64_templates.specs.Words.{Code, Flags, Slot, Instruction, Operation, BodyState, with_slot, OperationResult, Gives, Raises, Undefined, performed, InstructionEffect, Faults, step, run, HasSlots, Layout, MachineView, machine, sizes, operands_code, finish_code, Links, template, template_size, offset_of, HasOperands, HasCode, FramePlace, Roomy, FrameHolds, ChangesOwn, ReachesBody, Finished, InstructionDone, IsLinked, ReachesFault}
 use Rattle.x64_templates.proofs.PlacedCode.{reaches_then}
 use Rattle.linear_code.specs.declared.instruction.Instruction.TheVariants as instructions
-use Rattle.x64_templates.specs.Runs.{ReachesFault}
-use Rattle.template_code.proofs.Sizes.{sizes_append}
+use Rattle.x64_templates.proofs.Lemmas.{sizes_append, compute_length, template_sizes, offset_next}
 use Rattle.x64_templates.proofs.Cells.{sp_of}
-use Rattle.template_code.proofs.Lengths.{compute_length}
 use Rattle.x64_templates.proofs.Computes.{code_split, finish_run}
 use Rattle.x64_templates.proofs.Linked.{template_placed}
-use Rattle.template_code.proofs.Sizes.{template_sizes, offset_next}
 use Rattle.x64_templates.proofs.InstructionRuns.{body_instruction_run}
 use Rattle.x64_templates.proofs.Stretches.{linked_stays, body_runs}
 use Rattle.x64_templates.specs.Retries.{FaultsAfter, Retried}

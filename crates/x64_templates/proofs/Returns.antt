@@ -1,19 +1,17 @@
 -- A body is entered and left, and its caller's slots outlast a call.
 use Rattle.std.proofs.Common.{◌≡◌, ℕ, zero, suc, ◌+◌, ◌-◌, ◌%◌, ◌^◌, ◌<◌, ◌≤◌, Bool, true, List, [], ◌∷◌, length, Ok, refl, sym, ap, subst, ◌∙◌, arith, get_or-set_same, length-append}
 use Rattle.std.proofs.lemmas.List.{set-set}
-use Rattle.x64_templates.specs.Words.{W64, low, Memory, may_read, Rax, Rsp, Flags, added, subtracted, ◌>>=◌, State, Answer, with_rip, load, effect, Slot, BodyState, with_slot, MachineView, machine, size, sizes, fetch, keep, enter_code, sp_of, HasBack, moved, Enters, Reaches, HasCode, FramePlace, Roomy, FrameHolds, IsThere, ReachesBody}
+use Rattle.x64_templates.specs.Words.{W64, low, Memory, may_read, Rax, Rsp, Flags, added, subtracted, ◌>>=◌, State, Answer, with_rip, load, effect, Slot, BodyState, with_slot, MachineView, machine, size, sizes, fetch, keep, enter_code, sp_of, HasBack, moved, Enters, Reaches, HasCode, FramePlace, Roomy, FrameHolds, IsThere, ReachesBody, epilogue, return_code, Returned}
 use Rattle.x64_instr.specs.declared.operand.RegisterOrMemory.TheVariants as places
 use Rattle.x64_instr.specs.declared.operand.Operand.TheVariants as operands
 use Rattle.x64_instr.specs.declared.instruction.Operation.TheVariants as arithmetic
 use Rattle.x64_instr.specs.declared.instruction.Instr.TheVariants as instrs
 use Rattle.x64_templates.proofs.PlacedCode.{all_may, load_at, reaches_then}
-use Rattle.template_code.specs.Calls.{epilogue, return_code}
 use Rattle.x64_templates.proofs.Straight.{executes_nothing}
 use Rattle.x64_templates.proofs.Cells.{put, fetch_does}
 use Rattle.x64_templates.proofs.Encoded.{fetch_fine, near}
 use Rattle.x64_templates.proofs.Computes.{code_split, runs_view, leads_kept}
 use Rattle.x64_templates.proofs.Jumps.{one_reaches, one_enters}
-use Rattle.x64_templates.specs.Returned.{Returned}
 
 -- ---- what lies above RSP, but for the source's memory, outlasts whatever runs below
 

@@ -1,9 +1,7 @@
 -- Instructions in memory are run one after another.
-use Rattle.template_code.proofs.Sizes.{sizes_append}
+use Rattle.x64_templates.proofs.Lemmas.{sizes_append, longest}
 use Rattle.std.proofs.Common.{◌≡◌, ◌≢◌, ℕ, suc, ◌+◌, ◌≤◌, false, List, [], ◌∷◌, ◌++◌, length, Ok, Err, refl, sym, ap, subst, ◌∙◌, arith}
-use Rattle.x64_templates.specs.Words.{Protection, is_writable, Memory, may_write, Instr, chosen, Flags, ◌>>=◌, State, Answer, with_rip, effect, IsCodeAt, IsPlaced, spelled, Reaches, Enters, AllStraight, takes_frame, NoneTakesFrame, effects, MachineView, machine, Executes, size, sizes}
-use Rattle.x64_encode.proofs.Lengths.{longest}
-use Rattle.x64_templates.specs.Runs.{Steps}
+use Rattle.x64_templates.specs.Words.{Protection, is_writable, Memory, may_write, Instr, chosen, Flags, ◌>>=◌, State, Answer, with_rip, effect, IsCodeAt, IsPlaced, spelled, Reaches, Enters, AllStraight, takes_frame, NoneTakesFrame, effects, MachineView, machine, Executes, size, sizes, Steps}
 use Rattle.x64_templates.proofs.PlacedCode.{bytes_kept, Encodable, bytes_split, spells, reads, steps, no_turns, one_turn, reaches_then}
 use Rattle.x64_templates.proofs.Leaves.{Left, leaves, bound}
 use Rattle.x64_templates.proofs.Registers.{registers_stay}

@@ -2,15 +2,12 @@
 use Rattle.std.proofs.Common.{◌≡◌, ℕ, zero, suc, ◌+◌, ◌<◌, ◌≤◌, Bool, true, false, cond, List, [], ◌∷◌, length, get_or, Option, Some, None, refl, sym, ap, subst, ◌∙◌, arith, inl, inr}
 use Rattle.std.specs.Prelude.{◌⊎◌}
 use Rattle.std.proofs.lemmas.Bool.{cases_lt, lt-ltb, le-ltb}
-use Rattle.x64_templates.specs.Words.{Protection, is_writable, Memory, Instr, Flags, State, IsCodeAt, spelled, Instruction, BodyState, InstructionEffect, Next, JumpsTo, Faults, step, run, MachineView, machine, sizes, Links, template, template_size, offset_of, code_from, InTemporaries, InLocals, HasCode, FramePlace, Roomy, FrameHolds, ChangesOwn, ReachesBody, InstructionDone, IsLinked}
+use Rattle.x64_templates.specs.Words.{Protection, is_writable, Memory, Instr, Flags, State, IsCodeAt, spelled, Instruction, BodyState, InstructionEffect, Next, JumpsTo, Faults, step, run, MachineView, machine, sizes, Links, template, template_size, offset_of, code_from, InTemporaries, InLocals, HasCode, FramePlace, Roomy, FrameHolds, ChangesOwn, ReachesBody, InstructionDone, IsLinked, ReservedAccess, NeedsDispatcher, BodyPoint, continued, RunsTo, RunsAllTo}
 use Rattle.x64_templates.proofs.PlacedCode.{no_turns, reaches_then}
 use Rattle.linear_code.specs.declared.instruction.Instruction.TheVariants as instructions
-use Rattle.linear_code.specs.Meaning.{ReservedAccess, NeedsDispatcher, BodyPoint, continued}
-use Rattle.x64_templates.specs.InstructionRuns.{RunsTo, RunsAllTo}
-use Rattle.template_code.proofs.Sizes.{sizes_spelled}
+use Rattle.x64_templates.proofs.Lemmas.{sizes_spelled, body_sizes, offset_next}
 use Rattle.x64_templates.proofs.Cells.{sp_of}
 use Rattle.x64_templates.proofs.Bodies.{changes_then}
-use Rattle.template_code.proofs.Sizes.{body_sizes, offset_next}
 use Rattle.x64_templates.proofs.InstructionRuns.{body_instruction_run}
 
 -- ---- code stays where it is

@@ -1,16 +1,15 @@
 -- A `__finally` block is called at the normal end of its body, and a local unwind is asked for.
 use Rattle.std.proofs.Common.{◌≡◌, ℕ, ◌+◌, ◌%◌, ◌^◌, ◌<◌, [], ◌∷◌, Ok, refl, sym, ap, subst, ◌∙◌, arith}
-use Rattle.x64_templates.specs.Words.{W32, W64, low, Rcx, Rdx, Rsp, modrm, Flags, effect, MachineView, machine, Executes, size, sizes, move, distance, call, IsNear, sp_of, pushed, HasBelow, Reaches, HasCode}
+use Rattle.x64_templates.specs.Words.{W32, W64, low, Rcx, Rdx, Rsp, modrm, Flags, effect, MachineView, machine, Executes, size, sizes, move, distance, call, IsNear, sp_of, pushed, HasBelow, Reaches, HasCode, finally_arguments, call_finally_code, address_to, local_unwind_code}
 use Rattle.x64_instr.specs.declared.operand.RegisterOrMemory.TheVariants as places
 use Rattle.x64_instr.specs.declared.operand.Operand.TheVariants as operands
 use Rattle.x64_instr.specs.declared.instruction.Instr.TheVariants as instrs
 use Rattle.x64_templates.proofs.PlacedCode.{reaches_then}
-use Rattle.template_code.specs.Calls.{finally_arguments, call_finally_code, address_to, local_unwind_code}
 use Rattle.x64_templates.proofs.Straight.{executes_one, executes_then}
 use Rattle.x64_templates.proofs.Encoded.{Fine}
 use Rattle.x64_templates.proofs.Computes.{code_split, runs_view}
 use Rattle.x64_templates.proofs.Jumps.{one_reaches}
-use Rattle.template_code.proofs.Sizes.{short}
+use Rattle.x64_templates.proofs.Lemmas.{short}
 use Rattle.x64_templates.proofs.Calls.{call_reaches}
 
 word : (sp x : ℕ) → x ≡ sp → sp < 2 ^ 63 → low W64 (low W64 x) ≡ sp

@@ -1,9 +1,8 @@
 use Rattle.std.proofs.Common.{map}
 use Rattle.c_check.proofs.check.check.Goals as goal
 use Rattle.c_check.proofs.Programs.{nothing_broken, least_broken}
-use Rattle.c_checked.specs.Program.{program_of}
+use Rattle.c_check.specs.Words.{program_of, external_declaration}
 use Rattle.c_resolved.proofs.SoundPrograms.{seen_is_sound}
-use Rattle.c_syntax.specs.Program.{external_declaration}
 
 pub invariant_of-result : goal.invariant_of-result
 invariant_of-result c =

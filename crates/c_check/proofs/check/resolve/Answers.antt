@@ -1,7 +1,7 @@
 use Rattle.std.proofs.Common.{map, refl}
 use Rattle.c_check.proofs.check.resolve.Goals as goal
 use Rattle.c_check.proofs.Programs.{program_resolved}
-use Rattle.c_syntax.specs.Program.{external_declaration}
+use Rattle.c_check.specs.Words.{external_declaration}
 
 pub returns : goal.returns
 returns c =

@@ -1,14 +1,8 @@
 use Rattle.std.proofs.Common.{sym, ap, ◌∙◌, subst}
 use Rattle.c_check.proofs.FileInOrder.{function_named}
 use Rattle.c_check.proofs.declarations.declare.Goals as goal
-use Rattle.c_expressions.specs.Views.{block_of}
+use Rattle.c_check.specs.Words.{block_of, IsFile, UserFunction, parameter_types, with_external_declaration, spelled, with_name, external_declaration}
 use Rattle.c_locals.specs.declared.globals.File.{File}
-use Rattle.c_locals.specs.Files.{IsFile}
-use Rattle.c_resolved.specs.Expressions.{UserFunction}
-use Rattle.c_resolved.specs.Program.{parameter_types, with_external_declaration}
-use Rattle.c_resolved.specs.Scopes.{spelled}
-use Rattle.c_resolved.specs.Statements.{with_name}
-use Rattle.c_syntax.specs.Program.{external_declaration}
 
 pub returns-in_ok-name-in-Function : goal.returns-in_ok-name-in-Function
 returns-in_ok-name-in-Function c =

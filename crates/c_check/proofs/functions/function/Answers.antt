@@ -1,7 +1,7 @@
 use Rattle.std.proofs.Common.{ap, refl, ◌∙◌, drop, length}
 use Rattle.c_check.proofs.FunctionsInOrder.{function_added}
 use Rattle.c_check.proofs.functions.function.Goals as goal
-use Rattle.c_expressions.specs.Views.{block_of}
+use Rattle.c_check.specs.Words.{block_of}
 use Rattle.c_checked.specs.Statement as checked
 use Rattle.std.specs.Prelude.{map}
 use Rattle.c_syntax.specs.Statement as trees

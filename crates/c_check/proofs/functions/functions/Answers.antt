@@ -1,7 +1,6 @@
 use Rattle.c_check.proofs.FunctionsInOrder.{functions_on}
 use Rattle.c_check.proofs.functions.functions.Goals as goal
-use Rattle.c_expressions.specs.Kept.{least_of}
-use Rattle.c_expressions.specs.Views.{block_of}
+use Rattle.c_check.specs.Words.{least_of, block_of}
 
 pub loop-x-preserved : goal.loop-x-preserved
 loop-x-preserved c = functions_on c.args.text.now (block_of c.args.file.now.entries) c.args.xs.now

@@ -1,8 +1,7 @@
 use Rattle.std.proofs.Common.{◌<◌, length, arith}
 use Rattle.c_check.proofs.ParametersInOrder.{next_at, parameters_on}
 use Rattle.c_check.proofs.parameters.block_of.Goals as goal
-use Rattle.c_expressions.specs.Kept.{least_of}
-use Rattle.c_expressions.specs.Views.{block_of}
+use Rattle.c_check.specs.Words.{least_of, block_of}
 
 pub loop-i-preserved : goal.loop-i-preserved
 loop-i-preserved c =

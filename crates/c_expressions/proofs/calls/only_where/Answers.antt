@@ -2,8 +2,7 @@
 use Rattle.std.specs.Prelude.{option_map}
 use Rattle.c_expressions.proofs.Ruled.{refused_kept}
 use Rattle.c_expressions.proofs.calls.only_where.Goals as goal
-use Rattle.c_expressions.specs.Kept.{least_of}
-use Rattle.c_types.specs.Views.{typed_node}
+use Rattle.c_expressions.specs.Words.{least_of, typed_node}
 
 pub returns-clause-faults : goal.returns-clause-faults
 returns-clause-faults c = λ first fs p.

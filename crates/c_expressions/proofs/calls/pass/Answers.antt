@@ -2,13 +2,8 @@ use Rattle.std.proofs.Common.{◌∙◌, ap, sym}
 use Rattle.std.specs.Prelude.{option_map}
 use Rattle.c_expressions.proofs.Passing.{missing_kept, fits_kept, unfit_kept}
 use Rattle.c_expressions.proofs.calls.pass.Goals as goal
-use Rattle.c_expressions.specs.Kept.{least_of, kept}
-use Rattle.c_expressions.specs.Views.{wanted}
+use Rattle.c_expressions.specs.Words.{least_of, kept, wanted, fault_at, TypeClash, expression, start, typed_node}
 use Rattle.c_resolved.specs.Expressions as definitions
-use Rattle.c_resolved.specs.Expressions.{fault_at}
-use Rattle.c_resolved.specs.declared.fault.Fault.TheVariants.{TypeClash}
-use Rattle.c_syntax.specs.Expression.{expression, start}
-use Rattle.c_types.specs.Views.{typed_node}
 
 pub returns-in-None-clause-faults : goal.returns-in-None-clause-faults
 returns-in-None-clause-faults c = λ first fs rest p.

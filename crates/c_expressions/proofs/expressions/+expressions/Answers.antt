@@ -5,22 +5,14 @@ use Rattle.c_expressions.proofs.Kept.{kept_more}
 use Rattle.c_expressions.proofs.Ruled.{two, three, assign_is}
 use Rattle.c_expressions.proofs.Calling.{StillToPass, none_passed, pass_next_to, all_passed_at, called_for, fused, same_counts, call_refused, call_passed, faults_on, allowed_found, allowed_kept}
 use Rattle.c_expressions.proofs.expressions.+expressions.Goals as goal
-use Rattle.c_expressions.specs.Calls.{passed_of, resolved_all}
-use Rattle.c_expressions.specs.Kept.{least_of, kept}
-use Rattle.c_expressions.specs.Rules.{assigning_to, assigning_at, rule_of_two}
-use Rattle.c_expressions.specs.Views.{names_of, wanted}
+use Rattle.c_expressions.specs.Words.{passed_of, resolved_all, least_of, kept, assigning_to, assigning_at, rule_of_two, names_of, wanted, ArgCount, CodeOutsideFilter, AbnormalOutsideFinally, resolve_expression, rule_2, rule_3, fault_at, faults_of, pass_all, call_with, call, CodeFunction, AbnormalFunction, unsigned, int, element_of, binary_of, comma_of, conditional_of, typed_node, Expression, node, expression, start}
 use denote.Hole.Carrier as Carrier
 use Rattle.c_checked.specs.Expression as nodes
 use Rattle.c_syntax.specs.declared.expression.Expr.TheFolds.{fold-roll-Expr}
 use Rattle.c_syntax.specs.declared.expression.Expr.TheOpen.{Index as Index_F, Binary as Binary_F, Conditional as Conditional_F, Comma as Comma_F, Assign as Assign_F}
 use Rattle.c_syntax.specs.declared.expression.Expr.TheVariants.{rolls-Index, rolls-Binary, rolls-Conditional, rolls-Comma, rolls-Assign}
 use Rattle.c_syntax.specs.declared.expression.Expr.TheViews.{roll-Expr}
-use Rattle.c_resolved.specs.declared.fault.Fault.TheVariants.{ArgCount, CodeOutsideFilter, AbnormalOutsideFinally}
-use Rattle.c_resolved.specs.Expressions.{resolve_expression, rule_2, rule_3, fault_at, faults_of, pass_all, call_with, call, CodeFunction, AbnormalFunction, unsigned}
-use Rattle.c_resolved.specs.Operators.{int, element_of, binary_of, comma_of, conditional_of}
-use Rattle.c_types.specs.Views.{typed_node}
 use Rattle.c_syntax.specs.Expression as trees
-use Rattle.c_syntax.specs.Expression.{Expression, node, expression, start}
 
 pub with_second-returns-in-Ok-clause-found : goal.with_second-returns-in-Ok-clause-found
 with_second-returns-in-Ok-clause-found t c =

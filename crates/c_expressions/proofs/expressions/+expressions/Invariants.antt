@@ -3,10 +3,7 @@ use Rattle.std.specs.Prelude.{option_map}
 use Rattle.c_checked.specs.Expression as nodes
 use Rattle.c_expressions.proofs.Calling.{StillToPass}
 use Rattle.c_expressions.proofs.expressions.+expressions.Given as goal
-use Rattle.c_expressions.specs.Calls.{resolved_all}
-use Rattle.c_expressions.specs.Kept.{least_of, kept}
-use Rattle.c_expressions.specs.Views.{names_of, wanted}
-use Rattle.c_resolved.specs.Expressions.{pass_all, faults_of}
+use Rattle.c_expressions.specs.Words.{resolved_all, least_of, kept, names_of, wanted, pass_all, faults_of}
 
 abbrev pub invariant-pass_all-loop-e : goal.invariant-pass_all-loop-e
 invariant-pass_all-loop-e l =

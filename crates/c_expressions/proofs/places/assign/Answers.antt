@@ -2,13 +2,7 @@ use Rattle.std.proofs.Common.{◌∙◌, ap, sym}
 use Rattle.std.specs.Prelude.{option_map}
 use Rattle.c_expressions.proofs.Ruled.{refused_kept}
 use Rattle.c_expressions.proofs.places.assign.Goals as goal
-use Rattle.c_expressions.specs.Kept.{least_of, kept}
-use Rattle.c_expressions.specs.Rules.{assigning}
-use Rattle.c_expressions.specs.Views.{names_of}
-use Rattle.c_resolved.specs.declared.fault.Fault.TheVariants.{NotLvalue}
-use Rattle.c_resolved.specs.Expressions.{fault_at, is_lvalue}
-use Rattle.c_syntax.specs.Expression.{expression, start}
-use Rattle.c_types.specs.Views.{typed_node}
+use Rattle.c_expressions.specs.Words.{least_of, kept, assigning, names_of, NotLvalue, fault_at, is_lvalue, expression, start, typed_node}
 
 pub returns-clause-faults : goal.returns-clause-faults
 returns-clause-faults c = λ first fs p.

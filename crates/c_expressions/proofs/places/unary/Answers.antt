@@ -3,13 +3,7 @@ use Rattle.std.proofs.lemmas.Result.{IfOk-weaker}
 use Rattle.std.specs.Prelude.{option_map}
 use Rattle.c_expressions.proofs.Ruled.{refused_kept}
 use Rattle.c_expressions.proofs.places.unary.Goals as goal
-use Rattle.c_expressions.specs.Kept.{least_of, kept}
-use Rattle.c_expressions.specs.Views.{names_of}
-use Rattle.c_resolved.specs.declared.fault.Fault.TheVariants.{NotLvalue}
-use Rattle.c_resolved.specs.Expressions.{fault_at, rule_1, given_that, operand_is_lvalue}
-use Rattle.c_resolved.specs.Operators.{unary_of}
-use Rattle.c_syntax.specs.Expression.{expression, start}
-use Rattle.c_types.specs.Views.{typed_node}
+use Rattle.c_expressions.specs.Words.{least_of, kept, names_of, NotLvalue, fault_at, rule_1, given_that, operand_is_lvalue, unary_of, expression, start, typed_node}
 
 pub returns-clause-faults : goal.returns-clause-faults
 returns-clause-faults c = λ first fs p.

@@ -2,10 +2,7 @@ use Rattle.std.proofs.Common.{◌∙◌, sym, ap}
 use Rattle.std.specs.Prelude.{option_map}
 use Rattle.c_expressions.proofs.Kept.{kept_more}
 use Rattle.c_expressions.proofs.rules.ruled.Goals as goal
-use Rattle.c_expressions.specs.Kept.{least_of, kept}
-use Rattle.c_resolved.specs.declared.fault.Fault.TheVariants.{TypeClash}
-use Rattle.c_resolved.specs.Expressions.{ruled, fault_at}
-use Rattle.c_types.specs.Views.{typed_node}
+use Rattle.c_expressions.specs.Words.{least_of, kept, TypeClash, ruled, fault_at, typed_node}
 
 pub returns-in-None-clause-faults : goal.returns-in-None-clause-faults
 returns-in-None-clause-faults c = λ first fs e.

@@ -1,7 +1,7 @@
 use Rattle.std.proofs.Common.{◌∙◌, ap, sym}
 use Rattle.c_expressions.proofs.Names.{declared_new}
 use Rattle.c_expressions.proofs.scopes.declare.Goals as goal
-use Rattle.c_expressions.specs.Views.{block_of}
+use Rattle.c_expressions.specs.Words.{block_of}
 
 pub returns : goal.returns
 returns c =

@@ -1,8 +1,7 @@
 use Rattle.std.proofs.Common.{◌∙◌, ap, sym}
 use Rattle.c_expressions.proofs.Names.{known_first, unknown_next}
 use Rattle.c_expressions.proofs.scopes.is_taken.Goals as goal
-use Rattle.c_expressions.specs.Views.{block_of}
-use Rattle.c_resolved.specs.Statements.{is_some}
+use Rattle.c_expressions.specs.Words.{block_of, is_some}
 
 pub returns-in-Some : goal.returns-in-Some
 returns-in-Some c = ap is_some (known_first c.args.name.now _ (block_of c.args.block.now.entries)

@@ -1,7 +1,7 @@
 use Rattle.std.proofs.Common.{◌∙◌, sym}
 use Rattle.c_expressions.proofs.Names.{known_first, unknown_next}
 use Rattle.c_expressions.proofs.scopes.meaning.Goals as goal
-use Rattle.c_expressions.specs.Views.{scopes_of}
+use Rattle.c_expressions.specs.Words.{scopes_of}
 
 pub returns-in-Some : goal.returns-in-Some
 returns-in-Some c = known_first c.args.name.now _ (scopes_of c.args.scopes.now) c.in-Some.ensures

@@ -1,12 +1,8 @@
 use Rattle.std.proofs.Common.{◌∙◌, ap, refl}
 use Rattle.c_expressions.proofs.Valued.{valued}
 use Rattle.c_expressions.proofs.values.to_type.Goals as goal
-use Rattle.c_expressions.specs.Kept.{least_of, kept}
-use Rattle.c_resolved.specs.declared.fault.Fault.TheVariants.{TypeClash}
-use Rattle.c_resolved.specs.Operators.{as_type, can_become}
+use Rattle.c_expressions.specs.Words.{least_of, kept, TypeClash, as_type, can_become, unless_holds, typed_node}
 use Rattle.c_resolved.specs.Statements as definitions
-use Rattle.c_resolved.specs.Statements.{unless_holds}
-use Rattle.c_types.specs.Views.{typed_node}
 
 pub returns-in-Some : goal.returns-in-Some
 returns-in-Some c =

@@ -3,7 +3,7 @@ use Rattle.std.proofs.lemmas.Result.{IfOk-weaker}
 use Rattle.std.specs.Prelude.{map}
 use Rattle.c_expressions.proofs.Passing.{wants_are}
 use Rattle.c_expressions.proofs.wanted.wanted_by.Goals as goal
-use Rattle.c_expressions.specs.Views.{wanted}
+use Rattle.c_expressions.specs.Words.{wanted}
 
 pub returns : goal.returns
 returns c = IfOk-weaker c.types_of.result _ _

@@ -1,5 +1,5 @@
 use Rattle.std.proofs.Common.{◌≡◌, length}
-use Rattle.c_lex.specs.Comments.{after_end}
+use Rattle.c_lex.specs.Vocabulary.{after_end}
 use Rattle.c_lex.proofs.comment.after_end.Given as goal
 
 abbrev pub invariant-loop-rest : goal.invariant-loop-rest

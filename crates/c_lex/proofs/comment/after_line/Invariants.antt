@@ -1,6 +1,5 @@
 use Rattle.std.proofs.Common.{◌≡◌, length}
-use Rattle.c_lex.specs.Comments.{is_other_than_line_feed}
-use Rattle.c_lex.specs.Longest.{span}
+use Rattle.c_lex.specs.Vocabulary.{is_other_than_line_feed, span}
 use Rattle.c_lex.proofs.comment.after_line.Given as goal
 
 abbrev pub invariant-loop-rest : goal.invariant-loop-rest

@@ -1,7 +1,4 @@
-use Rattle.std.proofs.Common.{}
-use Rattle.c_lex.specs.declared.word.Word.TheVariants.{Blank}
-use Rattle.c_lex.specs.Comments.{is_other_than_line_feed}
-use Rattle.c_lex.specs.Longest.{span}
+use Rattle.c_lex.specs.Vocabulary.{Blank, is_other_than_line_feed, span}
 use Rattle.c_lex.proofs.Taking.{each_takes}
 use Rattle.c_lex.proofs.comment.line.Goals as goal
 

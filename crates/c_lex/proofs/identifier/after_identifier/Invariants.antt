@@ -1,6 +1,5 @@
 use Rattle.std.proofs.Common.{◌≡◌, length}
-use Rattle.c_lex.specs.Identifiers.{is_identifier_byte}
-use Rattle.c_lex.specs.Longest.{span}
+use Rattle.c_lex.specs.Vocabulary.{is_identifier_byte, span}
 use Rattle.c_lex.proofs.identifier.after_identifier.Given as goal
 
 abbrev pub invariant-loop-rest : goal.invariant-loop-rest

@@ -1,5 +1,5 @@
 use Rattle.std.proofs.Common.{◌≡◌, ◌^◌, ℕ, length, min}
-use Rattle.c_lex.specs.Readers.{number}
+use Rattle.c_lex.specs.Vocabulary.{number}
 use Rattle.c_lex.proofs.integer.number.Given as goal
 
 -- the digits so far make n

@@ -1,7 +1,5 @@
 use Rattle.std.proofs.Common.{List, ℕ, sym, subst}
-use Rattle.c_lex.specs.declared.word.Word.{Word}
-use Rattle.c_lex.specs.Longest.{IsLongest}
-use Rattle.c_lex.specs.Words.{punctuator}
+use Rattle.c_lex.specs.Vocabulary.{Word, IsLongest, punctuator}
 use Rattle.c_lex.proofs.Tokens.{punctuators_take}
 use Rattle.c_lex.proofs.punctuator.longest_punctuator.Goals as goal
 

@@ -1,4 +1,4 @@
-use Rattle.c_lex.specs.Identifiers.{is_identifier_byte}
+use Rattle.c_lex.specs.Vocabulary.{is_identifier_byte}
 use Rattle.c_lex.proofs.Fronts.{span_shorter}
 use Rattle.c_lex.proofs.word.named.Goals as goal
 

@@ -1,6 +1,6 @@
 use Rattle.std.proofs.Common.{◌≡◌, true, sym, ◌∙◌, arith, refl}
 use Rattle.std.proofs.lemmas.Bool.Decides.{nat_tests}
-use Rattle.c_lex.specs.Identifiers.{is_digit}
+use Rattle.c_lex.specs.Vocabulary.{is_digit}
 use Rattle.c_lex.proofs.FirstBytes.{name_first, zero_first, digit_first, quote_first, slash_first}
 use Rattle.c_lex.proofs.FirstBytes.{space_first, punctuator_first}
 use Rattle.c_lex.proofs.word.word_from.Goals as goal

@@ -1,11 +1,7 @@
 use Rattle.std.proofs.Common.{◌∙◌, ◌++◌, ◌∷◌, [], refl, ap}
-use Rattle.c_expressions.specs.Views.{block_of}
+use Rattle.c_locals.specs.Words.{block_of, environment, LocalVariable, with_name, CType}
 use Rattle.c_locals.proofs.DeclarationLocals.{declared_local}
 use Rattle.c_locals.proofs.declarations.declare.Goals as goal
-use Rattle.c_locals.specs.Views.{environment}
-use Rattle.c_resolved.specs.Expressions.{LocalVariable}
-use Rattle.c_resolved.specs.Statements.{with_name}
-use Rattle.c_syntax.specs.declared.expression.CType.{CType}
 
 pub returns : goal.returns
 returns c =

@@ -1,6 +1,6 @@
 use Rattle.std.proofs.Common.{◌∙◌, map, ap}
 use Rattle.std.proofs.lemmas.Result.{IfOk-weaker}
-use Rattle.c_checked.specs.Statement.{statement}
+use Rattle.c_locals.specs.Words.{statement}
 use Rattle.c_locals.proofs.DeclarationLocals.{resolves_as, statements_are}
 use Rattle.c_locals.proofs.declarations.declare_all.Goals as goal
 

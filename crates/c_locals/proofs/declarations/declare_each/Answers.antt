@@ -1,10 +1,8 @@
 use Rattle.std.proofs.Common.{◌≤◌, length, map, sym, subst, arith}
-use Rattle.c_expressions.specs.Kept.{least_of}
+use Rattle.c_locals.specs.Words.{least_of, declares, environment}
 use Rattle.c_locals.proofs.DeclarationLocals.{rest_of, one_declared, all_declared}
 use Rattle.c_locals.proofs.WalkResults.{StillToMake, nothing_made}
 use Rattle.c_locals.proofs.declarations.declare_each.Goals as goal
-use Rattle.c_locals.specs.WalkResults.{declares}
-use Rattle.c_locals.specs.Views.{environment}
 
 pub loop-local-init : goal.loop-local-init
 loop-local-init c =

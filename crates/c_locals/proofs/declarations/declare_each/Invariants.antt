@@ -1,7 +1,7 @@
 use Rattle.std.proofs.Common.{drop}
 use Rattle.c_locals.proofs.DeclarationLocals.{StillToDeclare, rest_of}
 use Rattle.c_locals.proofs.declarations.declare_each.Given as goal
-use Rattle.c_locals.specs.Views.{environment}
+use Rattle.c_locals.specs.Words.{environment}
 
 abbrev pub invariant-loop-local : goal.invariant-loop-local
 invariant-loop-local l =

@@ -1,11 +1,7 @@
 use Rattle.std.proofs.Common.{None, refl, sym, subst}
 use Rattle.c_locals.proofs.ForInitialisers.{declaring}
 use Rattle.c_locals.proofs.declarations.for_initialiser.Goals as goal
-use Rattle.c_locals.specs.declared.declarations.Beginning.{Beginning}
-use Rattle.c_locals.specs.WalkResults.{IsBeginning}
-use Rattle.c_locals.specs.Views.{environment, numbering}
-use Rattle.c_resolved.specs.Statements.{resolve_for_initialiser}
-use Rattle.c_syntax.specs.Statement.{first}
+use Rattle.c_locals.specs.Words.{Beginning, IsBeginning, environment, numbering, resolve_for_initialiser, first}
 
 pub returns-in_ok-declared-in-Declaration : goal.returns-in_ok-declared-in-Declaration
 returns-in_ok-declared-in-Declaration c =

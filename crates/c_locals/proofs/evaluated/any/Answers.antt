@@ -1,9 +1,7 @@
-use Rattle.c_expressions.specs.Views.{block_of}
+use Rattle.c_locals.specs.Words.{block_of, environment, resolved_at, expression}
 use Rattle.c_locals.proofs.evaluated.any.Goals as goal
 use Rattle.c_locals.proofs.ValueRules.{ruled}
-use Rattle.c_locals.specs.Views.{environment, resolved_at}
 use Rattle.c_resolved.specs.Statements as definitions
-use Rattle.c_syntax.specs.Expression.{expression}
 
 pub returns : goal.returns
 returns c = ruled c.args.worst.now _ _ _ (resolved_at (environment c.args.env.now)

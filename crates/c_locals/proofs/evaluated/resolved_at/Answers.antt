@@ -1,10 +1,7 @@
 use Rattle.std.proofs.Common.{◌≡◌, IfOk, OnOk, subst}
 use Rattle.std.specs.Prelude.{option_map}
-use Rattle.c_expressions.specs.Kept.{least_of, kept}
+use Rattle.c_locals.specs.Words.{least_of, kept, resolve_expression, expression, typed_node}
 use Rattle.c_locals.proofs.evaluated.resolved_at.Goals as goal
-use Rattle.c_resolved.specs.Expressions.{resolve_expression}
-use Rattle.c_syntax.specs.Expression.{expression}
-use Rattle.c_types.specs.Views.{typed_node}
 
 pub returns-clause-found : goal.returns-clause-found
 returns-clause-found c = subst (λ s. IfOk c.resolve.result

@@ -1,9 +1,7 @@
 use Rattle.std.proofs.Common.{◌∙◌, sym}
-use Rattle.c_expressions.specs.Views.{block_of}
+use Rattle.c_locals.specs.Words.{block_of, environment, expression}
 use Rattle.c_locals.proofs.evaluated.returned_value.Goals as goal
 use Rattle.c_locals.proofs.ValueRules.{nothing_returned, value_returned}
-use Rattle.c_locals.specs.Views.{environment}
-use Rattle.c_syntax.specs.Expression.{expression}
 
 pub returns-then-is_void : goal.returns-then-is_void
 returns-then-is_void c = nothing_returned (environment c.args.env.now)

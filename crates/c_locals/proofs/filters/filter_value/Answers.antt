@@ -1,9 +1,7 @@
 use Rattle.std.proofs.Common.{◌∙◌, sym}
-use Rattle.c_expressions.specs.Views.{block_of}
+use Rattle.c_locals.specs.Words.{block_of, environment, expression}
 use Rattle.c_locals.proofs.FilterKinds.{always_same, answered}
 use Rattle.c_locals.proofs.filters.filter_value.Goals as goal
-use Rattle.c_locals.specs.Views.{environment}
-use Rattle.c_syntax.specs.Expression.{expression}
 
 pub returns-then-always : goal.returns-then-always
 returns-then-always c = always_same (environment c.args.env.now) (block_of c.args.block.now.entries)

@@ -2,7 +2,7 @@ use Rattle.std.proofs.Common.{◌∙◌, ◌++◌, ◌-◌, ◌/◌, ap}
 use Rattle.std.proofs.lemmas.Result.{on_ok_weaker}
 use Rattle.c_locals.proofs.Bytes.{number_step}
 use Rattle.c_locals.proofs.globals.+put_number.Goals as goal
-use Rattle.c_resolved.specs.Program.{bytes_of_number}
+use Rattle.c_locals.specs.Words.{bytes_of_number}
 
 pub returns : goal.returns
 returns t c =

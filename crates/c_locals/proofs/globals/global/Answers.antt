@@ -3,14 +3,7 @@ use Rattle.std.proofs.lemmas.Result.{on_ok_weaker}
 use Rattle.std.specs.Prelude.{option_map}
 use Rattle.c_locals.proofs.GlobalPlaces.{on_both, placed}
 use Rattle.c_locals.proofs.globals.global.Goals as goal
-use Rattle.c_expressions.specs.Kept.{least_of, kept}
-use Rattle.c_expressions.specs.Views.{block_of, entity}
-use Rattle.c_resolved.specs.declared.fault.Fault.TheVariants.{TypeClash}
-use Rattle.c_resolved.specs.Program.{global_entity, padded, initial_value, first_data}
-use Rattle.c_resolved.specs.Scopes.{spelled}
-use Rattle.c_resolved.specs.Statements.{with_name, unless_holds}
-use Rattle.c_resolved.specs.Types.{bytes_in}
-use Rattle.c_syntax.specs.declared.expression.CType.{CType}
+use Rattle.c_locals.specs.Words.{least_of, kept, block_of, entity, TypeClash, global_entity, padded, initial_value, first_data, spelled, with_name, unless_holds, bytes_in, CType}
 use Rattle.c_syntax.specs.Program as trees
 
 pub returns : goal.returns

@@ -1,8 +1,7 @@
 use Rattle.std.proofs.Common.{arith}
 use Rattle.std.proofs.lemmas.Result.{err_from_is_err_and}
 use Rattle.c_lex.specs.declared.punctuator.Punctuator.TheVariants as punctuators
-use Rattle.c_parse_stmt.specs.Parts.{NoPunctuator, APunctuator}
-use Rattle.c_parse.specs.Parts.{NoParameter, HasParameter, NoListed, HasListed}
+use Rattle.c_parse.specs.Words.{NoPunctuator, APunctuator, NoParameter, HasParameter, NoListed, HasListed}
 use Rattle.c_parse.proofs.Refusing.{placed_in}
 use Rattle.c_parse.proofs.Parameters.{begins, next, counted, ends, in_first, full, in_next, in_end}
 use Rattle.c_parse.proofs.functions.listed.Goals as goal

@@ -1,4 +1,4 @@
-use Rattle.c_parse.specs.Parts.{NoListed, HasListed, NoParameters, HasParameters}
+use Rattle.c_parse.specs.Words.{NoListed, HasListed, NoParameters, HasParameters}
 use Rattle.c_parse.proofs.Refusing.{refused_so}
 use Rattle.c_parse.proofs.Parameters.{all}
 use Rattle.c_parse.proofs.functions.parameters.Goals as goal

@@ -1,10 +1,7 @@
 use Rattle.std.proofs.Common.{refl}
 use Rattle.std.proofs.lemmas.Result.{err_from_is_err_and}
 use Rattle.c_lex.specs.declared.punctuator.Punctuator.TheVariants as punctuators
-use Rattle.c_parse_stmt.specs.declared.left.Left.{Left}
-use Rattle.c_parse_stmt.specs.Parts.{NoPunctuator, APunctuator}
-use Rattle.c_parse_stmt.specs.Within.{NoBlockItems, HasBlockItems}
-use Rattle.c_parse.specs.Parts.{NoParameters, HasParameters, NoTail, HasTail}
+use Rattle.c_parse.specs.Words.{Left, NoPunctuator, APunctuator, NoBlockItems, HasBlockItems, NoParameters, HasParameters, NoTail, HasTail}
 use Rattle.c_parse.proofs.Refusing.{placed_in}
 use Rattle.c_parse.proofs.Bodies.{in_parameters, in_brace, in_body}
 use Rattle.c_parse.proofs.functions.tail.Goals as goal

@@ -1,8 +1,7 @@
 use Rattle.std.proofs.lemmas.Result.{err_from_is_err_and}
 use Rattle.std.proofs.Common.{◌≤◌, Some}
 use Rattle.c_lex.specs.declared.punctuator.Punctuator.TheVariants as punctuators
-use Rattle.c_parse_stmt.specs.Parts.{NoPunctuator, APunctuator}
-use Rattle.c_parse.specs.Parts.{end_of, NoneBracketed, HasBracketed}
+use Rattle.c_parse.specs.Words.{NoPunctuator, APunctuator, end_of, NoneBracketed, HasBracketed}
 use Rattle.c_parse.proofs.Refusing.{placed_in}
 use Rattle.c_parse.proofs.Placing.{room, no_room}
 use Rattle.c_parse.proofs.Lengths.{no_integer, too_long, in_close, goes_further}

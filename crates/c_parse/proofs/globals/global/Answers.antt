@@ -1,7 +1,6 @@
 use Rattle.std.proofs.Common.{◌≤◌, ℕ, subst}
 use Rattle.std.proofs.lemmas.Result.{err_from_is_err_and}
-use Rattle.c_parse.specs.Parts.{end_of, NoInitialiser, HasInitialiser, NoLength, HasLength}
-use Rattle.c_parse.specs.Parts.{NoGlobal, HasGlobals}
+use Rattle.c_parse.specs.Words.{end_of, NoInitialiser, HasInitialiser, NoLength, HasLength, NoGlobal, HasGlobals}
 use Rattle.c_parse.proofs.Refusing.{placed_in}
 use Rattle.c_parse.proofs.Declarators.{no_name, in_length, in_initialiser}
 use Rattle.c_parse.proofs.globals.global.Goals as goal

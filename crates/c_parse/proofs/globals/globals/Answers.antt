@@ -1,9 +1,7 @@
 use Rattle.std.proofs.Common.{length, ap, arith}
 use Rattle.std.proofs.lemmas.Result.{err_from_is_err_and}
-use Rattle.c_syntax.specs.Program.{global}
+use Rattle.c_parse.specs.Words.{global, NoPunctuator, APunctuator, NoGlobal, NoGlobals, HasGlobals}
 use Rattle.c_lex.specs.declared.punctuator.Punctuator.TheVariants as punctuators
-use Rattle.c_parse_stmt.specs.Parts.{NoPunctuator, APunctuator}
-use Rattle.c_parse.specs.Parts.{NoGlobal, NoGlobals, HasGlobals}
 use Rattle.c_parse.proofs.Refusing.{placed_in}
 use Rattle.c_syntax.proofs.Shorter as shorter
 use Rattle.c_parse.proofs.Declarations.{begins, next, ends, ends_at, in_first, in_next, in_end}

@@ -1,5 +1,5 @@
 use Rattle.std.proofs.lemmas.Result.{err_from_is_err_and}
-use Rattle.c_parse.specs.Parts.{NoneBracketed, HasBracketed, NoLength, HasLength}
+use Rattle.c_parse.specs.Words.{NoneBracketed, HasBracketed, NoLength, HasLength}
 use Rattle.c_parse.proofs.Refusing.{placed_in}
 use Rattle.c_parse.proofs.Placing.{no_room}
 use Rattle.c_parse.proofs.Lengths.{in_bracketed}

@@ -1,7 +1,7 @@
 use Rattle.std.proofs.Common.{inl, inr, ◌∙◌, ap}
 use Rattle.std.specs.Prelude.{ℕ}
 use Rattle.c_syntax.specs.declared.limit.Count.TheVariants.{Globals}
-use Rattle.c_parse_expr.specs.declared.refusal.ParseErr.TheVariants.{TooMany}
+use Rattle.c_parse.specs.Words.{TooMany}
 use Rattle.c_parse.proofs.Declarators.{no_ends}
 use Rattle.c_parse.proofs.globals.no_room.Goals as goal
 

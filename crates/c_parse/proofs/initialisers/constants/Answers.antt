@@ -1,9 +1,8 @@
 use Rattle.std.proofs.Common.{length, ap, arith}
 use Rattle.std.proofs.lemmas.Result.{err_from_is_err_and}
-use Rattle.c_parse_stmt.specs.Parts.{NoPunctuator, APunctuator}
+use Rattle.c_parse.specs.Words.{NoPunctuator, APunctuator, NoConstant, HasConstant, NoConstants, HasConstants}
 use Rattle.c_lex.specs.declared.punctuator.Punctuator.TheVariants as punctuators
 use Rattle.c_syntax.proofs.Shorter as shorter
-use Rattle.c_parse.specs.Parts.{NoConstant, HasConstant, NoConstants, HasConstants}
 use Rattle.c_parse.proofs.Refusing.{placed_in}
 use Rattle.c_parse.proofs.Constants.{begins, next, ends, in_first, in_next, in_end}
 use Rattle.c_parse.proofs.initialisers.constants.Goals as goal

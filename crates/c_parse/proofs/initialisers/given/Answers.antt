@@ -1,6 +1,5 @@
 use Rattle.std.proofs.lemmas.Result.{err_from_is_err_and}
-use Rattle.c_parse.specs.Parts.{NoConstant, HasConstant, NoConstants, HasConstants, NoneGiven}
-use Rattle.c_parse.specs.Parts.{HasGiven}
+use Rattle.c_parse.specs.Words.{NoConstant, HasConstant, NoConstants, HasConstants, NoneGiven, HasGiven}
 use Rattle.c_parse.proofs.Refusing.{placed_in}
 use Rattle.c_parse.proofs.Constants.{in_list, in_single}
 use Rattle.c_parse.proofs.initialisers.given.Goals as goal

@@ -1,6 +1,5 @@
 use Rattle.std.proofs.lemmas.Result.{err_from_is_err_and}
-use Rattle.c_syntax.specs.Program.{initialiser}
-use Rattle.c_parse.specs.Parts.{NoneGiven, HasGiven, NoInitialiser, HasInitialiser}
+use Rattle.c_parse.specs.Words.{initialiser, NoneGiven, HasGiven, NoInitialiser, HasInitialiser}
 use Rattle.c_parse.proofs.Refusing.{placed_in}
 use Rattle.c_parse.proofs.Constants.{in_given, goes_further, not_assigned}
 use Rattle.c_parse.proofs.initialisers.initialiser.Goals as goal

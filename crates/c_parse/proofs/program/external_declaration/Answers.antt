@@ -1,6 +1,5 @@
 use Rattle.std.proofs.lemmas.Result.{err_from_is_err_and}
-use Rattle.c_parse.specs.Counts.{NoExternalDeclaration, HasExternalDeclaration}
-use Rattle.c_parse.specs.Parts.{NoGlobals, HasGlobals, NoHead, HasHead}
+use Rattle.c_parse.specs.Words.{NoExternalDeclaration, HasExternalDeclaration, NoGlobals, HasGlobals, NoHead, HasHead}
 use Rattle.c_parse.proofs.Refusing.{placed_in, placed_so}
 use Rattle.c_parse.proofs.HeadsOfDeclarations.{in_head}
 use Rattle.c_parse.proofs.ExternalDeclarations.{as_globals}

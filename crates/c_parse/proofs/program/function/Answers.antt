@@ -1,6 +1,5 @@
 use Rattle.std.proofs.lemmas.Result.{err_from_is_err_and}
-use Rattle.c_parse.specs.Counts.{NoExternalDeclaration, HasExternalDeclaration}
-use Rattle.c_parse.specs.Parts.{NoTail, HasTail}
+use Rattle.c_parse.specs.Words.{NoExternalDeclaration, HasExternalDeclaration, NoTail, HasTail}
 use Rattle.c_parse.proofs.Refusing.{placed_in}
 use Rattle.c_parse.proofs.ExternalDeclarations.{functions_full, in_tail}
 use Rattle.c_parse.proofs.program.function.Goals as goal

@@ -1,11 +1,10 @@
 use Rattle.std.proofs.lemmas.Result.{err_from_is_err_and}
-use Rattle.c_syntax.specs.Program.{external_declaration}
-use Rattle.c_syntax.proofs.Files.{program_once}
+use Rattle.c_parse.specs.Words.{external_declaration}
+use Rattle.c_parse.proofs.Lemmas.{program_once, few_tokens}
 use Rattle.std.proofs.Common.{length, map, refl, arith}
 use Rattle.c_syntax.proofs.Shorter as shorter
 use Rattle.c_syntax.proofs.NodesOfPrograms.{program}
 use Rattle.c_parse.specs.Bounds.{IsBounded}
-use Rattle.c_lex.proofs.Covering.{few_tokens}
 use Rattle.c_parse.proofs.Programs.{begins, continues, ends, within, refuses, memory, some_left}
 use Rattle.c_parse.proofs.Programs.{none_left}
 use Rattle.c_parse.proofs.program.parse.Goals as goal

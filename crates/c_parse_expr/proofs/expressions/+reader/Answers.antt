@@ -1,23 +1,11 @@
 use Rattle.std.proofs.Common.{◌≡◌, ℕ, map, List, sym, ap, ◌∙◌, subst, arith}
 use Rattle.std.proofs.lemmas.Result.{err_from_is_err_and, IfOk-weaker, IfErr-weaker}
-use Rattle.c_lex.specs.declared.punctuator.Punctuator.{Punctuator}
+use Rattle.c_parse_expr.specs.Words.{Punctuator, Token, Expression, Call, Parentheses, Cast, expression, arguments, height, heights, SpellsExpression, Derives, follows, Stops, Closes, IsPunctuator, Operation, with, NoExpression, HasExpression, NoOperand, NoArguments, HasArguments, NoneAfterPunctuator, HasAfterPunctuator, AreListed, IsAfterPunctuator, IsPlacedRefusal}
 use Rattle.c_lex.specs.declared.punctuator.Punctuator.TheVariants as punctuators
-use Rattle.c_lex.specs.declared.token.Token.{Token}
 use Rattle.c_syntax.specs.declared.expression.Expr.{Expr}
-use Rattle.c_syntax.specs.Expression.{Expression, Call, Parentheses, Cast, expression, arguments, height, heights}
-use Rattle.c_syntax.specs.Expressions.{SpellsExpression, Derives}
-use Rattle.c_syntax.specs.Follow.{follows, Stops}
 use Rattle.c_syntax.specs.Steps as steps
-use Rattle.c_syntax.specs.Steps.{Closes}
-use Rattle.c_syntax.specs.Tokens.{IsPunctuator}
-use Rattle.c_syntax.proofs.Failing.{wrapped}
+use Rattle.c_parse_expr.proofs.Lemmas.{wrapped, increment_only, unary_only, punctuator_shorter}
 use Rattle.c_syntax.proofs.Shorter as shorter
-use Rattle.c_parse_atom.proofs.Punctuators.{increment_only, unary_only}
-use Rattle.c_parse_type.proofs.TypesAreRead.{punctuator_shorter}
-use Rattle.c_parse_expr.specs.declared.step.Operation.{Operation}
-use Rattle.c_parse_expr.specs.Operations.{with}
-use Rattle.c_parse_expr.specs.Readings.{NoExpression, HasExpression, NoOperand, NoArguments, HasArguments, NoneAfterPunctuator, HasAfterPunctuator, AreListed, IsAfterPunctuator}
-use Rattle.c_parse_expr.specs.Refusals.{IsPlacedRefusal}
 use Rattle.c_parse_expr.specs.Steps as code_steps
 use Rattle.c_parse_expr.proofs.Arguing.{first_wraps, next_wraps, stuck_there}
 use Rattle.c_parse_expr.proofs.Beginning.{call_wraps, information_wraps, prefix_wraps, unary_wraps, group_wraps, cast_wraps, cast_unclosed, no_operand_there, no_room_there}

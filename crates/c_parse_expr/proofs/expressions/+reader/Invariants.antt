@@ -1,7 +1,5 @@
 use Rattle.std.proofs.Common.{◌≤◌, ◌+◌, ◌-◌, ◌*◌, length, map}
-use Rattle.c_syntax.specs.Expression.{expression}
-use Rattle.c_syntax.specs.Expressions.{Derives}
-use Rattle.c_syntax.specs.Steps.{Closes}
+use Rattle.c_parse_expr.specs.Words.{expression, Derives, Closes}
 use Rattle.c_parse_expr.proofs.Listing.{AreArgumentsRead}
 use Rattle.c_parse_expr.proofs.expressions.+reader.Given as goal
 

@@ -1,5 +1,5 @@
 use Rattle.std.proofs.Common.{sym, subst}
-use Rattle.c_parse_expr.specs.Readings.{NeverBegins}
+use Rattle.c_parse_expr.specs.Words.{NeverBegins}
 use Rattle.c_parse_expr.proofs.Beginning.{never_end, first_is, first_none}
 use Rattle.c_parse_expr.proofs.fault.begins.Goals as goal
 

@@ -1,10 +1,7 @@
 use Rattle.std.proofs.Common.{◌≡◌, ◌∷◌, sym, subst, arith, rules}
 use Rattle.c_lex.specs.declared.keyword.Keyword.TheVariants as keywords
-use Rattle.c_lex.specs.declared.keyword.Keyword.{Keyword}
-use Rattle.c_lex.specs.declared.token.Kind.{Kind}
+use Rattle.c_parse_expr.specs.Words.{Keyword, Kind, token, CanBeginExpression, NeverBegins}
 use Rattle.c_lex.specs.declared.token.Kind.TheVariants as kinds
-use Rattle.c_syntax.specs.Tokens.{token}
-use Rattle.c_parse_expr.specs.Readings.{CanBeginExpression, NeverBegins}
 use Rattle.c_parse_expr.proofs.Beginning.{plain_begins, keyword_begins, punctuator_begins, never_kind, other_keyword, other_punctuator}
 use Rattle.c_parse_expr.proofs.fault.begins_with.Goals as goal
 

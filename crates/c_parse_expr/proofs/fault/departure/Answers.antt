@@ -1,6 +1,6 @@
 use Rattle.std.proofs.Common.{[], ◌∷◌}
 use Rattle.c_lex.specs.declared.punctuator.Punctuator.TheVariants as punctuators
-use Rattle.c_syntax.proofs.Failing.{wrapped}
+use Rattle.c_parse_expr.proofs.Lemmas.{wrapped}
 use Rattle.c_parse_expr.proofs.Departing.{Mark, from_record, from_arrow, from_closing, keyword_gone, keyword_there, punctuator_gone, punctuator_there, record_gone, record_there, field_there}
 use Rattle.c_parse_expr.proofs.fault.departure.Goals as goal
 

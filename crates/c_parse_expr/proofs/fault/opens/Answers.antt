@@ -1,5 +1,5 @@
 use Rattle.std.proofs.Common.{is_some, ap, sym, ◌∙◌, rules}
-use Rattle.c_parse_expr.specs.Readings.{Parenthesis}
+use Rattle.c_parse_expr.specs.Words.{Parenthesis}
 use Rattle.c_parse_expr.proofs.Beginning.{steps_by, operates_by}
 use Rattle.c_parse_expr.proofs.fault.opens.Goals.{then-eq, else-eq}
 use Rattle.c_parse_expr.proofs.fault.opens.Goals as goal

@@ -1,12 +1,7 @@
 use Rattle.std.proofs.Common.{None, ap, ◌∙◌}
-use Rattle.c_syntax.specs.declared.statement.Stmt.{Stmt}
-use Rattle.c_syntax.specs.declared.statement.Stmt.TheViews.{roll-Stmt}
-use Rattle.c_syntax.specs.declared.statement.Stmt.TheVariants.{rolls-If}
+use Rattle.c_parse_stmt.specs.Words.{Stmt, roll-Stmt, rolls-If, fold-roll-Stmt, expression, Statement, If, node, statement}
 use Rattle.c_syntax.specs.declared.statement.Stmt.TheOpen.{If as If_F}
-use Rattle.c_syntax.specs.declared.statement.Stmt.TheFolds.{fold-roll-Stmt}
 use denote.Hole.Carrier as Carrier
-use Rattle.c_syntax.specs.Expression.{expression}
-use Rattle.c_syntax.specs.Statement.{Statement, If, node, statement}
 use Rattle.c_parse_stmt.proofs.build.if_of.Goals as goal
 
 pub returns-in-Ok-clause-made : goal.returns-in-Ok-clause-made

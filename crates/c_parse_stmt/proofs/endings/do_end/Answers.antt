@@ -1,5 +1,4 @@
-use Rattle.c_syntax.specs.Expression.{expression}
-use Rattle.c_syntax.specs.Statement.{statement}
+use Rattle.c_parse_stmt.specs.Words.{expression, statement}
 use Rattle.c_parse_stmt.proofs.InsideDo.{do_ends, do_unended, do_condition, do_semicolon}
 use Rattle.c_parse_stmt.proofs.Sequences.{placed}
 use Rattle.c_parse_stmt.proofs.endings.do_end.Goals as goal

@@ -1,6 +1,6 @@
 use Rattle.std.proofs.Common.{arith, refl}
 use Rattle.std.proofs.lemmas.Result.{err_from_is_err_and}
-use Rattle.c_syntax.specs.Expression.{expression}
+use Rattle.c_parse_stmt.specs.Words.{expression}
 use Rattle.c_parse_stmt.proofs.Guarding.{except_too_deep, filter_fails, except_open}
 use Rattle.c_parse_stmt.proofs.Sequences.{placed}
 use Rattle.c_parse_stmt.proofs.Wholes.{left_of}

@@ -1,4 +1,4 @@
-use Rattle.c_syntax.specs.Statement.{statement}
+use Rattle.c_parse_stmt.specs.Words.{statement}
 use Rattle.c_parse_stmt.proofs.Inside.{if_ends, while_ends, for_ends, holds_as}
 use Rattle.c_parse_stmt.proofs.Sequences.{refused_so}
 use Rattle.c_parse_stmt.proofs.endings.read_ending.Goals as goal

@@ -1,6 +1,6 @@
 use Rattle.std.proofs.Common.{◌≤◌, ◌<◌, ◌+◌, refl, arith}
 use Rattle.std.proofs.lemmas.Bool.Decides.{nat_tests}
-use Rattle.c_syntax.proofs.Fronts.{base_front}
+use Rattle.c_parse_stmt.proofs.Lemmas.{base_front}
 use Rattle.c_parse_stmt.proofs.Peeling.{no_type, too_deep, goes, goes_type, over_low}
 use Rattle.c_parse_stmt.proofs.filters.continues_inside.Goals as goal
 

@@ -1,5 +1,5 @@
 use Rattle.std.proofs.Common.{subst, arith}
-use Rattle.c_parse_stmt.specs.Filters.{AreClosing}
+use Rattle.c_parse_stmt.specs.Words.{AreClosing}
 use Rattle.c_parse_stmt.proofs.Departing.{unopened, continues_inside, departs_inside, failed_after, departs_after, whole}
 use Rattle.c_parse_stmt.proofs.filters.departure.Goals as goal
 

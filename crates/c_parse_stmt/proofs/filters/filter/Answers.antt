@@ -1,5 +1,5 @@
 use Rattle.std.proofs.Common.{sym, ◌∙◌, arith}
-use Rattle.c_syntax.specs.Expression.{expression}
+use Rattle.c_parse_stmt.specs.Words.{expression}
 use Rattle.c_parse_stmt.proofs.Placing.{placed_so}
 use Rattle.c_parse_stmt.proofs.Filtering.{in_filter, no_other, departs_not, decided}
 use Rattle.c_parse_stmt.proofs.filters.filter.Goals as goal

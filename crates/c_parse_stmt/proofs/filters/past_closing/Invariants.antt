@@ -1,5 +1,5 @@
 use Rattle.std.proofs.Common.{◌-◌, ◌≤◌}
-use Rattle.c_parse_stmt.specs.Filters.{AreClosing}
+use Rattle.c_parse_stmt.specs.Words.{AreClosing}
 use Rattle.c_parse_stmt.proofs.filters.past_closing.Given as goal
 
 abbrev pub invariant-loop-count : goal.invariant-loop-count

@@ -1,7 +1,6 @@
 use Rattle.std.proofs.Common.{arith, refl, option_map}
 use Rattle.std.proofs.lemmas.Result.{err_from_is_err_and}
-use Rattle.c_syntax.specs.Expression.{expression}
-use Rattle.c_syntax.specs.Statement.{first}
+use Rattle.c_parse_stmt.specs.Words.{expression, first}
 use Rattle.c_parse_stmt.proofs.ForHeads.{for_open, for_initialiser, for_condition, for_next}
 use Rattle.c_parse_stmt.proofs.Heading.{for_too_deep}
 use Rattle.c_parse_stmt.proofs.Sequences.{placed}

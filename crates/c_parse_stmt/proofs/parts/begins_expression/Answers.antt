@@ -1,6 +1,6 @@
 use Rattle.std.proofs.Common.{ap, inl, inr, arith}
 use Rattle.c_lex.specs.declared.token.Kind.TheVariants as kinds
-use Rattle.c_syntax.proofs.Fronts.{front, keyword_class}
+use Rattle.c_parse_stmt.proofs.Lemmas.{front, keyword_class}
 use Rattle.c_parse_stmt.proofs.Begins.{begins_expression, begins_none, opening_class, shut_punctuator, shut_keyword, front_none, class_is}
 use Rattle.c_parse_stmt.proofs.parts.begins_expression.Goals as goal
 

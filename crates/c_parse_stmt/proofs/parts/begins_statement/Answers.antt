@@ -1,7 +1,7 @@
 use Rattle.std.proofs.Common.{◌≡◌, true, false, ◌∙◌, refl, sym, ap, inl, inr, arith}
 use Rattle.c_lex.specs.declared.punctuator.Punctuator.TheVariants as punctuators
 use Rattle.c_lex.specs.declared.token.Kind.TheVariants as kinds
-use Rattle.c_syntax.proofs.Blocks.{punctuator_begins}
+use Rattle.c_parse_stmt.proofs.Lemmas.{punctuator_begins}
 use Rattle.c_parse_stmt.proofs.Stating.{begins_statement, begins_empty, begins_evaluation, begins_is, stating_class, not_stating}
 use Rattle.c_parse_stmt.proofs.Begins.{front_is}
 use Rattle.c_parse_stmt.proofs.NoStatements.{no_statement, keyword_states, punctuator_states, kind_states, no_semicolon, nothing_begins}

@@ -1,6 +1,6 @@
 use Rattle.std.proofs.Common.{arith}
 use Rattle.std.proofs.lemmas.Result.{err_from_is_err_and}
-use Rattle.c_syntax.specs.Expression.{expression}
+use Rattle.c_parse_stmt.specs.Words.{expression}
 use Rattle.c_parse_stmt.proofs.Placing.{placed_so}
 use Rattle.c_parse_stmt.proofs.Ends.{no_expression, unended}
 use Rattle.c_parse_stmt.proofs.parts.optional.Goals as goal

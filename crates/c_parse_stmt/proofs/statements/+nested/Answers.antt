@@ -1,8 +1,7 @@
 use Rattle.std.proofs.Common.{◌≤◌, ◌-◌, map, arith}
 use Rattle.std.proofs.lemmas.Result.{err_from_is_err_and}
-use Rattle.c_syntax.specs.Statement.{statement, statements}
+use Rattle.c_parse_stmt.specs.Words.{statement, statements, NoBase}
 use Rattle.c_syntax.proofs.Shorter.{item}
-use Rattle.c_parse_type.specs.Bases.{NoBase}
 use Rattle.c_parse_stmt.proofs.SecondBlocks.{guards, last_block, guarded_found}
 use Rattle.c_parse_stmt.proofs.Guarding.{still, try_body}
 use Rattle.c_parse_stmt.proofs.Held.{none_of, statement_item, block_fails, block_found, start, continues, ends, item_fails}

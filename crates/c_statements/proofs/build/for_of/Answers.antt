@@ -1,8 +1,7 @@
 use Rattle.std.proofs.Common.{sym, ap, ◌∙◌}
-use Rattle.c_checked.specs.declared.statement.Stmt.TheVariants.{rolls-For}
+use Rattle.c_statements.specs.Words.{rolls-For, fold-roll-Stmt, layer}
 use Rattle.c_checked.specs.declared.statement.Stmt.TheOpen.{For as For_F}
-use Rattle.c_checked.specs.declared.statement.Stmt.TheFolds.{fold-roll-Stmt}
-use Rattle.c_checked.specs.Statement.{Statement, layer, statement}
+use Rattle.c_checked.specs.Statement.{Statement, statement}
 use Rattle.c_statements.proofs.build.for_of.Goals as goal
 
 pub returns : goal.returns

@@ -1,10 +1,8 @@
 use Rattle.std.proofs.Common.{None, ap, ◌∙◌}
-use Rattle.c_checked.specs.declared.statement.Stmt.TheViews.{roll-Stmt}
-use Rattle.c_checked.specs.declared.statement.Stmt.TheVariants.{rolls-If}
+use Rattle.c_statements.specs.Words.{roll-Stmt, rolls-If, fold-roll-Stmt, layer}
 use Rattle.c_checked.specs.declared.statement.Stmt.TheOpen.{If as If_F}
-use Rattle.c_checked.specs.declared.statement.Stmt.TheFolds.{fold-roll-Stmt}
 use denote.Hole.Carrier as Carrier
-use Rattle.c_checked.specs.Statement.{Statement, layer, statement}
+use Rattle.c_checked.specs.Statement.{Statement, statement}
 use Rattle.c_statements.proofs.build.if_of.Goals as goal
 
 pub returns : goal.returns

@@ -1,10 +1,9 @@
 use Rattle.std.proofs.Common.{List, map, Some, None, sym, ap, ◌∙◌}
 use Rattle.c_checked.specs.declared.statement.Declared.{Declared}
-use Rattle.c_checked.specs.declared.statement.Stmt.TheVariants.{rolls-For}
+use Rattle.c_statements.specs.Words.{rolls-For, fold-roll-Stmt, For, declared, layer}
 use Rattle.c_checked.specs.declared.statement.Stmt.TheOpen.{For as For_F}
-use Rattle.c_checked.specs.declared.statement.Stmt.TheFolds.{fold-roll-Stmt}
 use Rattle.c_checked.specs.Expression.{expression}
-use Rattle.c_checked.specs.Statement.{Statement, For, declared, layer, statement}
+use Rattle.c_checked.specs.Statement.{Statement, statement}
 use Rattle.c_statements.proofs.build.while_of.Goals as goal
 
 pub returns : goal.returns

@@ -1,14 +1,10 @@
 use Rattle.std.proofs.Common.{[], ◌∷◌, refl, ap, ◌∙◌}
 use Rattle.std.specs.Prelude.{option_map}
 use Rattle.c_checked.specs.Statement as checked
-use Rattle.c_expressions.proofs.Kept.{kept_more}
-use Rattle.c_expressions.specs.Kept.{least_of}
-use Rattle.c_expressions.specs.Views.{block_of}
-use Rattle.c_locals.specs.Views.{environment, reach}
+use Rattle.c_statements.proofs.Lemmas.{kept_more}
+use Rattle.c_statements.specs.Words.{least_of, block_of, environment, reach, jump, returned, expression}
 use Rattle.c_resolved.specs.declared.fault.Fault.TheVariants.{JumpOutOfFinally}
-use Rattle.c_resolved.specs.Statements.{jump, returned}
 use Rattle.c_statements.proofs.simple.return_from.Goals as goal
-use Rattle.c_syntax.specs.Expression.{expression}
 
 pub returns : goal.returns
 returns c =

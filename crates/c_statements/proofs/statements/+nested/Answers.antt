@@ -2,19 +2,14 @@ use Rattle.std.proofs.Common.{[], map, refl, ap, ◌∙◌}
 use Rattle.std.proofs.lemmas.Result.{IfOk-weaker}
 use Rattle.std.specs.Prelude.{option_map}
 use Rattle.c_checked.specs.Statement as checked
-use Rattle.c_expressions.specs.Views.{block_of}
-use Rattle.c_locals.specs.declared.environment.Walk.{Walk}
-use Rattle.c_locals.specs.Views.{environment, numbering, resolved_at, in_loop, in_body, in_handler, in_last}
+use Rattle.c_statements.specs.Words.{block_of, Walk, environment, numbering, resolved_at, in_loop, in_body, in_handler, in_last, Numbering, ResolvedStatements, inside, resolve_statement, expression, statement, statements}
 use Rattle.c_resolved.specs.Statements as definitions
-use Rattle.c_resolved.specs.Statements.{Numbering, ResolvedStatements, inside, resolve_statement}
 use Rattle.c_statements.proofs.Going.{resolved_from, goes}
 use Rattle.c_statements.proofs.Guarded.{for_over, except_is, finally_is}
 use Rattle.c_statements.proofs.Parts.{one_is, part_in, block_in, governed_in, governed_is, if_else_is}
 use Rattle.c_statements.proofs.Trees as read
 use Rattle.c_statements.proofs.statements.+nested.Goals as goal
-use Rattle.c_syntax.specs.Expression.{expression}
 use Rattle.c_syntax.specs.Statement as trees
-use Rattle.c_syntax.specs.Statement.{statement, statements}
 
 pub governed-returns-in-Ok : goal.governed-returns-in-Ok
 governed-returns-in-Ok t c =

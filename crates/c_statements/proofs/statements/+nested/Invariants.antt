@@ -1,6 +1,5 @@
 use Rattle.std.proofs.Common.{drop}
-use Rattle.c_expressions.specs.Views.{block_of}
-use Rattle.c_locals.specs.Views.{environment, numbering}
+use Rattle.c_statements.specs.Words.{block_of, environment, numbering}
 use Rattle.c_statements.proofs.Going.{Going, resolved_from}
 use Rattle.c_statements.proofs.statements.+nested.Given as goal
 

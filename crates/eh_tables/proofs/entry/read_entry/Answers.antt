@@ -1,5 +1,5 @@
 use Rattle.std.proofs.Common.{sym, ap, ◌∙◌, arith}
-use Rattle.eh_tables.specs.Tables.{parents}
+use Rattle.eh_tables.specs.Words.{parents}
 use Rattle.eh_tables.proofs.Chains.{entry_is}
 use Rattle.eh_tables.proofs.entry.read_entry.Goals as goal
 

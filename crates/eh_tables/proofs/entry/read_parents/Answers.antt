@@ -2,10 +2,7 @@ use Rattle.std.proofs.Common.{◌≡◌, ◌≢◌, ◌-◌, Some, None, List, l
 use Rattle.std.proofs.lemmas.Bool.{eqb-false}
 use Rattle.std.proofs.lemmas.Grind.{common_steps}
 use Rattle.std.specs.Prelude.{Option}
-use Rattle.seh_num.specs.Answers.{onto}
-use Rattle.eh_tables.specs.declared.range.RuntimeFunction.{RuntimeFunction}
-use Rattle.eh_tables.specs.Infos.{Info}
-use Rattle.eh_tables.specs.Tables.{parents}
+use Rattle.eh_tables.specs.Words.{onto, RuntimeFunction, Info, parents}
 use Rattle.eh_tables.proofs.Chains.{chain_ends, chain_stops, chain_continues}
 use Rattle.eh_tables.proofs.entry.read_parents.Goals as goal
 

@@ -1,6 +1,5 @@
 use Rattle.std.proofs.Common.{◌≡◌, ◌≤◌, ◌-◌, length}
-use Rattle.seh_num.specs.Answers.{onto}
-use Rattle.eh_tables.specs.Tables.{parents}
+use Rattle.eh_tables.specs.Words.{onto, parents}
 use Rattle.eh_tables.proofs.entry.read_parents.Given as goal
 
 abbrev pub invariant-loop-parent : goal.invariant-loop-parent

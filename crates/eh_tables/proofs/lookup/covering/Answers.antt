@@ -1,7 +1,6 @@
 use Rattle.std.proofs.Common.{◌≡◌, ℕ, ◌<◌, ◌≤◌, ◌+◌, ◌-◌, ◌*◌, ◌/◌, ◌^◌, length, get_or, inl, inr, sym, ap, ◌∙◌, arith}
 use Rattle.std.proofs.lemmas.Bool.{cases_lt}
-use Rattle.eh_tables.specs.declared.range.RuntimeFunction.{RuntimeFunction}
-use Rattle.eh_tables.specs.Tables.{no_range}
+use Rattle.eh_tables.specs.Words.{RuntimeFunction, no_range}
 use Rattle.eh_tables.proofs.Lookups.{ends_rise, ends_below, one_step, still_left, still_cheap, finds_none_past, finds_none_between, finds}
 use Rattle.eh_tables.proofs.lookup.covering.Goals as goal
 

@@ -1,5 +1,5 @@
 use Rattle.std.proofs.Common.{ℕ, ◌≤◌, ◌<◌, ◌+◌, ◌-◌, ◌*◌, ◌^◌, length, get_or}
-use Rattle.eh_tables.specs.Tables.{no_range}
+use Rattle.eh_tables.specs.Words.{no_range}
 use Rattle.eh_tables.proofs.lookup.covering.Given as goal
 
 abbrev pub invariant-loop-low : goal.invariant-loop-low

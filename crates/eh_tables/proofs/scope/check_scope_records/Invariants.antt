@@ -1,5 +1,6 @@
 use Rattle.std.proofs.Common.{◌≡◌, ◌+◌, ◌/◌, length}
-use Rattle.eh_tables.specs.Scopes.{checked, scope_records_in}
+use Rattle.eh_tables.specs.Words.{scope_records_in}
+use Rattle.eh_tables.specs.Scopes.{checked}
 use Rattle.eh_tables.proofs.scope.check_scope_records.Given as goal
 
 abbrev pub invariant-loop-scope : goal.invariant-loop-scope

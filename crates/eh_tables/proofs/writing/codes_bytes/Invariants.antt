@@ -1,5 +1,5 @@
 use Rattle.std.proofs.Common.{◌≡◌, ◌++◌, drop}
-use Rattle.eh_tables.specs.Written.{codes_bytes}
+use Rattle.eh_tables.specs.Words.{codes_bytes}
 use Rattle.eh_tables.proofs.writing.codes_bytes.Given as goal
 
 abbrev pub invariant-loop-code : goal.invariant-loop-code

@@ -1,4 +1,4 @@
-use Rattle.match_bodies.specs.Setting.{setting_of}
+use Rattle.match_turns.specs.Words.{setting_of}
 use Rattle.match_turns.proofs.DispatchStart as asked
 use Rattle.match_turns.proofs.DispatchReturnSteps as funclets
 use Rattle.match_turns.proofs.turn_laws.laws.Goals as goal

@@ -1,9 +1,7 @@
 use Rattle.std.proofs.Common.{arith}
-use Rattle.seh_num.specs.declared.width.Width.TheVariants.{W64}
-use Rattle.flat_memory.specs.Memory.{may_read}
+use Rattle.seh_records.specs.Vocabulary.{W64, may_read, RECORD_SIZE}
 use Rattle.seh_records.proofs.Runs.{granted, none_within}
 use Rattle.seh_records.proofs.fetching.word.Goals as goal
-use Rattle.seh_records.specs.declared.layout.TheConstants.{RECORD_SIZE}
 
 pub returns-in-Err : goal.returns-in-Err
 returns-in-Err g c =

@@ -1,6 +1,6 @@
 use Rattle.std.proofs.Common.{◌≡◌, ℕ, ◌+◌, ◌-◌, ◌%◌, ◌^◌, List, ◌∷◌, ◌++◌, length, take, sym, ap, ◌∙◌, arith, length-set}
 use Rattle.std.proofs.lemmas.List.{append-nil, take_all}
-use Rattle.seh_records.specs.Words.{words_at}
+use Rattle.seh_records.specs.Vocabulary.{words_at}
 use Rattle.seh_records.proofs.Runs.{words_at-more, words_at-zero, one_more}
 use Rattle.seh_records.proofs.fetching.words.Goals as goal
 

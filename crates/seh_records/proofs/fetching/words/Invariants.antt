@@ -1,5 +1,5 @@
 use Rattle.std.proofs.Common.{◌≡◌, ◌-◌, ◌+◌, ◌*◌, ◌%◌, ◌^◌, ◌++◌, take, length}
-use Rattle.seh_records.specs.Words.{words_at}
+use Rattle.seh_records.specs.Vocabulary.{words_at}
 use Rattle.seh_records.proofs.fetching.words.Given as goal
 
 abbrev pub invariant-loop-i : goal.invariant-loop-i

@@ -1,8 +1,6 @@
 use Rattle.std.proofs.Common.{◌≡◌, ℕ, ◌+◌, ◌*◌, ◌%◌, ◌^◌, List, length, ap, ◌∙◌, arith}
-use Rattle.flat_memory.specs.Memory.{first_refused, may_write, with_bytes}
-use Rattle.seh_records.specs.Words.{with_words}
+use Rattle.seh_records.specs.Vocabulary.{first_refused, may_write, with_bytes, with_words, placed}
 use Rattle.seh_records.specs.Record as spec
-use Rattle.seh_records.specs.Record.{placed}
 use Rattle.seh_records.proofs.Places.{writable_words, no_wrap}
 use Rattle.seh_records.proofs.Block.{one_block}
 use Rattle.seh_records.proofs.placing.put_record.Goals as goal

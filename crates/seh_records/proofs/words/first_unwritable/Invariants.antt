@@ -1,5 +1,5 @@
 use Rattle.std.proofs.Common.{◌≡◌, ◌-◌, ◌*◌}
-use Rattle.flat_memory.specs.Memory.{may_write, first_refused}
+use Rattle.seh_records.specs.Vocabulary.{may_write, first_refused}
 use Rattle.seh_records.proofs.words.first_unwritable.Given as goal
 
 abbrev pub invariant-loop-i : goal.invariant-loop-i

@@ -1,8 +1,5 @@
 use Rattle.std.proofs.Common.{◌≡◌, ℕ, ◌+◌, ◌-◌, ◌*◌, ◌%◌, ◌^◌, length, drop, get_or, sym, ap, ◌∙◌, arith}
-use Rattle.flat_memory.specs.declared.protection.Protection.{Protection}
-use Rattle.flat_memory.specs.Protections.{is_writable}
-use Rattle.flat_memory.specs.Memory.{Memory, may_write, first_refused, with_number}
-use Rattle.seh_records.specs.Words.{with_words}
+use Rattle.seh_records.specs.Vocabulary.{Protection, is_writable, Memory, may_write, first_refused, with_number, with_words}
 use Rattle.seh_records.proofs.Runs.{none_front, none_rest, with_words-more, with_words-none, word_stored}
 use Rattle.seh_records.proofs.words.put_words.Goals as goal
 

@@ -1,6 +1,5 @@
 use Rattle.std.proofs.Common.{◌≡◌, ◌-◌, ◌*◌, None, length, drop}
-use Rattle.flat_memory.specs.Memory.{may_write, first_refused}
-use Rattle.seh_records.specs.Words.{with_words}
+use Rattle.seh_records.specs.Vocabulary.{may_write, first_refused, with_words}
 use Rattle.seh_records.proofs.words.put_words.Given as goal
 
 abbrev pub invariant-loop-word : goal.invariant-loop-word

@@ -1,8 +1,5 @@
 use Rattle.std.proofs.Common.{◌≡◌, ℕ, ◌+◌, ◌∷◌, [], ◌++◌, length, get_or, drop, ap, ◌∙◌, arith}
-use Rattle.template_code.specs.Template.{template_size}
-use Rattle.x64_emit.specs.Bodies.{label_list}
-use Rattle.x64_emit.specs.Linking.{links_of}
-use Rattle.x64_emit.specs.Near.{IsInstructionNear}
+use Rattle.x64_emit.specs.Words.{template_size, label_list, links_of, IsInstructionNear}
 use Rattle.x64_emit.proofs.Nearby.{some_instruction, all_at, instruction_in_room, code_room_next, grown_to, labels_next, size_next, label_added}
 use Rattle.x64_emit.proofs.body.labels_of.Goals as goal
 

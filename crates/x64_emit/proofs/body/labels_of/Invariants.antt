@@ -1,9 +1,6 @@
 use Rattle.std.proofs.Common.{◌≡◌, ◌++◌, ◌+◌, length, drop}
-use Rattle.template_code.specs.Template.{body_size}
-use Rattle.x64_emit.specs.Rooms.{code_room}
-use Rattle.x64_emit.specs.Bodies.{label_list}
+use Rattle.x64_emit.specs.Words.{body_size, code_room, label_list, IsNear}
 use Rattle.x64_emit.proofs.body.labels_of.Given as goal
-use Rattle.x64_emit.specs.Near.{IsNear}
 
 abbrev pub invariant-loop-instruction : goal.invariant-loop-instruction
 invariant-loop-instruction l = record {

@@ -1,7 +1,5 @@
 use Rattle.std.proofs.Common.{◌≡◌, ℕ, ◌+◌, ◌-◌, ◌++◌, get_or, drop, ap, ◌∙◌, arith}
-use Rattle.template_code.specs.Template.{template, template_size, code_from}
-use Rattle.x64_emit.specs.Linking.{links_of}
-use Rattle.x64_emit.specs.Near.{IsInstructionNear}
+use Rattle.x64_emit.specs.Words.{template, template_size, code_from, links_of, IsInstructionNear}
 use Rattle.x64_emit.proofs.Nearby.{stepped, some_instruction, all_at, instruction_in_room, code_room_next, grown_template, body_next}
 use Rattle.x64_emit.proofs.body.put_body.Goals as goal
 

@@ -1,8 +1,5 @@
 use Rattle.std.proofs.Common.{◌≡◌, ℕ, ◌+◌, ◌-◌, sym, ap, subst, ◌∙◌, arith}
-use Rattle.x64_encode.specs.Chosen.{IsEncodable}
-use Rattle.template_code.specs.Bytes.{sizes}
-use Rattle.template_code.specs.Jumps.{call}
-use Rattle.template_code.specs.Calls.{arguments_code}
+use Rattle.x64_emit.specs.Words.{IsEncodable, sizes, call, arguments_code}
 use Rattle.x64_emit.proofs.Nearby.{ended_by, grown, near_signed, arguments_small}
 use Rattle.x64_emit.proofs.calls.put_begin_call.Goals as goal
 

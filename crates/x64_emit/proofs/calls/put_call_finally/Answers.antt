@@ -1,9 +1,6 @@
 use Rattle.std.proofs.Common.{◌≡◌, ℕ, ◌+◌, ◌-◌, ◌≤◌, sym, ap, subst, ◌∙◌, arith}
-use Rattle.x64_encode.specs.Chosen.{IsEncodable}
-use Rattle.template_code.specs.Bytes.{sizes}
-use Rattle.template_code.specs.Jumps.{call}
-use Rattle.template_code.specs.Calls.{finally_arguments}
-use Rattle.template_code.proofs.Lengths.{sizes_small}
+use Rattle.x64_emit.specs.Words.{IsEncodable, sizes, call, finally_arguments}
+use Rattle.x64_emit.proofs.Lemmas.{sizes_small}
 use Rattle.x64_emit.proofs.Nearby.{ended_by, grown, near_signed}
 use Rattle.x64_emit.proofs.calls.put_call_finally.Goals as goal
 

@@ -1,10 +1,5 @@
 use Rattle.std.proofs.Common.{◌≡◌, ℕ, ◌+◌, ◌-◌, List, [], ◌∷◌, ◌++◌, sym, ap, subst, ◌∙◌, arith, append_assoc}
-use Rattle.x64_instr.specs.declared.instruction.Instr.{Instr}
-use Rattle.x64_instr.specs.declared.register.Reg.TheVariants.{Rax}
-use Rattle.x64_encode.specs.Chosen.{IsEncodable}
-use Rattle.template_code.specs.Bytes.{spelled, sizes}
-use Rattle.template_code.specs.Slots.{fetch}
-use Rattle.template_code.specs.Jumps.{jump_equal, compare_zero, test_code}
+use Rattle.x64_emit.specs.Words.{Instr, Rax, IsEncodable, spelled, sizes, fetch, jump_equal, compare_zero, test_code}
 use Rattle.x64_emit.proofs.Nearby.{on_ok, ended_by, grown, near_signed, test_small}
 use Rattle.x64_emit.proofs.calls.put_jump_if_zero.Goals as goal
 

@@ -1,9 +1,5 @@
 use Rattle.std.proofs.Common.{◌+◌, ◌-◌, ◌*◌, [], ◌∷◌, ◌++◌, ap, ◌∙◌}
-use Rattle.x64_instr.specs.declared.instruction.Instr.{Instr}
-use Rattle.template_code.specs.Bytes.{spelled}
-use Rattle.template_code.specs.Slots.{fetched, temporary_at}
-use Rattle.template_code.specs.Calls.{keep_register, passing_code}
-use Rattle.x64_instr.specs.declared.register.Reg.TheVariants.{Rax, Rsp}
+use Rattle.x64_emit.specs.Words.{Instr, spelled, fetched, temporary_at, keep_register, passing_code, Rax, Rsp}
 use Rattle.x64_emit.proofs.Nearby.{spelled_both, stepped, passing_next}
 use Rattle.x64_emit.proofs.calls.put_passing.Goals as goal
 

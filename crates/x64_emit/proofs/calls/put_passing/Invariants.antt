@@ -1,6 +1,5 @@
 use Rattle.std.proofs.Common.{◌≡◌, ◌++◌, ◌-◌}
-use Rattle.template_code.specs.Bytes.{spelled}
-use Rattle.template_code.specs.Calls.{passing_code}
+use Rattle.x64_emit.specs.Words.{spelled, passing_code}
 use Rattle.x64_emit.proofs.calls.put_passing.Given as goal
 
 abbrev pub invariant-loop-i : goal.invariant-loop-i

@@ -1,7 +1,5 @@
 use Rattle.std.proofs.Common.{◌≡◌, ℕ, ◌+◌, ◌-◌, ◌++◌, ap, ◌∙◌, arith}
-use Rattle.linear_code.specs.declared.slot.Slot.TheVariants.{Temporary}
-use Rattle.template_code.specs.Bytes.{spelled, sizes}
-use Rattle.template_code.specs.Calls.{passing_code, call_code}
+use Rattle.x64_emit.specs.Words.{Temporary, spelled, sizes, passing_code, call_code}
 use Rattle.x64_emit.proofs.Nearby.{on_ok, spelled_both, grown, passing_small}
 use Rattle.x64_emit.proofs.calls.put_passing_call.Goals as goal
 

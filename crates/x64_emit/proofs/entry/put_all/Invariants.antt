@@ -1,5 +1,5 @@
 use Rattle.std.proofs.Common.{◌≡◌, ◌++◌, take}
-use Rattle.template_code.specs.Bytes.{spelled}
+use Rattle.x64_emit.specs.Words.{spelled}
 use Rattle.x64_emit.proofs.entry.put_all.Given as goal
 
 abbrev pub invariant-loop-instr : goal.invariant-loop-instr

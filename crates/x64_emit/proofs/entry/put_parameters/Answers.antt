@@ -1,5 +1,5 @@
 use Rattle.std.proofs.Common.{◌+◌, ◌-◌}
-use Rattle.template_code.specs.Calls.{parameter_code, parameters_code}
+use Rattle.x64_emit.specs.Words.{parameter_code, parameters_code}
 use Rattle.x64_emit.proofs.Nearby.{stepped, parameters_next}
 use Rattle.x64_emit.proofs.entry.put_parameters.Goals as goal
 

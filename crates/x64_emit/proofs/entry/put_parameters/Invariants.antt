@@ -1,6 +1,5 @@
 use Rattle.std.proofs.Common.{◌≡◌, ◌++◌, ◌-◌}
-use Rattle.template_code.specs.Bytes.{spelled}
-use Rattle.template_code.specs.Calls.{parameters_code}
+use Rattle.x64_emit.specs.Words.{spelled, parameters_code}
 use Rattle.x64_emit.proofs.entry.put_parameters.Given as goal
 
 abbrev pub invariant-loop-index : goal.invariant-loop-index

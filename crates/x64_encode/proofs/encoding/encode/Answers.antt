@@ -1,5 +1,5 @@
 use Rattle.std.proofs.Common.{sym, subst}
-use Rattle.x64_instr.specs.Spelling.{IsEncoding}
+use Rattle.x64_encode.specs.Words.{IsEncoding}
 use Rattle.x64_encode.proofs.Written.{spells}
 use Rattle.x64_encode.proofs.encoding.encode.Goals as goal
 

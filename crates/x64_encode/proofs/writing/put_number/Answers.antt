@@ -1,5 +1,5 @@
 use Rattle.std.proofs.Common.{◌≡◌, ℕ, zero, suc, ◌+◌, ◌-◌, ◌%◌, ◌/◌, ◌++◌, List, [], ◌∷◌, arith, ap, sym, ◌∙◌, append_assoc}
-use Rattle.x64_encode.specs.Chosen.{little}
+use Rattle.x64_encode.specs.Words.{little}
 use Rattle.x64_encode.proofs.writing.put_number.Goals as goal
 
 -- the low byte, then those of the rest

@@ -1,5 +1,5 @@
 use Rattle.std.proofs.Common.{◌≡◌, ◌+◌, ◌-◌, ◌≤◌, ◌++◌, length}
-use Rattle.x64_encode.specs.Chosen.{little}
+use Rattle.x64_encode.specs.Words.{little}
 use Rattle.x64_encode.proofs.writing.put_number.Given as goal
 
 abbrev pub invariant-loop-i : goal.invariant-loop-i

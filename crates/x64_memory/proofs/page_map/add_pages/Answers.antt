@@ -1,7 +1,6 @@
 use Rattle.std.proofs.Common.{List, ◌++◌, ◌∷◌, [], replicate, append_assoc, ap, ◌∙◌}
 use Rattle.std.proofs.lemmas.List.{replicate_more}
-use Rattle.x64_memory.specs.declared.page.Page.{Page}
-use Rattle.x64_memory.specs.Pages.{zero_page}
+use Rattle.x64_memory.specs.Words.{Page, zero_page}
 use Rattle.x64_memory.proofs.page_map.add_pages.Goals as goal
 
 pub loop-i-preserved : goal.loop-i-preserved

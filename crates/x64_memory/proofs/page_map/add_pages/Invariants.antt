@@ -1,5 +1,5 @@
 use Rattle.std.proofs.Common.{◌≡◌, ◌++◌, replicate}
-use Rattle.x64_memory.specs.Pages.{zero_page}
+use Rattle.x64_memory.specs.Words.{zero_page}
 use Rattle.x64_memory.proofs.page_map.add_pages.Given as goal
 
 abbrev pub invariant-loop-i : goal.invariant-loop-i

@@ -1,5 +1,5 @@
 use Rattle.std.proofs.Common.{◌≡◌, ◌/◌, length, refl, rules}
-use Rattle.x64_memory.specs.declared.stretch.Stretch.{Stretch}
+use Rattle.x64_memory.specs.Words.{Stretch}
 use Rattle.x64_memory.proofs.Mapping.{is_mapped}
 use Rattle.x64_memory.proofs.page_map.map_region.Goals as goal
 

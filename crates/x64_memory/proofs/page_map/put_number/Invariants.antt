@@ -1,5 +1,5 @@
 use Rattle.std.proofs.Common.{◌≡◌, ◌/◌, ◌^◌, ℕ, get_or}
-use Rattle.x64_memory.specs.Pages.{page_with_number}
+use Rattle.x64_memory.specs.Words.{page_with_number}
 use Rattle.x64_memory.proofs.page_map.put_number.Given as goal
 
 abbrev pub invariant-loop-i : goal.invariant-loop-i

@@ -2,8 +2,7 @@ use Rattle.std.proofs.Common.{◌≡◌, ◌-◌, ◌+◌, ◌%◌, ◌^◌, ◌
 use Rattle.std.proofs.lemmas.Grind.{common_steps}
 use Rattle.std.proofs.lemmas.List.{append-nil, length-take-le}
 use Rattle.std.proofs.lemmas.Slice.{take-put_mid}
-use Rattle.flat_memory.specs.declared.protection.Protection.{Protection}
-use Rattle.flat_memory.specs.Memory.{executable}
+use Rattle.x64_memory.specs.Words.{Protection, executable}
 use Rattle.x64_memory.proofs.Steps.{executable-none, executable-zero, not_false, not_true}
 use Rattle.x64_memory.proofs.RestsOfPages.{executable_stretch}
 use Rattle.x64_memory.proofs.paged.fetch.Goals as goal

@@ -1,5 +1,5 @@
 use Rattle.std.proofs.Common.{◌≡◌, ◌-◌, ◌≤◌, ◌++◌, take}
-use Rattle.flat_memory.specs.Memory.{executable}
+use Rattle.x64_memory.specs.Words.{executable}
 use Rattle.x64_memory.proofs.paged.fetch.Given as goal
 
 abbrev pub invariant-loop-filled : goal.invariant-loop-filled

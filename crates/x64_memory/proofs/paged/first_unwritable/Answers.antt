@@ -1,5 +1,5 @@
 use Rattle.std.proofs.Common.{◌-◌, sym, ◌∙◌, arith}
-use Rattle.flat_memory.specs.Memory.{may_write}
+use Rattle.x64_memory.specs.Words.{may_write}
 use Rattle.x64_memory.proofs.Steps.{first_refused-more}
 use Rattle.x64_memory.proofs.paged.first_unwritable.Goals as goal
 

@@ -1,8 +1,6 @@
 use Rattle.std.proofs.Common.{◌≡◌, ◌-◌, ◌+◌, ◌/◌, ◌%◌, ◌≤◌, ◌^◌, ℕ, sym, ap, ◌∙◌, refl, arith}
-use Rattle.flat_memory.specs.Memory.{Memory, with_bytes, may_write, next, first_refused, with_number, with_byte}
-use Rattle.flat_memory.specs.declared.protection.Protection.{Protection}
-use Rattle.flat_memory.specs.Protections.{is_writable}
-use Rattle.flat_memory.proofs.Stores.{with_number-more, with_number-zero}
+use Rattle.x64_memory.specs.Words.{Memory, with_bytes, may_write, next, first_refused, with_number, with_byte, Protection, is_writable}
+use Rattle.x64_memory.proofs.Lemmas.{with_number-more, with_number-zero}
 use Rattle.x64_memory.proofs.Steps.{first_refused-more, may_first}
 use Rattle.x64_memory.proofs.paged.spread_store.Goals as goal
 

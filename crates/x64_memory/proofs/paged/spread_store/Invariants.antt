@@ -1,5 +1,5 @@
 use Rattle.std.proofs.Common.{◌≡◌, ◌-◌, None}
-use Rattle.flat_memory.specs.Memory.{may_write, first_refused, with_number}
+use Rattle.x64_memory.specs.Words.{may_write, first_refused, with_number}
 use Rattle.x64_memory.proofs.paged.spread_store.Given as goal
 
 abbrev pub invariant-loop-i : goal.invariant-loop-i

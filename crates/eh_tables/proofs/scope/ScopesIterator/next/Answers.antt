@@ -1,6 +1,5 @@
 use Rattle.std.proofs.Common.{length, sym, ap, ◌∙◌, ◌∷◌, arith}
-use Rattle.eh_tables.specs.declared.scope.ScopeRecord.{ScopeRecord}
-use Rattle.eh_tables.specs.Scopes.{scope_records_in}
+use Rattle.eh_tables.specs.Words.{ScopeRecord, scope_records_in}
 use Rattle.std.proofs.Common.{◌-◌, take, drop}
 use Rattle.eh_tables.proofs.Rows.{first_row}
 use Rattle.eh_tables.proofs.scope.ScopesIterator.next.Goals as goal

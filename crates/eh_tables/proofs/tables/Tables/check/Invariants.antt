@@ -1,5 +1,5 @@
 use Rattle.std.proofs.Common.{◌≡◌, drop}
-use Rattle.eh_tables.specs.Tables.{entries, end_before, passed, checked}
+use Rattle.eh_tables.specs.Words.{entries, end_before, passed, checked}
 use Rattle.eh_tables.proofs.tables.Tables.check.Given as goal
 
 abbrev pub invariant-loop-index : goal.invariant-loop-index

@@ -1,5 +1,5 @@
 use Rattle.std.proofs.Common.{length, ◌/◌, sym, ap, ◌∙◌}
-use Rattle.eh_tables.specs.Tables.{Tables}
+use Rattle.eh_tables.specs.Words.{Tables}
 use Rattle.eh_tables.proofs.Ranges.{range_count}
 use Rattle.eh_tables.proofs.tables.Tables.len.Goals as goal
 

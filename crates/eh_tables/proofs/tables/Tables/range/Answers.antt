@@ -1,5 +1,5 @@
 use Rattle.std.proofs.Common.{◌/◌, length, get_or, ap, ◌∙◌, arith}
-use Rattle.eh_tables.specs.Tables.{Tables, no_range}
+use Rattle.eh_tables.specs.Words.{Tables, no_range}
 use Rattle.eh_tables.proofs.Ranges.{range_within, range_count, range_is}
 use Rattle.eh_tables.proofs.tables.Tables.range.Goals as goal
 

@@ -1,8 +1,7 @@
 use Rattle.std.proofs.Common.{◌≡◌, ◌<◌, ◌+◌, ◌++◌, ℕ, List, length, take, drop, sym, ap, ◌∙◌, arith}
 use Rattle.std.proofs.lemmas.Bool.Decides.{nat_tests}
 use Rattle.std.proofs.lemmas.List.{take-append-drop}
-use Rattle.x64_memory.specs.PageMaps.{memory_of}
-use Rattle.x64_memory.specs.Regions.{filled}
+use Rattle.x64_memory.specs.Words.{memory_of, filled}
 use Rattle.x64_memory.proofs.Mapping.{filled_more, filled_none}
 use Rattle.x64_memory.proofs.page_map.PageMap.fill.Goals as goal
 

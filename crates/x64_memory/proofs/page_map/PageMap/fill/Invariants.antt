@@ -1,6 +1,5 @@
 use Rattle.std.proofs.Common.{◌≡◌, ◌+◌, ◌≤◌, ℕ, length}
-use Rattle.x64_memory.specs.PageMaps.{memory_of, holds}
-use Rattle.x64_memory.specs.Regions.{filled}
+use Rattle.x64_memory.specs.Words.{memory_of, holds, filled}
 use Rattle.x64_memory.proofs.page_map.PageMap.fill.Given as goal
 
 abbrev pub invariant-loop-rest : goal.invariant-loop-rest

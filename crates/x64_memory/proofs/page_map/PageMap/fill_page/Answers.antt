@@ -1,6 +1,5 @@
 use Rattle.std.proofs.Common.{◌≡◌, ◌/◌, ◌%◌, ◌+◌, ◌-◌, ℕ, List, length, get_or, rules, refl, sym, ap, ◌∙◌, arith}
-use Rattle.x64_memory.specs.declared.page.Page.{Page}
-use Rattle.x64_memory.specs.Stretches.{page_numbered}
+use Rattle.x64_memory.specs.Words.{Page, page_numbered}
 use Rattle.x64_memory.proofs.Ordered.{page_set, page_kept}
 use Rattle.x64_memory.proofs.Mapping.{bytes_put, piece_inside, piece_before, piece_after}
 use Rattle.x64_memory.proofs.Paging.{has_kept}

@@ -2,11 +2,7 @@ use Rattle.std.proofs.Common.{◌≡◌, ◌*◌, sym, ap, ◌∙◌, refl, arit
 use Rattle.std.specs.Prelude.{◌||◌}
 use Rattle.std.proofs.Math.ListN.{drop_of_length-le}
 use Rattle.std.proofs.Common.{List}
-use Rattle.x64_memory.specs.declared.region.Region.{Region}
-use Rattle.x64_memory.specs.declared.stretch.Stretch.{Stretch}
-use Rattle.x64_memory.specs.Pages.{has_page}
-use Rattle.x64_memory.specs.Regions.{mapped_over, in_regions, AreAscending}
-use Rattle.x64_memory.specs.Stretches.{AreOrdered, count_from, end_from, page_numbered}
+use Rattle.x64_memory.specs.Words.{Region, Stretch, has_page, mapped_over, in_regions, AreAscending, AreOrdered, count_from, end_from, page_numbered}
 use Rattle.x64_memory.proofs.Mapping.{empty_memory, empty_holds, arena_mapped}
 use Rattle.x64_memory.proofs.page_map.PageMap.new.Goals as goal
 

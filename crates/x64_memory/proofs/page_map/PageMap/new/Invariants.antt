@@ -1,8 +1,6 @@
 use Rattle.std.proofs.Common.{◌≡◌, ◌*◌, ℕ, drop, length}
 use Rattle.std.specs.Prelude.{◌||◌}
-use Rattle.x64_memory.specs.Pages.{paged, has_page}
-use Rattle.x64_memory.specs.Regions.{mapped, mapped_over, in_regions, AreAscending}
-use Rattle.x64_memory.specs.Stretches.{AreOrdered, count_from, end_from, page_numbered}
+use Rattle.x64_memory.specs.Words.{paged, has_page, mapped, mapped_over, in_regions, AreAscending, AreOrdered, count_from, end_from, page_numbered}
 use Rattle.x64_memory.proofs.page_map.PageMap.new.Given as goal
 
 abbrev pub invariant-loop-region : goal.invariant-loop-region

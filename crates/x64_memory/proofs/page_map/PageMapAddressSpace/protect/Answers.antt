@@ -1,9 +1,6 @@
 use Rattle.std.proofs.Common.{◌/◌, ◌∙◌, sym, ap, ℤ, w32}
 use Rattle.std.proofs.lemmas.Int.{to_z-of_z}
-use Rattle.flat_memory.specs.Memory.{with_rights, protected}
-use Rattle.x64_memory.specs.declared.page.Page.{Page}
-use Rattle.x64_memory.specs.Pages.{paged}
-use Rattle.x64_memory.specs.Stretches.{page_numbered}
+use Rattle.x64_memory.specs.Words.{with_rights, protected, Page, paged, page_numbered}
 use Rattle.x64_memory.proofs.Ordered.{page_set, page_kept}
 use Rattle.x64_memory.proofs.Paging.{rights_set}
 use Rattle.x64_memory.proofs.page_map.PageMapAddressSpace.protect.Goals as goal

@@ -1,7 +1,6 @@
 use Rattle.std.proofs.Common.{◌≡◌, ◌<◌, ◌/◌, ◌%◌, ◌-◌, ℕ, List, length, take, drop, get_or, rules, sym, ap, subst, arith, length-drop}
 use Rattle.std.proofs.lemmas.List.{take_all}
-use Rattle.x64_memory.specs.Pages.{paged, IsRestOfPage}
-use Rattle.x64_memory.specs.Stretches.{page_at, page_numbered}
+use Rattle.x64_memory.specs.Words.{paged, IsRestOfPage, page_at, page_numbered}
 use Rattle.x64_memory.proofs.Ordered.{page_kept}
 use Rattle.x64_memory.proofs.Paging.{stretch_none, stretch_some}
 use Rattle.x64_memory.proofs.page_map.PageMapPaged.rest_of_page.Goals as goal

@@ -1,0 +1,2 @@
+-- The lemmas of the crates below that files of this crate cite.
+pub use Rattle.c_expressions.proofs.Kept.{kept_append, kept_more}
