@@ -162,7 +162,10 @@ unknown_next n ys h = meaning_append built_ins ys n
 
 -- ---- a name that is none of the built-in ones
 
-pub no_function : (n : List ℕ) → same_bytes (codes "put") n ≡ false → same_bytes (codes "protect") n ≡ false → same_bytes (codes "RaiseException") n ≡ false → same_bytes (codes "GetExceptionCode") n ≡ false → same_bytes (codes "AbnormalTermination") n ≡ false → None ≡ meaning_in built_in_functions n
+pub no_function : (n : List ℕ) → same_bytes (codes "put") n ≡ false
+    → same_bytes (codes "protect") n ≡ false → same_bytes (codes "RaiseException") n ≡ false
+    → same_bytes (codes "GetExceptionCode") n ≡ false
+    → same_bytes (codes "AbnormalTermination") n ≡ false → None ≡ meaning_in built_in_functions n
 no_function n a b c d e = sym (ap (λ x. cond x (Some (BuiltInFunction Put))
     (meaning_in (drop 1 built_in_functions) n)) a
     ∙ ap (λ x. cond x (Some (BuiltInFunction Protect)) (meaning_in (drop 2 built_in_functions) n)) b
@@ -171,7 +174,10 @@ no_function n a b c d e = sym (ap (λ x. cond x (Some (BuiltInFunction Put))
     ∙ ap (λ x. cond x (Some (CodeFunction)) (meaning_in (drop 4 built_in_functions) n)) d
     ∙ ap (λ x. cond x (Some (AbnormalFunction)) (meaning_in (drop 5 built_in_functions) n)) e)
 
-pub no_constant : (n : List ℕ) → same_bytes (codes "EXCEPTION_EXECUTE_HANDLER") n ≡ false → same_bytes (codes "EXCEPTION_CONTINUE_SEARCH") n ≡ false → same_bytes (codes "EXCEPTION_CONTINUE_EXECUTION") n ≡ false → None ≡ meaning_in built_in_constants n
+pub no_constant : (n : List ℕ) → same_bytes (codes "EXCEPTION_EXECUTE_HANDLER") n ≡ false
+    → same_bytes (codes "EXCEPTION_CONTINUE_SEARCH") n ≡ false
+    → same_bytes (codes "EXCEPTION_CONTINUE_EXECUTION") n ≡ false
+    → None ≡ meaning_in built_in_constants n
 no_constant n a b c = sym (ap (λ x. cond x (Some (BuiltInConstant 1))
     (meaning_in (drop 1 built_in_constants) n)) a
     ∙ ap (λ x. cond x (Some (BuiltInConstant 0)) (meaning_in (drop 2 built_in_constants) n)) b

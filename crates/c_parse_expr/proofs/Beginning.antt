@@ -76,7 +76,8 @@ information_wraps l room text ts no_literal no_name no_punctuator = record {
 
 prefixed : (l room n : ℕ) (s : Punctuator) (op : Increment) (at end : ℕ) (text : List ℕ)
     (inner : List Token) → unary ≤ l → (1 ≤ n → 1 ≤ room) → increment_of s ≡ Some op → HasExpression
-    unary (room - 1) n text inner → HasExpression l room n text (token (kinds.Punctuator s) at end ∷ inner)
+    unary (room - 1) n text inner → HasExpression l room n text (token (kinds.Punctuator s) at end
+        ∷ inner)
 prefixed l room n s op at end text inner p r e h =
     let q : s ≡ increment_punctuator op = increment_only op s e in
     record {
@@ -97,7 +98,8 @@ prefixed l room n s op at end text inner p r e h =
 
 unaried : (l room n : ℕ) (s : Punctuator) (op : UnaryOperator) (at end : ℕ) (text : List ℕ)
     (inner : List Token) → unary ≤ l → (1 ≤ n → 1 ≤ room) → unary_of s ≡ Some op → HasExpression
-    cast (room - 1) n text inner → HasExpression l room n text (token (kinds.Punctuator s) at end ∷ inner)
+    cast (room - 1) n text inner → HasExpression l room n text (token (kinds.Punctuator s) at end
+        ∷ inner)
 unaried l room n s op at end text inner p r e h =
     let q : s ≡ unary_punctuator op = unary_only op s e in
     record {
@@ -118,7 +120,8 @@ unaried l room n s op at end text inner p r e h =
 
 pub prefix_wraps : (l room : ℕ) (s : Punctuator) (op : Increment) (at : ℕ) (text : List ℕ)
     (ts rest : List Token) → unary ≤ l → 1 ≤ room → IsPunctuator s at ts rest → increment_of s ≡
-    Some op → Wraps (NoExpression unary (room - 1)) (HasExpression unary (room - 1)) (NoOperand l room)
+    Some op → Wraps (NoExpression unary (room - 1)) (HasExpression unary (room - 1))
+        (NoOperand l room)
     (HasExpression l room) text rest ts
 prefix_wraps l room s op at text ts rest p r h e = record {
   before = token (kinds.Punctuator s) at h.0 ∷ [];
@@ -146,7 +149,8 @@ unary_wraps l room s op at text ts rest p r h e = record {
 
 -- ---- after `(`
 
-grouped : (l room n at end : ℕ) (text : List ℕ) (inner : List Token) → HasEnclosed punctuators.CloseParenthesis room n text inner
+grouped : (l room n at end : ℕ) (text : List ℕ) (inner : List Token)
+    → HasEnclosed punctuators.CloseParenthesis room n text inner
     → HasExpression l (room + 1) n text (token (kinds.Punctuator punctuators.OpenParenthesis) at end
     ∷ inner)
 grouped l room n at end text inner h = record {
@@ -220,7 +224,8 @@ cast_wraps l room at to text ts rest mid after p h t w g =
                 let b = alike_inner text text' (paren ∷ []) rest ts h.1 a in
                 let e : ((m.front ++ (close ∷ [])) ++ inner) ++ other
                 ≡ m.front ++ (close ∷ (inner ++ other)) =
-                append_append (m.front ++ (close ∷ [])) inner other ∙ append_append m.front (close ∷ []) (inner ++ other) in
+                append_append (m.front ++ (close ∷ [])) inner other
+                    ∙ append_append m.front (close ∷ []) (inner ++ other) in
                 let y = subst (λ (z : List Token). IsType to z (close ∷ (inner ++ other))) (sym e)
                 (m.again text' (close ∷ (inner ++ other)) b) in
                 record {
@@ -349,7 +354,8 @@ no_room_there l s at text ts rest p h o =
 
 -- ---- whether an expression begins with a token
 
-pub name_begins : (start end : ℕ) (rest : List Token) → CanBeginExpression (token kinds.Identifier start end ∷ rest)
+pub name_begins : (start end : ℕ) (rest : List Token)
+    → CanBeginExpression (token kinds.Identifier start end ∷ rest)
 name_begins start end rest = λ text k. record {
   token = token kinds.Identifier start end;
   rest = rest;
@@ -405,7 +411,8 @@ punctuator_begins s start end rest o =
       has = has_shortest assignment 0 s o start end text (omega arith);
     }
 
-pub never_kind : (k : Kind) (start end : ℕ) (rest : List Token) → 5 < kind_class k → NeverBegins (token k start end ∷ rest)
+pub never_kind : (k : Kind) (start end : ℕ) (rest : List Token) → 5 < kind_class k
+    → NeverBegins (token k start end ∷ rest)
 never_kind k start end rest p = λ text other s e after h.
     let a = expression_front text e other after h in
     let b : front other ≡ kind_class k = ap front s.1 in
@@ -417,11 +424,13 @@ never_end = λ text other s e after h.
     let b : front other ≡ 6 = ap front s in
     absurd (omega arith)
 
-pub other_keyword : (k : Keyword) → (k ≡ keywords.GetExceptionInformation → ⊥) → 5 < kind_class (kinds.Keyword k)
+pub other_keyword : (k : Keyword) → (k ≡ keywords.GetExceptionInformation → ⊥)
+    → 5 < kind_class (kinds.Keyword k)
 other_keyword keywords.GetExceptionInformation n = absurd (n refl)
 other_keyword k n = omega arith
 
-pub other_punctuator : (s : Punctuator) → (BeginsOperand s → ⊥) → 5 < kind_class (kinds.Punctuator s)
+pub other_punctuator : (s : Punctuator) → (BeginsOperand s → ⊥)
+    → 5 < kind_class (kinds.Punctuator s)
 other_punctuator punctuators.OpenParenthesis n = absurd (n (Parenthesis refl))
 other_punctuator punctuators.Ampersand n = absurd (n (Operates unary_operators.AddressOf refl))
 other_punctuator punctuators.Plus n = absurd (n (Operates unary_operators.Plus refl))
@@ -457,7 +466,8 @@ steps_by s e = let h = some_of (increment_of s) e in Steps h.0 h.1
 pub operates_by : (s : Punctuator) → is_some (unary_of s) ≡ true → BeginsOperand s
 operates_by s e = let h = some_of (unary_of s) e in Operates h.0 h.1
 
-pub first_is : (ts : List Token) (t : Token) (rest : List Token) → first ts ≡ Some (t, rest) → ts ≡ t ∷ rest
+pub first_is : (ts : List Token) (t : Token) (rest : List Token) → first ts ≡ Some (t, rest)
+    → ts ≡ t ∷ rest
 first_is [] t rest e = absurd cc
 first_is (u ∷ us) t rest e = let q : ◌≡◌ {A = Token × List Token} (u, us) (t, rest) = cc in
     ap (λ (z : Token × List Token). z.0 ∷ z.1) q

@@ -18,7 +18,8 @@ pub data Piece : Type 0 where
 
 abbrev pub Test : List ℕ → Piece → Token → Type 0
 Test text (Mark s) t = t.kind ≡ kinds.Punctuator s
-Test text Record t = (t.kind ≡ kinds.Identifier) × (slice_range text t.start t.end ≡ codes "ExceptionRecord")
+Test text Record t = (t.kind ≡ kinds.Identifier)
+    × (slice_range text t.start t.end ≡ codes "ExceptionRecord")
 
 -- a token that passes a test, and others after it
 pub record IsFirst (Passes : Token → Type 0) (Others : List Token → Type 0) (ts : List Token)
@@ -124,7 +125,9 @@ pub punctuator_there : (s : Punctuator) (ps : List Piece) (text : List ℕ) (ts 
 punctuator_there s ps text ts rest h = there (Mark s) ps text (token (kinds.Punctuator s) h.0 h.1.0)
     ts rest h.1.1 refl
 
-pub record_gone : (ps : List Piece) (text : List ℕ) (ts : List Token) → ((rest : List Token) → HasWord text (codes "ExceptionRecord") ts rest → ⊥) → Failed 0 (place text ts) (NoForm (Record ∷ ps)) (HasForm (Record ∷ ps)) text ts
+pub record_gone : (ps : List Piece) (text : List ℕ) (ts : List Token)
+    → ((rest : List Token) → HasWord text (codes "ExceptionRecord") ts rest → ⊥)
+    → Failed 0 (place text ts) (NoForm (Record ∷ ps)) (HasForm (Record ∷ ps)) text ts
 record_gone ps text ts n = gone Record ps text ts
     (λ t rest e h. n rest (
       record { start = t.start; end = t.end },
@@ -133,7 +136,9 @@ record_gone ps text ts n = gone Record ps text ts
       h.1,
     ))
 
-pub record_there : (ps : List Piece) (text : List ℕ) (ts rest : List Token) → HasWord text (codes "ExceptionRecord") ts rest → Wraps (NoForm ps) (HasForm ps) (NoForm (Record ∷ ps)) (HasForm (Record ∷ ps)) text rest ts
+pub record_there : (ps : List Piece) (text : List ℕ) (ts rest : List Token)
+    → HasWord text (codes "ExceptionRecord") ts rest
+    → Wraps (NoForm ps) (HasForm ps) (NoForm (Record ∷ ps)) (HasForm (Record ∷ ps)) text rest ts
 record_there ps text ts rest h = there Record ps text (token kinds.Identifier h.0.start h.0.end) ts
     rest h.1 (refl, h.2)
 
@@ -198,7 +203,8 @@ marked : (s : Punctuator) (t : Token) (ts rest : List Token) → ts ≡ t ∷ re
     → t.kind ≡ kinds.Punctuator s → HasPunctuator s ts rest
 marked s t ts rest e h = (t.start, (t.end, e ∙ ap (λ z. token z t.start t.end ∷ rest) h))
 
-worded : (text : List ℕ) (t : Token) (ts rest : List Token) → ts ≡ t ∷ rest → Test text Record t → HasWord text (codes "ExceptionRecord") ts rest
+worded : (text : List ℕ) (t : Token) (ts rest : List Token) → ts ≡ t ∷ rest → Test text Record t
+    → HasWord text (codes "ExceptionRecord") ts rest
 worded text t ts rest e h = (
   record { start = t.start; end = t.end },
   e

@@ -64,7 +64,8 @@ step_wraps l room left text ts rest d c f low =
           (m.again text' other a) (firsts.closes left rest other s c)
           (subst (λ n. n ≤ l) (sym (firsts.same_follows rest other s)) f) x;
       has = λ n text' inner a k h. able_now (HasExpression l room) n text' (m.front ++ inner)
-          (step_has l room (follows rest) n left text' m.front inner (λ other. m.again text' other a)
+          (step_has l room (follows rest) n left text' m.front inner
+              (λ other. m.again text' other a)
           f low h);
     }
 

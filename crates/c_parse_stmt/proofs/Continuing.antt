@@ -63,7 +63,8 @@ atom text t h = atom_by text t.kind t.start t.end h
 alike_by : (text text' : List ℕ) (k : Kind) (at end : ℕ)
     → slice_range text at end ≡ slice_range text' at end
     → accepts_kind text k at end ≡ accepts_kind text' k at end
-alike_by text text' kinds.Identifier at end h = ap (λ z. bytes_eq z (codes "EXCEPTION_EXECUTE_HANDLER")) h
+alike_by text text' kinds.Identifier at end h =
+    ap (λ z. bytes_eq z (codes "EXCEPTION_EXECUTE_HANDLER")) h
 alike_by text text' k at end h = refl
 
 pub accepts_alike : (text text' : List ℕ) (t : Token)

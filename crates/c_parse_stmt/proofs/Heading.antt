@@ -27,7 +27,8 @@ Condition e text = IsCondition text e
 abbrev pub UpTo : Punctuator → Option Expression → List ℕ → List Token → List Token → Type 0
 UpTo s e text = IsUpTo text s e
 
-abbrev pub key_moves : (k : Keyword) (at : ℕ) (text : List ℕ) (ts rest : List Token) → IsKeyword k at ts rest → Moves (Key k at) text ts rest
+abbrev pub key_moves : (k : Keyword) (at : ℕ) (text : List ℕ) (ts rest : List Token)
+    → IsKeyword k at ts rest → Moves (Key k at) text ts rest
 key_moves k at text ts rest h = kind (kinds.Keyword k) at text ts rest h
 
 -- ---- the least statement
@@ -46,7 +47,8 @@ is_empty text other = (
   a_punctuator punctuators.Semicolon other,
 )
 
-pub least : (room : ℕ) (left : Left) (n : ℕ) (text : List ℕ) → HasStatement room left n text semicolon
+pub least : (room : ℕ) (left : Left) (n : ℕ) (text : List ℕ)
+    → HasStatement room left n text semicolon
 least room left n text = record {
   tree = Evaluate None;
   is = is_empty text;
@@ -59,7 +61,8 @@ least room left n text = record {
   };
 }
 
-pub any_able : (room : ℕ) (left : Left) (n : ℕ) (text : List ℕ) → Able (HasStatement room left) n text []
+pub any_able : (room : ℕ) (left : Left) (n : ℕ) (text : List ℕ)
+    → Able (HasStatement room left) n text []
 any_able room left n text = record { more = semicolon; has = least room left n text }
 
 -- ---- `(1)`
@@ -86,9 +89,12 @@ is_unit text other = record {
 -- ---- at the keyword itself
 
 -- a limit excludes what the keyword begins
-pub at_keyword : (k : Keyword) (at kind room : ℕ) (left : Left) (text : List ℕ) (ts a : List Token) → IsKeyword k at ts a →
-    ((text' : List ℕ) → (all more : List Token) → IsKeyword k at all more → NoStatement room left kind text' all) →
-    ((text' : List ℕ) (n end : ℕ) → kind ≡ suc n → (more : List Token) × HasStatement room left n text'
+pub at_keyword : (k : Keyword) (at kind room : ℕ) (left : Left) (text : List ℕ) (ts a : List Token)
+    → IsKeyword k at ts a →
+    ((text' : List ℕ) → (all more : List Token) → IsKeyword k at all more
+        → NoStatement room left kind text' all) →
+    ((text' : List ℕ) (n end : ℕ) → kind ≡ suc n
+        → (more : List Token) × HasStatement room left n text'
     (token (kinds.Keyword k) at end ∷ more)) →
     Failed kind at (NoStatement room left) (HasStatement room left) text ts
 at_keyword k at kind room left text ts a key excludes go = record {
@@ -109,7 +115,8 @@ at_keyword k at kind room left text ts a key excludes go = record {
       };
 }
 
-pub if_too_deep : (room at : ℕ) (left : Left) (text : List ℕ) (ts a : List Token) → room ≡ 0 → IsKeyword keywords.If at ts a → Failed 1 at (NoStatement room left) (HasStatement room left)
+pub if_too_deep : (room at : ℕ) (left : Left) (text : List ℕ) (ts a : List Token) → room ≡ 0
+    → IsKeyword keywords.If at ts a → Failed 1 at (NoStatement room left) (HasStatement room left)
     text ts
 if_too_deep room at left text ts a z k =
     at_keyword keywords.If at 1 room left text ts a k
@@ -135,7 +142,8 @@ if_too_deep room at left text ts a z k =
       },
     ))
 
-pub while_too_deep : (room at : ℕ) (left : Left) (text : List ℕ) (ts a : List Token) → room ≡ 0 → IsKeyword keywords.While at ts a → Failed 1 at (NoStatement room left)
+pub while_too_deep : (room at : ℕ) (left : Left) (text : List ℕ) (ts a : List Token) → room ≡ 0
+    → IsKeyword keywords.While at ts a → Failed 1 at (NoStatement room left)
     (HasStatement room left) text ts
 while_too_deep room at left text ts a z k =
     at_keyword keywords.While at 1 room left text ts a k
@@ -197,9 +205,11 @@ do_too_deep room at left text ts a z k =
     ))
 
 pub for_item : (text : List ℕ) (at : ℕ) (f : ForInitialiser) (c n : Option Expression)
-    (s : Statement) (ts a b d g i rest : List Token) → IsKeyword keywords.For at ts a → HasPunctuator punctuators.OpenParenthesis a b → IsForInitialiser text f b d
+    (s : Statement) (ts a b d g i rest : List Token) → IsKeyword keywords.For at ts a
+        → HasPunctuator punctuators.OpenParenthesis a b → IsForInitialiser text f b d
     → IsUpTo text punctuators.Semicolon c d g → IsUpTo text punctuators.CloseParenthesis n g i
-    → IsFalse (is_declaration s) → IsBlockItem text s i rest → IsBlockItem text (For at f c n s) ts rest
+    → IsFalse (is_declaration s) → IsBlockItem text s i rest
+        → IsBlockItem text (For at f c n s) ts rest
 for_item text at f c n s ts a b d g i rest k o h u v z t = record {
   after_head = i;
   head = record {
@@ -291,7 +301,8 @@ abbrev pub finally : List Token
 finally = word keywords.Finally ∷ braces
 
 pub try_too_many : (room at : ℕ) (left : Left) (text : List ℕ) (ts a : List Token) → room ≡ 0
-    → left.funclets ≡ 0 → IsKeyword keywords.Try at ts a → Failed 6 at (NoStatement room left) (HasStatement room left) text ts
+    → left.funclets ≡ 0 → IsKeyword keywords.Try at ts a
+        → Failed 6 at (NoStatement room left) (HasStatement room left) text ts
 try_too_many room at left text ts a z y k =
     at_keyword keywords.Try at 6 room left text ts a k
     (λ text' all more key. no_try 6 text' room at left more (omega arith) z y all key)
@@ -332,8 +343,10 @@ try_too_many room at left text ts a z y k =
 
 pub key_wraps : (k : Keyword) (at room : ℕ) (left : Left) (No Has : Family) (text : List ℕ)
     (ts a : List Token) → IsKeyword k at ts a →
-    ((n : ℕ) (text' : List ℕ) (other : List Token) → No n text' other → AfterKeyword k at other (NoStatement room left n text')) →
-    ((n : ℕ) (text' : List ℕ) (inner : List Token) (end : ℕ) → Has n text' inner → Able (HasStatement room left) n text' (token (kinds.Keyword k) at end ∷ inner)) →
+    ((n : ℕ) (text' : List ℕ) (other : List Token) → No n text' other
+        → AfterKeyword k at other (NoStatement room left n text')) →
+    ((n : ℕ) (text' : List ℕ) (inner : List Token) (end : ℕ) → Has n text' inner
+        → Able (HasStatement room left) n text' (token (kinds.Keyword k) at end ∷ inner)) →
     Wraps No Has (NoStatement room left) (HasStatement room left) text a ts
 key_wraps k at room left No Has text ts a key f g = record {
   before = token (kinds.Keyword k) at key.0 ∷ [];
@@ -374,7 +387,8 @@ while_condition room at left text ts a o k =
       };
     })
 
-pub if_condition : (room at : ℕ) (left : Left) (text : List ℕ) (ts a : List Token) → 1 ≤ room → IsKeyword keywords.If at ts a → Wraps NoCondition HasCondition (NoStatement room left)
+pub if_condition : (room at : ℕ) (left : Left) (text : List ℕ) (ts a : List Token) → 1 ≤ room
+    → IsKeyword keywords.If at ts a → Wraps NoCondition HasCondition (NoStatement room left)
     (HasStatement room left) text a ts
 if_condition room at left text ts a o k =
     key_wraps keywords.If at room left NoCondition HasCondition text ts a k
@@ -404,7 +418,8 @@ if_condition room at left text ts a o k =
       };
     })
 
-pub return_value : (room at : ℕ) (left : Left) (text : List ℕ) (ts a : List Token) → IsKeyword keywords.Return at ts a → Wraps (NoneUpTo punctuators.Semicolon room)
+pub return_value : (room at : ℕ) (left : Left) (text : List ℕ) (ts a : List Token)
+    → IsKeyword keywords.Return at ts a → Wraps (NoneUpTo punctuators.Semicolon room)
     (HasUpTo punctuators.Semicolon room) (NoStatement room left) (HasStatement room left) text a
     ts
 return_value room at left text ts a k =
@@ -424,7 +439,8 @@ return_value room at left text ts a k =
       };
     }))
 
-pub break_end : (room at : ℕ) (left : Left) (text : List ℕ) (ts a : List Token) → IsKeyword keywords.Break at ts a → Wraps (NoPunctuator punctuators.Semicolon)
+pub break_end : (room at : ℕ) (left : Left) (text : List ℕ) (ts a : List Token)
+    → IsKeyword keywords.Break at ts a → Wraps (NoPunctuator punctuators.Semicolon)
     (APunctuator punctuators.Semicolon) (NoStatement room left) (HasStatement room left) text a ts
 break_end room at left text ts a k =
     key_wraps keywords.Break at room left (NoPunctuator punctuators.Semicolon)
@@ -443,7 +459,8 @@ break_end room at left text ts a k =
       };
     }))
 
-pub continue_end : (room at : ℕ) (left : Left) (text : List ℕ) (ts a : List Token) → IsKeyword keywords.Continue at ts a → Wraps (NoPunctuator punctuators.Semicolon)
+pub continue_end : (room at : ℕ) (left : Left) (text : List ℕ) (ts a : List Token)
+    → IsKeyword keywords.Continue at ts a → Wraps (NoPunctuator punctuators.Semicolon)
     (APunctuator punctuators.Semicolon) (NoStatement room left) (HasStatement room left) text a ts
 continue_end room at left text ts a k =
     key_wraps keywords.Continue at room left (NoPunctuator punctuators.Semicolon)
@@ -462,7 +479,8 @@ continue_end room at left text ts a k =
       };
     }))
 
-pub leave_end : (room at : ℕ) (left : Left) (text : List ℕ) (ts a : List Token) → IsKeyword keywords.Leave at ts a → Wraps (NoPunctuator punctuators.Semicolon)
+pub leave_end : (room at : ℕ) (left : Left) (text : List ℕ) (ts a : List Token)
+    → IsKeyword keywords.Leave at ts a → Wraps (NoPunctuator punctuators.Semicolon)
     (APunctuator punctuators.Semicolon) (NoStatement room left) (HasStatement room left) text a ts
 leave_end room at left text ts a k =
     key_wraps keywords.Leave at room left (NoPunctuator punctuators.Semicolon)

@@ -132,14 +132,17 @@ no_numbers a base (l ∷ ls) block n = let m = declare a base l block n in
 
 -- ---- filters that accept always
 
-spelled_always : (block outer : Scope) (name : List ℕ) → name ≡ codes "EXCEPTION_EXECUTE_HANDLER" → is_accepting (meaning_in (built_ins ++ block ++ outer) name) ≡ true
+spelled_always : (block outer : Scope) (name : List ℕ) → name ≡ codes "EXCEPTION_EXECUTE_HANDLER"
+    → is_accepting (meaning_in (built_ins ++ block ++ outer) name) ≡ true
 spelled_always block outer name e = ap (λ w. is_accepting
     (meaning_in (built_ins ++ block ++ outer) w)) e
 
 accepting_always : (a : Environment) (block : Scope) (e : Expression) → accepts a.text e ≡ true
     → always a block e ≡ true
 accepting_always a block (trees.Constant at (literals.Integer n of)) h = h
-accepting_always a block (trees.Variable n) h = spelled_always block a.outer (spelled a.text n) ((bytes_eq-Decides (spelled a.text n) (codes "EXCEPTION_EXECUTE_HANDLER")).0 h)
+accepting_always a block (trees.Variable n) h =
+    spelled_always block a.outer (spelled a.text n)
+    ((bytes_eq-Decides (spelled a.text n) (codes "EXCEPTION_EXECUTE_HANDLER")).0 h)
 accepting_always a block (trees.Parentheses at e) h = accepting_always a block e h
 accepting_always a block other h = absurd (cc)
 

@@ -92,7 +92,8 @@ another r s = record {
 }
 
 -- How many tokens elements take, by how many each takes.
-pub record Counts {A : Type 0} (Element : A → Phrase) (each : A → ℕ) (all : List A → ℕ) : Type 0 where
+pub record Counts {A : Type 0} (Element : A → Phrase) (each : A → ℕ) (all : List A
+    → ℕ) : Type 0 where
   pub element : (x : A) → Takes (each x) (Element x)
   pub none : all [] ≡ 0
   pub more : (x : A) (xs : List A) → all (x ∷ xs) ≡ each x + all xs
@@ -373,7 +374,8 @@ mutual
         omega arith;
   }
 
-  pub items : (text : List ℕ) (ss : Statements) → Takes (nodes_of_statements ss) (AreBlockItems text ss)
+  pub items : (text : List ℕ) (ss : Statements)
+      → Takes (nodes_of_statements ss) (AreBlockItems text ss)
   items text Empty = fewer (omega arith) (has_punctuator punctuators.CloseBrace)
   items text (Then s ss) = in_turn (item text s) (items text ss)
 

@@ -102,7 +102,8 @@ of_frame f c (bases.Register r) None e = elim (cases_eq f 0) [
   | inr ne ↦ (
     ne,
     ap (λ k. get_or c.registers k 0 + 0)
-        (eqb-true (number r) f (sym (ap (λ b. cond b false (eqb (number r) f)) (ne_eqb f 0 ne)) ∙ e)),
+        (eqb-true (number r) f (sym (ap (λ b. cond b false (eqb (number r) f)) (ne_eqb f 0 ne))
+            ∙ e)),
   )
 ]
 of_frame f c (bases.Register r) (Some x) e = absurd (false≢true e)
@@ -126,8 +127,10 @@ place_address f offset n c a is framed lt = elim
     (or_cases (is_stack n a) (is_of f a.base a.index && eqb ((offset + a.displacement) % 2 ^ 64) n)
     is) [
       | inl s ↦ stack_address c n a s lt
-      | inr r ↦ let p = and_parts (is_of f a.base a.index) (eqb ((offset + a.displacement) % 2 ^ 64) n)
-          r in frame_address f offset n c a p.0 (eqb-true ((offset + a.displacement) % 2 ^ 64) n p.1)
+      | inr r ↦ let p = and_parts (is_of f a.base a.index)
+          (eqb ((offset + a.displacement) % 2 ^ 64) n)
+          r in frame_address f offset n c a p.0
+              (eqb-true ((offset + a.displacement) % 2 ^ 64) n p.1)
           framed lt
     ]
 

@@ -16,7 +16,8 @@ module _ (m m' : Memory) (t : Functions) (fs : List Funclet) (program : LinearPr
   to = base + distance + 8 * length values
 
   -- what lies below the locals, and what lies above them
-  below_them : (low : ℕ) → STACK_START ≤ low → to ≤ STACK_END → KeepsStackBut m m' low from to → ReadsSame m m' low from
+  below_them : (low : ℕ) → STACK_START ≤ low → to ≤ STACK_END → KeepsStackBut m m' low from to
+      → ReadsSame m m' low from
   below_them low start end h = reads_other m m' low from
       (record {
         bytes = λ x l u. h.bytes x l (omega arith) (inl u);
@@ -25,7 +26,8 @@ module _ (m m' : Memory) (t : Functions) (fs : List Funclet) (program : LinearPr
         no_more_code = h.no_more_code;
       }) start (omega arith)
 
-  above_them : (low : ℕ) → STACK_START ≤ low → low ≤ from → KeepsStackBut m m' low from to → ReadsSame m m' to STACK_END
+  above_them : (low : ℕ) → STACK_START ≤ low → low ≤ from → KeepsStackBut m m' low from to
+      → ReadsSame m m' to STACK_END
   above_them low start le h = reads_other m m' to STACK_END
       (record {
         bytes = λ x l u. h.bytes x (omega arith) u (inr l);
@@ -37,7 +39,8 @@ module _ (m m' : Memory) (t : Functions) (fs : List Funclet) (program : LinearPr
   space_kept : (sp beside held : ℕ) (acts : List Activation)
       → HasSpace sp beside (length acts + held)
       → HasSpace sp beside (length (with_values acts k values) + held)
-  space_kept sp beside held acts s = subst (λ n. HasSpace sp beside (n + held)) (sym (with_count acts k values)) s
+  space_kept sp beside held acts s = subst (λ n. HasSpace sp beside (n + held))
+      (sym (with_count acts k values)) s
 
   -- a frame that is passed: the activation is that of one above it
   abbrev passes : (acts : List Activation) (name : BodyName) → Type 0
@@ -49,7 +52,8 @@ module _ (m m' : Memory) (t : Functions) (fs : List Funclet) (program : LinearPr
   activation_passed y sp size number [] (FunctionBody f) i h = absurd h
   activation_passed y sp size number (a ∷ outer) (FunctionBody f) i h =
       let lt = is_lower outer k base distance i in
-      subst (λ x. HasActivation m' y sp size number x (FunctionBody f)) (sym (later_changes a outer k values lt))
+      subst (λ x. HasActivation m' y sp size number x (FunctionBody f))
+          (sym (later_changes a outer k values lt))
       (record {
         none = h.none;
         activation = record {
@@ -88,7 +92,8 @@ module _ (m m' : Memory) (t : Functions) (fs : List Funclet) (program : LinearPr
     instruction = h.instruction;
     same = h.same;
     small = h.small;
-    activation = activation_passed (p.layout b.body) (rsp c) size b.activation acts b.body i h.activation;
+    activation = activation_passed (p.layout b.body)
+        (rsp c) size b.activation acts b.body i h.activation;
     temporaries = h.temporaries;
     space = space_kept (rsp c) below_end b.held acts h.space;
   }
@@ -137,7 +142,8 @@ module _ (m m' : Memory) (t : Functions) (fs : List Funclet) (program : LinearPr
       → HoldsLocals m y sp size number a outer
       → HasActivation m' y sp size number (record a { values = values } ∷ outer) (FunctionBody f)
   own_activation y sp size number f a outer own le words h =
-      let at : from ≡ sp + y.locals = omega (arith, h.activation.base, h.activation.distance, own.base, own.distance) in
+      let at : from ≡ sp + y.locals = omega (arith, h.activation.base, h.activation.distance,
+          own.base, own.distance) in
       record {
         none = h.none;
         activation = record {
@@ -182,12 +188,15 @@ module _ (m m' : Memory) (t : Functions) (fs : List Funclet) (program : LinearPr
       fits a.values (subst (λ x. slice_get (locals_of outer ++ a.values ∷ []) x ≡ Some a.values) n
       (got_last (locals_of outer) a.values))
 
-  outer_fits : (acts : List Activation) (name : BodyName) → Fits acts → Fits (activations_below name acts)
+  outer_fits : (acts : List Activation) (name : BodyName) → Fits acts
+      → Fits (activations_below name acts)
   outer_fits [] (FunctionBody f) fits vs e = fits vs e
-  outer_fits (a ∷ outer) (FunctionBody f) fits vs e = fits vs (got_before (locals_of outer) (a.values ∷ []) k vs e)
+  outer_fits (a ∷ outer) (FunctionBody f) fits vs e =
+      fits vs (got_before (locals_of outer) (a.values ∷ []) k vs e)
   outer_fits acts (FuncletBody j) fits vs e = fits vs e
 
-  kept_from : (low high : ℕ) → low ≤ high → KeepsStackBut m m' low from to → KeepsStackBut m m' high from to
+  kept_from : (low high : ℕ) → low ≤ high → KeepsStackBut m m' low from to
+      → KeepsStackBut m m' high from to
   kept_from low high le h = record {
     bytes = λ x l u o. h.bytes x (omega arith) u o;
     protection = h.protection;
@@ -214,7 +223,8 @@ module _ (m m' : Memory) (t : Functions) (fs : List Funclet) (program : LinearPr
     own_function c f is b below a outer n name own fits keeps low frame rest h locals above linked =
         let y = p.layout b.body in
         let nine = frame.kept in
-        let e : rsp (after_frame c f) ≡ rsp c + f.size + 8 = set_head c.kept (rsp c + f.size + 8) (omega arith) in
+        let e : rsp (after_frame c f) ≡ rsp c + f.size + 8 =
+            set_head c.kept (rsp c + f.size + 8) (omega arith) in
         let l = in_stack t fs program p m (after_frame c f) is below outer rest linked in
         let at : from ≡ rsp c + y.locals = omega
         (arith, locals.activation.base, locals.activation.distance, own.base, own.distance) in
@@ -223,7 +233,8 @@ module _ (m m' : Memory) (t : Functions) (fs : List Funclet) (program : LinearPr
         let le : to ≤ rsp c + f.size = omega arith in
         let r = below_them (rsp c) low end keeps in
         let r' = above_them (rsp c) low (omega arith) keeps in
-        let last : temporaries_end y b.body f.size ≡ y.locals = ap (λ x. temporaries_end y x f.size) name in
+        let last : temporaries_end y b.body f.size ≡ y.locals =
+            ap (λ x. temporaries_end y x f.size) name in
         let temps = words_kept m m' from (rsp c) (rsp c + y.temporaries)
         (rsp c + temporaries_end y b.body f.size) b.temporaries r (omega arith) (omega arith)
         h.waits.temporaries in
@@ -232,7 +243,8 @@ module _ (m m' : Memory) (t : Functions) (fs : List Funclet) (program : LinearPr
         subst (λ acts. IsLinkedStack t fs program p m' c (Framed f ∷ is) (Waits b ∷ below) acts)
         (sym (first_changes a outer k values own.number))
         (record {
-          stack = (frame_above m m' STACK_END t fs program p to c f r' le (omega arith) frame, outermost.stack);
+          stack = (frame_above m m' STACK_END t fs program p to c f r' le (omega arith) frame,
+              outermost.stack);
           linked = (
             record {
               framed = h.framed;
@@ -253,7 +265,8 @@ module _ (m m' : Memory) (t : Functions) (fs : List Funclet) (program : LinearPr
     -- an item that is passed, and the list above it
     passes_frame : (c : Context) (f : StackFrame) (is : List StackItem) (b : Frame)
         (below : List Item) (acts : List Activation) → passes acts b.body
-        → KeepsStackBut m m' (rsp c) from to → STACK_START ≤ rsp c → FrameIsAt t m c f → rsp c + f.size + 8 ≤ from
+        → KeepsStackBut m m' (rsp c) from to → STACK_START ≤ rsp c → FrameIsAt t m c f
+            → rsp c + f.size + 8 ≤ from
         → FrameWaits t fs program p m c f b below acts → IsAbove t fs program p b b.body below
         → Stored (after_frame c f) is below (activations_below b.body acts)
         → Stored c (Framed f ∷ is) (Waits b ∷ below) acts
@@ -262,7 +275,8 @@ module _ (m m' : Memory) (t : Functions) (fs : List Funclet) (program : LinearPr
         record {
           stack = (frame_is_at m m' from t fs program p c f r le frame, rest.stack);
           linked = (
-            frame_passed c f b below acts i (frame_kept m m' from t fs program p c f b below acts r (omega arith) h),
+            frame_passed c f b below acts i (frame_kept m m' from t fs program p c f b below acts r
+                (omega arith) h),
             above,
             subst (λ x. Linked t fs program p m' (after_frame c f) is below x)
                 (sym (below_passed acts b.body i)) rest.linked,
@@ -271,7 +285,8 @@ module _ (m m' : Memory) (t : Functions) (fs : List Funclet) (program : LinearPr
 
     passes_leaf : (c : Context) (back : ℕ) (is : List StackItem) (b : Frame) (below : List Item)
         (acts : List Activation) → passes acts b.body
-        → KeepsStackBut m m' (rsp c) from to → STACK_START ≤ rsp c → LeafIsAt t m c back → rsp c + home_end ≤ from
+        → KeepsStackBut m m' (rsp c) from to → STACK_START ≤ rsp c → LeafIsAt t m c back
+            → rsp c + home_end ≤ from
         → LeafWaits t fs program p m c back b below acts → IsAbove t fs program p b b.body below
         → Stored (after_leaf c back) is below (activations_below b.body acts)
         → Stored c (Leaf back ∷ is) (Waits b ∷ below) acts
@@ -280,7 +295,8 @@ module _ (m m' : Memory) (t : Functions) (fs : List Funclet) (program : LinearPr
         record {
           stack = (leaf_is_at m m' from t fs program p c back r (omega arith) leaf, rest.stack);
           linked = (
-            leaf_passed c back b below acts i (leaf_kept m m' from t fs program p c back b below acts r le h),
+            leaf_passed c back b below acts i
+                (leaf_kept m m' from t fs program p c back b below acts r le h),
             above,
             subst (λ x. Linked t fs program p m' (after_leaf c back) is below x)
                 (sym (below_passed acts b.body i)) rest.linked,
@@ -297,10 +313,12 @@ module _ (m m' : Memory) (t : Functions) (fs : List Funclet) (program : LinearPr
         → Stored c (Framed f ∷ is) (Waits b ∷ below) acts
     upper c f is b below acts name same i keeps low frame stack h above linked rest =
         let nine = frame.kept in
-        let e : rsp (after_frame c f) ≡ rsp c + f.size + 8 = set_head c.kept (rsp c + f.size + 8) (omega arith) in
+        let e : rsp (after_frame c f) ≡ rsp c + f.size + 8 =
+            set_head c.kept (rsp c + f.size + 8) (omega arith) in
         let high = (are_there t fs program p m (after_frame c f) is below
         (activations_below name acts) k base distance stack linked i).low_end in
-        passes_frame c f is b below acts (subst (λ x. passes acts x) (sym same) i) keeps low frame (omega arith) h above
+        passes_frame c f is b below acts (subst (λ x. passes acts x) (sym same) i) keeps low frame
+            (omega arith) h above
         (subst (λ x. Stored (after_frame c f) is below (activations_below x acts)) (sym same) rest)
 
     leaf_upper : (c : Context) (back : ℕ) (is : List StackItem) (b : Frame) (below : List Item)
@@ -318,11 +336,13 @@ module _ (m m' : Memory) (t : Functions) (fs : List Funclet) (program : LinearPr
         (activations_below name acts) k base distance stack linked i).low_end in
         passes_leaf c back is b below acts (subst (λ x. passes acts x) (sym same) i) keeps low leaf
         (omega arith) h above
-        (subst (λ x. Stored (after_leaf c back) is below (activations_below x acts)) (sym same) rest)
+        (subst (λ x. Stored (after_leaf c back) is below (activations_below x acts))
+            (sym same) rest)
 
     -- this frame's own, or that of one above
     by_frame : (c : Context) (f : StackFrame) (is : List StackItem) (b : Frame) (below : List Item)
-        (acts : List Activation) (name : BodyName) → b.body ≡ name → IsActivation acts k base distance
+        (acts : List Activation) (name : BodyName) → b.body ≡ name
+            → IsActivation acts k base distance
         → Fits acts
         → KeepsStackBut m m' (rsp c) from to → STACK_START ≤ rsp c → FrameIsAt t m c f
         → IsStack t m (after_frame c f) is
@@ -332,19 +352,23 @@ module _ (m m' : Memory) (t : Functions) (fs : List Funclet) (program : LinearPr
         → Linked t fs program p m (after_frame c f) is below (activations_below name acts)
         → (passes acts name → Stored (after_frame c f) is below (activations_below name acts))
         → Stored c (Framed f ∷ is) (Waits b ∷ below) acts
-    by_frame c f is b below [] name same i fits keeps low frame stack h locals above linked rest = absurd i
+    by_frame c f is b below [] name same i fits keeps low frame stack h locals above linked rest =
+        absurd i
     by_frame c f is b below (a ∷ outer) (FunctionBody n) same (inl own) fits keeps low frame stack h
-        locals above linked rest = own_function c f is b below a outer n same own fits keeps low frame
+        locals above linked rest = own_function c f is b below a outer n same own fits keeps low
+            frame
         stack h locals above linked
     by_frame c f is b below (a ∷ outer) (FunctionBody n) same (inr i) fits keeps low frame stack h
-        locals above linked rest = upper c f is b below (a ∷ outer) (FunctionBody n) same i keeps low
+        locals above linked rest = upper c f is b below (a
+            ∷ outer) (FunctionBody n) same i keeps low
         frame stack h above linked (rest i)
     by_frame c f is b below (a ∷ outer) (FuncletBody j) same i fits keeps low frame stack h locals
         above linked rest = upper c f is b below (a ∷ outer) (FuncletBody j) same i keeps low frame
         stack h above linked (rest i)
 
     by_leaf : (c : Context) (back : ℕ) (is : List StackItem) (b : Frame) (below : List Item)
-        (acts : List Activation) (name : BodyName) → b.body ≡ name → IsActivation acts k base distance
+        (acts : List Activation) (name : BodyName) → b.body ≡ name
+            → IsActivation acts k base distance
         → (k ≡ length (activations_below name acts) → p.leaf b.body ≡ false)
         → KeepsStackBut m m' (rsp c) from to → STACK_START ≤ rsp c → LeafIsAt t m c back
         → IsStack t m (after_leaf c back) is
@@ -352,7 +376,8 @@ module _ (m m' : Memory) (t : Functions) (fs : List Funclet) (program : LinearPr
         → Linked t fs program p m (after_leaf c back) is below (activations_below name acts)
         → (passes acts name → Stored (after_leaf c back) is below (activations_below name acts))
         → Stored c (Leaf back ∷ is) (Waits b ∷ below) acts
-    by_leaf c back is b below [] name same i framed keeps low leaf stack h above linked rest = absurd i
+    by_leaf c back is b below [] name same i framed keeps low leaf stack h above linked rest =
+        absurd i
     by_leaf c back is b below (a ∷ outer) (FunctionBody n) same (inl own) framed keeps low leaf
         stack h above linked rest = absurd (let f : true ≡ false = sym h.leaf ∙ framed own.number in
         cc)
@@ -367,10 +392,12 @@ module _ (m m' : Memory) (t : Functions) (fs : List Funclet) (program : LinearPr
         → IsStack t m c is → Linked t fs program p m c is items acts
         → IsActivation acts k base distance → OwnerHasFrame t fs program p k items acts → Fits acts
         → KeepsStackBut m m' (rsp c) from to → STACK_START ≤ rsp c → Stored c is items acts
-    stored c [] [] acts s h i o fits keeps low = absurd (subst (λ a. IsActivation a k base distance) h.0 i)
+    stored c [] [] acts s h i o fits keeps low =
+        absurd (subst (λ a. IsActivation a k base distance) h.0 i)
     stored c (Framed f ∷ is) (Waits b ∷ below) acts s h i o fits keeps low =
         let e = rises t m c (Framed f) s.0 in
-        by_frame c f is b below acts b.body refl i fits keeps low s.0 s.1 h.0 h.0.waits.activation h.1 h.2
+        by_frame c f is b below acts b.body refl i fits keeps low s.0 s.1 h.0 h.0.waits.activation
+            h.1 h.2
         (λ j. stored (after_frame c f) is below (activations_below b.body acts) s.1 h.2 j o.1
         (outer_fits acts b.body fits) (kept_from (rsp c) (rsp (after_frame c f)) (omega arith)
         keeps) (omega arith))
@@ -380,10 +407,12 @@ module _ (m m' : Memory) (t : Functions) (fs : List Funclet) (program : LinearPr
         (λ j. stored (after_leaf c back) is below (activations_below b.body acts) s.1 h.2 j o.1
         (outer_fits acts b.body fits) (kept_from (rsp c) (rsp (after_leaf c back)) (omega arith)
         keeps) (omega arith))
-    stored c (Searching d ∷ is) (Searches exception resumption asked rest ∷ below) acts s h i o fits keeps low =
+    stored c (Searching d ∷ is) (Searches exception resumption asked rest
+        ∷ below) acts s h i o fits keeps low =
         let e = rises t m c (Searching d) s.0 in
         let a = s.0.above in
-        let high = (are_there t fs program p m (context_of d.saved) is below acts k base distance s.1 h.1 i).low_end in
+        let high = (are_there t fs program p m (context_of d.saved) is below acts k base distance
+            s.1 h.1 i).low_end in
         let r = below_them (rsp c) low end keeps in
         let outer = stored (context_of d.saved) is below acts s.1 h.1 i o fits
         (kept_from (rsp c) (rsp (context_of d.saved)) (omega arith) keeps) (omega arith) in
@@ -410,7 +439,8 @@ module _ (m m' : Memory) (t : Functions) (fs : List Funclet) (program : LinearPr
     stored c (Unwinding d ∷ is) (Unwinds rest target ∷ below) acts s h i o fits keeps low =
         let e = rises t m c (Unwinding d) s.0 in
         let a = s.0.above in
-        let high = (are_there t fs program p m d.walk is below acts k base distance s.1 h.1 i).low_end in
+        let high = (are_there t fs program p m d.walk is below acts k base distance s.1 h.1
+            i).low_end in
         let r = below_them (rsp c) low end keeps in
         let outer = stored d.walk is below acts s.1 h.1 i o fits
         (kept_from (rsp c) (rsp d.walk) (omega arith) keeps) (omega arith) in
@@ -433,10 +463,12 @@ module _ (m m' : Memory) (t : Functions) (fs : List Funclet) (program : LinearPr
         }
     stored c [] (j ∷ items) acts s h i o fits keeps low = absurd h
     stored c (Framed f ∷ is) [] acts s h i o fits keeps low = absurd h
-    stored c (Framed f ∷ is) (Searches exception resumption asked rest ∷ below) acts s h i o fits keeps low = absurd h
+    stored c (Framed f ∷ is) (Searches exception resumption asked rest
+        ∷ below) acts s h i o fits keeps low = absurd h
     stored c (Framed f ∷ is) (Unwinds rest target ∷ below) acts s h i o fits keeps low = absurd h
     stored c (Leaf back ∷ is) [] acts s h i o fits keeps low = absurd h
-    stored c (Leaf back ∷ is) (Searches exception resumption asked rest ∷ below) acts s h i o fits keeps low = absurd h
+    stored c (Leaf back ∷ is) (Searches exception resumption asked rest
+        ∷ below) acts s h i o fits keeps low = absurd h
     stored c (Leaf back ∷ is) (Unwinds rest target ∷ below) acts s h i o fits keeps low = absurd h
     stored c (Searching d ∷ is) [] acts s h i o fits keeps low = absurd h
     stored c (Searching d ∷ is) (Waits b ∷ below) acts s h i o fits keeps low = absurd h

@@ -17,11 +17,13 @@ module _ (setting : Setting) where
   open setting use {functions as t, funclets as fs, program, plan as p, sites as q, image}
 
   -- linear code, further on in the body
-  abbrev pub further : Configuration → List Activation → (label : ℕ) (values ts : List ℕ) (landed : Option ℕ) → Memory → List Event → Configuration
+  abbrev pub further : Configuration → List Activation
+      → (label : ℕ) (values ts : List ℕ) (landed : Option ℕ) → Memory → List Event → Configuration
   further c acts label values ts landed source events = record {
     frame = record c.frame { next = label; temporaries = ts; landed = landed };
     below = c.below;
-    store = record { memory = source; activations = locals_of (with_values acts c.frame.activation values) };
+    store = record { memory = source; activations =
+        locals_of (with_values acts c.frame.activation values) };
     events = events;
   }
 
@@ -45,7 +47,8 @@ module _ (setting : Setting) where
         → IsAbove t fs program p (record f { next = label; temporaries = ts; landed = landed }) name
         items
     above_next items (FunctionBody n) f label landed ts h = h
-    above_next items (FuncletBody k) f label landed ts h = by_funclet (slice_get program.funclets k) items h
+    above_next items (FuncletBody k) f label landed ts h =
+        by_funclet (slice_get program.funclets k) items h
       where
         by_funclet : (o : Option LinearFunclet) (items : List Item)
             → FuncletIsAbove t fs program p k f o items
@@ -55,8 +58,10 @@ module _ (setting : Setting) where
         by_funclet (Some g) [] h = absurd h
         by_funclet (Some g) (Searches exception resumption asked rest ∷ []) h = absurd h
         by_funclet (Some g) (Searches exception resumption asked rest ∷ Waits w ∷ below) h = h
-        by_funclet (Some g) (Searches exception resumption asked rest ∷ Searches a b c d ∷ below) h = absurd h
-        by_funclet (Some g) (Searches exception resumption asked rest ∷ Unwinds a b ∷ below) h = absurd h
+        by_funclet (Some g) (Searches exception resumption asked rest ∷ Searches a b c d
+            ∷ below) h = absurd h
+        by_funclet (Some g) (Searches exception resumption asked rest ∷ Unwinds a b ∷ below) h =
+            absurd h
         by_funclet (Some g) (Unwinds rest target ∷ []) h = absurd h
         by_funclet (Some g) (Unwinds rest target ∷ Waits w ∷ below) h = h
         by_funclet (Some g) (Unwinds rest target ∷ Searches a b c d ∷ below) h = absurd h
@@ -88,7 +93,8 @@ module _ (setting : Setting) where
       number_of_values : length values ≡ length here.values
       number_of_values = r.leaves.count ∙ sym cnt
 
-      new_local : (i v : ℕ) → slice_get values i ≡ Some v → word u.memory (here.base + y.locals + 8 * i) ≡ Ok v
+      new_local : (i v : ℕ) → slice_get values i ≡ Some v
+          → word u.memory (here.base + y.locals + 8 * i) ≡ Ok v
       new_local i v e =
           let g = get_index values i v e in
           let lt = g.1 in
@@ -102,10 +108,12 @@ module _ (setting : Setting) where
           (omega arith) (let m = cnt in omega arith)
           (r.holds.slot (Local i) (omega arith) ∙ r.leaves.locals i (omega arith) ∙ g.0))
 
-      new_locals : (end : ℕ) → here.base + y.locals + 8 * length values ≤ end → HoldsWords u.memory (here.base + y.locals) end values
+      new_locals : (end : ℕ) → here.base + y.locals + 8 * length values ≤ end
+          → HoldsWords u.memory (here.base + y.locals) end values
       new_locals end le = words_are u.memory (here.base + y.locals) end values le new_local
 
-      new_temporary : (i v : ℕ) → slice_get ts i ≡ Some v → word u.memory (sp + y.temporaries + 8 * i) ≡ Ok v
+      new_temporary : (i v : ℕ) → slice_get ts i ≡ Some v
+          → word u.memory (sp + y.temporaries + 8 * i) ≡ Ok v
       new_temporary i v e =
           let g = get_index ts i v e in
           let lt = g.1 in
@@ -119,11 +127,14 @@ module _ (setting : Setting) where
           (omega arith) (omega arith)
           (r.holds.slot (Temporary i) (omega arith) ∙ r.leaves.temporaries i v e))
 
-      new_temporaries : HoldsWords u.memory (sp + y.temporaries) (sp + last_temporary y c.frame.body (p.leaf c.frame.body)) ts
+      new_temporaries : HoldsWords u.memory (sp + y.temporaries)
+          (sp + last_temporary y c.frame.body (p.leaf c.frame.body)) ts
       new_temporaries =
           let room = last_room setting s c b counted in
           let few = r.leaves.few in
-          words_are u.memory (sp + y.temporaries) (sp + last_temporary y c.frame.body (p.leaf c.frame.body)) ts (omega arith) new_temporary
+          words_are u.memory (sp + y.temporaries)
+              (sp + last_temporary y c.frame.body (p.leaf c.frame.body)) ts
+              (omega arith) new_temporary
 
       -- a word that is in no slot
       kept_word : (at v : ℕ) → STACK_START ≤ at → at + 8 ≤ STACK_END
@@ -131,7 +142,8 @@ module _ (setting : Setting) where
           ⊎ InLocals y (counts_of code) here.base a → ⊥) → word s.memory at ≡ Ok v
           → word u.memory at ≡ Ok v
       kept_word at v l h out w = word_beside program.globals s u y (counts_of code) sp
-          c.frame.activation b.body.acts here cnt r.changed b.memory.data_alone b.memory.stack at v l
+          c.frame.activation b.body.acts here cnt r.changed b.memory.data_alone b.memory.stack at v
+              l
           h out w
 
       -- ---- by the kind of body
@@ -155,11 +167,14 @@ module _ (setting : Setting) where
       own_activation number size [] e h le = absurd h
       own_activation number size (a ∷ outer) e h le =
           let base = function_base h.none in
-          subst (λ x. HasActivation u.memory y sp size c.frame.activation x (FunctionBody number)) (sym (first_changes a outer c.frame.activation values h.activation.number))
+          subst (λ x. HasActivation u.memory y sp size c.frame.activation x (FunctionBody number))
+              (sym (first_changes a outer c.frame.activation values h.activation.number))
           (record {
             none = h.none;
-            activation = record { number = h.activation.number; base = h.activation.base; distance = h.activation.distance };
-            values = subst (λ x. HoldsWords u.memory (x + y.locals) (sp + size) values) base (new_locals (sp + size) (omega arith));
+            activation = record { number = h.activation.number; base = h.activation.base; distance =
+                h.activation.distance };
+            values = subst (λ x. HoldsWords u.memory (x + y.locals) (sp + size) values) base
+                (new_locals (sp + size) (omega arith));
           })
 
       funclet_base : (number size : ℕ) → (h : HasActivation s.memory y sp size c.frame.activation
@@ -168,14 +183,16 @@ module _ (setting : Setting) where
 
       -- the frame's word at an offset that is in no slot
       abbrev Beside : ℕ → Type 0
-      Beside offset = (a : ℕ) → sp + offset ≤ a → a < sp + offset + 8 → InTemporaries y (counts_of code) sp a ⊎ InLocals y (counts_of code) here.base a → ⊥
+      Beside offset = (a : ℕ) → sp + offset ≤ a → a < sp + offset + 8
+          → InTemporaries y (counts_of code) sp a ⊎ InLocals y (counts_of code) here.base a → ⊥
 
       function_beside : AsFunction setting s c b counted → Beside y.frame
       function_beside f a l h i =
           let base = function_base f.layout.none in
           let x = f.layout.temporaries in
           let z = f.layout.locals in
-          elim i [ inl w ↦ (let g = w.1 in absurd (omega arith)) | inr w ↦ (let g = w.1 in absurd (omega arith)) ]
+          elim i [ inl w ↦ (let g = w.1 in absurd (omega arith)) | inr w ↦ (let g = w.1 in
+              absurd (omega arith)) ]
 
       leaf_beside : AsLeaf setting s c b counted → Beside y.frame
       leaf_beside f a l h i =
@@ -183,7 +200,8 @@ module _ (setting : Setting) where
           let x = f.layout.temporaries in
           let z = f.layout.locals in
           let n = f.layout.frame in
-          elim i [ inl w ↦ (let g = w.0 in absurd (omega arith)) | inr w ↦ (let g = w.0 in absurd (omega arith)) ]
+          elim i [ inl w ↦ (let g = w.0 in absurd (omega arith)) | inr w ↦ (let g = w.0 in
+              absurd (omega arith)) ]
 
       funclet_beside : (f : AsFunclet setting s c b counted) → (offset : ℕ) →
           (offset + 8 ≤ y.temporaries) ⊎ (y.frame ≡ offset) → Beside offset
@@ -191,13 +209,16 @@ module _ (setting : Setting) where
           let k = (funclet_base f.number y.frame f.activation).above_frame in
           let x = f.layout.temporaries in
           elim i [
-            | inl w ↦ (let g = w.0 in let z = w.1 in elim o [ inl e ↦ absurd (omega arith) | inr e ↦ absurd (omega arith) ])
-            | inr w ↦ (let g = w.0 in elim o [ inl e ↦ absurd (omega arith) | inr e ↦ absurd (omega arith) ])
+            | inl w ↦ (let g = w.0 in let z = w.1 in
+                elim o [ inl e ↦ absurd (omega arith) | inr e ↦ absurd (omega arith) ])
+            | inr w ↦ (let g = w.0 in elim o [ inl e ↦ absurd (omega arith) | inr
+                e ↦ absurd (omega arith) ])
           ]
 
       -- the return address
       pub returns : word u.memory (sp + y.frame) ≡ Ok b.body.back
-      returns = kept_word (sp + y.frame) b.body.back (let l = low in omega arith) (let h = top in omega arith)
+      returns = kept_word (sp + y.frame) b.body.back (let l = low in omega arith) (let h = top in
+          omega arith)
           (elim (kind setting s c b counted) [
             | inl f ↦ function_beside f
             | inr (inl f) ↦ leaf_beside
@@ -206,27 +227,38 @@ module _ (setting : Setting) where
           ])
           b.body.returns
 
-      activation : HasActivation u.memory y sp (slots_end y (p.leaf c.frame.body)) c.frame.activation (with_values b.body.acts c.frame.activation values) c.frame.body
+      activation : HasActivation u.memory y sp
+          (slots_end y (p.leaf c.frame.body)) c.frame.activation
+          (with_values b.body.acts c.frame.activation values) c.frame.body
       activation = elim (kind setting s c b counted) [
-        | inl f ↦ subst (λ l. HasActivation u.memory y sp (slots_end y l) c.frame.activation (with_values b.body.acts c.frame.activation values) c.frame.body) (sym f.framed)
-            (subst (λ n. HasActivation u.memory y sp y.frame c.frame.activation (with_values b.body.acts c.frame.activation values) n) (sym f.name)
-            (own_activation f.number y.frame b.body.acts refl f.activation (let n = r.leaves.count in let z = f.layout.locals in omega arith)))
-        | inr (inl f) ↦ subst (λ l. HasActivation u.memory y sp (slots_end y l) c.frame.activation (with_values b.body.acts c.frame.activation values) c.frame.body) (sym f.leaf)
-            (subst (λ n. HasActivation u.memory y sp y.temporaries c.frame.activation (with_values b.body.acts c.frame.activation values) n) (sym f.name)
+        | inl f ↦ subst (λ l. HasActivation u.memory y sp (slots_end y l) c.frame.activation
+            (with_values b.body.acts c.frame.activation values) c.frame.body) (sym f.framed)
+            (subst (λ n. HasActivation u.memory y sp y.frame c.frame.activation
+                (with_values b.body.acts c.frame.activation values) n) (sym f.name)
+            (own_activation f.number y.frame b.body.acts refl f.activation (let n = r.leaves.count
+                in let z = f.layout.locals in omega arith)))
+        | inr (inl f) ↦ subst (λ l. HasActivation u.memory y sp (slots_end y l) c.frame.activation
+            (with_values b.body.acts c.frame.activation values) c.frame.body) (sym f.leaf)
+            (subst (λ n. HasActivation u.memory y sp y.temporaries c.frame.activation
+                (with_values b.body.acts c.frame.activation values) n) (sym f.name)
             (own_activation f.number y.temporaries b.body.acts refl f.activation
             (let n = r.leaves.count in let x = f.layout.temporaries in let z = f.layout.locals in
             omega arith)))
         | inr (inr f) ↦ subst (λ l. HasActivation u.memory y sp (slots_end y l) c.frame.activation
             (with_values b.body.acts c.frame.activation values) c.frame.body) (sym f.framed)
-            (subst (λ n. HasActivation u.memory y sp y.frame c.frame.activation (with_values b.body.acts c.frame.activation values) n) (sym f.name)
+            (subst (λ n. HasActivation u.memory y sp y.frame c.frame.activation
+                (with_values b.body.acts c.frame.activation values) n) (sym f.name)
             (record {
               slot = f.activation.slot;
               base = f.activation.base;
               some = f.activation.some;
               room = f.activation.room;
-              kept = (let k = funclet_base f.number y.frame f.activation in let z = k.below_temporaries in let l = low in let h = top in let w = f.activation.room in
-                  kept_word (sp + f.activation.slot) f.activation.base (omega arith) (omega arith) (funclet_beside f f.activation.slot (inl z)) f.activation.kept);
-              activation = still_is b.body.acts c.frame.activation values c.frame.activation f.activation.base y.locals f.activation.activation;
+              kept = (let k = funclet_base f.number y.frame f.activation in let z =
+                  k.below_temporaries in let l = low in let h = top in let w = f.activation.room in
+                  kept_word (sp + f.activation.slot) f.activation.base (omega arith) (omega arith)
+                      (funclet_beside f f.activation.slot (inl z)) f.activation.kept);
+              activation = still_is b.body.acts c.frame.activation values c.frame.activation
+                  f.activation.base y.locals f.activation.activation;
             }))
       ]
 
@@ -240,27 +272,35 @@ module _ (setting : Setting) where
       pointers_in (Unwinds rest target ∷ below) a h = tt
       pointers_in (Searches exception resumption asked rest ∷ below) a h = elim
           (kind setting s c b counted) [
-            | inl f ↦ absurd (subst (λ n. IsAbove t fs program p c.frame n (Searches exception resumption asked rest ∷ below)) f.name a)
-            | inr (inl f) ↦ absurd (subst (λ n. IsAbove t fs program p c.frame n (Searches exception resumption asked rest ∷ below)) f.name a)
-            | inr (inr f) ↦ (let l = low in let e = top in let z = h.room in let g = f.layout.pointers in let w = f.layout.kept in
+            | inl f ↦ absurd (subst (λ n. IsAbove t fs program p c.frame n
+                (Searches exception resumption asked rest ∷ below)) f.name a)
+            | inr (inl f) ↦ absurd (subst (λ n. IsAbove t fs program p c.frame n
+                (Searches exception resumption asked rest ∷ below)) f.name a)
+            | inr (inr f) ↦ (let l = low in let e = top in let z = h.room in let g =
+                f.layout.pointers in let w = f.layout.kept in
                 record {
                   room = h.room;
                   kept = kept_word (sp + y.pointers) (sp + y.frame + 88)
-                      (omega arith) (omega arith) (funclet_beside f y.pointers (inl (omega arith))) h.kept;
+                      (omega arith) (omega arith)
+                          (funclet_beside f y.pointers (inl (omega arith))) h.kept;
                 })
           ]
 
       -- ---- the list below
 
       pub data_stays : IsData u.memory
-      data_stays = stays_data program.globals s u y (counts_of code) sp c.frame.activation b.body.acts here cnt r.changed b.memory.data_alone b.memory.stack
+      data_stays = stays_data program.globals s u y
+          (counts_of code) sp c.frame.activation b.body.acts here cnt r.changed b.memory.data_alone
+          b.memory.stack
 
       function_below : (number : ℕ) (acts : List Activation) (size : ℕ)
           → HasActivation s.memory y sp size c.frame.activation acts (FunctionBody number)
           → activations_below (FunctionBody number) acts
           ≡ activations_below (FunctionBody number) (with_values acts c.frame.activation values)
       function_below number [] size h = absurd h
-      function_below number (a ∷ outer) size h = ap (activations_below (FunctionBody number)) (sym (first_changes a outer c.frame.activation values h.activation.number))
+      function_below number (a ∷ outer) size h =
+          ap (activations_below (FunctionBody number))
+          (sym (first_changes a outer c.frame.activation values h.activation.number))
 
       module _ (caller : p.leaf c.frame.body ≡ true → CallerHasFrame p c.below)
           (owner : (k : ℕ) → c.frame.body ≡ FuncletBody k
@@ -269,11 +309,13 @@ module _ (setting : Setting) where
         abbrev above : Context
         above = context_below b.body.back (sp + y.frame + 8) others
 
-        abbrev old : IsLinkedStack t fs program p s.memory above b.body.is c.below (activations_below c.frame.body b.body.acts)
+        abbrev old : IsLinkedStack t fs program p s.memory above b.body.is c.below
+            (activations_below c.frame.body b.body.acts)
         old = (b.body.below others eight).is_there
 
         abbrev New : BodyName → Type 0
-        New name = IsLinkedStack t fs program p u.memory above b.body.is c.below (activations_below name (with_values b.body.acts c.frame.activation values))
+        New name = IsLinkedStack t fs program p u.memory above b.body.is c.below
+            (activations_below name (with_values b.body.acts c.frame.activation values))
 
         new_function : AsFunction setting s c b counted → New c.frame.body
         new_function f =
@@ -282,13 +324,16 @@ module _ (setting : Setting) where
             let z = f.layout.locals in
             let base = function_base f.layout.none in
             subst New (sym f.name)
-            (subst (λ acts. IsLinkedStack t fs program p u.memory above b.body.is c.below acts) (function_below f.number b.body.acts y.frame f.activation)
-            (kept_by_other_memories t fs program p s.memory u.memory above b.body.is c.below (activations_below (FunctionBody f.number) b.body.acts)
+            (subst (λ acts. IsLinkedStack t fs program p u.memory above b.body.is c.below acts)
+                (function_below f.number b.body.acts y.frame f.activation)
+            (kept_by_other_memories t fs program p s.memory u.memory above b.body.is c.below
+                (activations_below (FunctionBody f.number) b.body.acts)
             (stack_kept program.globals s u y (counts_of code) sp c.frame.activation b.body.acts
             here cnt r.changed b.memory.data_alone b.memory.stack (sp + y.frame + 8) (omega arith)
             (omega arith) (omega arith))
             (omega arith)
-            (subst (λ n. IsLinkedStack t fs program p s.memory above b.body.is c.below (activations_below n b.body.acts)) f.name old)))
+            (subst (λ n. IsLinkedStack t fs program p s.memory above b.body.is c.below
+                (activations_below n b.body.acts)) f.name old)))
 
         new_leaf : (f : AsLeaf setting s c b counted) → New c.frame.body
         new_leaf f =
@@ -303,7 +348,8 @@ module _ (setting : Setting) where
             b.body.acts here cnt r.changed b.memory.data_alone b.memory.stack (sp + 40)
             (omega arith) (omega arith) (omega arith) in
             subst New (sym f.name)
-            (subst (λ acts. IsLinkedStack t fs program p u.memory above b.body.is c.below acts) (function_below f.number b.body.acts y.temporaries f.activation)
+            (subst (λ acts. IsLinkedStack t fs program p u.memory above b.body.is c.below acts)
+                (function_below f.number b.body.acts y.temporaries f.activation)
             (home_is_free s.memory u.memory t fs program p image.laid_out above
             (record {
               bytes = λ a from to out. elim out
@@ -312,16 +358,20 @@ module _ (setting : Setting) where
               code = keep.code;
               no_more_code = keep.no_more_code;
             })
-            (omega arith) b.body.is c.below (activations_below (FunctionBody f.number) b.body.acts) (caller f.leaf)
-            (subst (λ n. IsLinkedStack t fs program p s.memory above b.body.is c.below (activations_below n b.body.acts)) f.name old)))
+            (omega arith) b.body.is c.below (activations_below (FunctionBody f.number) b.body.acts)
+                (caller f.leaf)
+            (subst (λ n. IsLinkedStack t fs program p s.memory above b.body.is c.below
+                (activations_below n b.body.acts)) f.name old)))
 
         new_funclet : (f : AsFunclet setting s c b counted) → New c.frame.body
         new_funclet f =
             let l = low in
             let x = f.layout.temporaries in
             let kept = funclet_base f.number y.frame f.activation in
-            let base : f.activation.base ≡ here.base = same_word f.activation.base here.base (sym f.activation.kept ∙ kept.word_is) in
-            let function_layout : IsFunctionLayout (p.layout (FunctionBody f.plan.funclet.function)) f.plan.function =
+            let base : f.activation.base ≡ here.base =
+                same_word f.activation.base here.base (sym f.activation.kept ∙ kept.word_is) in
+            let function_layout : IsFunctionLayout
+                (p.layout (FunctionBody f.plan.funclet.function)) f.plan.function =
             subst (λ l. IsLayoutIf program p (p.layout (FunctionBody f.plan.funclet.function))
             f.plan.function l) f.plan.function_framed
             (image.laid_out (FunctionBody f.plan.funclet.function) f.plan.function
@@ -335,12 +385,16 @@ module _ (setting : Setting) where
             (omega arith) (omega arith) in
             let m : code.locals ≡ length values = sym r.leaves.count in
             subst New (sym f.name)
-            (activations_are_stored t fs program p s.memory u.memory above b.body.is c.below b.body.acts c.frame.activation here.base y.locals here.values values
-            (subst (λ n. IsLinkedStack t fs program p s.memory above b.body.is c.below (activations_below n b.body.acts)) f.name old)
+            (activations_are_stored t fs program p s.memory u.memory above b.body.is c.below
+                b.body.acts c.frame.activation here.base y.locals here.values values
+            (subst (λ n. IsLinkedStack t fs program p s.memory above b.body.is c.below
+                (activations_below n b.body.acts)) f.name old)
             (omega arith)
-            (subst (λ x. IsActivation b.body.acts c.frame.activation x y.locals) base f.activation.activation)
+            (subst (λ x. IsActivation b.body.acts c.frame.activation x y.locals) base
+                f.activation.activation)
             (omega arith) (owner f.number f.name) here.number n
-            (subst (λ n. KeepsStackBut s.memory u.memory (sp + y.frame + 8) (here.base + y.locals) (here.base + y.locals + 8 * n)) m keep)
+            (subst (λ n. KeepsStackBut s.memory u.memory (sp + y.frame + 8) (here.base + y.locals)
+                (here.base + y.locals + 8 * n)) m keep)
             (new_locals (here.base + y.locals + 8 * length values) (omega arith)))
 
         pub new_list : New c.frame.body
@@ -351,14 +405,16 @@ module _ (setting : Setting) where
           | inr (inr f) ↦ new_funclet f
         ]
 
-        pub new_on : On t fs program p u.memory above b.body.is c.below (activations_below c.frame.body (with_values b.body.acts c.frame.activation values))
+        pub new_on : On t fs program p u.memory above b.body.is c.below
+            (activations_below c.frame.body (with_values b.body.acts c.frame.activation values))
         new_on = record { is_there = new_list; data_alone = data_stays }
 
       -- ---- the next instruction
 
       module _ (label : ℕ) (landed : Option ℕ) (events : List Event)
           (rip : u.cpu.rip ≡ p.address c.frame.body label) (inside : label < length code.code)
-          (well_formed : IsWellFormed u) (result : (value : ℕ) → landed ≡ Some value → register u.cpu Rax ≡ value)
+          (well_formed : IsWellFormed u) (result : (value : ℕ) → landed ≡ Some value
+              → register u.cpu Rax ≡ value)
           (caller : p.leaf c.frame.body ≡ true → CallerHasFrame p c.below)
           (owner : (k : ℕ) → c.frame.body ≡ FuncletBody k
           → OwnerHasFrame t fs program p c.frame.activation c.below b.body.acts) where
@@ -375,7 +431,8 @@ module _ (setting : Setting) where
             record { low = omega (arith, rip); high = omega (arith, rip) }
 
         slots : BodyWaits t fs program p u.memory (context_of u.cpu)
-            (slots_end y (p.leaf c.frame.body)) (last_temporary y c.frame.body (p.leaf c.frame.body))
+            (slots_end y (p.leaf c.frame.body))
+                (last_temporary y c.frame.body (p.leaf c.frame.body))
             next.frame (with_values b.body.acts c.frame.activation values)
         slots = record {
           code = code;
@@ -387,7 +444,9 @@ module _ (setting : Setting) where
           activation = subst (λ x. HasActivation u.memory y x (slots_end y (p.leaf c.frame.body))
               c.frame.activation (with_values b.body.acts c.frame.activation values) c.frame.body)
               (sym r.stack) activation;
-          temporaries = subst (λ x. HoldsWords u.memory (x + y.temporaries) (x + last_temporary y c.frame.body (p.leaf c.frame.body)) ts) (sym r.stack) new_temporaries;
+          temporaries = subst (λ x. HoldsWords u.memory (x + y.temporaries)
+              (x + last_temporary y c.frame.body (p.leaf c.frame.body)) ts)
+              (sym r.stack) new_temporaries;
           space = subst (λ x. HasSpace x below_end
               (length (with_values b.body.acts c.frame.activation values) + c.frame.held))
               (sym r.stack) (subst (λ n. HasSpace sp below_end (n + c.frame.held)) (sym same_depth)
@@ -402,7 +461,9 @@ module _ (setting : Setting) where
           memory = record {
             data_alone = data_stays;
             agrees = r.holds.source;
-            stack = stack_written program.globals s u y (counts_of code) sp c.frame.activation b.body.acts here cnt r.changed b.memory.data_alone b.memory.stack;
+            stack = stack_written program.globals s u y
+                (counts_of code) sp c.frame.activation b.body.acts here cnt r.changed
+                b.memory.data_alone b.memory.stack;
             arena = λ a e. no_more_code program.globals s u y (counts_of code) sp c.frame.activation
                 b.body.acts here cnt r.changed b.memory.data_alone b.memory.stack a
                 (b.memory.arena a e);
@@ -414,12 +475,14 @@ module _ (setting : Setting) where
             acts = with_values b.body.acts c.frame.activation values;
             store = refl;
             slots = slots;
-            pointers = subst (λ x. HasPointers t fs program p u.memory y x y.frame c.below) (sym r.stack) (pointers_in c.below b.body.above b.body.pointers);
+            pointers = subst (λ x. HasPointers t fs program p u.memory y x y.frame c.below)
+                (sym r.stack) (pointers_in c.below b.body.above b.body.pointers);
             above = above_next c.below c.frame.body c.frame label landed ts b.body.above;
             home = λ e. subst (λ x. x + home_end ≤ STACK_END) (sym r.stack) (b.body.home e);
             back = b.body.back;
             returns_to = b.body.returns_to;
-            returns = subst (λ x. word u.memory (x + y.frame) ≡ Ok b.body.back) (sym r.stack) returns;
+            returns = subst (λ x. word u.memory (x + y.frame) ≡ Ok b.body.back)
+                (sym r.stack) returns;
             is = b.body.is;
             below = λ others eight.
                 subst (λ x. On t fs program p u.memory

@@ -110,7 +110,8 @@ module _ (t : Functions) (fs : List Funclet) (program : LinearProgram) (p : Imag
 
       module _ (n : ℕ) (x : ScopeRecord) (xs : List ScopeRecord) (r : Region) (rs : List Region)
         where
-          left_skipped : rows.holds x rva ≡ false → holds c.frame.next r ≡ false → Left (n + 1) xs rs
+          left_skipped : rows.holds x rva ≡ false → holds c.frame.next r ≡ false
+              → Left (n + 1) xs rs
               → Left n (x ∷ xs) (r ∷ rs)
           left_skipped e h more =
               left_deeper n x xs r rs
@@ -141,11 +142,13 @@ module _ (t : Functions) (fs : List Funclet) (program : LinearProgram) (p : Imag
                   before = refl;
                 })
             left_asked (kinds.Filter k label) q is more = left_deeper n x xs r rs
-                (row_first false is.to.jumps) (λ next out. passed r rs (kinds.Filter k label) next out
+                (row_first false is.to.jumps)
+                    (λ next out. passed r rs (kinds.Filter k label) next out
                 h
                 (never r) q) more
             left_asked (kinds.Always label) q is more = left_deeper n x xs r rs
-                (row_first false is.to.jumps) (λ next out. passed r rs (kinds.Always label) next out h
+                (row_first false is.to.jumps)
+                    (λ next out. passed r rs (kinds.Always label) next out h
                 (never r) q) more
 
       pub leaves_the_frame : (n : ℕ) (xs : List ScopeRecord) (rs : List Region)
@@ -215,7 +218,8 @@ module _ (t : Functions) (fs : List Funclet) (program : LinearProgram) (p : Imag
             until_first b q =
                 ap (λ b. first_finally (until goal
                 (cond b ((n, x) ∷ holding rva (n + 1) xs) (holding rva (n + 1) xs)))) e
-                ∙ ap (λ b. first_finally (cond b [] ((n, x) ∷ until goal (holding rva (n + 1) xs)))) q
+                ∙ ap (λ b. first_finally (cond b [] ((n, x) ∷ until goal (holding rva (n + 1) xs))))
+                    q
 
             row_here : (b : Bool) → is_end goal x ≡ false → (x.jump_target == 0) ≡ b
                 → first_finally (until goal (holding rva n (x ∷ xs)))
@@ -242,7 +246,8 @@ module _ (t : Functions) (fs : List Funclet) (program : LinearProgram) (p : Imag
                 out h
                 s q) more
             reached_asked (kinds.Always label) q z s is more = reached_deeper n x xs r rs
-                (row_here false z is.to.jumps) (λ next out. passed r rs (kinds.Always label) next out
+                (row_here false z is.to.jumps)
+                    (λ next out. passed r rs (kinds.Always label) next out
                 h s
                 q) more
 

@@ -148,9 +148,11 @@ module _ (setting : Setting) where
 pub continuations_after_calls : ContinuationsAfterCalls
 continuations_after_calls t fs program p q image made s saved is acts c on well_formed says memory
     store = (
-      silent_there (setting_of t fs program p q image) made s saved is acts c on well_formed says memory
+      silent_there (setting_of t fs program p q image) made s saved is acts c on well_formed says
+          memory
           store,
-      λ known free. continues (setting_of t fs program p q image) made s saved is acts c on well_formed
+      λ known free. continues (setting_of t fs program p q image) made s saved is acts c on
+          well_formed
           says memory
           store known free,
     )

@@ -63,5 +63,6 @@ nothing_more source image compiled options arg n low same enough_steps calm =
     (compiled.no_more arg options.turns n low enough_steps calm)
 
 pub walks : Walks
-walks source image compiled arg turns n low enough_steps calm none = compiled.walks arg turns n low enough_steps
+walks source image compiled arg turns n low enough_steps calm none =
+    compiled.walks arg turns n low enough_steps
     calm none

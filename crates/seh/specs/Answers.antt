@@ -82,7 +82,8 @@ IsRunAnswer options bytes out out' (Ok (Ran end)) =
     Loads bytes × (end ≡ end_by options bytes) × Grew out.bytes (text_by options bytes) out'.bytes
 IsRunAnswer options bytes out out' (Err (refusals.Image e)) = ImageIsRefused bytes e
     × Unwritten out out'
-IsRunAnswer options bytes out out' (Err (refusals.Load e)) = IsRefusedLoad bytes e × Unwritten out out'
+IsRunAnswer options bytes out out' (Err (refusals.Load e)) =
+    IsRefusedLoad bytes e × Unwritten out out'
 IsRunAnswer options bytes out out' (Err refusals.WriteFault) =
     Loads bytes × IsCutOff (text_by options bytes) out out'
 IsRunAnswer options bytes out out' answer = ⊥

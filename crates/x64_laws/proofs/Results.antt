@@ -26,7 +26,8 @@ bits w a lt = elim (cases_lt a (half w)) [
     times = 1;
     few = omega arith;
     is = signed_high w a g lt
-        ∙ (let z : negsuc (limit w - 1 - a) ≡ pos a -ℤ pos (limit w * 1) = omega (arith, ints) in z);
+        ∙ (let z : negsuc (limit w - 1 - a) ≡ pos a -ℤ pos (limit w * 1) = omega (arith, ints) in
+            z);
   }
 ]
 

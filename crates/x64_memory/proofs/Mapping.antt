@@ -129,7 +129,8 @@ module _ (m : Memory) (at : ℕ) (first others : List ℕ) where
         ∙ put_below m at first a lt ∙ sym (put_below m at (first ++ others) a lt)
     | inr le ↦ elim (cases_lt a (at + length first)) [
       | inl lt ↦ put_below (filled m at first) (at + length first) others a lt
-          ∙ put_in m at first a le lt ∙ sym (get_or_append_left first others 0 (a - at) (omega arith))
+          ∙ put_in m at first a le lt ∙ sym (get_or_append_left first others 0 (a - at)
+              (omega arith))
           ∙ sym (put_in m at (first ++ others) a le (omega (arith, both)))
       | inr ge ↦ elim (cases_lt a (at + length first + length others)) [
         | inl lt ↦
@@ -139,7 +140,8 @@ module _ (m : Memory) (at : ℕ) (first others : List ℕ) where
             ∙ sym (ap (λ j. get_or (first ++ others) j 0) place)
             ∙ sym (put_in m at (first ++ others) a le (omega (arith, both)))
         | inr out ↦ put_above (filled m at first) (at + length first) others a out
-            ∙ put_above m at first a ge ∙ sym (put_above m at (first ++ others) a (omega (arith, both)))
+            ∙ put_above m at first a ge ∙ sym
+                (put_above m at (first ++ others) a (omega (arith, both)))
       ]
     ]
   ]
@@ -275,7 +277,8 @@ module _ (r : Region) (s : Stretch) (ss ss' : List Stretch) (ps ps' : List Page)
       (page_numbered ss' ps') protection mode page_after
 
   ordered_after : AreOrdered 0 0 ss'
-  ordered_after = subst (AreOrdered 0 0) (sym pushed) (ordered_more s 0 0 ss ordered ends grows (kept ∙ count))
+  ordered_after = subst (AreOrdered 0 0) (sym pushed) (ordered_more s 0 0 ss ordered ends grows
+      (kept ∙ count))
 
   count_after : length ps' ≡ count_from 0 ss'
   count_after =

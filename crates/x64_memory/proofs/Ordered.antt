@@ -213,7 +213,8 @@ module _ (s : Stretch) (ps : List Page) (z : Page) (kept : s.index ≡ length ps
         (omega arith) ∙ old ∙ sym (ap (λ b. cond b (Some z) (page_numbered (t ∷ ts) ps k))
         (before s k (omega arith)))
     | inr out ↦ ap (page_at (ps ++ replicate (s.end - s.first) z))
-        (index_past t (ts ++ s ∷ []) k out) ∙ appended t.end (from + (t.end - t.first)) ts k ordered.1
+        (index_past t (ts ++ s ∷ []) k out) ∙ appended t.end
+            (from + (t.end - t.first)) ts k ordered.1
         count above ∙ sym (ap (λ o. cond (has_number s k) (Some z) (page_at ps o))
         (index_past t ts k out))
   ]
@@ -222,7 +223,8 @@ pub page_added : (s : Stretch) (ss : List Stretch) (ps : List Page) (z : Page) �
     → s.first ≤ s.end → AreOrdered 0 0 ss → count_from 0 ss ≡ length ps → end_from 0 ss ≤ s.first
     → (k : ℕ) → page_numbered (ss ++ s ∷ []) (ps ++ replicate (s.end - s.first) z) k
     ≡ cond (has_number s k) (Some z) (page_numbered ss ps k)
-page_added s ss ps z kept grows ordered count above k = appended s ps z kept grows 0 0 ss k ordered count
+page_added s ss ps z kept grows ordered count above k =
+    appended s ps z kept grows 0 0 ss k ordered count
     above
 
 pub ordered_more : (s : Stretch) (low from : ℕ) (ss : List Stretch) → AreOrdered low from ss
@@ -231,7 +233,8 @@ pub ordered_more : (s : Stretch) (low from : ℕ) (ss : List Stretch) → AreOrd
 ordered_more s low from [] ordered above grows kept =
     (record { order = above; grows = grows; kept = kept }, tt)
 ordered_more s low from (t ∷ ts) ordered above grows
-    kept = (ordered.0, ordered_more s t.end (from + (t.end - t.first)) ts ordered.1 above grows kept)
+    kept = (ordered.0, ordered_more s t.end (from + (t.end - t.first)) ts ordered.1 above grows
+        kept)
 
 pub count_more : (s : Stretch) (from : ℕ) (ss : List Stretch)
     → count_from from (ss ++ s ∷ []) ≡ count_from from ss + (s.end - s.first)
@@ -262,7 +265,8 @@ pub ends_rise : (low from : ℕ) (ss : List Stretch) → AreOrdered low from ss
 ends_rise low from [] ordered i j d le lt = absurd (omega arith)
 ends_rise low from (s ∷ ss) ordered i zero d le lt = let e : i ≡ 0 = omega arith in
     subst (λ n. (get_or (s ∷ ss) n d).end ≤ s.end) (sym e) (omega arith)
-ends_rise low from (s ∷ ss) ordered zero (suc j) d le lt = lies_above s.end (from + (s.end - s.first))
+ends_rise low from (s ∷ ss) ordered zero (suc j) d le lt =
+    lies_above s.end (from + (s.end - s.first))
     ss j d ordered.1 (omega arith)
 ends_rise low from (s ∷ ss) ordered (suc i) (suc j) d le lt = ends_rise s.end
     (from + (s.end - s.first)) ss ordered.1 i j d (omega arith) (omega arith)

@@ -30,7 +30,8 @@ pub record IsNextStretch (low from : ℕ) (s : Stretch) : Type 0 where
 -- stretches ascend from a page on, and are kept one after another from an index on
 abbrev pub AreOrdered : ℕ → ℕ → List Stretch → Type 0
 AreOrdered low from [] = Unit {0}
-AreOrdered low from (s ∷ ss) = IsNextStretch low from s × AreOrdered s.end (from + (s.end - s.first)) ss
+AreOrdered low from (s ∷ ss) = IsNextStretch low from s × AreOrdered s.end
+    (from + (s.end - s.first)) ss
 
 pub AreOrdered-prop : (low from : ℕ) (ss : List Stretch) → IsProp (AreOrdered low from ss)
 AreOrdered-prop low from [] = Unit-prop
