@@ -48,7 +48,7 @@ program_resolved text xs file worst main made p is number main_faults done fault
       program = λ i. record { functions = functions i; main = entry i; globals = is.bytes i };
       faults = all_kept (least_of file.worst) (least_of worst) (least_of made.worst)
           (main_in xs d.scope).faults d.faults
-              (functions_of text d.scope xs 1).faults is.faults first
+          (functions_of text d.scope xs 1).faults is.faults first
           last;
     })
 

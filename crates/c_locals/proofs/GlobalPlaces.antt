@@ -63,7 +63,7 @@ placed text base g f f' d w1 w2 w3 names bytes functions k1 k2 k3 k4 h =
       functions = functions;
       faults = five_kept None (least_of f.worst) w1 w2 w3 (least_of f'.worst) d.faults
           (unless_holds (not (is_taken (block_of f.names.entries) (spelled text g.name)))
-              g.name.start
+          g.name.start
           Duplicate)
           (unless_holds (is_scalar (record { base = base; pointers = g.pointers })) g.name.start
           TypeClash) (length_faults g.length)

@@ -43,7 +43,7 @@ guard_able zero left n text body front h w r = record {
     tree = TryFinally body 0 Empty;
     is = λ other. finished body Empty 0 text ((front ++ finally) ++ other) other
         (both_fixed (Guard body) (Finally 0 Empty) text front finally r
-            (is_finally text 0 0) other);
+        (is_finally text 0 0) other);
     statement = refl;
     within = record {
       statements = λ i. let a = w.statements i in omega arith;

@@ -92,9 +92,9 @@ is_unit text other = record {
 pub at_keyword : (k : Keyword) (at kind room : ℕ) (left : Left) (text : List ℕ) (ts a : List Token)
     → IsKeyword k at ts a →
     ((text' : List ℕ) → (all more : List Token) → IsKeyword k at all more
-        → NoStatement room left kind text' all) →
+    → NoStatement room left kind text' all) →
     ((text' : List ℕ) (n end : ℕ) → kind ≡ suc n
-        → (more : List Token) × HasStatement room left n text'
+    → (more : List Token) × HasStatement room left n text'
     (token (kinds.Keyword k) at end ∷ more)) →
     Failed kind at (NoStatement room left) (HasStatement room left) text ts
 at_keyword k at kind room left text ts a key excludes go = record {
@@ -206,10 +206,10 @@ do_too_deep room at left text ts a z k =
 
 pub for_item : (text : List ℕ) (at : ℕ) (f : ForInitialiser) (c n : Option Expression)
     (s : Statement) (ts a b d g i rest : List Token) → IsKeyword keywords.For at ts a
-        → HasPunctuator punctuators.OpenParenthesis a b → IsForInitialiser text f b d
+    → HasPunctuator punctuators.OpenParenthesis a b → IsForInitialiser text f b d
     → IsUpTo text punctuators.Semicolon c d g → IsUpTo text punctuators.CloseParenthesis n g i
     → IsFalse (is_declaration s) → IsBlockItem text s i rest
-        → IsBlockItem text (For at f c n s) ts rest
+    → IsBlockItem text (For at f c n s) ts rest
 for_item text at f c n s ts a b d g i rest k o h u v z t = record {
   after_head = i;
   head = record {
@@ -302,7 +302,7 @@ finally = word keywords.Finally ∷ braces
 
 pub try_too_many : (room at : ℕ) (left : Left) (text : List ℕ) (ts a : List Token) → room ≡ 0
     → left.funclets ≡ 0 → IsKeyword keywords.Try at ts a
-        → Failed 6 at (NoStatement room left) (HasStatement room left) text ts
+    → Failed 6 at (NoStatement room left) (HasStatement room left) text ts
 try_too_many room at left text ts a z y k =
     at_keyword keywords.Try at 6 room left text ts a k
     (λ text' all more key. no_try 6 text' room at left more (omega arith) z y all key)
@@ -344,9 +344,9 @@ try_too_many room at left text ts a z y k =
 pub key_wraps : (k : Keyword) (at room : ℕ) (left : Left) (No Has : Family) (text : List ℕ)
     (ts a : List Token) → IsKeyword k at ts a →
     ((n : ℕ) (text' : List ℕ) (other : List Token) → No n text' other
-        → AfterKeyword k at other (NoStatement room left n text')) →
+    → AfterKeyword k at other (NoStatement room left n text')) →
     ((n : ℕ) (text' : List ℕ) (inner : List Token) (end : ℕ) → Has n text' inner
-        → Able (HasStatement room left) n text' (token (kinds.Keyword k) at end ∷ inner)) →
+    → Able (HasStatement room left) n text' (token (kinds.Keyword k) at end ∷ inner)) →
     Wraps No Has (NoStatement room left) (HasStatement room left) text a ts
 key_wraps k at room left No Has text ts a key f g = record {
   before = token (kinds.Keyword k) at key.0 ∷ [];

@@ -296,7 +296,7 @@ one_item room left n text ts (inl e) = record {
     trees = Empty;
     are = λ other. subst
         (λ (x : List Token). HasPunctuator punctuators.CloseBrace ((x ++ brace) ++ other) other)
-            (sym e)
+        (sym e)
         (a_punctuator punctuators.CloseBrace other);
     within = record {
       statements = λ i. omega arith;

@@ -134,7 +134,7 @@ has_inner (heads.If at c) n text room less whole left front inner m w l f r has 
       tree = If at (expression c) has.tree;
       is = λ other.
           let x = both_fixed (Headed (heads.If at c))
-              (Item has.tree) text front inner r has.is other in
+          (Item has.tree) text front inner r has.is other in
           record {
             after_keyword = x.first.0;
             after_condition = x.mid;
@@ -207,7 +207,7 @@ has_inner (heads.For at g c e) n text room less whole left front inner m w l f r
           other in let y = x.first in
           for_item text at (first g) (option_map expression c) (option_map expression e) has.tree
           ((front ++ inner) ++ other) y.after_keyword y.after_opening y.after_first
-              y.after_condition
+          y.after_condition
           x.mid other y.keyword y.opening y.first y.condition y.next has.statement x.second;
       statement = refl;
       within = record {

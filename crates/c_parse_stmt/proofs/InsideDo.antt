@@ -149,7 +149,7 @@ do_condition room p whole left s text ts rest d g key =
         tree = DoWhile s p has.tree;
         is = λ other. do_item s p has.tree text' (((front ++ inner) ++ semicolon) ++ other) other
             g.inner.statement (both_fixed (DoCondition s p has.tree)
-                (Sig punctuators.Semicolon) text'
+            (Sig punctuators.Semicolon) text'
             (front ++ inner) semicolon (both_fixed (DoWhiles s p) (Condition has.tree) text' front
             inner r has.is) (λ o. a_punctuator punctuators.Semicolon o) other);
         statement = refl;
@@ -179,7 +179,7 @@ do_semicolon room p whole left s c text ts rest d f g key is low =
       tree = DoWhile s p c;
       is = λ other. do_item s p c text' ((front ++ inner) ++ other) other g.inner.statement
           (both_fixed (DoCondition s p c) (Sig punctuators.Semicolon) text' front inner r has
-              other);
+          other);
       statement = refl;
       within = do_within n room whole left s c p text text' ts rest g k (λ i. low);
     }))

@@ -49,14 +49,14 @@ module _ (f : FramedFunction) (e : State) (right : IsRight f) (entry : IsEntry (
 
     run_to : (done left : List FetchedInstr) (s : State) → items f.steps ≡ done ++ left
         → RunsThrough e done s → Running fr off e back
-            (operations (run_by (bytes done) f.info.codes))
+        (operations (run_by (bytes done) f.info.codes))
         s
     run_to done left s parts runs =
         let z : 0 + bytes done ≡ bytes done = omega arith in
         let good' = subst (λ (cs : List UnwindCode). Good fr (depth (ops f)) (operations cs))
         right.codes good in
         let at = entering fr off back (depth (ops f)) e entry right.offset 0 [] f.steps done left e
-            s
+        s
         right.steps tt good' parts (first_running fr off (depth (ops f)) e entry) runs in
         subst (λ d. Running fr off e back (operations (run_by d f.info.codes)) s) z
         (subst (λ (cs : List UnwindCode). Running fr off e back
@@ -170,7 +170,7 @@ module _ (f : FramedFunction) (e : State) (right : IsRight f) (entry : IsEntry (
         (left_to old back) (registers s 4)
     opening s is rs h o p =
         let d = stack_depth s.memory old back (registers s 4) (registers s 4)
-            (ops f) h.holds.stack in
+        (ops f) h.holds.stack in
         let high = entry.high in
         finds _ None (left s.memory is (context_of s.cpu)) old back (registers s 4)
         (epilogue_restores f.info s.memory (context_of s.cpu) (registers s 4) old back (ops f) is
@@ -187,7 +187,7 @@ module _ (f : FramedFunction) (e : State) (right : IsRight f) (entry : IsEntry (
     by_mode s d to m [] ne le lt is_there b h = absurd (ne refl)
     by_mode s d to (Leaving rs) (y ∷ ys) ne le lt is_there b h =
         let t = trails fr off (ops f) s.memory rs 0xFFFF_FFFF_FFFF_FFFF s.cpu.rip to true (y
-            ∷ ys) lt
+        ∷ ys) lt
         (omega arith) is_there b in
         past s d (Some t.instrs) le t.is (popping s t.instrs rs h t.pops)
     by_mode s d to (Body rs) (y ∷ ys) ne le lt is_there b h = elim
@@ -195,7 +195,7 @@ module _ (f : FramedFunction) (e : State) (right : IsRight f) (entry : IsEntry (
           | inl other ↦ past s d None le (no_tail_at s to y ys is_there other) (whole s h.holds)
           | inr other ↦
               let o = opens_here fr off (ops f) s.memory 0xFFFF_FFFF_FFFF_FFFF s.cpu.rip to y ys rs
-                  lt
+              lt
               (omega arith) is_there b other in
               past s d (Some o.is_there.instrs) le o.is_there.is
               (opening s o.is_there.instrs rs h (λ q nv four z. elim

@@ -103,7 +103,7 @@ of_frame f c (bases.Register r) None e = elim (cases_eq f 0) [
     ne,
     ap (λ k. get_or c.registers k 0 + 0)
         (eqb-true (number r) f (sym (ap (λ b. cond b false (eqb (number r) f)) (ne_eqb f 0 ne))
-            ∙ e)),
+        ∙ e)),
   )
 ]
 of_frame f c (bases.Register r) (Some x) e = absurd (false≢true e)
@@ -130,7 +130,7 @@ place_address f offset n c a is framed lt = elim
       | inr r ↦ let p = and_parts (is_of f a.base a.index)
           (eqb ((offset + a.displacement) % 2 ^ 64) n)
           r in frame_address f offset n c a p.0
-              (eqb-true ((offset + a.displacement) % 2 ^ 64) n p.1)
+          (eqb-true ((offset + a.displacement) % 2 ^ 64) n p.1)
           framed lt
     ]
 

@@ -52,7 +52,7 @@ leads f offset back n a e s (Push r) xs (instrs.Push q) entry deep allowed d run
       is = push_effect s a (registers e (number q)) at q (omega arith) (omega arith)
           (all_may (may_write s.memory) 8 at (omega arith) may)
           (saved_value f offset back e s xs (number q) (ap (λ k. may_save k xs) same
-              ∙ allowed) run);
+          ∙ allowed) run);
       rip = refl;
     }
 leads f offset back n a e s (Allocate k) xs (instrs.Arithmetic computes.Sub W64

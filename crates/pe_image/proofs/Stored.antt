@@ -53,7 +53,7 @@ last_below rva end (s ∷ ss) zero d up lt le above =
     (λ _. stored_in rva (section_or None s (stores_byte rva s)) ≡ drop (rva - s.address) s.raw) [
       | inl inside ↦ ap (λ b. stored_in rva (section_or None s b))
           (and_from (leb s.address rva) (ltb rva (s.address + length s.raw))
-              (le-leb s.address rva le)
+          (le-leb s.address rva le)
           (lt-ltb rva (s.address + length s.raw) inside))
       | inr past ↦ ap (λ b. stored_in rva (section_or None s b)) (above_holds_none rva s past)
           ∙ sym (drop_all (rva - s.address) s.raw (omega arith))

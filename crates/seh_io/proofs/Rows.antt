@@ -36,9 +36,9 @@ raises : text (Raise (record { 0 = 0xC000_0005 }) false (Some (true, 0x7000_0000
     ∷ Raise (record { 0 = 0xE000_0001 }) true (Some (true, 16))
     ∷ Except (record { 0 = 0xE000_0001 }) ∷ []) (Unhandled (record { 0 = 0xC000_0094 })) true
     ≡ fed (codes "raise C0000005 0 write 0000000070000000")
-        ++ fed (codes "raise C0000005 0 read 00123456789ABCDE") ++ fed (codes "raise C0000005 1")
-        ++ fed (codes "raise E0000001 1") ++ fed (codes "except E0000001")
-        ++ fed (codes "unhandled C0000094")
+    ++ fed (codes "raise C0000005 0 read 00123456789ABCDE") ++ fed (codes "raise C0000005 1")
+    ++ fed (codes "raise E0000001 1") ++ fed (codes "except E0000001")
+    ++ fed (codes "unhandled C0000094")
 unfolding digits hexadecimal fed
 raises = refl
 
@@ -46,9 +46,9 @@ ends : end_line (StackLimit 0x0000_7FFF_FFFF_F000) ++ end_line (Stopped Illegal 
     ++ end_line (Stopped BadRecord 2) ++ end_line (Stopped Unreadable 3)
     ++ end_line (Stopped Backward 4) ++ end_line (Stopped LostFrame 0xFFFF_FFFF_FFFF_FFFF)
     ≡ fed (codes "stack limit 00007FFFFFFFF000") ++ fed (codes "stopped Illegal 0000000000000001")
-        ++ fed (codes "stopped BadRecord 0000000000000002")
-        ++ fed (codes "stopped Unreadable 0000000000000003")
-        ++ fed (codes "stopped Backward 0000000000000004")
-        ++ fed (codes "stopped LostFrame FFFFFFFFFFFFFFFF")
+    ++ fed (codes "stopped BadRecord 0000000000000002")
+    ++ fed (codes "stopped Unreadable 0000000000000003")
+    ++ fed (codes "stopped Backward 0000000000000004")
+    ++ fed (codes "stopped LostFrame FFFFFFFFFFFFFFFF")
 unfolding hexadecimal fed
 ends = refl

@@ -304,8 +304,11 @@ module _ (m : Memory) (at : ℕ) (r : DispatchRecord) (top : at + RECORD_SIZE �
 
     marked : (word m at 32 ≡ mark) × (word m at 40 ≡ number_of r.kind)
     unfolding words
-    marked = (field 0 32 mark (lit< tt) refl refl, field 1 40 (number_of r.kind)
-        (lit< tt) refl refl)
+    marked = (
+      field 0 32 mark (lit< tt) refl refl,
+      field 1 40 (number_of r.kind)
+          (lit< tt) refl refl,
+    )
 
     pub fetched_back : first_refused (may_read m) RECORD_SIZE at ≡ None → fetched m at ≡ Some r
     unfolding fetched

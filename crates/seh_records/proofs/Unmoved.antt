@@ -100,6 +100,6 @@ stores_leave_it m at to v w top lt apart =
   where
     kept : (x : ℕ) (o : Option ℕ) → IsApart x to (bytes_of w)
         → (unless_refused o (with_bytes m (with_number m.byte (bytes_of w) to v)) m).byte x
-            ≡ m.byte x
+        ≡ m.byte x
     kept x None a = untouched m.byte (bytes_of w) to v x a lt
     kept x (Some b) a = refl

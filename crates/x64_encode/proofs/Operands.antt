@@ -83,21 +83,21 @@ extended_low W16 W16 v le c = elim c [
       (v % limit W16) (omega arith) a
   | inr b ↦ let lo = b.0 in let hi = b.1 in
       extended_large (limit W16) (limit W16) (half W16) v (v % limit W16) (omega arith)
-          (omega arith)
+      (omega arith)
 ]
 extended_low W16 W32 v le c = elim c [
   | inl a ↦ extended_small (limit W16) (limit W32) (half W16) v
       (v % limit W16) (omega arith) a
   | inr b ↦ let lo = b.0 in let hi = b.1 in
       extended_large (limit W16) (limit W32) (half W16) v (v % limit W16) (omega arith)
-          (omega arith)
+      (omega arith)
 ]
 extended_low W16 W64 v le c = elim c [
   | inl a ↦ extended_small (limit W16) (limit W64) (half W16) v
       (v % limit W16) (omega arith) a
   | inr b ↦ let lo = b.0 in let hi = b.1 in
       extended_large (limit W16) (limit W64) (half W16) v (v % limit W16) (omega arith)
-          (omega arith)
+      (omega arith)
 ]
 extended_low W32 W8 v le c = absurd (omega arith)
 extended_low W32 W16 v le c = absurd (omega arith)
@@ -106,14 +106,14 @@ extended_low W32 W32 v le c = elim c [
       (v % limit W32) (omega arith) a
   | inr b ↦ let lo = b.0 in let hi = b.1 in
       extended_large (limit W32) (limit W32) (half W32) v (v % limit W32) (omega arith)
-          (omega arith)
+      (omega arith)
 ]
 extended_low W32 W64 v le c = elim c [
   | inl a ↦ extended_small (limit W32) (limit W64) (half W32) v
       (v % limit W32) (omega arith) a
   | inr b ↦ let lo = b.0 in let hi = b.1 in
       extended_large (limit W32) (limit W64) (half W32) v (v % limit W32) (omega arith)
-          (omega arith)
+      (omega arith)
 ]
 extended_low W64 W8 v le c = absurd (omega arith)
 extended_low W64 W16 v le c = absurd (omega arith)
@@ -123,7 +123,7 @@ extended_low W64 W64 v le c = elim c [
       (v % limit W64) (omega arith) a
   | inr b ↦ let lo = b.0 in let hi = b.1 in
       extended_large (limit W64) (limit W64) (half W64) v (v % limit W64) (omega arith)
-          (omega arith)
+      (omega arith)
 ]
 
 low_small : (w : Width) (v : ℕ) → low w v < 256 ^ bytes_of w

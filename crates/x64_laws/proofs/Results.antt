@@ -27,7 +27,7 @@ bits w a lt = elim (cases_lt a (half w)) [
     few = omega arith;
     is = signed_high w a g lt
         ∙ (let z : negsuc (limit w - 1 - a) ≡ pos a -ℤ pos (limit w * 1) = omega (arith, ints) in
-            z);
+        z);
   }
 ]
 

@@ -130,7 +130,7 @@ module _ (m : Memory) (at : ℕ) (first others : List ℕ) where
     | inr le ↦ elim (cases_lt a (at + length first)) [
       | inl lt ↦ put_below (filled m at first) (at + length first) others a lt
           ∙ put_in m at first a le lt ∙ sym (get_or_append_left first others 0 (a - at)
-              (omega arith))
+          (omega arith))
           ∙ sym (put_in m at (first ++ others) a le (omega (arith, both)))
       | inr ge ↦ elim (cases_lt a (at + length first + length others)) [
         | inl lt ↦
@@ -141,7 +141,7 @@ module _ (m : Memory) (at : ℕ) (first others : List ℕ) where
             ∙ sym (put_in m at (first ++ others) a le (omega (arith, both)))
         | inr out ↦ put_above (filled m at first) (at + length first) others a out
             ∙ put_above m at first a ge ∙ sym
-                (put_above m at (first ++ others) a (omega (arith, both)))
+            (put_above m at (first ++ others) a (omega (arith, both)))
       ]
     ]
   ]

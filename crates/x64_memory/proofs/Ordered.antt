@@ -214,7 +214,7 @@ module _ (s : Stretch) (ps : List Page) (z : Page) (kept : s.index ≡ length ps
         (before s k (omega arith)))
     | inr out ↦ ap (page_at (ps ++ replicate (s.end - s.first) z))
         (index_past t (ts ++ s ∷ []) k out) ∙ appended t.end
-            (from + (t.end - t.first)) ts k ordered.1
+        (from + (t.end - t.first)) ts k ordered.1
         count above ∙ sym (ap (λ o. cond (has_number s k) (Some z) (page_at ps o))
         (index_past t ts k out))
   ]
@@ -233,8 +233,11 @@ pub ordered_more : (s : Stretch) (low from : ℕ) (ss : List Stretch) → AreOrd
 ordered_more s low from [] ordered above grows kept =
     (record { order = above; grows = grows; kept = kept }, tt)
 ordered_more s low from (t ∷ ts) ordered above grows
-    kept = (ordered.0, ordered_more s t.end (from + (t.end - t.first)) ts ordered.1 above grows
-        kept)
+    kept = (
+      ordered.0,
+      ordered_more s t.end (from + (t.end - t.first)) ts ordered.1 above grows
+          kept,
+    )
 
 pub count_more : (s : Stretch) (from : ℕ) (ss : List Stretch)
     → count_from from (ss ++ s ∷ []) ≡ count_from from ss + (s.end - s.first)

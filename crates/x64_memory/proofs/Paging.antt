@@ -31,11 +31,11 @@ module _ (old new : ℕ → Option Page) (k : ℕ) (p : Page)
   bytes a = elim (cases_eq (a / 4096) k) [
     | inl e ↦ ap (λ o. page_byte o (a % 4096)) (at_page (a / 4096) e)
         ∙ sym (ap (λ b. cond b (get_or p.bytes (a % 4096) 0)
-            (page_byte (old (a / 4096)) (a % 4096)))
+        (page_byte (old (a / 4096)) (a % 4096)))
         (eq-eqb (a / 4096) k e))
     | inr n ↦ ap (λ o. page_byte o (a % 4096)) (off_page (a / 4096) n)
         ∙ sym (ap (λ b. cond b (get_or p.bytes (a % 4096) 0)
-            (page_byte (old (a / 4096)) (a % 4096)))
+        (page_byte (old (a / 4096)) (a % 4096)))
         (ne_eqb (a / 4096) k n))
   ]
 
@@ -159,7 +159,7 @@ module _ (pages : ℕ → Option Page) (at : ℕ) (p : Page) (had : pages (at / 
       modes = λ i l. ap page_mode (same_page i l);
       bytes_are = λ i l. ap (λ o. page_byte o ((at + i) % 4096)) (same_page i l)
           ∙ ap (λ j. get_or p.bytes j 0) (same_place i l)
-              ∙ sym (get_or-drop (at % 4096) p.bytes i 0);
+          ∙ sym (get_or-drop (at % 4096) p.bytes i 0);
       inside = omega (arith, left);
       small = λ i. subst (λ (b : ℕ). b < 256) (sym (get_or-drop (at % 4096) p.bytes i 0))
           (fits (at % 4096 + i));

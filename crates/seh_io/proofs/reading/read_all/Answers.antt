@@ -29,7 +29,7 @@ returns-then-count-room-clause-lost g c =
       omega (arith, c.in-Ok.ensures.fits, length-append {A = ℕ}, length-take {A = ℕ}),
       lost_more (g.S.Source.left c.args.src.now) (g.S.Source.left c.loop-count.src)
           (g.S.Source.left c.read.new.self) c.loop-count.bytes.items front
-              c.loop-count.invariant.lost
+          c.loop-count.invariant.lost
           c.in-Ok.ensures.moved,
     )
 
@@ -40,6 +40,6 @@ returns-then-is_err-clause-lost g c =
       omega (arith, c.in-Ok.ensures.fits, length-append {A = ℕ}, length-take {A = ℕ}),
       lost_more (g.S.Source.left c.args.src.now) (g.S.Source.left c.loop-count.src)
           (g.S.Source.left c.read.new.self) c.loop-count.bytes.items front
-              c.loop-count.invariant.lost
+          c.loop-count.invariant.lost
           c.in-Ok.ensures.moved,
     )

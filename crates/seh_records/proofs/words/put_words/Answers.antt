@@ -20,7 +20,7 @@ loop-word-preserved g c =
       modes = modes ∙ c.loop-word.invariant.modes;
       may = ap (λ (f : ℕ → Protection). first_refused (λ a. is_writable (f a).rights) (8 * left)
           ((here + 8) % 2 ^ 64)) modes ∙ none_rest (may_write m)
-              (8 * (length c.args.words.now - i)) 8
+          (8 * (length c.args.words.now - i)) 8
           (8 * left) here (omega arith) (omega arith) c.loop-word.invariant.may;
       bytes = ap (λ f. with_words f ((here + 8) % 2 ^ 64) (drop (i + 1) c.args.words.now)) bytes
           ∙ with_words-more m.byte here i c.args.words.now (omega arith)

@@ -30,7 +30,7 @@ loop-i-preserved g c =
       modes = modes ∙ c.loop-i.invariant.modes;
       may = ap (λ (f : ℕ → Protection). first_refused (λ a. is_writable (f a).rights) left
           (next c.loop-i.here)) modes ∙ first_refused-more (may_write m)
-              (c.args.count - c.loop-i._i)
+          (c.args.count - c.loop-i._i)
           left c.loop-i.here (omega arith) yes ∙ c.loop-i.invariant.may;
       bytes = ap (λ f. with_number f left (next c.loop-i.here) (c.loop-i.rest / 256)) bytes
           ∙ with_number-more m.byte (c.args.count - c.loop-i._i) left c.loop-i.here c.loop-i.rest

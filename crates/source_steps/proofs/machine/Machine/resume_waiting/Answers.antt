@@ -40,11 +40,11 @@ returns-in-EndsCall c =
     unshown (λ f m. resumed_from m (views.waiting_of f) (views.result_of c.args.how))
     c.args.self.now c.leave_call.new.self _ _ c.leave_call.result
     c.silently-in-EndsCall.result c.in-EndsCall.is c.silently-in-EndsCall.ensures
-        c.leave_call.ensures
+    c.leave_call.ensures
 
 pub returns-in-Finishes : goal.returns-in-Finishes
 returns-in-Finishes c =
     unshown (λ f m. resumed_from m (views.waiting_of f) (views.result_of c.args.how))
     c.args.self.now c.finish_try.new.self _ _ c.finish_try.result
     c.silently-in-Finishes.result c.in-Finishes.is c.silently-in-Finishes.ensures
-        c.finish_try.ensures
+    c.finish_try.ensures
