@@ -226,16 +226,14 @@ module _ (m m' : Memory) (t : Functions) (fs : List Funclet) (program : LinearPr
         → Linked t fs program p m (after_frame c f) is below outer
         → Stored c (Framed f ∷ is) (Waits b ∷ below) (a ∷ outer)
     own_function c f is b below a outer n name own fits keeps low frame rest h locals above linked =
-        let y = p.layout b.body in
-        let nine = frame.kept in
+        let y = p.layout b.body in let nine = frame.kept in
         let e : rsp (after_frame c f) ≡ rsp c + f.size + 8 =
         set_head c.kept (rsp c + f.size + 8) (omega arith) in
         let l = in_stack t fs program p m (after_frame c f) is below outer rest linked in
         let at : from ≡ rsp c + y.locals = omega
         (arith, locals.activation.base, locals.activation.distance, own.base, own.distance) in
         let w = words_fit m (rsp c + y.locals) (rsp c + f.size) a.values locals.values in
-        let count = own_count a outer own fits in
-        let le : to ≤ rsp c + f.size = omega arith in
+        let count = own_count a outer own fits in let le : to ≤ rsp c + f.size = omega arith in
         let r = below_them (rsp c) low end keeps in
         let r' = above_them (rsp c) low (omega arith) keeps in
         let last : temporaries_end y b.body f.size ≡ y.locals =
@@ -416,8 +414,7 @@ module _ (m m' : Memory) (t : Functions) (fs : List Funclet) (program : LinearPr
         keeps) (omega arith))
     stored c (Searching d ∷ is) (Searches exception resumption asked rest
         ∷ below) acts s h i o fits keeps low =
-        let e = rises t m c (Searching d) s.0 in
-        let a = s.0.above in
+        let e = rises t m c (Searching d) s.0 in let a = s.0.above in
         let high = (are_there t fs program p m (context_of d.saved) is below acts k base distance
         s.1 h.1 i).low_end in
         let r = below_them (rsp c) low end keeps in

@@ -99,10 +99,8 @@ module _ (setting : Setting) where
       new_local : (i v : ℕ) → slice_get values i ≡ Some v
           → word u.memory (here.base + y.locals + 8 * i) ≡ Ok v
       new_local i v e =
-          let g = get_index values i v e in
-          let lt = g.1 in
-          let n = r.leaves.count in
-          let high = here.base_high in
+          let g = get_index values i v e in let lt = g.1 in
+          let n = r.leaves.count in let high = here.base_high in
           let base = here.base_low in
           let at : here.base + (y.locals + 8 * i) ≡ here.base + y.locals + 8 * i = omega arith in
           subst (λ a. word u.memory a ≡ Ok v) at
@@ -118,10 +116,8 @@ module _ (setting : Setting) where
       new_temporary : (i v : ℕ) → slice_get ts i ≡ Some v
           → word u.memory (sp + y.temporaries + 8 * i) ≡ Ok v
       new_temporary i v e =
-          let g = get_index ts i v e in
-          let lt = g.1 in
-          let few = r.leaves.few in
-          let high = here.sp_high in
+          let g = get_index ts i v e in let lt = g.1 in
+          let few = r.leaves.few in let high = here.sp_high in
           let start = here.sp_low in
           let at : sp + (y.temporaries + 8 * i) ≡ sp + y.temporaries + 8 * i = omega arith in
           subst (λ a. word u.memory a ≡ Ok v) at
@@ -133,8 +129,7 @@ module _ (setting : Setting) where
       new_temporaries : HoldsWords u.memory (sp + y.temporaries)
           (sp + last_temporary y c.frame.body (p.leaf c.frame.body)) ts
       new_temporaries =
-          let room = last_room setting s c b counted in
-          let few = r.leaves.few in
+          let room = last_room setting s c b counted in let few = r.leaves.few in
           words_are u.memory (sp + y.temporaries)
           (sp + last_temporary y c.frame.body (p.leaf c.frame.body)) ts
           (omega arith) new_temporary
@@ -195,8 +190,7 @@ module _ (setting : Setting) where
 
       function_beside : AsFunction setting s c b counted → Beside y.frame
       function_beside f a l h i =
-          let base = function_base f.layout.none in
-          let x = f.layout.temporaries in
+          let base = function_base f.layout.none in let x = f.layout.temporaries in
           let z = f.layout.locals in
           elim i [
             | inl w ↦ (let g = w.1 in absurd (omega arith))
@@ -206,10 +200,8 @@ module _ (setting : Setting) where
 
       leaf_beside : AsLeaf setting s c b counted → Beside y.frame
       leaf_beside f a l h i =
-          let base = function_base f.layout.none in
-          let x = f.layout.temporaries in
-          let z = f.layout.locals in
-          let n = f.layout.frame in
+          let base = function_base f.layout.none in let x = f.layout.temporaries in
+          let z = f.layout.locals in let n = f.layout.frame in
           elim i [
             | inl w ↦ (let g = w.0 in absurd (omega arith))
             | inr w ↦ (let g = w.0 in
@@ -335,10 +327,8 @@ module _ (setting : Setting) where
 
         new_function : AsFunction setting s c b counted → New c.frame.body
         new_function f =
-            let l = low in
-            let x = f.layout.temporaries in
-            let z = f.layout.locals in
-            let base = function_base f.layout.none in
+            let l = low in let x = f.layout.temporaries in
+            let z = f.layout.locals in let base = function_base f.layout.none in
             subst New (sym f.name)
             (subst (λ acts. IsLinkedStack t fs program p u.memory above b.body.is c.below acts)
             (function_below f.number b.body.acts y.frame f.activation)
@@ -353,8 +343,7 @@ module _ (setting : Setting) where
 
         new_leaf : (f : AsLeaf setting s c b counted) → New c.frame.body
         new_leaf f =
-            let l = low in
-            let x = f.layout.temporaries in
+            let l = low in let x = f.layout.temporaries in
             let z = f.layout.locals in
             let w = f.layout.few in
             let n = f.layout.frame in
