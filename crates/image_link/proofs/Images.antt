@@ -1,5 +1,5 @@
 -- The image of routines that have room can be written.
-use Rattle.std.proofs.Common.{◌≡◌, ℕ, zero, suc, ◌+◌, ◌-◌, ◌*◌, ◌^◌, ◌<◌, ◌≤◌, ◌==◌, Bool, true, false, not, List, [], ◌∷◌, ◌++◌, length, get_or, take, drop, map, None, Result, Ok, Err, refl, sym, ap, subst, ◌∙◌, arith, length-append}
+use Rattle.std.proofs.Common.{◌≡◌, ℕ, zero, suc, ◌+◌, ◌-◌, ◌*◌, ◌<◌, ◌≤◌, ◌==◌, Bool, true, false, not, List, [], ◌∷◌, ◌++◌, length, get_or, take, drop, map, None, Result, Ok, Err, refl, sym, ap, subst, ◌∙◌, arith, length-append}
 use Rattle.std.specs.Prelude.{◌&&◌, IfOk}
 use Rattle.std.specs.List.{AllByRecursion}
 use Rattle.std.proofs.lemmas.Bool.{eq-eqb}
@@ -9,7 +9,7 @@ use Rattle.pe_write.specs.Program.{CanBeImage}
 use Rattle.image_link.specs.declared.placement.Placement.{Placement}
 use Rattle.image_link.specs.declared.routine.Entry.TheVariants as entries
 use Rattle.image_link.specs.Routines.{RoutineView, is_leaf, framed, leaf_if, functions_from, funclet, routines}
-use Rattle.image_link.specs.Near.{IsRoutineNear, IsSiteNear, HasRoom, HasPlaces}
+use Rattle.image_link.specs.Near.{IsRoutineNear, IsSiteNear, HasPlaces}
 use Rattle.eh_tables.specs.Written.{table_bytes}
 use Rattle.image_link.specs.Text.{SiteView, room, routine_size, bounds, first_routine_at, text_bytes}
 use Rattle.image_link.specs.Tables.{infos_room, infos, ranges}

@@ -62,6 +62,7 @@ fn text_size(globals: &[u8], routines: &[Routine<'_>], bounds: &[u32], text: u32
 }
 
 /// Where the sections of the image lie whose routines begin and end at those bounds.
+#[tactic(auto, using(crate::proofs::Bounds::total_small))]
 pub fn placement_of(globals: &[u8], routines: &[Routine<'_>], bounds: &[u32]) -> Placement
     requires globals { length globals.now ≤ MOST_GLOBALS }
     requires near { AllByRecursion IsRoutineNear routines.now }
