@@ -1,5 +1,5 @@
 -- The image of routines that have room can be written.
-use Rattle.std.proofs.Common.{◌≡◌, ℕ, zero, suc, ◌+◌, ◌-◌, ◌*◌, ◌<◌, ◌≤◌, ◌==◌, Bool, true, false, not, List, [], ◌∷◌, ◌++◌, length, get_or, take, drop, map, None, Result, Ok, Err, refl, sym, ap, subst, ◌∙◌, arith, length-append}
+use Rattle.std.proofs.Common.{◌≡◌, ℕ, zero, suc, ◌+◌, ◌-◌, ◌*◌, ◌^◌, ◌<◌, ◌≤◌, ◌==◌, Bool, true, false, not, List, [], ◌∷◌, ◌++◌, length, get_or, take, drop, map, None, Result, Ok, Err, refl, sym, ap, subst, ◌∙◌, arith, length-append}
 use Rattle.std.specs.Prelude.{◌&&◌, IfOk}
 use Rattle.std.specs.List.{AllByRecursion}
 use Rattle.std.proofs.lemmas.Bool.{eq-eqb}
@@ -9,7 +9,7 @@ use Rattle.pe_write.specs.Program.{CanBeImage}
 use Rattle.image_link.specs.declared.placement.Placement.{Placement}
 use Rattle.image_link.specs.declared.routine.Entry.TheVariants as entries
 use Rattle.image_link.specs.Routines.{RoutineView, is_leaf, framed, leaf_if, functions_from, funclet, routines}
-use Rattle.image_link.specs.Near.{IsRoutineNear, IsSiteNear, HasPlaces}
+use Rattle.image_link.specs.Near.{IsRoutineNear, IsSiteNear, HasRoom, HasPlaces}
 use Rattle.eh_tables.specs.Written.{table_bytes}
 use Rattle.image_link.specs.Text.{SiteView, room, routine_size, bounds, first_routine_at, text_bytes}
 use Rattle.image_link.specs.Tables.{infos_room, infos, ranges}
@@ -55,6 +55,11 @@ site_near g rs functions main few near places =
       functions = take_near functions (bounds (first g) rs) b;
       funclets = drop_near functions (bounds (first g) rs) b;
     }
+
+-- the tables end below 2^31
+pub tables_fit : (g : List ℕ) (rs : List RoutineView) → length g ≤ MOST_GLOBALS
+    → AllByRecursion IsRoutineNear rs → HasRoom rs → xdata_begin g rs + infos_room rs < 2 ^ 31
+tables_fit g rs few near room = let t = total_small rs near in omega arith
 
 pub is_program : (g : List ℕ) (rs : List RoutineView) (functions main : ℕ) → length g ≤ MOST_GLOBALS
     → AllByRecursion IsRoutineNear rs → HasPlaces rs functions main → (d : RoutineView)
