@@ -11,7 +11,6 @@ use Rattle.pe_write.proofs.Programs.{listed}
 use Rattle.host_model.specs.Loading.{section_of, mode_in, byte_in, stored_byte, with_slots, mapped}
 use Rattle.host_model.specs.Slots.{IsBeside}
 use Rattle.host_model.proofs.Slots.{slots-beside}
-use Rattle.image_link.specs.Linked.{data_size}
 use Rattle.image_link.proofs.Images.{tables_fit, has_places}
 use Rattle.image_link.proofs.Nearness.{routines_near}
 use Rattle.image_tables.proofs.Table.{is, rdata_is}
