@@ -11,7 +11,7 @@ use Rattle.c_checked.specs.Expression as nodes
 use Rattle.c_checked.specs.Expression.{On, Node, Lvalue, Global, Indirection, Element, Arguments, Done, Next}
 use Rattle.lowering_sizes.specs.Sizes.{address_count, locate_size, read_size, conversion_size, arguments_size, node_size}
 use Rattle.lowering_expressions.specs.Expressions.{conversion_code, unary_code, choice_code, code_code, abnormal_code, read_code, write_code, locate_code, arguments_code, node_code}
-use Rattle.lowering_invariants.proofs.PlainExpressions.{all_append}
+use Rattle.seh_ir.proofs.EveryInstruction.{all_append}
 use Rattle.c_checked.specs.LocalScopes.{node_within, lvalue_within, arguments_within}
 use Rattle.c_checked.proofs.ScopeTests.{both_left, both_right}
 use Rattle.lowering_locals.proofs.StraightCode.{Fine, AllFine, temporaries_in}

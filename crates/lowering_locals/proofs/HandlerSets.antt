@@ -5,7 +5,7 @@ use Rattle.std.specs.Prelude.{Bool, true, false, cond, Option, Some, None}
 use Rattle.lowering_locals.specs.Words.{Region, RegionKind, LinearProgram, LinearBody, BodyName, FunctionBody, FuncletBody, body_of, Frame, Handler, Target, Item, Waits, Searches, Unwinds, holds, regions_at, regions_left, handlers, target_past, target_of, Marks, SeenNames, IsPart, Guards, IsSetMap, Marked, here, IsHandler, IsTarget, AreRegions, AreHandlers, AreKept, AreCovered}
 use Rattle.linear_code.specs.declared.program.RegionKind.TheVariants as kinds
 use Rattle.linear_machine.specs.Regions.{regions_of, handlers_of, handlers_in}
-use Rattle.lowering_invariants.proofs.PlainExpressions.{all_append}
+use Rattle.seh_ir.proofs.EveryInstruction.{all_append}
 use Rattle.lowering_invariants.proofs.TurnStack.{same_it, all_map}
 use Rattle.lowering_locals.specs.Lives.{AreLeft}
 

@@ -20,7 +20,7 @@ use Rattle.seh_ir.proofs.StatementCodes.{statements_length}
 use Rattle.seh_ir.proofs.FuncletCounts.{filter_count, statement_count, statements_count}
 use Rattle.lowering_follows.proofs.FuncletNumbers.{count_front, count_back, counted}
 use Rattle.lowering_follows.proofs.Segments.{IsSegmentAt, front, back, whole_is_at}
-use Rattle.lowering_invariants.proofs.PlainExpressions.{all_append}
+use Rattle.seh_ir.proofs.EveryInstruction.{all_append}
 use Rattle.lowering_invariants.specs.Bodies.{function_of}
 use Rattle.lowering_invariants.proofs.TurnStack.{same_it, all_map}
 use Rattle.c_checked.specs.LocalScopes.{filter_within, statement_within, statements_within}

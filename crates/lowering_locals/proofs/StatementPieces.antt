@@ -13,7 +13,7 @@ use Rattle.seh_ir.specs.Statements.{jump_code, leave_code, initialiser_code, dec
 use Rattle.lowering_expressions.proofs.Codes.{expression_length}
 use Rattle.seh_ir.proofs.StatementCodes.{discarded_length, declared_length}
 use Rattle.lowering_follows.proofs.Segments.{IsSegmentAt, front, back}
-use Rattle.lowering_invariants.proofs.PlainExpressions.{all_append}
+use Rattle.seh_ir.proofs.EveryInstruction.{all_append}
 use Rattle.c_checked.specs.LocalScopes.{declared_within}
 use Rattle.c_checked.proofs.ScopeTests.{both_left, both_right, seen_cases, sees_before, part_with, within}
 use Rattle.lowering_locals.proofs.StraightCode.{is_same, is_same_back, head_recorded, Even, even_part, even_list, Fine, AllFine, AllLead, both_lead, straight}
