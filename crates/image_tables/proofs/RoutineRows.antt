@@ -96,7 +96,8 @@ funclets_bare p (f ∷ fs) = (
 )
 
 pub routines_bare : (p : LinearProgram) → AllByRecursion IsBare (routines p)
-routines_bare p = all_append IsBare (functions_from p.main 0 p.functions) (map (funclet p) p.funclets)
+routines_bare p =
+    all_append IsBare (functions_from p.main 0 p.functions) (map (funclet p) p.funclets)
     (functions_bare p.main 0 p.functions) (funclets_bare p p.funclets)
 
 -- ---- the regions of routines

@@ -143,8 +143,10 @@ funclets_have p [] all = tt
 funclets_have p (f ∷ fs) all = (all.0, funclets_have p fs all.1)
 
 routines_have : (p : LinearProgram) → HasRegions p → AllByRecursion RoutineHasRanges (routines p)
-routines_have p h = all_append RoutineHasRanges (functions_from p.main 0 p.functions) (map (funclet p) p.funclets)
-    (functions_have p.main 0 p.functions h.functions) (funclets_have p p.funclets h.funclets)
+routines_have p h =
+    all_append RoutineHasRanges (functions_from p.main 0 p.functions)
+    (map (funclet p) p.funclets) (functions_have p.main 0 p.functions h.functions)
+    (funclets_have p p.funclets h.funclets)
 
 -- ---- the addresses of funclets
 
