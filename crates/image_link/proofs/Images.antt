@@ -5,15 +5,15 @@ use Rattle.std.specs.List.{AllByRecursion}
 use Rattle.std.proofs.lemmas.Bool.{eq-eqb}
 use Rattle.linear_code.specs.Program.{LinearBody, LinearFunction, LinearFunclet, LinearProgram}
 use Rattle.x64_emit.proofs.Nearby.{code_in_room}
-use Rattle.pe_write.specs.Program.{CanBeImage, rdata_at, xdata_at}
-use Rattle.pe_write.specs.declared.sizes.Sizes.{Sizes}
+use Rattle.pe_write.specs.Program.{CanBeImage}
+use Rattle.image_link.specs.declared.placement.Placement.{Placement}
 use Rattle.image_link.specs.declared.routine.Entry.TheVariants as entries
 use Rattle.image_link.specs.Routines.{RoutineView, is_leaf, framed, leaf_if, functions_from, funclet, routines}
-use Rattle.image_link.specs.Near.{IsRoutineNear, IsSiteNear, HasPlaces}
+use Rattle.image_link.specs.Near.{IsRoutineNear, IsSiteNear, HasRoom, HasPlaces}
 use Rattle.eh_tables.specs.Written.{table_bytes}
-use Rattle.image_link.specs.Text.{SiteView, room, routine_size, bounds, text_bytes}
+use Rattle.image_link.specs.Text.{SiteView, room, routine_size, bounds, first_routine_at, text_bytes}
 use Rattle.image_link.specs.Tables.{infos_room, infos, ranges}
-use Rattle.image_link.specs.Linked.{data_size, first, total, front_sizes, site, image_of}
+use Rattle.image_link.specs.Linked.{first, total, text_size, xdata_begin, IsPlacement, site, image_of}
 use Rattle.image_link.specs.Fits.{FitsProgram, tables_room, function_bodies, funclet_bodies, program_tables_room}
 use Rattle.image_link.specs.Laws.{ImagesAreSmall}
 use Rattle.image_link.proofs.Entries.{entry_small, framed_some}
@@ -37,9 +37,9 @@ pub past : (b : List ℕ) (at : ℕ) (rs : List RoutineView) (i text : ℕ) → 
 past b at rs i text e le lt = let l = bounds_least at rs i 0 le in
     let s = ap (λ (xs : List ℕ). get_or xs i 0) e in omega arith
 
-pub text_size : (b : List ℕ) (at text : ℕ) (rs : List RoutineView) → b ≡ bounds at rs
-    → at ≡ text + 51 → get_or b (length rs) 0 - text ≡ 51 + total rs
-text_size b at text rs e is = let l = bounds_end at rs 0 in
+pub text_between : (b : List ℕ) (at text : ℕ) (rs : List RoutineView) → b ≡ bounds at rs
+    → at ≡ first_routine_at text → get_or b (length rs) 0 - text ≡ text_size rs
+text_between b at text rs e is = let l = bounds_end at rs 0 in
     let s = ap (λ (xs : List ℕ). get_or xs (length rs) 0) e in omega arith
 
 pub site_near : (g : List ℕ) (rs : List RoutineView) (functions main : ℕ) → length g ≤ MOST_GLOBALS
@@ -56,17 +56,10 @@ site_near g rs functions main few near places =
       funclets = drop_near functions (bounds (first g) rs) b;
     }
 
-pub tables_fit : (g : List ℕ) (rs : List RoutineView) (functions main : ℕ) → length g ≤ MOST_GLOBALS
-    → AllByRecursion IsRoutineNear rs → HasPlaces rs functions main
-    → xdata_at (front_sizes g rs) + infos_room rs < 2 ^ 31
-tables_fit g rs functions main few near places = let t = total_small rs near in
-    let r = places.room in omega arith
-
-pub rdata_fits : (g : List ℕ) (rs : List RoutineView) (functions main : ℕ) → length g ≤ MOST_GLOBALS
-    → AllByRecursion IsRoutineNear rs → HasPlaces rs functions main
-    → xdata_at (front_sizes g rs) < 2 ^ 31
-rdata_fits g rs functions main few near places = let t = total_small rs near in
-    let r = places.room in omega arith
+-- the tables end below 2^31
+pub tables_fit : (g : List ℕ) (rs : List RoutineView) → length g ≤ MOST_GLOBALS
+    → AllByRecursion IsRoutineNear rs → HasRoom rs → xdata_begin g rs + infos_room rs < 2 ^ 31
+tables_fit g rs few near room = let t = total_small rs near in omega arith
 
 pub is_program : (g : List ℕ) (rs : List RoutineView) (functions main : ℕ) → length g ≤ MOST_GLOBALS
     → AllByRecursion IsRoutineNear rs → HasPlaces rs functions main → (d : RoutineView)
@@ -78,7 +71,7 @@ is_program g rs functions main few near places d =
     let n = count_small rs in
     let text = text_length s rs near in
     let xdata = infos_length s (first g) rs in
-    let pdata = tables_small s (xdata_at (front_sizes g rs)) (first g) rs in
+    let pdata = tables_small s (xdata_begin g rs) (first g) rs in
     let some = places.some d in
     let below = bounds_below (first g) rs main 0 d places.there in
     record {
@@ -91,101 +84,66 @@ is_program g rs functions main few near places d =
 
 -- ---- what the code has computed
 
-abbrev pub got_sizes : ℕ → ℕ → Sizes
-got_sizes size_of_data t = record {
-  data_size = size_of_data;
-  text_size = t;
-  xdata_size = 0;
-  pdata_size = 0;
-}
+-- the addresses that routines refer to, where the sections lie at p and the routines between bounds
+module _ (g b : List ℕ) (rs : List RoutineView) (functions : ℕ) (p : Placement)
+    (is : IsPlacement g rs p) (between : b ≡ bounds (first g) rs) (s : SiteView)
+    (same : s
+    ≡ record {
+      text = p.text;
+      rdata = p.rdata;
+      functions = take functions b;
+      funclets = drop functions b;
+    }) where
+  site_is : s ≡ site g rs functions
+  site_is =
+      let text = is.text in
+      let rdata = is.rdata in
+      same ∙ λ i. record {
+        text = text i;
+        rdata = rdata i;
+        functions = take functions (between i);
+        funclets = drop functions (between i);
+      }
 
--- what is known where routines between bounds are linked: the bytes of `.data`, and those of the text
-pub record IsMeasured (g b : List ℕ) (rs : List RoutineView)
-    (functions main size_of_data t : ℕ) : Type 0 where
-  pub few : length g ≤ MOST_GLOBALS
-  pub near : AllByRecursion IsRoutineNear rs
-  pub places : HasPlaces rs functions main
-  pub sized : size_of_data ≡ data_size g
-  pub between : b ≡ bounds (first g) rs
-  pub text : t ≡ get_or b (length rs) 0 - (4096 + size_of_data)
+  pub is_site_near : (main : ℕ) → length g ≤ MOST_GLOBALS → AllByRecursion IsRoutineNear rs
+      → HasPlaces rs functions main → IsSiteNear s
+  is_site_near main few near places = subst IsSiteNear (sym site_is)
+      (site_near g rs functions main few near places)
 
-module _ (g b : List ℕ) (rs : List RoutineView) (functions main size_of_data t : ℕ)
-    (h : IsMeasured g b rs functions main size_of_data t) where
-  sizes_are : got_sizes size_of_data t ≡ front_sizes g rs
-  sizes_are =
-      let d = h.sized in
-      let begin : first g ≡ (4096 + size_of_data) + 51 = omega arith in
-      let same : t ≡ 51 + total rs = h.text ∙ text_size b (first g) (4096 + size_of_data) rs
-      h.between begin in
-      λ i. record { data_size = d i; text_size = same i; xdata_size = 0; pdata_size = 0 }
-
-  pub rdata_small : (rdata : ℕ) → rdata ≡ rdata_at (got_sizes size_of_data t) → rdata < 2 ^ 31
-  rdata_small rdata r = let s = ap rdata_at sizes_are in
-      let f = rdata_fits g rs functions main h.few h.near h.places in omega arith
-
-  pub xdata_small : (xdata : ℕ) → xdata ≡ xdata_at (got_sizes size_of_data t)
-      → xdata + infos_room rs < 2 ^ 31
-  xdata_small xdata r = let s = ap xdata_at sizes_are in
-      let f = tables_fit g rs functions main h.few h.near h.places in omega arith
-
-  module _ (s : SiteView) (rdata : ℕ) (is : s
-      ≡ record {
-        text = 4096 + size_of_data;
-        rdata = rdata;
-        functions = take functions b;
-        funclets = drop functions b;
-      })
-      (r : rdata ≡ rdata_at (got_sizes size_of_data t)) where
-    site_is : s ≡ site g rs functions
-    site_is =
-        let d = h.sized in
-        let e = h.between in
-        let same : rdata ≡ rdata_at (front_sizes g rs) = r ∙ ap rdata_at sizes_are in
-        is ∙ λ i. record {
-          text = 4096 + d i;
-          rdata = same i;
-          functions = take functions (e i);
-          funclets = drop functions (e i);
-        }
-
-    pub is_site_near : IsSiteNear s
-    is_site_near = subst IsSiteNear (sym site_is)
-        (site_near g rs functions main h.few h.near h.places)
-
-    pub image_is : (at entry : ℕ) (text xdata pdata : List ℕ)
-        → at ≡ xdata_at (got_sizes size_of_data t) → entry ≡ get_or b main 0 - (4096 + size_of_data)
-        → text ≡ text_bytes s rs → xdata ≡ infos s (4096 + size_of_data + 51) rs
-        → pdata ≡ table_bytes (ranges s at (4096 + size_of_data + 51) rs)
-        → record {
-          data_size = size_of_data;
-          data_bytes = g;
-          text = text;
-          entry = entry;
-          xdata = xdata;
-          pdata = pdata;
-        } ≡ image_of g rs functions main
-    image_is at entry text xdata pdata x n k i p =
-        let d = h.sized in
-        let of = site g rs functions in
-        let begin : 4096 + size_of_data + 51 ≡ first g = omega arith in
-        let table = x ∙ ap xdata_at sizes_are in
-        let text' = k ∙ ap (λ (s : SiteView). text_bytes s rs) site_is in
-        let entry' = n ∙ ap (λ (xs : List ℕ). get_or xs main 0 - (4096 + size_of_data)) h.between
-        ∙ ap (λ (n : ℕ). get_or (bounds (first g) rs) main 0 - (4096 + n)) d in
-        let xdata' = i ∙ ap (λ (s : SiteView). infos s (4096 + size_of_data + 51) rs) site_is
-        ∙ ap (λ (n : ℕ). infos of n rs) begin in
-        let pdata' = p ∙ ap (λ (s : SiteView). table_bytes
-        (ranges s at (4096 + size_of_data + 51) rs)) site_is
-        ∙ ap (λ (n : ℕ). table_bytes (ranges of n (4096 + size_of_data + 51) rs)) table
-        ∙ ap (λ (n : ℕ). table_bytes (ranges of (xdata_at (front_sizes g rs)) n rs)) begin in
-        λ i. record {
-          data_size = d i;
-          data_bytes = g;
-          text = text' i;
-          entry = entry' i;
-          xdata = xdata' i;
-          pdata = pdata' i;
-        }
+  pub image_is : (main entry : ℕ) (text xdata pdata : List ℕ)
+      → entry ≡ get_or b main 0 - p.text
+      → text ≡ text_bytes s rs → xdata ≡ infos s (first_routine_at p.text) rs
+      → pdata ≡ table_bytes (ranges s p.xdata (first_routine_at p.text) rs)
+      → record {
+        data_size = p.data_size;
+        data_bytes = g;
+        text = text;
+        entry = entry;
+        xdata = xdata;
+        pdata = pdata;
+      } ≡ image_of g rs functions main
+  image_is main entry text xdata pdata n k i q =
+      let d = is.data_size in
+      let begin = is.text in
+      let table = is.xdata in
+      let of = site g rs functions in
+      let text' = k ∙ ap (λ (s : SiteView). text_bytes s rs) site_is in
+      let entry' = n ∙ ap (λ (xs : List ℕ). get_or xs main 0 - p.text) between
+      ∙ ap (λ (n : ℕ). get_or (bounds (first g) rs) main 0 - n) begin in
+      let xdata' = i ∙ ap (λ (s : SiteView). infos s (first_routine_at p.text) rs) site_is
+      ∙ ap (λ (n : ℕ). infos of (first_routine_at n) rs) begin in
+      let pdata' = q ∙ ap (λ (s : SiteView). table_bytes
+      (ranges s p.xdata (first_routine_at p.text) rs)) site_is
+      ∙ ap (λ (n : ℕ). table_bytes (ranges of n (first_routine_at p.text) rs)) table
+      ∙ ap (λ (n : ℕ). table_bytes (ranges of (xdata_begin g rs) (first_routine_at n) rs)) begin in
+      λ i. record {
+        data_size = d i;
+        data_bytes = g;
+        text = text' i;
+        entry = entry' i;
+        xdata = xdata' i;
+        pdata = pdata' i;
+      }
 
 abbrev pub no_routine : RoutineView
 no_routine = record {
@@ -304,5 +262,5 @@ images_are_small p fits =
     let small = fits.small in
     let text = text_length s rs near in
     let xdata = infos_length s (first g) rs in
-    let pdata = tables_small s (xdata_at (front_sizes g rs)) (first g) rs in
+    let pdata = tables_small s (xdata_begin g rs) (first g) rs in
     omega arith

@@ -1,11 +1,12 @@
 -- The image of a program: its globals, its routines, and their tables.
-use Rattle.std.specs.Prelude.{ℕ, ◌+◌, ◌-◌, List, [], ◌∷◌, length, get_or, max, take, drop}
+use Rattle.std.specs.Prelude.{◌≡◌, ℕ, ◌+◌, ◌-◌, List, [], ◌∷◌, length, get_or, max, take, drop}
 use Rattle.host_layout.specs.declared.range.TheConstants.{DATA_AT}
 use Rattle.eh_tables.specs.Written.{table_bytes}
-use Rattle.pe_write.specs.declared.sizes.Sizes.{Sizes}
-use Rattle.pe_write.specs.Program.{ImageContents, rdata_at, xdata_at}
+use Rattle.pe_write.specs.Program.{ImageContents, rdata_after, xdata_after}
 use Rattle.pe_write.specs.Written.{pages}
 use Rattle.linear_code.specs.Program.{LinearProgram}
+use Rattle.image_link.specs.declared.place.TheConstants.{FRONT_SIZE}
+use Rattle.image_link.specs.declared.placement.Placement.{Placement}
 use Rattle.image_link.specs.Routines.{RoutineView, routines}
 use Rattle.image_link.specs.Text.{SiteView, routine_size, bounds, first_routine_at, text_bytes}
 use Rattle.image_link.specs.Tables.{infos, ranges}
@@ -30,21 +31,26 @@ abbrev pub total : List RoutineView → ℕ
 total [] = 0
 total (r ∷ rs) = routine_size r + total rs
 
--- what the addresses of `.rdata` and `.xdata` rest on: the sizes of the sections before them
-abbrev pub front_sizes : List ℕ → List RoutineView → Sizes
-front_sizes globals rs =
-    record {
-      data_size = data_size globals;
-      text_size = 51 + total rs;
-      xdata_size = 0;
-      pdata_size = 0;
-    }
+abbrev pub text_size : List RoutineView → ℕ
+text_size rs = FRONT_SIZE + total rs
+
+abbrev pub rdata_begin : List ℕ → List RoutineView → ℕ
+rdata_begin globals rs = rdata_after (data_size globals) (text_size rs)
+
+abbrev pub xdata_begin : List ℕ → List RoutineView → ℕ
+xdata_begin globals rs = xdata_after (data_size globals) (text_size rs)
+
+pub record IsPlacement (globals : List ℕ) (rs : List RoutineView) (p : Placement) : Type 0 where
+  pub data_size : p.data_size ≡ data_size globals
+  pub text : p.text ≡ text_begin globals
+  pub rdata : p.rdata ≡ rdata_begin globals rs
+  pub xdata : p.xdata ≡ xdata_begin globals rs
 
 -- so many of the routines are functions
 abbrev pub site : List ℕ → List RoutineView → ℕ → SiteView
 site globals rs functions = record {
   text = text_begin globals;
-  rdata = rdata_at (front_sizes globals rs);
+  rdata = rdata_begin globals rs;
   functions = take functions (bounds (first globals) rs);
   funclets = drop functions (bounds (first globals) rs);
 }
@@ -60,7 +66,7 @@ image_of globals rs functions main =
       entry = get_or (bounds (first globals) rs) main 0 - text_begin globals;
       xdata = infos (site globals rs functions) (first globals) rs;
       pdata =
-          table_bytes (ranges (site globals rs functions) (xdata_at (front_sizes globals rs))
+          table_bytes (ranges (site globals rs functions) (xdata_begin globals rs)
           (first globals) rs);
     }
 

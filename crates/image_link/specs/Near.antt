@@ -39,10 +39,13 @@ pub record IsSiteNear (s : SiteView) : Type 0 where
   pub functions : AreNear s.functions
   pub funclets : AreNear s.funclets
 
--- all routines and their tables have room in an image, whose first routine is a function and which
--- begins at one that isn't empty
+-- all routines and their tables have room in an image
+abbrev pub HasRoom : List RoutineView → Type 0
+HasRoom rs = room rs + infos_room rs + other_room ≤ MOST_IMAGE
+
+-- they have room in one whose first routine is a function and which begins at one that isn't empty
 pub record HasPlaces (rs : List RoutineView) (functions main : ℕ) : Type 0 where
-  pub room : room rs + infos_room rs + other_room ≤ MOST_IMAGE
+  pub room : HasRoom rs
   pub fewer : functions ≤ length rs
   pub there : main < length rs
   pub some : (d : RoutineView) → 0 < routine_size (get_or rs main d)

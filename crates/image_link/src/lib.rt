@@ -11,6 +11,7 @@ pub mod entry;
 pub mod laws;
 pub mod link;
 pub mod place;
+pub mod placement;
 pub mod routine;
 pub mod tables;
 pub mod text;

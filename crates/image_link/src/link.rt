@@ -1,6 +1,6 @@
 //! The image of a program.
 
-ghost use Rattle.std.specs.Prelude.{◌≡◌, ◌+◌, ◌-◌, ◌<◌, ◌≤◌, ◌^◌, length, get_or, take, drop, IfOk};
+ghost use Rattle.std.specs.Prelude.{◌≡◌, ℕ, ◌<◌, ◌≤◌, length, take, drop, IfOk};
 ghost use Rattle.std.specs.List.{AllByRecursion};
 ghost use Rattle.linear_code.specs.Program.{linear_program};
 ghost use Rattle.pe_image.specs.Reading.{IsImage};
@@ -12,26 +12,14 @@ ghost use Rattle.image_link.specs.Near.{IsRoutineNear, HasPlaces};
 ghost use Rattle.image_link.specs.Text as texts;
 
 use crate::place::{FRONT_SIZE, bounds_of};
+use crate::placement::{offset_of, placement_of, text_begin};
 use crate::routine::{Routine, routines};
 use crate::tables::{Tables, tables_of};
 use crate::text::{Site, text_of};
-use host_layout::range::{self, PAGE};
 use linear_code::program::IrProgram;
-use pe_write::{Image, Sizes, write};
+use pe_write::{Image, write};
 use seh_num::limit::MOST_GLOBALS;
 use std::alloc::{AllocError, Global};
-
-/// Where `.data` begins.
-const DATA_AT: u32 = range::DATA_AT as u32;
-
-/// The whole pages of `.data`, at least one.
-fn data_pages(size: u64) -> u32
-    requires { size ≤ MOST_GLOBALS }
-    ensures value { result ≡ spec.pages_of size }
-    ensures small { result ≤ MOST_GLOBALS + PAGE }
-{
-    (size.max(1).div_ceil(PAGE) * PAGE) as u32
-}
 
 /// The addresses that a text at `text` refers to, where the first `functions` routines are
 /// functions.
@@ -51,15 +39,6 @@ fn site_of<'a>(text: u32, rdata: u32, bounds: &'a [u32], functions: usize) -> Si
         functions,
         funclets,
     }
-}
-
-/// How far after the text's begin an address of `bounds` is.
-fn offset_of(bounds: &[u32], index: usize, text: u32) -> u32
-    requires there { index < length bounds.now }
-    requires after { text ≤ get_or bounds.now index 0 }
-    ensures { result ≡ get_or bounds.now index 0 - text }
-{
-    bounds[index] - text
 }
 
 /// The image of code and tables.
@@ -109,27 +88,13 @@ fn linked(
     requires bounds { bounds.now ≡ texts.bounds (spec.first globals.now) routines.now }
     ensures { IfOk result (λ image. image ≡ spec.image_of globals.now routines.now functions main) }
 {
-    let data_size = data_pages(globals.len() as u64);
-    let text = DATA_AT + data_size;
-    let sizes = Sizes {
-        data_size,
-        text_size: offset_of(bounds, routines.len(), text),
-        xdata_size: 0,
-        pdata_size: 0,
-    };
-    let rdata = sizes.rdata_at() as u32;
-    let xdata = sizes.xdata_at() as u32;
-    let site = site_of(text, rdata, bounds, functions);
+    let placement = placement_of(globals, routines, bounds);
+    let text = placement.text;
+    let site = site_of(text, placement.rdata, bounds, functions);
     let code = text_of(alloc, &site, routines)?;
-    let tables = tables_of(alloc, &site, routines, text + FRONT_SIZE, xdata)?;
-    image_with(
-        alloc,
-        globals,
-        data_size,
-        code,
-        offset_of(bounds, main, text),
-        tables,
-    )
+    let tables = tables_of(alloc, &site, routines, text + FRONT_SIZE, placement.xdata)?;
+    let entry = offset_of(bounds, main, text);
+    image_with(alloc, globals, placement.data_size, code, entry, tables)
 }
 
 /// The image of routines, of which the first so many are functions, and which begins at the one of
@@ -146,7 +111,7 @@ fn image_of(
     requires places { HasPlaces routines.now functions main }
     ensures { IfOk result (λ image. image ≡ spec.image_of globals.now routines.now functions main) }
 {
-    let first = DATA_AT + data_pages(globals.len() as u64) + FRONT_SIZE;
+    let first = text_begin(globals) + FRONT_SIZE;
     let bounds = bounds_of(alloc, routines, first)?;
     linked(alloc, globals, routines, &bounds, functions, main)
 }
@@ -156,6 +121,7 @@ pub fn compile_program(alloc: Global, program: &IrProgram) -> Result<Vec<u8>, Al
     requires { FitsProgram (linear_program program.now) }
     ensures bytes { IfOk result (λ bytes. bytes.items
         ≡ written (images.parts_of (spec.linked (linear_program program.now)))) }
+    ensures octets { IfOk result (λ bytes. AllByRecursion (λ (b : ℕ). b < 256) bytes.items) }
     ensures image { IfOk result (λ bytes. IsImage bytes.items
         (images.image_of (spec.linked (linear_program program.now)))) }
     ensures small { IfOk result (λ bytes. length bytes.items

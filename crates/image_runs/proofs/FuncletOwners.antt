@@ -13,7 +13,7 @@ use Rattle.seh_ir.specs.Regions.{except_kind, region, statement_regions, stateme
 use Rattle.seh_ir.specs.Funclets.{statement_funclets, statements_funclets}
 use Rattle.seh_ir.specs.Lowered.{all_locals, lowered_function, lowered_funclets, all_funclets}
 use Rattle.lowering_follows.proofs.Segments.{IsSegmentAt, whole_is_at}
-use Rattle.lowering_invariants.proofs.PlainExpressions.{all_append}
+use Rattle.seh_ir.proofs.EveryInstruction.{all_append}
 use Rattle.lowering_invariants.proofs.TurnStack.{all_at}
 use Rattle.seh_ir.proofs.EveryFunclet.{HoldsOfFunclets, funclets_known}
 

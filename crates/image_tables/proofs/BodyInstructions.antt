@@ -1,6 +1,6 @@
 -- Instructions of a body: each has a spelling, keeps RSP and the nonvolatile registers, and begins
 -- no epilogue.
-use Rattle.std.proofs.Common.{◌≡◌, ℕ, ◌+◌, ◌^◌, Bool, true, List, [], ◌∷◌, ◌++◌, Option, Some, None, refl, arith}
+use Rattle.std.proofs.Common.{◌≡◌, ℕ, ◌^◌, Bool, true, List, [], ◌∷◌, ◌++◌, Option, Some, None, refl, arith}
 use Rattle.std.proofs.lemmas.Bool.{lt-ltb}
 use Rattle.image_tables.specs.Words.{W32, low, Rax, Rcx, Instr, is_encodable, UnwindOperation, Other, role_of, written, may_write_all, Slot, Local, Temporary, Layout, before, work, temporary_at, local_at, fetch_local, keep_local, fetch, keep, IsNear}
 use Rattle.seh_num.specs.declared.width.Width.{Width}

@@ -11,8 +11,7 @@ use Rattle.pe_write.proofs.Programs.{listed}
 use Rattle.host_model.specs.Loading.{section_of, mode_in, byte_in, stored_byte, with_slots, mapped}
 use Rattle.host_model.specs.Slots.{IsBeside}
 use Rattle.host_model.proofs.Slots.{slots-beside}
-use Rattle.image_link.specs.Linked.{data_size}
-use Rattle.image_link.proofs.Images.{rdata_fits, has_places}
+use Rattle.image_link.proofs.Images.{tables_fit, has_places}
 use Rattle.image_link.proofs.Nearness.{routines_near}
 use Rattle.image_tables.proofs.Table.{is, rdata_is}
 use Rattle.image_tables.specs.FrameLaws.{ImagesHaveText, TextsAreFixed}
@@ -43,8 +42,8 @@ module _ (p : LinearProgram) (fits : FitsProgram p) where
 
   low : r + 0x3000 < 2 ^ 32
   low =
-      let fit = rdata_fits p.globals (routines p) (length p.functions) p.main fits.globals
-      (routines_near p fits) (has_places p fits) in
+      let fit = tables_fit p.globals (routines p) fits.globals (routines_near p fits)
+      (has_places p fits).room in
       let e = rdata_is p fits in
       omega arith
 

@@ -1,9 +1,10 @@
 -- A routine's layout has the size of its frame.
-use Rattle.std.proofs.Common.{◌≡◌, ℕ, suc, ◌==◌, Bool, true, false, not, List, [], ◌∷◌, ◌++◌, map, Option, Some, None, refl}
+use Rattle.std.proofs.Common.{◌≡◌, ℕ, suc, ◌==◌, Bool, true, false, not, List, [], ◌∷◌, map, Option, Some, None, refl}
 use Rattle.std.specs.Prelude.{slice_get, ◌&&◌}
 use Rattle.std.specs.List.{AllByRecursion}
 use Rattle.image_tables.specs.Words.{LinearFunction, LinearFunclet, LinearProgram, FrameLayout, RoutineView, is_leaf, leaf_if, functions_from, funclet, routines, Placed, site_of, infos_begin, placed, first}
 use Rattle.image_tables.proofs.Lookups.{placed_has}
+use Rattle.seh_ir.proofs.EveryInstruction.{all_append}
 
 abbrev pub size_of : Option FrameLayout → ℕ
 size_of None = 0
@@ -29,13 +30,8 @@ funclets_sized : (p : LinearProgram) (fs : List LinearFunclet)
 funclets_sized p [] = tt
 funclets_sized p (f ∷ fs) = (refl, funclets_sized p fs)
 
-both_sized : (a b : List RoutineView) → AllByRecursion IsSized a → AllByRecursion IsSized b
-    → AllByRecursion IsSized (a ++ b)
-both_sized [] b p q = q
-both_sized (r ∷ a) b p q = (p.0, both_sized a b p.1 q)
-
 pub sized : (p : LinearProgram) (index : ℕ) (x : Placed) → slice_get (placed p) index ≡ Some x
     → IsSized x.routine
 sized p index x e = placed_has IsSized (site_of p) (infos_begin p) (first p.globals) (routines p)
-    index x (both_sized (functions_from p.main 0 p.functions) (map (funclet p) p.funclets)
+    index x (all_append IsSized (functions_from p.main 0 p.functions) (map (funclet p) p.funclets)
     (functions_sized p.main 0 p.functions) (funclets_sized p p.funclets)) e

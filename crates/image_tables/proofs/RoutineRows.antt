@@ -12,6 +12,7 @@ use Rattle.image_tables.proofs.Labels.{label_least}
 use Rattle.image_tables.proofs.Table.{framed_room}
 use Rattle.image_tables.specs.RegionRows.{AreInOrder}
 use Rattle.image_tables.proofs.RegionRows.{rows_both}
+use Rattle.seh_ir.proofs.EveryInstruction.{all_append}
 
 -- ---- the rows of a routine
 
@@ -94,13 +95,9 @@ funclets_bare p (f ∷ fs) = (
   funclets_bare p fs,
 )
 
-both_bare : (a b : List RoutineView) → AllByRecursion IsBare a → AllByRecursion IsBare b
-    → AllByRecursion IsBare (a ++ b)
-both_bare [] b h k = k
-both_bare (r ∷ a) b h k = (h.0, both_bare a b h.1 k)
-
 pub routines_bare : (p : LinearProgram) → AllByRecursion IsBare (routines p)
-routines_bare p = both_bare (functions_from p.main 0 p.functions) (map (funclet p) p.funclets)
+routines_bare p =
+    all_append IsBare (functions_from p.main 0 p.functions) (map (funclet p) p.funclets)
     (functions_bare p.main 0 p.functions) (funclets_bare p p.funclets)
 
 -- ---- the regions of routines

@@ -1,10 +1,10 @@
 -- The shape of the function table of every program.
-use Rattle.std.proofs.Common.{◌≡◌, ◌≢◌, ℕ, zero, suc, ◌+◌, ◌%◌, ◌<◌, ◌==◌, true, false, List, [], ◌∷◌, ◌++◌, length, get_or, drop, map, Some, None, refl, sym, ap, subst, ◌∙◌, arith, inl, inr, length-append, get_or-drop}
+use Rattle.std.proofs.Common.{◌≡◌, ◌≢◌, ℕ, zero, suc, ◌+◌, ◌%◌, ◌<◌, ◌==◌, false, List, [], ◌∷◌, ◌++◌, length, get_or, drop, map, Some, None, refl, sym, ap, subst, ◌∙◌, arith, inl, inr, length-append, get_or-drop}
 use Rattle.std.specs.Prelude.{◌&&◌, nat_lt}
 use Rattle.std.specs.List.{AllByRecursion}
 use Rattle.std.proofs.lemmas.Bool.{ne_eqb, eq-eqb, false≢true, cases_lt}
 use Rattle.std.proofs.lemmas.List.{length-map, get_or-map}
-use Rattle.image_tables.specs.Words.{Region, LinearFunction, LinearFunclet, LinearProgram, FitsProgram, RoutineView, functions_from, funclet, routines, IsFrameNear, IsRoutineNear, routine_size, bounds, thunk_at, CSpecificHandler, has_except, has_finally, trailer, first, site_of, infos_begin, placed, entry_of, entries, AreDifferent, rows_of, handlers, regions, named, funclet_begin, AreRows}
+use Rattle.image_tables.specs.Words.{Region, LinearFunction, LinearFunclet, LinearProgram, FitsProgram, RoutineView, functions_from, funclet, routines, IsFrameNear, IsRoutineNear, routine_size, bounds, thunk_at, CSpecificHandler, has_except, has_finally, trailer, first, site_of, infos_begin, entry_of, entries, AreDifferent, rows_of, regions, named, funclet_begin, AreRows}
 use Rattle.linear_code.specs.declared.program.FuncletKind.TheVariants.{Filter}
 use Rattle.image_link.specs.Routines.{nothing, funclet_frame}
 use Rattle.eh_tables.specs.Written.{trailer_flags}

@@ -13,12 +13,13 @@ use Rattle.eh_tables.proofs.TablesAgain.{reads_ranges}
 use Rattle.eh_tables.proofs.WholeAgain.{reads_table}
 use Rattle.pe_write.specs.Program as images
 use Rattle.pe_write.proofs.Programs.{listed}
+use Rattle.seh_ir.proofs.EveryInstruction.{all_append}
 use Rattle.template_code.specs.Probing.{check_stack}
 use Rattle.image_link.specs.Text.{service_thunk}
 use Rattle.image_link.specs.Tables.{info_bytes_of, infos, infos_room, range_if, ranges}
 use Rattle.image_link.specs.Linked.{total}
 use Rattle.image_link.proofs.Bounds.{text_length}
-use Rattle.image_link.proofs.Images.{is_program, tables_fit, rdata_fits, has_places, no_routine}
+use Rattle.image_link.proofs.Images.{is_program, tables_fit, has_places, no_routine}
 use Rattle.image_link.proofs.Infos.{info_small}
 use Rattle.image_link.proofs.Nearness.{routines_near}
 use Rattle.image_tables.specs.RegionRanges.{IsRange as IsRegionRange}
@@ -141,14 +142,11 @@ funclets_have : (p : LinearProgram) (fs : List LinearFunclet)
 funclets_have p [] all = tt
 funclets_have p (f ∷ fs) all = (all.0, funclets_have p fs all.1)
 
-both_have : (a b : List RoutineView) → AllByRecursion RoutineHasRanges a
-    → AllByRecursion RoutineHasRanges b → AllByRecursion RoutineHasRanges (a ++ b)
-both_have [] b h k = k
-both_have (r ∷ a) b h k = (h.0, both_have a b h.1 k)
-
 routines_have : (p : LinearProgram) → HasRegions p → AllByRecursion RoutineHasRanges (routines p)
-routines_have p h = both_have (functions_from p.main 0 p.functions) (map (funclet p) p.funclets)
-    (functions_have p.main 0 p.functions h.functions) (funclets_have p p.funclets h.funclets)
+routines_have p h =
+    all_append RoutineHasRanges (functions_from p.main 0 p.functions)
+    (map (funclet p) p.funclets) (functions_have p.main 0 p.functions h.functions)
+    (funclets_have p p.funclets h.funclets)
 
 -- ---- the addresses of funclets
 
@@ -243,8 +241,7 @@ module _ (p : LinearProgram) (fits : FitsProgram p) where
   c_handler =
       let r = rdata_at (sizes_of program) in
       let t = text_is in
-      let fit = rdata_fits p.globals rs (length p.functions) p.main fits.globals near
-      (has_places p fits) in
+      let fit = tables_fit p.globals rs fits.globals near (has_places p fits).room in
       let at = thunk_at s.text CSpecificHandler in
       handler_is_c image at r (omega arith) (omega arith)
       (handler_there ∙ ap (λ (n : ℕ). Some (chosen (thunk (distance (at + 6) (n + 96)))))
@@ -393,8 +390,7 @@ module _ (p : LinearProgram) (fits : FitsProgram p) where
 
   are_ranges : AllByRecursion IsRuntimeFunction (ranges_of written)
   are_ranges =
-      let fit = tables_fit p.globals rs (length p.functions) p.main fits.globals near
-      (has_places p fits) in
+      let fit = tables_fit p.globals rs fits.globals near (has_places p fits).room in
       let inside = end_inside in
       let small = image_small in
       ranges_small s (infos_begin p) (first p.globals) rs (omega arith) (omega arith)

@@ -1,12 +1,11 @@
 -- The routines of a program where they are: its functions, and then its funclets, by their
 -- numbers.
 use Rattle.std.specs.Prelude.{ℕ, ◌+◌, List, [], ◌∷◌, length}
-use Rattle.pe_write.specs.Program.{xdata_at}
 use Rattle.linear_code.specs.Program.{LinearProgram}
 use Rattle.image_link.specs.Routines.{RoutineView, routines}
 use Rattle.image_link.specs.Text.{SiteView, routine_size, entry_size}
 use Rattle.image_link.specs.Tables.{info_bytes}
-use Rattle.image_link.specs.Linked.{first, front_sizes, site}
+use Rattle.image_link.specs.Linked.{first, xdata_begin, site}
 
 -- a routine, the address of its first byte, and that of its unwind info, if it has one
 pub record Placed : Type 0 where
@@ -32,7 +31,7 @@ abbrev pub site_of : LinearProgram → SiteView
 site_of p = site p.globals (routines p) (length p.functions)
 
 abbrev pub infos_begin : LinearProgram → ℕ
-infos_begin p = xdata_at (front_sizes p.globals (routines p))
+infos_begin p = xdata_begin p.globals (routines p)
 
 abbrev pub placed : LinearProgram → List Placed
 placed p = placed_from (site_of p) (infos_begin p) (first p.globals) (routines p)

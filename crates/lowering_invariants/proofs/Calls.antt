@@ -5,7 +5,7 @@ use Rattle.std.specs.List.{AllByRecursion}
 use Rattle.std.specs.Prelude.{Bool}
 use Rattle.lowering_invariants.specs.Words.{Operation, Expression, Program, Temporary, Instruction, LinearProgram, BodyName, ExceptionSource, NoException, OfFilter, KeptIn, Names, code_code, expression_code, IsCalled, ExpressionFits, IsCallee, IsInstructionOf}
 use Rattle.c_operations.specs.declared.operation.Operation.TheVariants as operations
-use Rattle.lowering_invariants.proofs.PlainExpressions.{all_append}
+use Rattle.seh_ir.proofs.EveryInstruction.{all_append}
 use Rattle.lowering_invariants.specs.Bodies.{ReadsWell}
 use Rattle.lowering_invariants.proofs.EveryExpression.{HoldsOfOperations, expression_every}
 

@@ -9,7 +9,7 @@ use Rattle.c_checked.specs.Expression as nodes
 use Rattle.c_checked.specs.Expression.{Next}
 use Rattle.linear_code.specs.declared.instruction.Instruction.TheVariants as instructions
 use Rattle.lowering_expressions.specs.Expressions.{store_code}
-use Rattle.lowering_invariants.proofs.PlainExpressions.{all_append}
+use Rattle.seh_ir.proofs.EveryInstruction.{all_append}
 
 -- it holds of operations on temporaries and locals, of memory, and of jumps
 pub record HoldsOfOperations (P : Instruction → Type 0) : Type 0 where

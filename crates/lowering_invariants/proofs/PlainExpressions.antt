@@ -13,11 +13,7 @@ use Rattle.c_checked.specs.Expression.{Next}
 use Rattle.lowering_expressions.specs.Expressions.{size_of, argument_count}
 use Rattle.lowering_invariants.specs.Nesting.{parameters_for, lvalue_nesting, arguments_nesting, node_nesting, lvalue_reads, arguments_read, node_reads}
 use Rattle.lowering_invariants.specs.Slots.{IsField}
-
-pub all_append : {X : Type 0} (P : X → Type 0) (xs ys : List X) → AllByRecursion P xs
-    → AllByRecursion P ys → AllByRecursion P (xs ++ ys)
-all_append P [] ys h k = k
-all_append P (x ∷ xs) ys h k = (h.0, all_append P xs ys h.1 k)
+use Rattle.seh_ir.proofs.EveryInstruction.{all_append}
 
 near_field : (f : Field) → parameters_for f ≤ 15 → IsField f
 near_field (fields.ExceptionInformation k) h = omega arith

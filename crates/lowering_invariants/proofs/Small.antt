@@ -12,7 +12,8 @@ use Rattle.linear_code.specs.declared.instruction.Instruction.TheVariants as ins
 use Rattle.lowering_follows.proofs.SoundExpressions.{both_left, both_right}
 use Rattle.lowering_invariants.specs.Nesting.{IsShallow}
 use Rattle.lowering_invariants.specs.BoundLaws.{LoweredIsSmall}
-use Rattle.lowering_invariants.proofs.PlainExpressions.{NamesAmong, append, constant_good, all_append}
+use Rattle.lowering_invariants.proofs.PlainExpressions.{NamesAmong, append, constant_good}
+use Rattle.seh_ir.proofs.EveryInstruction.{all_append}
 use Rattle.lowering_invariants.proofs.PlainStatements.{small_body, statements_good, statements_within, numbers_within, Value, Named, Fitting, funclets_small, Within}
 use Rattle.seh_num.specs.declared.limit.TheConstants.{MOST_GLOBALS}
 use Rattle.seh_ir.proofs.StatementParts.{StatementsHave}

@@ -13,7 +13,7 @@ use Rattle.linear_code.specs.declared.program.RegionKind.TheVariants as kinds
 use Rattle.linear_code.specs.declared.program.FuncletKind.TheVariants as funclets
 use Rattle.linear_machine.specs.Regions.{regions_of, handlers_of, handlers_in}
 use Rattle.lowering_follows.proofs.SoundExpressions.{both_left}
-use Rattle.lowering_invariants.proofs.PlainExpressions.{all_append}
+use Rattle.seh_ir.proofs.EveryInstruction.{all_append}
 use Rattle.lowering_invariants.specs.Waiting.{AreLeft, LandsWell}
 use Rattle.lowering_invariants.proofs.Ready.{last_are}
 use Rattle.lowering_invariants.proofs.Moves.{Turn, Halts, Moves, pick_turn, some_turn, deeper_turn, kept}

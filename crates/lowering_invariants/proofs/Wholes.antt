@@ -24,7 +24,7 @@ use Rattle.seh_ir.proofs.FuncletCounts.{filter_count, statement_count, statement
 use Rattle.lowering_follows.proofs.FuncletNumbers.{count_front, count_back, counted}
 use Rattle.lowering_follows.proofs.Segments.{IsSegmentAt, front, back, whole_is_at}
 use Rattle.lowering_follows.proofs.SoundExpressions.{both_left, both_right, Knows, expression_fits}
-use Rattle.lowering_invariants.proofs.PlainExpressions.{all_append}
+use Rattle.seh_ir.proofs.EveryInstruction.{all_append}
 use Rattle.lowering_invariants.specs.Bodies.{parent_of}
 use Rattle.lowering_invariants.proofs.Calls.{AllCall, append, expression_calls}
 use Rattle.lowering_invariants.proofs.TurnStack.{same_it}

@@ -9,8 +9,9 @@ use Rattle.c_checked.specs.declared.expression.Conversion.{Conversion}
 use Rattle.c_checked.specs.declared.expression.Conversion.TheVariants.{Kept, Extend, Scale}
 use Rattle.c_checked.specs.Expression as nodes
 use Rattle.c_checked.specs.Expression.{Next}
-use Rattle.lowering_locals.proofs.Lemmas.{all_append, both_left, both_right}
+use Rattle.lowering_locals.proofs.Lemmas.{both_left, both_right}
 use Rattle.lowering_locals.proofs.StraightCode.{Fine, AllFine, temporaries_in}
+use Rattle.seh_ir.proofs.EveryInstruction.{all_append}
 
 -- where the code of an exception and the flag of a block are kept
 abbrev pub CodeIn : SeenNames → ExceptionSource → Type 0

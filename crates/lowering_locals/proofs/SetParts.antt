@@ -8,7 +8,7 @@ use Rattle.std.specs.Prelude.{true, false, replicate, slice_get, Some, None}
 use Rattle.lowering_locals.specs.Words.{Expression, Inside, funclets_in, funclets, filter_funclet, statement_sound, Filter, Always, Funclet, Statement, Declare, Block, Evaluate, If, IfElse, For, DoWhile, Return, Break, Continue, Leave, TryExcept, TryFinally, Statements, Empty, Then, Local, Temporary, Instruction, Region, RegionKind, LinearProgram, LinearBody, LinearFunclet, BodyName, FuncletBody, funclet_body, body_of, holds, flag_of, expression_size, discarded_size, statement_size, statements_size, Owner, Names, LoweringContext, filter_names, finally_names, in_loop, in_try, in_except, in_guarded, expression_code, statement_code, statements_code, owner_of, SeenNames, with_local, IsPart, after_all_declared, after_statement, expression_within, with_flag, function_locals, owner_locals, locals_at, FinallyBegins, Leads, Guards, IsSetBody, statement_sets, statements_sets, filter_sets, finally_sets, statement_funclet_sets, statements_funclet_sets, set_in, count_up, statements_sound, statement_notes, statements_notes, except_names, finally_scope, function_of, filter_within, statement_within, statements_within}
 use Rattle.linear_code.specs.declared.instruction.Instruction.TheVariants as instructions
 use Rattle.linear_code.specs.declared.program.RegionKind.TheVariants as kinds
-use Rattle.lowering_locals.proofs.Lemmas.{Range, part_of, both_parts, no_part, one_part, expression_length, statements_length, filter_count, statement_count, statements_count, IsSegmentAt, front, back, whole_is_at, all_append, same_it, all_map, both_left, both_right, sees_own, sees_before, itself, within, part_with}
+use Rattle.lowering_locals.proofs.Lemmas.{Range, part_of, both_parts, no_part, one_part, expression_length, statements_length, filter_count, statement_count, statements_count, IsSegmentAt, front, back, whole_is_at, same_it, all_map, both_left, both_right, sees_own, sees_before, itself, within, part_with}
 use Rattle.seh_ir.specs.Regions.{except_kind, region, statement_regions, statements_regions}
 use Rattle.seh_ir.specs.Funclets as funclets_of
 use Rattle.seh_ir.specs.Funclets.{filter_funclets, finally_funclet, in_funclet, statement_funclets, statements_funclets}
@@ -21,6 +21,7 @@ use Rattle.lowering_locals.proofs.ChoiceSets.{if_parts, if_else_parts, returns_l
 use Rattle.lowering_locals.proofs.LoopSets as loops
 use Rattle.lowering_locals.proofs.Around.{around_finally, around_filter, around_after, way_more, label_more, unwound_in, above_body}
 use Rattle.lowering_locals.proofs.TrySets.{except_parts, finally_parts}
+use Rattle.seh_ir.proofs.EveryInstruction.{all_append}
 
 module _ (linear : LinearProgram) (lists : BodyName → List SeenNames) (funclet_lists : List (List SeenNames)) (listed : (k : ℕ) (list : List SeenNames) → slice_get funclet_lists k ≡ Some list → lists (FuncletBody k) ≡ list) where
   abbrev pub sets : BodyName → ℕ → SeenNames

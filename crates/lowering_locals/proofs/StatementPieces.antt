@@ -7,10 +7,11 @@ use Rattle.lowering_locals.specs.Words.{Expression, all_declared_sound, Declared
 use Rattle.c_checked.specs.Sound as sound
 use Rattle.linear_code.specs.declared.instruction.Instruction.TheVariants as instructions
 use Rattle.lowering_expressions.specs.declared.scope.Way.TheVariants.{Unwinds}
-use Rattle.lowering_locals.proofs.Lemmas.{expression_length, discarded_length, declared_length, IsSegmentAt, front, back, all_append, both_left, both_right, seen_cases, sees_before, part_with, within}
+use Rattle.lowering_locals.proofs.Lemmas.{expression_length, discarded_length, declared_length, IsSegmentAt, front, back, both_left, both_right, seen_cases, sees_before, part_with, within}
 use Rattle.lowering_locals.proofs.StraightCode.{is_same, is_same_back, head_recorded, Even, even_part, even_list, Fine, AllFine, AllLead, both_lead, straight}
 use Rattle.lowering_locals.proofs.ExpressionSets.{CodeIn, FlagIn, IsAround, expression_fine}
 use Rattle.lowering_locals.proofs.SetLists.{declared_long, all_declared_long, replicate_first, all_declared_first, begins, initialiser_is}
+use Rattle.seh_ir.proofs.EveryInstruction.{all_append}
 
 -- ---- what is recorded around a part, with one more local
 

@@ -24,14 +24,26 @@ pub record ImageContents : Type 0 where
 
 -- ---- where its sections lie: each after the pages of the one before
 
+-- `.text`, after `.data` of so many bytes
+abbrev pub text_after : ℕ → ℕ
+text_after data_size = DATA_AT + pages data_size
+
+-- `.rdata`, after `.data` and `.text` of so many bytes
+abbrev pub rdata_after : ℕ → ℕ → ℕ
+rdata_after data_size text_size = text_after data_size + pages text_size
+
+-- `.xdata`, which the import tables come before too
+abbrev pub xdata_after : ℕ → ℕ → ℕ
+xdata_after data_size text_size = rdata_after data_size text_size + pages tables_size
+
 abbrev pub text_at : Sizes → ℕ
-text_at s = DATA_AT + pages s.data_size
+text_at s = text_after s.data_size
 
 abbrev pub rdata_at : Sizes → ℕ
-rdata_at s = text_at s + pages s.text_size
+rdata_at s = rdata_after s.data_size s.text_size
 
 abbrev pub xdata_at : Sizes → ℕ
-xdata_at s = rdata_at s + pages tables_size
+xdata_at s = xdata_after s.data_size s.text_size
 
 abbrev pub pdata_at : Sizes → ℕ
 pdata_at s = xdata_at s + pages s.xdata_size

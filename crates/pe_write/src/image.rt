@@ -1,6 +1,7 @@
 //! Images of programs, written.
 
-ghost use Rattle.std.specs.Prelude.{◌≡◌, ◌^◌, ◌<◌, ◌≤◌, length, OnOk, IfOk, Ok};
+ghost use Rattle.std.specs.Prelude.{◌≡◌, ℕ, ◌^◌, ◌<◌, ◌≤◌, length, OnOk, IfOk, Ok};
+ghost use Rattle.std.specs.List.{AllByRecursion};
 ghost use Rattle.pe_write.specs.ImportTables.{import_tables};
 ghost use Rattle.pe_image.specs.Imports.{imports};
 ghost use Rattle.pe_write.specs.Program as spec;
@@ -169,6 +170,7 @@ impl Image {
 /// takes in memory.
 pub fn write(alloc: Global, image: &Image) -> Result<Vec<u8>, AllocError>
     ensures written { IfOk result (λ bytes. bytes.items ≡ written (spec.parts_of image.now)) }
+    ensures octets { IfOk result (λ bytes. AllByRecursion (λ (b : ℕ). b < 256) bytes.items) }
     ensures read_again { IfOk result (λ bytes. IsImage bytes.items (spec.image_of image.now)) }
     ensures small { IfOk result
         (λ bytes. length bytes.items ≤ spec.end_at (spec.sizes_of image.now)) }

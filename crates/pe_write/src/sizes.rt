@@ -6,6 +6,29 @@ ghost use Rattle.pe_write.specs.Program as spec;
 use crate::import_tables::TABLES_SIZE;
 use host_layout::range::{DATA_AT, pages};
 
+/// Where `.text` begins, relative to the image base, after `.data` of `data_size` bytes.
+pub fn text_after(data_size: u32) -> u64
+    ensures { result ≡ spec.text_after data_size }
+{
+    DATA_AT + pages(data_size as u64)
+}
+
+/// Where `.rdata` begins, relative to the image base, after `.data` of `data_size` bytes and
+/// `.text` of `text_size` bytes.
+pub fn rdata_after(data_size: u32, text_size: u32) -> u64
+    ensures { result ≡ spec.rdata_after data_size text_size }
+{
+    text_after(data_size) + pages(text_size as u64)
+}
+
+/// Where `.xdata` begins, relative to the image base, after `.data` of `data_size` bytes, `.text`
+/// of `text_size` bytes and `.rdata`.
+pub fn xdata_after(data_size: u32, text_size: u32) -> u64
+    ensures { result ≡ spec.xdata_after data_size text_size }
+{
+    rdata_after(data_size, text_size) + pages(TABLES_SIZE as u64)
+}
+
 /// How many bytes those sections of an image take whose sizes differ from program to program. They
 /// say where each of the five sections lies, relative to the image base: `.data` after the page of
 /// the headers, and each other one after the pages of the one before.
@@ -26,21 +49,21 @@ impl Sizes {
     pub fn text_at(&self) -> u64
         ensures { result ≡ spec.text_at self.now }
     {
-        DATA_AT + pages(self.data_size as u64)
+        text_after(self.data_size)
     }
 
     /// Where `.rdata` begins.
     pub fn rdata_at(&self) -> u64
         ensures { result ≡ spec.rdata_at self.now }
     {
-        self.text_at() + pages(self.text_size as u64)
+        rdata_after(self.data_size, self.text_size)
     }
 
     /// Where `.xdata` begins.
     pub fn xdata_at(&self) -> u64
         ensures { result ≡ spec.xdata_at self.now }
     {
-        self.rdata_at() + pages(TABLES_SIZE as u64)
+        xdata_after(self.data_size, self.text_size)
     }
 
     /// Where `.pdata` begins.

@@ -1,6 +1,7 @@
 //! Images, written.
 
-ghost use Rattle.std.specs.Prelude.{◌≡◌, ◌≤◌, ◌++◌, OnOk, IfOk};
+ghost use Rattle.std.specs.Prelude.{◌≡◌, ℕ, ◌<◌, ◌≤◌, ◌++◌, get_or, OnOk, IfOk};
+ghost use Rattle.std.specs.List.{AllByRecursion};
 ghost use Rattle.pe_write.specs.Written as spec;
 
 use crate::header::{
@@ -196,11 +197,19 @@ fn put_empty(out: &mut Vec<u8>, count: usize) -> Result<(), AllocError>
     put_zeros(out, DIRECTORY_SIZE * count)
 }
 
+/// The bytes of a vector are octets.
+fn are_octets(bytes: &Vec<u8>)
+    ensures { (i : ℕ) → get_or bytes.now.items i 0 < 256 }
+{
+    let _all = &bytes[..];
+}
+
 /// The bytes of an image: 1,024 bytes of headers, and the raw data of each section, filled up with
 /// zeros to a multiple of 512.
 #[tactic(auto, unfolding(crate::specs::Written::written), using(crate::proofs::Pieces::pieces))]
 pub fn write_sections(alloc: Global, image: &SectionedImage<'_>) -> Result<Vec<u8>, AllocError>
     ensures written { IfOk result (λ bytes. bytes.items ≡ spec.written image.now) }
+    ensures octets { IfOk result (λ bytes. AllByRecursion (λ (b : ℕ). b < 256) bytes.items) }
     ensures fits { OnOk result (spec.CanBeWritten image.now) }
 {
     let mut out = Vec::new(alloc);
@@ -211,5 +220,6 @@ pub fn write_sections(alloc: Global, image: &SectionedImage<'_>) -> Result<Vec<u
     image.put_directories(&mut out)?;
     image.put_table(&mut out)?;
     put_data(&mut out, &image.sections)?;
+    are_octets(&out);
     Ok(out)
 }
