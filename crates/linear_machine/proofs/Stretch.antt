@@ -76,14 +76,14 @@ pub record Ways : Type 1 where
 abbrev pub Kept : Type 1
 Kept = State → Store → Type 0
 
--- only a value may come, or only a normal end, beside a target and an end
-abbrev pub value_ways : (ℕ → State → Store → Part) → Kept → Context → Site → Ways
-value_ways v kept context site = record {
+-- only a target and an end may come
+abbrev pub no_ways : Kept → Context → Site → Ways
+no_ways kept context site = record {
   context = context;
   site = site;
   held = site.held;
   kept = kept;
-  value = λ x. To (v x);
+  value = λ x. Never;
   normal = Never;
   returned = λ v. Never;
   broke = Never;
@@ -91,19 +91,12 @@ value_ways v kept context site = record {
   left = Never;
 }
 
+-- beside these only a value, or only a normal end
+abbrev pub value_ways : (ℕ → State → Store → Part) → Kept → Context → Site → Ways
+value_ways v kept context site = record (no_ways kept context site) { value = λ x. To (v x) }
+
 abbrev pub normal_ways : (State → Store → Part) → Kept → Context → Site → Ways
-normal_ways t kept context site = record {
-  context = context;
-  site = site;
-  held = site.held;
-  kept = kept;
-  value = λ x. Never;
-  normal = To t;
-  returned = λ v. Never;
-  broke = Never;
-  again = Never;
-  left = Never;
-}
+normal_ways t kept context site = record (no_ways kept context site) { normal = To t }
 
 abbrev pub first_ways : (State → Store → Part) → Ways → Ways
 first_ways t w = record w { value = λ x. Never; normal = To t }
