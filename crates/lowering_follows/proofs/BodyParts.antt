@@ -3,14 +3,14 @@ use Rattle.std.proofs.Common.{◌≡◌, ◌<◌, ◌≤◌, ℕ, zero, suc, ◌
 use Rattle.std.specs.Prelude.{set, Option, Some, None}
 use Rattle.c_operations.specs.declared.operation.Operation.TheVariants as operations
 use Rattle.c_operations.specs.declared.operation.Pure.TheVariants as pures
-use Rattle.lowering_follows.specs.Words.{Expression, Program, State, Value, Normal, Returned, Broke, Continued, LeftTry, Target, End, Outcome, Gives, Context, optional, in_loop, within, Temporary, Compute, Separator, LinearProgram, Store, Finished, with_some, set_local, end_body, exec, LoweringContext, Nowhere, Jumps, Unwinds, expression_size, discarded_size, declared_size, copy, expression_code, jump_code, return_code, leave_code, discarded_code, expression_weight, optional_weight, HasAt, IsWay, IsPlace, OptionalFits, DeclaredPlaced}
+use Rattle.lowering_follows.specs.Words.{Expression, Program, State, Value, Normal, Broke, Continued, Outcome, Gives, Context, optional, in_loop, within, Temporary, Compute, Separator, LinearProgram, Store, with_some, set_local, end_body, exec, LoweringContext, Nowhere, Jumps, Unwinds, expression_size, discarded_size, declared_size, copy, expression_code, jump_code, return_code, leave_code, discarded_code, expression_weight, optional_weight, HasAt, IsWay, IsPlace, OptionalFits, DeclaredPlaced}
 use Rattle.source_meaning.specs.State as model
 use Rattle.source_meaning.specs.Statements.{declare}
 use Rattle.linear_code.specs.declared.slot.Slot.TheVariants.{Local}
 use Rattle.linear_code.specs.declared.instruction.Instruction.TheVariants as instructions
 use Rattle.linear_code.specs.declared.instruction.Instruction.TheVariants.{LocalUnwind}
 use Rattle.linear_machine.proofs.Stretch.{Part, at, Site, conf, Ways, Price, price, Join, Arrives, Claim, first_ways, joins}
-use Rattle.linear_machine.proofs.StretchJoins.{Passes, Joined, more, after, arrives_more, targets_more, finishes_more, stops_more}
+use Rattle.linear_machine.proofs.StretchJoins.{Passes, Joined, more, attains_more, after, arrives_more}
 use Rattle.linear_machine.proofs.SingleTurns.{first, stepped, still, fetch, prefix_self}
 use Rattle.lowering_expressions.specs.declared.scope.Way as jumps
 use Rattle.lowering_expressions.specs.Scope as scopes
@@ -46,22 +46,8 @@ module _ (program : Program) (linear : LinearProgram) (rate body : ℕ) where
   normal_then s t w st p q r (Gives Normal mid) j l a b = after linear rate s (t mid a.store) st mid
       p.turns p.extra p.slack q r w (Gives Normal mid) (j.turns, j.slack, j.second_out) a.reaches
       (b mid a.store a.reaches.low a.fits a.same)
-  normal_then s t w st p q r (Gives (Returned x) mid) j l a b = let lr = j.turns in
-      arrives_more linear rate s st mid p r w.kept w.held (w.returned x) (omega arith) l a
-  normal_then s t w st p q r (Gives Broke mid) j l a b = let lr = j.turns in
-      arrives_more linear rate s st mid p r w.kept w.held w.broke (omega arith) l a
-  normal_then s t w st p q r (Gives Continued mid) j l a b = let lr = j.turns in
-      arrives_more linear rate s st mid p r w.kept w.held w.again (omega arith) l a
-  normal_then s t w st p q r (Gives LeftTry mid) j l a b = let lr = j.turns in
-      arrives_more linear rate s st mid p r w.kept w.held w.left (omega arith) l a
-  normal_then s t w st p q r (Gives (Target level exc) mid) j l a b = let lr = j.turns in
-      targets_more linear rate s st mid p r w.kept w.context w.site level exc (omega arith)
-      j.first_out a
-  normal_then s t w st p q r (Gives (End (Some e)) mid) j l a b = let lr = j.turns in
-      finishes_more linear rate s st mid p.turns r.turns (Finished e mid.events) (omega arith) a
-  normal_then s t w st p q r (Gives (End None) mid) j l a b = let lr = j.turns in
-      stops_more linear rate s st mid p.turns p.extra p.out r.turns r.extra r.out (omega arith)
-      j.first_out a
+  normal_then s t w st p q r (Gives x mid) j l a b = let lr = j.turns in
+      attains_more linear rate s st mid p r (first_ways t w) x (omega arith, l, j.first_out) a
 
   module _ (roomy : 4 ≤ rate) (n : ℕ) (ih : Runs program linear rate body n)
       (bih : BodyRuns program linear rate body n) where
@@ -267,21 +253,9 @@ module _ (program : Program) (linear : LinearProgram) (rate body : ℕ) where
       loop_ends s end again st p q r (Gives Broke mid) go j l b a = let w = S end in
           let lr = j.turns in arrives_more linear rate s st mid p r Ks site.held w.normal
           (omega arith) l a
-      loop_ends s end again st p q r (Gives (Returned x) mid) go j l b a = let w = S end in
-          let lr = j.turns in arrives_more linear rate s st mid p r Ks site.held (w.returned x)
-          (omega arith) l a
-      loop_ends s end again st p q r (Gives LeftTry mid) go j l b a = let w = S end in
-          let lr = j.turns in arrives_more linear rate s st mid p r Ks site.held w.left
-          (omega arith)
-          l a
-      loop_ends s end again st p q r (Gives (Target level exc) mid) go j l b a = let lr = j.turns in
-          targets_more linear rate s st mid p r Ks context site level exc (omega arith) j.first_out
-          a
-      loop_ends s end again st p q r (Gives (End (Some e)) mid) go j l b a = let lr = j.turns in
-          finishes_more linear rate s st mid p.turns r.turns (Finished e mid.events) (omega arith) a
-      loop_ends s end again st p q r (Gives (End None) mid) go j l b a = let lr = j.turns in
-          stops_more linear rate s st mid p.turns p.extra p.out r.turns r.extra r.out (omega arith)
-          j.first_out a
+      loop_ends s end again st p q r (Gives x mid) go j l b a = let lr = j.turns in
+          attains_more linear rate s st mid p r (statement_ways program linear rate body
+          (scopes.in_loop end again scope) context site Ks again) x (omega arith, l, j.first_out) a
 
       -- ---- declarations
 

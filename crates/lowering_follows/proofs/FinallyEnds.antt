@@ -10,7 +10,7 @@ use Rattle.linear_machine.specs.Frames.{Unwinds}
 use Rattle.linear_machine.specs.Frames as machine
 use Rattle.linear_machine.specs.Unwinding.{flag_in, flag_of, run_finally}
 use Rattle.linear_machine.proofs.Stretch.{Part, at, Site, frame_of, conf, Way, Never, To, Out, Ways, Kept, Price, price, Join, found, Reaches, unwound, Arrives, Claim, normal_ways, joins}
-use Rattle.linear_machine.proofs.StretchJoins.{more, after, reaches_after, targets_more, finishes_more, stops_more, then_held}
+use Rattle.linear_machine.proofs.StretchJoins.{more, attains_out, after, reaches_after, finishes_more, stops_more, then_held}
 use Rattle.linear_machine.proofs.SingleTurns.{onto, still, stepped, first, fetch, prefix_self}
 use Rattle.linear_machine.proofs.Walks.{Outward, starts}
 use Rattle.lowering_expressions.specs.declared.scope.Way.TheVariants.{Unwinds as UnwindsTo}
@@ -30,22 +30,11 @@ module _ (program : Program) (linear : LinearProgram) (rate body : ℕ) where
       → ((mid : State) (store : Store) → mid.steps_left ≤ st.steps_left → w.kept mid store
       → mid.held ≡ w.held → Claim linear rate (t mid store) mid q w (Gives Normal mid))
       → Claim linear rate s st r w o
-  plain_then s t w st p q r (Gives (Value x) mid) j a b = absurd a
   plain_then s t w st p q r (Gives Normal mid) j a b = after linear rate s (t mid a.store) st mid
       p.turns p.extra p.slack q r w (Gives Normal mid) (j.turns, j.slack, j.second_out) a.reaches
       (b mid a.store a.reaches.low a.fits a.same)
-  plain_then s t w st p q r (Gives (Returned x) mid) j a b = absurd a
-  plain_then s t w st p q r (Gives Broke mid) j a b = absurd a
-  plain_then s t w st p q r (Gives Continued mid) j a b = absurd a
-  plain_then s t w st p q r (Gives LeftTry mid) j a b = absurd a
-  plain_then s t w st p q r (Gives (Target level exc) mid) j a b = let lr = j.turns in
-      targets_more linear rate s st mid p r w.kept w.context w.site level exc (omega arith)
-      j.first_out a
-  plain_then s t w st p q r (Gives (End (Some e)) mid) j a b = let lr = j.turns in
-      finishes_more linear rate s st mid p.turns r.turns (Finished e mid.events) (omega arith) a
-  plain_then s t w st p q r (Gives (End None) mid) j a b = let lr = j.turns in
-      stops_more linear rate s st mid p.turns p.extra p.out r.turns r.extra r.out (omega arith)
-      j.first_out a
+  plain_then s t w st p q r (Gives x mid) j a b = let lr = j.turns in
+      attains_out linear rate s st mid p r w x (omega arith) j.first_out a
 
   -- the block begins
   run_is : (k : ℕ) (names : Names) (flag : Bool) (held : ℕ) (below : List Item) (next : Next)

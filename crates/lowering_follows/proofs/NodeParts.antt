@@ -3,7 +3,7 @@ use Rattle.std.proofs.Common.{◌≡◌, ◌<◌, ◌≤◌, ℕ, suc, ◌+◌, 
 use Rattle.std.proofs.lemmas.List.{length_push}
 use Rattle.std.proofs.lemmas.Nat.{mul-mod}
 use Rattle.std.specs.Prelude.{◌%◌, Bool, true, false, nat_eq, if◌then◌else◌, Some}
-use Rattle.lowering_follows.specs.Words.{W64, low, Operation, Long, width, extended, result_of, Conversion, Kept, Extend, Scale, Expression, Lvalue, Program, State, Value, Normal, Returned, Broke, Continued, LeftTry, Target, End, Outcome, Gives, with_value, Context, Eval, Locate, converted, operate, locate, read, within, Temporary, Compute, LinearProgram, Store, Seen, pick, with_some, with_temporary, is_constant, exec, Names, read_size, conversion_size, expression_size, locate_size, constant, choice_code, conversion_code, expression_code, read_code, locate_code, ExpressionFits, LvalueFits, expression_weight, lvalue_weight, HasAt}
+use Rattle.lowering_follows.specs.Words.{W64, low, Operation, Long, width, extended, result_of, Conversion, Kept, Extend, Scale, Expression, Lvalue, Program, State, Value, Outcome, Gives, with_value, Context, Eval, Locate, converted, operate, locate, read, within, Temporary, Compute, LinearProgram, Store, Seen, pick, with_some, with_temporary, is_constant, exec, Names, read_size, conversion_size, expression_size, locate_size, constant, choice_code, conversion_code, expression_code, read_code, locate_code, ExpressionFits, LvalueFits, expression_weight, lvalue_weight, HasAt}
 use Rattle.c_operations.specs.declared.operation.Pure.TheVariants as pures
 use Rattle.linear_machine.proofs.Stretch.{Part, at, Site, conf, Ways, price, Claim, value_ways, joins}
 use Rattle.linear_machine.proofs.StretchJoins.{more, then_value}
@@ -22,13 +22,7 @@ scaled_same y by =
 pub value_self : (o : Outcome) → with_value o (λ v st. Gives (Value v) st) ≡ o
 unfolding with_value
 value_self (Gives (Value v) st) = refl
-value_self (Gives Normal st) = refl
-value_self (Gives (Returned v) st) = refl
-value_self (Gives Broke st) = refl
-value_self (Gives Continued st) = refl
-value_self (Gives LeftTry st) = refl
-value_self (Gives (Target level exc) st) = refl
-value_self (Gives (End e) st) = refl
+value_self (Gives r st) = refl
 
 pub pick_yes : (c : Bool) (x y : Seen) → c ≡ true → pick c x y ≡ x
 unfolding pick

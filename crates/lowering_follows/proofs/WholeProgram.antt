@@ -3,7 +3,7 @@ use Rattle.std.proofs.Common.{◌≡◌, ◌⊎◌, inl, inr, ◌<◌, ◌≤◌
 use native.Mathlib.Nat.{mul-add, mul_comm, mul-one}
 use Rattle.std.proofs.lemmas.Bool.{cases_lt, ne_eqb}
 use Rattle.std.specs.Prelude.{false, nat_eq, if◌then◌else◌, replicate, slice_get, ℤ, Some, None}
-use Rattle.lowering_follows.specs.Words.{Event, W32, W64, signed, wrapped, Size, Program, Function, State, Value, Normal, Returned, Broke, Continued, LeftTry, Target, End, Outcome, Gives, choose, Context, no_exception, all, ended_call, enter, within, Temporary, LinearProgram, LinearFunction, FunctionBody, Store, Configuration, Seen, Finished, with_some, begin_function, exec, statements_size, statements_notes, constant, own_locals, scope_of, statements_weight, HasAt, FunctionPlaced}
+use Rattle.lowering_follows.specs.Words.{Event, W32, W64, signed, wrapped, Size, Program, Function, State, Value, Normal, Returned, Target, End, Outcome, Gives, choose, Context, no_exception, all, ended_call, enter, within, Temporary, LinearProgram, LinearFunction, FunctionBody, Store, Configuration, Seen, Finished, with_some, begin_function, exec, statements_size, statements_notes, constant, own_locals, scope_of, statements_weight, HasAt, FunctionPlaced}
 use Rattle.source_meaning.specs.declared.ended.Ended.{Ended}
 use Rattle.source_meaning.specs.declared.ended.Ended.TheVariants.{Exit}
 use Rattle.source_meaning.specs.Source.{first_memory}
@@ -164,12 +164,7 @@ module _ (program : Program) (linear : LinearProgram) (rate body : ℕ)
     Done s from (Gives (End (Some e)) st) = (j : ℕ) × (j ≤ 16 * from.steps_left + 2)
         × (s (exec linear j) ≡ Finished e st.events)
     Done s from (Gives (End None) st) = Stops linear rate s from st 0 0 x
-    Done s from (Gives Normal st) = ⊥
-    Done s from (Gives (Returned v) st) = ⊥
-    Done s from (Gives Broke st) = ⊥
-    Done s from (Gives Continued st) = ⊥
-    Done s from (Gives LeftTry st) = ⊥
-    Done s from (Gives (Target level exc) st) = ⊥
+    Done s from (Gives r st) = ⊥
 
     return_turn : (v done k : ℕ) (mid : State) (after : Store)
         → HasAt linear (FunctionBody program.main) [] done (instructions.Return (Temporary 0) ∷ [])
@@ -186,7 +181,6 @@ module _ (program : Program) (linear : LinearProgram) (rate body : ℕ)
         (statement_ways program linear rate body (scope_of fn) inner csite kept done) o
         → Done s from (ended_call 0 o)
     unfolding ended_call
-    main_ends s from kept done (Gives (Value v) st) h p = absurd p
     main_ends s from kept done (Gives Normal st) h p =
         let y = p.reaches.by (suc (suc zero)) in
         let most = p.reaches.most in (
@@ -200,13 +194,11 @@ module _ (program : Program) (linear : LinearProgram) (rate body : ℕ)
         let y = p.1.reaches.by zero in
         let most = p.1.reaches.most in
         (y.0, omega (arith, y.1), y.2)
-    main_ends s from kept done (Gives Broke st) h p = absurd p
-    main_ends s from kept done (Gives Continued st) h p = absurd p
-    main_ends s from kept done (Gives LeftTry st) h p = absurd p
     main_ends s from kept done (Gives (Target level exc) st) h p = absurd p.picked
     main_ends s from kept done (Gives (End (Some e)) st) h p = let y = p.by in
         (y.0, omega (arith, y.1), y.2)
     main_ends s from kept done (Gives (End None) st) h p = p
+    main_ends s from kept done (Gives r st) h p = absurd p
 
     main_runs : (n : ℕ) → Done (at c0) (begun n)
         (ended_call 0 (all (within program n) fn.body inner (begun n)))
@@ -315,12 +307,7 @@ module _ (program : Program) (linear : LinearProgram) (rate body : ℕ)
           ),
           (λ c h. absurd (cc)),
         )
-    follows_by b from (Gives Normal st) le d = absurd d
-    follows_by b from (Gives (Returned v) st) le d = absurd d
-    follows_by b from (Gives Broke st) le d = absurd d
-    follows_by b from (Gives Continued st) le d = absurd d
-    follows_by b from (Gives LeftTry st) le d = absurd d
-    follows_by b from (Gives (Target level exc) st) le d = absurd d
+    follows_by b from (Gives r st) le d = absurd d
 
     abbrev NoMoreThan : ℕ → Outcome → Type 0
     NoMoreThan m o =
@@ -349,12 +336,7 @@ module _ (program : Program) (linear : LinearProgram) (rate body : ℕ)
         let b = d.prior (d.cost - 1) (omega arith) in
         against_running (exec linear m c0) (exec linear (d.cost - 1) c0) b.0 st.events
         (later m (d.cost - 1) (omega arith)) b.1 b.2
-    no_more_by m n (Gives Normal st) le d = absurd d
-    no_more_by m n (Gives (Returned v) st) le d = absurd d
-    no_more_by m n (Gives Broke st) le d = absurd d
-    no_more_by m n (Gives Continued st) le d = absurd d
-    no_more_by m n (Gives LeftTry st) le d = absurd d
-    no_more_by m n (Gives (Target level exc) st) le d = absurd d
+    no_more_by m n (Gives r st) le d = absurd d
 
   pub follows : Follows program linear
   follows arg n turns le =
