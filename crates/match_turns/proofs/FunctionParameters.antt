@@ -3,7 +3,6 @@ use Rattle.std.proofs.Common.{◌≡◌, ℕ, zero, suc, ◌+◌, ◌-◌, ◌*�
 use Rattle.std.specs.Prelude.{◌⊎◌, slice_index, nat_lt}
 use Rattle.std.proofs.lemmas.Bool.{cases_lt, lt-ltb, le-ltb}
 use Rattle.match_turns.specs.Words.{STACK_START, STACK_END, Memory, may_write, number_at, Protection, is_writable, Rsp, Flags, State, register, is_reserved, Local, Temporary, LinearBody, FunctionBody, body_of, function_body, Layout, sizes, spelled, IsNear, return_at, passing_code, parameters_code, MachineView, machine, HasBelow, with_arguments, HasBase, MemoryKeepsBase, IsBytes, Agrees, HasCode, Reaches, Enters, FramePlace, Roomy, ReachesBody, counts_of, LARGEST_FRAME, Setting}
-use Rattle.linear_code.specs.declared.instruction.Instruction.TheVariants as instructions
 use Rattle.template_code.specs.Calls.{stack_parameter, parameter_code}
 use Rattle.x64_templates.specs.EntryStates.{OnStack, IsFunctionFrame, body_in_memory, FreshFrame}
 use Rattle.x64_templates.specs.Frames.{InTemporaries, InLocals, KeepsReserved}

@@ -1,6 +1,6 @@
 -- Each operation is matched, wherever the machine is.
-use Rattle.std.proofs.Common.{◌≡◌, ℕ, zero, ◌+◌, Bool, List, Option, Some, sym, subst, ◌∙◌, arith, inl, inr}
-use Rattle.match_turns.specs.Words.{Code, State, Functions, Funclet, Operation, OperationResult, Gives, Raises, Undefined, is_reserved, Slot, Local, Temporary, Instruction, LinearProgram, Configuration, body_of, act, instruction_at, exec, ImagePlan, IsTemporary, ReadsWell, IsInstructionOf, IsReady, HasRule, Moves, IsMatched, Sites, turns_left, IsWellMade, IsKnown, KnownNext, turns_per_step, FlagsFit, ComesTo, Setting, setting_of, WorksOn}
+use Rattle.std.proofs.Common.{◌≡◌, ℕ, zero, ◌+◌, Bool, Option, Some, sym, subst, ◌∙◌, arith, inl, inr}
+use Rattle.match_turns.specs.Words.{Code, State, Operation, OperationResult, Gives, Raises, Undefined, is_reserved, Slot, Local, Temporary, Instruction, LinearProgram, Configuration, body_of, act, instruction_at, exec, IsTemporary, ReadsWell, IsInstructionOf, IsReady, HasRule, IsMatched, turns_left, IsWellMade, IsKnown, KnownNext, turns_per_step, FlagsFit, ComesTo, Setting, setting_of, WorksOn}
 use Rattle.linear_code.specs.declared.instruction.Instruction.TheVariants as instructions
 use Rattle.match_runs.proofs.Matches.{matched_after, matched_slower}
 use Rattle.match_runs.proofs.Turns.{comes_nowhere}
@@ -10,6 +10,7 @@ use Rattle.match_bodies.proofs.BodySteps.{within_body}
 use Rattle.match_bodies.proofs.StepNeeds.{some_is, label_in, body_there}
 use Rattle.match_turns.specs.DispatchOutcome.{Represents}
 use Rattle.match_turns.specs.FaultLaws.{RetriesAreMatched, ContinuationsAtOperations, OperationsAreMatched}
+use Rattle.match_turns.proofs.DispatchOutcomeSteps.{matched_there}
 use Rattle.match_turns.proofs.OperationMeaning.{comes_to_something, undefined, not_constant, fault_reads}
 use Rattle.match_turns.proofs.OperationOperands.{fetched}
 use Rattle.match_turns.proofs.FaultRaise.{raised_at_once}
@@ -25,24 +26,6 @@ ready_at : (program : LinearProgram) (c : Configuration) (i : Instruction) → I
     → instruction_at program c ≡ Some i → IsReady program c i
 ready_at program c i known e = subst (IsReady program c)
     (some_is known.continues.instruction i (sym known.continues.at ∙ e)) known.continues.ready
-
--- where an instruction begins, the machine is
-pub matched_represents : (t : Functions) (fs : List Funclet) (program : LinearProgram)
-    (p : ImagePlan) (q : Sites) (most : ℕ) (s : State) (c : Configuration) (i : Instruction)
-    → Moves t fs program most turns_left (RepresentsAt t fs program p q) s c i
-    → IsMatched t fs program most turns_left (Represents t fs program p q) s c i
-matched_represents t fs program p q most s c i m = inl (record {
-  turns = m.turns;
-  some = m.some;
-  configuration = m.configuration;
-  few = m.few;
-  state = m.state;
-  events = m.events;
-  comes = m.comes;
-  acts = m.acts;
-  shown = m.shown;
-  is_there = inl m.is_there;
-})
 
 module _ (setting : Setting) (made : IsWellMade setting.program setting.plan)
     (fits : FlagsFit setting.program) where
@@ -63,9 +46,8 @@ module _ (setting : Setting) (made : IsWellMade setting.program setting.plan)
       → KnownNext program c (again s c w)
       → IsMatched t fs program turns_per_step turns_left (Represents t fs program p q) s c
       (again s c w)
-  within_operation s c w known (Gives value m) h rule next = matched_represents t fs program p q
-      turns_per_step s c
-      (again s c w) (completed setting made s c w known value m h rule)
+  within_operation s c w known (Gives value m) h rule next = matched_there t fs program p q
+      turns_per_step s c (again s c w) (inl (completed setting made s c w known value m h rule))
   within_operation s c w known (Raises code access) h rule next =
       matched_slower t fs program turns_left 7 turns_per_step (Represents t fs program p q) s c
       (again s c w)
@@ -140,9 +122,9 @@ module _ (setting : Setting) (made : IsWellMade setting.program setting.plan)
         → IsMatched t fs program turns_per_step turns_left (Represents t fs program p q) s c
         (instructions.Compute to o first second)
     from_beginning first second (Gives value m) h e rule next =
-        matched_represents t fs program p q turns_per_step s c
+        matched_there t fs program p q turns_per_step s c
         (instructions.Compute to o first second)
-        (within_body t fs program p q image made s c (instructions.Compute to o first second) b
+        (inl (within_body t fs program p q image made s c (instructions.Compute to o first second) b
         known e (record {
           a = h.a;
           b = h.b;
@@ -151,7 +133,7 @@ module _ (setting : Setting) (made : IsWellMade setting.program setting.plan)
           value = value;
           memory = m;
           gives = h.comes;
-        }) rule)
+        }) rule))
     from_beginning first second (Raises code access) h e rule next =
         let i = instructions.Compute to o first second in
         let there = body_there (body_of program c.frame.body) c.frame.next i e in
