@@ -5,7 +5,6 @@ use Rattle.image_runs.specs.Words.{State, Functions, Funclet, Program, IsSound, 
 use Rattle.linear_code.specs.declared.instruction.Instruction.TheVariants as instructions
 use Rattle.linear_machine.specs.Frames.{FuncletBody}
 use Rattle.match_runs.specs.Matched.{StepIsMatched}
-use Rattle.match_runs.proofs.Matches.{matched_as}
 use Rattle.lowering_locals.proofs.AgreementSteps.{agreement_continues}
 use Rattle.match_bodies.specs.StepLaws.{IsWithinBody}
 use Rattle.match_bodies.proofs.BodySteps.{within_body}
@@ -16,6 +15,7 @@ use Rattle.match_turns.proofs.OperationSteps.{operations, retries}
 use Rattle.match_turns.proofs.ServiceSteps.{information_is_matched, puts_are_matched, protects_are_matched}
 use Rattle.match_turns.proofs.RaiseCall.{raises_are_matched}
 use Rattle.match_turns.proofs.LocalUnwindCall.{local_unwinds_are_matched}
+use Rattle.match_turns.proofs.DispatchOutcomeSteps.{matched_there}
 use Rattle.match_turns.proofs.BodyContinuation.{bodies_continue}
 use Rattle.c_operations.specs.declared.built_in.BuiltIn.{BuiltIn}
 use Rattle.c_operations.specs.declared.built_in.BuiltIn.TheVariants.{Put, Protect, RaiseException}
@@ -47,8 +47,7 @@ module _ (t : Functions) (fs : List Funclet) (program : LinearProgram) (p : Imag
   to_next : (i : Instruction)
       → IsMatched t fs program turns_per_step turns_left (RepresentsAt t fs program p q) s d i
       → Matches i
-  to_next i m = matched_as t fs program turns_left turns_per_step (RepresentsAt t fs program p q)
-      (Represents t fs program p q) (λ u e h. inl h) s d i m
+  to_next i m = matched_there t fs program p q turns_per_step s d i m
 
   -- a step within one body
   plainly : (i : Instruction) → At i → Ruled i → IsWithinBody program d i → Matches i
