@@ -4,6 +4,7 @@ use Rattle.std.specs.Prelude.{Some, None}
 use Rattle.seh_num.specs.declared.event.Event.{Event}
 use Rattle.source_meaning.specs.State.{Exception, State, Result, Value, Normal, Returned, Broke, Continued, LeftTry, Target, End, Outcome, Gives}
 use Rattle.source_meaning.specs.Tasks.{Context}
+use Rattle.source_meaning.specs.Laws.{IsPrefixOf}
 use Rattle.linear_code.specs.declared.program.Region.{Region}
 use Rattle.linear_code.specs.Program.{LinearProgram}
 use Rattle.linear_machine.specs.Frames.{BodyName, Frame, Handler, Item, Waits, Store, Configuration, Seen, Running, Finished, Next}
@@ -101,13 +102,9 @@ normal_ways t kept context site = record (no_ways kept context site) { normal = 
 abbrev pub first_ways : (State → Store → Part) → Ways → Ways
 first_ways t w = record w { value = λ x. Never; normal = To t }
 
--- a is a first part of b
-abbrev pub Prefix : List Event → List Event → Type 0
-Prefix a b = (rest : List Event) × (b ≡ a ++ rest)
-
 -- still running, with a first part of these events
 abbrev pub Before : Seen → List Event → Type 0
-Before seen es = (shown : List Event) × (seen ≡ Running shown) × Prefix shown es
+Before seen es = (shown : List Event) × (seen ≡ Running shown) × IsPrefixOf shown es
 
 -- turns beside 16 for each step; steps that are gone already; steps that need no turn where it
 -- arrives, and where it leaves
@@ -153,7 +150,7 @@ module _ (linear : LinearProgram) (rate : ℕ) where
     pub most : cost + 16 * st'.steps_left ≤ 16 * st.steps_left + turns
     pub least : st.steps_left + extra ≤ credit + st'.steps_left + slack
     pub low : st'.steps_left ≤ st.steps_left
-    pub grows : Prefix st.events st'.events
+    pub grows : IsPrefixOf st.events st'.events
     pub prior : (i : ℕ) → suc i ≡ cost → Before (s (exec linear i)) st'.events
     pub by : (k : ℕ) → (j : ℕ) × (j ≡ cost + k) × (s (exec linear j) ≡ t (exec linear k))
 
@@ -168,9 +165,9 @@ module _ (linear : LinearProgram) (rate : ℕ) where
     pub paid : credit ≡ rate * cost
     pub most : cost ≤ 16 * st.steps_left + turns
     pub least : st.steps_left + extra ≤ credit + out
-    pub grows : Prefix st.events st'.events
+    pub grows : IsPrefixOf st.events st'.events
     pub prior : (i : ℕ) → suc i ≡ cost → Before (s (exec linear i)) st'.events
-    pub shown : (rest : List Event) × (events_of (s (exec linear cost)) ≡ st'.events ++ rest)
+    pub shown : IsPrefixOf st'.events (events_of (s (exec linear cost)))
 
   -- an unwinding with the regions of this place left
   abbrev pub unwound : Context → Site → machine.Target → List ℕ → State → Store → ℕ → Part

@@ -1,30 +1,29 @@
 -- Two stretches one after another, and what a dearer price allows.
-use Rattle.std.proofs.Common.{◌≡◌, ℕ, zero, suc, ◌+◌, ◌*◌, ◌≤◌, List, ◌++◌, refl, ap, ◌∙◌, subst, arith, sym, append_assoc}
+use Rattle.std.proofs.Common.{◌≡◌, ℕ, zero, suc, ◌+◌, ◌*◌, ◌≤◌, List, refl, ap, ◌∙◌, subst, arith, sym}
 use native.Mathlib.Nat.{mul-add}
 use Rattle.std.specs.Prelude.{Some, None}
 use Rattle.seh_num.specs.declared.event.Event.{Event}
 use Rattle.source_meaning.specs.State.{Exception, State, Result, Value, Normal, Returned, Broke, Continued, LeftTry, Target, End, Outcome, Gives, with_value, and_then}
 use Rattle.source_meaning.specs.Tasks.{Context}
+use Rattle.source_meaning.specs.Laws.{IsPrefixOf}
+use Rattle.source_meaning.proofs.Prefixes.{prefix_then}
 use Rattle.linear_code.specs.Program.{LinearProgram}
 use Rattle.linear_machine.specs.Frames.{Store, Seen, Finished}
 use Rattle.linear_machine.specs.Searching.{target_of}
 use Rattle.linear_machine.specs.Run.{exec}
 use Rattle.linear_machine.proofs.RunLengths.{events_of}
-use Rattle.linear_machine.proofs.Stretch.{Part, Site, Way, Never, To, Out, Ways, Kept, no_ways, value_ways, normal_ways, first_ways, Prefix, Before, Price, price, Join, Dearer, Reaches, Finishes, Stops, unwound, Arrival, Arrives, Targets, Attains, Claim}
+use Rattle.linear_machine.proofs.Stretch.{Part, Site, Way, Never, To, Out, Ways, Kept, no_ways, value_ways, normal_ways, first_ways, Before, Price, price, Join, Dearer, Reaches, Finishes, Stops, unwound, Arrival, Arrives, Targets, Attains, Claim}
 
 module _ (linear : LinearProgram) (rate : ℕ) where
-  prefix_more : (a b c : List Event) → Prefix a b → Prefix b c → Prefix a c
-  prefix_more a b c p q = (p.0 ++ q.0, q.1 ∙ ap (λ x. x ++ q.0) p.1 ∙ append_assoc a p.0 q.0)
-
-  before_more : (seen : Seen) (es es' : List Event) → Before seen es → Prefix es es'
+  before_more : (seen : Seen) (es es' : List Event) → Before seen es → IsPrefixOf es es'
       → Before seen es'
-  before_more seen es es' b p = (b.0, b.1, prefix_more b.0 es es' b.2 p)
+  before_more seen es es' b p = (b.0, b.1, prefix_then b.0 es es' b.2 p)
 
   -- the turn before the last, of two stretches
   prior_after : (s t : Part) (mid end : List Event) (c d : ℕ)
       → ((i : ℕ) → suc i ≡ c → Before (s (exec linear i)) mid)
       → ((k : ℕ) → (j : ℕ) × (j ≡ c + k) × (s (exec linear j) ≡ t (exec linear k)))
-      → Prefix mid end → ((i : ℕ) → suc i ≡ d → Before (t (exec linear i)) end) → (i : ℕ)
+      → IsPrefixOf mid end → ((i : ℕ) → suc i ≡ d → Before (t (exec linear i)) end) → (i : ℕ)
       → suc i ≡ c + d → Before (s (exec linear i)) end
   prior_after s t mid end c zero p by g q i e = before_more (s (exec linear i)) mid end
       (p i (omega arith)) g
@@ -45,7 +44,7 @@ module _ (linear : LinearProgram) (rate : ℕ) where
     most = let x = p.most in let y = q.most in omega arith;
     least = let x = p.least in let y = q.least in omega arith;
     low = let x = p.low in let y = q.low in omega arith;
-    grows = prefix_more st.events mid.events end.events p.grows q.grows;
+    grows = prefix_then st.events mid.events end.events p.grows q.grows;
     prior = prior_after s t mid.events end.events p.cost q.cost p.prior p.by q.grows q.prior;
     by = λ k. let y = q.by k in let x = p.by y.0 in (x.0, omega (arith, x.1, y.1), x.2 ∙ y.2);
   }
@@ -154,12 +153,10 @@ module _ (linear : LinearProgram) (rate : ℕ) where
             ∙ sym (mul-add rate a.cost b.cost);
         most = let m = a.most in let n = b.most in omega arith;
         least = let m = a.least in let n = b.least in omega arith;
-        grows = prefix_more st.events mid.events end.events a.grows b.grows;
+        grows = prefix_then st.events mid.events end.events a.grows b.grows;
         prior = prior_after s t mid.events end.events a.cost b.cost a.prior a.by b.grows b.prior;
-        shown = (
-          b.shown.0,
-          ap (λ k. events_of (s (exec linear k))) (sym x.1) ∙ ap events_of x.2 ∙ b.shown.1,
-        );
+        shown = subst (IsPrefixOf end.events)
+            (ap events_of (sym x.2) ∙ ap (λ k. events_of (s (exec linear k))) x.1) b.shown;
       }
 
   pub after : (s t : Part) (st mid : State) (r1 e1 d1 : ℕ) (q r : Price) (w : Ways) (o : Outcome)
@@ -190,7 +187,7 @@ module _ (linear : LinearProgram) (rate : ℕ) where
     most = let x = p.most in omega arith;
     least = let x = p.least in omega arith;
     low = let x = p.low in omega arith;
-    grows = subst (λ es. Prefix es end.events) (sym same) p.grows;
+    grows = subst (λ es. IsPrefixOf es end.events) (sym same) p.grows;
     prior = p.prior;
     by = p.by;
   }
@@ -210,7 +207,7 @@ module _ (linear : LinearProgram) (rate : ℕ) where
     paid = a.paid;
     most = let x = a.most in omega arith;
     least = let x = a.least in omega arith;
-    grows = subst (λ es. Prefix es end.events) (sym same) a.grows;
+    grows = subst (λ es. IsPrefixOf es end.events) (sym same) a.grows;
     prior = a.prior;
     shown = a.shown;
   }
