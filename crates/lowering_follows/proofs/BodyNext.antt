@@ -8,10 +8,12 @@ use Rattle.linear_code.specs.declared.instruction.Instruction.TheVariants as ins
 use Rattle.linear_code.specs.declared.program.FuncletKind.TheVariants as kinds
 use Rattle.linear_machine.proofs.Stretch.{Part, at, Site, conf, Ways, Kept, price, Targets, Claim, normal_ways}
 use Rattle.linear_machine.proofs.StretchJoins.{more, attains_out, reaches_after, targets_more}
-use Rattle.linear_machine.proofs.SingleTurns.{stepped, fetch, prefix_self, sooner, counted_claim, deep_claim, shown_deep}
+use Rattle.linear_machine.proofs.SingleTurns.{stepped, fetch, sooner, counted_claim, deep_claim, shown_deep}
+use Rattle.source_meaning.proofs.Prefixes.{prefix_self, prefix_less}
 use Rattle.lowering_follows.proofs.Stores.{Shape}
 use Rattle.lowering_follows.proofs.Places.{has_at}
-use Rattle.lowering_follows.proofs.TaskClaims.{Runs, shown_more, shown_none}
+use Rattle.linear_machine.proofs.RunLengths.{from_none}
+use Rattle.lowering_follows.proofs.TaskClaims.{Runs}
 use Rattle.lowering_follows.proofs.Raises.{targets_out, IsFunclet}
 use Rattle.lowering_follows.proofs.BodyClaims.{finally_site, statement_ways, Stays, Surroundings, BodyRuns}
 use Rattle.lowering_follows.proofs.BodySequences.{all_runs}
@@ -65,7 +67,7 @@ module _ (program : Program) (linear : LinearProgram) (rate body : ℕ) where
           (stepped linear rate (conf (record context { abnormal = flag })
           (finally_site j below held) done [] mid a.store)
           (λ next. end_finally linear next below mid.events a.store) mid (let_go mid) 1 0 0 refl
-          (omega arith) (omega arith) refl (prefix_self linear rate mid.events)
+          (omega arith) (omega arith) refl (prefix_self mid.events)
           (λ i. block_ends j names below held (record context { abnormal = flag }) done mid a.store
           i f has));
     }
@@ -148,8 +150,8 @@ module _ (program : Program) (linear : LinearProgram) (rate body : ℕ) where
         (λ st. perform program (within program n) (RunFinally k last flag) context st)
         (omega arith)
         (shown_deep linear rate 2 held store st.events (exec linear zero begins)
-        (shown_more program linear rate body st.events _ (events.Finally (j + 1) flag)
-        (shown_none program linear rate body begins)))
+        (prefix_less st.events _ (events.Finally (j + 1) flag)
+        (from_none linear zero begins)))
         (λ m less.
         let low : State = record st { steps_left = m } in
         let asked : State = emit (events.Finally k flag) (hold low) in
@@ -187,7 +189,7 @@ module _ (program : Program) (linear : LinearProgram) (rate body : ℕ) where
           (Stays program linear rate body scope.names shapes context base)
           (pc + statement_size s)) st 0 (statement_weight s) (statement_weight s)
           (λ st. perform program (within program n) (Run s) context st) (omega arith)
-          (shown_none program linear rate body (conf context site pc [] st store))
+          (from_none linear zero (conf context site pc [] st store))
           (λ m less. statement_runs program linear rate body roomy n ih bih scope z shapes context
           site base s pc (record st { steps_left = m }) store (omega arith) light has inner
           standing kept held);
@@ -199,7 +201,7 @@ module _ (program : Program) (linear : LinearProgram) (rate body : ℕ) where
           (Stays program linear rate body scope.names shapes context base) (for_end c next s pc))
           st 0 wi wi
           (λ st. perform program (within program n) (ForIteration c next s) context st)
-          (omega arith) (shown_none program linear rate body (conf context site pc [] st store))
+          (omega arith) (from_none linear zero (conf context site pc [] st store))
           (λ m less. for_runs program linear rate body roomy n ih bih scope z shapes context site
           base c next s pc (record st { steps_left = m }) store (omega arith) light has inner
           standing kept held);
@@ -211,7 +213,7 @@ module _ (program : Program) (linear : LinearProgram) (rate body : ℕ) where
           (Stays program linear rate body scope.names shapes context base) (do_end s c pc)) st 0
           wi wi
           (λ st. perform program (within program n) (DoIteration s c) context st) (omega arith)
-          (shown_none program linear rate body (conf context site pc [] st store))
+          (from_none linear zero (conf context site pc [] st store))
           (λ m less. do_runs program linear rate body roomy n ih bih scope z shapes context site
           base s c pc (record st { steps_left = m }) store (omega arith) light has inner standing
           kept held);
@@ -223,7 +225,7 @@ module _ (program : Program) (linear : LinearProgram) (rate body : ℕ) where
           (pc + statements_size ss) in
           counted_claim linear rate (at (conf context site pc [] st store)) w st 0 (1 + x) (1 + x)
           (λ st. perform program (within program n) (TryBody ss) context st) (omega arith)
-          (shown_none program linear rate body (conf context site pc [] st store))
+          (from_none linear zero (conf context site pc [] st store))
           (λ m less.
           let low : State = record st { steps_left = m } in
           more linear rate (at (conf context site pc [] low store)) low (price 0 0 x x)

@@ -11,7 +11,8 @@ use Rattle.linear_code.specs.declared.instruction.Instruction.TheVariants as ins
 use Rattle.linear_code.specs.declared.instruction.Instruction.TheVariants.{LocalUnwind}
 use Rattle.linear_machine.proofs.Stretch.{Part, at, Site, conf, Ways, Price, price, Join, Arrives, Claim, first_ways, joins}
 use Rattle.linear_machine.proofs.StretchJoins.{Passes, Joined, more, attains_more, after, arrives_more}
-use Rattle.linear_machine.proofs.SingleTurns.{first, stepped, still, fetch, prefix_self}
+use Rattle.linear_machine.proofs.SingleTurns.{first, stepped, still, fetch}
+use Rattle.source_meaning.proofs.Prefixes.{prefix_self}
 use Rattle.lowering_expressions.specs.declared.scope.Way as jumps
 use Rattle.lowering_expressions.specs.Scope as scopes
 use Rattle.lowering_follows.proofs.Stores.{Shape, at_list, below_slot, local_set_alike, kept_set, kept_through}
@@ -84,7 +85,7 @@ module _ (program : Program) (linear : LinearProgram) (rate body : ℕ) where
       continue_from pc pc' temps temps' st store store' q r done out j h g =
           first linear rate (conf context site pc temps st store)
           (at (conf context site pc' temps' st store')) st st q r (S done) out j refl refl
-          (prefix_self linear rate st.events) h g
+          (prefix_self st.events) h g
 
       pub separator_turn : (pc : ℕ) (temps : List ℕ) (st : State) (store : Store) (k : ℕ)
           → HasAt linear site.body site.regions pc (Separator ∷ [])
@@ -105,7 +106,7 @@ module _ (program : Program) (linear : LinearProgram) (rate body : ℕ) where
             same = held;
             reaches = still linear rate (at (conf context site pc [] st store))
                 (at (conf context site pc [] st store)) st st p.turns p.extra p.slack refl le
-                (prefix_self linear rate st.events) (λ k. refl);
+                (prefix_self st.events) (λ k. refl);
           })
 
       -- an expression whose value isn't used, if there is one
@@ -165,7 +166,7 @@ module _ (program : Program) (linear : LinearProgram) (rate body : ℕ) where
           same = held;
           reaches = stepped linear rate (conf context site pc (v ∷ []) st store)
               (λ next. end_body linear next site.body v (conf context site pc (v ∷ []) st store)) st
-              st p.turns p.extra p.slack refl lr le refl (prefix_self linear rate st.events)
+              st p.turns p.extra p.slack refl lr le refl (prefix_self st.events)
               (λ k. fetch linear rate (conf context site pc (v ∷ []) st store)
               (instructions.Return (Temporary 0)) k has.0);
         },
@@ -177,7 +178,7 @@ module _ (program : Program) (linear : LinearProgram) (rate body : ℕ) where
           fits = kept;
           same = held;
           reaches = stepped linear rate (conf context site pc (v ∷ []) st store) _ st st p.turns
-              p.extra p.slack refl lr le refl (prefix_self linear rate st.events)
+              p.extra p.slack refl lr le refl (prefix_self st.events)
               (λ k. fetch linear rate (conf context site pc (v ∷ []) st store) (LocalUnwind label) k
               has.0 ∙ unwound_is program linear rate body (own_target site label) context site pc
               (v ∷ []) st store (exec linear k) has.1);
@@ -197,7 +198,7 @@ module _ (program : Program) (linear : LinearProgram) (rate body : ℕ) where
         same = held;
         reaches = stepped linear rate (conf context site pc [] st store)
             (at (conf context site label [] st store)) st st p.turns p.extra p.slack refl lr le refl
-            (prefix_self linear rate st.events)
+            (prefix_self st.events)
             (λ k. jump_turn linear rate context site label pc [] st store k (has.0, has.1, tt));
       }
       breaks_by (Unwinds label) pc st store p lr le is has kept held = (
@@ -207,7 +208,7 @@ module _ (program : Program) (linear : LinearProgram) (rate body : ℕ) where
           fits = kept;
           same = held;
           reaches = stepped linear rate (conf context site pc [] st store) _ st st p.turns p.extra
-              p.slack refl lr le refl (prefix_self linear rate st.events)
+              p.slack refl lr le refl (prefix_self st.events)
               (λ k. fetch linear rate (conf context site pc [] st store) (LocalUnwind label) k has.0
               ∙ unwound_is program linear rate body (own_target site label) context site pc [] st
               store (exec linear k) has.1);
@@ -227,7 +228,7 @@ module _ (program : Program) (linear : LinearProgram) (rate body : ℕ) where
         same = held;
         reaches = stepped linear rate (conf context site pc [] st store)
             (at (conf context site label [] st store)) st st p.turns p.extra p.slack refl lr le refl
-            (prefix_self linear rate st.events)
+            (prefix_self st.events)
             (λ k. jump_turn linear rate context site label pc [] st store k has);
       }
 
@@ -305,7 +306,7 @@ module _ (program : Program) (linear : LinearProgram) (rate body : ℕ) where
             same = held;
             reaches = stepped linear rate (conf context site pc [] st store)
                 (at (conf context site (pc + 1) [] cleared store')) st cleared 16 1 1 refl
-                (omega arith) (omega arith) refl (prefix_self linear rate st.events)
+                (omega arith) (omega arith) refl (prefix_self st.events)
                 (λ k. clear_turn x pc [] st store k (has.2.0, has.2.1, tt));
           })
       declared_runs x (Some e) notes pc st store steps light has standing kept held =
@@ -326,7 +327,7 @@ module _ (program : Program) (linear : LinearProgram) (rate body : ℕ) where
           first linear rate (conf context site pc [] st store)
           (at (conf context site pc1 [] cleared store')) st cleared (price 15 0 (1 + w) (1 + w))
           (price 16 1 (1 + w) (1 + w)) (S done) o (omega arith, omega arith, omega arith) refl
-          refl (prefix_self linear rate st.events)
+          refl (prefix_self st.events)
           (λ k. clear_turn x pc [] st store k (has.2.0, has.2.1, tt))
           (statement_eval program linear rate body n ih e scope.names z shapes context site base
           notes pc1 cleared store' (price 2 0 0 0) (price 15 0 (1 + w) (1 + w)) (S done) f steps
@@ -341,7 +342,7 @@ module _ (program : Program) (linear : LinearProgram) (rate body : ℕ) where
           first linear rate (conf context site pc2 (v ∷ []) mid after)
           (at (conf context site (pc2 + 1) (v ∷ []) put after')) mid put (price 1 0 0 0)
           (price 2 0 0 0) (S done) (Gives Normal put) (omega arith, omega arith, omega arith) refl
-          refl (prefix_self linear rate mid.events)
+          refl (prefix_self mid.events)
           (λ k. put_local_turn linear rate context site x 0 v pc2 (v ∷ []) mid after k
           (last.0, last.1, tt) refl)
           (continue_from (pc2 + 1) (pc2 + 1 + 1) (v ∷ []) [] put after' after' (price 0 0 0 0)

@@ -11,7 +11,8 @@ use Rattle.linear_machine.specs.Frames as machine
 use Rattle.linear_machine.specs.Unwinding.{flag_in, flag_of, run_finally}
 use Rattle.linear_machine.proofs.Stretch.{Part, at, Site, frame_of, conf, Way, Never, To, Out, Ways, Kept, Price, price, Join, found, Reaches, unwound, Arrives, Claim, normal_ways, joins}
 use Rattle.linear_machine.proofs.StretchJoins.{more, attains_out, after, reaches_after, finishes_more, stops_more, then_held}
-use Rattle.linear_machine.proofs.SingleTurns.{onto, still, stepped, first, fetch, prefix_self}
+use Rattle.linear_machine.proofs.SingleTurns.{onto, still, stepped, first, fetch}
+use Rattle.source_meaning.proofs.Prefixes.{prefix_self}
 use Rattle.linear_machine.proofs.Walks.{Outward, starts}
 use Rattle.lowering_expressions.specs.declared.scope.Way.TheVariants.{Unwinds as UnwindsTo}
 use Rattle.lowering_expressions.specs.declared.scope.Way as jumps
@@ -145,7 +146,7 @@ module _ (program : Program) (linear : LinearProgram) (rate body : ℕ) where
         } in
         first linear rate (conf context site pc [] st store) s' st st (price 1 0 y y)
         (price 2 0 y y) w (within program n (RunFinally k last false) context st)
-        (omega arith, omega arith, omega arith) refl refl (prefix_self linear rate st.events)
+        (omega arith, omega arith, omega arith) refl refl (prefix_self st.events)
         (λ j. fetch linear rate (conf context site pc [] st store) (CallFinally (k - 1)) j has.0
         ∙ run_is k scope.names false site.held below (exec linear j)
         (conf context site pc [] st store) placed.funclet)
@@ -161,7 +162,7 @@ module _ (program : Program) (linear : LinearProgram) (rate body : ℕ) where
           same = held';
           reaches = stepped linear rate (conf context site (pc + 1) [] mid store')
               (at (conf context site (end + 1 + 1 + 1) [] mid store')) mid mid 1 0 0 refl
-              (omega arith) (omega arith) refl (prefix_self linear rate mid.events)
+              (omega arith) (omega arith) refl (prefix_self mid.events)
               (λ j. fetch linear rate (conf context site (pc + 1) [] mid store') Separator j
               has.2.0);
         }))
@@ -179,7 +180,7 @@ module _ (program : Program) (linear : LinearProgram) (rate body : ℕ) where
         (at (conf context site (end + 1) [] st store)) st st (price 2 0 y y) (price 3 0 y y)
         (statement_ways program linear rate body scope context site Kf (end + 1 + 1 + 1))
         (within program n (RunFinally k last false) context st)
-        (omega arith, omega arith, omega arith) refl refl (prefix_self linear rate st.events)
+        (omega arith, omega arith, omega arith) refl refl (prefix_self st.events)
         (λ j. fetch linear rate (conf context site end [] st store) Separator j parted.0)
         (called st store steps has kept held)
 
@@ -222,7 +223,7 @@ module _ (program : Program) (linear : LinearProgram) (rate body : ℕ) where
                 (omega arith) (omega arith)
                 (still linear rate (unwound linear rate context site to (v ∷ []) mid store' p.0)
                 (at (conf context site label (v ∷ []) mid store')) mid mid 0 0 0 refl
-                (omega arith) (prefix_self linear rate mid.events)
+                (omega arith) (prefix_self mid.events)
                 (λ j. comes_there linear (exec linear j) to
                 (λ store. unwind linear (exec linear j) (target_past site.body to) site.below None
                 mid.events store) site.regions (conf context site p.0 (v ∷ []) mid store') refl
@@ -230,7 +231,7 @@ module _ (program : Program) (linear : LinearProgram) (rate body : ℕ) where
                 (stepped linear rate (conf context site label (v ∷ []) mid store')
                 (λ next. end_body linear next site.body v
                 (conf context site label (v ∷ []) mid store')) mid mid 1 0 0 refl (omega arith)
-                (omega arith) refl (prefix_self linear rate mid.events)
+                (omega arith) refl (prefix_self mid.events)
                 (λ j. returns label v mid store' j f.2));
           },
         ))
@@ -249,7 +250,7 @@ module _ (program : Program) (linear : LinearProgram) (rate body : ℕ) where
             reaches = still linear rate (unwound linear rate context site to (v ∷ []) mid store'
                 p.0) (unwound linear rate context site to (v ∷ []) mid store' p.0) mid mid 1 0 0
                 refl
-                (omega arith) (prefix_self linear rate mid.events) (λ j. refl);
+                (omega arith) (prefix_self mid.events) (λ j. refl);
           },
         ))
 
@@ -278,7 +279,7 @@ module _ (program : Program) (linear : LinearProgram) (rate body : ℕ) where
           same = held;
           reaches = still linear rate (unwound linear rate context site to [] mid store' p.0)
               (at (conf context site label [] mid store')) mid mid 1 0 0 refl (omega arith)
-              (prefix_self linear rate mid.events)
+              (prefix_self mid.events)
               (λ j. comes_there linear (exec linear j) to
               (λ store. unwind linear (exec linear j) (target_past site.body to) site.below None
               mid.events store) site.regions (conf context site p.0 [] mid store') refl f.1);
@@ -296,7 +297,7 @@ module _ (program : Program) (linear : LinearProgram) (rate body : ℕ) where
             reaches = still linear rate (unwound linear rate context site to [] mid store' p.0)
                 (unwound linear rate context site to [] mid store' p.0) mid mid 1 0 0 refl
                 (omega arith)
-                (prefix_self linear rate mid.events) (λ j. refl);
+                (prefix_self mid.events) (λ j. refl);
           },
         ))
 
@@ -380,7 +381,7 @@ module _ (program : Program) (linear : LinearProgram) (rate body : ℕ) where
           fits = kept;
           reaches = still linear rate (unwound linear rate context site to p.temps mid store' p.pc)
               (unwound linear rate context site (target_of p.handler exc.code mid.held) p.temps mid
-              store' p.pc) mid mid 1 0 0 refl (omega arith) (prefix_self linear rate mid.events)
+              store' p.pc) mid mid 1 0 0 refl (omega arith) (prefix_self mid.events)
               (λ j. ap (λ h. unwound linear rate context site (target_of p.handler exc.code h)
               p.temps mid store' p.pc (exec linear j)) (sym held));
         }))

@@ -8,7 +8,8 @@ use Rattle.linear_code.specs.declared.instruction.Instruction.TheVariants as ins
 use Rattle.linear_machine.specs.Frames as machine
 use Rattle.linear_machine.proofs.Stretch.{Part, at, Site, frame_of, conf, Picked, Ways, Kept, price, found, Reaches, Claim, value_ways}
 use Rattle.linear_machine.proofs.StretchJoins.{more, attains_out, reaches_after, reaches_more}
-use Rattle.linear_machine.proofs.SingleTurns.{stepped, fetch, prefix_self, sooner, deep_claim}
+use Rattle.linear_machine.proofs.SingleTurns.{stepped, fetch, sooner, deep_claim}
+use Rattle.source_meaning.proofs.Prefixes.{prefix_self}
 use Rattle.linear_machine.proofs.Walks.{handlers_below, leaves}
 use Rattle.lowering_follows.proofs.Stores.{at_push_old, Shape, FrameAlike, Places, NotesKept, everywhere, below_slot, kept_itself, kept_through, get_push_new, get_pushed, push_alike, take_alike, call_kept}
 use Rattle.lowering_follows.proofs.Places.{has_at}
@@ -213,12 +214,12 @@ module _ (program : Program) (linear : LinearProgram) (rate body : ℕ) where
               (pushed context site (pc + 1) temps 0 (ended mid) (left a.store)) mid mid
               (ended mid) 1 0 0 1 0 0 2 0 0 (omega arith) (omega arith)
               (stepped linear rate c0 (at c1) mid mid 1 0 0 refl (omega arith) (omega arith) refl
-              (prefix_self linear rate mid.events)
+              (prefix_self mid.events)
               (λ j. constant_turn linear rate callee csite 0 0 (0 ∷ []) done [] mid a.store j
               (omega arith) (has.0, has.1, tt) refl))
               (stepped linear rate c1 (pushed context site (pc + 1) temps 0 (ended mid)
               (left a.store)) mid (ended mid) 1 0 0 refl (omega arith) (omega arith) refl
-              (prefix_self linear rate mid.events)
+              (prefix_self mid.events)
               (λ j. last_turn 0 (done + 1) mid a.store j has.2)));
         }
     function_ends s st x done (Gives (Returned v) mid) e has l1 l2 l3 label l4 a = record {
@@ -385,7 +386,7 @@ module _ (program : Program) (linear : LinearProgram) (rate body : ℕ) where
       (omega arith, omega arith, omega arith)
       (sooner linear rate (at (conf inner csite 0 [] st' store')) st st' (price 2 0 x x) w
       (ended_call m (all (within program n) fn.body inner st')) refl
-      (prefix_self linear rate st.events)
+      (prefix_self st.events)
       (function_ends k lf scope new shapes context site base pc temps m store locals kept.0.count
       kept.0.activations walked kept.1 (at (conf inner csite 0 [] st' store')) st' x
       (0 + statements_size fn.body) (all (within program n) fn.body inner st') refl

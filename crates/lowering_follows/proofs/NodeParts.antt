@@ -7,7 +7,8 @@ use Rattle.lowering_follows.specs.Words.{W64, low, Operation, Long, width, exten
 use Rattle.c_operations.specs.declared.operation.Pure.TheVariants as pures
 use Rattle.linear_machine.proofs.Stretch.{Part, at, Site, conf, Ways, price, Claim, value_ways, joins}
 use Rattle.linear_machine.proofs.StretchJoins.{more, then_value}
-use Rattle.linear_machine.proofs.SingleTurns.{first, still, fetch, prefix_self}
+use Rattle.linear_machine.proofs.SingleTurns.{first, still, fetch}
+use Rattle.source_meaning.proofs.Prefixes.{prefix_self}
 use Rattle.lowering_follows.proofs.Stores.{Shape}
 use Rattle.lowering_follows.proofs.Places.{has_at}
 use Rattle.lowering_follows.proofs.TaskClaims.{located, pushed, with_address, Operands, Within, Around, SameOperation', Runs}
@@ -177,7 +178,7 @@ module _ (program : Program) (linear : LinearProgram) (rate body : ℕ)
         first linear rate (conf context site pc temps st store)
         (at (conf context site pc' temps' st store)) st st (price t x s o) (price (1 + t) x s o)
         (Wv part) out (omega arith, omega arith, omega arith) refl refl
-        (prefix_self linear rate st.events) h q
+        (prefix_self st.events) h q
 
     -- the value is there
     pub here_value : (pc : ℕ) (temps : List ℕ) (v : ℕ) (st : State) (store : Store) (t x s o : ℕ)
@@ -191,7 +192,7 @@ module _ (program : Program) (linear : LinearProgram) (rate body : ℕ)
           same = held;
           reaches = still linear rate (at (conf context site pc (temps ++ v ∷ []) st store))
               (at (conf context site pc (temps ++ v ∷ []) st store)) st st t x s refl le
-              (prefix_self linear rate st.events) (λ k. refl);
+              (prefix_self st.events) (λ k. refl);
         }
 
     pub here_other : (pc pc' : ℕ) (temps : List ℕ) (v : ℕ) (st : State) (store : Store)

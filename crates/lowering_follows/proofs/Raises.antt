@@ -13,7 +13,8 @@ use Rattle.linear_machine.specs.Unwinding.{left_store}
 use Rattle.linear_machine.specs.Searching.{accept, consult, search}
 use Rattle.linear_machine.proofs.Stretch.{Part, at, Site, frame_of, conf, Picked, Kept, price, Price, Join, Ways, found, Reaches, unwound, Targets, Claim, value_ways, normal_ways, joins}
 use Rattle.linear_machine.proofs.StretchJoins.{more, attains_out, after, then_value, targets_more}
-use Rattle.linear_machine.proofs.SingleTurns.{prefix_self, still, stepped, fetch, sooner, deep_claim}
+use Rattle.linear_machine.proofs.SingleTurns.{still, stepped, fetch, sooner, deep_claim}
+use Rattle.source_meaning.proofs.Prefixes.{prefix_self}
 use Rattle.linear_machine.proofs.Walks.{picked_at, handlers_below, leaves}
 use Rattle.lowering_follows.proofs.Stores.{Shape, everywhere}
 use Rattle.lowering_follows.proofs.Places.{has_front, has_after}
@@ -59,7 +60,7 @@ module _ (program : Program) (linear : LinearProgram) (rate body : ℕ) where
     store = store;
     fits = fits;
     reaches = still linear rate s (unwound linear rate context site (target_of f exc.code st.held)
-        temps st store pc) st st r e rate refl le (prefix_self linear rate st.events)
+        temps st store pc) st st r e rate refl le (prefix_self st.events)
         (λ k. same (exec linear k) ∙ accepted f exc context site pc temps st store (exec linear k) t h);
   }
 
@@ -217,7 +218,7 @@ module _ (program : Program) (linear : LinearProgram) (rate body : ℕ) where
           fits = kept;
           same = held;
           reaches = still linear rate _ _ st st 16 0 1 refl (omega arith)
-              (prefix_self linear rate st.events) (λ k. refl);
+              (prefix_self st.events) (λ k. refl);
         }
 
     -- one handler

@@ -1,5 +1,5 @@
 -- The whole program: its run follows the meaning, and shows nothing more.
-use Rattle.std.proofs.Common.{◌≡◌, ◌⊎◌, inl, inr, ◌<◌, ◌≤◌, ℕ, zero, suc, ◌+◌, ◌-◌, ◌*◌, List, [], ◌∷◌, ◌++◌, length, refl, ap, sym, subst, ◌∙◌, arith, append-nil, append_assoc}
+use Rattle.std.proofs.Common.{◌≡◌, ◌⊎◌, inl, inr, ◌<◌, ◌≤◌, ℕ, zero, suc, ◌+◌, ◌-◌, ◌*◌, List, [], ◌∷◌, ◌++◌, length, refl, ap, sym, subst, ◌∙◌, arith, append-nil}
 use native.Mathlib.Nat.{mul-add, mul_comm, mul-one}
 use Rattle.std.proofs.lemmas.Bool.{cases_lt, ne_eqb}
 use Rattle.std.specs.Prelude.{false, nat_eq, if◌then◌else◌, replicate, slice_get, ℤ, Some, None}
@@ -16,7 +16,9 @@ use Rattle.linear_code.specs.declared.instruction.Instruction.TheVariants as ins
 use Rattle.linear_machine.specs.Frames.{Running, Stuck}
 use Rattle.linear_machine.specs.Run.{main_arguments, start, seen, shown}
 use Rattle.linear_machine.proofs.RunLengths.{events_of, More, longer}
-use Rattle.linear_machine.proofs.Stretch.{Part, at, Site, conf, Kept, price, Claim, Stops, Prefix}
+use Rattle.linear_machine.proofs.MoreTurns.{front}
+use Rattle.source_meaning.proofs.Prefixes.{prefix_same, prefix_then}
+use Rattle.linear_machine.proofs.Stretch.{Part, at, Site, conf, Kept, price, Claim, Stops}
 use Rattle.linear_machine.proofs.SingleTurns.{fetch}
 use Rattle.lowering_follows.specs.FollowLaws.{Follows, NoMore, LinkedFollows}
 use Rattle.lowering_follows.proofs.Stores.{Shape, FrameAlike, Alike, below_slot, kept_itself, push_alike}
@@ -46,11 +48,6 @@ enough k m cost credit n h paid e least light = go (cases_lt m cost)
         let b = mul_le k cost m p in
         absurd (omega arith)
 
-shown_events : (a : Seen) → (shown a).events ≡ events_of a
-shown_events (Running es) = refl
-shown_events (Finished e es) = refl
-shown_events (Stuck es) = refl
-
 abbrev IsRunning : Seen → Type 0
 IsRunning (Running es) = Unit {0}
 IsRunning a = ⊥
@@ -68,35 +65,30 @@ against : (x b : Seen) (e : Ended) (es : List Event) → More x b → b ≡ Fini
     → IsPrefixOf (shown x).events es × ((f : Ended) → (shown x).end ≡ Some f
     → shown (Finished e es) ≡ shown x) × ((fs : List Event) → x ≡ Stuck fs → ⊥)
 against (Running fs) b e es m q = (
-  (m.0, sym m.1 ∙ ap events_of q),
+  subst (λ (x : Seen). IsPrefixOf fs (events_of x)) q m,
   (λ f h. absurd (cc)),
   (λ gs h. absurd (subst IsRunning h tt)),
 )
 against (Finished f fs) b e es m q =
     let same : Finished f fs ≡ Finished e es = sym m ∙ q in (
-      ([], append-nil fs ∙ ap events_of same),
+      prefix_same fs es (ap events_of same),
       (λ g h. ap shown (sym same)),
       (λ gs h. absurd (subst IsFinished h tt)),
     )
 against (Stuck fs) b e es m q = absurd (subst IsStuck (sym m ∙ q) tt)
 
 -- one that continues
-against_running : (x b : Seen) (sh es : List Event) → More x b → b ≡ Running sh → Prefix sh es
+against_running : (x b : Seen) (sh es : List Event) → More x b → b ≡ Running sh
+    → IsPrefixOf sh es
     → IsPrefixOf (shown x).events es × ((f : Ended) → (shown x).end ≡ Some f
     → record { events = es; end = None } ≡ shown x) × ((fs : List Event) → x ≡ Stuck fs → ⊥)
-against_running (Running fs) b sh es m q p =
-    let e : sh ≡ fs ++ m.0 = sym (ap events_of q) ∙ m.1 in (
-      (m.0 ++ p.0, sym (append_assoc fs m.0 p.0) ∙ ap (λ l. l ++ p.0) (sym e) ∙ sym p.1),
-      (λ f h. absurd (cc)),
-      (λ gs h. absurd (subst IsRunning h tt)),
-    )
+against_running (Running fs) b sh es m q p = (
+  prefix_then fs sh es (subst (λ (x : Seen). IsPrefixOf fs (events_of x)) q m) p,
+  (λ f h. absurd (cc)),
+  (λ gs h. absurd (subst IsRunning h tt)),
+)
 against_running (Finished f fs) b sh es m q p = absurd (subst IsFinished (sym m ∙ q) tt)
 against_running (Stuck fs) b sh es m q p = absurd (subst IsStuck (sym m ∙ q) tt)
-
-events_more : (a b : Seen) → More a b → (rest : List Event) × (events_of b ≡ events_of a ++ rest)
-events_more (Running es) b m = m
-events_more (Finished e es) b m = ([], ap events_of m ∙ sym (append-nil es))
-events_more (Stuck es) b m = ([], ap events_of m ∙ sym (append-nil es))
 
 -- ---- the arguments of `main`
 
@@ -296,15 +288,10 @@ module _ (program : Program) (linear : LinearProgram) (rate body : ℕ)
         (later d.0 b (omega (arith, d.1))) in
         (([], append-nil st.events ∙ sym (ap (λ a. (shown a).events) e)), (λ c h. ap shown e))
     follows_by b from (Gives (End None) st) le d =
-        let m = d.most in
-        let p = events_more (exec linear d.cost c0) (exec linear b c0)
-        (later d.cost b (omega arith)) in (
-          (
-            d.shown.0 ++ p.0,
-            sym (append_assoc st.events d.shown.0 p.0)
-                ∙ ap (λ l. l ++ p.0) (sym d.shown.1) ∙ sym p.1 ∙ sym
-                (shown_events (exec linear b c0)),
-          ),
+        let m = d.most in (
+          prefix_then st.events (events_of (exec linear d.cost c0)) (events_of (exec linear b c0))
+              d.shown (front (exec linear d.cost c0) (exec linear b c0)
+              (later d.cost b (omega arith))),
           (λ c h. absurd (cc)),
         )
     follows_by b from (Gives r st) le d = absurd d
