@@ -2,7 +2,7 @@
 use Rattle.std.proofs.Common.{◌≡◌, ◌+◌, ◌*◌, List, length, sym, ap, arith}
 use Rattle.image_runs.specs.Words.{State, Functions, Funclet, Instruction, LinearProgram, Configuration, ImagePlan, IsMatched, Marks, AreAlike, AgreeOnSet, StepsAgree, Sites, turns_left, turns_per_step, Represents, RepresentsWhereSet}
 use Rattle.match_runs.proofs.Turns.{comes_nowhere}
-use Rattle.match_runs.proofs.Matches.{StepCarries, nowhere, matched_by}
+use Rattle.match_runs.proofs.Matches.{StepCarries, matched_by}
 use Rattle.match_bodies.specs.Bodies.{held_below}
 
 -- as many temporaries are held
@@ -14,7 +14,7 @@ same_left marks c d a = let f = a.frame in let b = a.below in
 module _ (t : Functions) (fs : List Funclet) (program : LinearProgram) (p : ImagePlan) (q : Sites)
     (c d : Configuration) (agreement : AgreeOnSet program c d) (s : State) (i : Instruction)
     (go : StepsAgree program i c d) where
-  carries : StepCarries t fs program turns_left 0 (Represents t fs program p q)
+  carries : StepCarries t fs program turns_left (Represents t fs program p q)
       (RepresentsWhereSet t fs program p q) c d i
   carries = record {
     events = agreement.alike.events;
@@ -24,8 +24,7 @@ module _ (t : Functions) (fs : List Funclet) (program : LinearProgram) (p : Imag
       acts = g.goes;
       events = sym g.agreement.alike.events;
       left = let same = same_left g.agreement.marks g.on e g.agreement.alike in omega arith;
-      leads = nowhere t fs 0 (RepresentsWhereSet t fs program p q) u g.on
-          (record { actual = e; agreement = g.agreement; is_there = there });
+      is_there = record { actual = e; agreement = g.agreement; is_there = there };
     });
   }
 
@@ -33,6 +32,6 @@ module _ (t : Functions) (fs : List Funclet) (program : LinearProgram) (p : Imag
       → IsMatched t fs program turns_per_step turns_left (RepresentsWhereSet t fs program p q) s c i
   carried m =
       let same = same_left agreement.marks c d agreement.alike in
-      matched_by t fs program turns_left 0 0 turns_per_step turns_per_step
+      matched_by t fs program turns_left 0 turns_per_step turns_per_step
       (Represents t fs program p q) (RepresentsWhereSet t fs program p q) s s c d i
       (comes_nowhere t fs s) (omega arith) carries m

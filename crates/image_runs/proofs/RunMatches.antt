@@ -6,7 +6,7 @@ use Rattle.source_meaning.specs.Meaning.{is_calm}
 use Rattle.source_meaning.specs.Laws.{IsPrefixOf}
 use Rattle.linear_machine.specs.Run.{linear_meaning}
 use Rattle.lowering_follows.proofs.ProgramLowering.{lowered_follows, lowered_shows_no_more}
-use Rattle.match_runs.proofs.Prefixes.{prefix_then}
+use Rattle.source_meaning.proofs.Prefixes.{prefix_then}
 use Rattle.match_runs.proofs.Programs.{programs_all, programs_no_more, programs_walk_the_shadow, enough}
 use Rattle.image_runs.specs.MatchLaws.{turns_per_step, MatchedRunsShowAll, MatchedRunsShowNoMore, MatchedRunsWalkTheShadow}
 

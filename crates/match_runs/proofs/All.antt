@@ -7,7 +7,7 @@ use Rattle.host_model.specs.Laws.{IsShownFirst}
 use Rattle.host_model.proofs.Longer.{begins, none_yet}
 use Rattle.source_meaning.specs.declared.ended.Ended.TheVariants as source
 use Rattle.match_runs.specs.Laws.{ShowsAll}
-use Rattle.match_runs.proofs.Prefixes.{prefix_then}
+use Rattle.source_meaning.proofs.Prefixes.{prefix_then}
 use Rattle.match_runs.proofs.MatchedRuns.{RunOutcome, RunsOn, Exited, Died, Failed, RunIsMatched}
 use Rattle.match_runs.proofs.RunEnds.{HasEnded, returned, died, run_from}
 

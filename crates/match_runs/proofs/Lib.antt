@@ -1,4 +1,3 @@
-pub mod Prefixes
 pub mod Shadows
 pub mod Turns
 pub mod Matches

@@ -4,7 +4,6 @@ use Rattle.std.proofs.lemmas.List.{append-nil}
 use Rattle.match_runs.specs.Words.{Event, State, Functions, Funclet, is_calm, Ended, LinearProgram, Instruction, Configuration, Finished, Seen, act, Comes, Fails, IsMatched}
 use Rattle.source_meaning.specs.declared.ended.Ended.TheVariants as source
 use Rattle.linear_machine.specs.Frames.{Next}
-use Rattle.match_runs.specs.Comes.{LeadsTo}
 use Rattle.match_runs.proofs.Turns.{comes_nowhere, comes_then}
 
 -- turns that show nothing, before and after others
@@ -17,17 +16,6 @@ module _ (t : Functions) (fs : List Funclet) where
       → Comes t fs n u [] w → Comes t fs (k + n) s events w
   silently_after k n s u w events p q = subst (λ es. Comes t fs (k + n) s es w) (append-nil events)
       (comes_then t fs k n s u w events [] p q)
-
-  -- no turn
-  pub nowhere : (most : ℕ) (Represents : State → Configuration → Type 0) (s : State)
-      (c : Configuration) → Represents s c → LeadsTo t fs most Represents s c
-  nowhere most Represents s c r = record {
-    turns = 0;
-    few = omega arith;
-    state = s;
-    comes = comes_nowhere t fs s;
-    is_there = r;
-  }
 
 module _ (t : Functions) (fs : List Funclet) (program : LinearProgram) (credit : Configuration → ℕ)
   where
@@ -53,55 +41,53 @@ module _ (t : Functions) (fs : List Funclet) (program : LinearProgram) (credit :
 
     -- ---- a step that is matched at one configuration is matched at another
 
-    -- where the other's step leads, and silent turns that lead there
-    pub record StepContinues (most : ℕ) (Represents : State → Configuration → Type 0) (u : State)
+    -- a configuration that the step leads to, which shows as much as the other's
+    pub record StepContinues (Represents : State → Configuration → Type 0) (u : State)
         (c e : Configuration) (i : Instruction) : Type 0 where
       pub configuration : Configuration
       pub acts : (next : Next) → act program i next c ≡ next configuration
       pub events : configuration.events ≡ e.events
       pub left : credit configuration ≤ credit e
-      pub leads : LeadsTo t fs most Represents u configuration
+      pub is_there : Represents u configuration
 
     -- the step at c does what the step at d does
-    pub record StepCarries (most : ℕ) (Middle Represents : State → Configuration → Type 0)
+    pub record StepCarries (Middle Represents : State → Configuration → Type 0)
         (c d : Configuration) (i : Instruction) : Type 0 where
       pub events : d.events ≡ c.events
       pub ends : (seen : Seen) → ((next : Next) → act program i next d ≡ seen) → (next : Next)
           → act program i next c ≡ seen
       pub continues : (u : State) (e : Configuration) → ((next : Next) → act program i next d
-          ≡ next e) → Middle u e → StepContinues most Represents u c e i
+          ≡ next e) → Middle u e → StepContinues Represents u c e i
 
-    module _ (k most turns_per_step more : ℕ) (Middle Represents : State → Configuration → Type 0)
+    module _ (k turns_per_step more : ℕ) (Middle Represents : State → Configuration → Type 0)
         (s u : State) (c d : Configuration) (i : Instruction) (before : Comes t fs k s [] u)
-        (bound : k + most + turns_per_step + credit d ≤ more + credit c)
-        (carries : StepCarries most Middle Represents c d i) where
+        (bound : k + turns_per_step + credit d ≤ more + credit c)
+        (carries : StepCarries Middle Represents c d i) where
       ends_so : (end : Ended) (es : List Event) → ((next : Next)
           → act program i next d ≡ Finished end (d.events ++ es)) → (next : Next)
           → act program i next c ≡ Finished end (c.events ++ es)
       ends_so end es acts next = carries.ends (Finished end (d.events ++ es)) acts next
           ∙ ap (λ (xs : List Event). Finished end (xs ++ es)) carries.events
 
-      -- with silent turns before it and after it
+      -- with silent turns before it
       pub matched_by : IsMatched t fs program turns_per_step credit Middle u d i
           → IsMatched t fs program more credit Represents s c i
       matched_by (inl v) =
           let few = v.few in
           let some = v.some in
           let x = carries.continues v.state v.configuration v.acts v.is_there in
-          let less = x.leads.few in
           let left = x.left in
           inl (record {
-            turns = (k + v.turns) + x.leads.turns;
+            turns = k + v.turns;
             some = omega arith;
             configuration = x.configuration;
             few = omega arith;
-            state = x.leads.state;
+            state = v.state;
             events = v.events;
-            comes = silently_after t fs (k + v.turns) x.leads.turns s v.state x.leads.state v.events
-                (silently_before t fs k v.turns s u v.state v.events before v.comes) x.leads.comes;
+            comes = silently_before t fs k v.turns s u v.state v.events before v.comes;
             acts = x.acts;
             shown = x.events ∙ v.shown ∙ ap (λ (es : List Event). es ++ v.events) carries.events;
-            is_there = x.leads.is_there;
+            is_there = x.is_there;
           })
       matched_by (inr (inl v)) =
           let few = v.few in
@@ -147,11 +133,10 @@ module _ (t : Functions) (fs : List Funclet) (program : LinearProgram) (credit :
 
     -- ---- the same configuration
 
-    stays : (most : ℕ) (Middle Represents : State → Configuration → Type 0) (c : Configuration)
-        (i : Instruction)
-        → ((u : State) (e : Configuration) → Middle u e → LeadsTo t fs most Represents u e)
-        → StepCarries most Middle Represents c c i
-    stays most Middle Represents c i leads = record {
+    stays : (Middle Represents : State → Configuration → Type 0) (c : Configuration)
+        (i : Instruction) → ((u : State) (e : Configuration) → Middle u e → Represents u e)
+        → StepCarries Middle Represents c c i
+    stays Middle Represents c i then = record {
       events = refl;
       ends = λ seen acts. acts;
       continues = λ u e acts m. record {
@@ -159,7 +144,7 @@ module _ (t : Functions) (fs : List Funclet) (program : LinearProgram) (credit :
         acts = acts;
         events = refl;
         left = omega arith;
-        leads = leads u e m;
+        is_there = then u e m;
       };
     }
 
@@ -169,18 +154,8 @@ module _ (t : Functions) (fs : List Funclet) (program : LinearProgram) (credit :
         → IsMatched t fs program turns_per_step credit Represents u c i
         → IsMatched t fs program (k + turns_per_step) credit Represents s c i
     matched_after k turns_per_step Represents s u c i p m =
-        matched_by k 0 turns_per_step (k + turns_per_step) Represents Represents s u c c i p
-        (omega arith) (stays 0 Represents Represents c i (nowhere t fs 0 Represents)) m
-
-    -- turns that show nothing come after a step's
-    pub matched_then : (turns_per_step most : ℕ) (Middle Represents : State → Configuration → Type
-        0) (s : State) (c : Configuration) (i : Instruction)
-        → ((u : State) (d : Configuration) → Middle u d → LeadsTo t fs most Represents u d)
-        → IsMatched t fs program turns_per_step credit Middle s c i
-        → IsMatched t fs program (most + turns_per_step) credit Represents s c i
-    matched_then turns_per_step most Middle Represents s c i leads m =
-        matched_by 0 most turns_per_step (most + turns_per_step) Middle Represents s s c c i
-        (comes_nowhere t fs s) (omega arith) (stays most Middle Represents c i leads) m
+        matched_by k turns_per_step (k + turns_per_step) Represents Represents s u c c i p
+        (omega arith) (stays Represents Represents c i (λ u e there. there)) m
 
     -- with more turns allowed
     pub matched_slower : (turns_per_step more : ℕ) (Represents : State → Configuration → Type 0)
@@ -188,8 +163,8 @@ module _ (t : Functions) (fs : List Funclet) (program : LinearProgram) (credit :
         → IsMatched t fs program turns_per_step credit Represents s c i
         → IsMatched t fs program more credit Represents s c i
     matched_slower turns_per_step more Represents s c i le m =
-        matched_by 0 0 turns_per_step more Represents Represents s s c c i (comes_nowhere t fs s)
-        (omega arith) (stays 0 Represents Represents c i (nowhere t fs 0 Represents)) m
+        matched_by 0 turns_per_step more Represents Represents s s c c i (comes_nowhere t fs s)
+        (omega arith) (stays Represents Represents c i (λ u e there. there)) m
 
     -- by what a relation implies
     pub matched_as : (turns_per_step : ℕ) (X Y : State → Configuration → Type 0)
@@ -198,5 +173,5 @@ module _ (t : Functions) (fs : List Funclet) (program : LinearProgram) (credit :
         → IsMatched t fs program turns_per_step credit X s c i
         → IsMatched t fs program turns_per_step credit Y s c i
     matched_as turns_per_step X Y then s c i m =
-        matched_by 0 0 turns_per_step turns_per_step X Y s s c c i (comes_nowhere t fs s)
-        (omega arith) (stays 0 X Y c i (λ u d x. nowhere t fs 0 Y u d (then u d x))) m
+        matched_by 0 turns_per_step turns_per_step X Y s s c c i (comes_nowhere t fs s) (omega arith)
+        (stays X Y c i then) m

@@ -1,9 +1,9 @@
 -- Steps of linear code, and what they show whatever follows.
-use Rattle.std.proofs.Common.{◌≡◌, ℕ, zero, suc, ◌+◌, List, refl, sym, ap, subst, ◌∙◌, arith}
+use Rattle.std.proofs.Common.{◌≡◌, ℕ, zero, suc, ◌+◌, List, refl, ap, subst, ◌∙◌, arith}
 use Rattle.std.specs.Prelude.{Option, Some, None}
-use Rattle.match_runs.specs.Words.{State, Functions, Funclet, IsPrefixOf, LinearProgram, Instruction, Configuration, Finished, Running, Seen, with_some, act, instruction_at, shown, exec, HasRule, Follows, IsMatched}
+use Rattle.match_runs.specs.Words.{State, Functions, Funclet, LinearProgram, Instruction, Configuration, Finished, Running, Seen, with_some, act, instruction_at, exec, HasRule, Follows, IsMatched}
 use Rattle.linear_machine.specs.Frames.{Stuck}
-use Rattle.linear_machine.proofs.RunLengths.{events_of, More, longer, from_none}
+use Rattle.linear_machine.proofs.RunLengths.{More, longer}
 use Rattle.match_runs.specs.Matched.{StepIsMatched, Simulates}
 use Rattle.match_runs.proofs.Matches.{matched_as}
 
@@ -45,16 +45,6 @@ module _ (program : LinearProgram) where
   pub none_has_no_rule : (n : ℕ) (c : Configuration) → instruction_at program c ≡ None
       → HasRule (exec program (suc n) c) → ⊥
   none_has_no_rule n c e rule = subst HasRule (at_none n c e) rule
-
-  shown_events : (a : Seen) → (shown a).events ≡ events_of a
-  shown_events (Running es) = refl
-  shown_events (Finished e es) = refl
-  shown_events (Stuck es) = refl
-
-  -- what was shown before is the front of what is shown
-  pub before : (n : ℕ) (c : Configuration) → IsPrefixOf c.events (shown (exec program n c)).events
-  before n c = let x = from_none program n c in
-      (x.0, sym x.1 ∙ sym (shown_events (exec program n c)))
 
 -- ---- steps that are matched
 
