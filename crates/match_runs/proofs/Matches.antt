@@ -173,5 +173,6 @@ module _ (t : Functions) (fs : List Funclet) (program : LinearProgram) (credit :
         → IsMatched t fs program turns_per_step credit X s c i
         → IsMatched t fs program turns_per_step credit Y s c i
     matched_as turns_per_step X Y then s c i m =
-        matched_by 0 turns_per_step turns_per_step X Y s s c c i (comes_nowhere t fs s) (omega arith)
+        matched_by 0 turns_per_step turns_per_step X Y s s c c i (comes_nowhere t fs s)
+        (omega arith)
         (stays X Y c i then) m
