@@ -13,7 +13,7 @@ use Rattle.lowering_locals.specs.UnsetLaws.{called_with}
 use Rattle.lowering_locals.proofs.AgreementSteps.{agreement_at_call}
 use Rattle.match_turns.specs.CallOutcome.{CallBegins}
 use Rattle.match_turns.proofs.CallActs.{call_acts}
-use Rattle.image_runs.proofs.AgreementSteps.{same_left, fails}
+use Rattle.image_runs.proofs.AgreementSteps.{same_left, carried}
 
 -- ---- lists with the same end
 
@@ -134,4 +134,4 @@ module _ (t : Functions) (fs : List Funclet) (program : LinearProgram) (p : Imag
       ⊎ Fails t fs program turns_per_step turns_left s d i
       → IsMatched t fs program turns_per_step turns_left (RepresentsWhereSet t fs program p q) s c i
   called go (inl v) = begins v
-  called go (inr v) = inr (inr (inr (fails t fs program p q c d agreement s i go v)))
+  called go (inr v) = carried t fs program p q c d agreement s i go (inr (inr (inr v)))

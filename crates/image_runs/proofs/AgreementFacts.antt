@@ -19,16 +19,7 @@ module _ (program : LinearProgram) where
   ready_alike : (c : Configuration) (ys : List (List ℕ)) (i : Instruction) → IsReady program c i
       → IsReady program (over c ys) i
   ready_alike c ys (instructions.Compute to o first second) h = h
-  ready_alike c ys (instructions.Information to field) h = h
-  ready_alike c ys (instructions.Jump label) h = h
-  ready_alike c ys (instructions.JumpIfZero slot label) h = h
-  ready_alike c ys (instructions.Call f first count) h = h
-  ready_alike c ys (instructions.CallBuiltIn f first) h = h
-  ready_alike c ys (instructions.CallFinally k) h = h
-  ready_alike c ys (instructions.LocalUnwind label) h = h
-  ready_alike c ys (instructions.Landing to) h = h
-  ready_alike c ys instructions.Separator h = h
-  ready_alike c ys (instructions.Return from) h = h
+  ready_alike c ys i h = h
 
   continues_alike : (marks : Marks) (c d : Configuration) → AreAlike marks c d
       → CanContinue program c → CanContinue program d

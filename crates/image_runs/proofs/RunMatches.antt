@@ -6,8 +6,8 @@ use Rattle.source_meaning.specs.Meaning.{is_calm}
 use Rattle.source_meaning.specs.Laws.{IsPrefixOf}
 use Rattle.linear_machine.specs.Run.{linear_meaning}
 use Rattle.lowering_follows.proofs.ProgramLowering.{lowered_follows, lowered_shows_no_more}
-use Rattle.match_runs.proofs.Programs.{programs_all, programs_no_more, enough}
-use Rattle.match_runs.proofs.Shadowed.{programs_walk_the_shadow}
+use Rattle.source_meaning.proofs.Prefixes.{prefix_then}
+use Rattle.match_runs.proofs.Programs.{programs_all, programs_no_more, programs_walk_the_shadow, enough}
 use Rattle.image_runs.specs.MatchLaws.{turns_per_step, MatchedRunsShowAll, MatchedRunsShowNoMore, MatchedRunsWalkTheShadow}
 
 -- what is never stuck has a rule
@@ -15,13 +15,6 @@ has_rule : (x : Seen) → ((es : List Event) → x ≡ Stuck es → ⊥) → Has
 has_rule (Running es) h = tt
 has_rule (Finished e es) h = tt
 has_rule (Stuck es) h = absurd (h es refl)
-
-prefix_then : (xs ys zs : List Event) → IsPrefixOf xs ys → IsPrefixOf ys zs → IsPrefixOf xs zs
-prefix_then xs ys zs a b = (
-  a.0 ++ b.0,
-  sym (append_assoc xs a.0 b.0) ∙ ap (λ es. es ++ b.0) a.1
-      ∙ b.1,
-)
 
 -- a run that shows all that linear code shows, which shows all that the program means
 through : (meant linear : Shown Ended) (machine : Shown RunEnd)

@@ -1,9 +1,8 @@
 -- A run that is matched step by step passes a state for each step.
-use Rattle.std.proofs.Common.{◌≡◌, inl, inr, ℕ, zero, suc, List, refl, subst, ◌∙◌}
-use Rattle.std.specs.Prelude.{Option, Some, None}
+use Rattle.std.proofs.Common.{◌≡◌, inl, inr, ℕ, zero, suc, List, Some, subst, ◌∙◌}
 use Rattle.image_runs.specs.Words.{State, Functions, Funclet, Instruction, LinearProgram, Configuration, Seen, Running, Finished, Stuck, act, instruction_at, exec, HasRule, IsMatched, IsRunning}
 use Rattle.match_runs.specs.Matched.{Simulates}
-use Rattle.match_runs.proofs.Steps.{at_instruction, at_none, first_has_rule}
+use Rattle.match_runs.proofs.Steps.{at_instruction, matched_step}
 use Rattle.image_runs.specs.RunStates.{HasNextStep, Passes}
 
 running_has_rule : (x : Seen) → IsRunning x → HasRule x
@@ -48,18 +47,10 @@ module _ (t : Functions) (fs : List Funclet) (program : LinearProgram) (turns_pe
   pub passes : (n : ℕ) (s : State) (c : Configuration) → R n s c → IsRunning (exec program n c)
       → Passes t fs program turns_per_step credit Holds n s c
   passes zero s c r running = holds zero s c r
-  passes (suc n) s c r running = (
-    holds (suc n) s c r,
-    by (instruction_at program c) refl (λ u d. passes n u d),
-  )
-    where
-      by : (o : Option Instruction) → instruction_at program c ≡ o
-          → ((u : State) (d : Configuration) → R n u d → IsRunning (exec program n d)
-          → Passes t fs program turns_per_step credit Holds n u d)
-          → HasNextStep t fs program turns_per_step credit (Passes t fs program turns_per_step
-          credit Holds n) s c
-      by None at rest = absurd (subst IsRunning (at_none program n c at) running)
-      by (Some i) at rest =
-          step n s c i at rest (subst IsRunning (at_instruction program n c i at) running)
-          (simulates.steps n s c r i at (first_has_rule program n c i at
-          (running_has_rule (exec program (suc n) c) running)))
+  passes (suc n) s c r running =
+      let x = matched_step t fs program turns_per_step credit (R n) n s c
+      (simulates.steps n s c r) (running_has_rule (exec program (suc n) c) running) in (
+        holds (suc n) s c r,
+        step n s c x.instruction x.at (λ u d. passes n u d) (subst IsRunning
+            (at_instruction program n c x.instruction x.at) running) x.matched,
+      )

@@ -17,17 +17,8 @@ use Rattle.image_runs.proofs.WalkFrames.{frames, gives}
 use Rattle.image_runs.proofs.LiveFrames.{as_many, are_frames}
 
 return_or : (i : Instruction) → (IsReturn i → ⊥) ⊎ ((from : Slot) × (i ≡ instructions.Return from))
-return_or (instructions.Compute to o first second) = inl (λ h. h)
-return_or (instructions.Information to field) = inl (λ h. h)
-return_or (instructions.Landing to) = inl (λ h. h)
-return_or (instructions.Jump label) = inl (λ h. h)
-return_or (instructions.JumpIfZero slot label) = inl (λ h. h)
-return_or (instructions.Call f first count) = inl (λ h. h)
-return_or (instructions.CallBuiltIn f first) = inl (λ h. h)
-return_or (instructions.CallFinally k) = inl (λ h. h)
-return_or (instructions.LocalUnwind label) = inl (λ h. h)
-return_or instructions.Separator = inl (λ h. h)
 return_or (instructions.Return from) = inr (from, refl)
+return_or i = inl (λ h. h)
 
 module _ (t : Functions) (fs : List Funclet) (program : LinearProgram) (p : ImagePlan) (q : Sites)
     (image : IsProgramImage t fs program p q) where

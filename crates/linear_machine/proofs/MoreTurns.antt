@@ -1,10 +1,10 @@
 -- What more turns of a program show.
-use Rattle.std.proofs.Common.{◌≡◌, ℕ, ◌+◌, [], refl, ap, sym, ◌∙◌}
-use Rattle.std.proofs.lemmas.List.{append-nil}
+use Rattle.std.proofs.Common.{◌≡◌, ℕ, ◌+◌, [], refl, ap, sym}
 use Rattle.std.specs.Prelude.{slice_get, ℤ, Option, Some, None}
 use Rattle.linear_code.specs.Program.{LinearProgram, LinearFunction}
 use Rattle.source_meaning.specs.declared.ended.Ended.{Ended}
 use Rattle.source_meaning.specs.Laws.{IsPrefixOf, ShowsMore, EndStays}
+use Rattle.source_meaning.proofs.Prefixes.{prefix_same}
 use Rattle.linear_machine.specs.Frames.{Seen, Running, Finished, Stuck, with_some}
 use Rattle.linear_machine.specs.Run.{start, seen, shown, exec, linear_meaning}
 use Rattle.linear_machine.proofs.RunLengths.{events_of, More, longer}
@@ -20,15 +20,11 @@ seen_more : (program : LinearProgram) (arg : ℤ) (n k : ℕ)
     → More (seen program arg n) (seen program arg (n + k))
 seen_more program arg n k = main_more program arg n k (slice_get program.functions program.main)
 
-shown_events : (a : Seen) → (shown a).events ≡ events_of a
-shown_events (Running es) = refl
-shown_events (Finished e es) = refl
-shown_events (Stuck es) = refl
-
-front : (a b : Seen) → More a b → IsPrefixOf (shown a).events (shown b).events
-front (Running es) b m = (m.0, sym m.1 ∙ sym (shown_events b))
-front (Finished e es) b m = ([], append-nil es ∙ sym (ap (λ x. (shown x).events) m))
-front (Stuck es) b m = ([], append-nil es ∙ sym (ap (λ x. (shown x).events) m))
+-- what is shown by fewer turns is the front
+pub front : (a b : Seen) → More a b → IsPrefixOf (shown a).events (shown b).events
+front (Running es) b m = m
+front (Finished e es) b m = prefix_same es (events_of b) (ap events_of (sym m))
+front (Stuck es) b m = prefix_same es (events_of b) (ap events_of (sym m))
 
 stays : (a b : Seen) (e : Ended) → More a b → (shown a).end ≡ Some e → shown b ≡ shown a
 stays (Running es) b e m h = absurd (cc)

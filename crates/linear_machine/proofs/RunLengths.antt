@@ -1,5 +1,5 @@
 -- With more turns a run shows more, and an end stays.
-use Rattle.std.proofs.Common.{◌≡◌, ℕ, zero, suc, ◌+◌, List, [], ◌∷◌, ◌++◌, length, refl, sym, ◌∙◌, subst, arith, append_assoc, append-nil}
+use Rattle.std.proofs.Common.{◌≡◌, ℕ, zero, suc, ◌+◌, List, [], ◌∷◌, ◌++◌, length, refl, subst, arith}
 use Rattle.std.specs.Prelude.{◌^◌, Bool, true, false, nat_eq, nat_lt, slice_get, get_or, Option, Some, None}
 use Rattle.seh_num.specs.declared.width.Width.TheVariants.{W32, W64}
 use Rattle.seh_num.specs.declared.event.Event.{Event}
@@ -16,6 +16,8 @@ use Rattle.source_meaning.specs.State.{Exception}
 use Rattle.source_meaning.specs.Source.{is_reserved}
 use Rattle.source_meaning.specs.Raises.{noncontinuable, raise_event}
 use Rattle.source_meaning.specs.Expressions.{raised, field_of}
+use Rattle.source_meaning.specs.Laws.{IsPrefixOf}
+use Rattle.source_meaning.proofs.Prefixes.{prefix_self, prefix_then}
 use Rattle.linear_code.specs.declared.slot.Slot.{Slot}
 use Rattle.linear_code.specs.declared.slot.Slot.TheVariants.{Local, Temporary}
 use Rattle.linear_code.specs.declared.instruction.Instruction.{Instruction}
@@ -31,35 +33,33 @@ use Rattle.linear_machine.specs.Regions.{regions_at, regions_left, handlers}
 use Rattle.linear_machine.specs.Unwinding.{flag_of, begin_finally, run_finally, arrive, target_past, left_store, leave_region, unwind_body, unwind}
 use Rattle.linear_machine.specs.Searching.{target_of, accept, begin_filter, consult, search, raise, resumed, answered, answer}
 use Rattle.linear_machine.specs.Instructions.{is_constant, operand, written, computed, compute, tested, waiting, begin_function, count_of, built_in, return, end_finally, end_funclet, end_body, not_landed, act}
-use Rattle.linear_machine.specs.Run.{instruction_at, exec}
+use Rattle.linear_machine.specs.Run.{instruction_at, exec, shown}
 
 abbrev pub events_of : Seen → List Event
-events_of (Running es) = es
-events_of (Finished e es) = es
-events_of (Stuck es) = es
+events_of seen = (shown seen).events
 
 -- b shows what a shows and maybe more, and has ended as a has
 abbrev pub More : Seen → Seen → Type 0
-More (Running es) b = (rest : List Event) × (events_of b ≡ es ++ rest)
+More (Running es) b = IsPrefixOf es (events_of b)
 More (Finished e es) b = b ≡ Finished e es
 More (Stuck es) b = b ≡ Stuck es
 
 -- a shows these events and maybe others, and b more than a
 record Keeps (es : List Event) (a b : Seen) : Type 0 where
-  shown : (rest : List Event) × (events_of a ≡ es ++ rest)
+  front : IsPrefixOf es (events_of a)
   grows : More a b
 
 keeps_less : (es x : List Event) (a b : Seen) → Keeps (es ++ x) a b → Keeps es a b
 keeps_less es x a b k = record {
-  shown = (x ++ k.shown.0, k.shown.1 ∙ append_assoc es x k.shown.0);
+  front = prefix_then es (es ++ x) (events_of a) (x, refl) k.front;
   grows = k.grows;
 }
 
 keeps_finished : (es : List Event) (e : Ended) → Keeps es (Finished e es) (Finished e es)
-keeps_finished es e = record { shown = ([], sym (append-nil es)); grows = refl }
+keeps_finished es e = record { front = prefix_self es; grows = refl }
 
 keeps_stuck : (es : List Event) → Keeps es (Stuck es) (Stuck es)
-keeps_stuck es = record { shown = ([], sym (append-nil es)); grows = refl }
+keeps_stuck es = record { front = prefix_self es; grows = refl }
 
 keeps_pick : (c : Bool) (es : List Event) (a b a' b' : Seen) → Keeps es a a' → Keeps es b b'
     → Keeps es (pick c a b) (pick c a' b')
@@ -317,8 +317,8 @@ module _ (program : LinearProgram) where
   none_keeps : (c : Configuration) → Keeps c.events (exec program zero c) (exec program zero c)
   unfolding exec
   none_keeps c = record {
-    shown = ([], sym (append-nil c.events));
-    grows = ([], sym (append-nil c.events));
+    front = prefix_self c.events;
+    grows = prefix_self c.events;
   }
 
   itself_keeps : (m : ℕ) (c : Configuration) → Keeps c.events (exec program m c) (exec program m c)
@@ -326,8 +326,8 @@ module _ (program : LinearProgram) where
   itself_keeps (suc m) c = turn_keeps m m (itself_keeps m) c
 
   pub from_none : (m : ℕ) (c : Configuration)
-      → (rest : List Event) × (events_of (exec program m c) ≡ c.events ++ rest)
-  from_none m c = (itself_keeps m c).shown
+      → IsPrefixOf c.events (events_of (exec program m c))
+  from_none m c = (itself_keeps m c).front
 
   running_more : (m : ℕ) (c : Configuration) → More (exec program zero c) (exec program m c)
   unfolding exec
@@ -338,7 +338,7 @@ module _ (program : LinearProgram) where
   longer_keeps zero m c =
       let e : m ≡ 0 + m = omega arith in
       record {
-        shown = (none_keeps c).shown;
+        front = (none_keeps c).front;
         grows = subst
             (λ k. More (exec program zero c) (exec program k c)) e (running_more m c);
       }
@@ -353,8 +353,7 @@ module _ (program : LinearProgram) where
 -- what a search shows before any turn
 pub search_shows : (program : LinearProgram) (xs : List Handler) (exception : Exception)
     (resumption : Resumption) (c : Configuration)
-    → (rest : List Event) × (events_of (search program (exec program zero) xs exception resumption
-    c) ≡ c.events ++ rest)
+    → IsPrefixOf c.events (events_of (search program (exec program zero) xs exception resumption c))
 search_shows program xs exception resumption c =
     (search_keeps program (exec program zero) (exec program zero) (none_keeps program) xs exception
-    resumption c).shown
+    resumption c).front

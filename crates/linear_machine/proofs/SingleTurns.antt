@@ -1,24 +1,23 @@
 -- Stretches of one turn or none, steps of tasks, and claims at a depth that may be too large.
-use Rattle.std.proofs.Common.{◌≡◌, ℕ, zero, suc, ◌+◌, ◌≤◌, List, [], ◌++◌, length, refl, ap, ◌∙◌, subst, arith, sym, append-nil}
+use Rattle.std.proofs.Common.{◌≡◌, ℕ, zero, suc, ◌+◌, ◌≤◌, List, length, refl, ap, ◌∙◌, subst, arith, sym}
 use native.Mathlib.Nat.{mul-zero, mul-one}
 use Rattle.std.specs.Prelude.{Bool, true, false, nat_lt, Some, None}
 use Rattle.seh_num.specs.declared.event.Event.{Event}
 use Rattle.source_meaning.specs.declared.ended.Ended.TheVariants.{Deep}
 use Rattle.source_meaning.specs.State.{State, End, Outcome, Gives, choose, depth, deeper}
 use Rattle.source_meaning.specs.Tasks.{counted}
+use Rattle.source_meaning.specs.Laws.{IsPrefixOf}
+use Rattle.source_meaning.proofs.Prefixes.{prefix_self}
 use Rattle.linear_code.specs.declared.instruction.Instruction.{Instruction}
 use Rattle.linear_code.specs.Program.{LinearProgram}
 use Rattle.linear_machine.specs.Frames.{Store, Configuration, Seen, Finished, pick, with_some, deeper as deeper'}
 use Rattle.linear_machine.specs.Instructions.{act}
 use Rattle.linear_machine.specs.Run.{instruction_at, exec}
 use Rattle.linear_machine.proofs.RunLengths.{events_of}
-use Rattle.linear_machine.proofs.Stretch.{Part, at, Ways, Prefix, Before, Price, price, Reaches, Stops, Claim}
+use Rattle.linear_machine.proofs.Stretch.{Part, at, Ways, Before, Price, price, Reaches, Stops, Claim}
 use Rattle.linear_machine.proofs.StretchJoins.{Joined, after, claim_stepped}
 
 module _ (linear : LinearProgram) (rate : ℕ) where
-  pub prefix_self : (es : List Event) → Prefix es es
-  prefix_self es = ([], sym (append-nil es))
-
   none_prior : (s : Part) (es : List Event) (i : ℕ) → suc i ≡ 0 → Before (s (exec linear i)) es
   none_prior s es i e = absurd (omega arith)
 
@@ -29,7 +28,7 @@ module _ (linear : LinearProgram) (rate : ℕ) where
 
   -- no turn
   pub still : (s t : Part) (st end : State) (r e d : ℕ) → end.steps_left ≡ st.steps_left → e ≤ d
-      → Prefix st.events end.events → ((k : ℕ) → s (exec linear k) ≡ t (exec linear k))
+      → IsPrefixOf st.events end.events → ((k : ℕ) → s (exec linear k) ≡ t (exec linear k))
       → Reaches linear rate s t st end r e d
   still s t st end r e d same le g h = record {
     cost = 0;
@@ -45,7 +44,7 @@ module _ (linear : LinearProgram) (rate : ℕ) where
 
   -- one turn
   pub turned : (s t : Part) (st end : State) (r e d : ℕ) → end.steps_left ≡ st.steps_left → 1 ≤ r
-      → e ≤ rate + d → Before (s (exec linear 0)) end.events → Prefix st.events end.events
+      → e ≤ rate + d → Before (s (exec linear 0)) end.events → IsPrefixOf st.events end.events
       → ((k : ℕ) → s (exec linear (suc k)) ≡ t (exec linear k))
       → Reaches linear rate s t st end r e d
   turned s t st end r e d same lr le b g h = record {
@@ -61,14 +60,14 @@ module _ (linear : LinearProgram) (rate : ℕ) where
   }
 
   before_first : (c : Configuration) (st mid : State) → c.events ≡ st.events
-      → Prefix st.events mid.events → Before (exec linear 0 c) mid.events
+      → IsPrefixOf st.events mid.events → Before (exec linear 0 c) mid.events
   unfolding exec
-  before_first c st mid e g = (c.events, refl, subst (λ es. Prefix es mid.events) (sym e) g)
+  before_first c st mid e g = (c.events, refl, subst (λ es. IsPrefixOf es mid.events) (sym e) g)
 
   -- one turn from a place
   pub stepped : (c : Configuration) (t : Part) (st mid : State) (r e d : ℕ)
       → mid.steps_left ≡ st.steps_left → 1 ≤ r → e ≤ rate + d → c.events ≡ st.events
-      → Prefix st.events mid.events
+      → IsPrefixOf st.events mid.events
       → ((k : ℕ) → exec linear (suc k) c ≡ t (exec linear k))
       → Reaches linear rate (at c) t st mid r e d
   stepped c t st mid r e d same lr le same_events g h = turned (at c) t st mid r e d same lr le
@@ -77,7 +76,7 @@ module _ (linear : LinearProgram) (rate : ℕ) where
   -- one turn from a place, and what comes then
   pub first : (c : Configuration) (t : Part) (st mid : State) (q r : Price) (w : Ways) (o : Outcome)
       → Joined linear rate 1 rate 0 q r → mid.steps_left ≡ st.steps_left → c.events ≡ st.events
-      → Prefix st.events mid.events
+      → IsPrefixOf st.events mid.events
       → ((k : ℕ) → exec linear (suc k) c ≡ t (exec linear k)) → Claim linear rate t mid q w o
       → Claim linear rate (at c) st r w o
   first c t st mid q r w o j same e g h p = after linear rate (at c) t st mid 1 rate 0 q r w o j
@@ -91,7 +90,7 @@ module _ (linear : LinearProgram) (rate : ℕ) where
 
   -- nothing was done, as no step is left
   pub stopped : (s : Part) (st : State) (r e o : ℕ) → st.steps_left + e ≤ o
-      → ((rest : List Event) × (events_of (s (exec linear 0)) ≡ st.events ++ rest))
+      → IsPrefixOf st.events (events_of (s (exec linear 0)))
       → Stops linear rate s st st r e o
   stopped s st r e o le shown = record {
     cost = 0;
@@ -107,7 +106,7 @@ module _ (linear : LinearProgram) (rate : ℕ) where
   -- ---- a task's step
 
   pub counted_claim : (s : Part) (w : Ways) (st : State) (x slack out : ℕ) (k : State → Outcome)
-      → x ≤ out → ((rest : List Event) × (events_of (s (exec linear 0)) ≡ st.events ++ rest))
+      → x ≤ out → IsPrefixOf st.events (events_of (s (exec linear 0)))
       → ((n : ℕ) → suc n ≡ st.steps_left → Claim linear rate s (record st { steps_left = n })
       (price 16 (1 + x) slack out) w (k (record st { steps_left = n })))
       → Claim linear rate s st (price 0 x slack out) w (counted st k)
@@ -122,7 +121,8 @@ module _ (linear : LinearProgram) (rate : ℕ) where
 
   -- the same, seen from a state with less shown
   pub sooner : (s : Part) (st mid : State) (p : Price) (w : Ways) (o : Outcome)
-      → mid.steps_left ≡ st.steps_left → Prefix st.events mid.events → Claim linear rate s mid p w o
+      → mid.steps_left ≡ st.steps_left → IsPrefixOf st.events mid.events
+      → Claim linear rate s mid p w o
       → Claim linear rate s st p w o
   sooner s st mid p w o e g a = after linear rate s s st mid 0 0 0 p p w o
       (omega arith, omega arith, omega arith) (still s s st mid 0 0 0 e (omega arith) g (λ k. refl))
@@ -168,15 +168,15 @@ module _ (linear : LinearProgram) (rate : ℕ) where
       (deep_by (nat_lt 1000 (depth st + n)) s st p w go a)
 
   shown_by : (b : Bool) (es : List Event) (seen : Seen)
-      → ((rest : List Event) × (events_of seen ≡ es ++ rest))
-      → (rest : List Event) × (events_of (pick b (Finished (Deep 1001) es) seen) ≡ es ++ rest)
+      → IsPrefixOf es (events_of seen)
+      → IsPrefixOf es (events_of (pick b (Finished (Deep 1001) es) seen))
   unfolding pick
-  shown_by true es seen p = ([], sym (append-nil es))
+  shown_by true es seen p = prefix_self es
   shown_by false es seen p = p
 
   pub shown_deep : (n held : ℕ) (store : Store) (es : List Event) (seen : Seen)
-      → ((rest : List Event) × (events_of seen ≡ es ++ rest))
-      → (rest : List Event) × (events_of (deeper' n held store es seen) ≡ es ++ rest)
+      → IsPrefixOf es (events_of seen)
+      → IsPrefixOf es (events_of (deeper' n held store es seen))
   shown_deep n held store es seen p = shown_by (nat_lt 1000 (length store.activations + held + n))
       es seen p
 

@@ -4,6 +4,7 @@ use Rattle.std.specs.Prelude.{Some, None}
 use Rattle.seh_num.specs.declared.event.Event.{Event}
 use Rattle.source_meaning.specs.State.{Exception, State, Result, Value, Normal, Returned, Broke, Continued, LeftTry, Target, End, Outcome, Gives}
 use Rattle.source_meaning.specs.Tasks.{Context}
+use Rattle.source_meaning.specs.Laws.{IsPrefixOf}
 use Rattle.linear_code.specs.declared.program.Region.{Region}
 use Rattle.linear_code.specs.Program.{LinearProgram}
 use Rattle.linear_machine.specs.Frames.{BodyName, Frame, Handler, Item, Waits, Store, Configuration, Seen, Running, Finished, Next}
@@ -76,14 +77,14 @@ pub record Ways : Type 1 where
 abbrev pub Kept : Type 1
 Kept = State → Store → Type 0
 
--- only a value may come, or only a normal end, beside a target and an end
-abbrev pub value_ways : (ℕ → State → Store → Part) → Kept → Context → Site → Ways
-value_ways v kept context site = record {
+-- only a target and an end may come
+abbrev pub no_ways : Kept → Context → Site → Ways
+no_ways kept context site = record {
   context = context;
   site = site;
   held = site.held;
   kept = kept;
-  value = λ x. To (v x);
+  value = λ x. Never;
   normal = Never;
   returned = λ v. Never;
   broke = Never;
@@ -91,30 +92,19 @@ value_ways v kept context site = record {
   left = Never;
 }
 
+-- beside these only a value, or only a normal end
+abbrev pub value_ways : (ℕ → State → Store → Part) → Kept → Context → Site → Ways
+value_ways v kept context site = record (no_ways kept context site) { value = λ x. To (v x) }
+
 abbrev pub normal_ways : (State → Store → Part) → Kept → Context → Site → Ways
-normal_ways t kept context site = record {
-  context = context;
-  site = site;
-  held = site.held;
-  kept = kept;
-  value = λ x. Never;
-  normal = To t;
-  returned = λ v. Never;
-  broke = Never;
-  again = Never;
-  left = Never;
-}
+normal_ways t kept context site = record (no_ways kept context site) { normal = To t }
 
 abbrev pub first_ways : (State → Store → Part) → Ways → Ways
 first_ways t w = record w { value = λ x. Never; normal = To t }
 
--- a is a first part of b
-abbrev pub Prefix : List Event → List Event → Type 0
-Prefix a b = (rest : List Event) × (b ≡ a ++ rest)
-
 -- still running, with a first part of these events
 abbrev pub Before : Seen → List Event → Type 0
-Before seen es = (shown : List Event) × (seen ≡ Running shown) × Prefix shown es
+Before seen es = (shown : List Event) × (seen ≡ Running shown) × IsPrefixOf shown es
 
 -- turns beside 16 for each step; steps that are gone already; steps that need no turn where it
 -- arrives, and where it leaves
@@ -160,7 +150,7 @@ module _ (linear : LinearProgram) (rate : ℕ) where
     pub most : cost + 16 * st'.steps_left ≤ 16 * st.steps_left + turns
     pub least : st.steps_left + extra ≤ credit + st'.steps_left + slack
     pub low : st'.steps_left ≤ st.steps_left
-    pub grows : Prefix st.events st'.events
+    pub grows : IsPrefixOf st.events st'.events
     pub prior : (i : ℕ) → suc i ≡ cost → Before (s (exec linear i)) st'.events
     pub by : (k : ℕ) → (j : ℕ) × (j ≡ cost + k) × (s (exec linear j) ≡ t (exec linear k))
 
@@ -175,9 +165,9 @@ module _ (linear : LinearProgram) (rate : ℕ) where
     pub paid : credit ≡ rate * cost
     pub most : cost ≤ 16 * st.steps_left + turns
     pub least : st.steps_left + extra ≤ credit + out
-    pub grows : Prefix st.events st'.events
+    pub grows : IsPrefixOf st.events st'.events
     pub prior : (i : ℕ) → suc i ≡ cost → Before (s (exec linear i)) st'.events
-    pub shown : (rest : List Event) × (events_of (s (exec linear cost)) ≡ st'.events ++ rest)
+    pub shown : IsPrefixOf st'.events (events_of (s (exec linear cost)))
 
   -- an unwinding with the regions of this place left
   abbrev pub unwound : Context → Site → machine.Target → List ℕ → State → Store → ℕ → Part

@@ -5,7 +5,9 @@ use Rattle.seh_num.specs.declared.event.Event.TheVariants as events
 use Rattle.lowering_follows.specs.Words.{Program, Function, LinearProgram, LinearFunction, deeper, begin_finally, begin_filter, exec, raise, expression_weight, lvalue_weight, optional_weight, statement_weight, statements_weight, FunctionPlaced}
 use Rattle.linear_machine.proofs.Stretch.{at, conf}
 use Rattle.linear_machine.proofs.SingleTurns.{stopped, shown_deep}
-use Rattle.lowering_follows.proofs.TaskClaims.{Runs, shown_more, shown_none, shown_raise}
+use Rattle.source_meaning.proofs.Prefixes.{prefix_less}
+use Rattle.linear_machine.proofs.RunLengths.{from_none}
+use Rattle.lowering_follows.proofs.TaskClaims.{Runs, shown_raise}
 use Rattle.lowering_follows.proofs.TaskSteps.{eval_next, locate_next, raised_next, retry_next, filter_next}
 use Rattle.lowering_follows.proofs.BodyClaims.{BodyRuns}
 use Rattle.lowering_follows.proofs.BodyNext.{body_next}
@@ -36,21 +38,21 @@ module _ (program : Program) (linear : LinearProgram) (rate body : ℕ)
     run = λ s scope z shapes context site base pc st store steps light has inner standing kept
         held. stopped linear rate (at (conf context site pc [] st store)) st 0 0
         (statement_weight s)
-        (omega arith) (shown_none program linear rate body (conf context site pc [] st store));
+        (omega arith) (from_none linear zero (conf context site pc [] st store));
     for_run = λ c next s scope z shapes context site base pc st store steps light has inner standing
         kept held.
         stopped linear rate (at (conf context site pc [] st store)) st 0 0
         (1 + optional_weight c + statement_weight s + optional_weight next) (omega arith)
-        (shown_none program linear rate body (conf context site pc [] st store));
+        (from_none linear zero (conf context site pc [] st store));
     do_run = λ s c scope z shapes context site base pc st store steps light has inner standing kept
         held.
         stopped linear rate (at (conf context site pc [] st store)) st 0 0
         (1 + statement_weight s + expression_weight c) (omega arith)
-        (shown_none program linear rate body (conf context site pc [] st store));
+        (from_none linear zero (conf context site pc [] st store));
     try_run = λ ss scope z shapes context site base pc st store steps light has inner standing kept
         held. stopped linear rate (at (conf context site pc [] st store)) st 0 0
         (1 + statements_weight ss) (omega arith)
-        (shown_none program linear rate body (conf context site pc [] st store));
+        (from_none linear zero (conf context site pc [] st store));
     finally_run = λ k last flag held below names z shapes context site base pc temps st store steps
         light has isf standing kept same_held.
         let begins = begin_finally (k - 1) names.free flag held below
@@ -58,19 +60,19 @@ module _ (program : Program) (linear : LinearProgram) (rate body : ℕ)
         stopped linear rate (λ next. deeper 2 held store st.events (next begins)) st 0 0
         (1 + statements_weight last) (omega arith)
         (shown_deep linear rate 2 held store st.events (exec linear zero begins)
-        (shown_more program linear rate body st.events _ (events.Finally (k - 1 + 1) flag)
-        (shown_none program linear rate body begins)));
+        (prefix_less st.events _ (events.Finally (k - 1 + 1) flag)
+        (from_none linear zero begins)));
   }
 
   tasks_zero : Runs program linear rate body zero
   tasks_zero = record {
     eval = λ e names info z shapes context site base pc temps st store steps light fits has around
         kept held. stopped linear rate (at (conf context site pc temps st store)) st 0 0
-        (expression_weight e) (omega arith) (shown_none program linear rate body
+        (expression_weight e) (omega arith) (from_none linear zero
         (conf context site pc temps st store));
     locate = λ p names info z shapes context site base pc temps st store steps light fits has around
         kept held. stopped linear rate (at (conf context site pc temps st store)) st 0 0
-        (1 + lvalue_weight p) (omega arith) (shown_none program linear rate body
+        (1 + lvalue_weight p) (omega arith) (from_none linear zero
         (conf context site pc temps st store));
     raised = λ exc resumption names info z shapes context site base pc temps st store steps t around
         kept held.
@@ -81,15 +83,15 @@ module _ (program : Program) (linear : LinearProgram) (rate body : ℕ)
     retry = λ o x y to first second a b after names info z shapes context site base pc temps st
         store c steps has r alike around kept held. stopped linear rate
         (at (conf context site pc temps st store)) st 0 0 1 (omega arith)
-        (shown_none program linear rate body (conf context site pc temps st store));
+        (from_none linear zero (conf context site pc temps st store));
     filter = λ k j e h f rest exc resumption names info z shapes context site base pc temps st store
         steps t a fit around kept held.
         let begins = begin_filter j f rest exc resumption (conf context site pc temps st store) in
         stopped linear rate (λ next. deeper 2 site.held store st.events (next begins)) st 0 1
         (2 + expression_weight e) (omega arith)
         (shown_deep linear rate 2 site.held store st.events (exec linear zero begins)
-        (shown_more program linear rate body st.events _ (events.Filter (j + 1))
-        (shown_none program linear rate body begins)));
+        (prefix_less st.events _ (events.Filter (j + 1))
+        (from_none linear zero begins)));
     call = λ k fn lf vs names info z shapes context site base pc temps st store steps h there len t
         around kept held. call_runs program linear rate body zero bodies_zero k fn lf vs names info
         z

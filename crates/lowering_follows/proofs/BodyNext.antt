@@ -1,17 +1,19 @@
 -- What is claimed of statements holds one step deeper.
 use Rattle.std.proofs.Common.{◌≡◌, ◌≤◌, ℕ, zero, suc, ◌+◌, List, [], ◌∷◌, ◌++◌, length, refl, ap, sym, subst, ◌∙◌, arith}
-use Rattle.std.specs.Prelude.{◌-◌, Bool, Some, None}
+use Rattle.std.specs.Prelude.{◌-◌, Bool, None}
 use Rattle.seh_num.specs.declared.event.Event.TheVariants as events
-use Rattle.lowering_follows.specs.Words.{Statements, Program, State, Value, Normal, Returned, Broke, Continued, LeftTry, Target, End, Outcome, Gives, emit, hold, let_go, and_then, Context, Run, ForIteration, DoIteration, TryBody, RunFinally, of_test, no_exception, all, perform, within, LinearProgram, FuncletBody, Item, Store, Configuration, Finished, with_some, set_local, local_of, deeper, begin_finally, end_funclet, end_finally, exec, Names, finally_names, finally_scope, statement_size, statements_size, statements_notes, expression_weight, optional_weight, statement_weight, statements_weight, HasAt, HasFunclet, FinallyPlaced, for_end, do_end}
+use Rattle.lowering_follows.specs.Words.{Statements, Program, State, Normal, Target, Outcome, Gives, emit, hold, let_go, and_then, Context, Run, ForIteration, DoIteration, TryBody, RunFinally, of_test, no_exception, all, perform, within, LinearProgram, FuncletBody, Item, Store, Configuration, with_some, set_local, local_of, deeper, begin_finally, end_funclet, end_finally, exec, Names, finally_names, finally_scope, statement_size, statements_size, statements_notes, expression_weight, optional_weight, statement_weight, statements_weight, HasAt, HasFunclet, FinallyPlaced, for_end, do_end}
 use Rattle.linear_code.specs.declared.slot.Slot.TheVariants.{Local}
 use Rattle.linear_code.specs.declared.instruction.Instruction.TheVariants as instructions
 use Rattle.linear_code.specs.declared.program.FuncletKind.TheVariants as kinds
 use Rattle.linear_machine.proofs.Stretch.{Part, at, Site, conf, Ways, Kept, price, Targets, Claim, normal_ways}
-use Rattle.linear_machine.proofs.StretchJoins.{more, reaches_after, targets_more, finishes_more, stops_more}
-use Rattle.linear_machine.proofs.SingleTurns.{stepped, fetch, prefix_self, sooner, counted_claim, deep_claim, shown_deep}
+use Rattle.linear_machine.proofs.StretchJoins.{more, attains_out, reaches_after, targets_more}
+use Rattle.linear_machine.proofs.SingleTurns.{stepped, fetch, sooner, counted_claim, deep_claim, shown_deep}
+use Rattle.source_meaning.proofs.Prefixes.{prefix_self, prefix_less}
 use Rattle.lowering_follows.proofs.Stores.{Shape}
 use Rattle.lowering_follows.proofs.Places.{has_at}
-use Rattle.lowering_follows.proofs.TaskClaims.{Runs, shown_more, shown_none}
+use Rattle.linear_machine.proofs.RunLengths.{from_none}
+use Rattle.lowering_follows.proofs.TaskClaims.{Runs}
 use Rattle.lowering_follows.proofs.Raises.{targets_out, IsFunclet}
 use Rattle.lowering_follows.proofs.BodyClaims.{finally_site, statement_ways, Stays, Surroundings, BodyRuns}
 use Rattle.lowering_follows.proofs.BodySequences.{all_runs}
@@ -52,7 +54,6 @@ module _ (program : Program) (linear : LinearProgram) (rate body : ℕ) where
         (record (normal_ways (λ st store next. end_finally linear next below st.events store) kept
         context site) { held = held }) (and_then o (λ st. Gives Normal (let_go st)))
     unfolding and_then
-    final_end s st x (Gives (Value v) mid) a = absurd a
     final_end s st x (Gives Normal mid) a = record {
       store = a.store;
       fits = out' mid a.store a.fits;
@@ -66,14 +67,10 @@ module _ (program : Program) (linear : LinearProgram) (rate body : ℕ) where
           (stepped linear rate (conf (record context { abnormal = flag })
           (finally_site j below held) done [] mid a.store)
           (λ next. end_finally linear next below mid.events a.store) mid (let_go mid) 1 0 0 refl
-          (omega arith) (omega arith) refl (prefix_self linear rate mid.events)
+          (omega arith) (omega arith) refl (prefix_self mid.events)
           (λ i. block_ends j names below held (record context { abnormal = flag }) done mid a.store
           i f has));
     }
-    final_end s st x (Gives (Returned v) mid) a = absurd a
-    final_end s st x (Gives Broke mid) a = absurd a
-    final_end s st x (Gives Continued mid) a = absurd a
-    final_end s st x (Gives LeftTry mid) a = absurd a
     final_end s st x (Gives (Target level exc) mid) a =
         let moved : Targets linear rate s st (price 0 0 x x) kept
         (record context { abnormal = flag }) (finally_site j below held) level exc mid =
@@ -91,10 +88,9 @@ module _ (program : Program) (linear : LinearProgram) (rate body : ℕ) where
         (targets_out program linear rate body s st (price 0 0 x x) kept j
         (record context { abnormal = flag }) context (finally_site j below held) site pc temps
         level exc mid isf.named isf.bare isf.same_found isf.onward moved)
-    final_end s st x (Gives (End (Some e)) mid) a = finishes_more linear rate s st mid 0 1
-        (Finished e mid.events) (omega arith) a
-    final_end s st x (Gives (End None) mid) a = stops_more linear rate s st mid 0 0 x 1 0 x
-        (omega arith) (omega arith) a
+    final_end s st x (Gives r mid) a = attains_out linear rate s st mid (price 0 0 x x)
+        (price 1 0 x x) (record (normal_ways (λ st store next. end_finally linear next below
+        st.events store) kept context site) { held = held }) r (omega arith) (omega arith) a
 
   module _ (roomy : 4 ≤ rate) (n : ℕ) (ih : Runs program linear rate body n)
       (bih : BodyRuns program linear rate body n) where
@@ -154,8 +150,8 @@ module _ (program : Program) (linear : LinearProgram) (rate body : ℕ) where
         (λ st. perform program (within program n) (RunFinally k last flag) context st)
         (omega arith)
         (shown_deep linear rate 2 held store st.events (exec linear zero begins)
-        (shown_more program linear rate body st.events _ (events.Finally (j + 1) flag)
-        (shown_none program linear rate body begins)))
+        (prefix_less st.events _ (events.Finally (j + 1) flag)
+        (from_none linear zero begins)))
         (λ m less.
         let low : State = record st { steps_left = m } in
         let asked : State = emit (events.Finally k flag) (hold low) in
@@ -193,7 +189,7 @@ module _ (program : Program) (linear : LinearProgram) (rate body : ℕ) where
           (Stays program linear rate body scope.names shapes context base)
           (pc + statement_size s)) st 0 (statement_weight s) (statement_weight s)
           (λ st. perform program (within program n) (Run s) context st) (omega arith)
-          (shown_none program linear rate body (conf context site pc [] st store))
+          (from_none linear zero (conf context site pc [] st store))
           (λ m less. statement_runs program linear rate body roomy n ih bih scope z shapes context
           site base s pc (record st { steps_left = m }) store (omega arith) light has inner
           standing kept held);
@@ -205,7 +201,7 @@ module _ (program : Program) (linear : LinearProgram) (rate body : ℕ) where
           (Stays program linear rate body scope.names shapes context base) (for_end c next s pc))
           st 0 wi wi
           (λ st. perform program (within program n) (ForIteration c next s) context st)
-          (omega arith) (shown_none program linear rate body (conf context site pc [] st store))
+          (omega arith) (from_none linear zero (conf context site pc [] st store))
           (λ m less. for_runs program linear rate body roomy n ih bih scope z shapes context site
           base c next s pc (record st { steps_left = m }) store (omega arith) light has inner
           standing kept held);
@@ -217,7 +213,7 @@ module _ (program : Program) (linear : LinearProgram) (rate body : ℕ) where
           (Stays program linear rate body scope.names shapes context base) (do_end s c pc)) st 0
           wi wi
           (λ st. perform program (within program n) (DoIteration s c) context st) (omega arith)
-          (shown_none program linear rate body (conf context site pc [] st store))
+          (from_none linear zero (conf context site pc [] st store))
           (λ m less. do_runs program linear rate body roomy n ih bih scope z shapes context site
           base s c pc (record st { steps_left = m }) store (omega arith) light has inner standing
           kept held);
@@ -229,7 +225,7 @@ module _ (program : Program) (linear : LinearProgram) (rate body : ℕ) where
           (pc + statements_size ss) in
           counted_claim linear rate (at (conf context site pc [] st store)) w st 0 (1 + x) (1 + x)
           (λ st. perform program (within program n) (TryBody ss) context st) (omega arith)
-          (shown_none program linear rate body (conf context site pc [] st store))
+          (from_none linear zero (conf context site pc [] st store))
           (λ m less.
           let low : State = record st { steps_left = m } in
           more linear rate (at (conf context site pc [] low store)) low (price 0 0 x x)

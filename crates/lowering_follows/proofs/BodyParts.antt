@@ -3,15 +3,16 @@ use Rattle.std.proofs.Common.{◌≡◌, ◌<◌, ◌≤◌, ℕ, zero, suc, ◌
 use Rattle.std.specs.Prelude.{set, Option, Some, None}
 use Rattle.c_operations.specs.declared.operation.Operation.TheVariants as operations
 use Rattle.c_operations.specs.declared.operation.Pure.TheVariants as pures
-use Rattle.lowering_follows.specs.Words.{Expression, Program, State, Value, Normal, Returned, Broke, Continued, LeftTry, Target, End, Outcome, Gives, Context, optional, in_loop, within, Temporary, Compute, Separator, LinearProgram, Store, Finished, with_some, set_local, end_body, exec, LoweringContext, Nowhere, Jumps, Unwinds, expression_size, discarded_size, declared_size, copy, expression_code, jump_code, return_code, leave_code, discarded_code, expression_weight, optional_weight, HasAt, IsWay, IsPlace, OptionalFits, DeclaredPlaced}
+use Rattle.lowering_follows.specs.Words.{Expression, Program, State, Value, Normal, Broke, Continued, Outcome, Gives, Context, optional, in_loop, within, Temporary, Compute, Separator, LinearProgram, Store, with_some, set_local, end_body, exec, LoweringContext, Nowhere, Jumps, Unwinds, expression_size, discarded_size, declared_size, copy, expression_code, jump_code, return_code, leave_code, discarded_code, expression_weight, optional_weight, HasAt, IsWay, IsPlace, OptionalFits, DeclaredPlaced}
 use Rattle.source_meaning.specs.State as model
 use Rattle.source_meaning.specs.Statements.{declare}
 use Rattle.linear_code.specs.declared.slot.Slot.TheVariants.{Local}
 use Rattle.linear_code.specs.declared.instruction.Instruction.TheVariants as instructions
 use Rattle.linear_code.specs.declared.instruction.Instruction.TheVariants.{LocalUnwind}
 use Rattle.linear_machine.proofs.Stretch.{Part, at, Site, conf, Ways, Price, price, Join, Arrives, Claim, first_ways, joins}
-use Rattle.linear_machine.proofs.StretchJoins.{Passes, Joined, more, after, arrives_more, targets_more, finishes_more, stops_more}
-use Rattle.linear_machine.proofs.SingleTurns.{first, stepped, still, fetch, prefix_self}
+use Rattle.linear_machine.proofs.StretchJoins.{Passes, Joined, more, attains_more, after, arrives_more}
+use Rattle.linear_machine.proofs.SingleTurns.{first, stepped, still, fetch}
+use Rattle.source_meaning.proofs.Prefixes.{prefix_self}
 use Rattle.lowering_expressions.specs.declared.scope.Way as jumps
 use Rattle.lowering_expressions.specs.Scope as scopes
 use Rattle.lowering_follows.proofs.Stores.{Shape, at_list, below_slot, local_set_alike, kept_set, kept_through}
@@ -46,22 +47,8 @@ module _ (program : Program) (linear : LinearProgram) (rate body : ℕ) where
   normal_then s t w st p q r (Gives Normal mid) j l a b = after linear rate s (t mid a.store) st mid
       p.turns p.extra p.slack q r w (Gives Normal mid) (j.turns, j.slack, j.second_out) a.reaches
       (b mid a.store a.reaches.low a.fits a.same)
-  normal_then s t w st p q r (Gives (Returned x) mid) j l a b = let lr = j.turns in
-      arrives_more linear rate s st mid p r w.kept w.held (w.returned x) (omega arith) l a
-  normal_then s t w st p q r (Gives Broke mid) j l a b = let lr = j.turns in
-      arrives_more linear rate s st mid p r w.kept w.held w.broke (omega arith) l a
-  normal_then s t w st p q r (Gives Continued mid) j l a b = let lr = j.turns in
-      arrives_more linear rate s st mid p r w.kept w.held w.again (omega arith) l a
-  normal_then s t w st p q r (Gives LeftTry mid) j l a b = let lr = j.turns in
-      arrives_more linear rate s st mid p r w.kept w.held w.left (omega arith) l a
-  normal_then s t w st p q r (Gives (Target level exc) mid) j l a b = let lr = j.turns in
-      targets_more linear rate s st mid p r w.kept w.context w.site level exc (omega arith)
-      j.first_out a
-  normal_then s t w st p q r (Gives (End (Some e)) mid) j l a b = let lr = j.turns in
-      finishes_more linear rate s st mid p.turns r.turns (Finished e mid.events) (omega arith) a
-  normal_then s t w st p q r (Gives (End None) mid) j l a b = let lr = j.turns in
-      stops_more linear rate s st mid p.turns p.extra p.out r.turns r.extra r.out (omega arith)
-      j.first_out a
+  normal_then s t w st p q r (Gives x mid) j l a b = let lr = j.turns in
+      attains_more linear rate s st mid p r (first_ways t w) x (omega arith, l, j.first_out) a
 
   module _ (roomy : 4 ≤ rate) (n : ℕ) (ih : Runs program linear rate body n)
       (bih : BodyRuns program linear rate body n) where
@@ -98,7 +85,7 @@ module _ (program : Program) (linear : LinearProgram) (rate body : ℕ) where
       continue_from pc pc' temps temps' st store store' q r done out j h g =
           first linear rate (conf context site pc temps st store)
           (at (conf context site pc' temps' st store')) st st q r (S done) out j refl refl
-          (prefix_self linear rate st.events) h g
+          (prefix_self st.events) h g
 
       pub separator_turn : (pc : ℕ) (temps : List ℕ) (st : State) (store : Store) (k : ℕ)
           → HasAt linear site.body site.regions pc (Separator ∷ [])
@@ -119,7 +106,7 @@ module _ (program : Program) (linear : LinearProgram) (rate body : ℕ) where
             same = held;
             reaches = still linear rate (at (conf context site pc [] st store))
                 (at (conf context site pc [] st store)) st st p.turns p.extra p.slack refl le
-                (prefix_self linear rate st.events) (λ k. refl);
+                (prefix_self st.events) (λ k. refl);
           })
 
       -- an expression whose value isn't used, if there is one
@@ -179,7 +166,7 @@ module _ (program : Program) (linear : LinearProgram) (rate body : ℕ) where
           same = held;
           reaches = stepped linear rate (conf context site pc (v ∷ []) st store)
               (λ next. end_body linear next site.body v (conf context site pc (v ∷ []) st store)) st
-              st p.turns p.extra p.slack refl lr le refl (prefix_self linear rate st.events)
+              st p.turns p.extra p.slack refl lr le refl (prefix_self st.events)
               (λ k. fetch linear rate (conf context site pc (v ∷ []) st store)
               (instructions.Return (Temporary 0)) k has.0);
         },
@@ -191,7 +178,7 @@ module _ (program : Program) (linear : LinearProgram) (rate body : ℕ) where
           fits = kept;
           same = held;
           reaches = stepped linear rate (conf context site pc (v ∷ []) st store) _ st st p.turns
-              p.extra p.slack refl lr le refl (prefix_self linear rate st.events)
+              p.extra p.slack refl lr le refl (prefix_self st.events)
               (λ k. fetch linear rate (conf context site pc (v ∷ []) st store) (LocalUnwind label) k
               has.0 ∙ unwound_is program linear rate body (own_target site label) context site pc
               (v ∷ []) st store (exec linear k) has.1);
@@ -211,7 +198,7 @@ module _ (program : Program) (linear : LinearProgram) (rate body : ℕ) where
         same = held;
         reaches = stepped linear rate (conf context site pc [] st store)
             (at (conf context site label [] st store)) st st p.turns p.extra p.slack refl lr le refl
-            (prefix_self linear rate st.events)
+            (prefix_self st.events)
             (λ k. jump_turn linear rate context site label pc [] st store k (has.0, has.1, tt));
       }
       breaks_by (Unwinds label) pc st store p lr le is has kept held = (
@@ -221,7 +208,7 @@ module _ (program : Program) (linear : LinearProgram) (rate body : ℕ) where
           fits = kept;
           same = held;
           reaches = stepped linear rate (conf context site pc [] st store) _ st st p.turns p.extra
-              p.slack refl lr le refl (prefix_self linear rate st.events)
+              p.slack refl lr le refl (prefix_self st.events)
               (λ k. fetch linear rate (conf context site pc [] st store) (LocalUnwind label) k has.0
               ∙ unwound_is program linear rate body (own_target site label) context site pc [] st
               store (exec linear k) has.1);
@@ -241,7 +228,7 @@ module _ (program : Program) (linear : LinearProgram) (rate body : ℕ) where
         same = held;
         reaches = stepped linear rate (conf context site pc [] st store)
             (at (conf context site label [] st store)) st st p.turns p.extra p.slack refl lr le refl
-            (prefix_self linear rate st.events)
+            (prefix_self st.events)
             (λ k. jump_turn linear rate context site label pc [] st store k has);
       }
 
@@ -267,21 +254,9 @@ module _ (program : Program) (linear : LinearProgram) (rate body : ℕ) where
       loop_ends s end again st p q r (Gives Broke mid) go j l b a = let w = S end in
           let lr = j.turns in arrives_more linear rate s st mid p r Ks site.held w.normal
           (omega arith) l a
-      loop_ends s end again st p q r (Gives (Returned x) mid) go j l b a = let w = S end in
-          let lr = j.turns in arrives_more linear rate s st mid p r Ks site.held (w.returned x)
-          (omega arith) l a
-      loop_ends s end again st p q r (Gives LeftTry mid) go j l b a = let w = S end in
-          let lr = j.turns in arrives_more linear rate s st mid p r Ks site.held w.left
-          (omega arith)
-          l a
-      loop_ends s end again st p q r (Gives (Target level exc) mid) go j l b a = let lr = j.turns in
-          targets_more linear rate s st mid p r Ks context site level exc (omega arith) j.first_out
-          a
-      loop_ends s end again st p q r (Gives (End (Some e)) mid) go j l b a = let lr = j.turns in
-          finishes_more linear rate s st mid p.turns r.turns (Finished e mid.events) (omega arith) a
-      loop_ends s end again st p q r (Gives (End None) mid) go j l b a = let lr = j.turns in
-          stops_more linear rate s st mid p.turns p.extra p.out r.turns r.extra r.out (omega arith)
-          j.first_out a
+      loop_ends s end again st p q r (Gives x mid) go j l b a = let lr = j.turns in
+          attains_more linear rate s st mid p r (statement_ways program linear rate body
+          (scopes.in_loop end again scope) context site Ks again) x (omega arith, l, j.first_out) a
 
       -- ---- declarations
 
@@ -331,7 +306,7 @@ module _ (program : Program) (linear : LinearProgram) (rate body : ℕ) where
             same = held;
             reaches = stepped linear rate (conf context site pc [] st store)
                 (at (conf context site (pc + 1) [] cleared store')) st cleared 16 1 1 refl
-                (omega arith) (omega arith) refl (prefix_self linear rate st.events)
+                (omega arith) (omega arith) refl (prefix_self st.events)
                 (λ k. clear_turn x pc [] st store k (has.2.0, has.2.1, tt));
           })
       declared_runs x (Some e) notes pc st store steps light has standing kept held =
@@ -352,7 +327,7 @@ module _ (program : Program) (linear : LinearProgram) (rate body : ℕ) where
           first linear rate (conf context site pc [] st store)
           (at (conf context site pc1 [] cleared store')) st cleared (price 15 0 (1 + w) (1 + w))
           (price 16 1 (1 + w) (1 + w)) (S done) o (omega arith, omega arith, omega arith) refl
-          refl (prefix_self linear rate st.events)
+          refl (prefix_self st.events)
           (λ k. clear_turn x pc [] st store k (has.2.0, has.2.1, tt))
           (statement_eval program linear rate body n ih e scope.names z shapes context site base
           notes pc1 cleared store' (price 2 0 0 0) (price 15 0 (1 + w) (1 + w)) (S done) f steps
@@ -367,7 +342,7 @@ module _ (program : Program) (linear : LinearProgram) (rate body : ℕ) where
           first linear rate (conf context site pc2 (v ∷ []) mid after)
           (at (conf context site (pc2 + 1) (v ∷ []) put after')) mid put (price 1 0 0 0)
           (price 2 0 0 0) (S done) (Gives Normal put) (omega arith, omega arith, omega arith) refl
-          refl (prefix_self linear rate mid.events)
+          refl (prefix_self mid.events)
           (λ k. put_local_turn linear rate context site x 0 v pc2 (v ∷ []) mid after k
           (last.0, last.1, tt) refl)
           (continue_from (pc2 + 1) (pc2 + 1 + 1) (v ∷ []) [] put after' after' (price 0 0 0 0)

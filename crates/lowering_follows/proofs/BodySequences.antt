@@ -4,7 +4,8 @@ use Rattle.std.specs.Prelude.{max}
 use Rattle.lowering_follows.specs.Words.{Statements, Empty, Then, Program, State, Normal, Outcome, Gives, and_then, Context, Run, all, within, LinearProgram, Store, LoweringContext, statement_size, statements_size, statements_notes, statement_notes, statement_weight, statements_weight, AllPlaced}
 use Rattle.linear_machine.proofs.Stretch.{at, Site, conf, Ways, Price, price, Claim, joins}
 use Rattle.linear_machine.proofs.StretchJoins.{then_normal}
-use Rattle.linear_machine.proofs.SingleTurns.{still, prefix_self}
+use Rattle.linear_machine.proofs.SingleTurns.{still}
+use Rattle.source_meaning.proofs.Prefixes.{prefix_self}
 use Rattle.lowering_follows.proofs.Stores.{Shape}
 use Rattle.lowering_follows.proofs.BodyClaims.{Inner, inner_part, statement_ways, Stays, Surroundings, surroundings_less, BodyRuns}
 
@@ -46,7 +47,7 @@ module _ (program : Program) (linear : LinearProgram) (rate body : ℕ) (n : ℕ
           same = held;
           reaches = still linear rate (at (conf context site pc [] st store))
               (at (conf context site pc [] st store)) st st 0 0 0 refl (omega arith)
-              (prefix_self linear rate st.events) (λ k. refl);
+              (prefix_self st.events) (λ k. refl);
         })
     all_runs (Then s ss) pc st store steps light has inner standing kept held =
         let a = statement_weight s in

@@ -23,7 +23,8 @@ use Rattle.linear_machine.specs.Frames.{AfterCall, last_temporaries}
 use Rattle.linear_machine.specs.Instructions.{waiting, built_in}
 use Rattle.linear_machine.proofs.Stretch.{frame_of}
 use Rattle.linear_machine.proofs.StretchJoins.{then_plain}
-use Rattle.linear_machine.proofs.SingleTurns.{fetch, first, stepped, prefix_self}
+use Rattle.linear_machine.proofs.SingleTurns.{fetch, first, stepped}
+use Rattle.source_meaning.proofs.Prefixes.{prefix_self}
 use Rattle.lowering_follows.specs.Weights.{arguments_weight}
 use Rattle.lowering_follows.proofs.Stores.{memory_alike}
 
@@ -153,7 +154,7 @@ module _ (program : Program) (linear : LinearProgram) (rate body : ℕ)
         (Wv program linear rate body same_globals roomy n ih names info z shapes context site base
         around (pushed context site (pc + 1) temps))
         (enter (within program n) (Some fn) vs context st) (omega arith, omega arith, omega arith)
-        refl refl (prefix_self linear rate st.events)
+        refl refl (prefix_self st.events)
         (λ k. call_turn f count pc temps vs lf.0 st store k has len lf.1)
         (ih.call f fn lf.0 vs names info z shapes context site base pc temps st store steps there
         lf.1 (len ∙ same) has.1 around kept held)
@@ -227,7 +228,7 @@ module _ (program : Program) (linear : LinearProgram) (rate body : ℕ)
           same = held;
           reaches = stepped linear rate (conf context site pc (temps ++ vs) st store)
               (pushed context site (pc + 1) temps v st' store') st st' 13 x o refl (omega arith)
-              (omega arith) refl (prefix_self linear rate st.events)
+              (omega arith) refl (prefix_self st.events)
               (λ k. built_in_turn Protect pc temps vs st store k has len
               ∙ ap (λ q. pushed context site (pc + 1) temps v st
               (record store { memory = protected q a mode }) (exec linear k))
@@ -243,7 +244,7 @@ module _ (program : Program) (linear : LinearProgram) (rate body : ℕ)
         first linear rate (conf context site pc (temps ++ vs) st store) part st st
         (price 0 0 1 rate) (price 13 x o o) w
         (and_then (within program n (Raise exc) context st) last)
-        (omega arith, omega arith, omega arith) refl refl (prefix_self linear rate st.events)
+        (omega arith, omega arith, omega arith) refl refl (prefix_self st.events)
         (λ k. built_in_turn RaiseException pc temps vs st store k has len)
         (then_plain linear rate part (λ st store. pushed context site (pc + 1) temps 0 st store) w
         st (price 0 0 1 rate) (price 0 0 0 0) (price 0 0 1 rate)

@@ -10,8 +10,9 @@ use Rattle.linear_machine.specs.Frames.{Unwinds}
 use Rattle.linear_machine.specs.Frames as machine
 use Rattle.linear_machine.specs.Unwinding.{flag_in, flag_of, run_finally}
 use Rattle.linear_machine.proofs.Stretch.{Part, at, Site, frame_of, conf, Way, Never, To, Out, Ways, Kept, Price, price, Join, found, Reaches, unwound, Arrives, Claim, normal_ways, joins}
-use Rattle.linear_machine.proofs.StretchJoins.{more, after, reaches_after, targets_more, finishes_more, stops_more, then_held}
-use Rattle.linear_machine.proofs.SingleTurns.{onto, still, stepped, first, fetch, prefix_self}
+use Rattle.linear_machine.proofs.StretchJoins.{more, attains_out, after, reaches_after, finishes_more, stops_more, then_held}
+use Rattle.linear_machine.proofs.SingleTurns.{onto, still, stepped, first, fetch}
+use Rattle.source_meaning.proofs.Prefixes.{prefix_self}
 use Rattle.linear_machine.proofs.Walks.{Outward, starts}
 use Rattle.lowering_expressions.specs.declared.scope.Way.TheVariants.{Unwinds as UnwindsTo}
 use Rattle.lowering_expressions.specs.declared.scope.Way as jumps
@@ -30,22 +31,11 @@ module _ (program : Program) (linear : LinearProgram) (rate body : ℕ) where
       → ((mid : State) (store : Store) → mid.steps_left ≤ st.steps_left → w.kept mid store
       → mid.held ≡ w.held → Claim linear rate (t mid store) mid q w (Gives Normal mid))
       → Claim linear rate s st r w o
-  plain_then s t w st p q r (Gives (Value x) mid) j a b = absurd a
   plain_then s t w st p q r (Gives Normal mid) j a b = after linear rate s (t mid a.store) st mid
       p.turns p.extra p.slack q r w (Gives Normal mid) (j.turns, j.slack, j.second_out) a.reaches
       (b mid a.store a.reaches.low a.fits a.same)
-  plain_then s t w st p q r (Gives (Returned x) mid) j a b = absurd a
-  plain_then s t w st p q r (Gives Broke mid) j a b = absurd a
-  plain_then s t w st p q r (Gives Continued mid) j a b = absurd a
-  plain_then s t w st p q r (Gives LeftTry mid) j a b = absurd a
-  plain_then s t w st p q r (Gives (Target level exc) mid) j a b = let lr = j.turns in
-      targets_more linear rate s st mid p r w.kept w.context w.site level exc (omega arith)
-      j.first_out a
-  plain_then s t w st p q r (Gives (End (Some e)) mid) j a b = let lr = j.turns in
-      finishes_more linear rate s st mid p.turns r.turns (Finished e mid.events) (omega arith) a
-  plain_then s t w st p q r (Gives (End None) mid) j a b = let lr = j.turns in
-      stops_more linear rate s st mid p.turns p.extra p.out r.turns r.extra r.out (omega arith)
-      j.first_out a
+  plain_then s t w st p q r (Gives x mid) j a b = let lr = j.turns in
+      attains_out linear rate s st mid p r w x (omega arith) j.first_out a
 
   -- the block begins
   run_is : (k : ℕ) (names : Names) (flag : Bool) (held : ℕ) (below : List Item) (next : Next)
@@ -156,7 +146,7 @@ module _ (program : Program) (linear : LinearProgram) (rate body : ℕ) where
         } in
         first linear rate (conf context site pc [] st store) s' st st (price 1 0 y y)
         (price 2 0 y y) w (within program n (RunFinally k last false) context st)
-        (omega arith, omega arith, omega arith) refl refl (prefix_self linear rate st.events)
+        (omega arith, omega arith, omega arith) refl refl (prefix_self st.events)
         (λ j. fetch linear rate (conf context site pc [] st store) (CallFinally (k - 1)) j has.0
         ∙ run_is k scope.names false site.held below (exec linear j)
         (conf context site pc [] st store) placed.funclet)
@@ -172,7 +162,7 @@ module _ (program : Program) (linear : LinearProgram) (rate body : ℕ) where
           same = held';
           reaches = stepped linear rate (conf context site (pc + 1) [] mid store')
               (at (conf context site (end + 1 + 1 + 1) [] mid store')) mid mid 1 0 0 refl
-              (omega arith) (omega arith) refl (prefix_self linear rate mid.events)
+              (omega arith) (omega arith) refl (prefix_self mid.events)
               (λ j. fetch linear rate (conf context site (pc + 1) [] mid store') Separator j
               has.2.0);
         }))
@@ -190,7 +180,7 @@ module _ (program : Program) (linear : LinearProgram) (rate body : ℕ) where
         (at (conf context site (end + 1) [] st store)) st st (price 2 0 y y) (price 3 0 y y)
         (statement_ways program linear rate body scope context site Kf (end + 1 + 1 + 1))
         (within program n (RunFinally k last false) context st)
-        (omega arith, omega arith, omega arith) refl refl (prefix_self linear rate st.events)
+        (omega arith, omega arith, omega arith) refl refl (prefix_self st.events)
         (λ j. fetch linear rate (conf context site end [] st store) Separator j parted.0)
         (called st store steps has kept held)
 
@@ -233,7 +223,7 @@ module _ (program : Program) (linear : LinearProgram) (rate body : ℕ) where
                 (omega arith) (omega arith)
                 (still linear rate (unwound linear rate context site to (v ∷ []) mid store' p.0)
                 (at (conf context site label (v ∷ []) mid store')) mid mid 0 0 0 refl
-                (omega arith) (prefix_self linear rate mid.events)
+                (omega arith) (prefix_self mid.events)
                 (λ j. comes_there linear (exec linear j) to
                 (λ store. unwind linear (exec linear j) (target_past site.body to) site.below None
                 mid.events store) site.regions (conf context site p.0 (v ∷ []) mid store') refl
@@ -241,7 +231,7 @@ module _ (program : Program) (linear : LinearProgram) (rate body : ℕ) where
                 (stepped linear rate (conf context site label (v ∷ []) mid store')
                 (λ next. end_body linear next site.body v
                 (conf context site label (v ∷ []) mid store')) mid mid 1 0 0 refl (omega arith)
-                (omega arith) refl (prefix_self linear rate mid.events)
+                (omega arith) refl (prefix_self mid.events)
                 (λ j. returns label v mid store' j f.2));
           },
         ))
@@ -260,7 +250,7 @@ module _ (program : Program) (linear : LinearProgram) (rate body : ℕ) where
             reaches = still linear rate (unwound linear rate context site to (v ∷ []) mid store'
                 p.0) (unwound linear rate context site to (v ∷ []) mid store' p.0) mid mid 1 0 0
                 refl
-                (omega arith) (prefix_self linear rate mid.events) (λ j. refl);
+                (omega arith) (prefix_self mid.events) (λ j. refl);
           },
         ))
 
@@ -289,7 +279,7 @@ module _ (program : Program) (linear : LinearProgram) (rate body : ℕ) where
           same = held;
           reaches = still linear rate (unwound linear rate context site to [] mid store' p.0)
               (at (conf context site label [] mid store')) mid mid 1 0 0 refl (omega arith)
-              (prefix_self linear rate mid.events)
+              (prefix_self mid.events)
               (λ j. comes_there linear (exec linear j) to
               (λ store. unwind linear (exec linear j) (target_past site.body to) site.below None
               mid.events store) site.regions (conf context site p.0 [] mid store') refl f.1);
@@ -298,7 +288,8 @@ module _ (program : Program) (linear : LinearProgram) (rate body : ℕ) where
         let to = own_target site label in
         unwinds_on s from x p.0 [] to how st p.1.store w steps p.1.same p.1.fits
         (inr (inl (omega arith))) p.1.reaches
-        (λ mid store' low kept held. go (unwound linear rate context site to [] mid store' p.0) mid (
+        (λ mid store' low kept held. go (unwound linear rate context site to [] mid store' p.0)
+        mid (
           p.0,
           record {
             store = store';
@@ -307,7 +298,7 @@ module _ (program : Program) (linear : LinearProgram) (rate body : ℕ) where
             reaches = still linear rate (unwound linear rate context site to [] mid store' p.0)
                 (unwound linear rate context site to [] mid store' p.0) mid mid 1 0 0 refl
                 (omega arith)
-                (prefix_self linear rate mid.events) (λ j. refl);
+                (prefix_self mid.events) (λ j. refl);
           },
         ))
 
@@ -391,7 +382,7 @@ module _ (program : Program) (linear : LinearProgram) (rate body : ℕ) where
           fits = kept;
           reaches = still linear rate (unwound linear rate context site to p.temps mid store' p.pc)
               (unwound linear rate context site (target_of p.handler exc.code mid.held) p.temps mid
-              store' p.pc) mid mid 1 0 0 refl (omega arith) (prefix_self linear rate mid.events)
+              store' p.pc) mid mid 1 0 0 refl (omega arith) (prefix_self mid.events)
               (λ j. ap (λ h. unwound linear rate context site (target_of p.handler exc.code h)
               p.temps mid store' p.pc (exec linear j)) (sym held));
         }))

@@ -3,12 +3,13 @@ use Rattle.std.proofs.Common.{◌≡◌, ◌<◌, ◌≤◌, ℕ, zero, suc, ◌
 use Rattle.std.proofs.lemmas.List.{length-replicate}
 use Rattle.std.proofs.lemmas.Option.{slice_get_within}
 use Rattle.std.specs.Prelude.{◌-◌, Bool, false, take, replicate, get_or, slice_get, Option, Some, None}
-use Rattle.lowering_follows.specs.Words.{Filter, Always, Funclet, Program, Function, State, Value, Normal, Returned, Broke, Continued, LeftTry, Target, End, Outcome, Gives, Context, Handler, no_exception, all, ended_call, enter, within, Temporary, LinearProgram, LinearFunction, FunctionBody, Item, Waits, Store, Finished, with_some, deeper, regions_at, handlers_in, handlers, target_past, unwind, target_of, begin_function, exec, Names, LoweringContext, Nowhere, Jumps, statements_size, statements_notes, constant, own_locals, scope_of, statements_weight, HasAt, FunctionPlaced}
+use Rattle.lowering_follows.specs.Words.{Filter, Always, Funclet, Program, Function, State, Value, Normal, Returned, Target, Outcome, Gives, Context, Handler, no_exception, all, ended_call, enter, within, Temporary, LinearProgram, LinearFunction, FunctionBody, Item, Waits, Store, with_some, deeper, regions_at, handlers_in, handlers, target_past, unwind, target_of, begin_function, exec, Names, LoweringContext, Nowhere, Jumps, statements_size, statements_notes, constant, own_locals, scope_of, statements_weight, HasAt, FunctionPlaced}
 use Rattle.linear_code.specs.declared.instruction.Instruction.TheVariants as instructions
 use Rattle.linear_machine.specs.Frames as machine
 use Rattle.linear_machine.proofs.Stretch.{Part, at, Site, frame_of, conf, Picked, Ways, Kept, price, found, Reaches, Claim, value_ways}
-use Rattle.linear_machine.proofs.StretchJoins.{more, reaches_after, reaches_more, finishes_more, stops_more}
-use Rattle.linear_machine.proofs.SingleTurns.{stepped, fetch, prefix_self, sooner, deep_claim}
+use Rattle.linear_machine.proofs.StretchJoins.{more, attains_out, reaches_after, reaches_more}
+use Rattle.linear_machine.proofs.SingleTurns.{stepped, fetch, sooner, deep_claim}
+use Rattle.source_meaning.proofs.Prefixes.{prefix_self}
 use Rattle.linear_machine.proofs.Walks.{handlers_below, leaves}
 use Rattle.lowering_follows.proofs.Stores.{at_push_old, Shape, FrameAlike, Places, NotesKept, everywhere, below_slot, kept_itself, kept_through, get_push_new, get_pushed, push_alike, take_alike, call_kept}
 use Rattle.lowering_follows.proofs.Places.{has_at}
@@ -213,12 +214,12 @@ module _ (program : Program) (linear : LinearProgram) (rate body : ℕ) where
               (pushed context site (pc + 1) temps 0 (ended mid) (left a.store)) mid mid
               (ended mid) 1 0 0 1 0 0 2 0 0 (omega arith) (omega arith)
               (stepped linear rate c0 (at c1) mid mid 1 0 0 refl (omega arith) (omega arith) refl
-              (prefix_self linear rate mid.events)
+              (prefix_self mid.events)
               (λ j. constant_turn linear rate callee csite 0 0 (0 ∷ []) done [] mid a.store j
               (omega arith) (has.0, has.1, tt) refl))
               (stepped linear rate c1 (pushed context site (pc + 1) temps 0 (ended mid)
               (left a.store)) mid (ended mid) 1 0 0 refl (omega arith) (omega arith) refl
-              (prefix_self linear rate mid.events)
+              (prefix_self mid.events)
               (λ j. last_turn 0 (done + 1) mid a.store j has.2)));
         }
     function_ends s st x done (Gives (Returned v) mid) e has l1 l2 l3 label l4 a = record {
@@ -231,9 +232,6 @@ module _ (program : Program) (linear : LinearProgram) (rate body : ℕ) where
           mid
           0 0 x a.1.reaches);
     }
-    function_ends s st x done (Gives Broke mid) e has l1 l2 l3 label l4 a = absurd a
-    function_ends s st x done (Gives Continued mid) e has l1 l2 l3 label l4 a = absurd a
-    function_ends s st x done (Gives LeftTry mid) e has l1 l2 l3 label l4 a = absurd a
     function_ends s st x done (Gives (Target level exc) mid) e has l1 l2 l3 label l4 q =
         let to = target_of q.handler exc.code mid.held in
         let past = target_past (FunctionBody k) to in
@@ -274,10 +272,10 @@ module _ (program : Program) (linear : LinearProgram) (rate body : ℕ) where
                 );
               };
         }
-    function_ends s st x done (Gives (End (Some c)) mid) e has l1 l2 l3 label l4 a = finishes_more
-        linear rate s st mid 0 2 (Finished c mid.events) (omega arith) a
-    function_ends s st x done (Gives (End None) mid) e has l1 l2 l3 label l4 a = stops_more linear
-        rate s st mid 0 0 x 2 0 x (omega arith) (omega arith) a
+    function_ends s st x done (Gives r mid) e has l1 l2 l3 label l4 a =
+        attains_out linear rate s st mid (price 0 0 x x) (price 2 0 x x)
+        (value_ways (pushed context site (pc + 1) temps)
+        (Within program linear rate body shapes base) context site) r (omega arith) (omega arith) a
 
   -- ---- a call
 
@@ -388,7 +386,7 @@ module _ (program : Program) (linear : LinearProgram) (rate body : ℕ) where
       (omega arith, omega arith, omega arith)
       (sooner linear rate (at (conf inner csite 0 [] st' store')) st st' (price 2 0 x x) w
       (ended_call m (all (within program n) fn.body inner st')) refl
-      (prefix_self linear rate st.events)
+      (prefix_self st.events)
       (function_ends k lf scope new shapes context site base pc temps m store locals kept.0.count
       kept.0.activations walked kept.1 (at (conf inner csite 0 [] st' store')) st' x
       (0 + statements_size fn.body) (all (within program n) fn.body inner st') refl

@@ -3,11 +3,12 @@ use Rattle.std.proofs.Common.{◌≡◌, ◌<◌, ◌≤◌, ℕ, suc, ◌+◌, 
 use Rattle.std.proofs.lemmas.List.{length_push}
 use Rattle.std.proofs.lemmas.Nat.{mul-mod}
 use Rattle.std.specs.Prelude.{◌%◌, Bool, true, false, nat_eq, if◌then◌else◌, Some}
-use Rattle.lowering_follows.specs.Words.{W64, low, Operation, Long, width, extended, result_of, Conversion, Kept, Extend, Scale, Expression, Lvalue, Program, State, Value, Normal, Returned, Broke, Continued, LeftTry, Target, End, Outcome, Gives, with_value, Context, Eval, Locate, converted, operate, locate, read, within, Temporary, Compute, LinearProgram, Store, Seen, pick, with_some, with_temporary, is_constant, exec, Names, read_size, conversion_size, expression_size, locate_size, constant, choice_code, conversion_code, expression_code, read_code, locate_code, ExpressionFits, LvalueFits, expression_weight, lvalue_weight, HasAt}
+use Rattle.lowering_follows.specs.Words.{W64, low, Operation, Long, width, extended, result_of, Conversion, Kept, Extend, Scale, Expression, Lvalue, Program, State, Value, Outcome, Gives, with_value, Context, Eval, Locate, converted, operate, locate, read, within, Temporary, Compute, LinearProgram, Store, Seen, pick, with_some, with_temporary, is_constant, exec, Names, read_size, conversion_size, expression_size, locate_size, constant, choice_code, conversion_code, expression_code, read_code, locate_code, ExpressionFits, LvalueFits, expression_weight, lvalue_weight, HasAt}
 use Rattle.c_operations.specs.declared.operation.Pure.TheVariants as pures
 use Rattle.linear_machine.proofs.Stretch.{Part, at, Site, conf, Ways, price, Claim, value_ways, joins}
 use Rattle.linear_machine.proofs.StretchJoins.{more, then_value}
-use Rattle.linear_machine.proofs.SingleTurns.{first, still, fetch, prefix_self}
+use Rattle.linear_machine.proofs.SingleTurns.{first, still, fetch}
+use Rattle.source_meaning.proofs.Prefixes.{prefix_self}
 use Rattle.lowering_follows.proofs.Stores.{Shape}
 use Rattle.lowering_follows.proofs.Places.{has_at}
 use Rattle.lowering_follows.proofs.TaskClaims.{located, pushed, with_address, Operands, Within, Around, SameOperation', Runs}
@@ -22,13 +23,7 @@ scaled_same y by =
 pub value_self : (o : Outcome) → with_value o (λ v st. Gives (Value v) st) ≡ o
 unfolding with_value
 value_self (Gives (Value v) st) = refl
-value_self (Gives Normal st) = refl
-value_self (Gives (Returned v) st) = refl
-value_self (Gives Broke st) = refl
-value_self (Gives Continued st) = refl
-value_self (Gives LeftTry st) = refl
-value_self (Gives (Target level exc) st) = refl
-value_self (Gives (End e) st) = refl
+value_self (Gives r st) = refl
 
 pub pick_yes : (c : Bool) (x y : Seen) → c ≡ true → pick c x y ≡ x
 unfolding pick
@@ -183,7 +178,7 @@ module _ (program : Program) (linear : LinearProgram) (rate body : ℕ)
         first linear rate (conf context site pc temps st store)
         (at (conf context site pc' temps' st store)) st st (price t x s o) (price (1 + t) x s o)
         (Wv part) out (omega arith, omega arith, omega arith) refl refl
-        (prefix_self linear rate st.events) h q
+        (prefix_self st.events) h q
 
     -- the value is there
     pub here_value : (pc : ℕ) (temps : List ℕ) (v : ℕ) (st : State) (store : Store) (t x s o : ℕ)
@@ -197,7 +192,7 @@ module _ (program : Program) (linear : LinearProgram) (rate body : ℕ)
           same = held;
           reaches = still linear rate (at (conf context site pc (temps ++ v ∷ []) st store))
               (at (conf context site pc (temps ++ v ∷ []) st store)) st st t x s refl le
-              (prefix_self linear rate st.events) (λ k. refl);
+              (prefix_self st.events) (λ k. refl);
         }
 
     pub here_other : (pc pc' : ℕ) (temps : List ℕ) (v : ℕ) (st : State) (store : Store)

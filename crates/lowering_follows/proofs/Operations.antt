@@ -15,7 +15,8 @@ use Rattle.linear_machine.specs.Frames.{SameOperation}
 use Rattle.linear_machine.specs.Frames as machine
 use Rattle.linear_machine.proofs.Stretch.{Part, at, Site, conf, Kept, Ways, Price, price, Claim, value_ways, joins}
 use Rattle.linear_machine.proofs.StretchJoins.{more, then_value, then_plain}
-use Rattle.linear_machine.proofs.SingleTurns.{first, still, stepped, prefix_self}
+use Rattle.linear_machine.proofs.SingleTurns.{first, still, stepped}
+use Rattle.source_meaning.proofs.Prefixes.{prefix_self, prefix_same}
 use Rattle.lowering_expressions.specs.Expressions.{size_of, load_code}
 use Rattle.lowering_follows.proofs.Stores.{Shape, memory_alike, local_set_alike, everywhere, kept_through, kept_set}
 use Rattle.lowering_follows.proofs.Places.{has_front, has_after}
@@ -82,7 +83,7 @@ module _ (program : Program) (linear : LinearProgram) (rate body : ℕ)
           same = held;
           reaches = stepped linear rate (conf context site pc temps st store)
               (at (conf context site (pc + 1) (after v) st' store')) st st' 1 e 0 refl (omega arith)
-              (omega arith) refl (prefix_self linear rate st.events)
+              (omega arith) refl (prefix_self st.events)
               (λ k. computes linear rate context site o to left right a b after pc temps st store k
               c has r ∙ ap (computed linear (exec linear k) (Temporary to)
               (conf context site pc temps st store)) (seen st store kept alike q)
@@ -110,7 +111,7 @@ module _ (program : Program) (linear : LinearProgram) (rate body : ℕ)
         let again : State → Outcome = λ st. within program n (Retry o x y) context st in
         first linear rate cc part st st (price 0 0 1 rate) (price 1 e 0 e) w
         (and_then (within program n (Raise exc) context st) again)
-        (omega arith, omega arith, omega arith) refl refl (prefix_self linear rate st.events)
+        (omega arith, omega arith, omega arith) refl refl (prefix_self st.events)
         (λ k. computes linear rate context site o to left right a b after pc temps st store k c has
         r ∙ ap (computed linear (exec linear k) (Temporary to) cc) seen)
         (then_plain linear rate part (λ st store. at (conf context site pc temps st store)) w st
@@ -166,7 +167,7 @@ module _ (program : Program) (linear : LinearProgram) (rate body : ℕ)
           fits = kept;
           same = held;
           reaches = stepped linear rate c (part v st' store) st st' t e s steps lt (omega arith)
-              same ([], events ∙ sym (append-nil st.events)) h;
+              same (prefix_same st.events st'.events (sym events)) h;
         }
 
     -- ---- places
@@ -187,7 +188,7 @@ module _ (program : Program) (linear : LinearProgram) (rate body : ℕ)
           same = held;
           reaches = still linear rate (at (conf context site pc temps st store))
               (at (conf context site (pc + 0) temps st store)) st st 1 0 0 refl (omega arith)
-              (prefix_self linear rate st.events)
+              (prefix_self st.events)
               (λ k. ap (λ p. exec linear k (conf context site p temps st store)) e);
         }
     locate_runs (Global access a) pc temps st store steps light fits has kept held =

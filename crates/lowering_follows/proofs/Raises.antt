@@ -1,7 +1,7 @@
 -- A raise asks the handlers that a search finds, in order.
 use Rattle.std.proofs.Common.{◌≡◌, ◌<◌, ◌≤◌, ℕ, suc, ◌+◌, ◌^◌, List, [], ◌∷◌, ◌++◌, length, refl, ap, sym, subst, ◌∙◌, arith, append_assoc}
 use Rattle.std.specs.Prelude.{Bool, true, false, nat_eq, nat_lt, slice_get, Option, Some, None}
-use Rattle.lowering_follows.specs.Words.{W32, low, signed, Expression, Filter, Always, Funclet, Program, Exception, State, Value, Normal, Returned, Broke, Continued, LeftTry, Target, End, Outcome, Gives, choose, emit, hold, let_go, with_value, Context, Handler, Eval, Raise, RunFilter, raise_event, within, Temporary, LinearProgram, LinearFunclet, FuncletBody, Resumption, Item, Waits, Store, Finished, Next, pick, with_some, deeper, regions_at, handlers_in, handlers, target_past, unwind_body, unwind, target_of, begin_filter, raise, resumed, answered, end_funclet, exec, Names, expression_size, expression_code, expression_weight, HasAt}
+use Rattle.lowering_follows.specs.Words.{W32, low, signed, Expression, Filter, Always, Funclet, Program, Exception, State, Value, Normal, Target, Outcome, Gives, choose, emit, hold, let_go, with_value, Context, Handler, Eval, Raise, RunFilter, raise_event, within, Temporary, LinearProgram, LinearFunclet, FuncletBody, Resumption, Item, Waits, Store, Next, pick, with_some, deeper, regions_at, handlers_in, handlers, target_past, unwind_body, unwind, target_of, begin_filter, raise, resumed, answered, end_funclet, exec, Names, expression_size, expression_code, expression_weight, HasAt}
 use Rattle.seh_num.specs.declared.event.Event.TheVariants as events
 use Rattle.source_meaning.specs.Raises as source
 use Rattle.source_meaning.specs.Raises.{noncontinuable}
@@ -12,8 +12,9 @@ use Rattle.linear_machine.specs.Frames as machine
 use Rattle.linear_machine.specs.Unwinding.{left_store}
 use Rattle.linear_machine.specs.Searching.{accept, consult, search}
 use Rattle.linear_machine.proofs.Stretch.{Part, at, Site, frame_of, conf, Picked, Kept, price, Price, Join, Ways, found, Reaches, unwound, Targets, Claim, value_ways, normal_ways, joins}
-use Rattle.linear_machine.proofs.StretchJoins.{more, after, then_value, targets_more, finishes_more, stops_more}
-use Rattle.linear_machine.proofs.SingleTurns.{prefix_self, still, stepped, fetch, sooner, deep_claim}
+use Rattle.linear_machine.proofs.StretchJoins.{more, attains_out, after, then_value, targets_more}
+use Rattle.linear_machine.proofs.SingleTurns.{still, stepped, fetch, sooner, deep_claim}
+use Rattle.source_meaning.proofs.Prefixes.{prefix_self}
 use Rattle.linear_machine.proofs.Walks.{picked_at, handlers_below, leaves}
 use Rattle.lowering_follows.proofs.Stores.{Shape, everywhere}
 use Rattle.lowering_follows.proofs.Places.{has_front, has_after}
@@ -59,7 +60,7 @@ module _ (program : Program) (linear : LinearProgram) (rate body : ℕ) where
     store = store;
     fits = fits;
     reaches = still linear rate s (unwound linear rate context site (target_of f exc.code st.held)
-        temps st store pc) st st r e rate refl le (prefix_self linear rate st.events)
+        temps st store pc) st st r e rate refl le (prefix_self st.events)
         (λ k. same (exec linear k) ∙ accepted f exc context site pc temps st store (exec linear k) t h);
   }
 
@@ -145,11 +146,6 @@ module _ (program : Program) (linear : LinearProgram) (rate body : ℕ) where
   then_value_out s v kept j inner isite w pc temps st p q r (Gives (Value x) mid) k t f g a
       b = after linear rate s (v x mid a.store) st mid p.turns p.extra p.slack q r w (k x mid)
       (t.turns, t.slack, t.second_out) a.reaches (b x mid a.store a.reaches.low a.fits a.same)
-  then_value_out s v kept j inner isite w pc temps st p q r (Gives Normal mid) k t f g a b = absurd a
-  then_value_out s v kept j inner isite w pc temps st p q r (Gives (Returned x) mid) k t f g a b = absurd a
-  then_value_out s v kept j inner isite w pc temps st p q r (Gives Broke mid) k t f g a b = absurd a
-  then_value_out s v kept j inner isite w pc temps st p q r (Gives Continued mid) k t f g a b = absurd a
-  then_value_out s v kept j inner isite w pc temps st p q r (Gives LeftTry mid) k t f g a b = absurd a
   then_value_out s v kept j inner isite w pc temps st p q r (Gives (Target level exc) mid) k t f g a b =
       let lr = t.turns in
       let kept_target : Targets linear rate s st p w.kept inner isite level exc
@@ -165,12 +161,8 @@ module _ (program : Program) (linear : LinearProgram) (rate body : ℕ) where
       targets_more linear rate s st mid p r w.kept w.context w.site level exc (omega arith)
       t.first_out (targets_out s st p w.kept j inner w.context isite w.site pc temps level exc mid
       f.named f.bare f.same_found f.onward kept_target)
-  then_value_out s v kept j inner isite w pc temps st p q r (Gives (End (Some e)) mid) k t f g a
-      b = let lr = t.turns in finishes_more linear rate s st mid p.turns r.turns
-      (Finished e mid.events) (omega arith) a
-  then_value_out s v kept j inner isite w pc temps st p q r (Gives (End None) mid) k t f g a
-      b = let lr = t.turns in stops_more linear rate s st mid p.turns p.extra p.out r.turns r.extra
-      r.out (omega arith) t.first_out a
+  then_value_out s v kept j inner isite w pc temps st p q r (Gives x mid) k t f g a b =
+      let lr = t.turns in attains_out linear rate s st mid p r w x (omega arith) t.first_out a
 
   module _ (n : ℕ) (ih : Runs program linear rate body n) where
     -- what a filter's answer comes to
@@ -226,7 +218,7 @@ module _ (program : Program) (linear : LinearProgram) (rate body : ℕ) where
           fits = kept;
           same = held;
           reaches = still linear rate _ _ st st 16 0 1 refl (omega arith)
-              (prefix_self linear rate st.events) (λ k. refl);
+              (prefix_self st.events) (λ k. refl);
         }
 
     -- one handler

@@ -1,8 +1,10 @@
 -- What is claimed of each kind of task inside expressions.
-use Rattle.std.proofs.Common.{◌≡◌, ◌≤◌, ℕ, zero, ◌+◌, List, [], ◌∷◌, ◌++◌, length, sym, ◌∙◌, append-nil, append_assoc}
+use Rattle.std.proofs.Common.{◌≡◌, ◌≤◌, ℕ, zero, ◌+◌, List, [], ◌∷◌, ◌++◌, length}
 use Rattle.std.specs.Prelude.{Bool, false, slice_get, Some, None}
-use Rattle.lowering_follows.specs.Words.{Event, Memory, Operation, performed, Expression, Lvalue, Local, Global, Indirection, Element, Program, Function, is_reserved, Exception, State, Context, Handler, Eval, Locate, Raise, RunFilter, Retry, raise_event, enter, within, Temporary, LinearProgram, LinearFunction, Resumption, Waits, Store, Configuration, deeper, with_temporary, regions_at, handlers, begin_filter, raise, resumed, answered, begin_function, is_constant, exec, Names, expression_size, locate_size, expression_code, locate_code, ExpressionFits, LvalueFits, expression_weight, lvalue_weight, HasAt}
+use Rattle.lowering_follows.specs.Words.{Memory, Operation, performed, Expression, Lvalue, Local, Global, Indirection, Element, Program, Function, is_reserved, Exception, State, Context, Handler, Eval, Locate, Raise, RunFilter, Retry, raise_event, enter, within, Temporary, LinearProgram, LinearFunction, Resumption, Waits, Store, Configuration, deeper, with_temporary, regions_at, handlers, begin_filter, raise, resumed, answered, begin_function, is_constant, exec, Names, expression_size, locate_size, expression_code, locate_code, ExpressionFits, LvalueFits, expression_weight, lvalue_weight, HasAt}
 use Rattle.linear_code.specs.declared.instruction.Instruction.TheVariants as instructions
+use Rattle.source_meaning.specs.Laws.{IsPrefixOf}
+use Rattle.source_meaning.proofs.Prefixes.{prefix_less}
 use Rattle.linear_machine.specs.Frames as machine
 use Rattle.linear_machine.proofs.RunLengths.{events_of, search_shows}
 use Rattle.linear_machine.proofs.Stretch.{Part, at, Site, frame_of, conf, Kept, value_ways, normal_ways, price, Claim}
@@ -129,21 +131,9 @@ module _ (program : Program) (linear : LinearProgram) (rate body : ℕ) where
         (value_ways (pushed context site (pc + 1) temps) (Within shapes base) context site)
         (enter (within program n) (Some fn) vs context st)
 
-  pub shown_all : (es : List Event) → (rest : List Event) × (es ≡ es ++ rest)
-  shown_all es = ([], sym (append-nil es))
-
-  pub shown_more : (a b : List Event) (e : Event)
-      → ((rest : List Event) × (b ≡ (a ++ e ∷ []) ++ rest)) → (rest : List Event) × (b ≡ a ++ rest)
-  shown_more a b e p = (e ∷ p.0, p.1 ∙ append_assoc a (e ∷ []) p.0)
-
   pub shown_raise : (exc : Exception) (resumption : Resumption) (c : Configuration)
-      → (rest : List Event) × (events_of (raise linear (exec linear zero) exc resumption c)
-      ≡ c.events ++ rest)
-  shown_raise exc resumption c = shown_more c.events _ (raise_event exc)
+      → IsPrefixOf c.events (events_of (raise linear (exec linear zero) exc resumption c))
+  shown_raise exc resumption c =
+      prefix_less c.events _ (raise_event exc)
       (search_shows linear (handlers linear (Waits c.frame ∷ c.below) None) exc resumption
       (record c { events = c.events ++ raise_event exc ∷ [] }))
-
-  pub shown_none : (c : Configuration) → (rest : List Event)
-      × (events_of (exec linear zero c) ≡ c.events ++ rest)
-  unfolding exec
-  shown_none c = shown_all c.events

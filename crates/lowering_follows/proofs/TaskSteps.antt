@@ -14,7 +14,9 @@ use Rattle.lowering_follows.proofs.Stores.{Shape, everywhere}
 use Rattle.lowering_follows.proofs.Places.{has_front, has_after}
 use Rattle.lowering_follows.proofs.Lengths.{node_length}
 use Rattle.lowering_follows.proofs.Environments.{FilterFits}
-use Rattle.lowering_follows.proofs.TaskClaims.{pushed, with_address, Operands, Around, SameOperation', resumes, answers_search, Runs, shown_more, shown_raise, shown_none}
+use Rattle.source_meaning.proofs.Prefixes.{prefix_less}
+use Rattle.linear_machine.proofs.RunLengths.{from_none}
+use Rattle.lowering_follows.proofs.TaskClaims.{pushed, with_address, Operands, Around, SameOperation', resumes, answers_search, Runs, shown_raise}
 use Rattle.lowering_follows.proofs.Raises.{raise_runs, filter_runs}
 use Rattle.lowering_follows.proofs.Operations.{locate_runs, operate_runs}
 use Rattle.lowering_follows.proofs.NodeParts.{Kp, Wv, conversion_then, here_other}
@@ -163,7 +165,7 @@ module _ (program : Program) (linear : LinearProgram) (rate body : ℕ)
           base around (pushed context site (pc + expression_size e) temps)) st 0
           (expression_weight e) (expression_weight e)
           (λ st. perform program (within program n) (Eval e) context st)
-          (omega arith) (shown_none program linear rate body (conf context site pc temps st store))
+          (omega arith) (from_none linear zero (conf context site pc temps st store))
           (λ m less. expression_runs e pc temps (record st { steps_left = m }) store (omega arith)
           light fits has kept held)
 
@@ -184,7 +186,7 @@ module _ (program : Program) (linear : LinearProgram) (rate body : ℕ)
           (Wv program linear rate body same_globals roomy n ih names info z shapes context site
           base around (with_address context site (pc + locate_size p) p temps)) st 0 (1 + w)
           (1 + w) (λ st. perform program (within program n) (Locate p) context st)
-          (omega arith) (shown_none program linear rate body (conf context site pc temps st store))
+          (omega arith) (from_none linear zero (conf context site pc temps st store))
           (λ m less.
           let low : State = record st { steps_left = m } in
           more linear rate _ low (price 1 0 w w) (price 16 1 (1 + w) (1 + w))
@@ -236,7 +238,7 @@ module _ (program : Program) (linear : LinearProgram) (rate body : ℕ)
           site base around (λ v st store. at (conf context site (pc + 1) (after v) st store)) in
           counted_claim linear rate (at (conf context site pc temps st store)) w st 0 0 1
           (λ st. perform program (within program n) (Retry o x y) context st)
-          (omega arith) (shown_none program linear rate body (conf context site pc temps st store))
+          (omega arith) (from_none linear zero (conf context site pc temps st store))
           (λ m less.
           let low : State = record st { steps_left = m } in
           more linear rate _ low (price 1 1 0 1) (price 16 1 0 1) w
@@ -270,8 +272,8 @@ module _ (program : Program) (linear : LinearProgram) (rate body : ℕ)
           (shown_deep linear rate 2 site.held store st.events
           (exec linear zero (begin_filter j f rest exc resumption
           (conf context site pc temps st store)))
-          (shown_more program linear rate body st.events _ (events.Filter (j + 1))
-          (shown_none program linear rate body
+          (prefix_less st.events _ (events.Filter (j + 1))
+          (from_none linear zero
           (begin_filter j f rest exc resumption (conf context site pc temps st store)))))
           (λ m less. filter_runs program linear rate body n ih k j e h f rest exc resumption names
           info z shapes context site base pc temps (record st { steps_left = m }) store

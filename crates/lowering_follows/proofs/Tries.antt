@@ -2,13 +2,14 @@
 -- out.
 use Rattle.std.proofs.Common.{◌≡◌, ◌⊎◌, inl, inr, ◌<◌, ◌≤◌, ℕ, ◌+◌, List, ◌∷◌, ◌++◌, length, refl, ap, sym, subst, ◌∙◌, arith}
 use Rattle.std.specs.Prelude.{Bool, slice_get, Option, Some, None}
-use Rattle.lowering_follows.specs.Words.{Filter, Always, Funclet, Program, Exception, State, Value, Normal, Returned, Broke, Continued, LeftTry, Target, End, Outcome, Gives, Context, Handler, of_test, Region, LinearProgram, BodyName, Store, set_local, Names, ExceptionSource, LoweringContext, NoException, OfFilter, KeptIn, Nowhere, Jumps, Unwinds, except_names, filter_names, finally_names, in_try, in_except, in_guarded, except_kind, region, FilterPlaced}
+use Rattle.lowering_follows.specs.Words.{Filter, Always, Funclet, Program, Exception, State, Returned, Broke, Continued, LeftTry, Target, Outcome, Gives, Context, Handler, of_test, Region, LinearProgram, BodyName, Store, set_local, Names, ExceptionSource, LoweringContext, NoException, OfFilter, KeptIn, Nowhere, Jumps, Unwinds, except_names, filter_names, finally_names, in_try, in_except, in_guarded, except_kind, region, FilterPlaced}
 use Rattle.linear_code.specs.declared.program.RegionKind.{RegionKind}
 use Rattle.linear_code.specs.declared.program.RegionKind.TheVariants as regions
 use Rattle.linear_machine.specs.Frames.{Unwinds}
 use Rattle.linear_machine.specs.Frames as machine
 use Rattle.linear_machine.specs.Regions.{handlers_of}
 use Rattle.linear_machine.proofs.Stretch.{Part, Site, Picked, Kept, Price, found, Arrives, Claim}
+use Rattle.linear_machine.proofs.StretchJoins.{claim_kept}
 use Rattle.linear_machine.proofs.Walks.{BlockAt, IsExcept, around_part}
 use Rattle.lowering_expressions.specs.declared.scope.Way as jumps
 use Rattle.lowering_expressions.specs.Scope as scopes
@@ -359,72 +360,56 @@ module _ (program : Program) (linear : LinearProgram) (rate body : ℕ) where
   -- ---- a block claims what is claimed of what is around it
 
   exit_same : (s : Part) (st end : State) (p : Price) (context : Context) (hs : List Handler)
-      (exc : Exception) (site : Site) (kept kept' : Kept) (way : jumps.Way) (v : ℕ)
-      → ((st : State) (store : Store) → kept st store → kept' st store)
+      (exc : Exception) (site : Site) (kept : Kept) (way : jumps.Way) (v : ℕ)
       → Arrives linear rate s st p kept site.held end
       (exit_way program linear rate body (elsewhere context hs exc) site way v)
-      → Arrives linear rate s st p kept' site.held end
+      → Arrives linear rate s st p kept site.held end
       (exit_way program linear rate body context site way v)
-  exit_same s st end p context hs exc site kept kept' Nowhere v h a = a
-  exit_same s st end p context hs exc site kept kept' (Jumps label) v h a = (
-    a.0,
-    record {
-      store = a.1.store;
-      fits = h end a.1.store a.1.fits;
-      same = a.1.same;
-      reaches = a.1.reaches;
-    },
-  )
-  exit_same s st end p context hs exc site kept kept' (Unwinds label) v h a = (
-    a.0,
-    record {
-      store = a.1.store;
-      fits = h end a.1.store a.1.fits;
-      same = a.1.same;
-      reaches = a.1.reaches;
-    },
-  )
+  exit_same s st end p context hs exc site kept Nowhere v a = a
+  exit_same s st end p context hs exc site kept way v a = a
 
   jump_same : (s : Part) (st end : State) (p : Price) (context : Context) (hs : List Handler)
-      (exc : Exception) (site : Site) (kept kept' : Kept) (way : jumps.Way)
-      → ((st : State) (store : Store) → kept st store → kept' st store)
+      (exc : Exception) (site : Site) (kept : Kept) (way : jumps.Way)
       → Arrives linear rate s st p kept site.held end
       (jump_way program linear rate body (elsewhere context hs exc) site way)
-      → Arrives linear rate s st p kept' site.held end
+      → Arrives linear rate s st p kept site.held end
       (jump_way program linear rate body context site way)
-  jump_same s st end p context hs exc site kept kept' Nowhere h a = a
-  jump_same s st end p context hs exc site kept kept' (Jumps label) h a =
-      record {
-        store = a.store;
-        fits = h end a.store a.fits;
-        same = a.same;
-        reaches = a.reaches;
-      }
-  jump_same s st end p context hs exc site kept kept' (Unwinds label) h a = (
-    a.0,
-    record {
-      store = a.1.store;
-      fits = h end a.1.store a.1.fits;
-      same = a.1.same;
-      reaches = a.1.reaches;
-    },
-  )
+  jump_same s st end p context hs exc site kept Nowhere a = a
+  jump_same s st end p context hs exc site kept way a = a
 
   leave_same : (s : Part) (st end : State) (p : Price) (context : Context) (hs : List Handler)
-      (exc : Exception) (site : Site) (kept kept' : Kept) (way : Option ℕ)
-      → ((st : State) (store : Store) → kept st store → kept' st store)
+      (exc : Exception) (site : Site) (kept : Kept) (way : Option ℕ)
       → Arrives linear rate s st p kept site.held end
       (leave_way program linear rate body (elsewhere context hs exc) site way)
-      → Arrives linear rate s st p kept' site.held end
+      → Arrives linear rate s st p kept site.held end
       (leave_way program linear rate body context site way)
-  leave_same s st end p context hs exc site kept kept' None h a = a
-  leave_same s st end p context hs exc site kept kept' (Some label) h a =
-      record {
-        store = a.store;
-        fits = h end a.store a.fits;
-        same = a.same;
-        reaches = a.reaches;
-      }
+  leave_same s st end p context hs exc site kept None a = a
+  leave_same s st end p context hs exc site kept way a = a
+
+  same_stores : (s : Part) (st : State) (p : Price) (scope : LoweringContext) (context : Context)
+      (hs : List Handler) (exc : Exception) (site : Site) (kept : Kept) (done : ℕ) (o : Outcome)
+      → Claim linear rate s st p (statement_ways program linear rate body (in_except scope)
+      (elsewhere context hs exc) site kept done) o
+      → Claim linear rate s st p (statement_ways program linear rate body scope context site kept
+      done) o
+  same_stores s st p scope context hs exc site kept done (Gives (Returned v) end) a =
+      exit_same s st end p context hs exc site kept scope.exit v a
+  same_stores s st p scope context hs exc site kept done (Gives Broke end) a =
+      jump_same s st end p context hs exc site kept scope.loop_end a
+  same_stores s st p scope context hs exc site kept done (Gives Continued end) a =
+      jump_same s st end p context hs exc site kept scope.loop_next a
+  same_stores s st p scope context hs exc site kept done (Gives LeftTry end) a =
+      leave_same s st end p context hs exc site kept scope.leave a
+  same_stores s st p scope context hs exc site kept done (Gives (Target level e) end) a = record {
+    handler = a.handler;
+    picked = a.picked;
+    temps = a.temps;
+    pc = a.pc;
+    store = a.store;
+    fits = a.fits;
+    reaches = a.reaches;
+  }
+  same_stores s st p scope context hs exc site kept done (Gives r end) a = a
 
   pub block_claim : (s : Part) (st : State) (p : Price) (scope : LoweringContext)
       (context : Context) (hs : List Handler) (exc : Exception) (site : Site) (kept kept' : Kept)
@@ -433,31 +418,7 @@ module _ (program : Program) (linear : LinearProgram) (rate body : ℕ) where
       (elsewhere context hs exc) site kept done) o
       → Claim linear rate s st p (statement_ways program linear rate body scope context site kept'
       done) o
-  block_claim s st p scope context hs exc site kept kept' done (Gives (Value x) end) h a = absurd a
-  block_claim s st p scope context hs exc site kept kept' done (Gives Normal end) h a =
-      record {
-        store = a.store;
-        fits = h end a.store a.fits;
-        same = a.same;
-        reaches = a.reaches;
-      }
-  block_claim s st p scope context hs exc site kept kept' done (Gives (Returned v) end) h a =
-      exit_same s st end p context hs exc site kept kept' scope.exit v h a
-  block_claim s st p scope context hs exc site kept kept' done (Gives Broke end) h a = jump_same s
-      st end p context hs exc site kept kept' scope.loop_end h a
-  block_claim s st p scope context hs exc site kept kept' done (Gives Continued end) h a = jump_same
-      s st end p context hs exc site kept kept' scope.loop_next h a
-  block_claim s st p scope context hs exc site kept kept' done (Gives LeftTry end) h a = leave_same
-      s st end p context hs exc site kept kept' scope.leave h a
-  block_claim s st p scope context hs exc site kept kept' done (Gives (Target level e) end) h a =
-      record {
-        handler = a.handler;
-        picked = a.picked;
-        temps = a.temps;
-        pc = a.pc;
-        store = a.store;
-        fits = h end a.store a.fits;
-        reaches = a.reaches;
-      }
-  block_claim s st p scope context hs exc site kept kept' done (Gives (End (Some e)) end) h a = a
-  block_claim s st p scope context hs exc site kept kept' done (Gives (End None) end) h a = a
+  block_claim s st p scope context hs exc site kept kept' done o h a =
+      same_stores s st p scope context hs exc site kept' done o
+      (claim_kept linear rate s st p (statement_ways program linear rate body (in_except scope)
+      (elsewhere context hs exc) site kept done) kept' o h a)

@@ -9,7 +9,8 @@ use Rattle.linear_machine.specs.Frames.{Unwinds}
 use Rattle.linear_machine.specs.Frames as machine
 use Rattle.linear_machine.proofs.Stretch.{Part, at, Site, conf, Picked, Kept, Price, price, found, Reaches, unwound, Arrives, Claim}
 use Rattle.linear_machine.proofs.StretchJoins.{after, reaches_after, reaches_more, arrives_more, finishes_more, stops_more}
-use Rattle.linear_machine.proofs.SingleTurns.{onto, stepped, first, fetch, prefix_self, sooner}
+use Rattle.linear_machine.proofs.SingleTurns.{onto, stepped, first, fetch, sooner}
+use Rattle.source_meaning.proofs.Prefixes.{prefix_self}
 use Rattle.linear_machine.proofs.Walks.{Around, Inside, Outward, FindsRegions, finds_own, picked_less, picked_inside, skips, lands}
 use Rattle.lowering_expressions.specs.declared.scope.Way as jumps
 use Rattle.lowering_follows.proofs.Stores.{Shape}
@@ -164,7 +165,7 @@ module _ (program : Program) (linear : LinearProgram) (rate body : ℕ) where
               (stepped linear rate (conf context site pc [] st p.store)
               (at (conf context site done [] st p.store)) st st 1 0 0 refl (omega arith)
               (omega arith)
-              refl (prefix_self linear rate st.events)
+              refl (prefix_self st.events)
               (λ j. jump_turn linear rate context inside done pc [] st p.store j has));
         }
     except_ends done x y lo free names scope z shapes base notes s from pc (Gives (Returned v) st)
@@ -255,7 +256,7 @@ module _ (program : Program) (linear : LinearProgram) (rate body : ℕ) where
             (price 1 0 y y) (statement_ways program linear rate body scope context site kept done)
             (go exc landed)
             (omega arith, omega arith, omega arith) refl refl
-            (prefix_self linear rate landed.events)
+            (prefix_self landed.events)
             (λ j. landing_turn free exc st p.store j lands_has)
             (g exc landed p.store low (alike st p.store p.fits landed refl refl) refl))))
           where

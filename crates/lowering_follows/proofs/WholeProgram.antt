@@ -1,9 +1,9 @@
 -- The whole program: its run follows the meaning, and shows nothing more.
-use Rattle.std.proofs.Common.{◌≡◌, ◌⊎◌, inl, inr, ◌<◌, ◌≤◌, ℕ, zero, suc, ◌+◌, ◌-◌, ◌*◌, List, [], ◌∷◌, ◌++◌, length, refl, ap, sym, subst, ◌∙◌, arith, append-nil, append_assoc}
+use Rattle.std.proofs.Common.{◌≡◌, ◌⊎◌, inl, inr, ◌<◌, ◌≤◌, ℕ, zero, suc, ◌+◌, ◌-◌, ◌*◌, List, [], ◌∷◌, ◌++◌, length, refl, ap, sym, subst, ◌∙◌, arith, append-nil}
 use native.Mathlib.Nat.{mul-add, mul_comm, mul-one}
 use Rattle.std.proofs.lemmas.Bool.{cases_lt, ne_eqb}
 use Rattle.std.specs.Prelude.{false, nat_eq, if◌then◌else◌, replicate, slice_get, ℤ, Some, None}
-use Rattle.lowering_follows.specs.Words.{Event, W32, W64, signed, wrapped, Size, Program, Function, State, Value, Normal, Returned, Broke, Continued, LeftTry, Target, End, Outcome, Gives, choose, Context, no_exception, all, ended_call, enter, within, Temporary, LinearProgram, LinearFunction, FunctionBody, Store, Configuration, Seen, Finished, with_some, begin_function, exec, statements_size, statements_notes, constant, own_locals, scope_of, statements_weight, HasAt, FunctionPlaced}
+use Rattle.lowering_follows.specs.Words.{Event, W32, W64, signed, wrapped, Size, Program, Function, State, Value, Normal, Returned, Target, End, Outcome, Gives, choose, Context, no_exception, all, ended_call, enter, within, Temporary, LinearProgram, LinearFunction, FunctionBody, Store, Configuration, Seen, Finished, with_some, begin_function, exec, statements_size, statements_notes, constant, own_locals, scope_of, statements_weight, HasAt, FunctionPlaced}
 use Rattle.source_meaning.specs.declared.ended.Ended.{Ended}
 use Rattle.source_meaning.specs.declared.ended.Ended.TheVariants.{Exit}
 use Rattle.source_meaning.specs.Source.{first_memory}
@@ -16,7 +16,9 @@ use Rattle.linear_code.specs.declared.instruction.Instruction.TheVariants as ins
 use Rattle.linear_machine.specs.Frames.{Running, Stuck}
 use Rattle.linear_machine.specs.Run.{main_arguments, start, seen, shown}
 use Rattle.linear_machine.proofs.RunLengths.{events_of, More, longer}
-use Rattle.linear_machine.proofs.Stretch.{Part, at, Site, conf, Kept, price, Claim, Stops, Prefix}
+use Rattle.linear_machine.proofs.MoreTurns.{front}
+use Rattle.source_meaning.proofs.Prefixes.{prefix_same, prefix_then}
+use Rattle.linear_machine.proofs.Stretch.{Part, at, Site, conf, Kept, price, Claim, Stops}
 use Rattle.linear_machine.proofs.SingleTurns.{fetch}
 use Rattle.lowering_follows.specs.FollowLaws.{Follows, NoMore, LinkedFollows}
 use Rattle.lowering_follows.proofs.Stores.{Shape, FrameAlike, Alike, below_slot, kept_itself, push_alike}
@@ -46,11 +48,6 @@ enough k m cost credit n h paid e least light = go (cases_lt m cost)
         let b = mul_le k cost m p in
         absurd (omega arith)
 
-shown_events : (a : Seen) → (shown a).events ≡ events_of a
-shown_events (Running es) = refl
-shown_events (Finished e es) = refl
-shown_events (Stuck es) = refl
-
 abbrev IsRunning : Seen → Type 0
 IsRunning (Running es) = Unit {0}
 IsRunning a = ⊥
@@ -68,35 +65,30 @@ against : (x b : Seen) (e : Ended) (es : List Event) → More x b → b ≡ Fini
     → IsPrefixOf (shown x).events es × ((f : Ended) → (shown x).end ≡ Some f
     → shown (Finished e es) ≡ shown x) × ((fs : List Event) → x ≡ Stuck fs → ⊥)
 against (Running fs) b e es m q = (
-  (m.0, sym m.1 ∙ ap events_of q),
+  subst (λ (x : Seen). IsPrefixOf fs (events_of x)) q m,
   (λ f h. absurd (cc)),
   (λ gs h. absurd (subst IsRunning h tt)),
 )
 against (Finished f fs) b e es m q =
     let same : Finished f fs ≡ Finished e es = sym m ∙ q in (
-      ([], append-nil fs ∙ ap events_of same),
+      prefix_same fs es (ap events_of same),
       (λ g h. ap shown (sym same)),
       (λ gs h. absurd (subst IsFinished h tt)),
     )
 against (Stuck fs) b e es m q = absurd (subst IsStuck (sym m ∙ q) tt)
 
 -- one that continues
-against_running : (x b : Seen) (sh es : List Event) → More x b → b ≡ Running sh → Prefix sh es
+against_running : (x b : Seen) (sh es : List Event) → More x b → b ≡ Running sh
+    → IsPrefixOf sh es
     → IsPrefixOf (shown x).events es × ((f : Ended) → (shown x).end ≡ Some f
     → record { events = es; end = None } ≡ shown x) × ((fs : List Event) → x ≡ Stuck fs → ⊥)
-against_running (Running fs) b sh es m q p =
-    let e : sh ≡ fs ++ m.0 = sym (ap events_of q) ∙ m.1 in (
-      (m.0 ++ p.0, sym (append_assoc fs m.0 p.0) ∙ ap (λ l. l ++ p.0) (sym e) ∙ sym p.1),
-      (λ f h. absurd (cc)),
-      (λ gs h. absurd (subst IsRunning h tt)),
-    )
+against_running (Running fs) b sh es m q p = (
+  prefix_then fs sh es (subst (λ (x : Seen). IsPrefixOf fs (events_of x)) q m) p,
+  (λ f h. absurd (cc)),
+  (λ gs h. absurd (subst IsRunning h tt)),
+)
 against_running (Finished f fs) b sh es m q p = absurd (subst IsFinished (sym m ∙ q) tt)
 against_running (Stuck fs) b sh es m q p = absurd (subst IsStuck (sym m ∙ q) tt)
-
-events_more : (a b : Seen) → More a b → (rest : List Event) × (events_of b ≡ events_of a ++ rest)
-events_more (Running es) b m = m
-events_more (Finished e es) b m = ([], ap events_of m ∙ sym (append-nil es))
-events_more (Stuck es) b m = ([], ap events_of m ∙ sym (append-nil es))
 
 -- ---- the arguments of `main`
 
@@ -164,12 +156,7 @@ module _ (program : Program) (linear : LinearProgram) (rate body : ℕ)
     Done s from (Gives (End (Some e)) st) = (j : ℕ) × (j ≤ 16 * from.steps_left + 2)
         × (s (exec linear j) ≡ Finished e st.events)
     Done s from (Gives (End None) st) = Stops linear rate s from st 0 0 x
-    Done s from (Gives Normal st) = ⊥
-    Done s from (Gives (Returned v) st) = ⊥
-    Done s from (Gives Broke st) = ⊥
-    Done s from (Gives Continued st) = ⊥
-    Done s from (Gives LeftTry st) = ⊥
-    Done s from (Gives (Target level exc) st) = ⊥
+    Done s from (Gives r st) = ⊥
 
     return_turn : (v done k : ℕ) (mid : State) (after : Store)
         → HasAt linear (FunctionBody program.main) [] done (instructions.Return (Temporary 0) ∷ [])
@@ -186,7 +173,6 @@ module _ (program : Program) (linear : LinearProgram) (rate body : ℕ)
         (statement_ways program linear rate body (scope_of fn) inner csite kept done) o
         → Done s from (ended_call 0 o)
     unfolding ended_call
-    main_ends s from kept done (Gives (Value v) st) h p = absurd p
     main_ends s from kept done (Gives Normal st) h p =
         let y = p.reaches.by (suc (suc zero)) in
         let most = p.reaches.most in (
@@ -200,13 +186,11 @@ module _ (program : Program) (linear : LinearProgram) (rate body : ℕ)
         let y = p.1.reaches.by zero in
         let most = p.1.reaches.most in
         (y.0, omega (arith, y.1), y.2)
-    main_ends s from kept done (Gives Broke st) h p = absurd p
-    main_ends s from kept done (Gives Continued st) h p = absurd p
-    main_ends s from kept done (Gives LeftTry st) h p = absurd p
     main_ends s from kept done (Gives (Target level exc) st) h p = absurd p.picked
     main_ends s from kept done (Gives (End (Some e)) st) h p = let y = p.by in
         (y.0, omega (arith, y.1), y.2)
     main_ends s from kept done (Gives (End None) st) h p = p
+    main_ends s from kept done (Gives r st) h p = absurd p
 
     main_runs : (n : ℕ) → Done (at c0) (begun n)
         (ended_call 0 (all (within program n) fn.body inner (begun n)))
@@ -304,23 +288,13 @@ module _ (program : Program) (linear : LinearProgram) (rate body : ℕ)
         (later d.0 b (omega (arith, d.1))) in
         (([], append-nil st.events ∙ sym (ap (λ a. (shown a).events) e)), (λ c h. ap shown e))
     follows_by b from (Gives (End None) st) le d =
-        let m = d.most in
-        let p = events_more (exec linear d.cost c0) (exec linear b c0)
-        (later d.cost b (omega arith)) in (
-          (
-            d.shown.0 ++ p.0,
-            sym (append_assoc st.events d.shown.0 p.0)
-                ∙ ap (λ l. l ++ p.0) (sym d.shown.1) ∙ sym p.1 ∙ sym
-                (shown_events (exec linear b c0)),
-          ),
+        let m = d.most in (
+          prefix_then st.events (events_of (exec linear d.cost c0)) (events_of (exec linear b c0))
+              d.shown (front (exec linear d.cost c0) (exec linear b c0)
+              (later d.cost b (omega arith))),
           (λ c h. absurd (cc)),
         )
-    follows_by b from (Gives Normal st) le d = absurd d
-    follows_by b from (Gives (Returned v) st) le d = absurd d
-    follows_by b from (Gives Broke st) le d = absurd d
-    follows_by b from (Gives Continued st) le d = absurd d
-    follows_by b from (Gives LeftTry st) le d = absurd d
-    follows_by b from (Gives (Target level exc) st) le d = absurd d
+    follows_by b from (Gives r st) le d = absurd d
 
     abbrev NoMoreThan : ℕ → Outcome → Type 0
     NoMoreThan m o =
@@ -349,12 +323,7 @@ module _ (program : Program) (linear : LinearProgram) (rate body : ℕ)
         let b = d.prior (d.cost - 1) (omega arith) in
         against_running (exec linear m c0) (exec linear (d.cost - 1) c0) b.0 st.events
         (later m (d.cost - 1) (omega arith)) b.1 b.2
-    no_more_by m n (Gives Normal st) le d = absurd d
-    no_more_by m n (Gives (Returned v) st) le d = absurd d
-    no_more_by m n (Gives Broke st) le d = absurd d
-    no_more_by m n (Gives Continued st) le d = absurd d
-    no_more_by m n (Gives LeftTry st) le d = absurd d
-    no_more_by m n (Gives (Target level exc) st) le d = absurd d
+    no_more_by m n (Gives r st) le d = absurd d
 
   pub follows : Follows program linear
   follows arg n turns le =

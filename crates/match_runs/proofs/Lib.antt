@@ -1,8 +1,10 @@
 pub mod Shadows
 pub mod Turns
-pub mod Steps
 pub mod Matches
+pub mod Steps
+pub mod MatchedRuns
+pub mod RunEnds
 pub mod All
 pub mod NoMore
-pub mod Programs
 pub mod Shadowed
+pub mod Programs

@@ -1,18 +1,9 @@
 -- Steps that are matched, from their parts.
-use Rattle.std.proofs.Common.{◌≡◌, inl, inr, ℕ, ◌+◌, ◌-◌, ◌≤◌, false, Some, List, [], refl, sym, ap, subst, ◌∙◌, arith}
+use Rattle.std.proofs.Common.{◌≡◌, inl, inr, ℕ, ◌+◌, ◌≤◌, false, Some, List, [], ◌++◌, refl, sym, ap, subst, ◌∙◌, arith}
 use Rattle.std.proofs.lemmas.List.{append-nil}
-use Rattle.seh_num.specs.declared.event.Event.{Event}
-use Rattle.x64_machine.specs.Effect.{State}
-use Rattle.virtual_unwind.specs.CallerOf.{Functions}
-use Rattle.host_model.specs.declared.funclet.Funclet.{Funclet}
-use Rattle.source_meaning.specs.declared.ended.Ended.{Ended}
-use Rattle.source_meaning.specs.Meaning.{is_calm}
-use Rattle.linear_code.specs.declared.instruction.Instruction.{Instruction}
-use Rattle.linear_code.specs.Program.{LinearProgram}
-use Rattle.linear_machine.specs.Frames.{Configuration, Finished, Next}
-use Rattle.linear_machine.specs.Instructions.{act}
-use Rattle.match_runs.specs.Comes.{Comes, LeadsTo}
-use Rattle.match_runs.specs.Matched.{Fails, IsMatched}
+use Rattle.match_runs.specs.Words.{Event, State, Functions, Funclet, is_calm, Ended, LinearProgram, Instruction, Configuration, Finished, Seen, act, Comes, Fails, IsMatched}
+use Rattle.source_meaning.specs.declared.ended.Ended.TheVariants as source
+use Rattle.linear_machine.specs.Frames.{Next}
 use Rattle.match_runs.proofs.Turns.{comes_nowhere, comes_then}
 
 -- turns that show nothing, before and after others
@@ -48,149 +39,140 @@ module _ (t : Functions) (fs : List Funclet) (program : LinearProgram) (credit :
           (sym (append-nil c.events));
     }
 
+    -- ---- a step that is matched at one configuration is matched at another
+
+    -- a configuration that the step leads to, which shows as much as the other's
+    pub record StepContinues (Represents : State → Configuration → Type 0) (u : State)
+        (c e : Configuration) (i : Instruction) : Type 0 where
+      pub configuration : Configuration
+      pub acts : (next : Next) → act program i next c ≡ next configuration
+      pub events : configuration.events ≡ e.events
+      pub left : credit configuration ≤ credit e
+      pub is_there : Represents u configuration
+
+    -- the step at c does what the step at d does
+    pub record StepCarries (Middle Represents : State → Configuration → Type 0)
+        (c d : Configuration) (i : Instruction) : Type 0 where
+      pub events : d.events ≡ c.events
+      pub ends : (seen : Seen) → ((next : Next) → act program i next d ≡ seen) → (next : Next)
+          → act program i next c ≡ seen
+      pub continues : (u : State) (e : Configuration) → ((next : Next) → act program i next d
+          ≡ next e) → Middle u e → StepContinues Represents u c e i
+
+    module _ (k turns_per_step more : ℕ) (Middle Represents : State → Configuration → Type 0)
+        (s u : State) (c d : Configuration) (i : Instruction) (before : Comes t fs k s [] u)
+        (bound : k + turns_per_step + credit d ≤ more + credit c)
+        (carries : StepCarries Middle Represents c d i) where
+      ends_so : (end : Ended) (es : List Event) → ((next : Next)
+          → act program i next d ≡ Finished end (d.events ++ es)) → (next : Next)
+          → act program i next c ≡ Finished end (c.events ++ es)
+      ends_so end es acts next = carries.ends (Finished end (d.events ++ es)) acts next
+          ∙ ap (λ (xs : List Event). Finished end (xs ++ es)) carries.events
+
+      -- with silent turns before it
+      pub matched_by : IsMatched t fs program turns_per_step credit Middle u d i
+          → IsMatched t fs program more credit Represents s c i
+      matched_by (inl v) =
+          let few = v.few in
+          let some = v.some in
+          let x = carries.continues v.state v.configuration v.acts v.is_there in
+          let left = x.left in
+          inl (record {
+            turns = k + v.turns;
+            some = omega arith;
+            configuration = x.configuration;
+            few = omega arith;
+            state = v.state;
+            events = v.events;
+            comes = silently_before t fs k v.turns s u v.state v.events before v.comes;
+            acts = x.acts;
+            shown = x.events ∙ v.shown ∙ ap (λ (es : List Event). es ++ v.events) carries.events;
+            is_there = x.is_there;
+          })
+      matched_by (inr (inl v)) =
+          let few = v.few in
+          inr (inl (record {
+            turns = k + v.turns;
+            few = omega arith;
+            state = v.state;
+            events = v.events;
+            comes = silently_before t fs k v.turns s u v.state v.events before v.comes;
+            over = v.over;
+            value = v.value;
+            answer = v.answer;
+            acts = ends_so (source.Exit v.value) v.events v.acts;
+          }))
+      matched_by (inr (inr (inl v))) =
+          let few = v.few in
+          inr (inr (inl (record {
+            turns = k + v.turns;
+            few = omega arith;
+            state = v.state;
+            events = v.events;
+            comes = silently_before t fs k v.turns s u v.state v.events before v.comes;
+            live = v.live;
+            last = v.last;
+            code = v.code;
+            ends = v.ends;
+            acts = ends_so (source.Unhandled v.code) (v.events ++ v.last) v.acts;
+          })))
+      matched_by (inr (inr (inr v))) =
+          let few = v.few in
+          inr (inr (inr (record {
+            turns = k + v.turns;
+            few = omega arith;
+            state = v.state;
+            made = v.made;
+            comes = silently_before t fs k v.turns s u v.state v.made before v.comes;
+            events = v.events;
+            front = v.front;
+            end = v.end;
+            wild = v.wild;
+            acts = ends_so v.end v.events v.acts;
+          })))
+
+    -- ---- the same configuration
+
+    stays : (Middle Represents : State → Configuration → Type 0) (c : Configuration)
+        (i : Instruction) → ((u : State) (e : Configuration) → Middle u e → Represents u e)
+        → StepCarries Middle Represents c c i
+    stays Middle Represents c i then = record {
+      events = refl;
+      ends = λ seen acts. acts;
+      continues = λ u e acts m. record {
+        configuration = e;
+        acts = acts;
+        events = refl;
+        left = omega arith;
+        is_there = then u e m;
+      };
+    }
+
     -- turns that show nothing come before a step's
     pub matched_after : (k turns_per_step : ℕ) (Represents : State → Configuration → Type 0)
-        (s u : State)
-        (c : Configuration) (i : Instruction)
-        → Comes t fs k s [] u → IsMatched t fs program turns_per_step credit Represents u c i
+        (s u : State) (c : Configuration) (i : Instruction) → Comes t fs k s [] u
+        → IsMatched t fs program turns_per_step credit Represents u c i
         → IsMatched t fs program (k + turns_per_step) credit Represents s c i
-    matched_after k turns_per_step Represents s u c i p (inl v) =
-        let few = v.few in
-        let some = v.some in
-        inl (record {
-          turns = k + v.turns;
-          some = omega arith;
-          configuration = v.configuration;
-          few = omega arith;
-          state = v.state;
-          events = v.events;
-          comes = silently_before t fs k v.turns s u v.state v.events p v.comes;
-          acts = v.acts;
-          shown = v.shown;
-          is_there = v.is_there;
-        })
-    matched_after k turns_per_step Represents s u c i p (inr (inl v)) =
-        let few = v.few in
-        inr (inl (record {
-          turns = k + v.turns;
-          few = omega arith;
-          state = v.state;
-          events = v.events;
-          comes = silently_before t fs k v.turns s u v.state v.events p v.comes;
-          over = v.over;
-          value = v.value;
-          answer = v.answer;
-          acts = v.acts;
-        }))
-    matched_after k turns_per_step Represents s u c i p (inr (inr (inl v))) =
-        let few = v.few in
-        inr (inr (inl (record {
-          turns = k + v.turns;
-          few = omega arith;
-          state = v.state;
-          events = v.events;
-          comes = silently_before t fs k v.turns s u v.state v.events p v.comes;
-          live = v.live;
-          last = v.last;
-          code = v.code;
-          ends = v.ends;
-          acts = v.acts;
-        })))
-    matched_after k turns_per_step Represents s u c i p (inr (inr (inr v))) =
-        let few = v.few in
-        inr (inr (inr (record {
-          turns = k + v.turns;
-          few = omega arith;
-          state = v.state;
-          made = v.made;
-          comes = silently_before t fs k v.turns s u v.state v.made p v.comes;
-          events = v.events;
-          front = v.front;
-          end = v.end;
-          wild = v.wild;
-          acts = v.acts;
-        })))
-
-    -- turns that show nothing come after a step's
-    pub matched_then : (turns_per_step most : ℕ) (Middle Represents : State → Configuration → Type
-        0)
-        (s : State) (c : Configuration) (i : Instruction)
-        → ((u : State) (d : Configuration) → Middle u d → LeadsTo t fs most Represents u d)
-        → IsMatched t fs program turns_per_step credit Middle s c i
-        → IsMatched t fs program (most + turns_per_step) credit Represents s c i
-    matched_then turns_per_step most Middle Represents s c i leads (inl v) =
-        let few = v.few in
-        let some = v.some in
-        let x = leads v.state v.configuration v.is_there in
-        let less = x.few in
-        inl (record {
-          turns = v.turns + x.turns;
-          some = omega arith;
-          configuration = v.configuration;
-          few = omega arith;
-          state = x.state;
-          events = v.events;
-          comes = silently_after t fs v.turns x.turns s v.state x.state v.events v.comes x.comes;
-          acts = v.acts;
-          shown = v.shown;
-          is_there = x.is_there;
-        })
-    matched_then turns_per_step most Middle Represents s c i leads (inr (inl v)) =
-        let few = v.few in
-        inr (inl (record {
-          turns = v.turns;
-          few = omega arith;
-          state = v.state;
-          events = v.events;
-          comes = v.comes;
-          over = v.over;
-          value = v.value;
-          answer = v.answer;
-          acts = v.acts;
-        }))
-    matched_then turns_per_step most Middle Represents s c i leads (inr (inr (inl v))) =
-        let few = v.few in
-        inr (inr (inl (record {
-          turns = v.turns;
-          few = omega arith;
-          state = v.state;
-          events = v.events;
-          comes = v.comes;
-          live = v.live;
-          last = v.last;
-          code = v.code;
-          ends = v.ends;
-          acts = v.acts;
-        })))
-    matched_then turns_per_step most Middle Represents s c i leads (inr (inr (inr v))) =
-        let few = v.few in
-        inr (inr (inr (record {
-          turns = v.turns;
-          few = omega arith;
-          state = v.state;
-          made = v.made;
-          comes = v.comes;
-          events = v.events;
-          front = v.front;
-          end = v.end;
-          wild = v.wild;
-          acts = v.acts;
-        })))
+    matched_after k turns_per_step Represents s u c i p m =
+        matched_by k turns_per_step (k + turns_per_step) Represents Represents s u c c i p
+        (omega arith) (stays Represents Represents c i (λ u e there. there)) m
 
     -- with more turns allowed
     pub matched_slower : (turns_per_step more : ℕ) (Represents : State → Configuration → Type 0)
-        (s : State)
-        (c : Configuration) (i : Instruction)
-        → turns_per_step ≤ more → IsMatched t fs program turns_per_step credit Represents s c i
+        (s : State) (c : Configuration) (i : Instruction) → turns_per_step ≤ more
+        → IsMatched t fs program turns_per_step credit Represents s c i
         → IsMatched t fs program more credit Represents s c i
     matched_slower turns_per_step more Represents s c i le m =
-        let e : (more - turns_per_step) + turns_per_step ≡ more = omega arith in
-        subst (λ n. IsMatched t fs program n credit Represents s c i) e
-        (matched_then turns_per_step (more - turns_per_step) Represents Represents s c i
-        (λ u d is_there. record {
-          turns = 0;
-          few = omega arith;
-          state = u;
-          comes = comes_nowhere t fs u;
-          is_there = is_there;
-        }) m)
+        matched_by 0 turns_per_step more Represents Represents s s c c i (comes_nowhere t fs s)
+        (omega arith) (stays Represents Represents c i (λ u e there. there)) m
+
+    -- by what a relation implies
+    pub matched_as : (turns_per_step : ℕ) (X Y : State → Configuration → Type 0)
+        → ((u : State) (d : Configuration) → X u d → Y u d)
+        → (s : State) (c : Configuration) (i : Instruction)
+        → IsMatched t fs program turns_per_step credit X s c i
+        → IsMatched t fs program turns_per_step credit Y s c i
+    matched_as turns_per_step X Y then s c i m =
+        matched_by 0 turns_per_step turns_per_step X Y s s c c i (comes_nowhere t fs s)
+        (omega arith)
+        (stays X Y c i then) m

@@ -1,83 +1,63 @@
 -- Whole programs, from the first turn of the machine on.
-use Rattle.std.proofs.Common.{◌≡◌, inl, inr, ℕ, ◌+◌, ◌-◌, ◌*◌, ◌≤◌, List, [], refl, sym, ap, subst, ◌∙◌, arith}
-use Rattle.std.proofs.lemmas.Bool.{cases_lt}
+use Rattle.std.proofs.Common.{◌≡◌, ℕ, ◌+◌, ◌*◌, List, [], sym, ap, subst, arith}
 use Rattle.std.specs.Prelude.{Option, ℤ}
-use Rattle.seh_num.specs.Shown.{Shown}
-use Rattle.seh_num.specs.declared.end.RunEnd.{RunEnd}
-use Rattle.x64_machine.specs.Effect.{State}
-use Rattle.virtual_unwind.specs.CallerOf.{Functions}
-use Rattle.host_model.specs.declared.funclet.Funclet.{Funclet}
-use Rattle.host_model.specs.HostStep.{host}
-use Rattle.host_model.specs.Machine.{run}
-use Rattle.linear_code.specs.Program.{LinearProgram, LinearFunction}
-use Rattle.linear_machine.specs.Frames.{Configuration, Seen, with_some}
-use Rattle.linear_machine.specs.Run.{exec, start, seen, shown}
-use Rattle.match_runs.specs.Ends.{HasRule, IsCalm}
-use Rattle.match_runs.specs.Laws.{ShowsAll, ShowsNoMore, RunBegins, RunsShowAll, RunsShowNoMore, ProgramsShowAll, ProgramsShowNoMore, TurnsAreEnough}
-use Rattle.match_runs.proofs.Turns.{run_comes}
-use Rattle.match_runs.proofs.All.{runs_show_all}
-use Rattle.match_runs.proofs.NoMore.{within_step, runs_show_no_more}
+use Rattle.match_runs.specs.Words.{State, Functions, Funclet, LinearProgram, Configuration, with_some, exec, HasRule}
+use Rattle.linear_code.specs.Program.{LinearFunction}
+use Rattle.linear_machine.specs.Run.{start, seen}
+use Rattle.match_runs.specs.Laws.{RunBegins, RunsShowAll, RunsShowNoMore, ProgramsShowAll, ProgramsShowNoMore, ProgramsWalkTheShadow, TurnsAreEnough}
+use Rattle.match_runs.proofs.MatchedRuns.{RunIsMatched, turns_before, matched_run}
+use Rattle.match_runs.proofs.All.{shows_all}
+use Rattle.match_runs.proofs.NoMore.{shows_no_more}
+use Rattle.match_runs.proofs.Shadowed.{walks_the_shadow}
 
 pub all : RunsShowAll
-all t fs program turns_per_step credit n turns s c follows rule enough = runs_show_all t fs program
-    turns_per_step
-    credit n turns s c follows rule enough
+all t fs program turns_per_step credit n turns s c follows rule enough =
+    shows_all t fs n (turns_per_step * n + credit c) turns s c.events (exec program n c)
+    (matched_run t fs program turns_per_step credit n s c follows rule) enough
 
 pub no_more : RunsShowNoMore
-no_more t fs program turns_per_step credit m n s c follows calm fewer = runs_show_no_more t fs
-    program turns_per_step
-    credit n m s c follows calm fewer
+no_more t fs program turns_per_step credit m n s c follows calm fewer =
+    shows_no_more t fs n (turns_per_step * n + credit c) m s c.events (exec program n c)
+    (matched_run t fs program turns_per_step credit n s c follows calm.rule) calm fewer
+
+-- ---- from the first turn on
 
 module _ (t : Functions) (fs : List Funclet) (program : LinearProgram) (turns_per_step : ℕ)
     (credit : Configuration → ℕ) (arg : ℤ) (first n : ℕ) (s : State)
     (b : RunBegins t fs program turns_per_step credit arg first s n) where
   -- the run of linear code
-  pub from_main : seen program arg n ≡ exec program n (start program arg b.main)
+  from_main : seen program arg n ≡ exec program n (start program arg b.main)
   unfolding with_some
   from_main = ap (λ (o : Option LinearFunction). with_some [] o
       (λ main. exec program n (start program arg main))) b.is_main
 
-  first_run : (turns : ℕ) → run t fs (first + turns) (host s) [] ≡ run t fs turns (host b.state) []
-  first_run turns = run_comes t fs first turns s b.state [] [] b.comes
-
-  pub program_all : (turns : ℕ) → HasRule (seen program arg n) → first + turns_per_step * n ≤ turns
-      → ShowsAll (shown (seen program arg n)) (run t fs turns (host s) [])
-  program_all turns rule enough =
+  -- turns of the machine match a program's run
+  program_run : HasRule (seen program arg n)
+      → RunIsMatched t fs n (first + turns_per_step * n) s [] (seen program arg n)
+  program_run rule =
       let none = b.no_credit in
-      let split : turns ≡ first + (turns - first) = omega arith in
-      subst (λ (x : Seen). ShowsAll (shown x) (run t fs turns (host s) [])) (sym from_main)
-      (subst (λ (x : Shown RunEnd). ShowsAll (shown (exec program n (start program arg b.main))) x)
-      (sym (ap (λ k. run t fs k (host s) []) split ∙ first_run (turns - first)))
-      (runs_show_all t fs program turns_per_step credit n (turns - first) b.state
-      (start program arg b.main)
-      b.follows (subst HasRule from_main rule) (omega arith)))
-
-  pub program_no_more : (m : ℕ) → IsCalm (seen program arg n) → m ≤ n
-      → ShowsNoMore (shown (seen program arg n)) (run t fs m (host s) [])
-  program_no_more m calm fewer =
-      elim (cases_lt m first) as (λ _. ShowsNoMore (shown (seen program arg n))
-      (run t fs m (host s) [])) [
-        | inl lt ↦ within_step t fs (shown (seen program arg n)) first m s b.state [] [] b.comes lt
-            ((shown (seen program arg n)).events, refl)
-        | inr le ↦
-            let split : m ≡ first + (m - first) = omega arith in
-            subst (λ (x : Seen). ShowsNoMore (shown x) (run t fs m (host s) [])) (sym from_main)
-            (subst (λ (x : Shown RunEnd). ShowsNoMore
-            (shown (exec program n (start program arg b.main))) x)
-            (sym (ap (λ k. run t fs k (host s) []) split ∙ first_run (m - first)))
-            (runs_show_no_more t fs program turns_per_step credit n (m - first) b.state
-            (start program arg b.main) b.follows (subst IsCalm from_main calm) (omega arith)))
-      ]
+      let c = start program arg b.main in
+      subst (RunIsMatched t fs n (first + turns_per_step * n) s []) (sym from_main)
+      (turns_before t fs first n (turns_per_step * n + credit c) n (first + turns_per_step * n) s
+      b.state [] [] (exec program n c) (omega arith) (omega arith) b.comes
+      (matched_run t fs program turns_per_step credit n b.state c b.follows
+      (subst HasRule from_main rule)))
 
 pub programs_all : ProgramsShowAll
-programs_all t fs program turns_per_step credit arg first n turns s b rule enough = program_all t fs
-    program
-    turns_per_step credit arg first n s b turns rule enough
+programs_all t fs program turns_per_step credit arg first n turns s b rule enough =
+    shows_all t fs n (first + turns_per_step * n) turns s [] (seen program arg n)
+    (program_run t fs program turns_per_step credit arg first n s b rule) enough
 
 pub programs_no_more : ProgramsShowNoMore
-programs_no_more t fs program turns_per_step credit arg first m n s b calm fewer = program_no_more t
-    fs
-    program turns_per_step credit arg first n s b m calm fewer
+programs_no_more t fs program turns_per_step credit arg first m n s b calm fewer =
+    shows_no_more t fs n (first + turns_per_step * n) m s [] (seen program arg n)
+    (program_run t fs program turns_per_step credit arg first n s b calm.rule) calm fewer
+
+pub programs_walk_the_shadow : ProgramsWalkTheShadow
+programs_walk_the_shadow t fs program turns_per_step credit arg first m n s cs b calm fewer walk
+    none =
+    walks_the_shadow t fs n (first + turns_per_step * n) m s cs [] (seen program arg n)
+    (program_run t fs program turns_per_step credit arg first n s b calm.rule) calm fewer walk none
 
 pub enough : TurnsAreEnough
 enough n first le = omega arith

@@ -1,18 +1,11 @@
 -- Steps of linear code, and what they show whatever follows.
-use Rattle.std.proofs.Common.{◌≡◌, inl, inr, ℕ, zero, suc, ◌+◌, List, refl, sym, ap, subst, ◌∙◌, arith}
+use Rattle.std.proofs.Common.{◌≡◌, ℕ, zero, suc, ◌+◌, List, refl, ap, subst, ◌∙◌, arith}
 use Rattle.std.specs.Prelude.{Option, Some, None}
-use Rattle.x64_machine.specs.Effect.{State}
-use Rattle.virtual_unwind.specs.CallerOf.{Functions}
-use Rattle.host_model.specs.declared.funclet.Funclet.{Funclet}
-use Rattle.linear_code.specs.declared.instruction.Instruction.{Instruction}
-use Rattle.linear_code.specs.Program.{LinearProgram}
-use Rattle.linear_machine.specs.Frames.{Configuration, Seen, Running, Finished, Stuck, with_some}
-use Rattle.linear_machine.specs.Instructions.{act}
-use Rattle.linear_machine.specs.Run.{instruction_at, exec, shown}
-use Rattle.linear_machine.proofs.RunLengths.{events_of, More, longer, from_none}
-use Rattle.source_meaning.specs.Laws.{IsPrefixOf}
-use Rattle.match_runs.specs.Ends.{HasRule}
-use Rattle.match_runs.specs.Matched.{IsMatched, Follows, Simulates}
+use Rattle.match_runs.specs.Words.{State, Functions, Funclet, LinearProgram, Instruction, Configuration, Finished, Running, Seen, with_some, act, instruction_at, exec, HasRule, Follows, IsMatched}
+use Rattle.linear_machine.specs.Frames.{Stuck}
+use Rattle.linear_machine.proofs.RunLengths.{More, longer}
+use Rattle.match_runs.specs.Matched.{StepIsMatched, Simulates}
+use Rattle.match_runs.proofs.Matches.{matched_as}
 
 module _ (program : LinearProgram) where
   -- a step and what follows
@@ -53,44 +46,41 @@ module _ (program : LinearProgram) where
       → HasRule (exec program (suc n) c) → ⊥
   none_has_no_rule n c e rule = subst HasRule (at_none n c e) rule
 
-  shown_events : (a : Seen) → (shown a).events ≡ events_of a
-  shown_events (Running es) = refl
-  shown_events (Finished e es) = refl
-  shown_events (Stuck es) = refl
+-- ---- steps that are matched
 
-  -- what was shown before is the front of what is shown
-  pub before : (n : ℕ) (c : Configuration) → IsPrefixOf c.events (shown (exec program n c)).events
-  before n c = let x = from_none program n c in
-      (x.0, sym x.1 ∙ sym (shown_events (exec program n c)))
-
--- ---- relations that each step keeps
+-- the instruction of a next step, and that it is matched
+pub record MatchedStep (t : Functions) (fs : List Funclet) (program : LinearProgram)
+    (turns_per_step : ℕ) (credit : Configuration → ℕ) (Represents : State → Configuration → Type 0)
+    (s : State) (c : Configuration) : Type 0 where
+  pub instruction : Instruction
+  pub at : instruction_at program c ≡ Some instruction
+  pub matched : IsMatched t fs program turns_per_step credit Represents s c instruction
 
 module _ (t : Functions) (fs : List Funclet) (program : LinearProgram) (turns_per_step : ℕ)
-    (credit : Configuration → ℕ) (R : ℕ → State → Configuration → Type 0)
-    (simulates : Simulates t fs program turns_per_step credit R) where
-  with_less : (n : ℕ) (s : State) (c : Configuration) (i : Instruction)
-      → ((u : State) (d : Configuration) → R n u d → Follows t fs program turns_per_step credit n u
-      d)
-      → IsMatched t fs program turns_per_step credit (R n) s c i
-      → IsMatched t fs program turns_per_step credit (Follows t fs program turns_per_step credit n)
-      s c i
-  with_less n s c i rest (inl v) = inl (record {
-    turns = v.turns;
-    some = v.some;
-    configuration = v.configuration;
-    few = v.few;
-    state = v.state;
-    events = v.events;
-    comes = v.comes;
-    acts = v.acts;
-    shown = v.shown;
-    is_there = rest v.state v.configuration v.is_there;
-  })
-  with_less n s c i rest (inr (inl v)) = inr (inl v)
-  with_less n s c i rest (inr (inr v)) = inr (inr v)
+    (credit : Configuration → ℕ) where
+  -- a step of a run that isn't stuck
+  pub matched_step : (Represents : State → Configuration → Type 0) (n : ℕ) (s : State)
+      (c : Configuration) → StepIsMatched t fs program turns_per_step credit Represents s c
+      → HasRule (exec program (suc n) c)
+      → MatchedStep t fs program turns_per_step credit Represents s c
+  matched_step Represents n s c step rule = by (instruction_at program c) refl
+    where
+      by : (o : Option Instruction) → instruction_at program c ≡ o
+          → MatchedStep t fs program turns_per_step credit Represents s c
+      by None at = absurd (none_has_no_rule program n c at rule)
+      by (Some i) at = record {
+        instruction = i;
+        at = at;
+        matched = step i at (first_has_rule program n c i at rule);
+      }
 
-  pub follows : (n : ℕ) (s : State) (c : Configuration) → R n s c
-      → Follows t fs program turns_per_step credit n s c
-  follows zero s c r = simulates.live s c r
-  follows (suc n) s c r = λ i at rule. with_less n s c i (follows n)
+  -- ---- relations that each step keeps
+
+  pub follows : (R : ℕ → State → Configuration → Type 0)
+      → Simulates t fs program turns_per_step credit R → (n : ℕ) (s : State) (c : Configuration)
+      → R n s c → Follows t fs program turns_per_step credit n s c
+  follows R simulates zero s c r = simulates.live s c r
+  follows R simulates (suc n) s c r = λ i at rule. matched_as t fs program credit turns_per_step
+      (R n)
+      (Follows t fs program turns_per_step credit n) (follows R simulates n) s c i
       (simulates.steps n s c r i at rule)

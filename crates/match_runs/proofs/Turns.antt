@@ -2,21 +2,11 @@
 use Rattle.std.proofs.Common.{◌≡◌, ℕ, zero, suc, ◌+◌, ◌<◌, Bool, Some, None, Ok, List, [], ◌++◌, refl, sym, ap, subst, ◌∙◌, arith, append_assoc}
 use Rattle.std.proofs.lemmas.List.{append-nil}
 use Rattle.std.specs.Prelude.{◌==◌}
-use Rattle.seh_num.specs.declared.width.Width.TheVariants.{W32}
-use Rattle.seh_num.specs.declared.event.Event.{Event}
-use Rattle.seh_num.specs.declared.end.RunEnd.{RunEnd}
+use Rattle.match_runs.specs.Words.{signed, RunEnd, Event, W32, Rax, State, register, step, Functions, distance, arrivals, host, turn, run, Continues, Ends, Funclet, Comes, IsLive, KeepsShadow}
 use Rattle.seh_num.specs.declared.end.RunEnd.TheVariants as ends
-use Rattle.seh_num.specs.Widths.{signed}
-use Rattle.x64_instr.specs.declared.register.Reg.TheVariants.{Rax}
-use Rattle.x64_machine.specs.Effect.{State, register, step}
-use Rattle.virtual_unwind.specs.CallerOf.{Functions, distance}
-use Rattle.host_model.specs.declared.funclet.Funclet.{Funclet}
-use Rattle.host_model.specs.Turns.{Continues, Ends}
-use Rattle.host_model.specs.Funclets.{arrivals, arrived}
-use Rattle.host_model.specs.HostStep.{Ended, over, host, turned, turn, end_of}
-use Rattle.host_model.specs.Machine.{or_turn, continued_by, run}
-use Rattle.match_runs.specs.Shadow.{KeepsShadow}
-use Rattle.match_runs.specs.Comes.{IsLive, Comes}
+use Rattle.host_model.specs.Funclets.{arrived}
+use Rattle.host_model.specs.HostStep.{Ended, over, turned, end_of}
+use Rattle.host_model.specs.Machine.{or_turn, continued_by}
 
 module _ (t : Functions) (fs : List Funclet) where
   -- ---- turns

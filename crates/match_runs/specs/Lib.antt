@@ -5,3 +5,4 @@ pub mod Comes
 pub mod Ends
 pub mod Matched
 pub mod Laws
+pub mod Words

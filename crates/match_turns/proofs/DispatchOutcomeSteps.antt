@@ -7,6 +7,7 @@ use Rattle.seh_num.specs.declared.end.RunEnd.TheVariants as ends
 use Rattle.match_turns.proofs.Lemmas.{comes_one, silently_before, silently_after}
 use Rattle.match_bodies.specs.Bodies.{RepresentsAt}
 use Rattle.match_turns.specs.DispatchOutcome.{Represents, EntersFunclet, Outcome}
+use Rattle.match_runs.proofs.Matches.{matched_as}
 
 -- an event that is shown first
 pub arrived_with : (t : Functions) (fs : List Funclet) (e : Event) (x : Turn)
@@ -40,79 +41,60 @@ module _ (t : Functions) (fs : List Funclet) (program : LinearProgram) (p : Imag
       is_there = inl l.is_there;
     }
 
-    pub outcome_same : (x y : Turn) (seen other : Next → Seen) (es : List Event) (left : ℕ)
-        (shadow : List Context) → y ≡ x → ((next : Next) → other next ≡ seen next)
-        → Outcome t fs program p q x seen es left shadow
-        → Outcome t fs program p q y other es left shadow
-    outcome_same x y seen other es left shadow e same (inl g) = inl (record {
-      state = g.state;
-      events = g.events;
-      turns = e ∙ g.turns;
-      configuration = g.configuration;
-      few = g.few;
-      acts = λ next. same next ∙ g.acts next;
-      shown = g.shown;
-      silent = g.silent;
-      walk = g.walk;
-      leads = g.leads;
-    })
-    outcome_same x y seen other es left shadow e same (inr (inl g)) = inr (inl (record {
-      state = g.state;
-      event = g.event;
-      turns = e ∙ g.turns;
-      configuration = g.configuration;
-      more = g.more;
-      held = g.held;
-      store = g.store;
-      few = g.few;
-      acts = λ next. same next ∙ g.acts next;
-      shown = g.shown;
-      arrives = g.arrives;
-      walk = g.walk;
-      leads = g.leads;
-    }))
-    outcome_same x y seen other es left shadow e same (inr (inr g)) = inr
-        (inr (record {
-          code = g.code;
-          turns = e ∙ g.turns;
-          acts = λ next. same next ∙ g.acts
-              next;
-        }))
+    -- where an instruction is matched up to the beginning of the next one, it is matched
+    pub matched_there : (most : ℕ) (s : State) (c : Configuration) (i : Instruction)
+        → IsMatched t fs program most turns_left (RepresentsAt t fs program p q) s c i
+        → IsMatched t fs program most turns_left (Represents t fs program p q) s c i
+    matched_there most s c i m = matched_as t fs program turns_left most
+        (RepresentsAt t fs program p q) (Represents t fs program p q) (λ u d there. inl there) s c i
+        m
 
-    -- with more turns left
-    pub outcome_more : (x : Turn) (seen : Next → Seen) (es : List Event) (left more : ℕ)
-        (shadow : List Context) → left ≤ more → Outcome t fs program p q x seen es left shadow
-        → Outcome t fs program p q x seen es more shadow
-    outcome_more x seen es left more shadow le (inl g) =
-        let few = g.few in
+    -- an outcome by other names, with as many turns left or more
+    pub outcome_by : (x y : Turn) (seen other : Next → Seen) (es : List Event) (left more : ℕ)
+        (shadow : List Context) → y ≡ x → ((next : Next) → other next ≡ seen next) → left ≤ more
+        → Outcome t fs program p q x seen es left shadow
+        → Outcome t fs program p q y other es more shadow
+    outcome_by x y seen other es left more shadow e same le (inl g) = let few = g.few in
         inl (record {
           state = g.state;
           events = g.events;
-          turns = g.turns;
+          turns = e ∙ g.turns;
           configuration = g.configuration;
           few = omega arith;
-          acts = g.acts;
+          acts = λ next. same next ∙ g.acts next;
           shown = g.shown;
           silent = g.silent;
           walk = g.walk;
           leads = g.leads;
         })
-    outcome_more x seen es left more shadow le (inr (inl g)) = inr (inl (record {
+    outcome_by x y seen other es left more shadow e same le (inr (inl g)) = inr (inl (record {
       state = g.state;
       event = g.event;
-      turns = g.turns;
+      turns = e ∙ g.turns;
       configuration = g.configuration;
       more = g.more;
       held = g.held;
       store = g.store;
       few = λ shallow. let few = g.few shallow in omega arith;
-      acts = g.acts;
+      acts = λ next. same next ∙ g.acts next;
       shown = g.shown;
       arrives = g.arrives;
       walk = g.walk;
       leads = g.leads;
     }))
-    outcome_more x seen es left more shadow le (inr (inr g)) = inr (inr g)
+    outcome_by x y seen other es left more shadow e same le (inr (inr g)) = inr
+        (inr (record {
+          code = g.code;
+          turns = e ∙ g.turns;
+          acts = λ next. same next ∙ g.acts next;
+        }))
+
+    pub outcome_same : (x y : Turn) (seen other : Next → Seen) (es : List Event) (left : ℕ)
+        (shadow : List Context) → y ≡ x → ((next : Next) → other next ≡ seen next)
+        → Outcome t fs program p q x seen es left shadow
+        → Outcome t fs program p q y other es left shadow
+    outcome_same x y seen other es left shadow e same o = outcome_by x y seen other es left left
+        shadow e same (omega arith) o
 
     -- silent turns, and one turn of the host, which shows some events before those of its outcome
     module _ (turns_per_step k left : ℕ) (s u : State) (c : Configuration) (i : Instruction)

@@ -6,7 +6,7 @@ use Rattle.seh_num.specs.declared.event.Event.TheVariants as events
 use Rattle.match_turns.proofs.Lemmas.{in_stack, answers_continue, finally_returns_unwind, none_below, on_stack, stack_rises}
 use Rattle.match_stack.proofs.FilterAnswers.{filter_returns}
 use Rattle.match_turns.proofs.DispatchMemory.{memory_untouched, placing}
-use Rattle.match_turns.proofs.DispatchOutcomeSteps.{arrived_with, with_one, with_two, with_none, outcome_same, outcome_more}
+use Rattle.match_turns.proofs.DispatchOutcomeSteps.{arrived_with, with_one, with_two, with_none, outcome_same, outcome_by}
 use Rattle.match_turns.proofs.UnwindTurn.{unwound}
 use Rattle.match_turns.proofs.SearchTurn.{searched, taken_over}
 
@@ -62,27 +62,23 @@ module _ (setting : Setting) (fits : FlagsFit setting.program) where
     asks_next a rule =
         let x = searches_on t s at r in
         shows x a.turns
-        (outcome_more t fs program p q (arrived t fs x) seen (c.events ++ event ∷ []) (turns_left c)
-        (turns_left c + 3) shadow (omega arith)
-        (outcome_same t fs program p q (arrived t fs x) (arrived t fs x)
-        (λ next. search program next rest exception resumption c') seen (c.events ++ event ∷ [])
-        (turns_left c) shadow refl a.goes
+        (outcome_by t fs program p q (arrived t fs x) (arrived t fs x)
+        (λ next. search program next rest exception resumption c') seen
+        (c.events ++ event ∷ []) (turns_left c) (turns_left c + 3) shadow refl a.goes (omega arith)
         (searched setting fits s at r is acts exception rest c' onward.next memory store resumption
-        resumes (subst HasRule (a.goes (exec program zero)) rule))))
+        resumes (subst HasRule (a.goes (exec program zero)) rule)))
 
     asked_takes_over : AskedTakesOver t fs program p s r is exception resumption asked rest c
         → HasRule (seen (exec program zero)) → Answers
     asked_takes_over a rule =
         let x = accepted t s at r r.frame a.address in
         shows x a.turns
-        (outcome_more t fs program p q (arrived t fs x) seen (c.events ++ event ∷ []) (turns_left c)
-        (turns_left c + 3) shadow (omega arith)
-        (outcome_same t fs program p q (arrived t fs x) (arrived t fs x)
-        (λ next. accept program asked exception next c') seen (c.events ++ event ∷ [])
-        (turns_left c) shadow refl a.goes
+        (outcome_by t fs program p q (arrived t fs x) (arrived t fs x)
+        (λ next. accept program asked exception next c') seen
+        (c.events ++ event ∷ []) (turns_left c) (turns_left c + 3) shadow refl a.goes (omega arith)
         (taken_over setting fits s at r is acts exception rest c' onward.next memory store asked
         r.frame a.address a.frame_small a.address_small a.aimed
-        (subst HasRule (a.goes (exec program zero)) rule))))
+        (subst HasRule (a.goes (exec program zero)) rule)))
 
     is_continued : ContinuesException t fs program p s r is acts exception resumption asked rest c
         → Answers
@@ -160,15 +156,13 @@ module _ (setting : Setting) (fits : FlagsFit setting.program) where
               ∙ arrived_with t fs event (with_event e x)
               ∙ ap (with_event event) (arrived_with t fs e x) ∙ with_two event e y;
           outcome = subst (λ (es : List Event). Outcome setting y seen es (turns_left c + 3) shadow)
-              assoc (outcome_more t fs program p q y seen ((c.events ++ event ∷ []) ++ e ∷ [])
-              (turns_left c) (turns_left c + 3) shadow (omega arith)
-              (outcome_same t fs program p q y y
+              assoc (outcome_by t fs program p q y y
               (λ next. search program next (handlers program (Waits c.frame ∷ c.below) None)
               noncontinuable resumption c2) seen ((c.events ++ event ∷ []) ++ e ∷ [])
-              (turns_left c) shadow refl a.goes
+              (turns_left c) (turns_left c + 3) shadow refl a.goes (omega arith)
               (searched setting fits (placed_in s at anew) at anew is acts noncontinuable
               (handlers program (Waits c.frame ∷ c.below) None) c2 g.anew memory' store resumption
-              resumes (subst HasRule (a.goes (exec program zero)) rule))));
+              resumes (subst HasRule (a.goes (exec program zero)) rule)));
         }
 
     -- whatever it answers

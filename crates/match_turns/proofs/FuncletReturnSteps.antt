@@ -1,10 +1,11 @@
 -- A funclet returns, by what waits below it.
 use Rattle.std.proofs.Common.{◌≡◌, ℕ, zero, Option, Some, None, List, [], ◌∷◌, refl, subst, inl}
 use Rattle.std.specs.Prelude.{slice_get}
-use Rattle.match_turns.specs.Words.{State, Slot, LinearFunclet, FuncletBody, Item, Waits, Searches, Unwinds, Configuration, read, act, instruction_at, exec, FuncletIsAbove, IsAbove, HasRule, Moves, IsMatched, turns_left, IsWellMade, IsKnown, KnownNext, turns_per_step, FlagsFit, Setting, setting_of, RepresentsAt, Continuations, Represents}
+use Rattle.match_turns.specs.Words.{State, Slot, LinearFunclet, FuncletBody, Item, Waits, Searches, Unwinds, Configuration, read, act, instruction_at, exec, FuncletIsAbove, IsAbove, HasRule, IsMatched, turns_left, IsWellMade, IsKnown, KnownNext, turns_per_step, FlagsFit, Setting, setting_of, RepresentsAt, Continuations, Represents}
 use Rattle.linear_code.specs.declared.instruction.Instruction.TheVariants as instructions
 use Rattle.match_turns.proofs.Lemmas.{counted_here, code_at, ready_here}
 use Rattle.match_turns.proofs.FuncletSteps.{reads_some, returns_of_blocks_are_matched}
+use Rattle.match_turns.proofs.DispatchOutcomeSteps.{matched_there}
 use Rattle.match_turns.specs.EndLaws.{FuncletReturnsAreMatched}
 use Rattle.match_turns.proofs.FuncletReturn.{filter_returns, block_returns}
 
@@ -23,21 +24,6 @@ module _ (setting : Setting) (made : IsWellMade setting.program setting.plan)
 
     value : (x : ℕ) × (read c from ≡ Some x)
     value = reads_some c from (ready_here setting made s c b known (instructions.Return from) at)
-
-    moves_on : Moves t fs program turns_per_step turns_left (RepresentsAt setting) s c
-        (instructions.Return from) → Goal
-    moves_on m = inl (record {
-      turns = m.turns;
-      some = m.some;
-      configuration = m.configuration;
-      few = m.few;
-      state = m.state;
-      events = m.events;
-      comes = m.comes;
-      acts = m.acts;
-      shown = m.shown;
-      is_there = inl m.is_there;
-    })
 
     module _ (g : LinearFunclet) (there : slice_get program.funclets k ≡ Some g) where
       by_list : (items : List Item) → c.below ≡ items
@@ -59,7 +45,8 @@ module _ (setting : Setting) (made : IsWellMade setting.program setting.plan)
           (code_at setting made s c b known (instructions.Return from) at) value.0 value.1 g there
           rule after fits h.0 h.1 rest target f below e known.stacked.below
       by_list (Waits w ∷ below) e h =
-          moves_on (returns_of_blocks_are_matched t fs program p q image made s c from b known at
+          matched_there t fs program p q turns_per_step s c (instructions.Return from)
+          (inl (returns_of_blocks_are_matched t fs program p q image made s c from b known at
           (record {
             number = k;
             name = name;
@@ -70,7 +57,7 @@ module _ (setting : Setting) (made : IsWellMade setting.program setting.plan)
             body = w;
             items = below;
             below = e;
-          }))
+          })))
 
     by_funclet : (o : Option LinearFunclet) → slice_get program.funclets k ≡ o
         → FuncletIsAbove t fs program p k c.frame o c.below → Goal

@@ -1,6 +1,6 @@
 -- Each operation is matched, wherever the machine is.
-use Rattle.std.proofs.Common.{◌≡◌, ℕ, zero, ◌+◌, Bool, List, Option, Some, sym, subst, ◌∙◌, arith, inl, inr}
-use Rattle.match_turns.specs.Words.{Code, State, Functions, Funclet, Operation, OperationResult, Gives, Raises, Undefined, is_reserved, Slot, Local, Temporary, Instruction, LinearProgram, Configuration, body_of, act, instruction_at, exec, ImagePlan, IsTemporary, ReadsWell, IsInstructionOf, IsReady, HasRule, Moves, IsMatched, Sites, turns_left, IsWellMade, IsKnown, KnownNext, turns_per_step, FlagsFit, ComesTo, Setting, setting_of, WorksOn, RetriesAreMatched, ContinuationsAtOperations, OperationsAreMatched}
+use Rattle.std.proofs.Common.{◌≡◌, ℕ, zero, ◌+◌, Bool, Option, Some, sym, subst, ◌∙◌, arith, inl, inr}
+use Rattle.match_turns.specs.Words.{Code, State, Operation, OperationResult, Gives, Raises, Undefined, is_reserved, Slot, Local, Temporary, Instruction, LinearProgram, Configuration, body_of, act, instruction_at, exec, IsTemporary, ReadsWell, IsInstructionOf, IsReady, HasRule, IsMatched, turns_left, IsWellMade, IsKnown, KnownNext, turns_per_step, FlagsFit, ComesTo, Setting, setting_of, WorksOn, RetriesAreMatched, ContinuationsAtOperations, OperationsAreMatched}
 use Rattle.linear_code.specs.declared.instruction.Instruction.TheVariants as instructions
 use Rattle.match_turns.proofs.Lemmas.{matched_after, matched_slower, comes_nowhere, each, some_is, label_in, body_there}
 use Rattle.match_bodies.specs.Bodies.{RepresentsAt}
@@ -11,6 +11,7 @@ use Rattle.match_turns.proofs.OperationOperands.{fetched}
 use Rattle.match_turns.proofs.FaultRaise.{raised_at_once}
 use Rattle.match_turns.proofs.OperationCompletion.{completed}
 use Rattle.match_turns.proofs.FaultContinuation.{silent_there, works_on}
+use Rattle.match_turns.proofs.DispatchOutcomeSteps.{matched_there}
 
 -- the operation that an instruction is comes to this
 abbrev Meets : LinearProgram → Configuration → OperationResult → Instruction → Type 0
@@ -21,24 +22,6 @@ ready_at : (program : LinearProgram) (c : Configuration) (i : Instruction) → I
     → instruction_at program c ≡ Some i → IsReady program c i
 ready_at program c i known e = subst (IsReady program c)
     (some_is known.continues.instruction i (sym known.continues.at ∙ e)) known.continues.ready
-
--- where an instruction begins, the machine is
-pub matched_represents : (t : Functions) (fs : List Funclet) (program : LinearProgram)
-    (p : ImagePlan) (q : Sites) (most : ℕ) (s : State) (c : Configuration) (i : Instruction)
-    → Moves t fs program most turns_left (RepresentsAt t fs program p q) s c i
-    → IsMatched t fs program most turns_left (Represents t fs program p q) s c i
-matched_represents t fs program p q most s c i m = inl (record {
-  turns = m.turns;
-  some = m.some;
-  configuration = m.configuration;
-  few = m.few;
-  state = m.state;
-  events = m.events;
-  comes = m.comes;
-  acts = m.acts;
-  shown = m.shown;
-  is_there = inl m.is_there;
-})
 
 module _ (setting : Setting) (made : IsWellMade setting.program setting.plan)
     (fits : FlagsFit setting.program) where
@@ -59,9 +42,8 @@ module _ (setting : Setting) (made : IsWellMade setting.program setting.plan)
       → KnownNext program c (again s c w)
       → IsMatched t fs program turns_per_step turns_left (Represents t fs program p q) s c
       (again s c w)
-  within_operation s c w known (Gives value m) h rule next = matched_represents t fs program p q
-      turns_per_step s c
-      (again s c w) (completed setting made s c w known value m h rule)
+  within_operation s c w known (Gives value m) h rule next = matched_there t fs program p q
+      turns_per_step s c (again s c w) (inl (completed setting made s c w known value m h rule))
   within_operation s c w known (Raises code access) h rule next =
       matched_slower t fs program turns_left 7 turns_per_step (Represents t fs program p q) s c
       (again s c w)
@@ -136,9 +118,9 @@ module _ (setting : Setting) (made : IsWellMade setting.program setting.plan)
         → IsMatched t fs program turns_per_step turns_left (Represents t fs program p q) s c
         (instructions.Compute to o first second)
     from_beginning first second (Gives value m) h e rule next =
-        matched_represents t fs program p q turns_per_step s c
+        matched_there t fs program p q turns_per_step s c
         (instructions.Compute to o first second)
-        (within_body t fs program p q image made s c (instructions.Compute to o first second) b
+        (inl (within_body t fs program p q image made s c (instructions.Compute to o first second) b
         known e (record {
           a = h.a;
           b = h.b;
@@ -147,7 +129,7 @@ module _ (setting : Setting) (made : IsWellMade setting.program setting.plan)
           value = value;
           memory = m;
           gives = h.comes;
-        }) rule)
+        }) rule))
     from_beginning first second (Raises code access) h e rule next =
         let i = instructions.Compute to o first second in
         let there = body_there (body_of program c.frame.body) c.frame.next i e in

@@ -1,14 +1,11 @@
 -- Each step shows more or the same.
 use Rattle.std.proofs.Common.{ℕ, zero, suc, List, [], ◌∷◌, ◌++◌, length, refl, Option, Some, None}
 use Rattle.std.specs.Prelude.{Bool, true, false, nat_eq, slice_get}
-use Rattle.std.proofs.lemmas.List.{append-nil}
 use Rattle.source_machine.specs.Words.{Event, BuiltIn, Put, Protect, RaiseException, Operation, performed, Program, Function, Lvalue, Local, Global, Indirection, Element, Filter, Always, Funclet, Statements, is_reserved, Exception, Result, Value, Normal, Returned, Continued, LeftTry, Target, End, Handler, Task, IsPrefixOf, Place, Callee, ContinuationFrame, Operand, Assignment, InStatement, Sequel, Body, EndsCall, Lands, Finishes, Next, Over, Give, Start, Begin, Plan, Then, Push, operand_plan, assignment_plan, in_statement_plan, sequel_plan, body_plan, Machine, follow, unless_deep, started, begun, fetched, put, operated, entered, built_in, called, asked_by, asked, searched, target_landed, landed, finished, left_call, after_value, after_normal, after_body, resumed, given, outside, done, is_deep, with_local, Extends}
 use Rattle.c_operations.specs.Performed as performing
 use Rattle.source_meaning.specs.Tasks as tasks
 use Rattle.source_machine.specs.Frames as frames
-
-nothing : (es : List Event) → IsPrefixOf es es
-nothing es = ([], append-nil es)
+use Rattle.source_meaning.proofs.Prefixes.{prefix_self}
 
 one : (es : List Event) (e : Event) → IsPrefixOf es (es ++ e ∷ [])
 one es e = (e ∷ [], refl)
@@ -23,49 +20,49 @@ follows es m (Push f next) h = h
 
 unless_shows : (b : Bool) (m other : Machine) → Shows m.state.events other
     → Shows m.state.events (unless_deep b m other)
-unless_shows true m other h = nothing m.state.events
+unless_shows true m other h = prefix_self m.state.events
 unless_shows false m other h = h
 
 value_shows : (m : Machine) (plan : ℕ → Plan) (how : Result)
     → Shows m.state.events (after_value m plan how)
-value_shows m plan (Value v) = follows m.state.events m (plan v) (nothing m.state.events)
-value_shows m plan how = nothing m.state.events
+value_shows m plan (Value v) = follows m.state.events m (plan v) (prefix_self m.state.events)
+value_shows m plan how = prefix_self m.state.events
 
 normal_shows : (m : Machine) (plan : Plan) (how : Result)
     → Shows m.state.events (after_normal m plan how)
-normal_shows m plan Normal = follows m.state.events m plan (nothing m.state.events)
-normal_shows m plan how = nothing m.state.events
+normal_shows m plan Normal = follows m.state.events m plan (prefix_self m.state.events)
+normal_shows m plan how = prefix_self m.state.events
 
 body_shows : (m : Machine) (plan : Plan) (how : Result)
     → Shows m.state.events (after_body m plan how)
-body_shows m plan Normal = follows m.state.events m plan (nothing m.state.events)
-body_shows m plan Continued = follows m.state.events m plan (nothing m.state.events)
-body_shows m plan how = nothing m.state.events
+body_shows m plan Normal = follows m.state.events m plan (prefix_self m.state.events)
+body_shows m plan Continued = follows m.state.events m plan (prefix_self m.state.events)
+body_shows m plan how = prefix_self m.state.events
 
 call_shows : (m : Machine) (n : ℕ) (how : Result) → Shows m.state.events (left_call m n how)
-call_shows m n (End e) = nothing m.state.events
-call_shows m n Normal = nothing m.state.events
-call_shows m n (Returned v) = nothing m.state.events
-call_shows m n how = nothing m.state.events
+call_shows m n (End e) = prefix_self m.state.events
+call_shows m n Normal = prefix_self m.state.events
+call_shows m n (Returned v) = prefix_self m.state.events
+call_shows m n how = prefix_self m.state.events
 
 target_shows : (b : Bool) (m : Machine) (held : ℕ) (block : Statements) (p : Place) (to : ℕ)
     (exc : Exception) → Shows m.state.events (target_landed m b held block p to exc)
 target_shows true m held block p to exc = one m.state.events _
-target_shows false m held block p to exc = nothing m.state.events
+target_shows false m held block p to exc = prefix_self m.state.events
 
 land_shows : (m : Machine) (held : ℕ) (block : Statements) (p : Place) (how : Result)
     → Shows m.state.events (landed m held block p how)
-land_shows m held block p LeftTry = nothing m.state.events
+land_shows m held block p LeftTry = prefix_self m.state.events
 land_shows m held block p (Target to exc) =
     target_shows (nat_eq to (length m.handlers)) m held block p to exc
-land_shows m held block p how = nothing m.state.events
+land_shows m held block p how = prefix_self m.state.events
 
 finish_shows : (m : Machine) (k : ℕ) (last : Statements) (p : Place) (how : Result)
     → Shows m.state.events (finished m k last p how)
-finish_shows m k last p (End e) = nothing m.state.events
-finish_shows m k last p Normal = nothing m.state.events
-finish_shows m k last p LeftTry = nothing m.state.events
-finish_shows m k last p how = nothing m.state.events
+finish_shows m k last p (End e) = prefix_self m.state.events
+finish_shows m k last p Normal = prefix_self m.state.events
+finish_shows m k last p LeftTry = prefix_self m.state.events
+finish_shows m k last p how = prefix_self m.state.events
 
 resumed_shows : (m : Machine) (f : ContinuationFrame) (how : Result)
     → Shows m.state.events (resumed m f how)
@@ -80,59 +77,60 @@ resumed_shows m (Finishes k last p) how = finish_shows m k last p how
 
 given_shows : (m : Machine) (how : Result) (fs : List ContinuationFrame)
     → Shows m.state.events (given m how fs)
-given_shows m how [] = nothing m.state.events
+given_shows m how [] = prefix_self m.state.events
 given_shows m how (f ∷ fs) =
     resumed_shows (record m { handlers = outside f m.handlers; stack = fs }) f how
 
 started_shows : (m : Machine) (task : Task) (p : Place) (n : ℕ)
     → Shows m.state.events (started m task p n)
-started_shows m task p zero = nothing m.state.events
-started_shows m task p (suc n) = nothing m.state.events
+started_shows m task p zero = prefix_self m.state.events
+started_shows m task p (suc n) = prefix_self m.state.events
 
 begun_shows : (m : Machine) (task : Task) (p : Place) → Shows m.state.events (begun m task p)
-begun_shows m (tasks.Eval e) p = follows m.state.events m _ (nothing m.state.events)
-begun_shows m (tasks.Locate l) p = nothing m.state.events
-begun_shows m (tasks.Run s) p = follows m.state.events m _ (nothing m.state.events)
-begun_shows m (tasks.ForIteration c next s) p = follows m.state.events m _ (nothing m.state.events)
-begun_shows m (tasks.DoIteration s c) p = nothing m.state.events
-begun_shows m (tasks.TryBody ss) p = nothing m.state.events
+begun_shows m (tasks.Eval e) p = follows m.state.events m _ (prefix_self m.state.events)
+begun_shows m (tasks.Locate l) p = prefix_self m.state.events
+begun_shows m (tasks.Run s) p = follows m.state.events m _ (prefix_self m.state.events)
+begun_shows m (tasks.ForIteration c next s) p = follows m.state.events m _
+    (prefix_self m.state.events)
+begun_shows m (tasks.DoIteration s c) p = prefix_self m.state.events
+begun_shows m (tasks.TryBody ss) p = prefix_self m.state.events
 begun_shows m (tasks.Raise exc) p = one m.state.events _
 begun_shows m (tasks.RunFilter k e h exc) p =
     unless_shows (is_deep m.state 2) m _ (one m.state.events _)
 begun_shows m (tasks.RunFinally k last flag) p =
     unless_shows (is_deep m.state 2) m _ (one m.state.events _)
-begun_shows m (tasks.Retry o a b) p = nothing m.state.events
+begun_shows m (tasks.Retry o a b) p = prefix_self m.state.events
 
 fetched_shows : (m : Machine) (l : Lvalue) (a : ℕ) (p : Place)
     → Shows m.state.events (fetched m l a p)
-fetched_shows m (Local x) a p = nothing m.state.events
-fetched_shows m (Global access _) a p = nothing m.state.events
-fetched_shows m (Indirection access _) a p = nothing m.state.events
-fetched_shows m (Element access _ _) a p = nothing m.state.events
+fetched_shows m (Local x) a p = prefix_self m.state.events
+fetched_shows m (Global access _) a p = prefix_self m.state.events
+fetched_shows m (Indirection access _) a p = prefix_self m.state.events
+fetched_shows m (Element access _ _) a p = prefix_self m.state.events
 
 put_shows : (m : Machine) (l : Lvalue) (a v : ℕ) (p : Place) → Shows m.state.events (put m l a v p)
-put_shows m (Local x) a v p = nothing m.state.events
-put_shows m (Global access _) a v p = nothing m.state.events
-put_shows m (Indirection access _) a v p = nothing m.state.events
-put_shows m (Element access _ _) a v p = nothing m.state.events
+put_shows m (Local x) a v p = prefix_self m.state.events
+put_shows m (Global access _) a v p = prefix_self m.state.events
+put_shows m (Indirection access _) a v p = prefix_self m.state.events
+put_shows m (Element access _ _) a v p = prefix_self m.state.events
 
 operated_shows : (m : Machine) (o : Operation) (a b : ℕ) (p : Place)
     (x : performing.OperationResult)
     → Shows m.state.events (operated m o a b p x)
-operated_shows m o a b p (performing.Gives v memory) = nothing m.state.events
-operated_shows m o a b p (performing.Raises code access) = nothing m.state.events
-operated_shows m o a b p (performing.Undefined a') = nothing m.state.events
+operated_shows m o a b p (performing.Gives v memory) = prefix_self m.state.events
+operated_shows m o a b p (performing.Raises code access) = prefix_self m.state.events
+operated_shows m o a b p (performing.Undefined a') = prefix_self m.state.events
 
 entered_shows : (m : Machine) (f : Option Function) (vs : List ℕ)
     → Shows m.state.events (entered m f vs)
-entered_shows m None vs = nothing m.state.events
-entered_shows m (Some f) vs = unless_shows (is_deep m.state 1) m _ (nothing m.state.events)
+entered_shows m None vs = prefix_self m.state.events
+entered_shows m (Some f) vs = unless_shows (is_deep m.state 1) m _ (prefix_self m.state.events)
 
 built_in_shows : (m : Machine) (k : BuiltIn) (vs : List ℕ) (p : Place)
     → Shows m.state.events (built_in m k vs p)
 built_in_shows m Put vs p = one m.state.events _
-built_in_shows m Protect vs p = nothing m.state.events
-built_in_shows m RaiseException vs p = nothing m.state.events
+built_in_shows m Protect vs p = prefix_self m.state.events
+built_in_shows m RaiseException vs p = prefix_self m.state.events
 
 called_shows : (program : Program) (m : Machine) (callee : Callee) (vs : List ℕ) (p : Place)
     → Shows m.state.events (called program m callee vs p)
@@ -141,42 +139,43 @@ called_shows program m (frames.BuiltInOf k) vs p = built_in_shows m k vs p
 
 asked_by_shows : (m : Machine) (f : Filter) (h : Handler) (level : ℕ) (exc : Exception) (p : Place)
     → Shows m.state.events (asked_by m f h level exc p)
-asked_by_shows m Always h level exc p = nothing m.state.events
-asked_by_shows m (Funclet k e) h level exc p = nothing m.state.events
+asked_by_shows m Always h level exc p = prefix_self m.state.events
+asked_by_shows m (Funclet k e) h level exc p = prefix_self m.state.events
 
 asked_shows : (m : Machine) (o : Option Handler) (level : ℕ) (exc : Exception) (p : Place)
     → Shows m.state.events (asked m o level exc p)
-asked_shows m None level exc p = nothing m.state.events
+asked_shows m None level exc p = prefix_self m.state.events
 asked_shows m (Some h) level exc p = asked_by_shows m h.filter h level exc p
 
 searched_shows : (m : Machine) (level : ℕ) (exc : Exception) (p : Place)
     → Shows m.state.events (searched m level exc p)
-searched_shows m zero exc p = nothing m.state.events
+searched_shows m zero exc p = prefix_self m.state.events
 searched_shows m (suc level) exc p = asked_shows m (slice_get m.handlers level) level exc p
 
 done_shows : (program : Program) (m : Machine) (next : Next)
     → Shows m.state.events (done program m next)
-done_shows program m (Over how) = nothing m.state.events
+done_shows program m (Over how) = prefix_self m.state.events
 done_shows program m (Give how) = given_shows m how m.stack
 done_shows program m (Start task p) = started_shows m task p m.state.steps_left
 done_shows program m (Begin task p) = begun_shows m task p
-done_shows program m (frames.Evaluate n p) = follows m.state.events m _ (nothing m.state.events)
-done_shows program m (frames.Find l p) = follows m.state.events m _ (nothing m.state.events)
+done_shows program m (frames.Evaluate n p) = follows m.state.events m _ (prefix_self m.state.events)
+done_shows program m (frames.Find l p) = follows m.state.events m _ (prefix_self m.state.events)
 done_shows program m (frames.Fetch l a p) = fetched_shows m l a p
 done_shows program m (frames.Put l a v p) = put_shows m l a v p
 done_shows program m (frames.Operate o a b p) =
     operated_shows m o a b p (performed (is_reserved program.globals) o a b m.state.memory)
 done_shows program m (frames.Pass callee vs es p) =
-    follows m.state.events m _ (nothing m.state.events)
+    follows m.state.events m _ (prefix_self m.state.events)
 done_shows program m (frames.Call callee vs p) = called_shows program m callee vs p
-done_shows program m (frames.Proceed ss p) = follows m.state.events m _ (nothing m.state.events)
-done_shows program m (frames.DeclareEach ds p) = follows m.state.events m _ (nothing m.state.events)
+done_shows program m (frames.Proceed ss p) = follows m.state.events m _ (prefix_self m.state.events)
+done_shows program m (frames.DeclareEach ds p) = follows m.state.events m _
+    (prefix_self m.state.events)
 done_shows program m (frames.DeclareName d p) =
-    follows m.state.events (with_local m p d.local 0) _ (nothing m.state.events)
-done_shows program m (frames.SetLocal x v p) = nothing m.state.events
-done_shows program m (frames.Guard body filter block p) = nothing m.state.events
+    follows m.state.events (with_local m p d.local 0) _ (prefix_self m.state.events)
+done_shows program m (frames.SetLocal x v p) = prefix_self m.state.events
+done_shows program m (frames.Guard body filter block p) = prefix_self m.state.events
 done_shows program m (frames.Answer v) = one m.state.events _
-done_shows program m frames.LetGo = nothing m.state.events
+done_shows program m frames.LetGo = prefix_self m.state.events
 done_shows program m (frames.Search level exc p) = searched_shows m level exc p
 
 pub extends : Extends

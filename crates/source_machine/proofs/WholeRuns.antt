@@ -1,23 +1,19 @@
 -- What was shown is the front of all that is shown.
-use Rattle.std.proofs.Common.{◌≡◌, ℕ, zero, suc, ◌+◌, ◌<◌, List, [], ◌++◌, refl, sym, ap, ◌∙◌}
+use Rattle.std.proofs.Common.{◌≡◌, ℕ, zero, suc, ◌<◌, refl, ◌∙◌}
 use Rattle.std.proofs.Common.{subst, arith, inl, inr}
 use Rattle.std.specs.Prelude.{true}
 use Rattle.std.proofs.lemmas.Bool.{cases_Bool}
-use Rattle.std.proofs.lemmas.List.{append_assoc, append-nil}
-use Rattle.source_machine.specs.Words.{Event, Program, state_of, does, IsPrefixOf, Next, Over, Machine, step, after, reaches, comes_to, is_over, distance, ShowsBefore}
+use Rattle.source_machine.specs.Words.{Program, state_of, does, IsPrefixOf, Next, Over, Machine, step, after, reaches, comes_to, is_over, distance, ShowsBefore}
 use Rattle.source_machine.proofs.StepKeeping.{keeps_meaning}
 use Rattle.source_machine.proofs.StepDistance.{decreases}
 use Rattle.source_machine.proofs.StepEvents.{extends}
-
-front_trans : (es fs gs : List Event) → IsPrefixOf es fs → IsPrefixOf fs gs → IsPrefixOf es gs
-front_trans es fs gs p q =
-    (p.0 ++ q.0, sym (append_assoc es p.0 q.0) ∙ ap (λ xs. xs ++ q.0) p.1 ∙ q.1)
+use Rattle.source_meaning.proofs.Prefixes.{prefix_self, prefix_then}
 
 -- a machine whose run is over has shown all
 over_shows : (program : Program) (m : Machine) (next : Next) → is_over next ≡ true
     → IsPrefixOf m.state.events
     (state_of (reaches program (does program) m.handlers m.stack m.state next)).events
-over_shows program m (Over how) e = ([], append-nil m.state.events)
+over_shows program m (Over how) e = prefix_self m.state.events
 over_shows program m next e = cc
 
 within : (program : Program) (n : ℕ) (m : Machine) → distance m < n
@@ -31,7 +27,7 @@ within program (suc n) m near =
           let rest : IsPrefixOf (step program m).state.events
           (state_of (comes_to program (does program) (step program m))).events =
           within program n (step program m) (omega arith) in
-          front_trans m.state.events (step program m).state.events _ (extends program m)
+          prefix_then m.state.events (step program m).state.events _ (extends program m)
           (subst (λ o. IsPrefixOf (step program m).state.events (state_of o).events)
           (keeps_meaning program m) rest)
     ]

@@ -1,3 +1,4 @@
+pub mod Prefixes
 pub mod Relations
 pub mod RelatedMeanings
 pub mod RemainingSteps

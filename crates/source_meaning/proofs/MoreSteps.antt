@@ -2,7 +2,6 @@
 use Rattle.std.proofs.Common.{◌≡◌, ℕ, zero, suc, ◌+◌, ◌≤◌, List, [], ◌∷◌, ◌++◌, refl, sym, ap, ◌∙◌}
 use Rattle.std.proofs.Common.{subst, arith, inl, inr}
 use Rattle.std.specs.Prelude.{Bool, true, false, slice_get, ℤ, Option, Some, None, ◌⊎◌}
-use Rattle.std.proofs.lemmas.List.{append_assoc, append-nil}
 use Rattle.std.proofs.lemmas.Option.{none-some}
 use Rattle.source_meaning.specs.Words.{Event, Program, State, Result, Value, End, Outcome, Gives, how_of, state_of, counted, enter, perform, within, start, outside, main_arguments, ran, shows, meaning, is_calm, IsPrefixOf, ShowsMore, EndStays, CalmBefore, EventsGrow}
 use Rattle.seh_num.specs.Shown.{Shown}
@@ -10,16 +9,10 @@ use Rattle.source_meaning.specs.declared.ended.Ended.{Ended}
 use Rattle.source_meaning.proofs.Relations.{Relation, with_left}
 use Rattle.source_meaning.proofs.RelatedMeanings.{Related, perform_go, enter_go}
 use Rattle.source_meaning.proofs.RemainingSteps.{enters_within}
+use Rattle.source_meaning.proofs.Prefixes.{prefix_self, prefix_then}
 
 abbrev events_of : Outcome → List Event
 events_of o = (state_of o).events
-
-front_refl : (es : List Event) → IsPrefixOf es es
-front_refl es = ([], append-nil es)
-
-front_trans : (es fs gs : List Event) → IsPrefixOf es fs → IsPrefixOf fs gs → IsPrefixOf es gs
-front_trans es fs gs p q =
-    (p.0 ++ q.0, sym (append_assoc es p.0 q.0) ∙ ap (λ xs. xs ++ q.0) p.1 ∙ q.1)
 
 -- ---- the relation, of k more steps, of which m at most are left
 
@@ -57,11 +50,11 @@ module _ (k m : ℕ) where
 
   kin_gives : (a : Bool) (how : Result) (st : State) (l : ℕ) → Near k m a st.steps_left l
       → Out k m a st.events (Gives how st) (Gives how (with_left l st))
-  kin_gives a how st l n = (front_refl st.events, gives_claim a how st l n)
+  kin_gives a how st l n = (prefix_self st.events, gives_claim a how st l n)
 
   kin_later : (a : Bool) (es : List Event) (e : Event) (o o' : Outcome)
       → Out k m a (es ++ e ∷ []) o o' → Out k m a es o o'
-  kin_later a es e o o' s = (front_trans es (es ++ e ∷ []) (events_of o') (e ∷ [], refl) s.0, s.1)
+  kin_later a es e o o' s = (prefix_then es (es ++ e ∷ []) (events_of o') (e ∷ [], refl) s.0, s.1)
 
   abbrev Stops : (Outcome → Outcome) → Type 0
   Stops c = (st : State) → c (Gives (End None) st) ≡ Gives (End None) st
@@ -86,7 +79,7 @@ module _ (k m : ℕ) where
       → IsPrefixOf (events_of o') (events_of (c' o')) → Dead o o' → Kin k m (c o) (c' o')
   dead_through c c' stops (Gives how st) o' more s =
       let front : IsPrefixOf st.events (events_of (c' o')) =
-      front_trans st.events (events_of o') (events_of (c' o')) s.front more in
+      prefix_then st.events (events_of o') (events_of (c' o')) s.front more in
       let at_end : Kin k m (c (Gives (End None) st)) (c' o') =
       subst (λ x. Kin k m x (c' o')) (sym (stops st))
       (inr (record { ended = refl; front = front })) in
@@ -113,7 +106,7 @@ module _ (k m : ℕ) where
         gives = kin_gives;
         later = kin_later;
         through = λ c c' stops cases a es o o' s. (
-          front_trans es (events_of o') (events_of (c' o')) s.0 (grows c c' cases o'),
+          prefix_then es (events_of o') (events_of (c' o')) s.0 (grows c c' cases o'),
           claim_through c c' stops cases a o o' s.1,
         );
       }
@@ -128,7 +121,7 @@ counted_grows st go h = by_left st.steps_left
   where
     by_left : (l : ℕ) → IsPrefixOf st.events (events_of
         (elim l [ zero ↦ Gives (End None) st | suc n ↦ go (record st { steps_left = n }) ]))
-    by_left zero = front_refl st.events
+    by_left zero = prefix_self st.events
     by_left (suc p) = h p
 
 wider : (k m : ℕ) (o o' : Outcome) → Kin k m o o' → Kin k (suc m) o o'
@@ -164,8 +157,8 @@ within_alike : (k : ℕ) (program : Program) (m : ℕ)
     → Related (kin k m) (within program m) (within program m)
 unfolding kin
 within_alike k program zero task context true st l n =
-    (front_refl st.events, inr (record { ended = refl; front = front_refl st.events }))
-within_alike k program zero task context false st l n = (front_refl st.events, tt)
+    (prefix_self st.events, inr (record { ended = refl; front = prefix_self st.events }))
+within_alike k program zero task context false st l n = (prefix_self st.events, tt)
 within_alike k program (suc m) task context true st l n =
     let go : State → Outcome = perform program (within program m) task context in
     let inside : Related (kin k m) (perform program (within program m))
@@ -242,7 +235,7 @@ pub shows_more : ShowsMore meaning
 shows_more program arg n k =
     elim (ran_kin program arg n k) [
       | inl s ↦ subst (λ x. IsPrefixOf (meaning program arg n).events x.events)
-          (sym (alive_shows k (n + k) _ _ s)) (front_refl _)
+          (sym (alive_shows k (n + k) _ _ s)) (prefix_self _)
       | inr s ↦ front_shown (ran program arg n) (ran program arg (n + k)) s.front
     ]
 

@@ -1,5 +1,4 @@
 use Rattle.match_runs.proofs.Programs as lemma
-use Rattle.match_runs.proofs.Shadowed.{programs_walk_the_shadow}
 use Rattle.match_runs.proofs.laws.laws.Goals as goal
 
 pub returns : goal.returns
@@ -9,5 +8,5 @@ returns c = record {
   programs_all = lemma.programs_all;
   programs_no_more = lemma.programs_no_more;
   enough = lemma.enough;
-  shadow = programs_walk_the_shadow;
+  shadow = lemma.programs_walk_the_shadow;
 }
