@@ -7,7 +7,7 @@ use Rattle.linear_code.specs.declared.instruction.Instruction.TheVariants as ins
 use Rattle.linear_code.specs.declared.program.FuncletKind.TheVariants as kinds
 use Rattle.lowering_follows.proofs.SoundExpressions.{both_left, both_right}
 use Rattle.lowering_invariants.proofs.PlainExpressions.{all_append}
-use Rattle.lowering_invariants.proofs.TurnStack.{same_it, all_at}
+use Rattle.lowering_invariants.proofs.StackTargets.{same_it, all_at}
 use Rattle.lowering_invariants.specs.Blind.{IsFilterBody}
 use Rattle.lowering_invariants.specs.PlaceLaws.{LoweredInformsFilters}
 use Rattle.lowering_invariants.proofs.BlindExpressions.{AllBlind, IsOutside, expression_blind}

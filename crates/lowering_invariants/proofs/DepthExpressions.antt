@@ -315,8 +315,7 @@ module _ (depth : ℕ → ℕ) where
           (read_leads p d old old) (
             tt,
             lead_both depth (conversion_code before (old + 1)) _ (old + 1 + 1) (old + 1 + 1)
-                (conversion_past before (old + 1)) (conversion_leads before (old + 1) (old + 1 + 1))
-                    (
+                (conversion_past before (old + 1)) (conversion_leads before (old + 1) (old + 1 + 1)) (
                   tt,
                   (
                     tt,

@@ -5,7 +5,7 @@ use Rattle.std.specs.Prelude.{None}
 use Rattle.lowering_invariants.specs.Words.{Function, LinearFunclet, statements_notes, Owner, all_locals, scope_of, lowered_funclets, all_funclets, lowered}
 use Rattle.lowering_invariants.specs.Slots.{HasFlag}
 use Rattle.lowering_invariants.proofs.PlainExpressions.{all_append}
-use Rattle.lowering_invariants.proofs.TurnStack.{all_at}
+use Rattle.lowering_invariants.proofs.StackTargets.{all_at}
 use Rattle.lowering_invariants.specs.PlaceLaws.{LoweredHasFlags}
 use Rattle.seh_ir.proofs.EveryFunclet.{HoldsOfFunclets, funclets_known}
 

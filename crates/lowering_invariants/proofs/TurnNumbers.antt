@@ -12,7 +12,7 @@ use Rattle.linear_code.specs.declared.program.RegionKind.TheVariants as kinds
 use Rattle.linear_code.specs.declared.program.FuncletKind.TheVariants as funclets
 use Rattle.lowering_invariants.specs.SmallNumbers.{AreSmall, IsSmallCode, IsSmallException, IsSmallFrame, AreSmallItems, HasSmallNumbers}
 use Rattle.lowering_invariants.proofs.Moves.{Turn, Halts, Moves, pick_turn, some_turn, deeper_turn, kept, kept_by_all}
-use Rattle.lowering_invariants.proofs.TurnStack.{same_it}
+use Rattle.lowering_invariants.proofs.StackTargets.{same_it}
 use Rattle.seh_num.proofs.Below.{low_below, wrapped_below}
 use Rattle.lowering_invariants.proofs.Results.{IsSmallOutcome, outcome_small}
 
@@ -150,8 +150,17 @@ module _ (program : LinearProgram) where
     ),
     o.1,
   )
-  arrive_turn (Some code) t c s o = goes _ ((record { temporaries = tt; exception = o.0.0.exception;
-      landed = s }, o.0.1), o.1)
+  arrive_turn (Some code) t c s o = goes _ (
+    (
+      record {
+        temporaries = tt;
+        exception = o.0.0.exception;
+        landed = s;
+      },
+      o.0.1,
+    ),
+    o.1,
+  )
 
   none_small : IsSmallException (record { code = 0; flag = false; access = None })
   none_small = record { code = omega arith; access = tt }
@@ -185,7 +194,7 @@ module _ (program : LinearProgram) where
       pick_turn HasSmallNumbers (nat_eq t.depth (length c.below)) (λ next. arrive t t.code next c)
       (λ next. out next (left_store c.frame.body c.frame.activation c.store))
       (λ e. arrive_turn t.code t c s o) (λ e. h
-          (left_small c.frame.body c.frame.activation c.store o.1))
+      (left_small c.frame.body c.frame.activation c.store o.1))
   body_turn t out (x ∷ rs) c s o h =
       pick_turn HasSmallNumbers (stops t x (length c.below)) (λ next. arrive t t.code next c)
       (λ next. leave_region program next t x.kind rs (unwind_body program next t (out next) rs c)
@@ -257,8 +266,17 @@ module _ (program : LinearProgram) where
   )
 
   moved_to : (label : ℕ) (c : Configuration) → at_rest c → at_rest (at_label label c)
-  moved_to label c o = ((record { temporaries = o.0.0.temporaries; exception = o.0.0.exception;
-      landed = o.0.0.landed }, o.0.1), o.1)
+  moved_to label c o = (
+    (
+      record {
+        temporaries = o.0.0.temporaries;
+        exception = o.0.0.exception;
+        landed = o.0.0.landed;
+      },
+      o.0.1,
+    ),
+    o.1,
+  )
 
   answers_turn : (c : Configuration) (v : ℕ) → v < 2 ^ 64 → at_rest c
       → Turn HasSmallNumbers (λ next. next (forth (with_last (c.frame.temporaries ++ v ∷ []) c)))
@@ -285,8 +303,13 @@ module _ (program : LinearProgram) where
   answer_turn v (Searches exception resumption h rest ∷ Unwinds s t ∷ below) es store o =
       Halts (Stuck es) (λ next. refl)
   answer_turn v (Searches exception resumption h rest ∷ Waits f ∷ below) es store o =
-      let c : Configuration = record { frame = f; below = below; store = store; events = es
-          ++ events.Answer (signed W32 v) ∷ [] } in
+      let c : Configuration = record {
+        frame = f;
+        below = below;
+        store = store;
+        events = es
+            ++ events.Answer (signed W32 v) ∷ [];
+      } in
       let p : at_rest c = (o.0.1, o.1) in
       pick_turn HasSmallNumbers (nat_eq (low W32 v) 0)
       (λ next. search program next rest exception resumption c) _
@@ -410,7 +433,7 @@ module _ (program : LinearProgram) where
   tested_turn c (Temporary i) label v o =
       let d = with_last (take i c.frame.temporaries) c in
       let p = with_fewer (take i c.frame.temporaries) c
-          (all_taken i c.frame.temporaries o.0.0.temporaries) o in
+      (all_taken i c.frame.temporaries o.0.0.temporaries) o in
       pick_turn HasSmallNumbers (nat_eq v 0) (λ next. next (at_label label d))
       (λ next. next (forth d)) (λ e. goes _ (moved_to label d p))
       (λ e. goes _ (moved_to (c.frame.next + 1) d p))
@@ -431,7 +454,7 @@ module _ (program : LinearProgram) where
         _ (λ v e. tested_turn c slot label v o)
     act_turn (instructions.Call f first count) =
         some_turn HasSmallNumbers c.events (last_temporaries c.frame.temporaries first count) _
-            (λ vs e.
+        (λ vs e.
         some_turn HasSmallNumbers c.events (slice_get program.functions f) _ (λ function g.
         deeper_turn HasSmallNumbers 1 c.frame.held c.store c.events _ (goes _ (
           (
@@ -446,7 +469,7 @@ module _ (program : LinearProgram) where
         ))))
     act_turn (instructions.CallBuiltIn k first) =
         some_turn HasSmallNumbers c.events (last_temporaries c.frame.temporaries first (count_of k))
-            _ (λ vs e.
+        _ (λ vs e.
         built_in_turn (waiting c first) k vs (with_fewer (take first c.frame.temporaries) c
         (all_taken first c.frame.temporaries o.0.0.temporaries) o))
     act_turn (instructions.CallFinally k) = block_turn k c.frame.held false (Waits c.frame
@@ -456,7 +479,7 @@ module _ (program : LinearProgram) where
         (Waits c.frame ∷ c.below) None c.events c.store tt o
     act_turn (instructions.Landing to) =
         some_turn HasSmallNumbers c.events c.frame.landed
-            (λ next code. written (not_landed c) to code next) (λ code e.
+        (λ next code. written (not_landed c) to code next) (λ code e.
         written_turn (not_landed c) to code (code_small c.frame.landed code e o.0.0.landed) (
           (
             record { temporaries = o.0.0.temporaries; exception = o.0.0.exception; landed = tt },
@@ -488,7 +511,7 @@ module _ (program : LinearProgram) where
     locals = (
       all_joined (main_arguments main.parameters arg) _
           (arguments_small (nat_eq main.parameters 0) arg)
-              (zeros (main.body.locals - main.parameters)),
+          (zeros (main.body.locals - main.parameters)),
       tt,
     );
   }

@@ -8,7 +8,7 @@ use Rattle.linear_code.specs.declared.instruction.Instruction.TheVariants as ins
 use Rattle.seh_ir.proofs.StatementCodes.{statements_length}
 use Rattle.lowering_invariants.proofs.PlainExpressions.{all_append}
 use Rattle.lowering_invariants.proofs.EveryBody.{every_body}
-use Rattle.lowering_invariants.proofs.TurnStack.{all_at}
+use Rattle.lowering_invariants.proofs.StackTargets.{all_at}
 use Rattle.lowering_invariants.specs.UnwindLabels.{StaysInside}
 use Rattle.lowering_invariants.specs.PlaceLaws.{LoweredStaysInside}
 use Rattle.lowering_invariants.proofs.NoBlocks.{RunNoBlocks, expression_no_blocks}
