@@ -143,12 +143,12 @@ module _ (t : Functions) (fs : List Funclet) (program : LinearProgram) (p : Imag
                 })
             left_asked (kinds.Filter k label) q is more = left_deeper n x xs r rs
                 (row_first false is.to.jumps)
-                    (λ next out. passed r rs (kinds.Filter k label) next out
+                (λ next out. passed r rs (kinds.Filter k label) next out
                 h
                 (never r) q) more
             left_asked (kinds.Always label) q is more = left_deeper n x xs r rs
                 (row_first false is.to.jumps)
-                    (λ next out. passed r rs (kinds.Always label) next out h
+                (λ next out. passed r rs (kinds.Always label) next out h
                 (never r) q) more
 
       pub leaves_the_frame : (n : ℕ) (xs : List ScopeRecord) (rs : List Region)
@@ -219,7 +219,7 @@ module _ (t : Functions) (fs : List Funclet) (program : LinearProgram) (p : Imag
                 ap (λ b. first_finally (until goal
                 (cond b ((n, x) ∷ holding rva (n + 1) xs) (holding rva (n + 1) xs)))) e
                 ∙ ap (λ b. first_finally (cond b [] ((n, x) ∷ until goal (holding rva (n + 1) xs))))
-                    q
+                q
 
             row_here : (b : Bool) → is_end goal x ≡ false → (x.jump_target == 0) ≡ b
                 → first_finally (until goal (holding rva n (x ∷ xs)))
@@ -247,7 +247,7 @@ module _ (t : Functions) (fs : List Funclet) (program : LinearProgram) (p : Imag
                 s q) more
             reached_asked (kinds.Always label) q z s is more = reached_deeper n x xs r rs
                 (row_here false z is.to.jumps)
-                    (λ next out. passed r rs (kinds.Always label) next out
+                (λ next out. passed r rs (kinds.Always label) next out
                 h s
                 q) more
 
