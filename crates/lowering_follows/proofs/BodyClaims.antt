@@ -15,7 +15,7 @@ use Rattle.lowering_expressions.specs.declared.scope.Way as jumps
 use Rattle.lowering_follows.proofs.Stores.{Shape, NotesKept, everywhere, below_slot, kept_itself, kept_through, kept_fewer}
 use Rattle.lowering_follows.proofs.Environments.{KeptFrom, Env, env_later, env_among}
 use Rattle.lowering_follows.proofs.TaskClaims.{pushed, Within, Runs}
-use Rattle.lowering_follows.proofs.Raises.{IsFunclet}
+use Rattle.lowering_follows.proofs.FuncletValues.{IsFunclet}
 
 -- ---- ways out
 

@@ -12,7 +12,7 @@ use Rattle.linear_machine.proofs.SingleTurns.{stepped, fetch, prefix_self, soone
 use Rattle.lowering_follows.proofs.Stores.{Shape}
 use Rattle.lowering_follows.proofs.Places.{has_at}
 use Rattle.lowering_follows.proofs.TaskClaims.{Runs, shown_more, shown_none}
-use Rattle.lowering_follows.proofs.Raises.{targets_out, IsFunclet}
+use Rattle.lowering_follows.proofs.FuncletValues.{targets_out, IsFunclet}
 use Rattle.lowering_follows.proofs.BodyClaims.{finally_site, statement_ways, Stays, Surroundings, BodyRuns}
 use Rattle.lowering_follows.proofs.BodySequences.{all_runs}
 use Rattle.lowering_follows.proofs.BodySteps.{for_runs, do_runs}

@@ -19,7 +19,7 @@ use Rattle.lowering_follows.proofs.Places.{has_front, has_after}
 use Rattle.lowering_follows.proofs.Lengths.{expression_length}
 use Rattle.lowering_follows.proofs.TaskClaims.{Runs}
 use Rattle.lowering_follows.proofs.Turns.{put_local_turn, jump_turn}
-use Rattle.lowering_follows.proofs.Raises.{unwound_is}
+use Rattle.lowering_follows.proofs.FuncletValues.{unwound_is}
 use Rattle.lowering_follows.proofs.BodyClaims.{own_target, exit_way, jump_way, leave_way, statement_ways, Stays, Surroundings, BodyRuns, statement_eval}
 
 set_again : (xs : List ℕ) (x v : ℕ) → set (set xs x v) x v ≡ set xs x v

@@ -17,7 +17,7 @@ use Rattle.lowering_expressions.specs.declared.scope.Way.TheVariants.{Unwinds as
 use Rattle.lowering_expressions.specs.declared.scope.Way as jumps
 use Rattle.lowering_expressions.specs.Scope as scopes
 use Rattle.lowering_follows.proofs.Stores.{Shape}
-use Rattle.lowering_follows.proofs.Raises.{unwound_is, IsFunclet}
+use Rattle.lowering_follows.proofs.FuncletValues.{unwound_is, IsFunclet}
 use Rattle.lowering_follows.proofs.BodyClaims.{JumpFits, ExitFits, Inner, comes_there, own_target, finally_site, exit_way, jump_way, statement_ways, Stays, Surroundings, BodyRuns}
 use Rattle.lowering_follows.proofs.Tries.{within_region}
 use Rattle.lowering_follows.proofs.TryEnds.{outward}

@@ -15,7 +15,7 @@ use Rattle.lowering_follows.proofs.Places.{has_at}
 use Rattle.lowering_follows.proofs.Turns.{constant_turn}
 use Rattle.lowering_follows.proofs.Environments.{FlagBound, HowFits, Match, match_kept}
 use Rattle.lowering_follows.proofs.TaskClaims.{pushed, Within, Around}
-use Rattle.lowering_follows.proofs.Raises.{unwound_is}
+use Rattle.lowering_follows.proofs.FuncletValues.{unwound_is}
 use Rattle.lowering_follows.proofs.BodyClaims.{statement_ways, Stays, Surroundings, BodyRuns}
 use Rattle.lowering_follows.proofs.BodySequences.{all_runs}
 

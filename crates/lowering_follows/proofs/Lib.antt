@@ -15,6 +15,7 @@ pub mod WholeProgram
 pub mod Lengths
 pub mod Environments
 pub mod TaskClaims
+pub mod FuncletValues
 pub mod Raises
 pub mod Turns
 pub mod Operations

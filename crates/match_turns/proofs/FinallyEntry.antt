@@ -19,49 +19,7 @@ use Rattle.match_turns.proofs.FuncletFirstTurns.{HasEntered, entered, first_smal
 use Rattle.match_turns.proofs.ReturnAddressPlace.{top_of, begins_beneath}
 use Rattle.match_turns.proofs.FuncletShadow.{base_code, arguments_are, base_is_plain, funclet_ran}
 use Rattle.match_turns.proofs.FilterEntry.{has_first, parent_is}
-
-same_number : (a b : ℕ) → Some a ≡ Some b → a ≡ b
-same_number a b e = cc
-
-same_body : (a b : LinearBody) → Some a ≡ Some b → a ≡ b
-same_body a b e = cc
-
-same_list : (a b : List ℕ) → Some a ≡ Some b → a ≡ b
-same_list a b e = cc
-
--- ---- a place of a list is set
-
-set_count : {A : Type 0} → (xs : List A) (i : ℕ) (x : A) → length (slice_set xs i x) ≡ length xs
-set_count [] i x = refl
-set_count (y ∷ xs) zero x = refl
-set_count (y ∷ xs) (suc i) x = ap suc (set_count xs i x)
-
-set_here : {A : Type 0} → (xs : List A) (i : ℕ) (x : A) → i < length xs → slice_get (slice_set xs i x) i ≡ Some x
-set_here [] i x lt = absurd (omega arith)
-set_here (y ∷ xs) zero x lt = refl
-set_here (y ∷ xs) (suc i) x lt = set_here xs i x (omega arith)
-
--- ---- flags
-
-pub kind_of_flag : (kind : FuncletKind) (flag : ℕ) → flag_in kind ≡ Some flag → kind ≡ funclets.Finally flag
-kind_of_flag funclets.Filter flag e = cc
-kind_of_flag (funclets.Finally f) flag e = ap (λ n. funclets.Finally n) (same_number f flag e)
-
-low_test : (b : Bool) → low W32 (of_test b) ≡ of_test b
-low_test true = let z : low W32 1 ≡ 1 = omega arith in z
-low_test false = let z : low W32 0 ≡ 0 = omega arith in z
-
-nothing_landed : (x : ℕ) → ◌≡◌ {A = Option ℕ} None (Some x) → ⊥
-nothing_landed x e = cc
-
--- the configuration in which a block begins
-abbrev pub block_begins : (k flag activation held : ℕ) (abnormal : Bool) → List Item → Store → List Event → Configuration
-block_begins k flag activation held abnormal items store events = record {
-  frame = record { body = FuncletBody k; next = 0; activation = activation; exception = no_exception; held = held + 2; temporaries = []; landed = None };
-  below = items;
-  store = set_local store activation flag (of_test abnormal);
-  events = events;
-}
+use Rattle.match_turns.proofs.FinallyFlag.{same_number, same_body, same_list, set_count, set_here, kind_of_flag, low_test, nothing_landed, block_begins}
 
 module _ (setting : Setting) where
   open setting use {functions as t, funclets as fs, program, plan as p, sites as q, image}
