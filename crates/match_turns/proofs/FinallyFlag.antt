@@ -36,14 +36,16 @@ set_count [] i x = refl
 set_count (y ∷ xs) zero x = refl
 set_count (y ∷ xs) (suc i) x = ap suc (set_count xs i x)
 
-pub set_here : {A : Type 0} → (xs : List A) (i : ℕ) (x : A) → i < length xs → slice_get (slice_set xs i x) i ≡ Some x
+pub set_here : {A : Type 0} → (xs : List A) (i : ℕ) (x : A) → i < length xs
+    → slice_get (slice_set xs i x) i ≡ Some x
 set_here [] i x lt = absurd (omega arith)
 set_here (y ∷ xs) zero x lt = refl
 set_here (y ∷ xs) (suc i) x lt = set_here xs i x (omega arith)
 
 -- ---- flags
 
-pub kind_of_flag : (kind : FuncletKind) (flag : ℕ) → flag_in kind ≡ Some flag → kind ≡ funclets.Finally flag
+pub kind_of_flag : (kind : FuncletKind) (flag : ℕ) → flag_in kind ≡ Some flag
+    → kind ≡ funclets.Finally flag
 kind_of_flag funclets.Filter flag e = cc
 kind_of_flag (funclets.Finally f) flag e = ap (λ n. funclets.Finally n) (same_number f flag e)
 
@@ -55,9 +57,11 @@ pub nothing_landed : (x : ℕ) → ◌≡◌ {A = Option ℕ} None (Some x) → 
 nothing_landed x e = cc
 
 -- the configuration in which a block begins
-abbrev pub block_begins : (k flag activation held : ℕ) (abnormal : Bool) → List Item → Store → List Event → Configuration
+abbrev pub block_begins : (k flag activation held : ℕ) (abnormal : Bool) → List Item → Store
+    → List Event → Configuration
 block_begins k flag activation held abnormal items store events = record {
-  frame = record { body = FuncletBody k; next = 0; activation = activation; exception = no_exception; held = held + 2; temporaries = []; landed = None };
+  frame = record { body = FuncletBody k; next = 0; activation = activation; exception =
+      no_exception; held = held + 2; temporaries = []; landed = None };
   below = items;
   store = set_local store activation flag (of_test abnormal);
   events = events;
