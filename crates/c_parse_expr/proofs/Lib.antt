@@ -10,3 +10,4 @@ pub mod Beginning
 pub mod Arguing
 pub mod Departing
 pub mod Trees
+pub mod OperandDerivations

@@ -6,13 +6,13 @@ use Rattle.lowering_invariants.specs.Words.{Field, Program, Function, funclets, 
 use Rattle.linear_code.specs.declared.instruction.Instruction.TheVariants as instructions
 use Rattle.linear_code.specs.declared.program.FuncletKind.TheVariants as kinds
 use Rattle.lowering_follows.proofs.SoundExpressions.{both_left, both_right}
-use Rattle.lowering_invariants.proofs.TurnStack.{same_it, all_at}
 use Rattle.lowering_invariants.specs.Blind.{IsFilterBody}
 use Rattle.lowering_invariants.specs.PlaceLaws.{LoweredInformsFilters}
 use Rattle.lowering_invariants.proofs.BlindExpressions.{AllBlind, IsOutside, expression_blind}
 use Rattle.seh_ir.proofs.EveryInstruction.{all_append, HoldsOfInstructions, statements_all}
 use Rattle.seh_ir.proofs.EveryFunclet.{any_numbers, HoldsOfFunclets, all_funclets_every}
 use Rattle.lowering_follows.proofs.SoundStatements.{StatementsFit, function_fits}
+use Rattle.lowering_invariants.proofs.StackTargets.{all_at, same_it}
 
 -- the code of a funclet is such, unless it is a filter's
 abbrev IsBlindUnless : FuncletKind → List Instruction → Type 0

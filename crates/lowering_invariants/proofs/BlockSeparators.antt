@@ -5,7 +5,7 @@ use Rattle.lowering_invariants.specs.Words.{Expression, Function, Statements, Lo
 use Rattle.linear_code.specs.declared.instruction.Instruction.TheVariants as instructions
 use Rattle.lowering_expressions.specs.declared.scope.Way.TheVariants.{Unwinds}
 use Rattle.lowering_invariants.proofs.EveryBody.{every_body}
-use Rattle.lowering_invariants.proofs.TurnStack.{same_it}
+use Rattle.lowering_invariants.proofs.StackTargets.{same_it}
 use Rattle.lowering_invariants.specs.BlockSeparators.{IsFollowed}
 use Rattle.lowering_invariants.specs.PlaceLaws.{LoweredIsFollowed}
 use Rattle.lowering_invariants.proofs.NoBlocks.{RunNoBlocks, expression_no_blocks}

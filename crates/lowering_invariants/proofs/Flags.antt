@@ -5,9 +5,9 @@ use Rattle.std.specs.Prelude.{None}
 use Rattle.lowering_invariants.specs.Words.{Function, LinearFunclet, statements_notes, Owner, all_locals, scope_of, lowered_funclets, all_funclets, lowered}
 use Rattle.lowering_invariants.specs.Slots.{HasFlag}
 use Rattle.seh_ir.proofs.EveryInstruction.{all_append}
-use Rattle.lowering_invariants.proofs.TurnStack.{all_at}
 use Rattle.lowering_invariants.specs.PlaceLaws.{LoweredHasFlags}
 use Rattle.seh_ir.proofs.EveryFunclet.{HoldsOfFunclets, funclets_known}
+use Rattle.lowering_invariants.proofs.StackTargets.{all_at}
 
 abbrev Flagged : LinearFunclet → Type 0
 Flagged f = HasFlag f.body f.kind

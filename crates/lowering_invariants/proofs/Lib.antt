@@ -2,7 +2,9 @@ pub mod Same
 pub mod Moves
 pub mod Turns
 pub mod Ready
+pub mod StackTargets
 pub mod TurnStack
+pub mod ActivationOwners
 pub mod TurnActivations
 pub mod Results
 pub mod TurnNumbers

@@ -15,7 +15,7 @@ use Rattle.lowering_follows.proofs.SoundExpressions.{both_left, both_right}
 use Rattle.lowering_follows.proofs.ProgramLowering.{lowered_is_linked}
 use Rattle.lowering_invariants.specs.TypeLaws.{LoweredIsWhole}
 use Rattle.lowering_invariants.proofs.Calls.{append}
-use Rattle.lowering_invariants.proofs.TurnStack.{same_it, all_at}
+use Rattle.lowering_invariants.proofs.StackTargets.{same_it, all_at}
 use Rattle.lowering_invariants.proofs.Wholes.{Fine, all_are_at}
 use Rattle.lowering_follows.proofs.SoundStatements.{inside_function, knows_function}
 

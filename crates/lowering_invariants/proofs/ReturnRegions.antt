@@ -14,7 +14,7 @@ use Rattle.lowering_follows.proofs.Segments.{IsSegmentAt, front, back, whole_is_
 use Rattle.lowering_invariants.specs.ReturnRegions.{is_call}
 use Rattle.lowering_invariants.specs.TypeLaws.{LoweredIsApart}
 use Rattle.lowering_invariants.proofs.EveryBody.{every_body}
-use Rattle.lowering_invariants.proofs.TurnStack.{same_it}
+use Rattle.lowering_invariants.proofs.StackTargets.{same_it}
 
 differ : {X : Type 0} → false ≡ true → X
 differ e = cc

@@ -12,7 +12,7 @@ use Rattle.lowering_invariants.proofs.Small.{lowered_is_small}
 use Rattle.lowering_invariants.specs.Room.{counts_of, PassesWell, BodyHasRoom}
 use Rattle.lowering_invariants.specs.TypeLaws.{LoweredHasRoom}
 use Rattle.lowering_invariants.proofs.EveryBody.{every_body}
-use Rattle.lowering_invariants.proofs.TurnStack.{same_it, all_at}
+use Rattle.lowering_invariants.proofs.StackTargets.{same_it, all_at}
 
 -- a body has as many temporaries and places of arguments as its code uses
 record IsCounted (b : LinearBody) : Type 0 where

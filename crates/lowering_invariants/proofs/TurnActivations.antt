@@ -1,148 +1,19 @@
 -- Each turn keeps the activations those of the functions that run or wait.
-use Rattle.std.proofs.Common.{◌≡◌, inl, inr, ℕ, zero, suc, ◌+◌, ◌-◌, ◌^◌, ◌≤◌, List, [], ◌∷◌, ◌++◌, length, refl, sym, ap, subst, ◌∙◌, arith, length-append}
-use Rattle.std.proofs.lemmas.List.{length-set, length-replicate, length-drop}
-use Rattle.std.specs.Prelude.{Bool, true, false, nat_eq, nat_lt, slice_get, slice_set, take, drop, replicate, if◌then◌else◌, get_or, ℤ, Option, Some, None}
-use Rattle.lowering_invariants.specs.Words.{Event, W32, low, signed, BuiltIn, Put, Protect, RaiseException, OperationResult, Gives, Raises, Undefined, performed, Exception, is_reserved, of_test, field_of, raised, noncontinuable, raise_event, Slot, Local, Temporary, Instruction, Region, RegionKind, FuncletKind, LinearProgram, LinearFunction, BodyName, FunctionBody, FuncletBody, Frame, Handler, Target, Resumption, AfterCall, SameOperation, Item, Waits, Searches, Unwinds, Store, Configuration, Seen, Finished, Stuck, Next, pick, read, write, with_temporary, with_temporaries, last_temporaries, set_local, at_label, forth, with_last, regions_at, regions_left, handlers, stops, flag_of, run_finally, arrive, target_past, left_store, leave_region, unwind_body, unwind, target_of, accept, consult, search, raise, resumed, answer, is_constant, operand, written, computed, tested, waiting, count_of, built_in, return, end_finally, end_funclet, end_body, not_landed, act, instruction_at, start, main_arguments, IsTurn, IsReached, IsFinallyKind, function_of, owner_of, IsFuncletOf, IsKindOf, IsWhole, MayWait, Handles, IsHandler, AreHandlers, AreWaiting, IsStacked}
+use Rattle.std.proofs.Common.{◌≡◌, ℕ, zero, suc, ◌+◌, ◌-◌, ◌^◌, ◌≤◌, List, [], ◌∷◌, ◌++◌, length, refl, sym, ap, subst, ◌∙◌, arith, length-append}
+use Rattle.std.proofs.lemmas.List.{length-replicate}
+use Rattle.std.specs.Prelude.{Bool, true, false, nat_eq, nat_lt, slice_get, take, replicate, get_or, ℤ, Option, Some, None}
+use Rattle.lowering_invariants.specs.Words.{Event, W32, low, signed, BuiltIn, Put, Protect, RaiseException, OperationResult, Gives, Raises, Undefined, performed, Exception, is_reserved, of_test, field_of, raised, noncontinuable, raise_event, Slot, Local, Temporary, Instruction, Region, RegionKind, FuncletKind, LinearProgram, LinearFunction, BodyName, FunctionBody, FuncletBody, Handler, Target, Resumption, AfterCall, SameOperation, Item, Waits, Searches, Unwinds, Store, Configuration, Seen, Finished, Stuck, Next, pick, read, write, with_temporary, with_temporaries, last_temporaries, set_local, at_label, forth, with_last, regions_at, regions_left, handlers, stops, flag_of, run_finally, arrive, target_past, left_store, leave_region, unwind_body, unwind, target_of, accept, consult, search, raise, resumed, answer, is_constant, operand, written, computed, tested, waiting, count_of, built_in, return, end_finally, end_funclet, end_body, not_landed, act, instruction_at, start, main_arguments, IsTurn, IsReached, IsFinallyKind, IsFuncletOf, IsKindOf, IsWhole, MayWait, IsHandler, AreHandlers, IsStacked}
 use Rattle.seh_num.specs.declared.event.Event.TheVariants as events
 use Rattle.source_meaning.specs.declared.ended.Ended.TheVariants as ends
 use Rattle.linear_code.specs.declared.instruction.Instruction.TheVariants as instructions
 use Rattle.linear_code.specs.declared.program.RegionKind.TheVariants as kinds
 use Rattle.linear_code.specs.declared.program.FuncletKind.TheVariants as funclets
 use Rattle.linear_machine.specs.Instructions.{begin_function}
-use Rattle.lowering_invariants.specs.Bodies.{IsFilterKind}
-use Rattle.lowering_invariants.specs.Activations.{with_own, owners_of, WorksOn, AreWorking, IsActivationOf, AreActivations, HasActivations}
-use Rattle.lowering_invariants.proofs.Ready.{last_are}
+use Rattle.lowering_invariants.specs.Activations.{owners_of, AreWorking, IsActivationOf, AreActivations, HasActivations}
 use Rattle.lowering_invariants.proofs.Moves.{Turn, Halts, Moves, pick_turn, some_turn, deeper_turn, kept, kept_by_all}
-use Rattle.lowering_invariants.proofs.TurnStack.{same_it, Left, Regions, left_are, handlers_are, instruction_fits, taken, is_landing, waits, stays_stacked, starts_stacked}
-
--- ---- lists
-
-get_front : {X : Type 0} (xs ys : List X) (i : ℕ) (x : X) → slice_get xs i ≡ Some x → slice_get (xs ++ ys) i ≡ Some x
-get_front [] ys i x e = absurd (cc)
-get_front (y ∷ xs) ys zero x e = e
-get_front (y ∷ xs) ys (suc i) x e = get_front xs ys i x e
-
-get_last : {X : Type 0} (xs : List X) (x : X) → slice_get (xs ++ x ∷ []) (length xs) ≡ Some x
-get_last [] x = refl
-get_last (y ∷ xs) x = get_last xs x
-
-last_is : (b : Bool) (x y : List ℕ) → (if b then Some x else None) ≡ Some y → x ≡ y
-last_is true x y e = same_it x y e
-last_is false x y e = absurd (cc)
-
-last_count : (ts : List ℕ) (first count : ℕ) (vs : List ℕ) → last_temporaries ts first count ≡ Some vs → length vs ≡ count
-last_count ts first count vs e =
-    let n = last_are ts first count vs e in
-    let d = length-drop first ts in
-    ap length (sym (last_is (nat_eq (length ts) (first + count)) (drop first ts) vs e)) ∙ omega arith
-
-module _ (program : LinearProgram) where
-  -- ---- activations
-
-  abbrev Are : List ℕ → List (List ℕ) → Type 0
-  Are ks acts = AreActivations program ks acts
-
-  as_many : (ks : List ℕ) (acts : List (List ℕ)) → Are ks acts → length acts ≡ length ks
-  as_many [] [] h = refl
-  as_many [] (a ∷ acts) h = absurd h
-  as_many (k ∷ ks) [] h = absurd h
-  as_many (k ∷ ks) (a ∷ acts) h = ap suc (as_many ks acts h.1)
-
-  one_more : (ks : List ℕ) (acts : List (List ℕ)) (k : ℕ) (vs : List ℕ)
-      → IsActivationOf program k vs → Are ks acts → Are (ks ++ k ∷ []) (acts ++ vs ∷ [])
-  one_more [] [] k vs a h = (a, tt)
-  one_more [] (b ∷ acts) k vs a h = absurd h
-  one_more (j ∷ ks) [] k vs a h = absurd h
-  one_more (j ∷ ks) (b ∷ acts) k vs a h = (h.0, one_more ks acts k vs a h.1)
-
-  one_less : (ks : List ℕ) (acts : List (List ℕ)) (k : ℕ) → Are (ks ++ k ∷ []) acts → Are ks (take (length ks) acts)
-  one_less [] acts k h = tt
-  one_less (j ∷ ks) [] k h = absurd h
-  one_less (j ∷ ks) (a ∷ acts) k h = (h.0, one_less ks acts k h.1)
-
-  abbrev locals_in : Option (List ℕ) → List ℕ
-  locals_in o = elim o [ Some locals ↦ locals | None ↦ [] ]
-
-  set_kept : (ks : List ℕ) (acts : List (List ℕ)) (i x v : ℕ) → Are ks acts
-      → Are ks (slice_set acts i (slice_set (locals_in (slice_get acts i)) x v))
-  set_kept [] [] i x v h = h
-  set_kept [] (a ∷ acts) i x v h = absurd h
-  set_kept (k ∷ ks) [] i x v h = absurd h
-  set_kept (k ∷ ks) (a ∷ acts) zero x v h = (
-    record
-        { function = h.0.function; there = h.0.there; count = length-set a x v ∙ h.0.count },
-    h.1,
-  )
-  set_kept (k ∷ ks) (a ∷ acts) (suc i) x v h = (h.0, set_kept ks acts i x v h.1)
-
-  -- ---- what runs or waits, over a store
-
-  abbrev Over : List Item → Store → Type 0
-  Over items store = AreWorking program items × Are (owners_of items) store.activations
-
-  abbrev Ok : Configuration → Type 0
-  Ok c = HasActivations program c
-
-  abbrev Items : List Item → Type 0
-  Items items = AreWaiting program items
-
-  -- where a body is left
-  left_by : (name : BodyName) (f : Frame) (owners : List ℕ) (store : Store)
-      → WorksOn program f name owners → Are (with_own name owners) store.activations
-      → Are owners (left_store name f.activation store).activations
-  left_by (FunctionBody k) f owners store w h = subst (λ n. Are owners (take n store.activations))
-      (sym w) (one_less owners store.activations k h)
-  left_by (FuncletBody k) f owners store w h = h
-
-  left_over : (f : Frame) (below : List Item) (store : Store) → Over (Waits f ∷ below) store
-      → Over below (left_store f.body f.activation store)
-  left_over f below store o = (o.0.1, left_by f.body f (owners_of below) store o.0.0 o.1)
-
-  -- the function of a funclet of a body works on that body's activation
-  owned_by : (name : BodyName) (f : Frame) (owners : List ℕ) (k : ℕ) → WorksOn program f name owners
-      → owner_of program name ≡ Some k → slice_get (with_own name owners) f.activation ≡ Some k
-  owned_by (FunctionBody j) f owners k w e = ap (slice_get (owners ++ j ∷ [])) w ∙ get_last owners j ∙ e
-  owned_by (FuncletBody j) f owners k w e = w.2 ∙ sym w.1 ∙ e
-
-  owned : (f : Frame) (below : List Item) (kind : FuncletKind → Type 0) (k : ℕ)
-      → AreWorking program (Waits f ∷ below) → IsFuncletOf program f.body kind k
-      → (function : ℕ) × (owner_of program (FuncletBody k) ≡ Some function)
-      × (slice_get (owners_of (Waits f ∷ below)) f.activation ≡ Some function)
-  owned f below kind k w p = (
-    p.funclet.function,
-    ap function_of p.there,
-    owned_by f.body f (owners_of below) p.funclet.function w.0 p.owner,
-  )
-
-  own_more : (name : BodyName) (owners : List ℕ) (i k : ℕ) → slice_get owners i ≡ Some k → slice_get (with_own name owners) i ≡ Some k
-  own_more (FunctionBody j) owners i k e = get_front owners (j ∷ []) i k e
-  own_more (FuncletBody j) owners i k e = e
-
-  filter_of : (name : BodyName) (end : ℕ) (r : RegionKind) (filter : Option ℕ) (target k : ℕ)
-      → filter ≡ Some k → IsKindOf program name end r → Handles program r filter target → IsFuncletOf program name IsFilterKind k
-  filter_of name end (kinds.Finally j) filter target k e p h = absurd h
-  filter_of name end (kinds.Filter j l) filter target k e p h = subst
-      (IsFuncletOf program name IsFilterKind) (same_it j k (sym h.0 ∙ e)) p.0
-  filter_of name end (kinds.Always l) filter target k e p h = absurd (differ (sym h.0 ∙ e))
-    where
-      differ : None ≡ Some k → ⊥
-      differ e = cc
-
-  -- a filter works on its handler's activation
-  filter_owned : (h : Handler) (k : ℕ) (items : List Item) → h.filter ≡ Some k
-      → IsHandler program h items → AreWorking program items → (function : ℕ) × (owner_of program (FuncletBody k) ≡ Some function)
-      × (slice_get (owners_of items) h.activation ≡ Some function)
-  filter_owned h k [] e p w = absurd p
-  filter_owned h k (Waits f ∷ below) e (inl p) w =
-      let q = owned f below IsFilterKind k w (filter_of f.body p.region.end p.region.kind h.filter
-      h.target k e p.is_there.kind p.handles) in
-      (q.0, q.1, ap (slice_get (owners_of (Waits f ∷ below))) p.activation ∙ q.2)
-  filter_owned h k (Waits f ∷ below) e (inr p) w =
-      let q = filter_owned h k below e p w.1 in
-      (q.0, q.1, own_more f.body (owners_of below) h.activation q.0 q.2)
-  filter_owned h k (Searches exception resumption asked rest ∷ below) e p w = filter_owned h k below
-      e p w
-  filter_owned h k (Unwinds rest target ∷ below) e p w = filter_owned h k below e p w
+use Rattle.lowering_invariants.proofs.StackTargets.{same_it, Left, Regions, left_are, handlers_are, taken}
+use Rattle.lowering_invariants.proofs.TurnStack.{instruction_fits, is_landing, waits, stays_stacked, starts_stacked}
+use Rattle.lowering_invariants.proofs.ActivationOwners.{last_count, as_many, one_more, set_kept, Over, Ok, Items, left_over, owned, filter_owned}
 
 module _ (program : LinearProgram) (whole : IsWhole program) where
   abbrev at_rest : Configuration → Type 0
@@ -153,7 +24,8 @@ module _ (program : LinearProgram) (whole : IsWhole program) where
 
   -- ---- unwinding
 
-  arrive_turn : (code : Option ℕ) (t : Target) (c : Configuration) → at_rest c → Turn (Ok program) (λ next. arrive t code next c)
+  arrive_turn : (code : Option ℕ) (t : Target) (c : Configuration) → at_rest c
+      → Turn (Ok program) (λ next. arrive t code next c)
   arrive_turn None t c o = goes (at_label t.label c) o
   arrive_turn (Some code) t c o = goes _ o
 
@@ -180,7 +52,8 @@ module _ (program : LinearProgram) (whole : IsWhole program) where
   leave_turn (kinds.Always l) end t rest on c k o h = h
 
   body_turn : (t : Target) (out : Next → Store → Seen) (rs : List Region) (c : Configuration)
-      → Regions program whole.bodies c.frame.body rs → at_rest c → (Over program c.below (left_store c.frame.body c.frame.activation c.store)
+      → Regions program whole.bodies c.frame.body rs → at_rest c
+      → (Over program c.below (left_store c.frame.body c.frame.activation c.store)
       → Turn (Ok program) (λ next. out next (left_store c.frame.body c.frame.activation c.store)))
       → Turn (Ok program) (λ next. unwind_body program next t (out next) rs c)
   body_turn t out [] c r o h =
@@ -196,7 +69,8 @@ module _ (program : LinearProgram) (whole : IsWhole program) where
       (body_turn t out rs c r.1 o h))
 
   unwind_turn : (t : Target) (items : List Item) (left : Option (List Region)) (es : List Event)
-      (store : Store) → Left program whole.bodies left items → Items program items → Over program items store → Turn (Ok program)
+      (store : Store) → Left program whole.bodies left items → Items program items
+      → Over program items store → Turn (Ok program)
       (λ next. unwind program next t items left es store)
   unwind_turn t [] left es store l w o = Halts (Stuck es) (λ next. refl)
   unwind_turn t (Waits f ∷ below) left es store l w o =
@@ -214,7 +88,8 @@ module _ (program : LinearProgram) (whole : IsWhole program) where
   -- ---- searching
 
   accept_turn : (h : Handler) (exception : Exception) (c : Configuration)
-      → Items program (Waits c.frame ∷ c.below) → at_rest c → Turn (Ok program) (λ next. accept program h exception next c)
+      → Items program (Waits c.frame ∷ c.below) → at_rest c
+      → Turn (Ok program) (λ next. accept program h exception next c)
   accept_turn h exception c w o = unwind_turn (target_of h exception.code c.frame.held)
       (Waits c.frame ∷ c.below) None c.events c.store tt w o
 
@@ -228,7 +103,8 @@ module _ (program : LinearProgram) (whole : IsWhole program) where
       (goes _ ((filter_owned program h k (Waits c.frame ∷ c.below) e p o.0, o.0), o.1))
 
   search_turn : (found : List Handler) (exception : Exception) (resumption : Resumption)
-      (c : Configuration) → AreHandlers program found (Waits c.frame ∷ c.below) → Items program (Waits c.frame ∷ c.below) → at_rest c
+      (c : Configuration) → AreHandlers program found (Waits c.frame ∷ c.below)
+      → Items program (Waits c.frame ∷ c.below) → at_rest c
       → Turn (Ok program) (λ next. search program next found exception resumption c)
   search_turn [] exception resumption c p w o = Halts
       (Finished (ends.Unhandled (record { 0 = exception.code })) c.events) (λ next. refl)
@@ -236,13 +112,15 @@ module _ (program : LinearProgram) (whole : IsWhole program) where
       resumption c refl p.0 w o
 
   raise_turn : (exception : Exception) (resumption : Resumption) (c : Configuration)
-      → Items program (Waits c.frame ∷ c.below) → at_rest c → Turn (Ok program) (λ next. raise program next exception resumption c)
+      → Items program (Waits c.frame ∷ c.below) → at_rest c
+      → Turn (Ok program) (λ next. raise program next exception resumption c)
   raise_turn exception resumption c w o =
       search_turn (handlers program (Waits c.frame ∷ c.below) None) exception resumption
       (record c { events = c.events ++ raise_event exception ∷ [] })
       (handlers_are program whole.bodies (Waits c.frame ∷ c.below) None tt w) w o
 
-  resumed_turn : (resumption : Resumption) (c : Configuration) → at_rest c → Turn (Ok program) (λ next. next (resumed resumption c))
+  resumed_turn : (resumption : Resumption) (c : Configuration) → at_rest c
+      → Turn (Ok program) (λ next. next (resumed resumption c))
   resumed_turn AfterCall c o = goes _ o
   resumed_turn SameOperation c o = goes _ o
 
@@ -282,7 +160,8 @@ module _ (program : LinearProgram) (whole : IsWhole program) where
       (λ next. refl)
   return_turn v (Unwinds rest t ∷ below) es store o = Halts (Stuck es) (λ next. refl)
 
-  finally_turn : (items : List Item) (es : List Event) (store : Store) → Items program items → Over program items store → Turn (Ok program)
+  finally_turn : (items : List Item) (es : List Event) (store : Store) → Items program items
+      → Over program items store → Turn (Ok program)
       (λ next. end_finally program next items es store)
   finally_turn [] es store w o = Halts (Stuck es) (λ next. refl)
   finally_turn (Searches exception resumption h rest ∷ below) es store w o = Halts (Stuck es)
@@ -301,7 +180,8 @@ module _ (program : LinearProgram) (whole : IsWhole program) where
   funclet_turn funclets.Filter v c w o = answer_turn v c.below c.events c.store w o
   funclet_turn (funclets.Finally flag) v c w o = finally_turn c.below c.events c.store w o
 
-  end_turn : (name : BodyName) (v : ℕ) (c : Configuration) → c.frame.body ≡ name → Items program c.below → at_rest c → Turn (Ok program)
+  end_turn : (name : BodyName) (v : ℕ) (c : Configuration) → c.frame.body ≡ name
+      → Items program c.below → at_rest c → Turn (Ok program)
       (λ next. end_body program next name v c)
   end_turn (FunctionBody f) v c e w o = return_turn v c.below c.events
       (left_store c.frame.body c.frame.activation c.store)
@@ -314,11 +194,13 @@ module _ (program : LinearProgram) (whole : IsWhole program) where
 
   -- ---- an instruction
 
-  stored_by : (c : Configuration) (o : Option (List ℕ)) (d : Configuration) → with_temporaries c o ≡ Some d → at_rest c → at_rest d
+  stored_by : (c : Configuration) (o : Option (List ℕ)) (d : Configuration)
+      → with_temporaries c o ≡ Some d → at_rest c → at_rest d
   stored_by c None d e o = absurd (cc)
   stored_by c (Some ts) d e o = subst at_rest (same_it (with_last ts c) d e) o
 
-  write_stored : (c : Configuration) (to : Slot) (v : ℕ) (d : Configuration) → write c to v ≡ Some d → at_rest c → at_rest d
+  write_stored : (c : Configuration) (to : Slot) (v : ℕ) (d : Configuration) → write c to v ≡ Some d
+      → at_rest c → at_rest d
   write_stored c (Local x) v d e o =
       subst at_rest (same_it (record c { store = set_local c.store c.frame.activation x v }) d e) (
         o.0,
@@ -327,25 +209,29 @@ module _ (program : LinearProgram) (whole : IsWhole program) where
       )
   write_stored c (Temporary i) v d e o = stored_by c (with_temporary c.frame.temporaries i v) d e o
 
-  written_turn : (c : Configuration) (to : Slot) (v : ℕ) → at_rest c → Turn (Ok program) (λ next. written c to v next)
+  written_turn : (c : Configuration) (to : Slot) (v : ℕ) → at_rest c
+      → Turn (Ok program) (λ next. written c to v next)
   written_turn c to v o = some_turn (Ok program) c.events (write c to v) (λ next d. next (forth d))
       (λ d e. goes (forth d) (write_stored c to v d e o))
 
   computed_turn : (c : Configuration) (to : Slot) (r : OperationResult)
-      → Items program (Waits c.frame ∷ c.below) → at_rest c → Turn (Ok program) (λ next. computed program next to c r)
+      → Items program (Waits c.frame ∷ c.below) → at_rest c
+      → Turn (Ok program) (λ next. computed program next to c r)
   computed_turn c to (Gives v memory) w o = written_turn
       (record c { store = record c.store { memory = memory } }) to v o
   computed_turn c to (Raises code access) w o = raise_turn
       (record { code = code.0; flag = false; access = access }) SameOperation c w o
   computed_turn c to (Undefined a) w o = Halts (Finished (ends.Undefined a) c.events) (λ next. refl)
 
-  raises_with : (k : BuiltIn) → k ≡ RaiseException → (first n : ℕ) → n ≡ first → MayWait program (instructions.CallBuiltIn k first) n
+  raises_with : (k : BuiltIn) → k ≡ RaiseException → (first n : ℕ) → n ≡ first
+      → MayWait program (instructions.CallBuiltIn k first) n
   raises_with RaiseException e first n h = h
   raises_with Put e first n h = absurd (cc)
   raises_with Protect e first n h = absurd (cc)
 
   built_in_turn : (c : Configuration) (k : BuiltIn) (vs : List ℕ)
-      → (k ≡ RaiseException → Items program (Waits c.frame ∷ c.below)) → at_rest c → Turn (Ok program) (λ next. built_in program next k vs c)
+      → (k ≡ RaiseException → Items program (Waits c.frame ∷ c.below)) → at_rest c
+      → Turn (Ok program) (λ next. built_in program next k vs c)
   built_in_turn c Put vs w o = goes _ o
   built_in_turn c Protect vs w o = goes _ o
   built_in_turn c RaiseException vs w o = raise_turn (raised (get_or vs 0 0) (get_or vs 1 0))
@@ -372,12 +258,14 @@ module _ (program : LinearProgram) (whole : IsWhole program) where
         function = function;
         there = e;
         count = length-append vs zeros
-            ∙ ap (λ k. length vs + k) (length-replicate (function.body.locals - function.parameters) 0) ∙ omega (arith, n, room);
+            ∙ ap (λ k. length vs + k) (length-replicate
+            (function.body.locals - function.parameters) 0) ∙ omega (arith, n, room);
       }
 
   call_turn : (c : Configuration) (f first count : ℕ) (vs : List ℕ) (function : LinearFunction)
       → instruction_at program c ≡ Some (instructions.Call f first count)
-      → last_temporaries c.frame.temporaries first count ≡ Some vs → slice_get program.functions f ≡ Some function → at_rest c
+      → last_temporaries c.frame.temporaries first count ≡ Some vs
+      → slice_get program.functions f ≡ Some function → at_rest c
       → Turn (Ok program) (λ next. next (begin_function f function vs c.frame.held
       (Waits (waiting c first).frame ∷ c.below) c.store c.events))
   call_turn c f first count vs function at e g o =
@@ -388,16 +276,19 @@ module _ (program : LinearProgram) (whole : IsWhole program) where
       goes _ (
         (n, o.0),
         one_more program (owners_of (Waits c.frame ∷ c.below)) c.store.activations f
-            _ (entered f count function vs g (last_count c.frame.temporaries first count vs e ∙ takes))
+            _ (entered f count function vs g (last_count c.frame.temporaries first count vs e
+            ∙ takes))
             o.1,
       )
 
   module _ (c : Configuration) (s : IsStacked program c) (o : at_rest c) where
-    waits_as_is : (i : Instruction) → instruction_at program c ≡ Some i → is_landing program whole.bodies (Some i) ≡ false
+    waits_as_is : (i : Instruction) → instruction_at program c ≡ Some i
+        → is_landing program whole.bodies (Some i) ≡ false
         → MayWait program i (length c.frame.temporaries) → Items program (Waits c.frame ∷ c.below)
     waits_as_is i at plain m = waits program whole.bodies c s i at plain c.frame.temporaries m
 
-    act_turn : (i : Instruction) → instruction_at program c ≡ Some i → Turn (Ok program) (λ next. act program i next c)
+    act_turn : (i : Instruction) → instruction_at program c ≡ Some i
+        → Turn (Ok program) (λ next. act program i next c)
     act_turn (instructions.Compute to p first second) at =
         some_turn (Ok program) c.events (operand (is_constant p) c first) _ (λ a e.
         some_turn (Ok program) c.events (operand (is_constant p) c second) _ (λ b e.
@@ -454,14 +345,16 @@ module _ (program : LinearProgram) (whole : IsWhole program) where
   begun_with arg (suc zero) h = refl
   begun_with arg (suc (suc n)) h = absurd (omega arith)
 
-  starts : (arg : ℤ) (main : LinearFunction) → slice_get program.functions program.main ≡ Some main → Both (start program arg main)
+  starts : (arg : ℤ) (main : LinearFunction) → slice_get program.functions program.main ≡ Some main
+      → Both (start program arg main)
   starts arg main e = (
     starts_stacked program whole.bodies arg main,
     record {
       working = (refl, tt);
       stored = (
         entered program.main 0 main
-            (main_arguments main.parameters arg) e (begun_with arg main.parameters (whole.few main e)),
+            (main_arguments main.parameters arg) e
+            (begun_with arg main.parameters (whole.few main e)),
         tt,
       );
     },

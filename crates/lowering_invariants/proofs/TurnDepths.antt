@@ -18,7 +18,9 @@ use Rattle.lowering_invariants.proofs.Moves.{Turn, Halts, Moves, pick_turn, some
 use Rattle.lowering_invariants.proofs.Scans.{Leads, depth_next, leads_at}
 use Rattle.lowering_invariants.proofs.DepthStatements.{BodyLeads}
 use Rattle.lowering_invariants.proofs.TurnStack as stacked
-use Rattle.lowering_invariants.proofs.TurnStack.{same_it, handlers_are, aimed, here, further, waits, stays_stacked, starts_stacked}
+use Rattle.lowering_invariants.proofs.StackTargets as waiting
+use Rattle.lowering_invariants.proofs.StackTargets.{same_it, handlers_are, aimed, here, further}
+use Rattle.lowering_invariants.proofs.TurnStack.{waits, stays_stacked, starts_stacked}
 
 -- ---- places
 
@@ -143,7 +145,7 @@ module _ (program : LinearProgram) (whole : IsWhole program)
       (regions_left left (regions_at program f.body f.next))
       (record { frame = f; below = below; store = store; events = es }) p w
       (λ q store. unwind_turn (target_past f.body t) below None es store
-      (stacked.past_target program whole.bodies f.body t below q) w.1)
+      (waiting.past_target program whole.bodies f.body t below q) w.1)
   unwind_turn t (Searches exception resumption asked rest ∷ below) left es store p w = unwind_turn t
       below None es store p w
   unwind_turn t (Unwinds rest older ∷ below) left es store p w = unwind_turn t below (Some rest) es
@@ -413,7 +415,7 @@ module _ (program : LinearProgram) (whole : IsWhole program)
     -- the arguments are the last temporaries
     before : (first count : ℕ) (vs : List ℕ) → last_temporaries c.frame.temporaries first count
         ≡ Some vs → length (take first c.frame.temporaries) + count ≡ length c.frame.temporaries
-    before first count vs e = let a = stacked.taken first count c.frame.temporaries vs e in
+    before first count vs e = let a = waiting.taken first count c.frame.temporaries vs e in
         let b = last_are c.frame.temporaries first count vs e in omega arith
 
     act_turn : (i : Instruction) → instruction_at program c ≡ Some i → Turn Ok
@@ -441,7 +443,7 @@ module _ (program : LinearProgram) (whole : IsWhole program)
     act_turn (instructions.CallBuiltIn k first) at =
         some_turn Ok c.events (last_temporaries c.frame.temporaries first (count_of k)) _ (λ vs e.
         built_in_turn k first vs (take first c.frame.temporaries) at
-        (stacked.taken first (count_of k) c.frame.temporaries vs e)
+        (waiting.taken first (count_of k) c.frame.temporaries vs e)
         (before first (count_of k) vs e))
     act_turn (instructions.CallFinally k) at = block_turn k c.frame.held false
         (Waits c.frame ∷ c.below) c (plain_deep (instructions.CallFinally k) at refl)

@@ -12,7 +12,7 @@ use Rattle.linear_code.specs.declared.program.RegionKind.TheVariants as kinds
 use Rattle.linear_code.specs.declared.program.FuncletKind.TheVariants as funclets
 use Rattle.lowering_invariants.specs.SmallNumbers.{AreSmall, IsSmallCode, IsSmallException, IsSmallFrame, AreSmallItems, HasSmallNumbers}
 use Rattle.lowering_invariants.proofs.Moves.{Turn, Halts, Moves, pick_turn, some_turn, deeper_turn, kept, kept_by_all}
-use Rattle.lowering_invariants.proofs.TurnStack.{same_it}
+use Rattle.lowering_invariants.proofs.StackTargets.{same_it}
 use Rattle.seh_num.proofs.Below.{low_below, wrapped_below}
 use Rattle.lowering_invariants.proofs.Results.{IsSmallOutcome, outcome_small}
 
@@ -59,12 +59,14 @@ AllSmall acts = AllByRecursion AreSmall acts
 abbrev locals_in : Option (List ℕ) → List ℕ
 locals_in o = elim o [ Some locals ↦ locals | None ↦ [] ]
 
-locals_small : (acts : List (List ℕ)) (k : ℕ) → AllSmall acts → AreSmall (locals_in (slice_get acts k))
+locals_small : (acts : List (List ℕ)) (k : ℕ) → AllSmall acts
+    → AreSmall (locals_in (slice_get acts k))
 locals_small [] k h = tt
 locals_small (a ∷ acts) zero h = h.0
 locals_small (a ∷ acts) (suc k) h = locals_small acts k h.1
 
-set_small : (acts : List (List ℕ)) (k : ℕ) (vs : List ℕ) → AllSmall acts → AreSmall vs → AllSmall (slice_set acts k vs)
+set_small : (acts : List (List ℕ)) (k : ℕ) (vs : List ℕ) → AllSmall acts → AreSmall vs
+    → AllSmall (slice_set acts k vs)
 set_small [] k vs h l = tt
 set_small (a ∷ acts) zero vs h l = (l, h.1)
 set_small (a ∷ acts) (suc k) vs h l = (h.0, set_small acts k vs h.1 l)
@@ -74,15 +76,18 @@ taken_small zero acts h = tt
 taken_small (suc n) [] h = tt
 taken_small (suc n) (a ∷ acts) h = (h.0, taken_small n acts h.1)
 
-joined_small : (acts : List (List ℕ)) (vs : List ℕ) → AllSmall acts → AreSmall vs → AllSmall (acts ++ vs ∷ [])
+joined_small : (acts : List (List ℕ)) (vs : List ℕ) → AllSmall acts → AreSmall vs
+    → AllSmall (acts ++ vs ∷ [])
 joined_small [] vs h l = (l, tt)
 joined_small (a ∷ acts) vs h l = (h.0, joined_small acts vs h.1 l)
 
-left_small : (name : BodyName) (k : ℕ) (store : Store) → AllSmall store.activations → AllSmall (left_store name k store).activations
+left_small : (name : BodyName) (k : ℕ) (store : Store) → AllSmall store.activations
+    → AllSmall (left_store name k store).activations
 left_small (FunctionBody f) k store h = taken_small k store.activations h
 left_small (FuncletBody j) k store h = h
 
-local_small : (store : Store) (k x v : ℕ) → AllSmall store.activations → v < 2 ^ 64 → AllSmall (set_local store k x v).activations
+local_small : (store : Store) (k x v : ℕ) → AllSmall store.activations → v < 2 ^ 64
+    → AllSmall (set_local store k x v).activations
 local_small store k x v h lt = set_small store.activations k
     (slice_set (locals_in (slice_get store.activations k)) x v) h
     (all_set (locals_in (slice_get store.activations k)) x v (locals_small store.activations k h)
@@ -125,7 +130,8 @@ goes : (d : Configuration) → at_rest d → Turn HasSmallNumbers (λ next. next
 goes d o = Moves d (record { items = o.0; locals = o.1 }) (λ next. refl)
 
 -- this body with other temporaries, and no exception taken over
-frame_with : (f : Frame) (ts : List ℕ) → AreSmall ts → IsSmallFrame f → IsSmallFrame (record f { temporaries = ts })
+frame_with : (f : Frame) (ts : List ℕ) → AreSmall ts → IsSmallFrame f
+    → IsSmallFrame (record f { temporaries = ts })
 frame_with f ts h s = record { temporaries = h; exception = s.exception; landed = s.landed }
 
 module _ (program : LinearProgram) where
@@ -144,7 +150,17 @@ module _ (program : LinearProgram) where
     ),
     o.1,
   )
-  arrive_turn (Some code) t c s o = goes _ ((record { temporaries = tt; exception = o.0.0.exception; landed = s }, o.0.1), o.1)
+  arrive_turn (Some code) t c s o = goes _ (
+    (
+      record {
+        temporaries = tt;
+        exception = o.0.0.exception;
+        landed = s;
+      },
+      o.0.1,
+    ),
+    o.1,
+  )
 
   none_small : IsSmallException (record { code = 0; flag = false; access = None })
   none_small = record { code = omega arith; access = tt }
@@ -163,11 +179,13 @@ module _ (program : LinearProgram) where
   leave_turn : (r : RegionKind) (t : Target) (rest : List Region) (on : Next → Seen)
       (c : Configuration) → IsSmallCode t.code → at_rest c → Turn HasSmallNumbers on
       → Turn HasSmallNumbers (λ next. leave_region program next t r rest (on next) c)
-  leave_turn (kinds.Finally j) t rest on c s o h = block_turn j t.held true (Unwinds rest t ∷ Waits c.frame ∷ c.below) c (s, o.0) o.1
+  leave_turn (kinds.Finally j) t rest on c s o h = block_turn j t.held true (Unwinds rest t
+      ∷ Waits c.frame ∷ c.below) c (s, o.0) o.1
   leave_turn (kinds.Filter j l) t rest on c s o h = h
   leave_turn (kinds.Always l) t rest on c s o h = h
 
-  body_turn : (t : Target) (out : Next → Store → Seen) (rs : List Region) (c : Configuration) → IsSmallCode t.code → at_rest c
+  body_turn : (t : Target) (out : Next → Store → Seen) (rs : List Region) (c : Configuration)
+      → IsSmallCode t.code → at_rest c
       → (AllSmall (left_store c.frame.body c.frame.activation c.store).activations
       → Turn HasSmallNumbers (λ next. out next
       (left_store c.frame.body c.frame.activation c.store)))
@@ -175,7 +193,8 @@ module _ (program : LinearProgram) where
   body_turn t out [] c s o h =
       pick_turn HasSmallNumbers (nat_eq t.depth (length c.below)) (λ next. arrive t t.code next c)
       (λ next. out next (left_store c.frame.body c.frame.activation c.store))
-      (λ e. arrive_turn t.code t c s o) (λ e. h (left_small c.frame.body c.frame.activation c.store o.1))
+      (λ e. arrive_turn t.code t c s o) (λ e. h
+      (left_small c.frame.body c.frame.activation c.store o.1))
   body_turn t out (x ∷ rs) c s o h =
       pick_turn HasSmallNumbers (stops t x (length c.below)) (λ next. arrive t t.code next c)
       (λ next. leave_region program next t x.kind rs (unwind_body program next t (out next) rs c)
@@ -183,7 +202,8 @@ module _ (program : LinearProgram) where
       (λ e. arrive_turn t.code t c s o) (λ e. leave_turn x.kind t rs
       (λ next. unwind_body program next t (out next) rs c) c s o (body_turn t out rs c s o h))
 
-  past_small : (name : BodyName) (t : Target) → IsSmallCode t.code → IsSmallCode (target_past name t).code
+  past_small : (name : BodyName) (t : Target) → IsSmallCode t.code
+      → IsSmallCode (target_past name t).code
   past_small (FunctionBody f) t s = s
   past_small (FuncletBody k) t s = s
 
@@ -199,7 +219,8 @@ module _ (program : LinearProgram) where
       (past_small f.body t s) (o.0.1, p))
   unwind_turn t (Searches exception resumption asked rest ∷ below) left es store s o = unwind_turn t
       below None es store s (o.0.1, o.1)
-  unwind_turn t (Unwinds rest older ∷ below) left es store s o = unwind_turn t below (Some rest) es store s (o.0.1, o.1)
+  unwind_turn t (Unwinds rest older ∷ below) left es store s o =
+      unwind_turn t below (Some rest) es store s (o.0.1, o.1)
 
   -- ---- searching
 
@@ -222,7 +243,8 @@ module _ (program : LinearProgram) where
       → Turn HasSmallNumbers (λ next. search program next found exception resumption c)
   search_turn [] exception resumption c x o = Halts
       (Finished (ends.Unhandled (record { 0 = exception.code })) c.events) (λ next. refl)
-  search_turn (h ∷ rest) exception resumption c x o = consult_turn h.filter h rest exception resumption c x o
+  search_turn (h ∷ rest) exception resumption c x o =
+      consult_turn h.filter h rest exception resumption c x o
 
   raise_turn : (exception : Exception) (resumption : Resumption) (c : Configuration)
       → IsSmallException exception → at_rest c
@@ -232,7 +254,8 @@ module _ (program : LinearProgram) where
       (record c { events = c.events ++ raise_event exception ∷ [] }) x o
 
   -- a body continues with one more temporary
-  with_result : (c : Configuration) (v : ℕ) → v < 2 ^ 64 → at_rest c → at_rest (with_last (c.frame.temporaries ++ v ∷ []) c)
+  with_result : (c : Configuration) (v : ℕ) → v < 2 ^ 64 → at_rest c
+      → at_rest (with_last (c.frame.temporaries ++ v ∷ []) c)
   with_result c v lt o = (
     (
       frame_with c.frame (c.frame.temporaries ++ v ∷ [])
@@ -243,13 +266,25 @@ module _ (program : LinearProgram) where
   )
 
   moved_to : (label : ℕ) (c : Configuration) → at_rest c → at_rest (at_label label c)
-  moved_to label c o = ((record { temporaries = o.0.0.temporaries; exception = o.0.0.exception; landed = o.0.0.landed }, o.0.1), o.1)
+  moved_to label c o = (
+    (
+      record {
+        temporaries = o.0.0.temporaries;
+        exception = o.0.0.exception;
+        landed = o.0.0.landed;
+      },
+      o.0.1,
+    ),
+    o.1,
+  )
 
   answers_turn : (c : Configuration) (v : ℕ) → v < 2 ^ 64 → at_rest c
       → Turn HasSmallNumbers (λ next. next (forth (with_last (c.frame.temporaries ++ v ∷ []) c)))
-  answers_turn c v lt o = goes _ (moved_to (c.frame.next + 1) (with_last (c.frame.temporaries ++ v ∷ []) c) (with_result c v lt o))
+  answers_turn c v lt o = goes _ (moved_to (c.frame.next + 1) (with_last (c.frame.temporaries ++ v
+      ∷ []) c) (with_result c v lt o))
 
-  resumed_turn : (resumption : Resumption) (c : Configuration) → at_rest c → Turn HasSmallNumbers (λ next. next (resumed resumption c))
+  resumed_turn : (resumption : Resumption) (c : Configuration) → at_rest c
+      → Turn HasSmallNumbers (λ next. next (resumed resumption c))
   resumed_turn AfterCall c o = answers_turn c 0 (omega arith) o
   resumed_turn SameOperation c o = goes c o
 
@@ -261,11 +296,20 @@ module _ (program : LinearProgram) where
   answer_turn v [] es store o = Halts (Stuck es) (λ next. refl)
   answer_turn v (Waits f ∷ below) es store o = Halts (Stuck es) (λ next. refl)
   answer_turn v (Unwinds rest t ∷ below) es store o = Halts (Stuck es) (λ next. refl)
-  answer_turn v (Searches exception resumption h rest ∷ []) es store o = Halts (Stuck es) (λ next. refl)
-  answer_turn v (Searches exception resumption h rest ∷ Searches e r a s ∷ below) es store o = Halts (Stuck es) (λ next. refl)
-  answer_turn v (Searches exception resumption h rest ∷ Unwinds s t ∷ below) es store o = Halts (Stuck es) (λ next. refl)
+  answer_turn v (Searches exception resumption h rest ∷ []) es store o =
+      Halts (Stuck es) (λ next. refl)
+  answer_turn v (Searches exception resumption h rest ∷ Searches e r a s ∷ below) es store o =
+      Halts (Stuck es) (λ next. refl)
+  answer_turn v (Searches exception resumption h rest ∷ Unwinds s t ∷ below) es store o =
+      Halts (Stuck es) (λ next. refl)
   answer_turn v (Searches exception resumption h rest ∷ Waits f ∷ below) es store o =
-      let c : Configuration = record { frame = f; below = below; store = store; events = es ++ events.Answer (signed W32 v) ∷ [] } in
+      let c : Configuration = record {
+        frame = f;
+        below = below;
+        store = store;
+        events = es
+            ++ events.Answer (signed W32 v) ∷ [];
+      } in
       let p : at_rest c = (o.0.1, o.1) in
       pick_turn HasSmallNumbers (nat_eq (low W32 v) 0)
       (λ next. search program next rest exception resumption c) _
@@ -280,20 +324,26 @@ module _ (program : LinearProgram) where
   return_turn : (v : ℕ) (items : List Item) (es : List Event) (store : Store) → v < 2 ^ 64
       → Over items store → Turn HasSmallNumbers (λ next. return next v items es store)
   return_turn v [] es store lt o = Halts (Finished (ends.Exit (signed W32 v)) es) (λ next. refl)
-  return_turn v (Waits f ∷ below) es store lt o = answers_turn (record { frame = f; below = below; store = store; events = es }) v lt o
-  return_turn v (Searches exception resumption h rest ∷ below) es store lt o = Halts (Stuck es) (λ next. refl)
+  return_turn v (Waits f ∷ below) es store lt o =
+      answers_turn (record { frame = f; below = below; store = store; events = es }) v lt o
+  return_turn v (Searches exception resumption h rest ∷ below) es store lt o =
+      Halts (Stuck es) (λ next. refl)
   return_turn v (Unwinds rest t ∷ below) es store lt o = Halts (Stuck es) (λ next. refl)
 
   finally_turn : (items : List Item) (es : List Event) (store : Store) → Over items store
       → Turn HasSmallNumbers (λ next. end_finally program next items es store)
   finally_turn [] es store o = Halts (Stuck es) (λ next. refl)
-  finally_turn (Searches exception resumption h rest ∷ below) es store o = Halts (Stuck es) (λ next. refl)
+  finally_turn (Searches exception resumption h rest ∷ below) es store o =
+      Halts (Stuck es) (λ next. refl)
   finally_turn (Waits f ∷ below) es store o = goes _
       (moved_to (f.next + 1) (record { frame = f; below = below; store = store; events = es }) o)
   finally_turn (Unwinds rest t ∷ []) es store o = Halts (Stuck es) (λ next. refl)
-  finally_turn (Unwinds rest t ∷ Searches exception resumption h s ∷ below) es store o = Halts (Stuck es) (λ next. refl)
-  finally_turn (Unwinds rest t ∷ Unwinds s older ∷ below) es store o = Halts (Stuck es) (λ next. refl)
-  finally_turn (Unwinds rest t ∷ Waits f ∷ below) es store o = unwind_turn t (Waits f ∷ below) (Some rest) es store o.0.0 (o.0.1, o.1)
+  finally_turn (Unwinds rest t ∷ Searches exception resumption h s ∷ below) es store o =
+      Halts (Stuck es) (λ next. refl)
+  finally_turn (Unwinds rest t ∷ Unwinds s older ∷ below) es store o =
+      Halts (Stuck es) (λ next. refl)
+  finally_turn (Unwinds rest t ∷ Waits f ∷ below) es store o =
+      unwind_turn t (Waits f ∷ below) (Some rest) es store o.0.0 (o.0.1, o.1)
 
   funclet_turn : (kind : FuncletKind) (v : ℕ) (c : Configuration) → Over c.below c.store
       → Turn HasSmallNumbers (λ next. end_funclet program next kind v c)
@@ -315,9 +365,11 @@ module _ (program : LinearProgram) where
       → with_temporaries c o ≡ Some d → ((ts : List ℕ) → o ≡ Some ts → AreSmall ts) → at_rest c
       → at_rest d
   stored_by c None d e h o = absurd (cc)
-  stored_by c (Some ts) d e h o = subst at_rest (same_it (with_last ts c) d e) ((frame_with c.frame ts (h ts refl) o.0.0, o.0.1), o.1)
+  stored_by c (Some ts) d e h o = subst at_rest (same_it (with_last ts c) d e)
+      ((frame_with c.frame ts (h ts refl) o.0.0, o.0.1), o.1)
 
-  new_small : (b : Bool) (ts us : List ℕ) → (if b then Some ts else None) ≡ Some us → AreSmall ts → AreSmall us
+  new_small : (b : Bool) (ts us : List ℕ) → (if b then Some ts else None) ≡ Some us → AreSmall ts
+      → AreSmall us
   new_small true ts us e h = subst AreSmall (same_it ts us e) h
   new_small false ts us e h = absurd (cc)
 
@@ -332,37 +384,43 @@ module _ (program : LinearProgram) where
       (all_joined (take i c.frame.temporaries) (v ∷ [])
       (all_taken i c.frame.temporaries o.0.0.temporaries) (lt, tt))) o
 
-  written_turn : (c : Configuration) (to : Slot) (v : ℕ) → v < 2 ^ 64 → at_rest c → Turn HasSmallNumbers (λ next. written c to v next)
+  written_turn : (c : Configuration) (to : Slot) (v : ℕ) → v < 2 ^ 64 → at_rest c
+      → Turn HasSmallNumbers (λ next. written c to v next)
   written_turn c to v lt o = some_turn HasSmallNumbers c.events (write c to v)
       (λ next d. next (forth d)) (λ d e. goes (forth d)
       (moved_to (d.frame.next + 1) d (write_small c to v d e lt o)))
 
   computed_turn : (c : Configuration) (to : Slot) (r : OperationResult) → IsSmallOutcome r
       → at_rest c → Turn HasSmallNumbers (λ next. computed program next to c r)
-  computed_turn c to (Gives v memory) s o = written_turn (record c { store = record c.store { memory = memory } }) to v s o
+  computed_turn c to (Gives v memory) s o = written_turn
+      (record c { store = record c.store { memory = memory } }) to v s o
   computed_turn c to (Raises code access) s o = raise_turn
       (record { code = code.0; flag = false; access = access }) SameOperation c
       (record { code = s.0; access = s.1 }) o
   computed_turn c to (Undefined a) s o = Halts (Finished (ends.Undefined a) c.events) (λ next. refl)
 
-  read_small : (c : Configuration) (slot : Slot) (v : ℕ) → read c slot ≡ Some v → at_rest c → v < 2 ^ 64
+  read_small : (c : Configuration) (slot : Slot) (v : ℕ) → read c slot ≡ Some v → at_rest c
+      → v < 2 ^ 64
   read_small c (Local x) v e o =
       subst (λ y. y < 2 ^ 64) (same_it _ v e)
       (one_of (locals_in (slice_get c.store.activations c.frame.activation)) x
       (locals_small c.store.activations c.frame.activation o.1))
   read_small c (Temporary i) v e o = got_of c.frame.temporaries i v o.0.0.temporaries e
 
-  operand_small : (b : Bool) (c : Configuration) (slot : Slot) (v : ℕ) → operand b c slot ≡ Some v → at_rest c → v < 2 ^ 64
+  operand_small : (b : Bool) (c : Configuration) (slot : Slot) (v : ℕ) → operand b c slot ≡ Some v
+      → at_rest c → v < 2 ^ 64
   operand_small true c slot v e o = subst (λ y. y < 2 ^ 64) (same_it 0 v e) (omega arith)
   operand_small false c slot v e o = read_small c slot v e o
 
-  with_fewer : (ts : List ℕ) (c : Configuration) → AreSmall ts → at_rest c → at_rest (with_last ts c)
+  with_fewer : (ts : List ℕ) (c : Configuration) → AreSmall ts → at_rest c
+      → at_rest (with_last ts c)
   with_fewer ts c h o = ((frame_with c.frame ts h o.0.0, o.0.1), o.1)
 
   built_in_turn : (c : Configuration) (k : BuiltIn) (vs : List ℕ) → at_rest c
       → Turn HasSmallNumbers (λ next. built_in program next k vs c)
   built_in_turn c Put vs o = answers_turn (record c { events = _ }) 0 (omega arith) o
-  built_in_turn c Protect vs o = answers_turn (record c { store = record c.store { memory = _ } }) (of_test _) (test_small _) o
+  built_in_turn c Protect vs o = answers_turn (record c { store = record c.store { memory = _ } })
+      (of_test _) (test_small _) o
   built_in_turn c RaiseException vs o = raise_turn (raised (get_or vs 0 0) (get_or vs 1 0))
       AfterCall c (record { code = low_below W32 (get_or vs 0 0); access = tt }) o
 
@@ -374,7 +432,8 @@ module _ (program : LinearProgram) where
       (λ e. goes _ (moved_to (c.frame.next + 1) c o))
   tested_turn c (Temporary i) label v o =
       let d = with_last (take i c.frame.temporaries) c in
-      let p = with_fewer (take i c.frame.temporaries) c (all_taken i c.frame.temporaries o.0.0.temporaries) o in
+      let p = with_fewer (take i c.frame.temporaries) c
+      (all_taken i c.frame.temporaries o.0.0.temporaries) o in
       pick_turn HasSmallNumbers (nat_eq v 0) (λ next. next (at_label label d))
       (λ next. next (forth d)) (λ e. goes _ (moved_to label d p))
       (λ e. goes _ (moved_to (c.frame.next + 1) d p))
@@ -394,7 +453,8 @@ module _ (program : LinearProgram) where
     act_turn (instructions.JumpIfZero slot label) = some_turn HasSmallNumbers c.events (read c slot)
         _ (λ v e. tested_turn c slot label v o)
     act_turn (instructions.Call f first count) =
-        some_turn HasSmallNumbers c.events (last_temporaries c.frame.temporaries first count) _ (λ vs e.
+        some_turn HasSmallNumbers c.events (last_temporaries c.frame.temporaries first count) _
+        (λ vs e.
         some_turn HasSmallNumbers c.events (slice_get program.functions f) _ (λ function g.
         deeper_turn HasSmallNumbers 1 c.frame.held c.store c.events _ (goes _ (
           (
@@ -408,15 +468,18 @@ module _ (program : LinearProgram) where
               (zeros (function.body.locals - function.parameters))),
         ))))
     act_turn (instructions.CallBuiltIn k first) =
-        some_turn HasSmallNumbers c.events (last_temporaries c.frame.temporaries first (count_of k)) _ (λ vs e.
+        some_turn HasSmallNumbers c.events (last_temporaries c.frame.temporaries first (count_of k))
+        _ (λ vs e.
         built_in_turn (waiting c first) k vs (with_fewer (take first c.frame.temporaries) c
         (all_taken first c.frame.temporaries o.0.0.temporaries) o))
-    act_turn (instructions.CallFinally k) = block_turn k c.frame.held false (Waits c.frame ∷ c.below) c o.0 o.1
+    act_turn (instructions.CallFinally k) = block_turn k c.frame.held false (Waits c.frame
+        ∷ c.below) c o.0 o.1
     act_turn (instructions.LocalUnwind label) = unwind_turn
         (record { depth = length c.below; label = label; code = None; held = c.frame.held })
         (Waits c.frame ∷ c.below) None c.events c.store tt o
     act_turn (instructions.Landing to) =
-        some_turn HasSmallNumbers c.events c.frame.landed (λ next code. written (not_landed c) to code next) (λ code e.
+        some_turn HasSmallNumbers c.events c.frame.landed
+        (λ next code. written (not_landed c) to code next) (λ code e.
         written_turn (not_landed c) to code (code_small c.frame.landed code e o.0.0.landed) (
           (
             record { temporaries = o.0.0.temporaries; exception = o.0.0.exception; landed = tt },
@@ -428,11 +491,13 @@ module _ (program : LinearProgram) where
         code_small : (l : Option ℕ) (code : ℕ) → l ≡ Some code → IsSmallCode l → code < 2 ^ 64
         code_small None code e h = absurd (cc)
         code_small (Some x) code e h = let s = same_it x code e in omega arith
-    act_turn instructions.Separator = goes _ (moved_to (c.frame.next + 1) (with_last [] c) (with_fewer [] c tt o))
+    act_turn instructions.Separator = goes _ (moved_to (c.frame.next + 1) (with_last [] c)
+        (with_fewer [] c tt o))
     act_turn (instructions.Return from) = some_turn HasSmallNumbers c.events (read c from) _
         (λ v e. end_turn c.frame.body v c (read_small c from v e o) o)
 
-  pub stays_small : (c d : Configuration) → IsTurn program c d → HasSmallNumbers c → HasSmallNumbers d
+  pub stays_small : (c d : Configuration) → IsTurn program c d → HasSmallNumbers c
+      → HasSmallNumbers d
   stays_small c d r p = kept HasSmallNumbers (λ next. act program r.instruction next c) d
       (act_turn c (p.items, p.locals) r.instruction) r.goes
 
@@ -445,7 +510,8 @@ module _ (program : LinearProgram) where
     items = (record { temporaries = tt; exception = none_small; landed = tt }, tt);
     locals = (
       all_joined (main_arguments main.parameters arg) _
-          (arguments_small (nat_eq main.parameters 0) arg) (zeros (main.body.locals - main.parameters)),
+          (arguments_small (nat_eq main.parameters 0) arg)
+          (zeros (main.body.locals - main.parameters)),
       tt,
     );
   }

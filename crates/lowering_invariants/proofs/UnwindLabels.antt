@@ -7,7 +7,7 @@ use Rattle.lowering_invariants.specs.Words.{Expression, Function, Statements, Lo
 use Rattle.linear_code.specs.declared.instruction.Instruction.TheVariants as instructions
 use Rattle.seh_ir.proofs.StatementCodes.{statements_length}
 use Rattle.lowering_invariants.proofs.EveryBody.{every_body}
-use Rattle.lowering_invariants.proofs.TurnStack.{all_at}
+use Rattle.lowering_invariants.proofs.StackTargets.{all_at}
 use Rattle.lowering_invariants.specs.UnwindLabels.{StaysInside}
 use Rattle.lowering_invariants.specs.PlaceLaws.{LoweredStaysInside}
 use Rattle.lowering_invariants.proofs.NoBlocks.{RunNoBlocks, expression_no_blocks}

@@ -27,7 +27,7 @@ use Rattle.lowering_follows.proofs.SoundExpressions.{both_left, both_right, Know
 use Rattle.seh_ir.proofs.EveryInstruction.{all_append}
 use Rattle.lowering_invariants.specs.Bodies.{parent_of}
 use Rattle.lowering_invariants.proofs.Calls.{AllCall, append, expression_calls}
-use Rattle.lowering_invariants.proofs.TurnStack.{same_it}
+use Rattle.lowering_invariants.proofs.StackTargets.{same_it}
 
 module _ (program : Program) (linear : LinearProgram)
     (callee : (f count : ℕ) → IsCalled program f count → IsCallee linear f count) where

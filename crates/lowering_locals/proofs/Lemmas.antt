@@ -7,4 +7,5 @@ pub use Rattle.seh_ir.proofs.StatementCodes.{returned_length, statement_length, 
 pub use Rattle.lowering_follows.proofs.Segments.{IsSegmentAt, front, back, whole_is_at}
 pub use Rattle.lowering_invariants.proofs.Moves.{Turn, Halts, Moves, pick_turn, some_turn, deeper_turn, kept}
 pub use Rattle.lowering_invariants.proofs.PlainExpressions.{all_append}
-pub use Rattle.lowering_invariants.proofs.TurnStack.{same_it, instruction_fits, all_map}
+pub use Rattle.lowering_invariants.proofs.StackTargets.{same_it, all_map}
+pub use Rattle.lowering_invariants.proofs.TurnStack.{instruction_fits}

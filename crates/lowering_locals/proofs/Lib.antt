@@ -20,5 +20,7 @@ pub mod ChoiceSets
 pub mod LoopSets
 pub mod TrySets
 pub mod Around
+pub mod SetPlaces
+pub mod FuncletSets
 pub mod SetParts
 pub mod ProgramSets

@@ -14,7 +14,8 @@ use Rattle.lowering_locals.proofs.RunSets.{set_map_reads_no_unset}
 use Rattle.lowering_locals.specs.ScopedLaws.{ScopedHasSetMap, ScopedReadsNoUnset}
 use Rattle.lowering_locals.proofs.StraightCode.{is_same, is_same_back, head_recorded, both_lead}
 use Rattle.lowering_locals.proofs.SetLists.{statements_long, statements_many, statements_first, begins}
-use Rattle.lowering_locals.proofs.SetParts.{IsFine, IsPlace, HasFunclets, has_front, has_back, whole_body, statements_are_set}
+use Rattle.lowering_locals.proofs.SetPlaces.{WithSets, IsFine, IsPlace, HasFunclets, has_front, has_back, whole_body}
+use Rattle.lowering_locals.proofs.SetParts.{statements_are_set}
 use Rattle.lowering_follows.proofs.SoundStatements.{inside_function}
 
 get_is : {X : Type 0} (xs : List X) (k : ℕ) (x other : X) → slice_get xs k ≡ Some x
@@ -40,6 +41,14 @@ module _ (program : Program) where
       → lists (FuncletBody k) ≡ list
   listed k list e = get_is funclet_lists k list [] e
 
+  abbrev with_sets : WithSets
+  with_sets = record {
+    linear = linear;
+    lists = lists;
+    funclet_lists = funclet_lists;
+    listed = listed;
+  }
+
   -- the function of a number, and the funclet of one
   record IsGood (k : ℕ) : Type 0 where
     body : (b : LinearBody) → body_of linear (FunctionBody k) ≡ Some b
@@ -48,10 +57,10 @@ module _ (program : Program) where
         → IsPart (sets (FunctionBody k) 0) (first_seen f.parameters)
 
   abbrev Fine : ℕ → Type 0
-  Fine k = IsFine linear lists funclet_lists listed k
+  Fine k = IsFine with_sets k
 
   abbrev Has : (j : ℕ) → List LinearFunclet → List (List SeenNames) → List ℕ → Type 0
-  Has j fs ls ns = HasFunclets linear lists funclet_lists listed j fs ls ns
+  Has j fs ls ns = HasFunclets with_sets j fs ls ns
 
   abbrev owner : ℕ → Function → Owner
   owner number fn = record { function = number; locals = all_locals fn; parent = None }
@@ -85,7 +94,7 @@ module _ (program : Program) where
       let start = begins (lists name) 0 size ll seen seen front_part
       (statements_first fn.body own seen seen (itself seen)) (omega arith) recorded_end in
       let few : length fn.parameters ≤ all_locals fn = omega arith in
-      let place : IsPlace linear lists funclet_lists listed name (owner number fn) scope seen
+      let place : IsPlace with_sets name (owner number fn) scope seen
       seen = record {
         owned = refl;
         room = ap function_locals there;
@@ -100,7 +109,7 @@ module _ (program : Program) where
         loop_next = tt;
         leave = tt;
       } in
-      let x = statements_are_set linear lists funclet_lists listed fn.body name (owner number fn)
+      let x = statements_are_set with_sets fn.body name (owner number fn)
       (inside_function program fn) scope seen seen 0 j place (omega arith) (omega arith)
       (both_left _ _ (both_left _ _ ok)) w front_part
       (subst (λ n. IsPart (sets name n) seen) same recorded_end) f in
@@ -109,7 +118,7 @@ module _ (program : Program) where
       let leads = both_lead linear sets name 0 size (statements_code scope fn.body 0)
       (constant 0 0 ∷ instructions.Return (Temporary 0) ∷ []) (omega arith) x.leads
       ((tt, tt, next), (tt, tt)) in
-      let set : IsSetBody linear sets name body = whole_body linear lists funclet_lists listed name
+      let set : IsSetBody linear sets name body = whole_body with_sets name
       body leads x.regions in (
         record {
           body = λ b e. subst (IsSetBody linear sets name)
@@ -138,10 +147,10 @@ module _ (program : Program) where
       let mid = j + length numbers in
       let count = statements_count (owner number fn) (scope_of fn).names fn.body in
       let many = statements_many fn.body (own_locals fn) (parameters_seen fn) in
-      let first : Has j own own_sets numbers = has_front linear lists funclet_lists listed j own
+      let first : Has j own own_sets numbers = has_front with_sets j own
       rest own_sets (all_funclet_sets fs) numbers (sound.all_funclets fs) f in
-      let after : Has mid rest (all_funclet_sets fs) (sound.all_funclets fs) = has_back linear lists
-      funclet_lists listed j mid own rest own_sets (all_funclet_sets fs) numbers
+      let after : Has mid rest (all_funclet_sets fs) (sound.all_funclets fs) =
+      has_back with_sets j mid own rest own_sets (all_funclet_sets fs) numbers
       (sound.all_funclets fs) refl count many f in
       let x = function_is_at fn number j (both_left _ _ ok) (both_left _ _ w) g.0
       (get_is (map function_sets program.functions) number (function_sets fn) [] l.0) first in

@@ -16,6 +16,7 @@ pub mod DispatchItems
 pub mod ContextWidths
 pub mod EntryFlags
 pub mod SearchHandlers
+pub mod UnwindTargets
 pub mod UnwindBlocks
 pub mod FuncletEntry
 pub mod SearchTurns

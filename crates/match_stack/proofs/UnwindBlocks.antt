@@ -1,9 +1,8 @@
 -- The host's unwinding runs the `__finally` blocks of the linear code's, and lands where it lands.
-use Rattle.std.proofs.Common.{◌≡◌, ◌≢◌, ◌⊎◌, inl, inr, ℕ, suc, ◌+◌, ◌%◌, ◌^◌, ◌<◌, ◌≤◌, Bool, true, false, Option, Some, None, List, [], ◌∷◌, length, refl, sym, ap, subst, ◌∙◌, arith, length-append}
+use Rattle.std.proofs.Common.{◌≡◌, ◌≢◌, ◌⊎◌, inl, inr, ℕ, suc, ◌+◌, ◌%◌, ◌^◌, ◌<◌, ◌≤◌, Bool, true, false, Option, Some, None, List, [], ◌∷◌, length, refl, sym, ap, subst, ◌∙◌, arith}
 use Rattle.std.specs.Prelude.{nat_eq}
 use Rattle.std.proofs.lemmas.Bool.{le-ltb, eq-eqb, ne_eqb}
-use Rattle.std.proofs.lemmas.List.{take_at}
-use Rattle.match_stack.specs.Words.{Event, Memory, Context, context_of, rsp, Functions, distance, AskedRecord, rows_from, unwound, until, until_if, first_finally, UnwindResult, if_past, if_target, by_row, Funclet, arrivals, row_before, Layout, Region, LinearProgram, BodyName, FunctionBody, FuncletBody, body_of, Frame, Target, Item, Waits, Searches, Unwinds, Store, Seen, Next, pick, regions_of, left_store, unwind_body, StackFrame, StackItem, Framed, Leaf, Searching, Unwinding, FrameIsAt, LeafIsAt, IsStack, after_frame, after_leaf, caller_frame, caller_of_leaf, state, decided_or, plain_unwind, ImagePlan, Gives, Activation, activations_below, HasActivation, FrameWaits, LeafWaits, regions_from, IsAtRow, Aimed, Linked, NoBlock, Arrives, FirstBlock, left_from, IsWide, store_of, Course, RunsBlock, UnwoundAs, target_past, locals_of, IsAbove, AimedHere, on_top}
+use Rattle.match_stack.specs.Words.{Event, Memory, Context, context_of, rsp, Functions, distance, AskedRecord, rows_from, unwound, until, until_if, first_finally, UnwindResult, if_past, if_target, by_row, Funclet, arrivals, row_before, Layout, Region, LinearProgram, BodyName, FunctionBody, FuncletBody, body_of, Frame, Target, Item, Waits, Searches, Unwinds, Store, Seen, Next, pick, regions_of, left_store, unwind_body, StackFrame, StackItem, Framed, Leaf, Searching, Unwinding, FrameIsAt, LeafIsAt, IsStack, after_frame, after_leaf, caller_frame, caller_of_leaf, state, decided_or, plain_unwind, ImagePlan, Gives, Activation, activations_below, HasActivation, FrameWaits, LeafWaits, regions_from, IsAtRow, Aimed, Linked, NoBlock, Arrives, FirstBlock, left_from, IsWide, store_of, Course, RunsBlock, UnwoundAs, target_past, IsAbove, AimedHere, on_top}
 use Rattle.seh_unwind.specs.declared.unwind_result.UnwindResult.TheVariants as unwinds
 use Rattle.linear_machine.specs.Unwinding as linear
 use Rattle.match_stack.proofs.StackKeeping.{rises}
@@ -14,154 +13,7 @@ use Rattle.match_stack.proofs.ContextWidths.{wide_after, wide_after_leaf, wide_s
 use Rattle.match_stack.proofs.EntryFlags.{unwound_all}
 use Rattle.match_stack.proofs.SearchHandlers.{at_first_row, none_from, body_reaches, entry_of_body, flags_of_body, few_of_body, instruction_of_body}
 use Rattle.match_stack.specs.UnwindLaws.{UnwindingIsTheLists}
-
--- the locals that are left are those of the activations below
-pub locals_length : (acts : List Activation) → length (locals_of acts) ≡ length acts
-locals_length [] = refl
-locals_length (a ∷ outer) = let e = locals_length outer in omega (arith, length-append (locals_of outer) (a.values ∷ []))
-
-pub left_activations : (m source : Memory) (y : Layout) (sp size k : ℕ) (acts : List Activation)
-    (name : BodyName) → HasActivation m y sp size k acts name → left_store name k (store_of source acts) ≡ store_of source (activations_below name acts)
-left_activations m source y sp size k [] (FunctionBody f) h = absurd h
-left_activations m source y sp size k (a ∷ outer) (FunctionBody f) h =
-    ap (λ (xs : List (List ℕ)). let s : Store = record { memory = source; activations = xs } in s)
-    (take_at (locals_of outer) (a.values ∷ []) k (locals_length outer ∙ sym h.activation.number))
-left_activations m source y sp size k acts (FuncletBody j) h = refl
-
-module _ (t : Functions) (fs : List Funclet) (program : LinearProgram) (p : ImagePlan) where
-  -- ---- the target lies ahead
-
-  pub aimed_above : (m : Memory) (depth label frame address : ℕ) (c : Context) (is : List StackItem)
-      (items : List Item) → IsStack t m c is → Aimed t fs program p depth label frame address c is
-      items → rsp c ≤ frame
-  aimed_above m depth label frame address c (Framed f ∷ is) (Waits b ∷ below) s (inl a) = let e = a.at_frame in omega arith
-  aimed_above m depth label frame address c (Framed f ∷ is) (Waits b ∷ below) s
-      (inr a) = let e = rises t m c (Framed f) s.0 in
-      let h = aimed_above m depth label frame address (after_frame c f) is below s.1 a in
-      omega arith
-  aimed_above m depth label frame address c (Leaf back ∷ is) (Waits b ∷ below) s a = let e = rises t
-      m c (Leaf back) s.0 in let h = aimed_above m depth label frame address (after_leaf c back) is
-      below s.1 a in omega arith
-  aimed_above m depth label frame address c (Searching r ∷ is)
-      (Searches exception resumption asked rest ∷ below) s a = let e = rises t m c (Searching r)
-      s.0 in let h = aimed_above m depth label frame address (context_of r.saved) is below s.1 a in
-      omega arith
-  aimed_above m depth label frame address c (Unwinding r ∷ is) (Unwinds rest older ∷ below) s a =
-      let e = rises t m c (Unwinding r) s.0 in
-      let h = aimed_above m depth label frame address r.walk is below s.1 a in omega arith
-  aimed_above m depth label frame address c [] items s a = absurd a
-  aimed_above m depth label frame address c (Framed f ∷ is) [] s a = absurd a
-  aimed_above m depth label frame address c (Framed f ∷ is) (Searches exception resumption asked rest ∷ below) s a = absurd a
-  aimed_above m depth label frame address c (Framed f ∷ is) (Unwinds rest older ∷ below) s a = absurd a
-  aimed_above m depth label frame address c (Leaf back ∷ is) [] s a = absurd a
-  aimed_above m depth label frame address c (Leaf back ∷ is) (Searches exception resumption asked rest ∷ below) s a = absurd a
-  aimed_above m depth label frame address c (Leaf back ∷ is) (Unwinds rest older ∷ below) s a = absurd a
-  aimed_above m depth label frame address c (Searching r ∷ is) [] s a = absurd a
-  aimed_above m depth label frame address c (Searching r ∷ is) (Waits b ∷ below) s a = absurd a
-  aimed_above m depth label frame address c (Searching r ∷ is) (Unwinds rest older ∷ below) s a = absurd a
-  aimed_above m depth label frame address c (Unwinding r ∷ is) [] s a = absurd a
-  aimed_above m depth label frame address c (Unwinding r ∷ is) (Waits b ∷ below) s a = absurd a
-  aimed_above m depth label frame address c (Unwinding r ∷ is) (Searches exception resumption asked rest ∷ below) s a = absurd a
-
-  pub aimed_below : (depth label frame address : ℕ) (c : Context) (is : List StackItem)
-      (items : List Item) → Aimed t fs program p depth label frame address c is items → depth < length items
-  aimed_below depth label frame address c (Framed f ∷ is) (Waits b ∷ below) (inl a) = let e = a.at_depth in omega arith
-  aimed_below depth label frame address c (Framed f ∷ is) (Waits b ∷ below)
-      (inr a) = let h = aimed_below depth label frame address (after_frame c f) is below a in
-      omega arith
-  aimed_below depth label frame address c (Leaf back ∷ is) (Waits b ∷ below) a = let h = aimed_below
-      depth label frame address (after_leaf c back) is below a in omega arith
-  aimed_below depth label frame address c (Searching r ∷ is)
-      (Searches exception resumption asked rest ∷ below) a = let h = aimed_below depth label frame
-      address (context_of r.saved) is below a in omega arith
-  aimed_below depth label frame address c (Unwinding r ∷ is) (Unwinds rest older ∷ below) a =
-      let h = aimed_below depth label frame address r.walk is below a in omega arith
-  aimed_below depth label frame address c [] items a = absurd a
-  aimed_below depth label frame address c (Framed f ∷ is) [] a = absurd a
-  aimed_below depth label frame address c (Framed f ∷ is) (Searches exception resumption asked rest ∷ below) a = absurd a
-  aimed_below depth label frame address c (Framed f ∷ is) (Unwinds rest older ∷ below) a = absurd a
-  aimed_below depth label frame address c (Leaf back ∷ is) [] a = absurd a
-  aimed_below depth label frame address c (Leaf back ∷ is) (Searches exception resumption asked rest ∷ below) a = absurd a
-  aimed_below depth label frame address c (Leaf back ∷ is) (Unwinds rest older ∷ below) a = absurd a
-  aimed_below depth label frame address c (Searching r ∷ is) [] a = absurd a
-  aimed_below depth label frame address c (Searching r ∷ is) (Waits b ∷ below) a = absurd a
-  aimed_below depth label frame address c (Searching r ∷ is) (Unwinds rest older ∷ below) a = absurd a
-  aimed_below depth label frame address c (Unwinding r ∷ is) [] a = absurd a
-  aimed_below depth label frame address c (Unwinding r ∷ is) (Waits b ∷ below) a = absurd a
-  aimed_below depth label frame address c (Unwinding r ∷ is) (Searches exception resumption asked rest ∷ below) a = absurd a
-
-  -- ---- from a rear part of the stack
-
-  -- an unwinding's target grows by what is held for the activations that it has left
-  abbrev course_of : Target → (held frame address low depth : ℕ) → Memory → List Event → Course
-  course_of target held frame address low depth source
-      events = record {
-        target = record target { held = held };
-        frame = frame;
-        address = address;
-        low = low;
-        depth = depth;
-        source = source;
-        events = events;
-      }
-
-  from_rear : (m : Memory) (target : Target) (held held' frame address low low' depth : ℕ)
-      (source : Memory) (events : List Event) (u u' : UnwindResult) (seen seen' : Next → Seen)
-      → u ≡ u' → ((then : Next) → seen then ≡ seen' then) → held ≤ held' → low ≤ low'
-      → UnwoundAs t fs program p m (course_of target held' frame address low' depth source events)
-      u' seen' → UnwoundAs t fs program p m
-      (course_of target held frame address low depth source events) u seen
-  from_rear m target held held' frame address low low' depth source events u u' seen seen' e s grows le (inl h) =
-      let above : low' ≤ rsp h.to = h.above in
-      let more : held' ≤ h.held = h.more in
-      inl (record {
-        block = h.block;
-        held = h.held;
-        more = omega arith;
-        left = h.left;
-        body = h.body;
-        below = h.below;
-        to = h.to;
-        row = h.row;
-        is = h.is;
-        acts = h.acts;
-        counted = h.counted;
-        answer = e ∙ h.answer;
-        goes = λ then. s then ∙ h.goes then;
-        stack = h.stack;
-        linked = h.linked;
-        at_row = h.at_row;
-        aimed = h.aimed;
-        reaches = h.reaches;
-        funclet = h.funclet;
-        named = h.named;
-        above = omega arith;
-        kept = h.kept;
-      })
-  from_rear m target held held' frame address low low' depth source events u u' seen seen' e s grows le (inr h) =
-      let above : low' ≤ rsp h.to = h.above in
-      let more : held' ≤ h.held = h.more in
-      inr (record {
-        held = h.held;
-        more = omega arith;
-        body = h.body;
-        below = h.below;
-        to = h.to;
-        framed = h.framed;
-        is = h.is;
-        acts = h.acts;
-        counted = h.counted;
-        answer = e ∙ h.answer;
-        goes = λ then. s then ∙ h.goes then;
-        stack = h.stack;
-        linked = h.linked;
-        at_frame = h.at_frame;
-        at_address = h.at_address;
-        lands = h.lands;
-        silent = h.silent;
-        above = omega arith;
-        wide = h.wide;
-      })
+use Rattle.match_stack.proofs.UnwindTargets.{left_activations, aimed_above, aimed_below, course_of, from_rear}
 
 -- past a function's body one activation more is held
 abbrev held_past : BodyName → ℕ → ℕ
@@ -173,12 +25,15 @@ grows_past (FunctionBody f) held = let e : held ≤ held + 1 = omega arith in e
 grows_past (FuncletBody k) held = let e : held ≤ held = omega arith in e
 
 counted_past : (m : Memory) (y : Layout) (sp size k : ℕ) (acts : List Activation) (name : BodyName)
-    (held : ℕ) → HasActivation m y sp size k acts name → length (activations_below name acts) + held_past name held ≡ length acts + held
+    (held : ℕ) → HasActivation m y sp size k acts name
+    → length (activations_below name acts) + held_past name held ≡ length acts + held
 counted_past m y sp size k [] (FunctionBody f) held h = absurd h
-counted_past m y sp size k (a ∷ outer) (FunctionBody f) held h = let e : length outer + (held + 1) ≡ suc (length outer) + held = omega arith in e
+counted_past m y sp size k (a ∷ outer) (FunctionBody f) held h =
+    let e : length outer + (held + 1) ≡ suc (length outer) + held = omega arith in e
 counted_past m y sp size k acts (FuncletBody j) held h = refl
 
-past_is : (name : BodyName) (target : Target) (held : ℕ) → target_past name (record target { held = held })
+past_is : (name : BodyName) (target : Target) (held : ℕ)
+    → target_past name (record target { held = held })
     ≡ record target { held = held_past name held }
 past_is (FunctionBody f) target held = refl
 past_is (FuncletBody k) target held = refl
@@ -193,17 +48,21 @@ module _ (t : Functions) (fs : List Funclet) (program : LinearProgram) (p : Imag
   course held low = course_of t fs program p target held frame address low depth source events
 
   abbrev seen_from : ℕ → List Item → Option (List Region) → List Activation → Next → Seen
-  seen_from held items left acts then = linear.unwind program then (to_target held) items left events (store_of source acts)
+  seen_from held items left acts then = linear.unwind program
+      then (to_target held) items left events (store_of source acts)
 
   abbrev out : (held : ℕ) → BodyName → List Item → Next → Store → Seen
-  out held name below then store = linear.unwind program then (target_past name (to_target held)) below None events store
+  out held name below then store = linear.unwind program
+      then (target_past name (to_target held)) below None events store
 
   -- a body that is left: its activation too, if it is a function's
   left_out : (held : ℕ) (sp size k : ℕ) (acts : List Activation) (name : BodyName)
-      (below : List Item) (then : Next) → HasActivation m (p.layout name) sp size k acts name → out held name below then (left_store name k (store_of source acts))
+      (below : List Item) (then : Next) → HasActivation m (p.layout name) sp size k acts name
+      → out held name below then (left_store name k (store_of source acts))
       ≡ seen_from (held_past name held) below None (activations_below name acts) then
   left_out held sp size k acts name below then h =
-      ap (out held name below then) (left_activations m source (p.layout name) sp size k acts name h)
+      ap (out held name below then) (left_activations m source
+      (p.layout name) sp size k acts name h)
       ∙ ap (λ (to : Target). linear.unwind program then to below None events
       (store_of source (activations_below name acts))) (past_is name target held)
 
@@ -214,7 +73,8 @@ module _ (t : Functions) (fs : List Funclet) (program : LinearProgram) (p : Imag
       (shape : IsAbove t fs program p b b.body below)
       (others : Linked t fs program p m (after_frame c f) is below
       (activations_below b.body acts)) (wide : IsWide c.kept)
-      (at : IsAtRow t fs program p row (Waits b ∷ below) left) (counts : length acts + held ≡ depth) where
+      (at : IsAtRow t fs program p row (Waits b ∷ below) left)
+      (counts : length acts + held ≡ depth) where
     abbrev rows : List AskedRecord
     rows = rows_from (distance t.base c.rip) row f.entry.info.scopes
 
@@ -232,11 +92,13 @@ module _ (t : Functions) (fs : List Funclet) (program : LinearProgram) (p : Imag
         (out held b.body below then) rs (on_top b below source acts events)) at
 
     -- the step of the host, in a frame that isn't past the target
-    host_step : (q : Bool) (o : Option AskedRecord) → rsp c ≤ frame → nat_eq (rsp c) frame ≡ q → first_finally (until_if q (distance t.base address) rows) ≡ o
+    host_step : (q : Bool) (o : Option AskedRecord) → rsp c ≤ frame → nat_eq (rsp c) frame ≡ q
+        → first_finally (until_if q (distance t.base address) rows) ≡ o
         → here_and_above ≡ decided_or outer (by_row t (rsp c) c (state (after_frame c f) 0) q o)
     host_step q o le e first =
         let u = state (after_frame c f) 0 in
-        ap (λ x. decided_or outer (if_past t frame address (state c row) (caller_frame c f) u x)) (le-ltb frame (rsp c) le)
+        ap (λ x. decided_or outer (if_past t frame address (state c row) (caller_frame c f) u x))
+        (le-ltb frame (rsp c) le)
         ∙ ap (λ x. decided_or outer (by_row t (rsp c) c u x
         (first_finally (unwound (Some f.entry.info) (distance t.base c.rip) row x
         (distance t.base address))))) e ∙ ap (λ x. decided_or outer (by_row t (rsp c) c u q x))
@@ -245,10 +107,14 @@ module _ (t : Functions) (fs : List Funclet) (program : LinearProgram) (p : Imag
 
     runs_here : (asked : List AskedRecord) (x : FirstBlock t fs program p (to_target held)
         (on_top b below source acts events) f.entry.info.scopes asked
-        (regions_from t fs program p b row) (left_from b.next (regions_of (body_of program b.body))))
-        → here_and_above ≡ unwinds.Finally ((t.base + x.row.handler_address) % 2 ^ 64) (rsp c) (x.index + 1) c
-        → Aimed t fs program p target.depth target.label frame address c (Framed f ∷ is) (Waits b ∷ below)
-        → RunsBlock t fs program p m (course held (rsp c)) here_and_above (seen_from held (Waits b ∷ below) left acts)
+        (regions_from t fs program p b row) (left_from b.next
+        (regions_of (body_of program b.body))))
+        → here_and_above ≡ unwinds.Finally ((t.base + x.row.handler_address) % 2 ^ 64) (rsp c)
+        (x.index + 1) c
+        → Aimed t fs program p target.depth target.label frame address c (Framed f ∷ is) (Waits b
+        ∷ below)
+        → RunsBlock t fs program p m (course held (rsp c)) here_and_above
+        (seen_from held (Waits b ∷ below) left acts)
     runs_here asked x e aimed =
         let room = is_there.room in
         let few = few_of_body t fs program p g m c f b below acts body in
@@ -273,15 +139,23 @@ module _ (t : Functions) (fs : List Funclet) (program : LinearProgram) (p : Imag
           linked = (body, shape, others);
           at_row = refl;
           aimed = aimed;
-          reaches = body_reaches t fs program p m b.body (rsp c) f.size b.activation acts is_there.room body.waits.activation;
+          reaches = body_reaches t fs program p m b.body
+              (rsp c) f.size b.activation acts is_there.room body.waits.activation;
           funclet = x.is.funclet;
           named = x.is.named;
           above = omega arith;
-          kept = record { frame_small = omega arith; row_small = omega arith; rip_small = body.waits.small; registers = wide };
+          kept = record {
+            frame_small = omega arith;
+            row_small = omega arith;
+            rip_small =
+                body.waits.small;
+            registers = wide;
+          };
         }
 
     -- in the target's frame
-    in_its_frame : AimedHere t fs program p target.depth target.label frame address c b below → UnwoundAs t fs program p m (course held (rsp c)) here_and_above
+    in_its_frame : AimedHere t fs program p target.depth target.label frame address c b below
+        → UnwoundAs t fs program p m (course held (rsp c)) here_and_above
         (seen_from held (Waits b ∷ below) left acts)
     in_its_frame a =
         by (unwinding_stops_at_the_target t fs program p c.rip row f.entry.info.scopes
@@ -294,7 +168,8 @@ module _ (t : Functions) (fs : List Funclet) (program : LinearProgram) (p : Imag
         le : rsp c ≤ frame
         le = let e = a.at_frame in omega arith
 
-        same : first_finally (until (distance t.base address) rows) ≡ first_finally (until (distance t.base (p.address b.body target.label)) rows)
+        same : first_finally (until (distance t.base address) rows) ≡ first_finally
+            (until (distance t.base (p.address b.body target.label)) rows)
         same = ap (λ x. first_finally (until (distance t.base x) rows)) a.at_address
 
         by : Arrives t fs program p (to_target held) (on_top b below source acts events)
@@ -304,7 +179,8 @@ module _ (t : Functions) (fs : List Funclet) (program : LinearProgram) (p : Imag
             f.entry.info.scopes (until (distance t.base (p.address b.body target.label)) rows)
             (regions_from t fs program p b row)
             (left_from b.next (regions_of (body_of program b.body)))
-            → UnwoundAs t fs program p m (course held (rsp c)) here_and_above (seen_from held (Waits b ∷ below) left acts)
+            → UnwoundAs t fs program p m (course held (rsp c)) here_and_above
+            (seen_from held (Waits b ∷ below) left acts)
         by (inl x) =
             inr (record {
               held = held;
@@ -323,25 +199,30 @@ module _ (t : Functions) (fs : List Funclet) (program : LinearProgram) (p : Imag
               at_frame = a.at_frame;
               at_address = a.at_address;
               lands = a.lands;
-              silent = λ cpu. ap (λ x. arrivals cpu (distance t.base x) 1 fs) a.at_address ∙ (entry_of_body t fs program p g m c f b below acts body).landings target.label
+              silent = λ cpu. ap (λ x. arrivals cpu (distance t.base x) 1 fs) a.at_address
+                  ∙ (entry_of_body t fs program p g m c f b below acts body).landings target.label
                   a.lands cpu;
               above = omega arith;
               wide = wide;
             })
-        by (inr x) = inl (runs_here _ x (host_step true (Some (x.index, x.row)) le here (same ∙ x.first)) (inl a))
+        by (inr x) = inl (runs_here _ x (host_step true (Some (x.index, x.row)) le here (same
+            ∙ x.first)) (inl a))
 
     -- in a frame that is left
-    in_a_frame : Aimed t fs program p target.depth target.label frame address (after_frame c f) is below
+    in_a_frame : Aimed t fs program p target.depth target.label frame address
+        (after_frame c f) is below
         → UnwoundAs t fs program p m (course (held_past b.body held) (rsp (after_frame c f))) outer
         (seen_from (held_past b.body held) below None (activations_below b.body acts))
-        → UnwoundAs t fs program p m (course held (rsp c)) here_and_above (seen_from held (Waits b ∷ below) left acts)
+        → UnwoundAs t fs program p m (course held (rsp c)) here_and_above
+        (seen_from held (Waits b ∷ below) left acts)
     in_a_frame a more =
         by (unwinding_runs_the_blocks t fs program p c.rip row f.entry.info.scopes
         (regions_of (body_of program b.body)) (to_target held) (on_top b below source acts events)
         (instruction_of_body t fs program p g m c f b below acts body) away)
       where
         away : target.depth ≢ length below
-        away e = let h = aimed_below t fs program p target.depth target.label frame address (after_frame c f) is below a in absurd (omega arith)
+        away e = let h = aimed_below t fs program p target.depth target.label frame address
+            (after_frame c f) is below a in absurd (omega arith)
 
         lt : rsp c < frame
         lt = let r = rises t m c (Framed f) is_there in
@@ -351,30 +232,37 @@ module _ (t : Functions) (fs : List Funclet) (program : LinearProgram) (p : Imag
         elsewhere : nat_eq (rsp c) frame ≡ false
         elsewhere = ne_eqb (rsp c) frame (λ e. let l = lt in absurd (omega arith))
 
-        by : NoBlock t fs program p (to_target held) (on_top b below source acts events) rows (regions_from t fs program p b row)
+        by : NoBlock t fs program p (to_target held) (on_top b below source acts events) rows
+            (regions_from t fs program p b row)
             ⊎ FirstBlock t fs program p (to_target held) (on_top b below source acts events)
             f.entry.info.scopes rows (regions_from t fs program p b row)
             (left_from b.next (regions_of (body_of program b.body)))
-            → UnwoundAs t fs program p m (course held (rsp c)) here_and_above (seen_from held (Waits b ∷ below) left acts)
+            → UnwoundAs t fs program p m (course held (rsp c)) here_and_above
+            (seen_from held (Waits b ∷ below) left acts)
         by (inl x) =
             from_rear t fs program p m target held (held_past b.body held) frame address (rsp c)
             (rsp (after_frame c f)) depth source events here_and_above outer
-            (seen_from held (Waits b ∷ below) left acts) (seen_from (held_past b.body held) below None (activations_below b.body acts))
+            (seen_from held (Waits b ∷ below) left acts)
+            (seen_from (held_past b.body held) below None (activations_below b.body acts))
             (host_step false None (let l = lt in omega arith) elsewhere x.first)
-            (λ then. linear_step then ∙ x.leaves then (out held b.body below then) ∙ left_out held (rsp c) f.size b.activation acts b.body below
+            (λ then. linear_step then ∙ x.leaves then (out held b.body below then)
+            ∙ left_out held (rsp c) f.size b.activation acts b.body below
             then body.waits.activation)
             (grows_past b.body held) (let r = rises t m c (Framed f) is_there in omega arith) more
-        by (inr x) = inl (runs_here rows x (host_step false (Some (x.index, x.row)) (let l = lt in omega arith) elsewhere x.first) (inr a))
+        by (inr x) = inl (runs_here rows x (host_step false (Some (x.index, x.row)) (let l = lt in
+            omega arith) elsewhere x.first) (inr a))
 
   -- a leaf function is left: it has no regions, and isn't the target
   module _ (held : ℕ) (c : Context) (back : ℕ) (is : List StackItem) (b : Frame) (below : List Item)
       (acts : List Activation) (row : ℕ) (left : Option (List Region))
-      (is_there : LeafIsAt t m c back) (rear : IsStack t m (after_leaf c back) is) (body : LeafWaits t fs program p m c back b below acts)
+      (is_there : LeafIsAt t m c back) (rear : IsStack t m (after_leaf c back) is)
+      (body : LeafWaits t fs program p m c back b below acts)
       (at : IsAtRow t fs program p row (Waits b ∷ below) left)
       (a : Aimed t fs program p target.depth target.label frame address (after_leaf c back) is
       below) where
     away : target.depth ≢ length below
-    away e = let h = aimed_below t fs program p target.depth target.label frame address (after_leaf c back) is below a in absurd (omega arith)
+    away e = let h = aimed_below t fs program p target.depth target.label frame address
+        (after_leaf c back) is below a in absurd (omega arith)
 
     lt : rsp c < frame
     lt = let r = rises t m c (Leaf back) is_there in
@@ -388,32 +276,43 @@ module _ (t : Functions) (fs : List Funclet) (program : LinearProgram) (p : Imag
         let here = on_top b below source acts events in
         ap (λ (rs : List Region). unwind_body program then (to_target held)
         (out held b.body below then) rs here)
-        (at ∙ none_from t fs program p g m c back is b below acts is_there body row) ∙ ap (λ x. pick x (linear.arrive (to_target held) target.code then here)
+        (at ∙ none_from t fs program p g m c back is b below acts is_there body row)
+        ∙ ap (λ x. pick x (linear.arrive (to_target held) target.code then here)
         (out held b.body below then (left_store b.body b.activation (store_of source acts))))
-        (ne_eqb target.depth (length below) away) ∙ left_out held (rsp c) (p.layout b.body).temporaries b.activation acts b.body below then body.waits.activation
+        (ne_eqb target.depth (length below) away)
+        ∙ left_out held (rsp c) (p.layout b.body).temporaries b.activation acts b.body below
+        then body.waits.activation
 
-    host_left : plain_unwind t frame address c row (Leaf back ∷ is) ≡ plain_unwind t frame address (after_leaf c back) 0 is
+    host_left : plain_unwind t frame address c row (Leaf back ∷ is) ≡ plain_unwind t frame address
+        (after_leaf c back) 0 is
     host_left =
         let u = state (after_leaf c back) 0 in
         let outer = plain_unwind t frame address u.context 0 is in
         ap (λ x. decided_or outer (if_past t frame address (state c row) (caller_of_leaf c back) u
         x)) (le-ltb frame (rsp c) (let l = lt in omega arith))
-        ∙ ap (λ x. decided_or outer (if_target u c x)) (ne_eqb (rsp c) frame (λ e. let l = lt in absurd (omega arith)))
+        ∙ ap (λ x. decided_or outer (if_target u c x)) (ne_eqb (rsp c) frame (λ e. let l = lt in
+        absurd (omega arith)))
 
     past_leaf : UnwoundAs t fs program p m (course (held_past b.body held)
         (rsp (after_leaf c back))) (plain_unwind t frame address (after_leaf c back) 0 is)
-        (seen_from (held_past b.body held) below None (activations_below b.body acts)) → UnwoundAs t fs program p m (course held (rsp c))
+        (seen_from (held_past b.body held) below None (activations_below b.body acts))
+        → UnwoundAs t fs program p m (course held (rsp c))
         (plain_unwind t frame address c row (Leaf back ∷ is))
         (seen_from held (Waits b ∷ below) left acts)
     past_leaf more =
-        from_rear t fs program p m target held (held_past b.body held) frame address (rsp c) (rsp (after_leaf c back)) depth source events _ _ _ _
-        host_left leaf_left (grows_past b.body held) (let r = rises t m c (Leaf back) is_there in omega arith) more
+        from_rear t fs program p m target held (held_past b.body held) frame address (rsp c)
+        (rsp (after_leaf c back)) depth source events _ _ _ _
+        host_left leaf_left (grows_past b.body held) (let r = rises t m c (Leaf back) is_there in
+        omega arith) more
 
   pub unwound_plainly : (held : ℕ) (acts : List Activation) (is : List StackItem)
       (items : List Item) (c : Context) (row : ℕ) (left : Option (List Region))
-      → IsStack t m c is → Linked t fs program p m c is items acts → IsAtRow t fs program p row items left → IsWide c.kept
-      → Aimed t fs program p target.depth target.label frame address c is items → length acts + held ≡ depth
-      → UnwoundAs t fs program p m (course held (rsp c)) (plain_unwind t frame address c row is) (seen_from held items left acts)
+      → IsStack t m c is → Linked t fs program p m c is items acts
+      → IsAtRow t fs program p row items left → IsWide c.kept
+      → Aimed t fs program p target.depth target.label frame address c is items
+      → length acts + held ≡ depth
+      → UnwoundAs t fs program p m (course held (rsp c)) (plain_unwind t frame address c row is)
+      (seen_from held items left acts)
   unwound_plainly held acts (Framed f ∷ is) (Waits b ∷ below) c row left s h at wide (inl a) e =
       in_its_frame held c f is b below acts row left s.0 s.1 h.0 h.1 h.2 wide at e a
   unwound_plainly held acts (Framed f ∷ is) (Waits b ∷ below) c row left s h at wide (inr a) e =
@@ -421,39 +320,54 @@ module _ (t : Functions) (fs : List Funclet) (program : LinearProgram) (p : Imag
       (unwound_plainly (held_past b.body held) (activations_below b.body acts) is below
       (after_frame c f) 0 None s.1 h.2 (at_first_row t fs program p below)
       (wide_after t m c f s.0 wide) a
-      (counted_past m (p.layout b.body) (rsp c) f.size b.activation acts b.body held h.0.waits.activation ∙ e))
+      (counted_past m (p.layout b.body) (rsp c) f.size b.activation acts b.body held
+      h.0.waits.activation ∙ e))
   unwound_plainly held acts (Leaf back ∷ is) (Waits b ∷ below) c row left s h at wide a e =
       past_leaf held c back is b below acts row left s.0 s.1 h.0 at a
       (unwound_plainly (held_past b.body held) (activations_below b.body acts) is below
       (after_leaf c back) 0 None s.1 h.2 (at_first_row t fs program p below)
       (wide_after_leaf t m c back s.0 wide) a
-      (counted_past m (p.layout b.body) (rsp c) (p.layout b.body).temporaries b.activation acts b.body held h.0.waits.activation ∙ e))
-  unwound_plainly held acts (Searching r ∷ is) (Searches exception resumption asked rest ∷ below) c row left s h at wide a e =
+      (counted_past m (p.layout b.body) (rsp c)
+      (p.layout b.body).temporaries b.activation acts b.body held h.0.waits.activation ∙ e))
+  unwound_plainly held acts (Searching r ∷ is) (Searches exception resumption asked rest
+      ∷ below) c row left s h at wide a e =
       from_rear t fs program p m target held held frame address (rsp c) (rsp (context_of r.saved))
       depth source events _ _ _ _ refl (λ then. refl) (omega arith)
       (let q = rises t m c (Searching r) s.0 in omega arith)
-      (unwound_plainly held acts is below (context_of r.saved) 0 None s.1 h.1 (at_first_row t fs program p below) (wide_saved r h.0.own.fits) a e)
-  unwound_plainly held acts (Unwinding r ∷ is) (Unwinds rest older ∷ below) c row left s h at wide a e =
+      (unwound_plainly held acts is below (context_of r.saved) 0 None s.1 h.1
+      (at_first_row t fs program p below) (wide_saved r h.0.own.fits) a e)
+  unwound_plainly held acts (Unwinding r ∷ is) (Unwinds rest older
+      ∷ below) c row left s h at wide a e =
       from_rear t fs program p m target held held frame address (rsp c) (rsp r.walk) depth source
       events _ _ _ _ refl (λ then. refl) (omega arith)
       (let q = rises t m c (Unwinding r) s.0 in omega arith)
-      (unwound_plainly held acts is below r.walk r.row (Some rest) s.1 h.1 h.0.row (wide_walk r h.0.own.fits) a e)
+      (unwound_plainly held acts is below r.walk r.row (Some rest) s.1 h.1 h.0.row
+      (wide_walk r h.0.own.fits) a e)
   unwound_plainly held acts [] items c row left s h at wide a e = absurd a
   unwound_plainly held acts (Framed f ∷ is) [] c row left s h at wide a e = absurd a
-  unwound_plainly held acts (Framed f ∷ is) (Searches exception resumption asked rest ∷ below) c row left s h at wide a e = absurd a
-  unwound_plainly held acts (Framed f ∷ is) (Unwinds rest older ∷ below) c row left s h at wide a e = absurd a
+  unwound_plainly held acts (Framed f ∷ is) (Searches exception resumption asked rest
+      ∷ below) c row left s h at wide a e = absurd a
+  unwound_plainly held acts (Framed f ∷ is) (Unwinds rest older
+      ∷ below) c row left s h at wide a e = absurd a
   unwound_plainly held acts (Leaf back ∷ is) [] c row left s h at wide a e = absurd a
-  unwound_plainly held acts (Leaf back ∷ is) (Searches exception resumption asked rest ∷ below) c row left s h at wide a e = absurd a
-  unwound_plainly held acts (Leaf back ∷ is) (Unwinds rest older ∷ below) c row left s h at wide a e = absurd a
+  unwound_plainly held acts (Leaf back ∷ is) (Searches exception resumption asked rest
+      ∷ below) c row left s h at wide a e = absurd a
+  unwound_plainly held acts (Leaf back ∷ is) (Unwinds rest older
+      ∷ below) c row left s h at wide a e = absurd a
   unwound_plainly held acts (Searching r ∷ is) [] c row left s h at wide a e = absurd a
-  unwound_plainly held acts (Searching r ∷ is) (Waits b ∷ below) c row left s h at wide a e = absurd a
-  unwound_plainly held acts (Searching r ∷ is) (Unwinds rest older ∷ below) c row left s h at wide a e = absurd a
+  unwound_plainly held acts (Searching r ∷ is) (Waits b ∷ below) c row left s h at wide a e =
+      absurd a
+  unwound_plainly held acts (Searching r ∷ is) (Unwinds rest older
+      ∷ below) c row left s h at wide a e = absurd a
   unwound_plainly held acts (Unwinding r ∷ is) [] c row left s h at wide a e = absurd a
-  unwound_plainly held acts (Unwinding r ∷ is) (Waits b ∷ below) c row left s h at wide a e = absurd a
-  unwound_plainly held acts (Unwinding r ∷ is) (Searches exception resumption asked rest ∷ below) c row left s h at wide a e = absurd a
+  unwound_plainly held acts (Unwinding r ∷ is) (Waits b ∷ below) c row left s h at wide a e =
+      absurd a
+  unwound_plainly held acts (Unwinding r ∷ is) (Searches exception resumption asked rest
+      ∷ below) c row left s h at wide a e = absurd a
 
 pub unwinding_is_the_lists : UnwindingIsTheLists
-unwinding_is_the_lists t fs program p m c is items acts row left target frame address source events n s at aimed lt =
+unwinding_is_the_lists t fs program p m c is items acts row left target frame address source events
+    n s at aimed lt =
     subst (λ (u : UnwindResult). UnwoundAs t fs program p m
     (record {
       target = target;

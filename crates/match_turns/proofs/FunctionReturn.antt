@@ -8,7 +8,7 @@ use Rattle.linear_code.specs.declared.instruction.Instruction.TheVariants as ins
 use Rattle.linear_code.specs.declared.program.FuncletKind.TheVariants as kinds
 use Rattle.source_meaning.specs.declared.ended.Ended.TheVariants as ends
 use Rattle.match_turns.proofs.Lemmas.{reaches_then, sp_moved, keep_then, reaches_silently, reaches_keeps, stays_well_formed, IsCounted, v, slots, same_state, index_of}
-use Rattle.match_stack.proofs.UnwindBlocks.{left_activations}
+use Rattle.match_stack.proofs.UnwindTargets.{left_activations}
 use Rattle.match_turns.proofs.CallResult.{IsSurrounded, answered}
 use Rattle.match_turns.proofs.CallReturn.{returns_at, resumes}
 use Rattle.match_turns.proofs.BodyReturn as leaving

@@ -1,5 +1,5 @@
 -- Moves and arithmetic, as they are written, are read again.
-use Rattle.std.proofs.Common.{◌≡◌, ℕ, ◌+◌, ◌-◌, ◌*◌, ◌/◌, ◌%◌, ◌^◌, ◌<◌, ◌≤◌, Bool, true, false, cond, List, ◌++◌, Some, refl, ap, ◌∙◌, append_assoc, arith, inl, inr}
+use Rattle.std.proofs.Common.{◌≡◌, ℕ, ◌+◌, ◌*◌, ◌/◌, ◌%◌, ◌^◌, ◌<◌, ◌≤◌, Bool, true, false, cond, List, ◌++◌, Some, refl, ap, ◌∙◌, append_assoc, arith, inl, inr}
 use Rattle.std.proofs.lemmas.Bool.{ltb-true, lt-ltb, le-ltb, le-leb}
 use Rattle.std.proofs.lemmas.Bool.Decides.{leb_tells}
 use Rattle.std.specs.Prelude.{◌&&◌, ◌||◌, nat_lt, nat_le}
@@ -22,21 +22,15 @@ impossible e = absurd (cc)
 
 bytes_limit : (w : Width) → 256 ^ bytes_of w ≡ limit w
 bytes_limit W8 = refl
-bytes_limit W16 = refl
-bytes_limit W32 = refl
-bytes_limit W64 = refl
+bytes_limit w = refl
 
 pub limit_least : (w : Width) → limit W8 ≤ limit w
 limit_least W8 = omega arith
-limit_least W16 = omega arith
-limit_least W32 = omega arith
-limit_least W64 = omega arith
+limit_least w = omega arith
 
 immediate_most : (w : Width) → limit (immediate_of w) ≤ limit w
 immediate_most W8 = omega arith
-immediate_most W16 = omega arith
-immediate_most W32 = omega arith
-immediate_most W64 = omega arith
+immediate_most w = omega arith
 
 pub immediate_read : (w : Width) (v : ℕ) (more : List ℕ) → is_immediate w v ≡ true
     → signed (immediate_of w) w (immediate_bytes w v ++ more) ≡ read_as v more
@@ -52,19 +46,11 @@ byte_is v lt = elim (leb_tells 128 v) [
 
 operation-opcode_extension : (o : Operation) → operation (opcode_extension o) ≡ Some o
 operation-opcode_extension operations.Add = refl
-operation-opcode_extension operations.Or = refl
-operation-opcode_extension operations.And = refl
-operation-opcode_extension operations.Sub = refl
-operation-opcode_extension operations.Xor = refl
-operation-opcode_extension operations.Compare = refl
+operation-opcode_extension o = refl
 
 digit_small : (o : Operation) → opcode_extension o < 8
 digit_small operations.Add = omega arith
-digit_small operations.Or = omega arith
-digit_small operations.And = omega arith
-digit_small operations.Sub = omega arith
-digit_small operations.Xor = omega arith
-digit_small operations.Compare = omega arith
+digit_small o = omega arith
 
 arithmetic_read : (o : Operation) (from w : Width) (to : RegisterOrMemory) (v : ℕ) (more : List ℕ)
     → limit from ≤ limit w → is_signed from w v ≡ true

@@ -77,9 +77,7 @@ opcode_register_length w op r =
 
 immediate_most : (w : Width) → bytes_of (immediate_of w) ≤ 4
 immediate_most W8 = omega arith
-immediate_most W16 = omega arith
-immediate_most W32 = omega arith
-immediate_most W64 = omega arith
+immediate_most w = omega arith
 
 modrm_most : (w : Width) (op : Opcode) (r : ℕ) (at : RegisterOrMemory)
     → length (modrm w op r at) ≤ 15
@@ -122,9 +120,7 @@ move_length W64 to v = register_more W64 0xB8 to 8 v (omega arith)
 
 plain_length : (w : Width) (op : ℕ) → length (plain_bytes w op) ≤ 15
 plain_length W8 op = omega arith
-plain_length W16 op = omega arith
-plain_length W32 op = omega arith
-plain_length W64 op = omega arith
+plain_length w op = omega arith
 
 count_length : (w : Width) (d : ℕ) (to : RegisterOrMemory) (by : Count)
     → length (count_bytes w d to by) ≤ 15
@@ -175,6 +171,4 @@ longest (instrs.Call (Indirect at)) = modrm_most W32 (opcodes.One 0xFF) 2 at
 longest (instrs.Push r) = omega (arith, opcode_register_length W32 0x50 r)
 longest (instrs.Pop r) = omega (arith, opcode_register_length W32 0x58 r)
 longest instrs.Return = omega arith
-longest instrs.NoOperation = omega arith
-longest instrs.Breakpoint = omega arith
-longest instrs.Undefined = omega arith
+longest i = omega arith

@@ -5,7 +5,7 @@ use Rattle.std.proofs.Math.Nat.{pow-suc}
 use Rattle.std.specs.Prelude.{◌⊎◌, nat_lt, nat_le}
 use Rattle.x64_encode.specs.Words.{Width, W8, W16, W32, W64, bytes_of, limit, half, low, Reg, Base, Index, RegisterOrMemory, Prefixes, Read, ◌>>=◌, byte, number, signed, extended, bit, register_of_low_bits, scale, index_of_sib, memory, displaced, sib_operand, memory_operand, place, little, is_signed, base_number, index_number, high_bits, mode, displacement, scale_number, sib, at_register, memory_bytes, place_bytes, is_index, is_place}
 use Rattle.x64_instr.specs.declared.operand.Scale.{Scale}
-use Rattle.x64_instr.specs.declared.operand.Scale.TheVariants.{One, Two, Four, Eight}
+use Rattle.x64_instr.specs.declared.operand.Scale.TheVariants.{One}
 use Rattle.x64_instr.specs.declared.operand.Base.TheVariants as bases
 use Rattle.x64_instr.specs.declared.operand.RegisterOrMemory.TheVariants as places
 use Rattle.x64_instr.specs.Registers as regs
@@ -54,83 +54,26 @@ extended_low : (from to : Width) (v : ℕ) → limit from ≤ limit to
     → (v < half from) ⊎ ((limit to - half from ≤ v) × (v < limit to))
     → extended from to (low from v) ≡ v
 extended_low W8 W8 v le c = elim c [
-  | inl a ↦ extended_small (limit W8) (limit W8) (half W8) v
-      (v % limit W8) (omega arith) a
+  | inl a ↦ extended_small (limit W8) (limit W8) (half W8) v (v % limit W8) (omega arith) a
   | inr b ↦ let lo = b.0 in let hi = b.1 in
       extended_large (limit W8) (limit W8) (half W8) v (v % limit W8) (omega arith) (omega arith)
 ]
-extended_low W8 W16 v le c = elim c [
-  | inl a ↦ extended_small (limit W8) (limit W16) (half W8) v
-      (v % limit W8) (omega arith) a
-  | inr b ↦ let lo = b.0 in let hi = b.1 in
-      extended_large (limit W8) (limit W16) (half W8) v (v % limit W8) (omega arith) (omega arith)
-]
-extended_low W8 W32 v le c = elim c [
-  | inl a ↦ extended_small (limit W8) (limit W32) (half W8) v
-      (v % limit W8) (omega arith) a
-  | inr b ↦ let lo = b.0 in let hi = b.1 in
-      extended_large (limit W8) (limit W32) (half W8) v (v % limit W8) (omega arith) (omega arith)
-]
-extended_low W8 W64 v le c = elim c [
-  | inl a ↦ extended_small (limit W8) (limit W64) (half W8) v
-      (v % limit W8) (omega arith) a
-  | inr b ↦ let lo = b.0 in let hi = b.1 in
-      extended_large (limit W8) (limit W64) (half W8) v (v % limit W8) (omega arith) (omega arith)
-]
 extended_low W16 W8 v le c = absurd (omega arith)
-extended_low W16 W16 v le c = elim c [
-  | inl a ↦ extended_small (limit W16) (limit W16) (half W16) v
-      (v % limit W16) (omega arith) a
-  | inr b ↦ let lo = b.0 in let hi = b.1 in
-      extended_large (limit W16) (limit W16) (half W16) v (v % limit W16) (omega arith)
-      (omega arith)
-]
-extended_low W16 W32 v le c = elim c [
-  | inl a ↦ extended_small (limit W16) (limit W32) (half W16) v
-      (v % limit W16) (omega arith) a
-  | inr b ↦ let lo = b.0 in let hi = b.1 in
-      extended_large (limit W16) (limit W32) (half W16) v (v % limit W16) (omega arith)
-      (omega arith)
-]
-extended_low W16 W64 v le c = elim c [
-  | inl a ↦ extended_small (limit W16) (limit W64) (half W16) v
-      (v % limit W16) (omega arith) a
-  | inr b ↦ let lo = b.0 in let hi = b.1 in
-      extended_large (limit W16) (limit W64) (half W16) v (v % limit W16) (omega arith)
-      (omega arith)
-]
 extended_low W32 W8 v le c = absurd (omega arith)
 extended_low W32 W16 v le c = absurd (omega arith)
-extended_low W32 W32 v le c = elim c [
-  | inl a ↦ extended_small (limit W32) (limit W32) (half W32) v
-      (v % limit W32) (omega arith) a
-  | inr b ↦ let lo = b.0 in let hi = b.1 in
-      extended_large (limit W32) (limit W32) (half W32) v (v % limit W32) (omega arith)
-      (omega arith)
-]
-extended_low W32 W64 v le c = elim c [
-  | inl a ↦ extended_small (limit W32) (limit W64) (half W32) v
-      (v % limit W32) (omega arith) a
-  | inr b ↦ let lo = b.0 in let hi = b.1 in
-      extended_large (limit W32) (limit W64) (half W32) v (v % limit W32) (omega arith)
-      (omega arith)
-]
 extended_low W64 W8 v le c = absurd (omega arith)
 extended_low W64 W16 v le c = absurd (omega arith)
 extended_low W64 W32 v le c = absurd (omega arith)
-extended_low W64 W64 v le c = elim c [
-  | inl a ↦ extended_small (limit W64) (limit W64) (half W64) v
-      (v % limit W64) (omega arith) a
+extended_low from to v le c = elim c [
+  | inl a ↦ extended_small (limit from) (limit to) (half from) v (v % limit from) (omega arith) a
   | inr b ↦ let lo = b.0 in let hi = b.1 in
-      extended_large (limit W64) (limit W64) (half W64) v (v % limit W64) (omega arith)
+      extended_large (limit from) (limit to) (half from) v (v % limit from) (omega arith)
       (omega arith)
 ]
 
 low_small : (w : Width) (v : ℕ) → low w v < 256 ^ bytes_of w
 low_small W8 v = omega arith
-low_small W16 v = omega arith
-low_small W32 v = omega arith
-low_small W64 v = omega arith
+low_small w v = omega arith
 
 pub signed_little : (from to : Width) (v : ℕ) (more : List ℕ) → limit from ≤ limit to
     → is_signed from to v ≡ true → signed from to (little (bytes_of from) (low from v) ++ more)
@@ -168,15 +111,11 @@ place_at p m mode low bytes em el lt =
 
 scale-number : (s : Scale) → scale (scale_number s) ≡ s
 scale-number One = refl
-scale-number Two = refl
-scale-number Four = refl
-scale-number Eight = refl
+scale-number s = refl
 
 scale_small : (s : Scale) → scale_number s < 4
 scale_small One = omega arith
-scale_small Two = omega arith
-scale_small Four = omega arith
-scale_small Eight = omega arith
+scale_small s = omega arith
 
 sib_low : (i : Option Index) (b : ℕ) → b < 8 → sib i b % 8 ≡ b
 sib_low None b lt = omega arith

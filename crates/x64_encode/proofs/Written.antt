@@ -3,7 +3,7 @@ use Rattle.std.proofs.Common.{◌≡◌, ◌≢◌, ℕ, ◌+◌, ◌-◌, ◌*�
 use Rattle.std.proofs.lemmas.Bool.{ne_eqb, and_parts, ltb-true}
 use Rattle.std.proofs.lemmas.List.{append-nil}
 use Rattle.std.specs.Prelude.{◌&&◌, ◌||◌, option_map}
-use Rattle.x64_encode.specs.Words.{Width, W8, W16, W32, W64, low, Reg, RegisterOrMemory, Count, Condition, Relative, Indirect, Instr, Read, ◌>>=◌, byte, number, signed, bit, width_of, sized_narrow, immediate_of, is_listed, rm_and_register, r_rm, rm_extension, given, direction, group_2_immediate, group_2_cl, group_5, load, extend, address_to, plain_row, row, two_byte_row, after_prefixes, after_size, instr, IsEncoding, leading, little, is_signed, wide, has_rex, place_bytes, modrm_bits, modrm, sized_opcode, opcode_extension, division_opcode_extension, direction_opcode_extension, condition_number, extend_width, extend_opcode, immediate_bytes, count_bytes, chosen, encoded_len, is_place, is_wide, is_immediate, is_widened, is_count, is_encodable, IsEncodable}
+use Rattle.x64_encode.specs.Words.{Width, W8, W16, W32, W64, low, Reg, RegisterOrMemory, Count, Condition, Relative, Indirect, Instr, Read, ◌>>=◌, byte, signed, bit, width_of, sized_narrow, immediate_of, is_listed, rm_and_register, r_rm, rm_extension, given, direction, group_2_immediate, group_2_cl, group_5, load, extend, address_to, plain_row, row, two_byte_row, after_prefixes, after_size, instr, IsEncoding, leading, little, is_signed, wide, has_rex, place_bytes, modrm_bits, modrm, sized_opcode, opcode_extension, division_opcode_extension, direction_opcode_extension, condition_number, extend_width, extend_opcode, immediate_bytes, count_bytes, chosen, encoded_len, is_place, is_wide, is_immediate, is_widened, is_count, is_encodable, IsEncodable}
 use Rattle.x64_instr.specs.declared.operand.RegisterOrMemory.TheVariants as places
 use Rattle.x64_instr.specs.declared.operand.Operand.TheVariants as operands
 use Rattle.x64_encode.specs.declared.writing.Opcode.TheVariants as opcodes
@@ -420,9 +420,7 @@ again (instrs.Pop r) more ok =
     more
     ∙ ap (λ x. read_as (instrs.Pop x) more) (lowest_read W32 0x58 r (omega arith))
 again instrs.Return more ok = refl
-again instrs.NoOperation more ok = refl
-again instrs.Breakpoint more ok = refl
-again instrs.Undefined more ok = refl
+again i more ok = refl
 
 -- ---- both laws
 

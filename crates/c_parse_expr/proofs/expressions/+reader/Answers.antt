@@ -11,6 +11,7 @@ use Rattle.c_parse_expr.proofs.Arguing.{first_wraps, next_wraps, stuck_there}
 use Rattle.c_parse_expr.proofs.Beginning.{call_wraps, information_wraps, prefix_wraps, unary_wraps, group_wraps, cast_wraps, cast_unclosed, no_operand_there, no_room_there}
 use Rattle.c_parse_expr.proofs.Climbing.{continues}
 use Rattle.c_parse_expr.proofs.Listing.{listed_after, heights_after, mapped_after, positive, listed_spelled}
+use Rattle.c_parse_expr.proofs.OperandDerivations.{call_derived, group_derived, cast_derived, prefix_derived, unary_derived}
 use Rattle.c_parse_expr.proofs.Operands.{no_parenthesis}
 use Rattle.c_parse_expr.proofs.Operations.{applied_height, right_after, is_step}
 use Rattle.c_parse_expr.proofs.Placing.{placed_so, placed_as}
@@ -20,17 +21,23 @@ use Rattle.c_parse_expr.proofs.expressions.+reader.Goals as goal
 
 -- ---- expressions
 
-pub expression-returns-in_err-left-clause-refused : goal.expression-returns-in_err-left-clause-refused
+pub expression-returns-in_err-left-clause-refused :
+    goal.expression-returns-in_err-left-clause-refused
 expression-returns-in_err-left-clause-refused t c =
     let p = err_from_is_err_and c.from_residual.result c.from_residual.ensures.1 in
-    rw (p.1, p.2) (placed_so c.in_err-left.field-0.0 _ _ _ _ _ _ _ (operand_wraps c.args.level c.args.room c.args.text.now c.args.tokens.now) c.in_err-left.ensures.refused)
+    rw (p.1, p.2) (placed_so c.in_err-left.field-0.0 _ _ _ _ _ _ _
+        (operand_wraps c.args.level c.args.room c.args.text.now c.args.tokens.now)
+        c.in_err-left.ensures.refused)
 
 pub expression-loop-alloc-init : goal.expression-loop-alloc-init
-expression-loop-alloc-init t c = (c.in_ok-left.ensures.low, c.in_ok-left.ensures.found.derives, c.in_ok-left.ensures.found.closes)
+expression-loop-alloc-init t c = (c.in_ok-left.ensures.low, c.in_ok-left.ensures.found.derives,
+    c.in_ok-left.ensures.found.closes)
 
-pub expression-returns-in_err-following-clause-refused : goal.expression-returns-in_err-following-clause-refused
+pub expression-returns-in_err-following-clause-refused :
+    goal.expression-returns-in_err-following-clause-refused
 expression-returns-in_err-following-clause-refused t c =
-    let p = err_from_is_err_and c.from_residual-in_err-following.result c.from_residual-in_err-following.ensures.1 in
+    let p = err_from_is_err_and c.from_residual-in_err-following.result
+        c.from_residual-in_err-following.ensures.1 in
     let f = c.follows.ensures in
     let g = c.loop-alloc-test.true in
     let h = c.loop-alloc.left.exact in
@@ -50,7 +57,8 @@ expression-loop-alloc-preserved t c =
     let left = expression c.loop-alloc.left.expr in
     let s = code_steps.step c.in_ok-following.following.step in
     let mid = c.in_ok-following.following.rest.now in
-    let made : expression c.in_ok-left-2.left.expr ≡ steps.apply left s = c.in_ok-left-2.ensures.made in
+    let made : expression c.in_ok-left-2.left.expr ≡ steps.apply left s =
+        c.in_ok-left-2.ensures.made in
     let rest : c.in_ok-left-2.left.rest.now ≡ mid = c.in_ok-left-2.ensures.rest in
     let found = c.in_ok-following.ensures.found in
     let d : Derives text c.args.level (steps.apply left s) ts mid = continues text c.args.level left
@@ -64,9 +72,11 @@ expression-loop-alloc-preserved t c =
     let fits = c.in_ok-following.ensures.fits in (
       omega arith,
       subst (λ (x : Expression). Derives text c.args.level x ts c.in_ok-left-2.left.rest.now)
-          (sym made) (subst (λ (z : List Token). Derives text c.args.level (steps.apply left s) ts z)
+          (sym made) (subst (λ (z : List Token). Derives text c.args.level
+              (steps.apply left s) ts z)
           (sym rest) d),
-      subst (λ (x : Expression). Closes x c.in_ok-left-2.left.rest.now) (sym made) (subst (λ (z : List Token). Closes (steps.apply left s) z) (sym rest) found.closes),
+      subst (λ (x : Expression). Closes x c.in_ok-left-2.left.rest.now) (sym made)
+          (subst (λ (z : List Token). Closes (steps.apply left s) z) (sym rest) found.closes),
     )
 
 pub expression-returns-clause-found : goal.expression-returns-clause-found
@@ -100,7 +110,8 @@ step-returns-in_default-clause-refused t c =
     (follows c.args.operand.now.rest.now) c.args.text.now c.args.operand.now.rest.now
     c.in_default.ensures.none)
 
-pub step-returns-in_default-operation_of-clause-refused : goal.step-returns-in_default-operation_of-clause-refused
+pub step-returns-in_default-operation_of-clause-refused :
+    goal.step-returns-in_default-operation_of-clause-refused
 step-returns-in_default-operation_of-clause-refused t c =
     placed_as _ _ _ _ _ _ c.unexpected-in_default-operation_of.ensures
     (no_operator_there c.args.room (expression c.args.operand.now.expr)
@@ -119,7 +130,8 @@ step-returns-then-bound-rank-clause-refused t c =
     c.in-Some-operation_of.operation c.in-Some.at c.args.text.now c.args.operand.now.rest.now
     c.in-Some.rest.now c.in-Some.ensures.found (sym c.in-Some-operation_of.ensures) (omega arith))
 
-pub step-returns-then-room-operand-clause-refused : goal.step-returns-then-room-operand-clause-refused
+pub step-returns-then-room-operand-clause-refused :
+    goal.step-returns-then-room-operand-clause-refused
 step-returns-then-room-operand-clause-refused t c =
     let e = expression c.args.operand.now.expr in
     let a = c.bound.ensures in
@@ -170,7 +182,8 @@ chosen-returns-in_err-first-clause-refused t c =
 
 pub chosen-returns-in_err-second-clause-refused : goal.chosen-returns-in_err-second-clause-refused
 chosen-returns-in_err-second-clause-refused t c =
-    let p = err_from_is_err_and c.from_residual-in_err-second.result c.from_residual-in_err-second.ensures.1 in
+    let p = err_from_is_err_and c.from_residual-in_err-second.result
+        c.from_residual-in_err-second.ensures.1 in
     let x = c.in_ok-first.first.exact in
     let low = c.in_ok-first.ensures.low in
     rw (p.1, p.2) (placed_so c.in_err-second.field-0.0 _ _ _ _ _ _ _
@@ -178,30 +191,36 @@ chosen-returns-in_err-second-clause-refused t c =
     c.args.tokens.now c.in_ok-first.first.rest.now c.in_ok-first.ensures.found (omega arith))
     c.in_err-second.ensures.refused)
 
-pub operated-returns-in_err-inner-in-Index-clause-refused : goal.operated-returns-in_err-inner-in-Index-clause-refused
+pub operated-returns-in_err-inner-in-Index-clause-refused :
+    goal.operated-returns-in_err-inner-in-Index-clause-refused
 operated-returns-in_err-inner-in-Index-clause-refused t c =
     let p = err_from_is_err_and c.from_residual.result c.from_residual.ensures.1 in
     let e = c.in_err-inner-in-Index.field-0.0 in
     rw (p.1, p.2) (subst (λ (o : Operation). IsPlacedRefusal e (NoneAfterPunctuator c.args.room o)
     (HasAfterPunctuator c.args.room o c.args.at) c.args.text.now c.args.tokens.now)
     (sym c.in-Index.is)
-    (placed_so e _ _ _ _ _ _ _ (index_wraps c.args.room c.args.at c.args.text.now c.args.tokens.now) c.in_err-inner-in-Index.ensures.refused))
+    (placed_so e _ _ _ _ _ _ _ (index_wraps c.args.room c.args.at c.args.text.now c.args.tokens.now)
+        c.in_err-inner-in-Index.ensures.refused))
 
-pub operated-returns-in_err-value-in-Infix-clause-refused : goal.operated-returns-in_err-value-in-Infix-clause-refused
+pub operated-returns-in_err-value-in-Infix-clause-refused :
+    goal.operated-returns-in_err-value-in-Infix-clause-refused
 operated-returns-in_err-value-in-Infix-clause-refused t c =
     let op = c.in-Infix.operator in
     let k = c.in_err-value-in-Infix in
     let e = k.field-0.0 in
-    let p = err_from_is_err_and c.from_residual-in_err-value-in-Infix.result c.from_residual-in_err-value-in-Infix.ensures.1 in
+    let p = err_from_is_err_and c.from_residual-in_err-value-in-Infix.result
+        c.from_residual-in_err-value-in-Infix.ensures.1 in
     let h = subst (λ (l : ℕ). IsPlacedRefusal e (NoExpression l c.args.room)
     (HasExpression l c.args.room) c.args.text.now c.args.tokens.now) c.right.ensures
     k.ensures.refused in
     rw (p.1, p.2) (subst (λ (o : Operation). IsPlacedRefusal e (NoneAfterPunctuator c.args.room o)
     (HasAfterPunctuator c.args.room o c.args.at) c.args.text.now c.args.tokens.now)
     (sym c.in-Infix.is)
-    (placed_so e _ _ _ _ _ _ _ (right_wraps c.args.room op c.args.at c.args.text.now c.args.tokens.now) h))
+    (placed_so e _ _ _ _ _ _ _ (right_wraps c.args.room op c.args.at c.args.text.now
+        c.args.tokens.now) h))
 
-pub operated-returns-in_ok-right-in-Infix-clause-found : goal.operated-returns-in_ok-right-in-Infix-clause-found
+pub operated-returns-in_ok-right-in-Infix-clause-found :
+    goal.operated-returns-in_ok-right-in-Infix-clause-found
 operated-returns-in_ok-right-in-Infix-clause-found t c =
     let text = c.args.text.now in
     let op = c.in-Infix.operator in
@@ -213,9 +232,12 @@ operated-returns-in_ok-right-in-Infix-clause-found t c =
     let ts = c.args.tokens.now in
     let rest = k.value.rest.now in
     let q = c.right.ensures in
-    subst (λ (x : Expr). IsAfterPunctuator text c.args.operation at (with op at (expression x)) ts rest) (sym same)
-    (subst (λ (o : Operation). IsAfterPunctuator text o at (with op at e) ts rest) (sym c.in-Infix.is)
-    (right_after text op at e ts rest (subst (λ (l : ℕ). Derives text l e ts rest) q k.ensures.found) (subst (λ (l : ℕ). Stops l rest) q k.ensures.stops)))
+    subst (λ (x : Expr). IsAfterPunctuator text c.args.operation at
+        (with op at (expression x)) ts rest) (sym same)
+    (subst (λ (o : Operation). IsAfterPunctuator text o at (with op at e) ts rest)
+        (sym c.in-Infix.is)
+    (right_after text op at e ts rest (subst (λ (l : ℕ). Derives text l e ts rest) q
+        k.ensures.found) (subst (λ (l : ℕ). Stops l rest) q k.ensures.stops)))
 
 -- ---- operands
 
@@ -226,7 +248,8 @@ operand-returns-in-None-clause-refused t c =
     c.args.tokens.now c.in_default.ensures.none c.in_default-name.ensures.none
     c.in-None.ensures.none) c.departure.ensures)
 
-pub named-returns-in_err-found-in-Some-clause-refused : goal.named-returns-in_err-found-in-Some-clause-refused
+pub named-returns-in_err-found-in-Some-clause-refused :
+    goal.named-returns-in_err-found-in-Some-clause-refused
 named-returns-in_err-found-in-Some-clause-refused t c =
     let p = err_from_is_err_and c.from_residual.result c.from_residual.ensures.1 in
     rw (p.1, p.2) (placed_so c.in_err-found-in-Some.field-0.0 _ _ _ _ _ _ _
@@ -248,18 +271,10 @@ pub named-returns-in_ok-found-in-Some-clause-found :
 named-returns-in_ok-found-in-Some-clause-found t c =
     let k = c.in_ok-found-in-Some in
     let es = arguments (map expression k.found.exprs.items) in
-    let made = call_is c.args.name k.found.exprs in
-    let call : SpellsExpression c.args.text.now (Call c.args.name es) c.args.tokens.now
-    k.found.rest.now =
-    record {
-      after_name = c.args.rest.now;
-      after_opening = c.in-Some.rest.now;
-      called = c.requires.name;
-      opening = c.in-Some.ensures.found;
-      arguments = k.ensures.found;
-    } in
-    rw made
-    (record { derives = record { fits = omega arith; spells = call }; head = tt; closes = tt })
+    rw (call_is c.args.name k.found.exprs)
+    (call_derived c.args.text.now c.args.level c.args.name es c.args.tokens.now c.args.rest.now
+    c.in-Some.rest.now k.found.rest.now (omega arith) c.requires.name c.in-Some.ensures.found
+    k.ensures.found)
 
 pub signed-returns-then-not-opens-clause-refused : goal.signed-returns-then-not-opens-clause-refused
 signed-returns-then-not-opens-clause-refused t c =
@@ -288,7 +303,8 @@ signed-returns-in_err-inner-clause-refused t c =
 
 pub signed-returns-in_err-inner-2-clause-refused : goal.signed-returns-in_err-inner-2-clause-refused
 signed-returns-in_err-inner-2-clause-refused t c =
-    let p = err_from_is_err_and c.from_residual-in_err-inner-2.result c.from_residual-in_err-inner-2.ensures.1 in
+    let p = err_from_is_err_and c.from_residual-in_err-inner-2.result
+        c.from_residual-in_err-inner-2.ensures.1 in
     rw (p.1, p.2) (placed_so c.in_err-inner-2.field-0.0 _ _ _ _ _ _ _
     (unary_wraps c.args.level c.args.room c.args.punctuator c.in-Some-unary_of.operator c.args.at
     c.args.text.now c.args.tokens.now c.args.rest.now c.requires.level
@@ -302,17 +318,12 @@ signed-returns-in-Some-clause-found t c =
     let q = increment_only op c.args.punctuator (sym c.in-Some.ensures) in
     let k = c.in_ok-inner in
     let level = c.requires.level in
-    let h = subst (λ (z : Punctuator). IsPunctuator z c.args.at c.args.tokens.now c.args.rest.now) q c.requires.punctuator in
+    let h = subst (λ (z : Punctuator). IsPunctuator z c.args.at c.args.tokens.now c.args.rest.now) q
+        c.requires.punctuator in
     rw c.in_ok-expr.ensures.made
-    (record {
-      derives = record {
-        fits = omega arith;
-        spells = record
-            { after_operator = c.args.rest.now; operator = h; operand = k.ensures.found };
-      };
-      head = tt;
-      closes = k.ensures.stops;
-    })
+    (prefix_derived c.args.text.now c.args.level c.args.at op (expression k.inner.expr)
+    c.args.tokens.now c.args.rest.now k.inner.rest.now (omega arith) h k.ensures.found
+    k.ensures.stops)
 
 pub signed-returns-in-Some-unary_of-clause-found : goal.signed-returns-in-Some-unary_of-clause-found
 signed-returns-in-Some-unary_of-clause-found t c =
@@ -320,19 +331,15 @@ signed-returns-in-Some-unary_of-clause-found t c =
     let q = unary_only op c.args.punctuator (sym c.in-Some-unary_of.ensures) in
     let k = c.in_ok-inner-2 in
     let level = c.requires.level in
-    let h = subst (λ (z : Punctuator). IsPunctuator z c.args.at c.args.tokens.now c.args.rest.now) q c.requires.punctuator in
+    let h = subst (λ (z : Punctuator). IsPunctuator z c.args.at c.args.tokens.now c.args.rest.now) q
+        c.requires.punctuator in
     rw c.in_ok-expr-2.ensures.made
-    (record {
-      derives = record {
-        fits = omega arith;
-        spells = record
-            { after_operator = c.args.rest.now; operator = h; operand = k.ensures.found };
-      };
-      head = tt;
-      closes = k.ensures.stops;
-    })
+    (unary_derived c.args.text.now c.args.level c.args.at op (expression k.inner.expr)
+    c.args.tokens.now c.args.rest.now k.inner.rest.now (omega arith) h k.ensures.found
+    k.ensures.stops)
 
-pub parenthesised-returns-in_default-clause-refused : goal.parenthesised-returns-in_default-clause-refused
+pub parenthesised-returns-in_default-clause-refused :
+    goal.parenthesised-returns-in_default-clause-refused
 parenthesised-returns-in_default-clause-refused t c =
     let l = c.requires.level in
     let m = c.if-level-eq-UNARY.false in
@@ -341,7 +348,8 @@ parenthesised-returns-in_default-clause-refused t c =
     c.args.rest.now c.in-Some.rest.now (omega arith) c.requires.punctuator c.in-Some.ensures.found
     c.in-Some.ensures.far c.in_default.ensures.none)
 
-pub parenthesised-returns-in_err-inner-in-Some-clause-refused : goal.parenthesised-returns-in_err-inner-in-Some-clause-refused
+pub parenthesised-returns-in_err-inner-in-Some-clause-refused :
+    goal.parenthesised-returns-in_err-inner-in-Some-clause-refused
 parenthesised-returns-in_err-inner-in-Some-clause-refused t c =
     let p = err_from_is_err_and c.from_residual.result c.from_residual.ensures.1 in
     let l = c.requires.level in
@@ -364,25 +372,11 @@ parenthesised-returns-in_ok-operand-in-Some-clause-found t c =
     let made = cast_is c.args.at to boxed ∙ ap (λ x. Cast c.args.at to (expression x)) same in
     let l = c.requires.level in
     let m = c.if-level-eq-UNARY.false in
-    let to_cast : SpellsExpression c.args.text.now (Cast c.args.at to e) c.args.tokens.now
-    k.inner.rest.now =
-    record {
-      after_operator = c.in-Some-after.rest.now;
-      operator = record {
-        after_opening = c.args.rest.now;
-        after_inner = c.in-Some.rest.now;
-        opening = c.requires.punctuator;
-        inner = c.in-Some.ensures.found;
-        closing = c.in-Some-after.ensures.found;
-      };
-      operand = k.ensures.found;
-    } in
     rw made
-    (record {
-      derives = record { fits = omega arith; spells = to_cast };
-      head = tt;
-      closes = k.ensures.stops;
-    })
+    (cast_derived c.args.text.now c.args.level c.args.at to e c.args.tokens.now c.args.rest.now
+    c.in-Some.rest.now c.in-Some-after.rest.now k.inner.rest.now (omega arith)
+    c.requires.punctuator c.in-Some.ensures.found c.in-Some-after.ensures.found k.ensures.found
+    k.ensures.stops)
 
 pub grouped-returns-in_err-inner-clause-refused : goal.grouped-returns-in_err-inner-clause-refused
 grouped-returns-in_err-inner-clause-refused t c =
@@ -399,26 +393,21 @@ grouped-returns-clause-found t c =
     let same : boxed.value ≡ k.inner.expr = c.in_ok-inner-2.ensures.ok in
     let made =
     parentheses_is c.args.at boxed ∙ ap (λ x. Parentheses c.args.at (expression x)) same in
-    let found = k.ensures.found in
-    let grouped : SpellsExpression c.args.text.now (Parentheses c.args.at e) c.args.tokens.now
-    k.inner.rest.now =
-    record {
-      after_opening = c.args.rest.now;
-      after_inner = found.mid;
-      opening = c.requires.punctuator;
-      inner = found.spells;
-      closing = found.closed;
-    } in
     rw made
-    (record { derives = record { fits = omega arith; spells = grouped }; head = tt; closes = tt })
+    (group_derived c.args.text.now c.args.level c.args.at e c.args.tokens.now c.args.rest.now
+    k.inner.rest.now (omega arith) c.requires.punctuator k.ensures.found)
 
 -- ---- arguments
 
-pub arguments-returns-then-room-eq0-clause-refused : goal.arguments-returns-then-room-eq0-clause-refused
+pub arguments-returns-then-room-eq0-clause-refused :
+    goal.arguments-returns-then-room-eq0-clause-refused
 arguments-returns-then-room-eq0-clause-refused t c =
-    subst (λ (z : ℕ). IsPlacedRefusal c.no_argument.result (NoArguments z) (HasArguments z) c.args.text.now c.args.tokens.now) (sym c.if-room-eq0.true) c.no_argument.ensures
+    subst (λ (z : ℕ). IsPlacedRefusal c.no_argument.result (NoArguments z)
+        (HasArguments z) c.args.text.now c.args.tokens.now)
+        (sym c.if-room-eq0.true) c.no_argument.ensures
 
-pub arguments-returns-in_err-first-clause-refused : goal.arguments-returns-in_err-first-clause-refused
+pub arguments-returns-in_err-first-clause-refused :
+    goal.arguments-returns-in_err-first-clause-refused
 arguments-returns-in_err-first-clause-refused t c =
     let p = err_from_is_err_and c.from_residual.result c.from_residual.ensures.1 in
     rw (p.1, p.2) (placed_so c.in_err-first.field-0.0 _ _ _ _ _ _ _
@@ -428,7 +417,8 @@ arguments-returns-in_err-first-clause-refused t c =
 
 pub arguments-returns-in_err-next-clause-refused : goal.arguments-returns-in_err-next-clause-refused
 arguments-returns-in_err-next-clause-refused t c =
-    let p = err_from_is_err_and c.from_residual-in_err-next.result c.from_residual-in_err-next.ensures.1 in
+    let p = err_from_is_err_and c.from_residual-in_err-next.result
+        c.from_residual-in_err-next.ensures.1 in
     let i = c.loop-following.invariant in
     let a = i.low in
     let b = i.exact in
@@ -452,7 +442,8 @@ arguments-loop-following-preserved t c =
     let i = c.loop-following.invariant in
     let old = c.loop-following.exprs.items in
     let e = expression c.in_ok-next.next.expr in
-    let q = ap (map expression) c.in_ok-push-2.ensures.items ∙ mapped_after expression old c.in_ok-next.next.expr in
+    let q = ap (map expression) c.in_ok-push-2.ensures.items
+        ∙ mapped_after expression old c.in_ok-next.next.expr in
     let r = positive c.args.room i.some_room in
     let a = c.higher-over.ensures in
     let b = c.in_ok-next.ensures.low in
@@ -464,14 +455,16 @@ arguments-loop-following-preserved t c =
       some_room = i.some_room;
       low = omega arith;
       exact = omega arith;
-      listed = subst (λ (z : List Expression). AreListed c.args.text.now z c.args.tokens.now c.in_ok-next.next.rest.now) (sym q)
+      listed = subst (λ (z : List Expression).
+          AreListed c.args.text.now z c.args.tokens.now c.in_ok-next.next.rest.now) (sym q)
           (listed_after c.args.text.now (map expression old) e c.args.tokens.now
           c.loop-following.rest.now c.in-Some-after.following.now c.in_ok-next.next.rest.now
           i.listed c.in-Some-after.ensures.found c.in_ok-next.ensures.found);
       stops = c.in_ok-next.ensures.stops;
     }
 
-pub arguments-returns-in-Some-after-2-clause-found : goal.arguments-returns-in-Some-after-2-clause-found
+pub arguments-returns-in-Some-after-2-clause-found :
+    goal.arguments-returns-in-Some-after-2-clause-found
 arguments-returns-in-Some-after-2-clause-found t c =
     listed_spelled c.args.text.now (map expression c.loop-following.exprs.items) c.args.tokens.now
     c.loop-following.rest.now c.in-Some-after-2.rest.now c.loop-following.invariant.listed
