@@ -52,52 +52,58 @@ module _ (program : Program) (linear : LinearProgram) (rate body : ℕ) where
       → regions_at linear site.body pc ≡ site.regions → st.held ≡ site.held → kept st store
       → ((next : Next) → s next ≡ accept linear f exc next (conf context site pc temps st store))
       → Targets linear rate s st (price r e 1 rate) kept context site level exc st
-  takes_over s f pre rest level r e exc kept context site pc temps st store len w le t h fits same = record {
-    handler = f;
-    picked = subst (λ fs. Picked fs level f) (sym w) (picked_at pre f rest level len);
-    temps = temps;
-    pc = pc;
-    store = store;
-    fits = fits;
-    reaches = still linear rate s (unwound linear rate context site (target_of f exc.code st.held)
-        temps st store pc) st st r e rate refl le (prefix_self st.events)
-        (λ k. same (exec linear k) ∙ accepted f exc context site pc temps st store (exec linear k) t h);
-  }
+  takes_over s f pre rest level r e exc kept context site pc temps st store len w le t h fits same =
+      record {
+        handler = f;
+        picked = subst (λ fs. Picked fs level f) (sym w) (picked_at pre f rest level len);
+        temps = temps;
+        pc = pc;
+        store = store;
+        fits = fits;
+        reaches = still linear rate s (unwound linear rate context site (target_of f exc.code st.held)
+            temps st store pc) st st r e rate refl le (prefix_self st.events)
+            (λ k. same (exec linear k) ∙ accepted f exc context site pc temps st store
+            (exec linear k) t h);
+      }
 
   -- ---- out of a funclet, to the body that waits below it
 
   pub targets_out : (s : Part) (from : State) (p : Price) (kept : Kept) (j : ℕ)
       (inner context : Context) (isite site : Site) (pc : ℕ) (temps : List ℕ) (level : ℕ)
       (exc : Exception) (st : State)
-      → isite.body ≡ FuncletBody j → isite.regions ≡ [] → handlers linear isite.below None ≡ found linear rate context site
+      → isite.body ≡ FuncletBody j → isite.regions ≡ []
+      → handlers linear isite.below None ≡ found linear rate context site
       → ((next : Next) (target : machine.Target) (st : State) (store : Store)
       → unwind linear next target isite.below None st.events store
       ≡ unwound linear rate context site target temps st store pc next)
-      → Targets linear rate s from p kept inner isite level exc st → Targets linear rate s from p kept context site level exc st
-  targets_out s from p kept j inner context isite site pc temps level exc st b e f onward q = record {
-    handler = q.handler;
-    picked = picked;
-    temps = temps;
-    pc = pc;
-    store = q.store;
-    fits = q.fits;
-    reaches = record {
-      cost = r.cost;
-      credit = r.credit;
-      paid = r.paid;
-      most = r.most;
-      least = r.least;
-      low = r.low;
-      grows = r.grows;
-      prior = r.prior;
-      by = λ k. let y = r.by k in (y.0, y.1, y.2 ∙ out (exec linear k));
-    };
-  }
+      → Targets linear rate s from p kept inner isite level exc st
+      → Targets linear rate s from p kept context site level exc st
+  targets_out s from p kept j inner context isite site pc temps level exc st b e f onward q =
+      record {
+        handler = q.handler;
+        picked = picked;
+        temps = temps;
+        pc = pc;
+        store = q.store;
+        fits = q.fits;
+        reaches = record {
+          cost = r.cost;
+          credit = r.credit;
+          paid = r.paid;
+          most = r.most;
+          least = r.least;
+          low = r.low;
+          grows = r.grows;
+          prior = r.prior;
+          by = λ k. let y = r.by k in (y.0, y.1, y.2 ∙ out (exec linear k));
+        };
+      }
     where
       target : machine.Target
       target = target_of q.handler exc.code st.held
 
-      r : Reaches linear rate s (unwound linear rate inner isite target q.temps st q.store q.pc) from st p.turns p.extra p.out
+      r : Reaches linear rate s (unwound linear rate inner isite target q.temps st q.store q.pc)
+          from st p.turns p.extra p.out
       r = q.reaches
 
       inside : Picked (handlers linear isite.below None) level q.handler
@@ -124,7 +130,8 @@ module _ (program : Program) (linear : LinearProgram) (rate body : ℕ) where
 
   -- a funclet of a number, with these items below it, of which a search and an unwinding make what
   -- they make of a place
-  pub record IsFunclet (j : ℕ) (isite : Site) (context : Context) (site : Site) (pc : ℕ) (temps : List ℕ) : Type 0 where
+  pub record IsFunclet (j : ℕ) (isite : Site) (context : Context) (site : Site) (pc : ℕ)
+      (temps : List ℕ) : Type 0 where
     pub named : isite.body ≡ FuncletBody j
     pub bare : isite.regions ≡ []
     pub same_found : handlers linear isite.below None ≡ found linear rate context site
@@ -146,7 +153,8 @@ module _ (program : Program) (linear : LinearProgram) (rate body : ℕ) where
   then_value_out s v kept j inner isite w pc temps st p q r (Gives (Value x) mid) k t f g a
       b = after linear rate s (v x mid a.store) st mid p.turns p.extra p.slack q r w (k x mid)
       (t.turns, t.slack, t.second_out) a.reaches (b x mid a.store a.reaches.low a.fits a.same)
-  then_value_out s v kept j inner isite w pc temps st p q r (Gives (Target level exc) mid) k t f g a b =
+  then_value_out s v kept j inner isite w pc temps st p q r
+      (Gives (Target level exc) mid) k t f g a b =
       let lr = t.turns in
       let kept_target : Targets linear rate s st p w.kept inner isite level exc
       mid = record {
@@ -197,7 +205,11 @@ module _ (program : Program) (linear : LinearProgram) (rate body : ℕ) where
         more linear rate _ st (price 16 1 1 rate) (price 16 0 1 rate)
         (normal_ways (resumes program linear rate body resumption context site pc temps)
         (Within program linear rate body shapes base) context site)
-        (source.search (within program n) hs exc context st) (omega arith, omega arith, omega arith) h
+        (source.search (within program n) hs exc context st) (
+          omega arith,
+          omega arith,
+          omega arith,
+        ) h
     answered_runs false true b3 hs f pre rest exc resumption names info z shapes context site base
         pc temps st store len t w le steps around kept held h =
         takes_over (λ next. accept linear f exc next (conf context site pc temps st store)) f pre
@@ -258,7 +270,8 @@ module _ (program : Program) (linear : LinearProgram) (rate body : ℕ) where
     consult_runs (Funclet k e) (Some j) h hs f pre rest exc resumption names info z shapes context
         site base pc temps st store fit a len steps le t w around kept held go =
         let light = fit.light in
-        then_value linear rate _ (answers_search program linear rate body exc resumption f rest context site pc temps)
+        then_value linear rate _ (answers_search program linear rate body exc resumption f rest
+        context site pc temps)
         (normal_ways (resumes program linear rate body resumption context site pc temps)
         (Within program linear rate body shapes base) context site) st
         (price 0 1 0 (2 + expression_weight e)) (price 16 0 1 rate) (price 16 1 1 rate)
@@ -273,7 +286,8 @@ module _ (program : Program) (linear : LinearProgram) (rate body : ℕ) where
         context site base pc temps mid after len t w le (omega arith) around fits same
         (go mid after (omega arith) fits same))
 
-    pub search_runs : (hs : List Handler) (pre rest : List machine.Handler) (exc : Exception) (resumption : Resumption)
+    pub search_runs : (hs : List Handler) (pre rest : List machine.Handler) (exc : Exception)
+        (resumption : Resumption)
         (names : Names) (info : Bool) (z : Shape) (shapes : List Shape) (context : Context)
         (site : Site) (base : Store) (pc : ℕ) (temps : List ℕ) (st : State) (store : Store)
         → st.steps_left ≤ n → 2 ≤ rate → regions_at linear site.body pc ≡ site.regions
@@ -313,15 +327,18 @@ module _ (program : Program) (linear : LinearProgram) (rate body : ℕ) where
         (normal_ways (resumes program linear rate body resumption context site pc temps)
         (Within program linear rate body shapes base) context site)
         (source.search (within program n) context.handlers exc context (emit (raise_event exc) st))
-    raise_runs exc resumption names info z shapes context site base pc temps st store steps le t around kept held =
+    raise_runs exc resumption names info z shapes context site base pc temps st store steps le t
+        around kept held =
         let w = normal_ways (resumes program linear rate body resumption context site pc temps)
         (Within program linear rate body shapes base) context site in
-        let o = source.search (within program n) context.handlers exc context (emit (raise_event exc) st) in
+        let o = source.search (within program n) context.handlers exc context
+        (emit (raise_event exc) st) in
         subst (λ rs. Claim linear rate (λ next. search linear next
         (handlers_in rs context.activation (length site.below) ++ handlers linear site.below None)
         exc resumption (conf context site pc temps (emit (raise_event exc) st) store)) st
         (price 16 1 1 rate) w o) (sym t)
-        (sooner linear rate _ st (emit (raise_event exc) st) (price 16 1 1 rate) w o refl (raise_event exc ∷ [], refl)
+        (sooner linear rate _ st (emit (raise_event exc) st) (price 16 1 1 rate) w o refl
+        (raise_event exc ∷ [], refl)
         (search_runs context.handlers [] (found linear rate context site) exc resumption names info
         z shapes context site base pc temps (emit (raise_event exc) st) store steps le t refl
         around.handlers around kept held))
@@ -346,7 +363,8 @@ module _ (program : Program) (linear : LinearProgram) (rate body : ℕ) where
         ≡ answered linear (exec linear k) v exc resumption f rest
         (conf context site pc temps (emit (events.Answer (signed W32 v)) (let_go mid)) store)
     unfolding with_some
-    ends_filter e v j funclet inner f rest exc resumption context site pc temps mid store k there kind has =
+    ends_filter e v j funclet inner f rest exc resumption context site pc temps mid store k there
+        kind has =
         let c = conf inner (record {
           body = FuncletBody j;
           regions = [];
@@ -357,7 +375,8 @@ module _ (program : Program) (linear : LinearProgram) (rate body : ℕ) where
         }) (0 + expression_size e) (v ∷ [])
         mid store in
         fetch linear rate c (Return (Temporary 0)) k has.0
-        ∙ ap (λ o. with_some mid.events o (λ x. end_funclet linear (exec linear k) x.kind v c)) there
+        ∙ ap (λ o. with_some mid.events o (λ x. end_funclet linear (exec linear k) x.kind v c))
+        there
         ∙ ap (λ x. end_funclet linear (exec linear k) x v c) kind
 
     pub filter_runs : (k j : ℕ) (e : Expression) (h : Handler) (f : machine.Handler)
@@ -377,8 +396,16 @@ module _ (program : Program) (linear : LinearProgram) (rate body : ℕ) where
         (source.run_filter (within program n) k e h exc context st)
     filter_runs k j e h f rest exc resumption names info z shapes context site base pc temps st
         store steps light t a fit around kept held =
-        let below : List Item = Searches exc resumption f rest ∷ Waits (frame_of context site pc temps) ∷ site.below in
-        let isite : Site = record { body = FuncletBody j; regions = []; below = below; exception = exc; held = site.held + 2 } in
+        let below : List Item = Searches exc resumption f rest
+        ∷ Waits (frame_of context site pc temps) ∷ site.below in
+        let isite : Site = record {
+          body = FuncletBody j;
+          regions = [];
+          below = below;
+          exception =
+              exc;
+          held = site.held + 2;
+        } in
         let inner : Context = record {
           handlers = context.handlers;
           activation = h.activation;
@@ -388,7 +415,8 @@ module _ (program : Program) (linear : LinearProgram) (rate body : ℕ) where
         let asked : State = emit (events.Filter k) (hold st) in
         let w = value_ways (answers_search program linear rate body exc resumption f rest context
         site pc temps) (Within program linear rate body shapes base) context site in
-        let keep : ℕ → State → Outcome = λ v st. Gives (Value v) (emit (events.Answer (signed W32 v)) (let_go st)) in
+        let keep : ℕ → State → Outcome = λ v st. Gives (Value v)
+        (emit (events.Answer (signed W32 v)) (let_go st)) in
         let o = with_value (within program n (Eval e) inner asked) keep in
         let place : ℕ → ℕ → machine.Configuration = λ act m. record {
           frame = record {
@@ -411,7 +439,8 @@ module _ (program : Program) (linear : LinearProgram) (rate body : ℕ) where
         ≡ found linear rate context site = ap
         (λ rs. handlers_in rs context.activation (length site.below)
         ++ handlers linear site.below None) t in
-        let env : Around program linear rate body fit.names true fit.shape shapes inner isite base = record {
+        let env : Around program linear rate body fit.names true fit.shape shapes inner isite base =
+        record {
           shape = fit.has_shape;
           code = subst (λ x. CodeBound everywhere fit.shape x inner exc base) (sym fit.source) refl;
           flag = fit.flag;
@@ -426,8 +455,10 @@ module _ (program : Program) (linear : LinearProgram) (rate body : ℕ) where
           same_found = walked;
           onward = λ next target st store. unwound_is target context site pc temps st store next t;
         } in
-        let deep : length store.activations ≡ length st.frames = kept.0.activations ∙ sym kept.0.count in
-        deep_claim linear rate 2 site.held store (at (place f.activation (j + 1))) st (price 16 2 0 (2 + expression_weight e)) w
+        let deep : length store.activations ≡ length st.frames = kept.0.activations
+        ∙ sym kept.0.count in
+        deep_claim linear rate 2 site.held store (at (place f.activation (j + 1))) st
+        (price 16 2 0 (2 + expression_weight e)) w
         (λ st. with_value (within program n (Eval e)
         (record {
           handlers = context.handlers;
@@ -439,7 +470,8 @@ module _ (program : Program) (linear : LinearProgram) (rate body : ℕ) where
         deep held
         (sooner linear rate (at (place f.activation (j + 1))) st asked
         (price 16 2 0 (2 + expression_weight e)) w o refl (events.Filter k ∷ [], refl)
-        (subst (λ c. Claim linear rate (at c) asked (price 16 2 0 (2 + expression_weight e)) w o) same
+        (subst (λ c. Claim linear rate (at c) asked (price 16 2 0 (2 + expression_weight e)) w o)
+        same
         (then_value_out (at (place h.activation k)) (pushed inner isite (0 + expression_size e) [])
         (Within program linear rate body shapes base) j inner isite w pc temps asked
         (price 0 0 (expression_weight e) (expression_weight e)) (price 16 rate 0 0)

@@ -19,63 +19,26 @@ use Rattle.match_turns.proofs.FuncletFirstTurns.{HasEntered, entered, first_smal
 use Rattle.match_turns.proofs.ReturnAddressPlace.{top_of, begins_beneath}
 use Rattle.match_turns.proofs.FuncletShadow.{base_code, arguments_are, base_is_plain, funclet_ran}
 use Rattle.match_turns.proofs.FilterEntry.{has_first, parent_is}
-
-same_number : (a b : ℕ) → Some a ≡ Some b → a ≡ b
-same_number a b e = cc
-
-same_body : (a b : LinearBody) → Some a ≡ Some b → a ≡ b
-same_body a b e = cc
-
-same_list : (a b : List ℕ) → Some a ≡ Some b → a ≡ b
-same_list a b e = cc
-
--- ---- a place of a list is set
-
-set_count : {A : Type 0} → (xs : List A) (i : ℕ) (x : A) → length (slice_set xs i x) ≡ length xs
-set_count [] i x = refl
-set_count (y ∷ xs) zero x = refl
-set_count (y ∷ xs) (suc i) x = ap suc (set_count xs i x)
-
-set_here : {A : Type 0} → (xs : List A) (i : ℕ) (x : A) → i < length xs → slice_get (slice_set xs i x) i ≡ Some x
-set_here [] i x lt = absurd (omega arith)
-set_here (y ∷ xs) zero x lt = refl
-set_here (y ∷ xs) (suc i) x lt = set_here xs i x (omega arith)
-
--- ---- flags
-
-pub kind_of_flag : (kind : FuncletKind) (flag : ℕ) → flag_in kind ≡ Some flag → kind ≡ funclets.Finally flag
-kind_of_flag funclets.Filter flag e = cc
-kind_of_flag (funclets.Finally f) flag e = ap (λ n. funclets.Finally n) (same_number f flag e)
-
-low_test : (b : Bool) → low W32 (of_test b) ≡ of_test b
-low_test true = let z : low W32 1 ≡ 1 = omega arith in z
-low_test false = let z : low W32 0 ≡ 0 = omega arith in z
-
-nothing_landed : (x : ℕ) → ◌≡◌ {A = Option ℕ} None (Some x) → ⊥
-nothing_landed x e = cc
-
--- the configuration in which a block begins
-abbrev pub block_begins : (k flag activation held : ℕ) (abnormal : Bool) → List Item → Store → List Event → Configuration
-block_begins k flag activation held abnormal items store events = record {
-  frame = record { body = FuncletBody k; next = 0; activation = activation; exception = no_exception; held = held + 2; temporaries = []; landed = None };
-  below = items;
-  store = set_local store activation flag (of_test abnormal);
-  events = events;
-}
+use Rattle.match_turns.proofs.FinallyFlag.{same_number, same_body, same_list, set_count, set_here, kind_of_flag, low_test, nothing_landed, block_begins}
 
 module _ (setting : Setting) where
   open setting use {functions as t, funclets as fs, program, plan as p, sites as q, image}
 
-  module _ (s : State) (k flag activation held : ℕ) (abnormal : Bool) (items : List Item) (store : Store) (events : List Event) (acts : List Activation)
-      (a : ArrivesBelow t fs program p s k activation (of_test abnormal) items acts) (name : BodyName) (known : IsFuncletOf program name IsFinallyKind k)
+  module _ (s : State) (k flag activation held : ℕ) (abnormal : Bool) (items : List Item)
+      (store : Store) (events : List Event) (acts : List Activation)
+      (a : ArrivesBelow t fs program p s k activation (of_test abnormal) items acts)
+          (name : BodyName) (known : IsFuncletOf program name IsFinallyKind k)
       (flagged : flag_of (slice_get program.funclets k) ≡ Some flag) (fits : FlagsFit program)
       (memory : IsMachineMemory setting s.memory store.memory) (stored : store.activations ≡
       locals_of acts)
-      (space : STACK_END ≤ a.at + (below_end + record_room) + LARGEST_FRAME * (length acts + held)) (few : length acts + held + 2 ≤ 1000)
-      (pointers : (m : Memory) (sp size : ℕ) → HasPointers t fs program p m (p.layout (FuncletBody k)) sp size items)
+      (space : STACK_END ≤ a.at + (below_end + record_room) + LARGEST_FRAME * (length acts + held))
+          (few : length acts + held + 2 ≤ 1000)
+      (pointers : (m : Memory) (sp size : ℕ) → HasPointers t fs program p m
+          (p.layout (FuncletBody k)) sp size items)
       (above : (g : LinearFunclet) → g.kind ≡ funclets.Finally flag → FuncletIsAbove t fs program p
       k (first_frame setting k activation no_exception (held + 2)) (Some g) items)
-      (typed : IsKnown program (block_begins k flag activation held abnormal items store events)) where
+      (typed : IsKnown program (block_begins k flag activation held abnormal items store
+          events)) where
     abbrev f : LinearFunclet
     f = known.funclet
 
@@ -99,7 +62,8 @@ module _ (setting : Setting) where
         owner a.reaches.leads
 
     some : 0 < length f.body.code
-    some = has_first program (FuncletBody k) f.body typed.continues.instruction (ap funclet_body known.there) typed.continues.at
+    some = has_first program (FuncletBody k) f.body typed.continues.instruction
+        (ap funclet_body known.there) typed.continues.at
 
     flag_fits : flag < f.body.locals
     flag_fits = fits k flag f known.there flagged
@@ -136,7 +100,8 @@ module _ (setting : Setting) where
       stack = subst (λ r. register s.cpu Rsp ≡ r + y.frame) (sym stack_1) e.sp_is;
       low = subst (λ r. STACK_START ≤ r) (sym stack_1) e.low;
       within = subst (λ r. Within r (r + y.frame) s.memory s1.memory) (sym stack_1) e.within;
-      number = subst (λ r. number_at s1.memory.byte 8 (r + l.plan.layout.slot) ≡ a.reaches.base) (sym stack_1) e.number;
+      number = subst (λ r. number_at s1.memory.byte 8 (r + l.plan.layout.slot) ≡ a.reaches.base)
+          (sym stack_1) e.number;
       distance = subst (λ d. IsActivation acts activation a.reaches.base d)
           (parent_locals setting k f f.parent a.name known.there parent owner) a.reaches.activation;
       rip = refl;
@@ -162,11 +127,14 @@ module _ (setting : Setting) where
 
     -- ---- the activation of the block
 
-    abbrev works : (function : ℕ) × (owner_of program (FuncletBody k) ≡ Some function) × (slice_get (owners_of items) activation ≡ Some function)
+    abbrev works : (function : ℕ) × (owner_of program (FuncletBody k) ≡ Some function) × (slice_get
+        (owners_of items) activation ≡ Some function)
     works = typed.activations.working.0
 
-    has_locals : HasLocals program (slice_set store.activations activation (slice_set (linear.locals_of store activation) flag (of_test abnormal))) activation works.0
-    has_locals = activation_at program (owners_of items) _ activation works.0 typed.activations.stored works.2
+    has_locals : HasLocals program (slice_set store.activations activation
+        (slice_set (linear.locals_of store activation) flag (of_test abnormal))) activation works.0
+    has_locals = activation_at program (owners_of items) _ activation works.0
+        typed.activations.stored works.2
 
     function_is : f.function ≡ works.0
     function_is = same_number f.function works.0 (sym (ap function_of known.there) ∙ works.1)
@@ -175,16 +143,25 @@ module _ (setting : Setting) where
     counted b is =
         let h = has_locals in
         let lt = slice_get_within _ activation h.locals h.there in
-        let n = set_count store.activations activation (slice_set (linear.locals_of store activation) flag (of_test abnormal)) in
-        let same : h.locals ≡ slice_set (linear.locals_of store activation) flag (of_test abnormal) = same_list h.locals _ (sym h.there ∙ set_here store.activations activation (slice_set (linear.locals_of store activation) flag (of_test abnormal)) (omega arith)) in
+        let n = set_count store.activations activation
+            (slice_set (linear.locals_of store activation) flag (of_test abnormal)) in
+        let same : h.locals ≡ slice_set (linear.locals_of store activation) flag
+            (of_test abnormal) = same_list h.locals _ (sym h.there
+            ∙ set_here store.activations activation
+            (slice_set (linear.locals_of store activation) flag (of_test abnormal)) (omega arith))
+            in
         sym (set_length (linear.locals_of store activation) flag (of_test abnormal)) ∙ sym
         (ap length same) ∙ locals_counted setting k f works.0 h.locals known.there function_is
         h.of
-        ∙ ap (λ (z : LinearBody). z.locals) (same_body f.body b (sym (ap funclet_body known.there) ∙ is))
+        ∙ ap (λ (z : LinearBody). z.locals) (same_body f.body b (sym (ap funclet_body known.there)
+            ∙ is))
 
     framed_owner : OwnerHasFrame t fs program p activation items acts
     framed_owner = owner_framed setting activation items acts
-        (sym (ap length stored ∙ locals_count acts) ∙ sym (set_count store.activations activation (slice_set (linear.locals_of store activation) flag (of_test abnormal))) ∙ sym (as_many program (owners_of items) _ typed.activations.stored))
+        (sym (ap length stored ∙ locals_count acts)
+            ∙ sym (set_count store.activations activation
+            (slice_set (linear.locals_of store activation) flag (of_test abnormal)))
+            ∙ sym (as_many program (owners_of items) _ typed.activations.stored))
         typed.activations.working.1
         (λ function z. subst (λ j. p.leaf (linear.FunctionBody j) ≡ false)
         (same_number works.0 function (sym works.2 ∙ z)) (no_leaf setting k works.0 works.1).1)
@@ -206,7 +183,9 @@ module _ (setting : Setting) where
     code_here : HasCode e.after.memory e.rip last
     code_here = subst (λ z. HasCode e.after.memory e.rip (keep_argument y z)) kind_is e.code
 
-    abbrev r : ReachesBody fr (length last) (machine e.after e.rip e.flags) (e.rip + sizes last) e.after.rest (record { slots = with_slot old.slots (Local flag) (low W32 e.after.rcx); memory = old.memory })
+    abbrev r : ReachesBody fr (length last) (machine e.after e.rip e.flags)
+        (e.rip + sizes last) e.after.rest (record { slots =
+        with_slot old.slots (Local flag) (low W32 e.after.rcx); memory = old.memory })
     r = flag_run fr (Local flag) e.after e.rip e.flags old (room_here setting s1 c1 b1 counted)
         flag_fits (e.at ∙ sym stack_1) (holds_here setting s1 c1 b1 counted) code_here
 
@@ -242,7 +221,10 @@ module _ (setting : Setting) where
     ran_here =
         let z = reaches_keeps (length last) (machine e.after e.rip e.flags) u r.comes in
         record {
-          changed = record { changes = record { protection = r.changes.protection; byte = r.changes.byte; bytes = r.changes.bytes }; keeps = record { protection = z.protection; fixed = z.fixed; count = z.count; small = z.small } };
+          changed = record { changes = record { protection = r.changes.protection; byte =
+              r.changes.byte; bytes = r.changes.bytes }; keeps =
+              record { protection = z.protection; fixed = z.fixed; count = z.count; small =
+              z.small } };
           holds = r.holds;
           stack = ap (λ (xs : List ℕ). slice_index xs 1) r.rest;
           leaves = leaves;
@@ -252,13 +234,15 @@ module _ (setting : Setting) where
     run = enters_then e.turns (length last) s (machine e.after e.rip e.flags) u e.comes r.comes
 
     rip_here : u.cpu.rip ≡ p.address (FuncletBody k) 0
-    rip_here = subst (λ z. e.rip + sizes (keep_argument y z) ≡ p.address (FuncletBody k) 0) kind_is e.place
+    rip_here = subst (λ z. e.rip + sizes (keep_argument y z) ≡ p.address (FuncletBody k) 0) kind_is
+        e.place
 
     well_formed_here : IsWellFormed u
     well_formed_here = stays_well_formed s u (enters_keeps (e.turns + length last) s u run)
         (let z = rip_here in let w = first_small setting k l in omega arith) a.well_formed
 
-    store_is : locals_of (with_values acts activation values) ≡ slice_set store.activations activation (slice_set (linear.locals_of store activation) flag (of_test abnormal))
+    store_is : locals_of (with_values acts activation values) ≡ slice_set store.activations
+        activation (slice_set (linear.locals_of store activation) flag (of_test abnormal))
     store_is =
         let lt = slice_get_within (locals_of acts) activation here.values here.number in
         let n = locals_count acts in
@@ -272,7 +256,8 @@ module _ (setting : Setting) where
         store events)
     represents_here =
         subst (λ (xs : List (List ℕ)). let o : Configuration = record {
-          frame = record { body = FuncletBody k; next = 0; activation = activation; exception = no_exception; held = held + 2; temporaries = []; landed = None };
+          frame = record { body = FuncletBody k; next = 0; activation = activation; exception =
+              no_exception; held = held + 2; temporaries = []; landed = None };
           below = items;
           store = record { memory = store.memory; activations = xs };
           events = events;
@@ -282,7 +267,8 @@ module _ (setting : Setting) where
         (λ z. let w : true ≡ false = sym z ∙ l.plan.framed in absurd cc) (λ j z. framed_owner))
 
     last_few : length last ≤ 3
-    last_few = subst (λ o. length (move W32 Rax Rcx ∷ keep_local o (local_at y flag)) ≤ 3) (sym l.plan.layout.base) (omega arith)
+    last_few = subst (λ o. length (move W32 Rax Rcx ∷ keep_local o (local_at y flag)) ≤ 3)
+        (sym l.plan.layout.base) (omega arith)
 
     -- ---- each turn keeps the shadow
 
@@ -307,7 +293,9 @@ module _ (setting : Setting) where
     parts = arguments_are setting s k activation (of_test abnormal) items acts l a store.memory
         memory some low_enough high_enough (register s.cpu Rdx) a.reaches.base leads
 
-    kept_base : EntryRan t fs program p q image (FuncletBody k) f.body (ap funclet_body l.there) some (register s.cpu Rsp) (register s.cpu Rsp + 8) a.back (others_of s.cpu.registers) a.is e.turns s y1 base
+    kept_base : EntryRan t fs program p q image (FuncletBody k) f.body
+        (ap funclet_body l.there) some (register s.cpu Rsp) (register s.cpu Rsp + 8) a.back
+        (others_of s.cpu.registers) a.is e.turns s y1 base
     kept_base =
         funclet_ran setting s k activation (of_test abnormal) items acts l a store.memory memory
         some low_enough high_enough (register s.cpu Rdx) a.reaches.base leads e.turns y1 base
@@ -330,7 +318,8 @@ module _ (setting : Setting) where
     last_is = ap (λ o. move W32 Rax Rcx ∷ keep_local o (local_at y flag)) l.plan.layout.base
 
     all_parts : arguments ≡ (base ++ mid) ++ (storing ∷ [])
-    all_parts = parts ∙ ap (λ z. base ++ keep_argument y z) kind_is ∙ ap (λ (xs : List Instr). base ++ xs) last_is ∙ sym (append_assoc base mid (storing ∷ []))
+    all_parts = parts ∙ ap (λ z. base ++ keep_argument y z) kind_is
+        ∙ ap (λ (xs : List Instr). base ++ xs) last_is ∙ sym (append_assoc base mid (storing ∷ []))
 
     abbrev top1 : ℕ
     top1 = top_of setting s1 c1 b1 counted
@@ -344,10 +333,12 @@ module _ (setting : Setting) where
     beneath_1 : Beneath t y1 top1 (top1 + 8) b1.body.back others1 list1
     beneath_1 =
         let g = begins_beneath setting s1 c1 b1 counted in
-        record { others_are = g.others_are; count = g.count; returns = g.returns; list = g.list; owned = g.owned; past = g.past; high = g.high; limit = g.limit; no_code = g.no_code }
+        record { others_are = g.others_are; count = g.count; returns = g.returns; list = g.list;
+            owned = g.owned; past = g.past; high = g.high; limit = g.limit; no_code = g.no_code }
 
     run_3 : StepsTo 3 y1 u
-    run_3 = subst (λ n. StepsTo n y1 u) (ap (λ (xs : List Instr). length xs) last_is) (reaches_steps (length last) y1 u r.comes)
+    run_3 = subst (λ n. StepsTo n y1 u) (ap (λ (xs : List Instr). length xs) last_is)
+        (reaches_steps (length last) y1 u r.comes)
 
     abbrev run_2 : StepsTo 2 run_3.0 u
     run_2 = run_3.2
@@ -368,24 +359,32 @@ module _ (setting : Setting) where
 
     finds : Finds t fs program p q top1 (top1 + 8) b1.body.back others1 list1 y1.cpu.rip mid y.frame
     finds done left split m h =
-        let z : begin + sizes (base ++ done) ≡ y1.cpu.rip + sizes done = omega (arith, kept_base.rip, sizes_append base done) in
+        let z : begin + sizes (base ++ done) ≡ y1.cpu.rip + sizes done =
+            omega (arith, kept_base.rip, sizes_append base done) in
         subst (λ n. FindsReturn t m n y.frame) z
         (argument_found setting (FuncletBody k) f.body (ap funclet_body l.there) m h some
         (base ++ done) (left ++ (storing ∷ []))
-        (all_parts ∙ ap (λ (xs : List Instr). (base ++ xs) ++ (storing ∷ [])) split ∙ assoc base done left (storing ∷ [])))
+        (all_parts ∙ ap (λ (xs : List Instr). (base ++ xs) ++ (storing ∷ [])) split
+            ∙ assoc base done left (storing ∷ [])))
       where
         assoc : (a b c d : List Instr) → (a ++ (b ++ c)) ++ d ≡ (a ++ b) ++ (c ++ d)
-        assoc a b c d = ap (λ (xs : List Instr). xs ++ d) (sym (append_assoc a b c)) ∙ append_assoc (a ++ b) c d
+        assoc a b c d = ap (λ (xs : List Instr). xs ++ d) (sym (append_assoc a b c))
+            ∙ append_assoc (a ++ b) c d
 
     middle : MidRan t fs program p q top1 (top1 + 8) b1.body.back others1 list1 y1 x mid
     middle =
         let place : begin + sizes base ≡ y1.cpu.rip = sym kept_base.rip in
-        let code = (code_split y1.memory (begin + sizes base) mid [] (subst (HasCode y1.memory (begin + sizes base)) (sym (append-nil mid)) (code_split y1.memory begin base mid (codes y1.memory kept_base.has).0).1)).0 in
+        let code = (code_split y1.memory (begin + sizes base) mid []
+            (subst (HasCode y1.memory (begin + sizes base)) (sym (append-nil mid))
+            (code_split y1.memory begin base mid (codes y1.memory kept_base.has).0).1)).0 in
         let small = l.plan.layout.small in
         let kept = l.plan.layout.kept in
         let at = l.plan.layout.temporaries in
-        ran t fs program p q top1 (top1 + 8) b1.body.back others1 list1 mid y1 x y.frame 8 (run_3.0, run_3.1, (x, run_2.1, refl))
-        ((refl, inl refl), ((near slot (omega arith), inl refl), tt)) (subst (λ n. HasCode y1.memory n mid) place code) kept_base.has beneath_1 refl refl finds
+        ran t fs program p q top1 (top1 + 8) b1.body.back others1 list1 mid y1 x y.frame 8
+            (run_3.0, run_3.1, (x, run_2.1, refl))
+        ((refl, inl refl), ((near slot (omega arith), inl refl), tt))
+            (subst (λ n. HasCode y1.memory n mid) place code) kept_base.has beneath_1 refl refl
+            finds
 
     -- the store leads to another memory, in which the same list is
     others_there : others_of u.cpu.registers ≡ others1
@@ -406,19 +405,27 @@ module _ (setting : Setting) where
 
     storing_keeps : KeepsShadow t fs x u
     storing_keeps =
-        let here' : begin + sizes (base ++ mid) ≡ x.cpu.rip = omega (arith, middle.rip, kept_base.rip, sizes_append base mid) in
-        let code = subst (λ n. HasCode x.memory n (storing ∷ [])) here' (codes x.memory middle.has).1 in
+        let here' : begin + sizes (base ++ mid) ≡ x.cpu.rip =
+            omega (arith, middle.rip, kept_base.rip, sizes_append base mid) in
+        let code = subst (λ n. HasCode x.memory n (storing ∷ [])) here'
+            (codes x.memory middle.has).1 in
         let z = room_here setting s1 c1 b1 counted in
         let near_local = z.locals in
         let fitting = flag_fits in
         let enc : is_encodable storing ≡ true = near (local_at y flag) (omega arith) in
-        let found_x = subst (λ n. FindsReturn t x.memory n y.frame) (sym middle.rip) (finds mid [] (sym (append-nil mid)) x.memory middle.has) in
-        let has_u = program_kept t fs program p q x.memory u.memory (record { protection = last_step.protection; fixed = last_step.fixed }) middle.has in
-        let found_u = subst (λ n. FindsReturn t u.memory n y.frame) (sym rip_here) (first_found u.memory has_u) in
+        let found_x = subst (λ n. FindsReturn t x.memory n y.frame) (sym middle.rip)
+            (finds mid [] (sym (append-nil mid)) x.memory middle.has) in
+        let has_u = program_kept t fs program p q x.memory u.memory
+            (record { protection = last_step.protection; fixed = last_step.fixed }) middle.has in
+        let found_u = subst (λ n. FindsReturn t u.memory n y.frame) (sym rip_here)
+            (first_found u.memory has_u) in
         let at_x = middle.stack in
-        let up : register u.cpu Rsp + y.frame ≡ top1 = ap (λ (xs : List ℕ). slice_index xs 1 + y.frame) r.rest in
-        straight t fs x u (callers_above t top1 b1.body.back others1 list1) last_step.steps (ap is_call (read_here x u storing [] enc code))
-        (gives_here t fs top1 (top1 + 8) b1.body.back others1 list1 x y.frame middle.beneath found_x (ap (λ n. n + y.frame) at_x))
+        let up : register u.cpu Rsp + y.frame ≡ top1 =
+            ap (λ (xs : List ℕ). slice_index xs 1 + y.frame) r.rest in
+        straight t fs x u (callers_above t top1 b1.body.back others1 list1) last_step.steps
+            (ap is_call (read_here x u storing [] enc code))
+        (gives_here t fs top1 (top1 + 8) b1.body.back others1 list1 x y.frame middle.beneath found_x
+            (ap (λ n. n + y.frame) at_x))
         (gives_here t fs top1 (top1 + 8) b1.body.back others1 list1 u y.frame beneath_u found_u up)
         (let h : register u.cpu Rsp + 8 ≤ top1 + 8 = omega arith in h)
       where
@@ -432,8 +439,12 @@ module _ (setting : Setting) where
 
     keeps_shadow : AllKeep t fs (e.turns + length last) s
     keeps_shadow =
-        let three = keeps_split t fs 2 1 y1 x (run_3.0, run_3.1, (x, run_2.1, refl)) middle.keeps (keep_first t fs 0 x u last_step.steps storing_keeps tt) in
-        keeps_split t fs e.turns (length last) s y1 (enters_steps e.turns s y1 e.comes) kept_base.keeps (subst (λ n. AllKeep t fs n y1) (sym (ap (λ (xs : List Instr). length xs) last_is)) three)
+        let three = keeps_split t fs 2 1 y1 x (run_3.0, run_3.1, (x, run_2.1, refl)) middle.keeps
+            (keep_first t fs 0 x u last_step.steps storing_keeps tt) in
+        keeps_split t fs e.turns (length last) s y1
+            (enters_steps e.turns s y1 e.comes) kept_base.keeps
+            (subst (λ n. AllKeep t fs n y1) (sym (ap (λ (xs : List Instr). length xs) last_is))
+            three)
 
     pub block_leads : LeadsTo t fs entry_turns (RepresentsAt setting) s
         (block_begins k flag activation held abnormal items store events)

@@ -22,6 +22,7 @@ pub mod DispatchSpace
 pub mod FuncletFirstTurns
 pub mod FuncletShadow
 pub mod FilterEntry
+pub mod FinallyFlag
 pub mod FinallyEntry
 pub mod FinallyUnwindEntry
 pub mod BodyReturn
