@@ -2,20 +2,8 @@
 use Rattle.std.proofs.Common.{◌≡◌, ℕ, zero, suc, ◌+◌, ◌*◌, ◌<◌, ◌≤◌, List, [], ◌∷◌, length, get_or, take, drop, Option, Some, None, refl, arith, length-append}
 use Rattle.std.specs.List.{AllByRecursion}
 use Rattle.eh_tables.specs.declared.range.RuntimeFunction.{RuntimeFunction}
-use Rattle.pe_image.specs.Numbers.{u32}
-use Rattle.eh_tables.specs.Written.{table_bytes}
-use Rattle.frame_layout.specs.declared.frame.FrameLayout.{FrameLayout}
-use Rattle.template_code.specs.Bytes.{spelled, size, sizes}
-use Rattle.template_code.specs.Template.{code_from}
-use Rattle.template_code.proofs.Sizes.{sizes_append, sizes_spelled, body_sizes}
-use Rattle.x64_encode.specs.Chosen.{modrm}
-use Rattle.x64_emit.specs.Near.{AreNear, IsNear}
-use Rattle.x64_emit.specs.Linking.{links_of}
-use Rattle.image_link.specs.Routines.{RoutineView}
-use Rattle.image_link.specs.Near.{IsRoutineNear}
-use Rattle.image_link.specs.Text.{SiteView, room, routine_size, entry_code, entry_size, bounds, front_code, addresses, check_stack_at, routine_code, routine_bytes, routines_bytes, text_bytes}
-use Rattle.image_link.specs.Tables.{info_bytes, infos_room, infos, range_if, range_of, ranges}
-use Rattle.image_link.specs.Linked.{total}
+use Rattle.image_link.specs.Words.{u32, table_bytes, FrameLayout, spelled, size, sizes, code_from, modrm, AreNear, IsNear, links_of, RoutineView, IsRoutineNear, SiteView, room, routine_size, entry_code, entry_size, bounds, front_code, addresses, check_stack_at, routine_code, routine_bytes, routines_bytes, text_bytes, info_bytes, infos_room, infos, range_if, range_of, ranges, total}
+use Rattle.image_link.proofs.Lemmas.{sizes_append, sizes_spelled, body_sizes}
 use Rattle.image_link.proofs.Entries.{entry_sizes, routine_small}
 use Rattle.image_link.proofs.Infos.{info_small}
 

@@ -1,37 +1,20 @@
 -- How many bytes come before a body, and where its instructions are.
 use Rattle.std.proofs.Common.{◌≡◌, ℕ, zero, suc, ◌+◌, ◌*◌, ◌<◌, ◌≤◌, Bool, true, false, cond, ltb, leb, List, [], ◌∷◌, ◌++◌, length, get_or, drop, drop-cons, Option, Some, None, refl, sym, ap, ◌∙◌, arith, append_assoc, length-append}
 use Rattle.std.specs.List.{AllByRecursion}
-use Rattle.seh_num.specs.declared.width.Width.TheVariants.{W32}
+use Rattle.image_link.specs.Words.{W32, Local, Instruction, FrameLayout, plan_of, Layout, spelled, size, sizes, template_size, AreNear, IsInstructionNear, IsNear, keep_base, code_room, LinearFunction, W8, W64, is_signed, modrm, opcode_register, RoutineView, function_frame, framed, IsFrameNear, IsEntryNear, IsRoutineNear, SiteView, routine_bytes, routines_bytes, room, routine_room, routine_size, bounds, frame_code, base_of, argument_code, entry_code, entry_size}
 use Rattle.x64_instr.specs.declared.register.Reg.TheVariants.{Rax, Rcx, Rsp}
-use Rattle.linear_code.specs.declared.slot.Slot.TheVariants.{Local}
-use Rattle.linear_code.specs.declared.instruction.Instruction.{Instruction}
 use Rattle.frame_rules.specs.Plan.{allocating}
 use Rattle.frame_rules.specs.Bytes.{prologue_code}
-use Rattle.frame_layout.specs.declared.frame.FrameLayout.{FrameLayout}
-use Rattle.frame_layout.specs.Layout.{plan_of}
 use Rattle.frame_layout.proofs.Sizes.{code_is}
-use Rattle.template_code.specs.declared.layout.Layout.{Layout}
-use Rattle.template_code.specs.Bytes.{spelled, size, sizes}
 use Rattle.template_code.specs.Operations.{move}
 use Rattle.template_code.specs.Slots.{fetched, keep, local_at}
 use Rattle.template_code.specs.Jumps.{distance}
 use Rattle.template_code.specs.Calls.{keep_register, parameter_register, stack_parameter, parameter_code, parameters_code}
-use Rattle.template_code.specs.Template.{template_size}
-use Rattle.template_code.proofs.Sizes.{sizes_append, sizes_spelled}
+use Rattle.image_link.proofs.Lemmas.{sizes_append, sizes_spelled, instruction_in_room, code_in_room}
 use Rattle.template_code.proofs.Lengths.{sizes_small, keep_length}
-use Rattle.x64_emit.specs.Near.{AreNear, IsInstructionNear, IsNear}
 use Rattle.x64_emit.specs.Bodies.{label_list}
-use Rattle.x64_emit.specs.Entries.{keep_base}
-use Rattle.x64_emit.specs.Rooms.{code_room}
-use Rattle.x64_emit.proofs.Nearby.{instruction_in_room, code_in_room}
 use Rattle.image_link.specs.declared.routine.Entry.{Entry}
 use Rattle.image_link.specs.declared.routine.Entry.TheVariants as entries
-use Rattle.linear_code.specs.Program.{LinearFunction}
-use Rattle.seh_num.specs.declared.width.Width.TheVariants.{W8, W64}
-use Rattle.x64_encode.specs.Chosen.{is_signed, modrm, opcode_register}
-use Rattle.image_link.specs.Routines.{RoutineView, function_frame, framed}
-use Rattle.image_link.specs.Near.{IsFrameNear, IsEntryNear, IsRoutineNear}
-use Rattle.image_link.specs.Text.{SiteView, routine_bytes, routines_bytes, room, routine_room, routine_size, bounds, frame_code, base_of, argument_code, entry_code, entry_size}
 
 -- ---- frames
 

@@ -2,11 +2,8 @@
 use Rattle.std.proofs.Common.{◌≡◌, ℕ, ◌<◌, List, length, get_or, map, sym, ap, subst, ◌∙◌, arith}
 use Rattle.std.specs.List.{AllByRecursion}
 use Rattle.std.proofs.lemmas.List.{get_or-map, length-map}
-use Rattle.linear_code.specs.declared.program.IrFunction.{IrFunction}
-use Rattle.linear_code.specs.declared.program.IrFunclet.{IrFunclet}
-use Rattle.linear_code.specs.Program.{LinearProgram, linear_function, linear_funclet}
-use Rattle.image_link.specs.Fits.{FitsFunction, FitsFunclet}
-use Rattle.x64_emit.proofs.Nearby.{all_at}
+use Rattle.image_link.specs.Words.{IrFunction, IrFunclet, LinearProgram, linear_function, linear_funclet, FitsFunction, FitsFunclet}
+use Rattle.image_link.proofs.Lemmas.{all_at}
 
 -- the function of an index
 pub function_fits : (fs : List IrFunction) (i : ℕ) (f : IrFunction)

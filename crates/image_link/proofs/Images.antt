@@ -3,18 +3,10 @@ use Rattle.std.proofs.Common.{◌≡◌, ℕ, zero, suc, ◌+◌, ◌-◌, ◌*�
 use Rattle.std.specs.Prelude.{◌&&◌, IfOk}
 use Rattle.std.specs.List.{AllByRecursion}
 use Rattle.std.proofs.lemmas.Bool.{eq-eqb}
-use Rattle.linear_code.specs.Program.{LinearBody, LinearFunction, LinearFunclet, LinearProgram}
-use Rattle.x64_emit.proofs.Nearby.{code_in_room}
-use Rattle.pe_write.specs.Program.{CanBeImage}
+use Rattle.image_link.specs.Words.{LinearBody, LinearFunction, LinearFunclet, LinearProgram, CanBeImage, RoutineView, is_leaf, framed, leaf_if, functions_from, funclet, routines, IsRoutineNear, IsSiteNear, HasRoom, HasPlaces, table_bytes, SiteView, room, routine_size, bounds, first_routine_at, text_bytes, infos_room, infos, ranges, first, total, text_size, xdata_begin, IsPlacement, site, image_of, FitsProgram, tables_room, function_bodies, funclet_bodies, program_tables_room}
+use Rattle.image_link.proofs.Lemmas.{code_in_room}
 use Rattle.image_link.specs.declared.placement.Placement.{Placement}
 use Rattle.image_link.specs.declared.routine.Entry.TheVariants as entries
-use Rattle.image_link.specs.Routines.{RoutineView, is_leaf, framed, leaf_if, functions_from, funclet, routines}
-use Rattle.image_link.specs.Near.{IsRoutineNear, IsSiteNear, HasRoom, HasPlaces}
-use Rattle.eh_tables.specs.Written.{table_bytes}
-use Rattle.image_link.specs.Text.{SiteView, room, routine_size, bounds, first_routine_at, text_bytes}
-use Rattle.image_link.specs.Tables.{infos_room, infos, ranges}
-use Rattle.image_link.specs.Linked.{first, total, text_size, xdata_begin, IsPlacement, site, image_of}
-use Rattle.image_link.specs.Fits.{FitsProgram, tables_room, function_bodies, funclet_bodies, program_tables_room}
 use Rattle.image_link.specs.Laws.{ImagesAreSmall}
 use Rattle.image_link.proofs.Entries.{entry_small, framed_some}
 use Rattle.image_link.proofs.Nearness.{routines_near, routines_room}

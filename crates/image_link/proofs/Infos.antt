@@ -5,15 +5,9 @@ use Rattle.std.specs.List.{flat_map}
 use Rattle.std.proofs.lemmas.List.{length-map}
 use Rattle.eh_tables.specs.declared.scope.ScopeRecord.{ScopeRecord}
 use Rattle.eh_tables.specs.declared.unwind_info.Trailer.{Trailer}
-use Rattle.pe_image.specs.Numbers.{u16, u32}
-use Rattle.eh_tables.specs.Written.{slot, is_small, is_short, allocation, header, padded, unwind_bytes, trailer_bytes, scope_record_bytes}
+use Rattle.image_link.specs.Words.{u16, u32, slot, is_small, is_short, allocation, header, padded, unwind_bytes, trailer_bytes, scope_record_bytes, FrameLayout, info_of, taking_size, RoutineView, SiteView, routine_size, own_addresses, thunk_at, trailer, scope_record, scope_records, scope_table, info_if, info_bytes, info_room, infos_room, infos, range_of, ranges}
 use Rattle.linear_code.specs.declared.program.Region.{Region}
-use Rattle.frame_layout.specs.declared.frame.FrameLayout.{FrameLayout}
-use Rattle.frame_layout.specs.Layout.{info_of, taking_size}
 use Rattle.host_layout.specs.declared.imported.ImportedService.TheVariants.{CSpecificHandler}
-use Rattle.image_link.specs.Routines.{RoutineView}
-use Rattle.image_link.specs.Text.{SiteView, routine_size, own_addresses, thunk_at}
-use Rattle.image_link.specs.Tables.{trailer, scope_record, scope_records, scope_table, info_if, info_bytes, info_room, infos_room, infos, range_of, ranges}
 
 -- ---- sizes
 

@@ -1,3 +1,4 @@
+mod Lemmas
 pub mod Fitting
 pub mod Entries
 pub mod Infos

@@ -3,21 +3,13 @@ use Rattle.std.proofs.Common.{◌≡◌, ℕ, suc, ◌+◌, ◌<◌, ◌≤◌, 
 use Rattle.std.specs.Prelude.{◌&&◌}
 use Rattle.std.specs.List.{AllByRecursion}
 use Rattle.linear_code.specs.declared.slot.Slot.{Slot}
-use Rattle.linear_code.specs.declared.slot.Slot.TheVariants.{Local, Temporary}
-use Rattle.linear_code.specs.declared.instruction.Instruction.{Instruction}
+use Rattle.image_link.specs.Words.{Local, Temporary, Instruction, LinearBody, LinearFunction, LinearFunclet, LinearProgram, Layout, IsBaseNear, IsSlotNear, IsInstructionNear, IsParentNear, code_room, RoutineView, is_leaf, function_frame, leaf_layout, function_layout, leaf, framed, leaf_if, functions_from, funclet_frame, nothing, body_of_function, body_of_funclet, kept_by, HasParent, entry_of, funclet_layout, funclet, routines, IsEntryNear, IsRoutineNear, FitsSlot, FitsInstruction, FitsBody, FitsFunction, FitsKind, FitsFunclet, function_bodies, funclet_bodies, text_room, FitsProgram}
 use Rattle.linear_code.specs.declared.instruction.Instruction.TheVariants as instructions
 use Rattle.linear_code.specs.declared.program.FuncletKind.{FuncletKind}
 use Rattle.linear_code.specs.declared.program.FuncletKind.TheVariants.{Filter, Finally}
-use Rattle.linear_code.specs.Program.{LinearBody, LinearFunction, LinearFunclet, LinearProgram}
-use Rattle.template_code.specs.declared.layout.Layout.{Layout}
-use Rattle.x64_emit.specs.Near.{IsBaseNear, IsSlotNear, IsInstructionNear}
-use Rattle.x64_emit.specs.Entries.{IsParentNear}
-use Rattle.x64_emit.specs.Rooms.{code_room}
-use Rattle.x64_emit.proofs.Nearby.{all_at}
-use Rattle.image_link.specs.Routines.{RoutineView, is_leaf, function_frame, leaf_layout, function_layout, leaf, framed, leaf_if, functions_from, funclet_frame, nothing, body_of_function, body_of_funclet, kept_by, HasParent, entry_of, funclet_layout, funclet, routines}
-use Rattle.image_link.specs.Near.{IsEntryNear, IsRoutineNear}
+use Rattle.image_link.proofs.Lemmas.{all_at}
 use Rattle.image_link.specs.Text as texts
-use Rattle.image_link.specs.Fits.{FitsSlot, FitsInstruction, FitsBody, FitsFunction, FitsKind, FitsFunclet, room, function_bodies, funclet_bodies, text_room, FitsProgram}
+use Rattle.image_link.specs.Fits.{room}
 
 -- a layout all of whose parts are within 16,384 bytes
 record IsLow (y : Layout) : Type 0 where

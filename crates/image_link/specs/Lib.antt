@@ -5,3 +5,4 @@ pub mod Linked
 pub mod Near
 pub mod Fits
 pub mod Laws
+pub mod Words

@@ -3,15 +3,11 @@ use Rattle.std.proofs.Common.{◌≡◌, ℕ, ◌+◌, ◌-◌, Bool, true, fals
 use Rattle.std.specs.Prelude.{◌⊎◌, nat_lt, replicate, if◌then◌else◌}
 use Rattle.std.proofs.lemmas.Bool.{eq-eqb}
 use Rattle.std.proofs.lemmas.List.{append-nil}
-use Rattle.image_runs.specs.Words.{State, Functions, Funclet, Instruction, LinearProgram, LinearFunction, Waits, Configuration, Seen, Running, Finished, Next, act, instruction_at, ImagePlan, Moves, Fails, IsMatched, AgreeOnSet, StepsAgree, Sites, turns_left, turns_per_step, RepresentsWhereSet}
+use Rattle.image_runs.specs.Words.{State, Functions, Funclet, Instruction, LinearProgram, LinearFunction, Waits, Configuration, Seen, Running, Finished, Next, act, instruction_at, ImagePlan, Moves, Fails, IsMatched, AgreeOnSet, StepsAgree, Sites, turns_left, turns_per_step, RepresentsWhereSet, pick, last_temporaries, begin_function, waiting, called_with, CallBegins}
 use Rattle.source_meaning.specs.declared.ended.Ended.TheVariants.{Deep}
 use Rattle.linear_code.specs.declared.instruction.Instruction.TheVariants as instructions
-use Rattle.linear_machine.specs.Frames.{pick, last_temporaries}
-use Rattle.linear_machine.specs.Instructions.{begin_function, waiting}
 use Rattle.lowering_invariants.proofs.Same.{alike_is_same}
-use Rattle.lowering_locals.specs.UnsetLaws.{called_with}
-use Rattle.lowering_locals.proofs.AgreementSteps.{agreement_at_call}
-use Rattle.match_turns.specs.CallOutcome.{CallBegins}
+use Rattle.image_runs.proofs.Lemmas.{agreement_at_call}
 use Rattle.match_turns.proofs.CallActs.{call_acts}
 use Rattle.image_runs.proofs.AgreementSteps.{same_left, carried}
 

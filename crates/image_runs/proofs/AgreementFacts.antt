@@ -1,18 +1,16 @@
 -- What is known of the actual configuration.
 use Rattle.std.proofs.Common.{◌≡◌, ℕ, List, Some, subst}
-use Rattle.image_runs.specs.Words.{Program, IsSound, Instruction, LinearProgram, Configuration, instruction_at, lowered, IsReady, CanContinue, Marks, AreAlike, ReadsNoUnset, AgreeOnSet, IsKnown, KnownNext}
+use Rattle.image_runs.specs.Words.{Program, IsSound, Instruction, LinearProgram, Configuration, instruction_at, lowered, IsReady, CanContinue, Marks, AreAlike, ReadsNoUnset, AgreeOnSet, IsKnown, KnownNext, AgreeingAreKnown}
 use Rattle.linear_code.specs.declared.instruction.Instruction.TheVariants as instructions
 use Rattle.lowering_invariants.specs.Turns.{IsReached}
 use Rattle.lowering_invariants.specs.Waiting.{IsStacked}
 use Rattle.lowering_invariants.specs.Depths.{HasDepths}
-use Rattle.lowering_invariants.proofs.Ready.{continues}
+use Rattle.image_runs.proofs.Lemmas.{continues, agreeing_are_small, agreement_continues}
 use Rattle.lowering_invariants.proofs.Reached.{is_stacked, has_depths}
 use Rattle.lowering_invariants.proofs.Reached as reached
 use Rattle.lowering_locals.proofs.Alike.{is_over, marked_is_reached}
 use Rattle.lowering_locals.proofs.TurnPairs.{over}
 use Rattle.lowering_locals.proofs.AlikeFacts.{has_activations}
-use Rattle.lowering_locals.proofs.AgreementSteps.{agreeing_are_small, agreement_continues}
-use Rattle.image_runs.specs.RunLaws.{AgreeingAreKnown}
 
 module _ (program : LinearProgram) where
   -- what speaks of frames, and of what waits, alone

@@ -1,12 +1,9 @@
 -- The machine keeps representing where linear code is, in all locals that have been set.
 use Rattle.std.proofs.Common.{◌≡◌, ℕ, zero, ◌+◌, length, Some, refl, inl, inr, sym, ap, subst, ◌∙◌}
 use Rattle.std.specs.Prelude.{List}
-use Rattle.image_runs.specs.Words.{State, Functions, Funclet, Program, IsSound, Slot, Instruction, LinearProgram, BodyName, FunctionBody, Frame, Configuration, body_of, act, instruction_in, instruction_at, exec, ImagePlan, lowered, HasRule, IsMatched, IsReady, CanContinue, ReadsNoUnset, AgreeOnSet, StepsAgree, Sites, turns_left, RepresentsAt, IsKnown, KnownNext, turns_per_step, Represents, IsSoundImage, RepresentsWhereSet}
+use Rattle.image_runs.specs.Words.{State, Functions, Funclet, Program, IsSound, Slot, Instruction, LinearProgram, BodyName, FunctionBody, Frame, Configuration, body_of, act, instruction_in, instruction_at, exec, ImagePlan, lowered, HasRule, IsMatched, IsReady, CanContinue, ReadsNoUnset, AgreeOnSet, StepsAgree, Sites, turns_left, RepresentsAt, IsKnown, KnownNext, turns_per_step, Represents, IsSoundImage, RepresentsWhereSet, FuncletBody, StepIsMatched, IsWithinBody, AgreementSimulates}
 use Rattle.linear_code.specs.declared.instruction.Instruction.TheVariants as instructions
-use Rattle.linear_machine.specs.Frames.{FuncletBody}
-use Rattle.match_runs.specs.Matched.{StepIsMatched}
-use Rattle.lowering_locals.proofs.AgreementSteps.{agreement_continues}
-use Rattle.match_bodies.specs.StepLaws.{IsWithinBody}
+use Rattle.image_runs.proofs.Lemmas.{agreement_continues}
 use Rattle.match_bodies.proofs.BodySteps.{within_body}
 use Rattle.match_turns.proofs.CallSteps.{returns_are_matched, calls_begin}
 use Rattle.match_turns.proofs.FuncletReturnSteps.{funclet_returns_are_matched}
@@ -20,7 +17,6 @@ use Rattle.match_turns.proofs.BodyContinuation.{bodies_continue}
 use Rattle.c_operations.specs.declared.built_in.BuiltIn.{BuiltIn}
 use Rattle.c_operations.specs.declared.built_in.BuiltIn.TheVariants.{Put, Protect, RaiseException}
 use Rattle.image_runs.specs.StepMatches.{StepMatches}
-use Rattle.image_runs.specs.RunLaws.{AgreementSimulates}
 use Rattle.image_runs.proofs.AgreementFacts.{known, known_next}
 use Rattle.image_runs.proofs.AgreementSteps.{carried}
 use Rattle.image_runs.proofs.AgreementCalls.{called}

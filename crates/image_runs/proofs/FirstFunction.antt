@@ -3,28 +3,19 @@ use Rattle.std.proofs.Common.{◌≡◌, ℕ, ◌+◌, ◌-◌, ◌*◌, ◌^◌
 use Rattle.std.specs.Prelude.{slice_get}
 use Rattle.std.proofs.lemmas.List.{append-nil}
 use Rattle.std.proofs.lemmas.Option.{slice_get_within}
-use Rattle.image_runs.specs.Words.{STACK_START, STACK_END, Memory, number_at, Protection, Rsp, State, register, word, Functions, distance, Funclet, LinearProgram, LinearBody, LinearFunction, FunctionBody, body_of, Layout, Instr, parameters_code, machine, context_below, ImagePlan, IsWellFormed, Sites, arguments_code, IsLayoutIf, IsMachineMemory, IsProgramImage, slots_end, RepresentsAt, LARGEST_FRAME}
-use Rattle.host_model.specs.Funclets.{arrivals}
-use Rattle.x64_templates.proofs.PlacedCode.{same_number}
-use Rattle.match_stack.specs.ItemMatches.{home_end, HoldsWords}
+use Rattle.image_runs.specs.Words.{STACK_START, STACK_END, Memory, number_at, Protection, Rsp, State, register, word, Functions, distance, Funclet, LinearProgram, LinearBody, LinearFunction, FunctionBody, body_of, Layout, Instr, parameters_code, context_below, ImagePlan, IsWellFormed, Sites, arguments_code, IsLayoutIf, IsMachineMemory, IsProgramImage, slots_end, RepresentsAt, LARGEST_FRAME, arrivals, home_end, HoldsWords, AllKeep, Comes, function_arguments, begun}
+use Rattle.x64_templates.specs.Straight.{machine}
+use Rattle.image_runs.proofs.Lemmas.{same_number, Keeps, enters_keeps, stays_well_formed, stack_is_reserved, word_is, may_read_written, word_of, words_at, words_count, words_small, arguments_then_words}
 use Rattle.match_stack.specs.StackRecords.{On}
-use Rattle.match_runs.specs.Shadow.{AllKeep}
-use Rattle.match_runs.specs.Comes.{Comes}
 use Rattle.lowering_invariants.specs.SmallNumbers.{AreSmall}
-use Rattle.match_bodies.specs.CodeSites.{function_arguments}
 use Rattle.match_bodies.proofs.SilentTurns.{enters_silently}
 use Rattle.match_bodies.proofs.InstructionEffects.{others_of}
 use Rattle.match_bodies.proofs.RoutineWalks.{enters_steps, Beneath, AllPlain}
 use Rattle.match_bodies.proofs.EntryKeeping.{parameters_plain, entry_ran}
 use Rattle.match_bodies.proofs.ProgramKeeping.{KeepsImage}
 use Rattle.match_bodies.proofs.MemoryKeeping.{memory_stays}
-use Rattle.match_bodies.proofs.ChainKeeping.{Keeps, enters_keeps, stays_well_formed}
-use Rattle.match_bodies.proofs.SlotPlaces.{stack_is_reserved}
 use Rattle.match_bodies.proofs.BodyViews.{is_machine}
-use Rattle.match_bodies.proofs.StackWords.{word_is, may_read_written, word_of}
-use Rattle.match_turns.specs.CallOutcome.{begun}
 use Rattle.match_turns.proofs.FunctionFrame.{function_begins}
-use Rattle.match_turns.proofs.FunctionLocals.{words_at, words_count, words_small, arguments_then_words}
 use Rattle.image_runs.proofs.FunctionEntry.{IsCalled}
 use Rattle.image_runs.proofs.FunctionEntry as entering
 use Rattle.image_runs.proofs.FrameEntries as entries

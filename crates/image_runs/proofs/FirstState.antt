@@ -1,20 +1,12 @@
 -- The first state of a compiled program's image.
 use Rattle.std.proofs.Common.{◌≡◌, ℕ, zero, suc, ◌+◌, ◌^◌, ◌<◌, ◌≤◌, Ok, List, length, refl, ap, ◌∙◌, arith}
 use Rattle.std.proofs.lemmas.List.{get_or-take}
-use Rattle.image_runs.specs.Words.{Memory, number_at, word, first_cpu, start, image_of, LinearProgram, text_begin, linked, functions_of, funclets_of, plan_of, sites_of, HasWholeImage, first_stack}
-use Rattle.flat_memory.specs.Memory.{next}
-use Rattle.host_model.specs.Loading.{mapped}
-use Rattle.pe_write.specs.Program.{ImageContents, sizes_of, text_at}
-use Rattle.image_link.specs.Routines.{RoutineView, routines}
-use Rattle.image_link.specs.Text.{bounds}
-use Rattle.image_link.specs.Linked.{first}
+use Rattle.image_runs.specs.Words.{Memory, number_at, word, first_cpu, image_of, LinearProgram, text_begin, linked, functions_of, funclets_of, plan_of, sites_of, HasWholeImage, first_stack, next, mapped, ImageContents, sizes_of, text_at, RoutineView, routines, bounds, first}
+use Rattle.host_model.specs.Loading.{start}
 use Rattle.image_link.proofs.Bounds.{bounds_least}
-use Rattle.image_tables.proofs.Table.{is}
+use Rattle.image_runs.proofs.Lemmas.{is, images_are_programs, images_start, may_read_written, word_of}
 use Rattle.image_tables.proofs.Shape.{as_long}
-use Rattle.image_states.proofs.Images.{images_are_programs}
 use Rattle.image_states.proofs.Data.{stack_writes, stack_zero}
-use Rattle.image_states.proofs.Starting.{images_start}
-use Rattle.match_bodies.proofs.StackWords.{may_read_written, word_of}
 use Rattle.image_runs.proofs.MainStart.{main_is_begun}
 use Rattle.image_runs.specs.FirstLaws.{FirstStatesStart, MainsBegin}
 

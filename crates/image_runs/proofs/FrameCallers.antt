@@ -1,6 +1,6 @@
 -- The frames of every program that can be linked, for checked programs.
 use Rattle.image_runs.specs.Words.{lowered}
-use Rattle.image_tables.proofs.RegionRanges.{lowered_has_regions}
+use Rattle.image_runs.proofs.Lemmas.{lowered_has_regions}
 use Rattle.image_tables.specs.FrameLaws.{IsFramed}
 use Rattle.image_tables.proofs.Callers.{frames_are_found, leaves_are_found', thunks_are_found, probes_are_found}
 use Rattle.image_runs.specs.FrameCallers.{LoweredFindsCallers}

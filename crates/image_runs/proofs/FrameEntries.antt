@@ -2,16 +2,10 @@
 use Rattle.std.proofs.Common.{◌≡◌, ℕ, ◌+◌, ◌-◌, ◌<◌, ◌≤◌, Bool, true, false, Some, List, length, refl, sym, ap, subst, ◌∙◌, arith, inl, inr, length-drop}
 use Rattle.std.specs.Prelude.{nat_le, if◌then◌else◌}
 use Rattle.std.proofs.lemmas.Bool.{cases_lt, le-leb}
-use Rattle.image_runs.specs.Words.{STACK_START, STACK_END, Memory, Instr, State, Functions, Funclet, LinearProgram, LinearBody, LinearFunction, FunctionBody, body_of, Layout, sizes, parameters_code, MachineView, HasCode, ImagePlan, Sites, IsLayoutIf, IsProgramImage, seen_by_templates}
-use Rattle.template_code.specs.Calls.{enter_code}
+use Rattle.image_runs.specs.Words.{STACK_START, STACK_END, Memory, Instr, State, Functions, Funclet, LinearProgram, LinearBody, LinearFunction, FunctionBody, body_of, Layout, sizes, parameters_code, MachineView, HasCode, ImagePlan, Sites, IsLayoutIf, IsProgramImage, seen_by_templates, enter_code, making, IsFunctionLayout, IsLeafLayout}
 use Rattle.template_code.specs.Probing.{enter_large}
-use Rattle.match_bodies.specs.CodeSites.{making}
-use Rattle.match_bodies.proofs.FrameMaking.{making_steps}
-use Rattle.match_bodies.specs.Layouts.{IsFunctionLayout, IsLeafLayout}
-use Rattle.match_bodies.proofs.StackWords.{may_read_written}
-use Rattle.match_turns.proofs.FunctionParameters.{with_home, home_parameters}
+use Rattle.image_runs.proofs.Lemmas.{making_steps, may_read_written, with_home, home_parameters, Made, no_frame, small_frame, large_frame}
 use Rattle.match_turns.proofs.FunctionEntryCode.{making_frame, HasEntry, has_entry}
-use Rattle.match_turns.proofs.FunctionPrologue.{Made, no_frame, small_frame, large_frame}
 use Rattle.image_runs.proofs.FunctionEntry as entering
 use Rattle.image_runs.proofs.FunctionEntry.{IsCalled}
 

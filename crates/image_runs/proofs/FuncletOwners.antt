@@ -2,8 +2,7 @@
 use Rattle.std.proofs.Common.{◌≡◌, ℕ, zero, suc, ◌+◌, ◌-◌, ◌<◌, List, [], ◌∷◌, length, map, None, Some, refl, ap, ◌∙◌, arith, length-append}
 use Rattle.std.specs.List.{AllByRecursion}
 use Rattle.std.specs.Prelude.{slice_get}
-use Rattle.image_runs.specs.Words.{Program, LinearFunction, LinearFunclet, scope_of, lowered}
-use Rattle.c_checked.specs.Program.{Function}
+use Rattle.image_runs.specs.Words.{Program, LinearFunction, LinearFunclet, scope_of, lowered, Function, all_locals, lowered_function, lowered_funclets, all_funclets}
 use Rattle.c_checked.specs.Statement.{Statement, Declare, Block, Evaluate, If, IfElse, For, DoWhile, Return, Break, Continue, Leave, TryExcept, TryFinally, Statements, Empty, Then}
 use Rattle.linear_code.specs.declared.program.RegionKind.TheVariants as kinds
 use Rattle.lowering_sizes.specs.Sizes.{expression_size, discarded_size, condition_size, all_declared_size, statement_size, statements_size, statements_notes}
@@ -11,10 +10,9 @@ use Rattle.seh_ir.specs.declared.funclets.Owner.{Owner}
 use Rattle.lowering_expressions.specs.declared.scope.Names.{Names}
 use Rattle.seh_ir.specs.Regions.{except_kind, region, statement_regions, statements_regions}
 use Rattle.seh_ir.specs.Funclets.{statement_funclets, statements_funclets}
-use Rattle.seh_ir.specs.Lowered.{all_locals, lowered_function, lowered_funclets, all_funclets}
 use Rattle.lowering_follows.proofs.Segments.{IsSegmentAt, whole_is_at}
 use Rattle.seh_ir.proofs.EveryInstruction.{all_append}
-use Rattle.lowering_invariants.proofs.TurnStack.{all_at}
+use Rattle.image_runs.proofs.Lemmas.{all_at}
 use Rattle.seh_ir.proofs.EveryFunclet.{HoldsOfFunclets, funclets_known}
 
 -- ---- the function and the locals of a funclet

@@ -1,13 +1,11 @@
 -- Each funclet of a sound program is named by a region.
 use Rattle.std.proofs.Common.{◌≡◌, ℕ, ◌+◌, ◌-◌, ◌<◌, ◌≤◌, ◌==◌, Bool, true, false, cond, List, [], ◌∷◌, length, refl, ap, arith, inl, inr}
 use Rattle.std.proofs.lemmas.Bool.{and_parts, eqb-true, eq-eqb, cases_eq}
-use Rattle.image_runs.specs.Words.{Program, IsSound, lowered}
-use Rattle.c_checked.specs.Sound.{count_up}
+use Rattle.image_runs.specs.Words.{Program, IsSound, lowered, count_up, IsMember}
 use Rattle.c_checked.specs.Sound as sound
 use Rattle.seh_ir.proofs.FuncletCounts.{functions_count}
 use Rattle.image_tables.specs.RegionRows.{named, regions}
-use Rattle.image_tables.proofs.FuncletNumbers.{sum_of, sum_from_one, sums_agree, counts}
-use Rattle.image_states.specs.Compiled.{IsMember}
+use Rattle.image_runs.proofs.Lemmas.{sum_of, sum_from_one, sums_agree, counts}
 
 abbrev is : ℕ → ℕ → ℕ
 is j k = cond (j == k) 1 0

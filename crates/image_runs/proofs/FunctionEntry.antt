@@ -2,26 +2,14 @@
 -- the parameters go to their locals.
 use Rattle.std.proofs.Common.{◌≡◌, ℕ, ◌+◌, ◌*◌, ◌^◌, ◌<◌, ◌≤◌, true, Some, List, length, sym, ap, subst, ◌∙◌, arith, inl, inr}
 use Rattle.std.specs.Prelude.{◌⊎◌, slice_get, slice_index}
-use Rattle.image_runs.specs.Words.{STACK_START, STACK_END, Memory, number_at, Protection, Rsp, State, register, Functions, Funclet, Local, LinearProgram, LinearBody, LinearFunction, FunctionBody, body_of, function_body, Layout, sizes, spelled, parameters_code, MachineView, machine, InRegisters, HasCode, ImagePlan, Sites, arguments_code, IsMachineMemory, IsProgramImage, seen_by_templates, LARGEST_FRAME}
-use Rattle.flat_memory.specs.Memory.{may_write}
+use Rattle.image_runs.specs.Words.{STACK_START, STACK_END, Memory, number_at, Protection, Rsp, State, register, Functions, Funclet, Local, LinearProgram, LinearBody, LinearFunction, FunctionBody, body_of, function_body, Layout, sizes, spelled, parameters_code, MachineView, InRegisters, HasCode, ImagePlan, Sites, arguments_code, IsMachineMemory, IsProgramImage, seen_by_templates, LARGEST_FRAME, may_write, is_reserved, stack_parameter, with_arguments, OnStack, IsFunctionFrame, body_in_memory, Enters, ReachesBody, counts_of}
+use Rattle.x64_templates.specs.Straight.{machine}
 use Rattle.flat_memory.specs.Protections.{is_writable}
-use Rattle.source_meaning.specs.Source.{is_reserved}
-use Rattle.template_code.specs.Calls.{stack_parameter}
 use Rattle.x64_templates.specs.CallStates.{sp_of, HasBelow}
-use Rattle.x64_templates.specs.EntryStates.{with_arguments, OnStack, IsFunctionFrame, body_in_memory}
 use Rattle.x64_templates.specs.Frames.{InTemporaries, InLocals, IsBytes, Agrees}
-use Rattle.x64_templates.specs.Runs.{Enters, ReachesBody}
-use Rattle.x64_templates.proofs.PlacedCode.{bytes_kept, enters_then}
+use Rattle.image_runs.proofs.Lemmas.{bytes_kept, enters_then, making_steps, stack_is_reserved, index_of, sp_seen, Keeps, enters_keeps, own_frame, IsOwn, roomy_own, fresh_own, parameters_soon, argument_is, Made}
 use Rattle.x64_templates.proofs.Entries.{pushed_agrees, pushed_bytes}
 use Rattle.x64_templates.proofs.Entering.{fresh_holds, parameters_run}
-use Rattle.match_bodies.proofs.FrameMaking.{making_steps}
-use Rattle.match_bodies.specs.BodyViews.{counts_of}
-use Rattle.match_bodies.proofs.SlotPlaces.{stack_is_reserved}
-use Rattle.match_bodies.proofs.TemplateRuns.{index_of, sp_seen}
-use Rattle.match_bodies.proofs.ChainKeeping.{Keeps, enters_keeps}
-use Rattle.match_turns.proofs.FunctionParameters.{own_frame, IsOwn, roomy_own, fresh_own, parameters_soon}
-use Rattle.match_turns.proofs.FunctionLocals.{argument_is}
-use Rattle.match_turns.proofs.FunctionPrologue.{Made}
 
 -- a state at a function's first byte: its arguments are in registers, the return address is at RSP,
 -- and above that is room for a home space

@@ -2,15 +2,11 @@
 use Rattle.std.proofs.Common.{ℕ, ◌<◌, ◌≤◌, List, length, ap, subst, arith}
 use Rattle.std.specs.List.{AllByRecursion}
 use Rattle.std.specs.Prelude.{pos}
-use Rattle.image_runs.specs.Words.{image_of, Program, lowered, linked, HasBytes, IsLinkable, IsImageOf}
-use Rattle.pe_write.specs.Program.{parts_of, CanBeImage}
+use Rattle.image_runs.specs.Words.{image_of, Program, lowered, linked, HasBytes, IsLinkable, IsImageOf, parts_of, CanBeImage, CompiledRealise, CompiledShowNothingMore}
 use Rattle.pe_write.proofs.Back.{written_length}
 use Rattle.pe_write.proofs.Programs.{size_is, can_be_written}
-use Rattle.image_link.proofs.Images.{images_are_small}
-use Rattle.image_tables.proofs.Table.{is}
-use Rattle.image_states.proofs.Starting.{images_load}
+use Rattle.image_runs.proofs.Lemmas.{images_are_small, is, images_load}
 use Rattle.image_runs.proofs.ImageCode.{lowered_is_compiled}
-use Rattle.image_runs.specs.ImageMeaning.{CompiledRealise, CompiledShowNothingMore}
 use Rattle.image_runs.proofs.ImageRuns.{linked_images_show_all, linked_images_show_no_more}
 use Rattle.host_layout.specs.declared.limit.TheConstants.{MOST_IMAGE}
 

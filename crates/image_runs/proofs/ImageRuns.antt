@@ -1,16 +1,16 @@
 -- The run of a linked image is that of the machine on its tables.
 use Rattle.std.proofs.Common.{◌≡◌, ℕ, ◌+◌, ◌*◌, zero, List, [], refl, sym, ap, subst, ◌∙◌}
 use Rattle.std.specs.Prelude.{ℤ, Result, slice_get, get_or, Some}
-use Rattle.image_runs.specs.Words.{image_of, Entry, or_none, start, funclets, host, run, Program, meaning, LinearFunction, LinearProgram, nothing, HasBytes, MainBegins, lowered, ShowsAll, ShowsNoMore, linked, functions_of, funclets_of, plan_of, sites_of, IsLinkable}
+use Rattle.image_runs.specs.Words.{image_of, Entry, funclets, host, run, Program, meaning, LinearFunction, LinearProgram, nothing, HasBytes, MainBegins, lowered, ShowsAll, ShowsNoMore, linked, functions_of, funclets_of, plan_of, sites_of, IsLinkable, machine_of, machine}
+use Rattle.eh_tables.specs.Tables.{or_none}
+use Rattle.host_model.specs.Loading.{start}
 use Rattle.pe_image.specs.declared.refusal.ImageErr.{ImageErr}
 use Rattle.pe_image.specs.Image.{Image}
 use Rattle.pe_image.specs.Reading.{IsImage}
-use Rattle.host_model.specs.Machine.{machine_of, machine}
 use Rattle.linear_machine.specs.Run as code
-use Rattle.lowering_invariants.proofs.Ready.{continues}
+use Rattle.image_runs.proofs.Lemmas.{continues, tables_are_read}
 use Rattle.image_runs.proofs.FirstState.{mains_begin}
 use Rattle.std.proofs.lemmas.Option.{slice_get-get_or}
-use Rattle.image_tables.proofs.Table.{tables_are_read}
 use Rattle.image_runs.proofs.ImageCode.{lowered_is_compiled}
 use Rattle.image_runs.proofs.SoundImages.{lowered_has_image}
 use Rattle.image_runs.specs.ImageRuns.{LinkedImagesShowAll, LinkedImagesShowNoMore}

@@ -1,13 +1,9 @@
 -- Where an instruction begins, a state is within it.
 use Rattle.std.proofs.Common.{◌≡◌, ◌≤◌, Some, List, [], refl, sym, ap, subst, ◌∙◌, arith}
 use Rattle.std.specs.Prelude.{slice_get}
-use Rattle.image_runs.specs.Words.{State, Functions, Funclet, Instruction, LinearProgram, Configuration, instruction_in, instruction_at, sizes, template, IsReturn, ImagePlan, InCode, Sites, links_of, IsProgramImage, RepresentsAt, IsWithinInstruction}
+use Rattle.image_runs.specs.Words.{State, Functions, Funclet, Instruction, LinearProgram, Configuration, instruction_in, instruction_at, sizes, template, IsReturn, ImagePlan, InCode, Sites, links_of, IsProgramImage, RepresentsAt, IsWithinInstruction, BeginningsAreWithin}
 use Rattle.linear_code.specs.declared.instruction.Instruction.TheVariants as instructions
-use Rattle.template_code.proofs.Sizes.{template_sizes}
-use Rattle.match_bodies.proofs.TemplateSizes.{template_some, first_in_code}
-use Rattle.match_bodies.proofs.TemplateRuns.{get_or_is}
-use Rattle.match_turns.proofs.OperationCode.{is_some}
-use Rattle.image_runs.specs.WalkLaws.{BeginningsAreWithin}
+use Rattle.image_runs.proofs.Lemmas.{template_sizes, template_some, first_in_code, get_or_is, is_some}
 
 module _ (t : Functions) (fs : List Funclet) (program : LinearProgram) (p : ImagePlan) (q : Sites)
     (image : IsProgramImage t fs program p q) (s : State) (c : Configuration) (i : Instruction)

@@ -3,16 +3,13 @@
 use Rattle.std.proofs.Common.{◌≡◌, ℕ, ◌+◌, ◌-◌, ◌^◌, ◌<◌, ◌≤◌, false, Some, None, Ok, List, [], ◌∷◌, length, refl, sym, ap, subst, ◌∙◌, arith}
 use Rattle.std.specs.Prelude.{nat_lt, Option}
 use Rattle.std.specs.List.{AllByRecursion}
-use Rattle.image_runs.specs.Words.{STACK_START, Memory, Instr, Context, context_of, State, Entry, rsp, Functions, distance, word, Funclet, LinearProgram, LinearBody, Frame, body_of, Item, Waits, Configuration, StackItem, Framed, Leaf, FrameIsAt, IsStack, ImagePlan, InCode, Activation, BodyWaits, Linked, Sites, HasProgram, IsResumed, IsProgramImage, IsWithinInstruction, WalkGives}
+use Rattle.image_runs.specs.Words.{STACK_START, Memory, Instr, Context, context_of, State, Entry, rsp, Functions, distance, word, Funclet, LinearProgram, LinearBody, Frame, body_of, Item, Waits, Configuration, StackItem, Framed, Leaf, FrameIsAt, IsStack, ImagePlan, InCode, Activation, BodyWaits, Linked, Sites, HasProgram, IsResumed, IsProgramImage, IsWithinInstruction, WalkGives, StackFrame, HasSpace, below_end, WalksGiveTheFramesWithin}
 use Rattle.virtual_unwind.specs.Tail.{tail_at}
 use Rattle.linear_code.specs.declared.program.Region.{Region}
 use Rattle.linear_machine.specs.Regions.{holds, regions_of}
-use Rattle.match_stack.specs.Stack.{StackFrame}
-use Rattle.match_stack.specs.ItemMatches.{HasSpace, below_end}
 use Rattle.match_stack.specs.ListLaws as linked
 use Rattle.match_stack.proofs.ListKeeping.{kept_by_other_memories}
-use Rattle.match_bodies.proofs.BodyResumption.{frame_size}
-use Rattle.image_runs.specs.WalkLaws.{WalksGiveTheFramesWithin}
+use Rattle.image_runs.proofs.Lemmas.{frame_size}
 use Rattle.image_runs.proofs.LiveFrames.{as_many, are_frames}
 use Rattle.image_runs.proofs.WalkFrames.{frames, gives}
 use Rattle.image_runs.proofs.StateWalks.{IsTop, tops}

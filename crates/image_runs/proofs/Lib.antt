@@ -1,3 +1,4 @@
+mod Lemmas
 pub mod FuncletOwners
 pub mod FuncletRegions
 pub mod ImageCode

@@ -1,14 +1,8 @@
 -- The frames of a stack that linear code's list describes are the live ones.
 use Rattle.std.proofs.Common.{◌≡◌, ℕ, ◌+◌, Bool, Some, List, [], ◌∷◌, length, drop, refl, sym, ap, subst, ◌∙◌, arith}
 use Rattle.std.specs.Prelude.{slice_set}
-use Rattle.image_runs.specs.Words.{Memory, Context, context_of, rsp, Functions, Funclet, LinearProgram, Item, Waits, StackItem, Framed, Leaf, Searching, Unwinding, IsStack, after_frame, after_leaf, ImagePlan, Activation, activations_below, BodyWaits, Linked, Sites, IsProgramImage, slots_end}
-use Rattle.linear_machine.specs.Frames.{Searches, Unwinds}
-use Rattle.match_stack.proofs.ItemVisits.{set_head}
-use Rattle.match_stack.specs.ItemMatches.{temporaries_end, ReturnsTo}
-use Rattle.match_bodies.specs.Bodies.{last_temporary}
-use Rattle.match_bodies.proofs.StackTop.{leaf_layout}
-use Rattle.match_bodies.proofs.BodyResumption.{frame_size}
-use Rattle.image_runs.specs.LiveFrames.{back_to, AreFrames}
+use Rattle.image_runs.specs.Words.{Memory, Context, context_of, rsp, Functions, Funclet, LinearProgram, Item, Waits, StackItem, Framed, Leaf, Searching, Unwinding, IsStack, after_frame, after_leaf, ImagePlan, Activation, activations_below, BodyWaits, Linked, Sites, IsProgramImage, slots_end, Searches, Unwinds, temporaries_end, ReturnsTo, last_temporary, back_to, AreFrames}
+use Rattle.image_runs.proofs.Lemmas.{set_head, leaf_layout, frame_size}
 use Rattle.image_runs.proofs.WalkFrames.{frames}
 
 set_rest : (kept : List ℕ) (v : ℕ) → drop 1 (slice_set kept 0 v) ≡ drop 1 kept

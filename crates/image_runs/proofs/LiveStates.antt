@@ -2,8 +2,7 @@
 use Rattle.std.proofs.Common.{◌≡◌, ◌<◌, inl, inr, arith}
 use Rattle.std.proofs.lemmas.Bool.{ne_eqb}
 use Rattle.std.specs.Prelude.{List}
-use Rattle.image_runs.specs.Words.{State, Functions, Funclet, LinearProgram, Configuration, ImagePlan, Sites, IsProgramImage, InBody, Represents}
-use Rattle.match_runs.specs.Comes.{IsLive}
+use Rattle.image_runs.specs.Words.{State, Functions, Funclet, LinearProgram, Configuration, ImagePlan, Sites, IsProgramImage, InBody, Represents, IsLive}
 
 module _ (t : Functions) (fs : List Funclet) (program : LinearProgram) (p : ImagePlan) (q : Sites)
     (image : IsProgramImage t fs program p q) where

@@ -2,14 +2,10 @@
 use Rattle.std.proofs.Common.{◌≡◌, ℕ, zero, suc, ◌^◌, ◌<◌, ◌≤◌, Bool, true, false, Some, ℤ, pos, negsuc, List, [], ◌∷◌, length, get_or, refl, sym, ap, subst, arith}
 use Rattle.std.specs.Prelude.{slice_get, nat_eq, replicate, if◌then◌else◌}
 use Rattle.std.proofs.lemmas.Option.{slice_get_within}
-use Rattle.image_runs.specs.Words.{Memory, Cpu, State, Functions, Funclet, first_cpu, LinearProgram, LinearFunction, FunctionBody, body_of, function_body, InRegisters, ImagePlan, CanContinue, IsWellFormed, Sites, IsProgramImage, seen_by_templates, first_stack, IsFirst, MainBegins}
-use Rattle.seh_num.specs.declared.width.Width.TheVariants.{W64}
+use Rattle.image_runs.specs.Words.{Memory, Cpu, State, Functions, Funclet, first_cpu, LinearProgram, LinearFunction, FunctionBody, body_of, function_body, InRegisters, ImagePlan, CanContinue, IsWellFormed, Sites, IsProgramImage, seen_by_templates, first_stack, IsFirst, MainBegins, W64, first_memory, main_arguments, start, IsWellMade}
 use Rattle.seh_num.specs.Widths.{wrapped}
 use Rattle.seh_records.specs.Laws.{AllSmall}
-use Rattle.source_meaning.specs.Source.{first_memory}
-use Rattle.linear_machine.specs.Run.{main_arguments, start}
-use Rattle.match_bodies.specs.ConfigurationFacts.{IsWellMade}
-use Rattle.match_bodies.proofs.StepNeeds.{label_in}
+use Rattle.image_runs.proofs.Lemmas.{label_in}
 use Rattle.image_runs.specs.MainLaws.{MainIsBegun}
 use Rattle.image_runs.proofs.FunctionEntry.{IsCalled}
 use Rattle.image_runs.proofs.FirstFunction as begun

@@ -2,35 +2,24 @@
 use Rattle.std.proofs.Common.{◌≡◌, ℕ, ◌+◌, ◌^◌, ◌<◌, false, List, [], ◌∷◌, ◌++◌, length, Option, Some, None, Ok, refl, sym, ap, subst, ◌∙◌, arith}
 use Rattle.std.specs.Prelude.{slice_get}
 use Rattle.std.proofs.lemmas.Bool.{false≢true}
-use Rattle.image_runs.specs.Words.{Memory, Rax, Instr, chosen, Context, rsp, word, FrameIsAt, Slot, Local, Temporary, LinearBody, LinearProgram, BodyName, body_of, Layout, spelled, sizes, text_begin, linked, HasProgram, functions_of, funclets_of, plan_of, sites_of, HasWholeImage, IsReturning}
-use Rattle.match_stack.specs.Stack.{LeafIsAt}
+use Rattle.image_runs.specs.Words.{Memory, Rax, Instr, chosen, Context, rsp, word, FrameIsAt, Slot, Local, Temporary, LinearBody, LinearProgram, BodyName, body_of, Layout, spelled, sizes, text_begin, linked, HasProgram, functions_of, funclets_of, plan_of, sites_of, HasWholeImage, IsReturning, LeafIsAt, fetch_local, local_at, fetch, epilogue, code_from, entry_code, entry_size, check_stack_at, routine_code, stack_frame, begin_of, code_of, IsFramed, frame_with, is_leaf, or_none, routine_of, LinkedReturnsWait}
 use Rattle.frame_rules.specs.Bytes.{IsExecutableAt}
 use Rattle.linear_code.specs.declared.instruction.Instruction.TheVariants as instructions
 use Rattle.frame_layout.specs.declared.frame.FrameLayout.{FrameLayout}
 use Rattle.frame_layout.specs.Layout.{taking_size}
-use Rattle.template_code.specs.Slots.{fetch_local, local_at, fetch}
-use Rattle.template_code.specs.Calls.{epilogue}
-use Rattle.template_code.specs.Template.{code_from}
 use Rattle.x64_emit.specs.Near.{IsInstructionNear}
-use Rattle.image_link.specs.Text.{entry_code, entry_size, check_stack_at, routine_code}
 use Rattle.image_link.proofs.Entries.{entry_sizes}
 use Rattle.image_tables.specs.RoutinePlaces.{Placed, end_of, site_of}
 use Rattle.image_tables.specs.Entries as tables
 use Rattle.image_tables.specs.CodeInMemory.{image_base, template_at, links}
-use Rattle.image_tables.specs.FrameLaws.{stack_frame}
 use Rattle.image_tables.proofs.CodeInMemory.{executable_split, code_split, IsThere, template_there}
 use Rattle.image_tables.proofs.BodyInstructions.{AllInner, inner_at, fetch_inner}
 use Rattle.image_tables.proofs.Layouts.{size_of, sized}
 use Rattle.image_tables.proofs.BodyFrames.{near_at, HasItem, frame_at, leaf_at}
-use Rattle.match_bodies.specs.CodeSites.{begin_of, code_of}
-use Rattle.match_bodies.specs.ProgramImages.{IsFramed, frame_with}
-use Rattle.match_bodies.proofs.TemplateSizes.{template_some}
-use Rattle.match_turns.proofs.OperationCode.{IsSome}
-use Rattle.image_states.specs.Plans.{is_leaf, or_none, routine_of}
+use Rattle.image_runs.proofs.Lemmas.{template_some, IsSome}
 use Rattle.image_states.proofs.Addresses.{place, here}
 use Rattle.image_states.proofs.Entering.{code_same}
 use Rattle.image_states.proofs.Framed.{executable_of, leaf_of}
-use Rattle.image_runs.specs.WalkLaws.{LinkedReturnsWait}
 
 -- ---- the first machine instruction of a return fetches the result
 

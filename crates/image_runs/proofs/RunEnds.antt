@@ -1,11 +1,9 @@
 -- A run of a compiled image ends only as its program does.
 use Rattle.std.proofs.Common.{◌≡◌, Option, Some, None, subst}
-use Rattle.image_runs.specs.Words.{RunEnd, Ended, run_end_of}
+use Rattle.image_runs.specs.Words.{RunEnd, Ended, run_end_of, IsOfProgram, RunsEndAsPrograms}
 use Rattle.seh_num.specs.declared.end.RunEnd.TheVariants as ends
 use Rattle.source_meaning.specs.declared.ended.Ended.TheVariants as source
 use Rattle.image_runs.proofs.ImageMeaning.{compiled_show_nothing_more}
-use Rattle.image_runs.specs.RunWalks.{IsOfProgram}
-use Rattle.image_runs.specs.WalkedLaws.{RunsEndAsPrograms}
 
 same_end : (a e : RunEnd) → Some a ≡ Some e → a ≡ e
 same_end a e h = cc

@@ -1,10 +1,9 @@
 -- Whole runs, by way of linear code.
 use Rattle.std.proofs.Common.{◌≡◌, ℕ, ◌+◌, ◌*◌, true, Option, Some, None, List, [], ◌++◌, refl, sym, ap, ◌∙◌, arith}
 use Rattle.std.proofs.lemmas.List.{append_assoc}
-use Rattle.image_runs.specs.Words.{Event, RunEnd, Shown, host, run, Ended, meaning, Seen, Running, Finished, Stuck, seen, lowered, steps_per_turn_of, run_end_of, HasRule, ShowsAll, ShowsNoMore}
-use Rattle.source_meaning.specs.Meaning.{is_calm}
+use Rattle.seh_num.specs.declared.event.Event.{Event}
+use Rattle.image_runs.specs.Words.{RunEnd, Shown, host, run, Ended, meaning, Seen, Running, Finished, Stuck, seen, lowered, steps_per_turn_of, run_end_of, HasRule, ShowsAll, ShowsNoMore, is_calm, linear_meaning}
 use Rattle.source_meaning.specs.Laws.{IsPrefixOf}
-use Rattle.linear_machine.specs.Run.{linear_meaning}
 use Rattle.lowering_follows.proofs.ProgramLowering.{lowered_follows, lowered_shows_no_more}
 use Rattle.source_meaning.proofs.Prefixes.{prefix_then}
 use Rattle.match_runs.proofs.Programs.{programs_all, programs_no_more, programs_walk_the_shadow, enough}

@@ -1,9 +1,7 @@
 -- A run that is matched step by step passes a state for each step.
 use Rattle.std.proofs.Common.{◌≡◌, inl, inr, ℕ, zero, suc, List, Some, subst, ◌∙◌}
-use Rattle.image_runs.specs.Words.{State, Functions, Funclet, Instruction, LinearProgram, Configuration, Seen, Running, Finished, Stuck, act, instruction_at, exec, HasRule, IsMatched, IsRunning}
-use Rattle.match_runs.specs.Matched.{Simulates}
-use Rattle.match_runs.proofs.Steps.{at_instruction, matched_step}
-use Rattle.image_runs.specs.RunStates.{HasNextStep, Passes}
+use Rattle.image_runs.specs.Words.{State, Functions, Funclet, Instruction, LinearProgram, Configuration, Seen, Running, Finished, Stuck, act, instruction_at, exec, HasRule, IsMatched, IsRunning, Simulates, HasNextStep, Passes}
+use Rattle.image_runs.proofs.Lemmas.{at_instruction, matched_step}
 
 running_has_rule : (x : Seen) → IsRunning x → HasRule x
 running_has_rule (Running es) h = tt

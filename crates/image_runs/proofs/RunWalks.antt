@@ -2,12 +2,9 @@
 use Rattle.std.proofs.Common.{◌≡◌, inl, zero, refl, subst, ap, []}
 use Rattle.std.specs.Prelude.{ℕ, ℤ, slice_get, get_or, Option, Some}
 use Rattle.std.proofs.lemmas.Option.{slice_get-get_or}
-use Rattle.image_runs.specs.Words.{image_of, State, Program, LinearFunction, LinearProgram, Configuration, seen, exec, lowered, ReadsNoUnset, started_with, turns_left, turns_per_step, nothing, linked, functions_of, funclets_of, plan_of, sites_of, HasBytes, MainBegins, IsLinkable, IsSoundImage, RepresentsWhereSet, IsRunning}
+use Rattle.image_runs.specs.Words.{image_of, State, Program, LinearFunction, LinearProgram, Configuration, seen, exec, lowered, ReadsNoUnset, started_with, turns_left, turns_per_step, nothing, linked, functions_of, funclets_of, plan_of, sites_of, HasBytes, MainBegins, IsLinkable, IsSoundImage, RepresentsWhereSet, IsRunning, with_some, start, ShowsFramesOf, PassesTheFrames, RunsPassTheFrames}
 use Rattle.host_model.specs.Loading as images
-use Rattle.linear_machine.specs.Frames.{with_some}
-use Rattle.linear_machine.specs.Run.{start}
-use Rattle.lowering_invariants.proofs.Ready.{continues}
-use Rattle.lowering_locals.proofs.AgreementSteps.{agreement_at_start}
+use Rattle.image_runs.proofs.Lemmas.{continues, agreement_at_start}
 use Rattle.image_runs.proofs.FirstState.{mains_begin}
 use Rattle.image_runs.proofs.ImageCode.{lowered_is_compiled}
 use Rattle.image_runs.proofs.SoundImages.{lowered_has_image}
@@ -16,8 +13,6 @@ use Rattle.image_runs.proofs.AgreementSimulation.{agreement_simulates}
 use Rattle.image_runs.proofs.RunStates.{passes}
 use Rattle.image_runs.proofs.ReturnFrames.{linked_returns_wait}
 use Rattle.image_runs.proofs.StateWalks.{walks_give_the_frames}
-use Rattle.image_runs.specs.RunWalks.{ShowsFramesOf, PassesTheFrames}
-use Rattle.image_runs.specs.WalkedLaws.{RunsPassTheFrames}
 
 module _ (program : Program) (l : IsLinkable program) (reads : ReadsNoUnset (lowered program)) where
   abbrev linear : LinearProgram

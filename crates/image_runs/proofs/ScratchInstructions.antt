@@ -1,8 +1,7 @@
 -- What machine instructions leave that write RAX, RCX and RDX alone.
 use Rattle.std.proofs.Common.{◌≡◌, ℕ, true, Result, Ok, Err, refl, subst}
-use Rattle.image_runs.specs.Words.{RegisterOrMemory, Instr, State, effect, is_free_place, scratch_only}
+use Rattle.image_runs.specs.Words.{RegisterOrMemory, Instr, State, effect, is_free_place, scratch_only, W8, Answer, with_register, with_flags, read, operand, write, may_change, computed, change, compare, with_quotient}
 use Rattle.seh_num.specs.declared.width.Width.{Width}
-use Rattle.seh_num.specs.declared.width.Width.TheVariants.{W8}
 use Rattle.seh_num.specs.declared.division.DivFault.{DivFault}
 use Rattle.x64_instr.specs.declared.register.Reg.TheVariants as regs
 use Rattle.x64_instr.specs.declared.operand.RegisterOrMemory.TheVariants as places
@@ -11,7 +10,6 @@ use Rattle.x64_instr.specs.declared.instruction.Operation.{Operation}
 use Rattle.x64_instr.specs.declared.instruction.Operation.TheVariants as operations
 use Rattle.x64_instr.specs.declared.instruction.Instr.TheVariants as instrs
 use Rattle.seh_num.specs.Answers.{◌>>=◌}
-use Rattle.x64_machine.specs.Effect.{Answer, with_register, with_flags, read, operand, write, may_change, computed, change, compare, with_quotient}
 
 record Bound {A B : Type 0} (a : Answer A) (f : A → Answer B) (y : B) : Type 0 where
   pub value : A

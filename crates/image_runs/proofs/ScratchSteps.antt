@@ -1,32 +1,19 @@
 -- After a machine instruction that writes no memory a state is still within its instruction.
 use Rattle.std.proofs.Common.{◌≡◌, ℕ, ◌+◌, ◌%◌, ◌^◌, ◌≤◌, true, false, eqb, ◌||◌, Ok, List, [], ◌∷◌, ◌++◌, length, refl, sym, ap, subst, ◌∙◌, arith, append_assoc}
 use Rattle.std.proofs.lemmas.Bool.{ne_eqb}
-use Rattle.image_runs.specs.Words.{Memory, Rax, Rsp, RegisterOrMemory, Instr, chosen, State, register, effect, Functions, Funclet, LinearProgram, Configuration, sizes, spelled, HasCode, ImagePlan, InCode, Sites, links_of, HasProgram, IsResumed, IsProgramImage, is_free_place, scratch_only, IsWithinInstruction}
+use Rattle.image_runs.specs.Words.{Memory, Rax, Rsp, RegisterOrMemory, Instr, chosen, State, register, effect, Functions, Funclet, LinearProgram, Configuration, sizes, spelled, HasCode, ImagePlan, InCode, Sites, links_of, HasProgram, IsResumed, IsProgramImage, is_free_place, scratch_only, IsWithinInstruction, Rcx, Rdx, is_encodable, kept_of, with_rip, step, size, template_size, is_free, ScratchOnlyHere, ScratchStepsStayWithin}
 use Rattle.x64_instr.specs.declared.register.Reg.{Reg}
-use Rattle.x64_instr.specs.declared.register.Reg.TheVariants.{Rcx, Rdx}
 use Rattle.x64_instr.specs.declared.operand.RegisterOrMemory.TheVariants as places
 use Rattle.x64_instr.specs.declared.instruction.Operation.TheVariants as operations
 use Rattle.x64_instr.specs.declared.instruction.Instr.TheVariants as instrs
 use Rattle.x64_instr.specs.Registers.{number}
-use Rattle.x64_encode.specs.Chosen.{is_encodable}
 use Rattle.x64_encode.proofs.Lengths.{longest}
-use Rattle.x64_machine.specs.Contexts.{kept_of}
-use Rattle.x64_machine.specs.Effect.{with_rip, step}
 use Rattle.frame_rules.specs.Body.{written, written_place, has, is_a_call}
 use Rattle.frame_rules.proofs.Writing.{writes_no_other}
 use Rattle.linear_code.specs.declared.instruction.Instruction.TheVariants as instructions
-use Rattle.template_code.specs.Bytes.{size}
-use Rattle.template_code.specs.Template.{template_size}
-use Rattle.template_code.proofs.Sizes.{sizes_append, template_sizes}
-use Rattle.x64_templates.proofs.PlacedCode.{outside_page, bytes_split, spells, reads}
+use Rattle.image_runs.proofs.Lemmas.{sizes_append, template_sizes, outside_page, bytes_split, spells, reads, address_next, get_or_is, template_is_at}
 use Rattle.x64_templates.proofs.Computes.{code_split}
 use Rattle.match_stack.specs.ListLaws.{KeepsStack}
-use Rattle.match_bodies.proofs.TemplateSizes.{address_next}
-use Rattle.match_bodies.proofs.TemplateRuns.{get_or_is}
-use Rattle.match_turns.proofs.OperationCode.{template_is_at}
-use Rattle.image_runs.specs.ScratchInstructions.{is_free}
-use Rattle.image_runs.specs.InstructionStates.{ScratchOnlyHere}
-use Rattle.image_runs.specs.WalkLaws.{ScratchStepsStayWithin}
 use Rattle.image_runs.proofs.ScratchInstructions.{leaves}
 
 -- ---- no register but RAX, RCX and RDX is written

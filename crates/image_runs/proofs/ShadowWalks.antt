@@ -3,21 +3,16 @@ use Rattle.std.proofs.Common.{◌≡◌, ℕ, zero, ◌+◌, ◌*◌, ◌<◌, �
 use Rattle.std.specs.Prelude.{ℤ, pos, slice_get}
 use Rattle.std.proofs.lemmas.Nat.{mul-le}
 use Rattle.std.proofs.lemmas.Option.{slice_get_within}
-use Rattle.image_runs.specs.Words.{Shown, RunEnd, Rsp, Cpu, Context, context_of, State, register, image_of, Entry, or_none, word, Functions, Funclet, funclets, start, Program, LinearProgram, LinearFunction, FunctionBody, body_of, function_body, lowered, steps_per_turn_of, CanContinue, ReadsNoUnset, context_below, state, ImagePlan, Sites, turns_left, IsProgramImage, linked, steps_per_turn_in, program_of, functions_of, funclets_of, plan_of, sites_of, IsLinkable, first_stack, IsFirst, IsImageOf}
-use Rattle.x64_instr.specs.declared.register.Reg.TheVariants.{Rbx, Rbp, Rsi, Rdi, R12, R13, R14, R15}
-use Rattle.host_model.specs.Machine.{machine}
-use Rattle.source_meaning.specs.Meaning.{Calm}
+use Rattle.image_runs.specs.Words.{Shown, RunEnd, Rsp, Cpu, Context, context_of, State, register, image_of, Entry, word, Functions, Funclet, funclets, Program, LinearProgram, LinearFunction, FunctionBody, body_of, function_body, lowered, steps_per_turn_of, CanContinue, ReadsNoUnset, context_below, state, ImagePlan, Sites, turns_left, IsProgramImage, linked, steps_per_turn_in, program_of, functions_of, funclets_of, plan_of, sites_of, IsLinkable, first_stack, IsFirst, IsImageOf, Rbx, Rbp, Rsi, Rdi, R12, R13, R14, R15, machine, Calm, caller_at}
+use Rattle.eh_tables.specs.Tables.{or_none}
+use Rattle.host_model.specs.Loading.{start}
 use Rattle.linear_machine.specs.Run as code
-use Rattle.lowering_invariants.proofs.Ready.{continues}
-use Rattle.match_runs.specs.Shadow.{caller_at, WalkGives}
+use Rattle.image_runs.proofs.Lemmas.{continues, word_is, label_in, tables_are_read, steps_per_turn_are_bounded}
+use Rattle.match_runs.specs.Shadow.{WalkGives}
 use Rattle.match_runs.specs.Shadowed.{first_shadow, WalkGivesShadow}
 use Rattle.match_runs.proofs.Shadows.{at_end}
 use Rattle.image_runs.proofs.RunMatches as runs
 use Rattle.match_bodies.proofs.BodyCallers.{gives_caller}
-use Rattle.match_bodies.proofs.StackWords.{word_is}
-use Rattle.match_bodies.proofs.StepNeeds.{label_in}
-use Rattle.image_tables.proofs.Table.{tables_are_read}
-use Rattle.text_bounds.proofs.StepsPerTurn.{steps_per_turn_are_bounded}
 use Rattle.image_runs.specs.ShadowWalks.{WalksTheShadow, ImagesWalkTheShadow, CompiledWalkTheShadow, AcceptedWalkTheShadow}
 use Rattle.image_runs.proofs.FirstState.{first_states_start}
 use Rattle.image_runs.proofs.ImageCode.{lowered_is_compiled}

@@ -1,7 +1,8 @@
 -- All that steps of the machine ask of the image of a sound program.
 use Rattle.std.proofs.Common.{◌≡◌, ℕ, ◌<◌, [], ◌∷◌, length, get_or, Some, refl, sym, ap, ◌∙◌, arith, length-append}
 use Rattle.std.proofs.lemmas.Option.{slice_get-get_or}
-use Rattle.image_runs.specs.Words.{Program, Local, Temporary, LinearBody, LinearFunction, LinearProgram, FunctionBody, function_body, body_of, scope_of, lowered, nothing, Field, functions_of, funclets_of, plan_of, sites_of, IsLinkable, IsSoundImage}
+use Rattle.image_runs.specs.Words.{Program, Local, Temporary, LinearBody, LinearFunction, LinearProgram, FunctionBody, function_body, body_of, scope_of, lowered, nothing, functions_of, funclets_of, plan_of, sites_of, IsLinkable, IsSoundImage, FunctionsApart, IsField, IsPlain, LoweredHasImage}
+use Rattle.c_operations.specs.declared.field.Field.{Field}
 use Rattle.linear_code.specs.declared.instruction.Instruction.TheVariants as instructions
 use Rattle.linear_code.specs.declared.program.FuncletKind.{FuncletKind}
 use Rattle.linear_code.specs.declared.program.FuncletKind.TheVariants.{Filter, Finally}
@@ -9,7 +10,6 @@ use Rattle.linear_machine.specs.Unwinding.{flag_in, flag_of}
 use Rattle.lowering_expressions.specs.Scope.{finally_scope}
 use Rattle.lowering_expressions.specs.Expressions.{constant, expression_code}
 use Rattle.seh_ir.specs.Statements.{statements_code}
-use Rattle.match_turns.specs.CallOutcome.{FunctionsApart}
 use Rattle.lowering_invariants.proofs.CallRegions.{has_same_regions}
 use Rattle.lowering_invariants.proofs.Flags.{has_flags}
 use Rattle.lowering_invariants.proofs.BlockSeparators.{lowered_is_followed}
@@ -17,17 +17,13 @@ use Rattle.lowering_invariants.proofs.UnwindLabels.{lowered_stays_inside}
 use Rattle.lowering_invariants.proofs.Blind.{lowered_informs_filters}
 use Rattle.lowering_invariants.proofs.ReturnRegions.{lowered_is_apart}
 use Rattle.lowering_invariants.proofs.EveryBody.{every_body}
-use Rattle.lowering_invariants.proofs.Lowered.{lowered_is_whole}
+use Rattle.image_runs.proofs.Lemmas.{lowered_is_whole, all_at, images_are_programs}
 use Rattle.lowering_invariants.proofs.Room.{body_small, has_room}
-use Rattle.lowering_invariants.proofs.TurnStack.{all_at}
-use Rattle.lowering_invariants.specs.Slots.{IsField, IsPlain}
 use Rattle.x64_templates.specs.Exceptions as exceptions
 use Rattle.c_operations.specs.declared.field.Field.TheVariants as fields
 use Rattle.match_turns.specs.FilterInformation.{FiltersReadInformation}
 use Rattle.match_turns.specs.FuncletEntry.{FlagsFit}
-use Rattle.image_states.proofs.Images.{images_are_programs}
 use Rattle.image_states.proofs.Leaves.{leaves_call_nothing, functions_apart}
-use Rattle.image_runs.specs.ImageLaws.{LoweredHasImage}
 use Rattle.image_runs.proofs.ImageCode.{lowered_is_compiled}
 
 flag_kind : (kind : FuncletKind) (flag : ℕ) → flag_in kind ≡ Some flag → kind ≡ Finally flag

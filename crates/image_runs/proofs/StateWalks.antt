@@ -1,18 +1,10 @@
 -- In every state that represents a configuration the walk gives the live frames.
 use Rattle.std.proofs.Common.{◌≡◌, ◌⊎◌, inl, inr, ℕ, ◌+◌, ◌^◌, ◌<◌, ◌≤◌, Bool, true, false, Some, List, [], ◌∷◌, ◌++◌, refl, sym, ap, ◌∙◌, arith}
 use Rattle.std.specs.Prelude.{slice_get}
-use Rattle.image_runs.specs.Words.{Rsp, Instr, context_of, State, register, Functions, word, Funclet, Slot, Temporary, Instruction, LinearProgram, Waits, Configuration, instruction_in, instruction_at, sizes, template, IsReturn, context_below, ImagePlan, Activation, activations_below, Sites, links_of, HasProgram, IsResumed, IsProgramImage, InBody, RepresentsAt, IsKnown, Represents, IsReturning, WalkGives}
+use Rattle.image_runs.specs.Words.{Rsp, Instr, context_of, State, register, Functions, word, Funclet, Slot, Temporary, Instruction, LinearProgram, Waits, Configuration, instruction_in, instruction_at, sizes, template, IsReturn, context_below, ImagePlan, Activation, activations_below, Sites, links_of, HasProgram, IsResumed, IsProgramImage, InBody, RepresentsAt, IsKnown, Represents, IsReturning, WalkGives, operands_code, finish_code, locals_of, WorksOn, ReturnsWait, WalksGiveTheFrames}
 use Rattle.linear_code.specs.declared.instruction.Instruction.TheVariants as instructions
-use Rattle.template_code.specs.Slots.{operands_code, finish_code}
-use Rattle.template_code.proofs.Sizes.{template_sizes}
-use Rattle.match_stack.specs.ItemMatches.{locals_of}
+use Rattle.image_runs.proofs.Lemmas.{template_sizes, template_some, leaf_layout, OnTop, others_of, framed_top, leaf_top, body_on_top, some_finish, is_some}
 use Rattle.match_stack.proofs.ListEnds.{in_stack}
-use Rattle.match_bodies.proofs.TemplateSizes.{template_some}
-use Rattle.match_bodies.proofs.StackTop.{leaf_layout, OnTop, others_of, framed_top, leaf_top, body_on_top}
-use Rattle.match_turns.specs.DispatchOutcome.{WorksOn}
-use Rattle.match_turns.proofs.OperationCode.{some_finish, is_some}
-use Rattle.image_runs.specs.ReturnFrames.{ReturnsWait}
-use Rattle.image_runs.specs.WalkLaws.{WalksGiveTheFrames}
 use Rattle.image_runs.proofs.WalkFrames.{frames, gives}
 use Rattle.image_runs.proofs.LiveFrames.{as_many, are_frames}
 

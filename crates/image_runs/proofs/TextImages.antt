@@ -5,10 +5,8 @@ use Rattle.image_runs.specs.Words.{lowered, steps_per_turn_of, steps_per_turn_in
 use Rattle.c_syntax.specs.Limits.{Within}
 use Rattle.c_syntax.specs.Program.{ExternalDeclaration}
 use Rattle.c_resolved.specs.Accepted.{Accepted}
-use Rattle.c_resolved.proofs.SoundPrograms.{accepted_is_sound}
+use Rattle.image_runs.proofs.Lemmas.{accepted_is_sound, resolved_is_shallow, steps_per_turn_are_bounded}
 use Rattle.c_resolved.proofs.ProgramScopes.{resolved_is_scoped}
-use Rattle.text_bounds.proofs.StatementNesting.{resolved_is_shallow}
-use Rattle.text_bounds.proofs.StepsPerTurn.{steps_per_turn_are_bounded}
 use Rattle.lowering_locals.proofs.ProgramSets.{scoped_reads_no_unset}
 use Rattle.image_link.specs.Fits.{FitsProgram}
 use Rattle.image_runs.proofs.ImageMeaning.{compiled_realise, compiled_show_nothing_more}

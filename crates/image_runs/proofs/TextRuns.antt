@@ -1,6 +1,5 @@
 -- The program of an accepted text is sound, and reads no local that hasn't been set.
-use Rattle.c_resolved.proofs.SoundPrograms.{accepted_is_sound}
-use Rattle.text_bounds.proofs.StatementNesting.{resolved_is_shallow}
+use Rattle.image_runs.proofs.Lemmas.{accepted_is_sound, resolved_is_shallow}
 use Rattle.image_runs.specs.Words.{program_of}
 use Rattle.image_runs.proofs.TextImages.{reads_no_unset, nothing_more}
 use Rattle.image_runs.specs.TextRuns.{AcceptedPassTheFrames, AcceptedEndAsPrograms}

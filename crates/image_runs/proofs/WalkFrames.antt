@@ -1,7 +1,7 @@
 -- A walk over a stack gives its frames.
 use Rattle.std.proofs.Common.{◌≡◌, ℕ, zero, suc, ◌<◌, Some, List, [], ◌∷◌, length, ap, ◌∙◌, arith}
 use Rattle.image_runs.specs.Words.{Memory, Context, context_of, rsp, Functions, StackItem, Framed, Leaf, Searching, Unwinding, IsStack, after_frame, after_leaf, state}
-use Rattle.match_stack.proofs.ItemVisits.{frame_is_visited, leaf_is_visited, search_is_passed, unwinding_is_passed, stack_is_over}
+use Rattle.image_runs.proofs.Lemmas.{frame_is_visited, leaf_is_visited, search_is_passed, unwinding_is_passed, stack_is_over}
 use Rattle.match_runs.specs.Walked.{LiveFrame, with_frame, given_by, walked}
 
 -- the frames of a list of stack items

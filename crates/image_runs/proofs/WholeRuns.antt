@@ -1,13 +1,9 @@
 -- Whole runs of images.
 use Rattle.std.proofs.Common.{◌≡◌, ℕ, ◌+◌, ◌*◌, inl, refl}
 use Rattle.std.specs.Prelude.{List, slice_get, ℤ, Some}
-use Rattle.image_runs.specs.Words.{State, Functions, Funclet, Program, IsSound, LinearFunction, ImagePlan, lowered, ReadsNoUnset, started_with, Sites, turns_left, turns_per_step, IsSoundImage, MainBegins, RepresentsWhereSet}
-use Rattle.linear_machine.specs.Run.{start}
-use Rattle.match_runs.specs.Laws.{RunBegins}
-use Rattle.match_runs.proofs.Steps.{follows}
-use Rattle.lowering_locals.proofs.AgreementSteps.{agreement_at_start}
+use Rattle.image_runs.specs.Words.{State, Functions, Funclet, Program, IsSound, LinearFunction, ImagePlan, lowered, ReadsNoUnset, started_with, Sites, turns_left, turns_per_step, IsSoundImage, MainBegins, RepresentsWhereSet, start, RunBegins, ImagesShowAll, ImagesShowNoMore}
+use Rattle.image_runs.proofs.Lemmas.{follows, agreement_at_start}
 use Rattle.image_runs.proofs.RunMatches as runs
-use Rattle.image_runs.specs.RunLaws.{ImagesShowAll, ImagesShowNoMore}
 use Rattle.image_runs.proofs.AgreementSimulation.{agreement_simulates}
 
 module _ (t : Functions) (fs : List Funclet) (program : Program) (p : ImagePlan) (q : Sites)

@@ -1,13 +1,9 @@
 -- What a routine does with what it is called with is code of a body.
 use Rattle.std.proofs.Common.{ℕ, zero, suc, ◌+◌, Bool, true, false, cond, ltb, [], ◌∷◌, Option, Some, None, refl, arith}
-use Rattle.image_tables.specs.Words.{W32, Rax, Rcx, Rsp, Local, Layout, fetched, keep, local_at, IsNear, argument_code}
-use Rattle.template_code.specs.Operations.{move}
-use Rattle.template_code.specs.Calls.{keep_register, parameter_register, stack_parameter, parameter_code, parameters_code}
+use Rattle.image_tables.specs.Words.{W32, Rax, Rcx, Rsp, Local, Layout, fetched, keep, local_at, IsNear, argument_code, move, keep_register, parameter_register, stack_parameter, parameter_code, parameters_code, IsEntryNear, base_of}
 use Rattle.x64_emit.specs.Entries.{keep_base, IsParentNear}
 use Rattle.image_link.specs.declared.routine.Entry.{Entry}
 use Rattle.image_link.specs.declared.routine.Entry.TheVariants as entries
-use Rattle.image_link.specs.Near.{IsEntryNear}
-use Rattle.image_link.specs.Text.{base_of}
 use Rattle.image_tables.proofs.BodyInstructions.{AllInner, inner_both, signed, keep_inner}
 
 parameter_inner : (y : Layout) (i : ℕ) (few : Bool) → IsNear (local_at y i)

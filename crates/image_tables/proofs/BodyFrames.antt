@@ -4,26 +4,21 @@ use Rattle.std.specs.Prelude.{slice_get}
 use Rattle.std.specs.List.{AllByRecursion}
 use Rattle.std.proofs.lemmas.Bool.{and_from, ne_eqb, le-ltb}
 use Rattle.std.proofs.lemmas.List.{append-nil}
-use Rattle.image_tables.specs.Words.{Memory, Instr, chosen, Table, Entry, holding, or_none, Other, FetchedInstr, role_of, spell, IsExecutableAt, image_of, Instruction, LinearProgram, FrameLayout, taking_size, spelled, size, sizes, template, code_from, IsInstructionNear, FitsProgram, IsFrameNear, entry_code, entry_size, check_stack_at, routine_code, text_begin, linked, Placed, end_of, body_begin, site_of, placed, HasRegions, entries, image_base, links}
+use Rattle.image_tables.specs.Words.{Memory, Instr, chosen, Table, Entry, holding, or_none, Other, FetchedInstr, role_of, spell, IsExecutableAt, image_of, Instruction, LinearProgram, FrameLayout, taking_size, spelled, size, sizes, template, code_from, IsInstructionNear, FitsProgram, IsFrameNear, entry_code, entry_size, check_stack_at, routine_code, text_begin, linked, Placed, end_of, body_begin, site_of, placed, HasRegions, entries, image_base, links, fetched_at, by_role, from_item, tail, tail_at, template_at, IsInBody, stack_frame, BodiesHaveFrames, LeavesHaveReturns}
 use Rattle.x64_machine.specs.declared.context.Context.{Context}
 use Rattle.x64_encode.proofs.Lengths.{longest}
 use Rattle.virtual_unwind.specs.CallerOf.{distance, entry_of}
 use Rattle.virtual_unwind.specs.declared.tail.Role.{Role}
-use Rattle.virtual_unwind.specs.Tail.{fetched_at, by_role, from_item, tail, tail_at}
 use Rattle.virtual_unwind.specs.Contexts.{rsp}
 use Rattle.virtual_unwind.specs.Undone.{word}
 use Rattle.seh_walk.specs.Walk.{filter_return, finally_return}
 use Rattle.host_model.specs.Machine.{functions_in}
 use Rattle.match_stack.specs.Stack.{FrameIsAt, LeafIsAt}
-use Rattle.frame_rules.proofs.Bytes.{never_empty, items_are_at}
-use Rattle.template_code.proofs.Sizes.{sizes_append, template_sizes}
-use Rattle.image_link.proofs.Entries.{entry_sizes, routine_small}
+use Rattle.image_tables.proofs.Lemmas.{never_empty, items_are_at, sizes_append, template_sizes, entry_sizes, routine_small}
 use Rattle.image_tables.specs.Entries as tables
 use Rattle.image_tables.proofs.Lookups.{some_same, none_some, entries_are_held, leaves_are_held_by_none}
 use Rattle.image_tables.proofs.Prologues.{entry_least}
 use Rattle.image_tables.proofs.Table.{tables_are_read}
-use Rattle.image_tables.specs.CodeInMemory.{template_at, IsInBody}
-use Rattle.image_tables.specs.FrameLaws.{stack_frame, BodiesHaveFrames, LeavesHaveReturns}
 use Rattle.image_tables.proofs.CodeInMemory.{executable_split, code_split, IsThere, there, routine_is_at, template_there}
 use Rattle.image_tables.proofs.BodyInstructions.{Inner, AllInner, inner_at}
 use Rattle.image_tables.proofs.Templates.{template_inner}

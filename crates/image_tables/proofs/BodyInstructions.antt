@@ -2,10 +2,8 @@
 -- no epilogue.
 use Rattle.std.proofs.Common.{◌≡◌, ℕ, ◌^◌, Bool, true, List, [], ◌∷◌, ◌++◌, Option, Some, None, refl, arith}
 use Rattle.std.proofs.lemmas.Bool.{lt-ltb}
-use Rattle.image_tables.specs.Words.{W32, low, Rax, Rcx, Instr, is_encodable, UnwindOperation, Other, role_of, written, may_write_all, Slot, Local, Temporary, Layout, before, work, temporary_at, local_at, fetch_local, keep_local, fetch, keep, IsNear}
+use Rattle.image_tables.specs.Words.{W32, low, Rax, Rcx, Instr, is_encodable, UnwindOperation, Other, role_of, written, may_write_all, Slot, Local, Temporary, Layout, before, work, temporary_at, local_at, fetch_local, keep_local, fetch, keep, IsNear, W8, W16, W64, is_signed, compare, extended, pure_code, high_half, IsBaseNear, IsSlotNear}
 use Rattle.seh_num.specs.declared.width.Width.{Width}
-use Rattle.seh_num.specs.declared.width.Width.TheVariants.{W8, W16, W64}
-use Rattle.x64_encode.specs.Chosen.{is_signed}
 use Rattle.frame_rules.proofs.Planning.{small_signed}
 use Rattle.c_operations.specs.declared.operation.Size.{Size}
 use Rattle.c_operations.specs.declared.operation.Size.TheVariants.{Int, Long}
@@ -18,8 +16,6 @@ use Rattle.c_operations.specs.declared.operation.Pure.TheVariants as pures
 use Rattle.c_operations.specs.declared.operation.Operation.{Operation}
 use Rattle.c_operations.specs.declared.operation.Operation.TheVariants as operations
 use Rattle.c_operations.specs.Numbers.{width}
-use Rattle.template_code.specs.Operations.{compare, extended, pure_code, high_half}
-use Rattle.x64_emit.specs.Near.{IsBaseNear, IsSlotNear}
 
 abbrev pub Inner : Instr → Type 0
 Inner i = (is_encodable i ≡ true) × ((plain : Bool) → role_of 0 plain i ≡ Other)

@@ -1,23 +1,19 @@
 -- The caller of every frame is found, by the function table of the image.
 use Rattle.std.proofs.Common.{◌≡◌, ◌≢◌, ℕ, ◌+◌, ◌^◌, ◌<◌, ◌≤◌, true, List, [], ◌∷◌, ◌++◌, length, Option, Some, None, refl, sym, ap, subst, ◌∙◌, arith, inl, inr}
-use Rattle.image_tables.specs.Words.{Memory, modrm, Entry, holding, or_none, FetchedInstr, bytes, items, Body, following, is_body, IsRight, HasItems, image_of, RaiseException, CSpecificHandler, LocalUnwind, Protect, Put, LinearProgram, FitsProgram, thunk_at, first, linked, end_of, site_of, HasRegions, entries, image_base, function_of}
+use Rattle.image_tables.specs.Words.{Memory, modrm, Entry, holding, or_none, FetchedInstr, bytes, items, Body, following, is_body, IsRight, HasItems, image_of, RaiseException, CSpecificHandler, LocalUnwind, Protect, Put, LinearProgram, FitsProgram, thunk_at, first, linked, end_of, site_of, HasRegions, entries, image_base, function_of, entries_of, caller_in, caller_of, FramedFunction, IsFound, registers, return_address, IsEntry, InBody, leaf, probe, FindsCaller, FramesAreFound, LeavesAreFound, ThunksAreFound, ProbesAreFound}
 use Rattle.x64_machine.specs.Contexts.{context_of}
 use Rattle.x64_machine.specs.Effect.{State}
 use Rattle.eh_tables.specs.Tables as reading
-use Rattle.eh_tables.specs.Tables.{entries_of}
-use Rattle.virtual_unwind.specs.CallerOf.{caller_in, caller_of, distance}
+use Rattle.virtual_unwind.specs.CallerOf.{distance}
 use Rattle.frame_rules.specs.Frame.{left_to}
-use Rattle.frame_rules.specs.Rules.{FramedFunction, IsFound}
 use Rattle.frame_rules.specs.Rules as rules
-use Rattle.frame_rules.specs.States.{registers, return_address, IsEntry, InBody}
 use Rattle.frame_rules.proofs.Callers.{entries_are_found, leaves_are_found}
 use Rattle.host_layout.specs.declared.imported.ImportedService.{ImportedService}
-use Rattle.image_link.proofs.Entries.{routine_small}
+use Rattle.image_tables.proofs.Lemmas.{routine_small}
 use Rattle.image_tables.specs.Entries as tables
 use Rattle.image_tables.proofs.Lookups.{entries_are_held, leaves_are_held_by_none, thunks_are_held_by_none}
 use Rattle.image_tables.proofs.Table.{table, table_entries, tables_are_read}
-use Rattle.image_tables.specs.Functions.{leaf, thunk_of, probe}
-use Rattle.image_tables.specs.FrameLaws.{FindsCaller, FramesAreFound, LeavesAreFound, ThunksAreFound, ProbesAreFound}
+use Rattle.image_tables.specs.Functions.{thunk_of}
 use Rattle.image_tables.proofs.CodeInMemory.{there}
 use Rattle.image_tables.proofs.Layouts.{size_of}
 use Rattle.image_tables.proofs.FrameRules.{right, is_there, plan_near, rest_fine}

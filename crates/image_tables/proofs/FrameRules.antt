@@ -3,20 +3,11 @@ use Rattle.std.proofs.Common.{◌≡◌, ℕ, ◌+◌, ◌^◌, ◌<◌, Bool, t
 use Rattle.std.specs.Prelude.{slice_get}
 use Rattle.std.specs.List.{flat_map}
 use Rattle.std.proofs.lemmas.Bool.{ne_eqb}
-use Rattle.image_tables.specs.Words.{Memory, Instr, UnwindOperation, Nothing, FetchedInstr, bytes, items, Body, following, is_body, FramePlan, IsPlan, spelled_by, operations_of, HasItems, IsRight, spell, IsExecutableAt, prologue_code, LinearProgram, FrameLayout, plan_of, info_of, taking_size, spelled, distance, code_from, FitsProgram, IsFrameNear, routine_size, frame_code, argument_code, check_stack_at, routine_code, text_begin, linked, routines, Placed, end_of, body_begin, site_of, placed, image_base, HasText, links, function_of, IsNear}
+use Rattle.image_tables.specs.Words.{Memory, Instr, UnwindOperation, Nothing, FetchedInstr, bytes, items, Body, following, is_body, FramePlan, IsPlan, spelled_by, operations_of, HasItems, IsRight, spell, IsExecutableAt, prologue_code, LinearProgram, FrameLayout, plan_of, info_of, taking_size, spelled, distance, code_from, FitsProgram, IsFrameNear, routine_size, frame_code, argument_code, check_stack_at, routine_code, text_begin, linked, routines, Placed, end_of, body_begin, site_of, placed, image_base, HasText, links, function_of, IsNear, allocation_then, instructions_of, steps_of, plan, rest_of, IsFramed, FunctionsAreInMemory, FunctionsKeepTheRules}
 use Rattle.eh_tables.specs.declared.code.UnwindOperation.TheVariants.{Allocate}
 use Rattle.frame_rules.specs.Codes.{are_allowed}
-use Rattle.frame_rules.specs.Plan.{allocation_then, instructions_of, steps_of}
 use Rattle.frame_rules.specs.Plan as rules
-use Rattle.frame_rules.proofs.Bytes.{spells_all, items_are_at, plans_are_encodable}
-use Rattle.frame_rules.proofs.Emitting.{plans_are_right}
-use Rattle.frame_layout.proofs.Sizes.{describes}
-use Rattle.x64_emit.proofs.Nearby.{near_signed}
-use Rattle.image_link.proofs.Entries.{entry_small, routine_small}
-use Rattle.image_link.proofs.Images.{site_near, has_places}
-use Rattle.image_link.proofs.Nearness.{routines_near}
-use Rattle.image_tables.specs.Functions.{plan, rest_of}
-use Rattle.image_tables.specs.FrameLaws.{IsFramed, FunctionsAreInMemory, FunctionsKeepTheRules}
+use Rattle.image_tables.proofs.Lemmas.{spells_all, items_are_at, plans_are_encodable, plans_are_right, describes, near_signed, entry_small, routine_small, site_near, has_places, routines_near}
 use Rattle.image_tables.proofs.CodeInMemory.{IsThere, there, code_length, routine_is_at}
 use Rattle.image_tables.proofs.Arguments.{arguments_inner}
 use Rattle.image_tables.proofs.Layouts.{size_of, sized}

@@ -3,13 +3,12 @@ use Rattle.std.proofs.Common.{◌≡◌, ℕ, ◌≢◌, ◌+◌, ◌-◌, ◌<�
 use Rattle.std.specs.Prelude.{◌&&◌, nat_le, slice_get}
 use Rattle.std.specs.List.{AllByRecursion}
 use Rattle.std.proofs.lemmas.Bool.{and_parts, ne_eqb, eq-eqb, eqb-true, ltb-true, lt-ltb, cases_eq}
-use Rattle.image_tables.specs.Words.{Filter, Always, Funclet, Statement, Declare, Block, Evaluate, If, IfElse, For, DoWhile, Return, Break, Continue, Leave, TryExcept, TryFinally, Statements, Empty, Then, Function, Program, Region, RegionKind, lowered, AreDifferent, funclet_in, named, regions, Try, Accepts, Asks, Finishes, with_filter, tries_in, tries, tries_of, all_tries}
+use Rattle.image_tables.specs.Words.{Filter, Always, Funclet, Statement, Declare, Block, Evaluate, If, IfElse, For, DoWhile, Return, Break, Continue, Leave, TryExcept, TryFinally, Statements, Empty, Then, Function, Program, Region, RegionKind, lowered, AreDifferent, funclet_in, named, regions, Try, Accepts, Asks, Finishes, with_filter, tries_in, tries, tries_of, all_tries, LoweredNamesFunclets}
 use Rattle.seh_num.specs.declared.limit.TheConstants.{MOST_FUNCTIONS, MOST_FUNCLETS, MOST_GLOBALS}
 use Rattle.c_checked.specs.Sound.{count_up, filter_funclet, funclets_in, funclets, IsSound}
 use Rattle.c_checked.specs.Sound as sound
 use Rattle.linear_code.specs.declared.program.RegionKind.TheVariants as kinds
 use Rattle.seh_ir.proofs.FuncletCounts.{functions_count}
-use Rattle.image_tables.specs.RegionLaws.{LoweredNamesFunclets}
 use Rattle.image_tables.proofs.RegionSums.{weight, total, try_total, program_total}
 
 -- ---- the numbers of `__try` statements

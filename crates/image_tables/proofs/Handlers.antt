@@ -3,15 +3,12 @@ use Rattle.std.proofs.Common.{◌≡◌, ℕ, ◌+◌, ◌-◌, ◌%◌, ◌^◌
 use Rattle.std.specs.Prelude.{option_and_then}
 use Rattle.std.specs.Option.{option_map_or}
 use Rattle.std.proofs.lemmas.Bool.{eq-eqb, ne_eqb, lt-ltb}
-use Rattle.image_tables.specs.Words.{W32, low, Image, stored, Import, is_c_handler, services, imported, CSpecificHandler, chosen, modrm, thunk, distance}
+use Rattle.image_tables.specs.Words.{W32, low, Image, stored, Import, is_c_handler, services, imported, CSpecificHandler, chosen, modrm, thunk, distance, plain_slot, after_rex, begins_with_rex, jump_slot, is_c_name, slots_at, name_of, little, JumpsAreSpelled}
 use Rattle.pe_image.specs.Field.{field}
 use Rattle.pe_image.specs.Imports.{imports_of}
 use Rattle.pe_image.specs.Bound.{bound_name}
 use Rattle.eh_tables.specs.declared.layout.TheConstants.{JUMP_SIZE}
-use Rattle.eh_tables.specs.Handler.{extended, plain_slot, after_rex, begins_with_rex, jump_slot, is_c_name}
-use Rattle.pe_write.specs.ImportTables.{slots_at, name_of}
-use Rattle.x64_encode.specs.Chosen.{little}
-use Rattle.image_tables.specs.TableLaws.{JumpsAreSpelled}
+use Rattle.eh_tables.specs.Handler.{extended}
 
 -- ---- the jump
 

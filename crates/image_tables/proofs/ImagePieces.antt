@@ -4,14 +4,11 @@ use Rattle.std.proofs.Common.{◌≡◌, ℕ, ◌+◌, ◌-◌, ◌<◌, true, l
 use Rattle.std.proofs.lemmas.Bool.{and_from, eq-eqb, lt-ltb, le-leb}
 use Rattle.std.proofs.lemmas.List.{drop_at, append-nil}
 use Rattle.std.proofs.Math.Seq.{take-append_seam}
-use Rattle.image_tables.specs.Words.{Section, stored, ImageContents, CanBeImage, sizes_of, text_at, rdata_at, xdata_at, sections_of}
-use Rattle.pe_image.specs.Image.{stores_byte, section_or, section_at, stored_in, only_if, whole}
+use Rattle.image_tables.specs.Words.{Section, stored, ImageContents, CanBeImage, sizes_of, text_at, rdata_at, xdata_at, sections_of, stores_byte, section_or, section_at, stored_in, only_if, whole, import_tables, pdata_at, data_section}
 use Rattle.pe_image.proofs.Stored.{above_holds_none}
-use Rattle.pe_write.specs.ImportTables.{import_tables}
-use Rattle.pe_write.specs.Program.{pdata_at, data_section}
 use Rattle.pe_write.specs.Written.{raw_data}
 use Rattle.pe_write.proofs.Back.{raw_length}
-use Rattle.pe_write.proofs.Programs.{xdata_is_at, pdata_is_at}
+use Rattle.image_tables.proofs.Lemmas.{xdata_is_at, pdata_is_at}
 
 -- ---- pieces
 

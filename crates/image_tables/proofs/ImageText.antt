@@ -2,19 +2,14 @@
 use Rattle.std.proofs.Common.{◌≡◌, ℕ, suc, inl, ◌+◌, ◌-◌, ◌*◌, ◌/◌, ◌^◌, ◌<◌, true, false, ltb, leb, List, [], ◌∷◌, length, get_or, Some, refl, sym, ap, ◌∙◌, arith}
 use Rattle.std.specs.List.{AllByRecursion}
 use Rattle.std.proofs.lemmas.Bool.{lt-ltb, le-ltb, le-leb}
-use Rattle.image_tables.specs.Words.{Memory, Section, Image, Import, services, imported, ImageContents, image_of, sections_of, rdata_at, text_at, sizes_of, IsExecutableAt, LinearProgram, FitsProgram, text_begin, linked, routines, image_base}
+use Rattle.image_tables.specs.Words.{Memory, Section, Image, Import, services, imported, ImageContents, image_of, sections_of, rdata_at, text_at, sizes_of, IsExecutableAt, LinearProgram, FitsProgram, text_begin, linked, routines, image_base, may_write, imports_of, ImagesHaveText, TextsAreFixed}
 use Rattle.flat_memory.specs.declared.protection.Protection.{Protection}
 use Rattle.flat_memory.specs.Protections.{is_writable}
-use Rattle.flat_memory.specs.Memory.{may_write}
-use Rattle.pe_write.specs.Program.{imports_of}
-use Rattle.pe_write.proofs.Programs.{listed}
+use Rattle.image_tables.proofs.Lemmas.{listed, tables_fit, has_places, routines_near}
 use Rattle.host_model.specs.Loading.{section_of, mode_in, byte_in, stored_byte, with_slots, mapped}
 use Rattle.host_model.specs.Slots.{IsBeside}
 use Rattle.host_model.proofs.Slots.{slots-beside}
-use Rattle.image_link.proofs.Images.{tables_fit, has_places}
-use Rattle.image_link.proofs.Nearness.{routines_near}
 use Rattle.image_tables.proofs.Table.{is, rdata_is}
-use Rattle.image_tables.specs.FrameLaws.{ImagesHaveText, TextsAreFixed}
 
 module _ (p : LinearProgram) (fits : FitsProgram p) where
   abbrev program : ImageContents

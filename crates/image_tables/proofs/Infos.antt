@@ -3,12 +3,10 @@ use Rattle.std.proofs.Common.{◌≡◌, ℕ, ◌+◌, ◌-◌, ◌*◌, ◌/◌
 use Rattle.std.specs.Prelude.{◌||◌, if◌then◌else◌}
 use Rattle.std.specs.List.{flat_map}
 use Rattle.std.proofs.lemmas.Bool.{cases_lt}
-use Rattle.image_tables.specs.Words.{if_set, Image, ScopeRecord, Nothing, is_c_handler, unwind_bytes, Region, FrameLayout, info_of, taking_size, CSpecificHandler, RoutineView, SiteView, own_addresses, thunk_at, is_finally, has_except, has_finally, trailer, scope_records, scope_table, info_if, info_bytes, has_rows}
+use Rattle.image_tables.specs.Words.{if_set, Image, ScopeRecord, Nothing, is_c_handler, unwind_bytes, Region, FrameLayout, info_of, taking_size, CSpecificHandler, RoutineView, SiteView, own_addresses, thunk_at, is_finally, has_except, has_finally, trailer, scope_records, scope_table, info_if, info_bytes, has_rows, IsUnwindInfo, HasTrailer, has_c_handler, parent_of, slot, is_small, is_short, allocation, header, padded, trailer_bytes, scope_record_bytes, CanBeWritten, IsTrailer}
 use Rattle.eh_tables.specs.declared.unwind_info.Trailer.{Trailer}
-use Rattle.eh_tables.specs.ReadAgain.{IsUnwindInfo, HasTrailer, has_c_handler, parent_of}
 use Rattle.pe_image.specs.Numbers.{u16, u32}
-use Rattle.eh_tables.specs.Written.{slot, is_small, is_short, allocation, header, padded, trailer_bytes, scope_record_bytes, CanBeWritten, IsTrailer}
-use Rattle.frame_layout.proofs.Sizes.{takes_four, takes_seven, takes_thirteen, can_be_written}
+use Rattle.image_tables.proofs.Lemmas.{takes_four, takes_seven, takes_thirteen, can_be_written}
 
 -- ---- what follows the codes
 

@@ -1,11 +1,8 @@
 -- Where the instructions of a body begin: each takes some bytes.
 use Rattle.std.proofs.Common.{ℕ, zero, suc, ◌+◌, ◌<◌, ◌≤◌, List, [], ◌∷◌, ◌++◌, length, Option, Some, None, arith}
-use Rattle.image_tables.specs.Words.{Rax, Rcx, Rsp, modrm, opcode_register, Slot, Local, Temporary, Instruction, Layout, size, sizes, before, fetched, temporary_at, local_at, fetch_local, keep_local, fetch, keep, operands_code, finish_code, compare_zero, jump_equal, test_code, finally_arguments, epilogue, template_size, body_size, label_list, address_or}
+use Rattle.image_tables.specs.Words.{Rax, Rcx, Rsp, modrm, opcode_register, Slot, Local, Temporary, Instruction, Layout, size, sizes, before, fetched, temporary_at, local_at, fetch_local, keep_local, fetch, keep, operands_code, finish_code, compare_zero, jump_equal, test_code, finally_arguments, epilogue, template_size, body_size, label_list, address_or, put_back, separator_code, clear_result}
 use Rattle.linear_code.specs.declared.instruction.Instruction.TheVariants as instructions
-use Rattle.template_code.specs.Slots.{put_back}
-use Rattle.template_code.specs.Jumps.{separator_code}
-use Rattle.template_code.specs.Calls.{clear_result}
-use Rattle.template_code.proofs.Sizes.{sizes_append, call_size, jump_size, passing_call_size}
+use Rattle.image_tables.proofs.Lemmas.{sizes_append, call_size, jump_size, passing_call_size}
 
 -- ---- templates
 

@@ -4,7 +4,7 @@ use Rattle.std.specs.Prelude.{slice_get, ◌&&◌}
 use Rattle.std.specs.List.{AllByRecursion}
 use Rattle.image_tables.specs.Words.{LinearFunction, LinearFunclet, LinearProgram, FrameLayout, RoutineView, is_leaf, leaf_if, functions_from, funclet, routines, Placed, site_of, infos_begin, placed, first}
 use Rattle.image_tables.proofs.Lookups.{placed_has}
-use Rattle.seh_ir.proofs.EveryInstruction.{all_append}
+use Rattle.image_tables.proofs.Lemmas.{all_append}
 
 abbrev pub size_of : Option FrameLayout → ℕ
 size_of None = 0

@@ -1,3 +1,4 @@
+mod Lemmas
 pub mod ImagePieces
 pub mod Handlers
 pub mod Labels

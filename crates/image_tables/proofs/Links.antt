@@ -1,16 +1,11 @@
 -- What the code of a routine refers to is in the image.
 use Rattle.std.proofs.Common.{ℕ, ◌+◌, ◌≤◌, length, arith}
-use Rattle.image_tables.specs.Words.{BuiltIn, LinearProgram, FitsProgram, routines, entry_size, own_addresses, text_begin, linked, Placed, site_of, links, IsNear, MOST_IMAGE}
+use Rattle.image_tables.specs.Words.{BuiltIn, LinearProgram, FitsProgram, routines, entry_size, own_addresses, text_begin, linked, Placed, site_of, links, IsNear, MOST_IMAGE, thunk_of, thunks_at, near_end}
 use Rattle.c_operations.specs.declared.built_in.BuiltIn.TheVariants.{Put, Protect, RaiseException}
-use Rattle.x64_emit.specs.Linking.{thunk_of}
-use Rattle.image_link.specs.Text.{thunks_at}
-use Rattle.image_link.proofs.Entries.{entry_small, routine_small, labels_near}
-use Rattle.image_link.proofs.Images.{site_near, has_places}
-use Rattle.image_link.proofs.Nearness.{routines_near}
+use Rattle.image_tables.proofs.Lemmas.{entry_small, routine_small, labels_near, site_near, has_places, routines_near}
 use Rattle.image_tables.proofs.RowBounds.{below_at}
 use Rattle.image_tables.proofs.CodeInMemory.{IsThere}
 use Rattle.image_tables.proofs.Templates.{AreLinksNear}
-use Rattle.x64_emit.specs.Near.{near_end}
 
 thunk_near : (text : ℕ) (f : BuiltIn) → text ≤ MOST_IMAGE → IsNear (thunk_of (thunks_at text) f)
 thunk_near text Put lt = omega arith

@@ -1,10 +1,7 @@
 -- How many bytes of a routine come before its body.
 use Rattle.std.proofs.Common.{◌≡◌, ℕ, ◌+◌, ◌<◌, ◌≤◌, Bool, true, false, leb, List, [], ◌∷◌, length, Option, Some, refl, sym, ap, ◌∙◌, arith}
-use Rattle.image_tables.specs.Words.{Instr, chosen, bytes, spelled_by, spell, prologue_code, FrameLayout, plan_of, taking_size, size, sizes, RoutineView, IsRoutineNear, frame_code, argument_code, entry_size}
-use Rattle.frame_rules.specs.Plan.{allocating}
-use Rattle.frame_layout.proofs.Sizes.{code_is}
-use Rattle.template_code.proofs.Sizes.{sizes_append}
-use Rattle.image_link.proofs.Entries.{entry_sizes}
+use Rattle.image_tables.specs.Words.{Instr, chosen, bytes, spelled_by, spell, prologue_code, FrameLayout, plan_of, taking_size, size, sizes, RoutineView, IsRoutineNear, frame_code, argument_code, entry_size, allocating}
+use Rattle.image_tables.proofs.Lemmas.{code_is, sizes_append, entry_sizes}
 
 -- the sizes of fetched instructions
 pub bytes_sizes : (is : List Instr) → bytes (spelled_by spell is) ≡ sizes is

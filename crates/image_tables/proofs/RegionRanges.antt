@@ -1,18 +1,15 @@
 -- Each region of a body is a range of its instructions.
 use Rattle.std.proofs.Common.{◌≡◌, ℕ, ◌+◌, ◌≤◌, List, [], ◌∷◌, ◌++◌, length, map, arith, length-append}
 use Rattle.std.specs.List.{AllByRecursion}
-use Rattle.image_tables.specs.Words.{Statements, Function, Instruction, Local, Temporary, LinearFunction, Names, Owner, statements_regions, finally_funclet, scope_of, lowered_function, IsRange, HasRanges}
+use Rattle.image_tables.specs.Words.{Statements, Function, Instruction, Local, Temporary, LinearFunction, Names, Owner, statements_regions, finally_funclet, scope_of, lowered_function, IsRange, HasRanges, statements_notes, finally_scope, LoweredHasRegions}
 use Rattle.linear_code.specs.declared.instruction.Instruction.TheVariants as instructions
-use Rattle.lowering_sizes.specs.Sizes.{statements_notes}
 use Rattle.lowering_expressions.specs.declared.scope.LoweringContext.{LoweringContext}
-use Rattle.lowering_expressions.specs.Scope.{finally_scope}
 use Rattle.lowering_expressions.specs.Expressions.{constant}
 use Rattle.seh_ir.specs.Statements.{statements_code}
 use Rattle.seh_ir.proofs.StatementParts.{statements_have}
 use Rattle.seh_ir.proofs.EveryStatement.{WaysHave, any_neutral, IsPlaced, HoldsOfPieces, statements_every}
-use Rattle.seh_ir.proofs.EveryInstruction.{all_append}
+use Rattle.image_tables.proofs.Lemmas.{all_append}
 use Rattle.seh_ir.proofs.EveryFunclet.{funclets_any}
-use Rattle.image_tables.specs.RegionLaws.{LoweredHasRegions}
 
 -- ---- statements in a body of so many instructions
 

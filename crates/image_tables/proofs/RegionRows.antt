@@ -3,9 +3,8 @@ use Rattle.std.proofs.Common.{◌≡◌, ℕ, ◌+◌, ◌%◌, ◌==◌, Bool, 
 use Rattle.std.specs.Prelude.{◌&&◌, nat_lt}
 use Rattle.std.specs.List.{count_by}
 use Rattle.std.proofs.lemmas.List.Sums.{sum_by-cons}
-use Rattle.image_tables.specs.Words.{ScopeRecord, if_set, Region, RegionKind, LinearProgram, is_finally, handler_address, site_of, handlers, is_always, funclet_in, named, funclet_begin, AreRows}
+use Rattle.image_tables.specs.Words.{ScopeRecord, if_set, Region, RegionKind, LinearProgram, is_finally, handler_address, site_of, handlers, is_always, funclet_in, named, funclet_begin, AreRows, is_finally_row, is_always_row}
 use Rattle.linear_code.specs.declared.program.RegionKind.TheVariants as kinds
-use Rattle.image_tables.specs.RegionRows.{is_finally_row, is_always_row}
 
 pub rows_both : (p : LinearProgram) (a b : List ScopeRecord) (rs qs : List Region) → AreRows p a rs
     → AreRows p b qs → AreRows p (a ++ b) (rs ++ qs)

@@ -1,12 +1,7 @@
 -- Sums over the regions of a program are sums over its `__try` statements.
 use Rattle.std.proofs.Common.{◌≡◌, ℕ, ◌+◌, ◌-◌, List, [], ◌∷◌, ◌++◌, map, None, refl, arith}
-use Rattle.image_tables.specs.Words.{Filter, Always, Funclet, Statement, Declare, Block, Evaluate, If, IfElse, For, DoWhile, Return, Break, Continue, Leave, TryExcept, TryFinally, Statements, Empty, Then, Function, Program, Region, RegionKind, LinearFunclet, Names, Owner, statements_regions, finally_funclet, scope_of, lowered_function, all_funclets, lowered, function_bodies, funclet_bodies, regions_in, regions, Try, Accepts, Asks, Finishes, with_filter, tries_in, tries, tries_of, all_tries}
+use Rattle.image_tables.specs.Words.{Filter, Always, Funclet, Statement, Declare, Block, Evaluate, If, IfElse, For, DoWhile, Return, Break, Continue, Leave, TryExcept, TryFinally, Statements, Empty, Then, Function, Program, Region, RegionKind, LinearFunclet, Names, Owner, statements_regions, finally_funclet, scope_of, lowered_function, all_funclets, lowered, function_bodies, funclet_bodies, regions_in, regions, Try, Accepts, Asks, Finishes, with_filter, tries_in, tries, tries_of, all_tries, expression_size, discarded_size, condition_size, all_declared_size, statement_size, statements_size, except_names, filter_names, finally_names, except_kind, region, statement_regions, filter_funclets, in_funclet, statement_funclets, statements_funclets, all_locals}
 use Rattle.linear_code.specs.declared.program.RegionKind.TheVariants as kinds
-use Rattle.lowering_sizes.specs.Sizes.{expression_size, discarded_size, condition_size, all_declared_size, statement_size, statements_size}
-use Rattle.lowering_expressions.specs.Scope.{except_names, filter_names, finally_names}
-use Rattle.seh_ir.specs.Regions.{except_kind, region, statement_regions}
-use Rattle.seh_ir.specs.Funclets.{filter_funclets, in_funclet, statement_funclets, statements_funclets}
-use Rattle.seh_ir.specs.Lowered.{all_locals}
 
 -- what a `__finally` block, a filter and one that always accepts count for; funclets are numbered
 -- from 0 on, their statements from 1 on

@@ -2,18 +2,13 @@
 use Rattle.std.proofs.Common.{◌≡◌, ℕ, zero, suc, ◌+◌, ◌^◌, ◌<◌, Bool, true, ◌&&◌, List, [], ◌∷◌, ◌++◌, Some, refl, sym, ap, ◌∙◌, arith}
 use Rattle.std.specs.List.{AllByRecursion}
 use Rattle.std.proofs.lemmas.Bool.{and_parts, and_from, ne_eqb}
-use Rattle.image_tables.specs.Words.{Rax, Instr, is_encodable, FetchedInstr, role_of, Body, following, written, may_write_all, FramePlan, IsPlan, spelled_by, operations_of, spell, Slot, Instruction, plan_of, Layout, fetch, epilogue, Links, template, template_size, code_from, IsInstructionNear}
+use Rattle.image_tables.specs.Words.{Rax, Instr, is_encodable, FetchedInstr, role_of, Body, following, written, may_write_all, FramePlan, IsPlan, spelled_by, operations_of, spell, Slot, Instruction, plan_of, Layout, fetch, epilogue, Links, template, template_size, code_from, IsInstructionNear, is_other, all_encodable, is_inner, are_inner, return_code}
 use Rattle.x64_instr.specs.declared.instruction.Instr.TheVariants as instrs
-use Rattle.frame_rules.specs.States.{is_other}
-use Rattle.frame_rules.specs.Plan.{all_encodable, is_inner, are_inner}
 use Rattle.frame_rules.specs.Plan as rules
 use Rattle.frame_rules.proofs.Bodies.{following-append}
-use Rattle.frame_rules.proofs.Bytes.{spells_all, plans_are_encodable}
-use Rattle.frame_rules.proofs.Emitting.{inner_following, epilogue_following}
+use Rattle.image_tables.proofs.Lemmas.{spells_all, plans_are_encodable, inner_following, epilogue_following, instruction_in_room}
 use Rattle.linear_code.specs.declared.instruction.Instruction.TheVariants as instructions
-use Rattle.template_code.specs.Calls.{return_code}
 use Rattle.x64_emit.specs.Rooms.{code_room}
-use Rattle.x64_emit.proofs.Nearby.{instruction_in_room}
 use Rattle.image_tables.proofs.BodyInstructions.{Inner, AllInner, fetch_inner}
 use Rattle.image_tables.proofs.Templates.{AreLinksNear, template_inner}
 

@@ -3,16 +3,13 @@ use Rattle.std.proofs.Common.{◌≡◌, ◌≢◌, ℕ, zero, suc, ◌+◌, ◌
 use Rattle.std.specs.Prelude.{slice_get, ◌&&◌, nat_le}
 use Rattle.std.specs.List.{AllByRecursion}
 use Rattle.std.proofs.lemmas.Bool.{and_parts, ne_eqb, eqb-true}
-use Rattle.image_tables.specs.Words.{Entry, Region, RegionKind, Instruction, LinearFunction, LinearFunclet, LinearProgram, FrameLayout, Layout, body_size, label_list, address_or, function_bodies, funclet_bodies, RoutineView, is_leaf, leaf_if, functions_from, funclet, routines, IsRoutineNear, SiteView, routine_size, entry_size, bounds, is_finally, handler_address, jump_target, scope_records, info_bytes, Placed, end_of, placed_from, site_of, scopes_of, entry_if, entries_of, rows_of, regions_in, regions, is_always, AreRows}
+use Rattle.image_tables.specs.Words.{Entry, Region, RegionKind, Instruction, LinearFunction, LinearFunclet, LinearProgram, FrameLayout, Layout, body_size, label_list, address_or, function_bodies, funclet_bodies, RoutineView, is_leaf, leaf_if, functions_from, funclet, routines, IsRoutineNear, SiteView, routine_size, entry_size, bounds, is_finally, handler_address, jump_target, scope_records, info_bytes, Placed, end_of, placed_from, site_of, scopes_of, entry_if, rows_of, regions_in, regions, is_always, AreRows, LinearBody, has_call, AreInOrder}
+use Rattle.image_tables.specs.Entries.{entries_of}
 use Rattle.linear_code.specs.declared.program.RegionKind.TheVariants as kinds
-use Rattle.linear_code.specs.Program.{LinearBody}
-use Rattle.image_link.specs.Routines.{has_call}
-use Rattle.image_link.proofs.Bounds.{bounds_least}
+use Rattle.image_tables.proofs.Lemmas.{bounds_least, all_append}
 use Rattle.image_tables.proofs.Labels.{label_least}
 use Rattle.image_tables.proofs.Table.{framed_room}
-use Rattle.image_tables.specs.RegionRows.{AreInOrder}
 use Rattle.image_tables.proofs.RegionRows.{rows_both}
-use Rattle.seh_ir.proofs.EveryInstruction.{all_append}
 
 -- ---- the rows of a routine
 

@@ -2,10 +2,8 @@
 use Rattle.std.proofs.Common.{◌≡◌, ℕ, zero, suc, ◌+◌, ◌^◌, ◌<◌, ◌≤◌, Bool, true, List, [], ◌∷◌, length, get_or, Ok, refl, ap, ◌∙◌, arith}
 use Rattle.std.specs.List.{AllByRecursion}
 use Rattle.std.proofs.lemmas.Bool.{lt-ltb}
-use Rattle.image_tables.specs.Words.{◌>>=◌, ScopeRecord, Region, RegionKind, Instruction, Layout, body_size, label_list, address_or, handler_address, jump_target, scope_record, scope_records, IsRange}
-use Rattle.seh_num.specs.Answers.{unless}
+use Rattle.image_tables.specs.Words.{◌>>=◌, ScopeRecord, Region, RegionKind, Instruction, Layout, body_size, label_list, address_or, handler_address, jump_target, scope_record, scope_records, IsRange, unless, IsScopeRecord}
 use Rattle.eh_tables.specs.declared.refusal.TableErr.TheVariants as refusals
-use Rattle.eh_tables.specs.ReadAgain.{IsScopeRecord}
 use Rattle.eh_tables.specs.Scopes.{is_within, checked}
 use Rattle.linear_code.specs.declared.program.RegionKind.TheVariants as kinds
 use Rattle.image_tables.proofs.Labels.{label_most, labels_rise}

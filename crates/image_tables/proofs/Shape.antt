@@ -4,13 +4,9 @@ use Rattle.std.specs.Prelude.{◌&&◌, nat_lt}
 use Rattle.std.specs.List.{AllByRecursion}
 use Rattle.std.proofs.lemmas.Bool.{ne_eqb, eq-eqb, false≢true, cases_lt}
 use Rattle.std.proofs.lemmas.List.{length-map, get_or-map}
-use Rattle.image_tables.specs.Words.{Region, LinearFunction, LinearFunclet, LinearProgram, FitsProgram, RoutineView, functions_from, funclet, routines, IsFrameNear, IsRoutineNear, routine_size, bounds, thunk_at, CSpecificHandler, has_except, has_finally, trailer, first, site_of, infos_begin, entry_of, entries, AreDifferent, rows_of, regions, named, funclet_begin, AreRows}
+use Rattle.image_tables.specs.Words.{Region, LinearFunction, LinearFunclet, LinearProgram, FitsProgram, RoutineView, functions_from, funclet, routines, IsFrameNear, IsRoutineNear, routine_size, bounds, thunk_at, CSpecificHandler, has_except, has_finally, trailer, first, site_of, infos_begin, entry_of, entries, AreDifferent, rows_of, regions, named, funclet_begin, AreRows, nothing, funclet_frame, trailer_flags}
 use Rattle.linear_code.specs.declared.program.FuncletKind.TheVariants.{Filter}
-use Rattle.image_link.specs.Routines.{nothing, funclet_frame}
-use Rattle.eh_tables.specs.Written.{trailer_flags}
-use Rattle.image_link.proofs.Images.{no_routine}
-use Rattle.image_link.proofs.Nearness.{routines_near}
-use Rattle.x64_emit.proofs.Nearby.{all_at}
+use Rattle.image_tables.proofs.Lemmas.{no_routine, routines_near, all_at}
 use Rattle.image_tables.proofs.Lookups.{placed_has, entries_are_held}
 use Rattle.image_tables.proofs.Table.{framed_room}
 use Rattle.image_tables.specs.ShapeLaws.{BeginsEntry, HasShape, TablesHaveShape, HandlersDiffer, EntriesAreFlagged, FramesAreSmall}

@@ -3,28 +3,18 @@ use Rattle.std.proofs.Common.{◌*◌, ◌≡◌, ℕ, zero, suc, ◌+◌, ◌%�
 use Rattle.std.specs.Prelude.{◌&&◌}
 use Rattle.std.specs.List.{AllByRecursion}
 use Rattle.std.proofs.lemmas.List.{map-append, length-map}
-use Rattle.image_tables.specs.Words.{Image, stored, is_c_handler, Table, Entry, or_none, ◌>>=◌, unwind_bytes, RaiseException, CSpecificHandler, LocalUnwind, Protect, Put, ImageContents, CanBeImage, sizes_of, text_at, rdata_at, xdata_at, Region, LinearFunction, LinearFunclet, LinearProgram, FrameLayout, info_of, spelled, thunk, distance, Instr, chosen, body_size, FitsProgram, RoutineView, is_leaf, leaf_if, functions_from, funclet, routines, IsFrameNear, IsRoutineNear, SiteView, routine_size, entry_size, own_addresses, thunk_at, routines_bytes, bounds, trailer, scope_record, scope_records, scope_table, info_if, info_bytes, first, linked, Placed, end_of, placed_from, site_of, infos_begin, placed, HasRanges, HasRegions, scopes_of, has_rows, entry_if, entries_of, entries, MOST_IMAGE}
+use Rattle.image_tables.specs.Words.{Image, stored, is_c_handler, Table, Entry, or_none, ◌>>=◌, unwind_bytes, RaiseException, CSpecificHandler, LocalUnwind, Protect, Put, ImageContents, CanBeImage, sizes_of, text_at, rdata_at, xdata_at, Region, LinearFunction, LinearFunclet, LinearProgram, FrameLayout, info_of, spelled, thunk, distance, Instr, chosen, body_size, FitsProgram, RoutineView, is_leaf, leaf_if, functions_from, funclet, routines, IsFrameNear, IsRoutineNear, SiteView, routine_size, entry_size, own_addresses, thunk_at, routines_bytes, bounds, trailer, scope_record, scope_records, scope_table, info_if, info_bytes, first, linked, Placed, end_of, placed_from, site_of, infos_begin, placed, HasRanges, HasRegions, scopes_of, has_rows, entry_if, entries, MOST_IMAGE, IsStoredAt, IsRuntimeFunction, WrittenEntry, HasScopes, IsEntryWritten, as_read, ranges_of, info_written, Tables, directory, all_entries, tables, scope_bytes, table_bytes, service_thunk, info_bytes_of, infos, infos_room, range_if, ranges, total, unwind_of, TablesAreRead}
+use Rattle.image_tables.specs.Entries.{entries_of}
 use Rattle.eh_tables.specs.declared.range.RuntimeFunction.{RuntimeFunction}
-use Rattle.eh_tables.specs.ReadAgain.{IsStoredAt, IsRuntimeFunction, WrittenEntry, HasScopes, IsEntryWritten, AreInOrder, as_read, ranges_of, info_written}
-use Rattle.eh_tables.specs.Tables.{Tables, directory, all_entries, tables}
+use Rattle.eh_tables.specs.ReadAgain.{AreInOrder}
 use Rattle.eh_tables.specs.Tables as reading
-use Rattle.eh_tables.specs.Written.{scope_bytes, table_bytes}
 use Rattle.eh_tables.proofs.TablesAgain.{reads_ranges}
 use Rattle.eh_tables.proofs.WholeAgain.{reads_table}
 use Rattle.pe_write.specs.Program as images
-use Rattle.pe_write.proofs.Programs.{listed}
-use Rattle.seh_ir.proofs.EveryInstruction.{all_append}
+use Rattle.image_tables.proofs.Lemmas.{listed, all_append, text_length, is_program, tables_fit, has_places, no_routine, routines_near}
 use Rattle.template_code.specs.Probing.{check_stack}
-use Rattle.image_link.specs.Text.{service_thunk}
-use Rattle.image_link.specs.Tables.{info_bytes_of, infos, infos_room, range_if, ranges}
-use Rattle.image_link.specs.Linked.{total}
-use Rattle.image_link.proofs.Bounds.{text_length}
-use Rattle.image_link.proofs.Images.{is_program, tables_fit, has_places, no_routine}
 use Rattle.image_link.proofs.Infos.{info_small}
-use Rattle.image_link.proofs.Nearness.{routines_near}
 use Rattle.image_tables.specs.RegionRanges.{IsRange as IsRegionRange}
-use Rattle.image_tables.specs.Entries.{unwind_of}
-use Rattle.image_tables.specs.TableLaws.{TablesAreRead}
 use Rattle.image_tables.proofs.ImagePieces.{text_there, xdata_there, pdata_there}
 use Rattle.image_tables.proofs.Handlers.{handler_is_c, thunk_bytes}
 use Rattle.image_tables.proofs.RowBounds.{AreBelow, checked_is, rows_within, rows_small}

@@ -1,14 +1,10 @@
 -- Each machine instruction of a template that is no return is one of a body.
 use Rattle.std.proofs.Common.{ℕ, zero, suc, ◌+◌, ◌-◌, ◌*◌, ◌^◌, ◌<◌, [], ◌∷◌, ◌++◌, refl, arith}
-use Rattle.image_tables.specs.Words.{Rax, Rcx, modrm, opcode_register, BuiltIn, Temporary, Instruction, Layout, size, sizes, before, work, temporary_at, fetch, keep, operands_code, finish_code, compare_zero, jump_equal, test_code, finally_arguments, Links, template, IsInstructionNear, IsNear}
+use Rattle.image_tables.specs.Words.{Rax, Rcx, modrm, opcode_register, BuiltIn, Temporary, Instruction, Layout, size, sizes, before, work, temporary_at, fetch, keep, operands_code, finish_code, compare_zero, jump_equal, test_code, finally_arguments, Links, template, IsInstructionNear, IsNear, call, arguments_code, begin_call, call_code, passing_code, field_load, IsFieldNear, IsReturn}
 use Rattle.c_operations.specs.declared.field.Field.{Field}
 use Rattle.c_operations.specs.declared.field.Field.TheVariants.{ExceptionCode, ExceptionFlags, NumberParameters, ExceptionInformation}
 use Rattle.linear_code.specs.declared.instruction.Instruction.TheVariants as instructions
-use Rattle.template_code.specs.Jumps.{call}
-use Rattle.template_code.specs.Calls.{arguments_code, begin_call, call_code, passing_code, field_load}
-use Rattle.x64_emit.specs.Near.{IsFieldNear}
-use Rattle.x64_emit.proofs.Nearby.{near_signed, test_small, arguments_small, passing_small}
-use Rattle.image_tables.specs.CodeInMemory.{IsReturn}
+use Rattle.image_tables.proofs.Lemmas.{near_signed, test_small, arguments_small, passing_small}
 use Rattle.image_tables.proofs.BodyInstructions.{AllInner, inner_both, signed, fetch_inner, fetch_second, keep_inner, before_inner, work_inner}
 
 -- what code refers to is in the image

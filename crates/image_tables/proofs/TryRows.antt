@@ -2,11 +2,9 @@
 use Rattle.std.proofs.Common.{◌≡◌, ℕ, ◌+◌, cond, List, [], ◌∷◌, length, refl, sym, ◌∙◌, arith}
 use Rattle.std.specs.List.{count_by}
 use Rattle.std.proofs.lemmas.List.Sums.{sum_by-cons}
-use Rattle.image_tables.specs.Words.{Region, RegionKind, lowered, is_finally, regions, is_always, Try, Accepts, Asks, Finishes, all_tries}
+use Rattle.image_tables.specs.Words.{Region, RegionKind, lowered, is_finally, regions, is_always, Try, Accepts, Asks, Finishes, all_tries, finishes, accepts, LoweredIsShaped}
 use Rattle.linear_code.specs.declared.program.RegionKind.TheVariants as kinds
 use Rattle.image_tables.proofs.Shape.{tables_have_shape, handlers_differ}
-use Rattle.image_tables.specs.Tries.{finishes, accepts}
-use Rattle.image_tables.specs.RegionLaws.{LoweredIsShaped}
 use Rattle.image_tables.proofs.RegionSums.{weight, total, try_weight, try_total, program_total}
 use Rattle.image_tables.proofs.FuncletNumbers.{lowered_names_funclets}
 

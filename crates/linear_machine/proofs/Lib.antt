@@ -1,3 +1,4 @@
+mod Lemmas
 pub mod RunLengths
 pub mod Stretch
 pub mod StretchJoins

@@ -1,12 +1,8 @@
 -- What more turns of a program show.
 use Rattle.std.proofs.Common.{◌≡◌, ℕ, ◌+◌, [], refl, ap, sym}
 use Rattle.std.specs.Prelude.{slice_get, ℤ, Option, Some, None}
-use Rattle.linear_code.specs.Program.{LinearProgram, LinearFunction}
-use Rattle.source_meaning.specs.declared.ended.Ended.{Ended}
-use Rattle.source_meaning.specs.Laws.{IsPrefixOf, ShowsMore, EndStays}
-use Rattle.source_meaning.proofs.Prefixes.{prefix_same}
-use Rattle.linear_machine.specs.Frames.{Seen, Running, Finished, Stuck, with_some}
-use Rattle.linear_machine.specs.Run.{start, seen, shown, exec, linear_meaning}
+use Rattle.linear_machine.specs.Words.{LinearProgram, LinearFunction, Ended, IsPrefixOf, ShowsMore, EndStays, Seen, Running, Finished, Stuck, with_some, start, seen, shown, exec, linear_meaning}
+use Rattle.linear_machine.proofs.Lemmas.{prefix_same}
 use Rattle.linear_machine.proofs.RunLengths.{events_of, More, longer}
 
 main_more : (program : LinearProgram) (arg : ℤ) (n k : ℕ) (o : Option LinearFunction)

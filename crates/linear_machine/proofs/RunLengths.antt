@@ -2,7 +2,7 @@
 use Rattle.std.proofs.Common.{◌≡◌, ℕ, zero, suc, ◌+◌, List, [], ◌∷◌, ◌++◌, length, refl, subst, arith}
 use Rattle.std.specs.Prelude.{◌^◌, Bool, true, false, nat_eq, nat_lt, slice_get, get_or, Option, Some, None}
 use Rattle.seh_num.specs.declared.width.Width.TheVariants.{W32, W64}
-use Rattle.seh_num.specs.declared.event.Event.{Event}
+use Rattle.linear_machine.specs.Words.{Event, Ended, Exception, IsPrefixOf, Instruction, Region, RegionKind, LinearProgram, BodyName, FunctionBody, FuncletBody, Handler, Target, Resumption, AfterCall, SameOperation, Item, Waits, Searches, Unwinds, Store, Configuration, Seen, Running, Finished, Stuck, Next, pick, with_some, deeper, read, with_temporary, with_temporaries, last_temporaries, at_label, forth, regions_at, regions_left, handlers, flag_of, begin_finally, run_finally, arrive, target_past, left_store, leave_region, unwind_body, unwind, target_of, accept, begin_filter, consult, search, raise, resumed, answered, answer, is_constant, operand, written, computed, compute, tested, waiting, begin_function, count_of, built_in, return, end_finally, end_funclet, end_body, not_landed, act, instruction_at, exec, shown}
 use Rattle.seh_num.specs.declared.event.Event.TheVariants as events
 use Rattle.seh_num.specs.Widths.{low, signed}
 use Rattle.c_operations.specs.declared.built_in.BuiltIn.{BuiltIn}
@@ -10,30 +10,17 @@ use Rattle.c_operations.specs.declared.built_in.BuiltIn.TheVariants.{Put, Protec
 use Rattle.c_operations.specs.declared.operation.Operation.{Operation}
 use Rattle.c_operations.specs.Performed as performing
 use Rattle.c_operations.specs.Performed.{performed}
-use Rattle.source_meaning.specs.declared.ended.Ended.{Ended}
 use Rattle.source_meaning.specs.declared.ended.Ended.TheVariants as ends
-use Rattle.source_meaning.specs.State.{Exception}
 use Rattle.source_meaning.specs.Source.{is_reserved}
 use Rattle.source_meaning.specs.Raises.{noncontinuable, raise_event}
 use Rattle.source_meaning.specs.Expressions.{raised, field_of}
-use Rattle.source_meaning.specs.Laws.{IsPrefixOf}
-use Rattle.source_meaning.proofs.Prefixes.{prefix_self, prefix_then}
+use Rattle.linear_machine.proofs.Lemmas.{prefix_self, prefix_then}
 use Rattle.linear_code.specs.declared.slot.Slot.{Slot}
 use Rattle.linear_code.specs.declared.slot.Slot.TheVariants.{Local, Temporary}
-use Rattle.linear_code.specs.declared.instruction.Instruction.{Instruction}
 use Rattle.linear_code.specs.declared.instruction.Instruction.TheVariants as instructions
 use Rattle.linear_code.specs.declared.program.FuncletKind.{FuncletKind}
 use Rattle.linear_code.specs.declared.program.FuncletKind.TheVariants.{Filter, Finally}
-use Rattle.linear_code.specs.declared.program.Region.{Region}
-use Rattle.linear_code.specs.declared.program.RegionKind.{RegionKind}
 use Rattle.linear_code.specs.declared.program.RegionKind.TheVariants as kinds
-use Rattle.linear_code.specs.Program.{LinearProgram}
-use Rattle.linear_machine.specs.Frames.{BodyName, FunctionBody, FuncletBody, Handler, Target, Resumption, AfterCall, SameOperation, Item, Waits, Searches, Unwinds, Store, Configuration, Seen, Running, Finished, Stuck, Next, pick, with_some, deeper, read, with_temporary, with_temporaries, last_temporaries, at_label, forth}
-use Rattle.linear_machine.specs.Regions.{regions_at, regions_left, handlers}
-use Rattle.linear_machine.specs.Unwinding.{flag_of, begin_finally, run_finally, arrive, target_past, left_store, leave_region, unwind_body, unwind}
-use Rattle.linear_machine.specs.Searching.{target_of, accept, begin_filter, consult, search, raise, resumed, answered, answer}
-use Rattle.linear_machine.specs.Instructions.{is_constant, operand, written, computed, compute, tested, waiting, begin_function, count_of, built_in, return, end_finally, end_funclet, end_body, not_landed, act}
-use Rattle.linear_machine.specs.Run.{instruction_at, exec, shown}
 
 abbrev pub events_of : Seen → List Event
 events_of seen = (shown seen).events

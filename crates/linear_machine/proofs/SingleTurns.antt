@@ -2,17 +2,11 @@
 use Rattle.std.proofs.Common.{◌≡◌, ℕ, zero, suc, ◌+◌, ◌≤◌, List, length, refl, ap, ◌∙◌, subst, arith, sym}
 use native.Mathlib.Nat.{mul-zero, mul-one}
 use Rattle.std.specs.Prelude.{Bool, true, false, nat_lt, Some, None}
-use Rattle.seh_num.specs.declared.event.Event.{Event}
+use Rattle.linear_machine.specs.Words.{Event, State, End, Outcome, Gives, choose, depth, counted, IsPrefixOf, Instruction, LinearProgram, Store, Configuration, Seen, Finished, pick, with_some, act, instruction_at, exec}
 use Rattle.source_meaning.specs.declared.ended.Ended.TheVariants.{Deep}
-use Rattle.source_meaning.specs.State.{State, End, Outcome, Gives, choose, depth, deeper}
-use Rattle.source_meaning.specs.Tasks.{counted}
-use Rattle.source_meaning.specs.Laws.{IsPrefixOf}
-use Rattle.source_meaning.proofs.Prefixes.{prefix_self}
-use Rattle.linear_code.specs.declared.instruction.Instruction.{Instruction}
-use Rattle.linear_code.specs.Program.{LinearProgram}
-use Rattle.linear_machine.specs.Frames.{Store, Configuration, Seen, Finished, pick, with_some, deeper as deeper'}
-use Rattle.linear_machine.specs.Instructions.{act}
-use Rattle.linear_machine.specs.Run.{instruction_at, exec}
+use Rattle.source_meaning.specs.State.{deeper}
+use Rattle.linear_machine.proofs.Lemmas.{prefix_self}
+use Rattle.linear_machine.specs.Frames.{deeper as deeper'}
 use Rattle.linear_machine.proofs.RunLengths.{events_of}
 use Rattle.linear_machine.proofs.Stretch.{Part, at, Ways, Before, Price, price, Reaches, Stops, Claim}
 use Rattle.linear_machine.proofs.StretchJoins.{Joined, after, claim_stepped}

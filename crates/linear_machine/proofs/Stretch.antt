@@ -1,18 +1,9 @@
 -- Stretches of a run with their price, and what is claimed of a part of the program.
 use Rattle.std.proofs.Common.{◌≡◌, ◌⊎◌, ℕ, suc, ◌+◌, ◌*◌, ◌≤◌, List, [], ◌∷◌, ◌++◌, length}
 use Rattle.std.specs.Prelude.{Some, None}
-use Rattle.seh_num.specs.declared.event.Event.{Event}
-use Rattle.source_meaning.specs.State.{Exception, State, Result, Value, Normal, Returned, Broke, Continued, LeftTry, Target, End, Outcome, Gives}
-use Rattle.source_meaning.specs.Tasks.{Context}
-use Rattle.source_meaning.specs.Laws.{IsPrefixOf}
-use Rattle.linear_code.specs.declared.program.Region.{Region}
-use Rattle.linear_code.specs.Program.{LinearProgram}
-use Rattle.linear_machine.specs.Frames.{BodyName, Frame, Handler, Item, Waits, Store, Configuration, Seen, Running, Finished, Next}
+use Rattle.linear_machine.specs.Words.{Event, Exception, State, Result, Value, Normal, Returned, Broke, Continued, LeftTry, End, Outcome, Gives, Context, IsPrefixOf, Region, LinearProgram, BodyName, Frame, Handler, Item, Waits, Store, Configuration, Seen, Running, Finished, Next, handlers, handlers_in, unwind, target_of, exec}
+use Rattle.source_meaning.specs.State.{Target}
 use Rattle.linear_machine.specs.Frames as machine
-use Rattle.linear_machine.specs.Regions.{handlers, handlers_in}
-use Rattle.linear_machine.specs.Unwinding.{unwind}
-use Rattle.linear_machine.specs.Searching.{target_of}
-use Rattle.linear_machine.specs.Run.{exec}
 use Rattle.linear_machine.proofs.RunLengths.{events_of}
 
 -- a place in a run, maybe within a turn, from which it continues

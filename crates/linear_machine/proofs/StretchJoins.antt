@@ -2,15 +2,9 @@
 use Rattle.std.proofs.Common.{◌≡◌, ℕ, zero, suc, ◌+◌, ◌*◌, ◌≤◌, List, refl, ap, ◌∙◌, subst, arith, sym}
 use native.Mathlib.Nat.{mul-add}
 use Rattle.std.specs.Prelude.{Some, None}
-use Rattle.seh_num.specs.declared.event.Event.{Event}
-use Rattle.source_meaning.specs.State.{Exception, State, Result, Value, Normal, Returned, Broke, Continued, LeftTry, Target, End, Outcome, Gives, with_value, and_then}
-use Rattle.source_meaning.specs.Tasks.{Context}
-use Rattle.source_meaning.specs.Laws.{IsPrefixOf}
-use Rattle.source_meaning.proofs.Prefixes.{prefix_then}
-use Rattle.linear_code.specs.Program.{LinearProgram}
-use Rattle.linear_machine.specs.Frames.{Store, Seen, Finished}
-use Rattle.linear_machine.specs.Searching.{target_of}
-use Rattle.linear_machine.specs.Run.{exec}
+use Rattle.linear_machine.specs.Words.{Event, Exception, State, Result, Value, Normal, Returned, Broke, Continued, LeftTry, End, Outcome, Gives, with_value, and_then, Context, IsPrefixOf, LinearProgram, Store, Seen, Finished, target_of, exec}
+use Rattle.source_meaning.specs.State.{Target}
+use Rattle.linear_machine.proofs.Lemmas.{prefix_then}
 use Rattle.linear_machine.proofs.RunLengths.{events_of}
 use Rattle.linear_machine.proofs.Stretch.{Part, Site, Way, Never, To, Out, Ways, Kept, no_ways, value_ways, normal_ways, first_ways, Before, Price, price, Join, Dearer, Reaches, Finishes, Stops, unwound, Arrival, Arrives, Targets, Attains, Claim}
 

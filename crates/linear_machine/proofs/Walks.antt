@@ -2,13 +2,8 @@
 use Rattle.std.proofs.Common.{◌≡◌, ◌⊎◌, inl, inr, ℕ, suc, ◌<◌, ◌≤◌, List, [], ◌∷◌, ◌++◌, length, refl, ap, sym, ◌∙◌, subst, arith, append_assoc}
 use Rattle.std.proofs.lemmas.Bool.{eq-eqb, ne_eqb, lt-ltb, le-ltb, le-leb, lt-leb, and_from, and_left, and_right, or_right, or_from}
 use Rattle.std.specs.Prelude.{true, false, ◌||◌, nat_eq, nat_le, nat_lt, Option, Some, None}
-use Rattle.linear_code.specs.declared.program.Region.{Region}
-use Rattle.linear_code.specs.declared.program.RegionKind.{RegionKind}
+use Rattle.linear_machine.specs.Words.{Region, RegionKind, LinearProgram, Handler, Target, Item, Waits, Searches, Unwinds, Store, Configuration, Seen, Next, pick, regions_at, regions_left, holds, handlers_of, handlers_in, handlers, leads_to, stops, arrive, left_store, run_finally, leave_region, unwind_body}
 use Rattle.linear_code.specs.declared.program.RegionKind.TheVariants as kinds
-use Rattle.linear_code.specs.Program.{LinearProgram}
-use Rattle.linear_machine.specs.Frames.{Handler, Target, Item, Waits, Searches, Unwinds, Store, Configuration, Seen, Next, pick}
-use Rattle.linear_machine.specs.Regions.{regions_at, regions_left, holds, handlers_of, handlers_in, handlers, leads_to, stops}
-use Rattle.linear_machine.specs.Unwinding.{arrive, left_store, run_finally, leave_region, unwind_body}
 use Rattle.linear_machine.proofs.Stretch.{Picked}
 
 pub picked_less : (fs : List Handler) (level : ℕ) (f : Handler) → Picked fs level f

@@ -4,3 +4,4 @@ pub mod Unwinding
 pub mod Searching
 pub mod Instructions
 pub mod Run
+pub mod Words

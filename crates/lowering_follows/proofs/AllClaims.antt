@@ -2,11 +2,8 @@
 use Rattle.std.proofs.Common.{◌≡◌, ◌≤◌, ℕ, zero, suc, ◌+◌, [], subst, arith}
 use Rattle.std.specs.Prelude.{◌-◌, slice_get, Some}
 use Rattle.seh_num.specs.declared.event.Event.TheVariants as events
-use Rattle.lowering_follows.specs.Words.{Program, Function, LinearProgram, LinearFunction, deeper, begin_finally, begin_filter, exec, raise, expression_weight, lvalue_weight, optional_weight, statement_weight, statements_weight, FunctionPlaced}
-use Rattle.linear_machine.proofs.Stretch.{at, conf}
-use Rattle.linear_machine.proofs.SingleTurns.{stopped, shown_deep}
-use Rattle.source_meaning.proofs.Prefixes.{prefix_less}
-use Rattle.linear_machine.proofs.RunLengths.{from_none}
+use Rattle.lowering_follows.specs.Words.{Program, Function, LinearProgram, LinearFunction, deeper, begin_finally, begin_filter, raise, exec, expression_weight, lvalue_weight, optional_weight, statement_weight, statements_weight, FunctionPlaced}
+use Rattle.lowering_follows.proofs.Lemmas.{at, conf, stopped, shown_deep, prefix_less, from_none}
 use Rattle.lowering_follows.proofs.TaskClaims.{Runs, shown_raise}
 use Rattle.lowering_follows.proofs.TaskSteps.{eval_next, locate_next, raised_next, retry_next, filter_next}
 use Rattle.lowering_follows.proofs.BodyClaims.{BodyRuns}

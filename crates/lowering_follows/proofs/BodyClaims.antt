@@ -3,14 +3,12 @@
 use Rattle.std.proofs.Common.{◌≡◌, ◌⊎◌, inl, inr, ◌≤◌, ℕ, ◌+◌, List, [], ◌∷◌, length, refl, ◌∙◌, arith}
 use Rattle.std.proofs.lemmas.Bool.{or_left}
 use Rattle.std.specs.Prelude.{◌-◌, Bool, true, false, Option, Some, None}
-use Rattle.lowering_follows.specs.Words.{Expression, Statement, Statements, Program, State, Outcome, with_value, Context, Eval, Run, ForIteration, DoIteration, TryBody, RunFinally, no_exception, within, Temporary, Region, LinearProgram, BodyName, FuncletBody, body_of, Item, Store, Configuration, Seen, Next, pick, deeper, holds, begin_finally, unwind_body, end_finally, end_body, instruction_in, Names, LoweringContext, OfFilter, Nowhere, Jumps, Unwinds, expression_size, statement_size, statements_size, statement_notes, statements_notes, expression_code, ExpressionFits, expression_weight, optional_weight, statement_weight, statements_weight, HasAt, Placed, AllPlaced, ForPlaced, DoPlaced, FinallyPlaced, for_end, do_end}
+use Rattle.lowering_follows.specs.Words.{Expression, Statement, Statements, Program, State, Outcome, with_value, Context, Eval, Run, ForIteration, DoIteration, TryBody, RunFinally, no_exception, within, Temporary, Region, LinearProgram, BodyName, FuncletBody, body_of, Item, Store, Configuration, Seen, Next, pick, deeper, holds, begin_finally, unwind_body, end_finally, end_body, instruction_in, Names, LoweringContext, OfFilter, Nowhere, Jumps, expression_size, statement_size, statements_size, statement_notes, statements_notes, expression_code, ExpressionFits, expression_weight, optional_weight, statement_weight, statements_weight, HasAt, Placed, AllPlaced, ForPlaced, DoPlaced, FinallyPlaced, for_end, do_end, leads_to, stops, arrive, leave_region}
+use Rattle.lowering_expressions.specs.declared.scope.Way.TheVariants.{Unwinds}
 use Rattle.linear_code.specs.declared.instruction.Instruction.TheVariants as instructions
 use Rattle.linear_machine.specs.Frames as machine
-use Rattle.linear_machine.specs.Regions.{leads_to, stops}
-use Rattle.linear_machine.specs.Unwinding.{arrive, leave_region}
-use Rattle.linear_machine.proofs.Stretch.{at, Site, conf, Way, Never, To, Out, Ways, Kept, Price, price, Join, unwound, Claim, value_ways, normal_ways}
-use Rattle.linear_machine.proofs.StretchJoins.{then_value, claim_kept}
-use Rattle.linear_machine.proofs.Walks.{Around, around_part, IsExcept, except_left, lands}
+use Rattle.lowering_follows.proofs.Lemmas.{at, Site, conf, Way, Never, To, Out, Ways, Price, price, Join, Claim, value_ways, normal_ways, then_value, claim_kept, Around, around_part, IsExcept, except_left, lands}
+use Rattle.linear_machine.proofs.Stretch.{Kept, unwound}
 use Rattle.lowering_expressions.specs.declared.scope.Way as jumps
 use Rattle.lowering_follows.proofs.Stores.{Shape, NotesKept, everywhere, below_slot, kept_itself, kept_through, kept_fewer}
 use Rattle.lowering_follows.proofs.Environments.{KeptFrom, Env, env_later, env_among}

@@ -3,16 +3,11 @@ use Rattle.std.proofs.Common.{◌≡◌, ◌<◌, ◌≤◌, ℕ, zero, suc, ◌
 use Rattle.std.specs.Prelude.{set, Option, Some, None}
 use Rattle.c_operations.specs.declared.operation.Operation.TheVariants as operations
 use Rattle.c_operations.specs.declared.operation.Pure.TheVariants as pures
-use Rattle.lowering_follows.specs.Words.{Expression, Program, State, Value, Normal, Broke, Continued, Outcome, Gives, Context, optional, in_loop, within, Temporary, Compute, Separator, LinearProgram, Store, with_some, set_local, end_body, exec, LoweringContext, Nowhere, Jumps, Unwinds, expression_size, discarded_size, declared_size, copy, expression_code, jump_code, return_code, leave_code, discarded_code, expression_weight, optional_weight, HasAt, IsWay, IsPlace, OptionalFits, DeclaredPlaced}
+use Rattle.lowering_follows.specs.Words.{Expression, Program, State, Value, Normal, Broke, Continued, Outcome, Gives, Context, optional, in_loop, within, Temporary, Compute, Separator, LinearProgram, Store, with_some, set_local, end_body, exec, LoweringContext, Nowhere, Jumps, expression_size, discarded_size, declared_size, copy, expression_code, jump_code, return_code, leave_code, discarded_code, expression_weight, optional_weight, HasAt, IsWay, IsPlace, OptionalFits, DeclaredPlaced, declare, Local, LocalUnwind}
+use Rattle.lowering_expressions.specs.declared.scope.Way.TheVariants.{Unwinds}
 use Rattle.source_meaning.specs.State as model
-use Rattle.source_meaning.specs.Statements.{declare}
-use Rattle.linear_code.specs.declared.slot.Slot.TheVariants.{Local}
 use Rattle.linear_code.specs.declared.instruction.Instruction.TheVariants as instructions
-use Rattle.linear_code.specs.declared.instruction.Instruction.TheVariants.{LocalUnwind}
-use Rattle.linear_machine.proofs.Stretch.{Part, at, Site, conf, Ways, Price, price, Join, Arrives, Claim, first_ways, joins}
-use Rattle.linear_machine.proofs.StretchJoins.{Passes, Joined, more, attains_more, after, arrives_more}
-use Rattle.linear_machine.proofs.SingleTurns.{first, stepped, still, fetch}
-use Rattle.source_meaning.proofs.Prefixes.{prefix_self}
+use Rattle.lowering_follows.proofs.Lemmas.{Part, at, Site, conf, Ways, Price, price, Join, Arrives, Claim, first_ways, joins, Passes, Joined, more, attains_more, after, arrives_more, first, stepped, still, fetch, prefix_self}
 use Rattle.lowering_expressions.specs.declared.scope.Way as jumps
 use Rattle.lowering_expressions.specs.Scope as scopes
 use Rattle.lowering_follows.proofs.Stores.{Shape, at_list, below_slot, local_set_alike, kept_set, kept_through}

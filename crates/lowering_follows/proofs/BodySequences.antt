@@ -2,10 +2,7 @@
 use Rattle.std.proofs.Common.{◌≡◌, ◌≤◌, ℕ, ◌+◌, List, [], refl, subst, arith}
 use Rattle.std.specs.Prelude.{max}
 use Rattle.lowering_follows.specs.Words.{Statements, Empty, Then, Program, State, Normal, Outcome, Gives, and_then, Context, Run, all, within, LinearProgram, Store, LoweringContext, statement_size, statements_size, statements_notes, statement_notes, statement_weight, statements_weight, AllPlaced}
-use Rattle.linear_machine.proofs.Stretch.{at, Site, conf, Ways, Price, price, Claim, joins}
-use Rattle.linear_machine.proofs.StretchJoins.{then_normal}
-use Rattle.linear_machine.proofs.SingleTurns.{still}
-use Rattle.source_meaning.proofs.Prefixes.{prefix_self}
+use Rattle.lowering_follows.proofs.Lemmas.{at, Site, conf, Ways, Price, price, Claim, joins, then_normal, still, prefix_self}
 use Rattle.lowering_follows.proofs.Stores.{Shape}
 use Rattle.lowering_follows.proofs.BodyClaims.{Inner, inner_part, statement_ways, Stays, Surroundings, surroundings_less, BodyRuns}
 

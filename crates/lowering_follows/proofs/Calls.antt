@@ -4,11 +4,10 @@ use Rattle.std.proofs.lemmas.Bool.{eq-eqb}
 use Rattle.std.proofs.lemmas.List.{length_push, take_at, drop_at}
 use Rattle.std.specs.Prelude.{Bool, take, nat_eq, get_or, slice_get, if◌then◌else◌, Some, None}
 use Rattle.std.specs.Prelude.{is_some}
-use Rattle.lowering_follows.specs.Words.{W64, Arguments, Done, Program, State, Value, Outcome, Gives, Context, of_test, within, Instruction, LinearProgram, Store, Seen, exec, Names, expression_size, expression_code, node_code, NodeFits, expression_weight, node_weight, HasAt, W32, signed, BuiltIn, Put, Protect, RaiseException, Function, Exception, set_memory, emit, and_then, Raise, enter, LinearFunction, Waits, deeper, with_some, raise, count_of, begin_function, arguments_size, argument_count, arguments_code, ArgumentsFit}
+use Rattle.lowering_follows.specs.Words.{W64, W32, Arguments, Done, Program, Function, State, Value, Outcome, Gives, Exception, set_memory, emit, and_then, Context, Raise, of_test, enter, within, Instruction, LinearProgram, LinearFunction, Store, Seen, Waits, deeper, with_some, exec, Names, expression_size, arguments_size, expression_code, node_code, argument_count, arguments_code, NodeFits, ArgumentsFit, expression_weight, node_weight, HasAt, signed, BuiltIn, Put, Protect, RaiseException, raise, count_of, begin_function, protected, rights_asked, raised, each, call_built_in, Call, CallBuiltIn, AfterCall, last_temporaries, waiting, built_in, arguments_weight}
 use Rattle.c_checked.specs.Expression as nodes
 use Rattle.c_checked.specs.Expression.{Next}
-use Rattle.linear_machine.proofs.Stretch.{Part, Site, conf, price, joins}
-use Rattle.linear_machine.proofs.StretchJoins.{more}
+use Rattle.lowering_follows.proofs.Lemmas.{Part, Site, conf, price, joins, more, frame_of, then_plain, fetch, first, stepped, prefix_self}
 use Rattle.lowering_follows.proofs.Stores.{Shape}
 use Rattle.lowering_follows.proofs.Places.{has_at, has_front, has_after}
 use Rattle.lowering_follows.proofs.Lengths.{expression_length}
@@ -16,16 +15,6 @@ use Rattle.lowering_follows.proofs.TaskClaims.{pushed, Around, Runs}
 use Rattle.lowering_follows.proofs.NodeParts.{Kp, Wv, From, from_at, here_value}
 use Rattle.lowering_follows.proofs.Nodes.{NodeRuns, operand_runs}
 use Rattle.seh_num.specs.declared.event.Event.TheVariants as events
-use Rattle.flat_memory.specs.Memory.{protected, rights_asked}
-use Rattle.source_meaning.specs.Expressions.{raised, each, call_built_in}
-use Rattle.linear_code.specs.declared.instruction.Instruction.TheVariants.{Call, CallBuiltIn}
-use Rattle.linear_machine.specs.Frames.{AfterCall, last_temporaries}
-use Rattle.linear_machine.specs.Instructions.{waiting, built_in}
-use Rattle.linear_machine.proofs.Stretch.{frame_of}
-use Rattle.linear_machine.proofs.StretchJoins.{then_plain}
-use Rattle.linear_machine.proofs.SingleTurns.{fetch, first, stepped}
-use Rattle.source_meaning.proofs.Prefixes.{prefix_self}
-use Rattle.lowering_follows.specs.Weights.{arguments_weight}
 use Rattle.lowering_follows.proofs.Stores.{memory_alike}
 
 -- the last temporaries are the arguments

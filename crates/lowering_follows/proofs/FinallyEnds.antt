@@ -1,19 +1,13 @@
 -- A `__finally` block runs for every result of the body on its way out.
 use Rattle.std.proofs.Common.{◌≡◌, inl, inr, ◌<◌, ◌≤◌, ℕ, suc, ◌+◌, List, [], ◌∷◌, ◌++◌, length, refl, ap, sym, ◌∙◌, arith}
 use Rattle.std.specs.Prelude.{◌-◌, Bool, true, false, Some, None}
-use Rattle.lowering_follows.specs.Words.{Statements, Program, State, Value, Normal, Returned, Broke, Continued, LeftTry, Target, End, Outcome, Gives, and_then, Context, RunFinally, finally_after, within, Temporary, CallFinally, Separator, Region, LinearProgram, Item, Waits, Store, Configuration, Finished, Next, with_some, deeper, handlers_in, handlers, begin_finally, target_past, unwind, target_of, end_body, instruction_in, exec, Names, LoweringContext, Nowhere, Jumps, in_guarded, region, statements_notes, statements_weight, HasAt, HasFunclet, FinallyPlaced}
-use Rattle.source_meaning.specs.State.{Result}
+use Rattle.lowering_follows.specs.Words.{Statements, Program, State, Value, Normal, Returned, Broke, Continued, LeftTry, Target, End, Outcome, Gives, and_then, Context, RunFinally, finally_after, within, Temporary, CallFinally, Separator, Region, LinearProgram, Item, Waits, Store, Configuration, Finished, Next, with_some, deeper, handlers_in, handlers, begin_finally, target_past, unwind, target_of, end_body, instruction_in, exec, Names, LoweringContext, Nowhere, Jumps, in_guarded, region, statements_notes, statements_weight, HasAt, HasFunclet, FinallyPlaced, Result, Unwinds, flag_in, flag_of, run_finally}
 use Rattle.linear_code.specs.declared.instruction.Instruction.TheVariants as instructions
 use Rattle.linear_code.specs.declared.program.RegionKind.TheVariants as regions
 use Rattle.linear_code.specs.declared.program.FuncletKind.TheVariants as kinds
-use Rattle.linear_machine.specs.Frames.{Unwinds}
 use Rattle.linear_machine.specs.Frames as machine
-use Rattle.linear_machine.specs.Unwinding.{flag_in, flag_of, run_finally}
-use Rattle.linear_machine.proofs.Stretch.{Part, at, Site, frame_of, conf, Way, Never, To, Out, Ways, Kept, Price, price, Join, found, Reaches, unwound, Arrives, Claim, normal_ways, joins}
-use Rattle.linear_machine.proofs.StretchJoins.{more, attains_out, after, reaches_after, finishes_more, stops_more, then_held}
-use Rattle.linear_machine.proofs.SingleTurns.{onto, still, stepped, first, fetch}
-use Rattle.source_meaning.proofs.Prefixes.{prefix_self}
-use Rattle.linear_machine.proofs.Walks.{Outward, starts}
+use Rattle.lowering_follows.proofs.Lemmas.{Part, at, Site, frame_of, conf, Way, Never, To, Out, Ways, Price, price, Join, found, Reaches, Arrives, Claim, normal_ways, joins, more, attains_out, after, reaches_after, finishes_more, stops_more, then_held, onto, still, stepped, first, fetch, prefix_self, Outward, starts}
+use Rattle.linear_machine.proofs.Stretch.{Kept, unwound}
 use Rattle.lowering_expressions.specs.declared.scope.Way.TheVariants.{Unwinds as UnwindsTo}
 use Rattle.lowering_expressions.specs.declared.scope.Way as jumps
 use Rattle.lowering_expressions.specs.Scope as scopes

@@ -6,11 +6,8 @@ use Rattle.std.specs.Prelude.{◌-◌, Bool, false, take, replicate, get_or, sli
 use Rattle.lowering_follows.specs.Words.{Filter, Always, Funclet, Program, Function, State, Value, Normal, Returned, Target, Outcome, Gives, Context, Handler, no_exception, all, ended_call, enter, within, Temporary, LinearProgram, LinearFunction, FunctionBody, Item, Waits, Store, with_some, deeper, regions_at, handlers_in, handlers, target_past, unwind, target_of, begin_function, exec, Names, LoweringContext, Nowhere, Jumps, statements_size, statements_notes, constant, own_locals, scope_of, statements_weight, HasAt, FunctionPlaced}
 use Rattle.linear_code.specs.declared.instruction.Instruction.TheVariants as instructions
 use Rattle.linear_machine.specs.Frames as machine
-use Rattle.linear_machine.proofs.Stretch.{Part, at, Site, frame_of, conf, Picked, Ways, Kept, price, found, Reaches, Claim, value_ways}
-use Rattle.linear_machine.proofs.StretchJoins.{more, attains_out, reaches_after, reaches_more}
-use Rattle.linear_machine.proofs.SingleTurns.{stepped, fetch, sooner, deep_claim}
-use Rattle.source_meaning.proofs.Prefixes.{prefix_self}
-use Rattle.linear_machine.proofs.Walks.{handlers_below, leaves}
+use Rattle.lowering_follows.proofs.Lemmas.{Part, at, Site, frame_of, conf, Picked, Ways, price, found, Reaches, Claim, value_ways, more, attains_out, reaches_after, reaches_more, stepped, fetch, sooner, deep_claim, prefix_self, handlers_below, leaves}
+use Rattle.linear_machine.proofs.Stretch.{Kept}
 use Rattle.lowering_follows.proofs.Stores.{at_push_old, Shape, FrameAlike, Places, NotesKept, everywhere, below_slot, kept_itself, kept_through, get_push_new, get_pushed, push_alike, take_alike, call_kept}
 use Rattle.lowering_follows.proofs.Places.{has_at}
 use Rattle.lowering_follows.proofs.Turns.{constant_turn}

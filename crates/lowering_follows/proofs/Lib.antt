@@ -1,3 +1,4 @@
+mod Lemmas
 pub mod Stores
 pub mod Places
 pub mod BodyClaims

@@ -5,10 +5,7 @@ use Rattle.std.proofs.lemmas.Nat.{mul-mod}
 use Rattle.std.specs.Prelude.{◌%◌, Bool, true, false, nat_eq, if◌then◌else◌, Some}
 use Rattle.lowering_follows.specs.Words.{W64, low, Operation, Long, width, extended, result_of, Conversion, Kept, Extend, Scale, Expression, Lvalue, Program, State, Value, Outcome, Gives, with_value, Context, Eval, Locate, converted, operate, locate, read, within, Temporary, Compute, LinearProgram, Store, Seen, pick, with_some, with_temporary, is_constant, exec, Names, read_size, conversion_size, expression_size, locate_size, constant, choice_code, conversion_code, expression_code, read_code, locate_code, ExpressionFits, LvalueFits, expression_weight, lvalue_weight, HasAt}
 use Rattle.c_operations.specs.declared.operation.Pure.TheVariants as pures
-use Rattle.linear_machine.proofs.Stretch.{Part, at, Site, conf, Ways, price, Claim, value_ways, joins}
-use Rattle.linear_machine.proofs.StretchJoins.{more, then_value}
-use Rattle.linear_machine.proofs.SingleTurns.{first, still, fetch}
-use Rattle.source_meaning.proofs.Prefixes.{prefix_self}
+use Rattle.lowering_follows.proofs.Lemmas.{Part, at, Site, conf, Ways, price, Claim, value_ways, joins, more, then_value, first, still, fetch, prefix_self}
 use Rattle.lowering_follows.proofs.Stores.{Shape}
 use Rattle.lowering_follows.proofs.Places.{has_at}
 use Rattle.lowering_follows.proofs.TaskClaims.{located, pushed, with_address, Operands, Within, Around, SameOperation', Runs}

@@ -7,9 +7,7 @@ use Rattle.c_operations.specs.declared.operation.Operation.TheVariants as operat
 use Rattle.c_operations.specs.declared.operation.Pure.TheVariants as pures
 use Rattle.c_checked.specs.Expression as nodes
 use Rattle.source_meaning.specs.Expressions as model
-use Rattle.linear_machine.proofs.Stretch.{Part, at, Site, conf, price, value_ways}
-use Rattle.linear_machine.proofs.StretchJoins.{more}
-use Rattle.linear_machine.proofs.SingleTurns.{chosen}
+use Rattle.lowering_follows.proofs.Lemmas.{Part, at, Site, conf, price, value_ways, more, chosen}
 use Rattle.lowering_follows.proofs.Stores.{Shape}
 use Rattle.lowering_follows.proofs.Places.{has_at, has_front, has_after}
 use Rattle.lowering_follows.proofs.Lengths.{expression_length}

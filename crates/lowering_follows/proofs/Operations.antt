@@ -2,22 +2,17 @@
 use Rattle.std.proofs.Common.{◌≡◌, ◌≤◌, ℕ, suc, ◌+◌, List, [], ◌∷◌, ◌++◌, length, refl, ap, sym, subst, ◌∙◌, arith, append-nil}
 use Rattle.std.proofs.lemmas.List.{length_push}
 use Rattle.std.specs.Prelude.{Bool, false, slice_get, Some}
-use Rattle.lowering_follows.specs.Words.{W32, W64, Operation, Long, width, extended, result_of, performed, Lvalue, Local, Global, Indirection, Element, Program, Exception, State, Value, Outcome, Gives, set_memory, with_value, and_then, Context, Eval, Raise, Retry, is_reserved, operate, locate, read, write, within, Temporary, Compute, LinearProgram, Store, Configuration, with_temporary, raise, is_constant, computed, exec, Names, address_count, read_size, expression_size, locate_size, combine, expression_code, read_code, write_code, locate_code, LvalueFits, expression_weight, lvalue_weight, HasAt}
+use Rattle.lowering_follows.specs.Words.{W32, W64, Operation, Long, width, extended, result_of, performed, Lvalue, Global, Indirection, Element, Program, Exception, State, Value, Outcome, Gives, set_memory, with_value, and_then, Context, Eval, Raise, Retry, is_reserved, operate, locate, read, write, within, Temporary, Compute, LinearProgram, Store, Configuration, with_temporary, raise, is_constant, computed, exec, Names, address_count, read_size, expression_size, locate_size, combine, expression_code, read_code, write_code, locate_code, LvalueFits, expression_weight, lvalue_weight, HasAt, W8, W16, value_width, value_of, tried, load, SameOperation, size_of, load_code}
+use Rattle.c_checked.specs.Expression.{Local}
 use Rattle.seh_num.specs.declared.width.Width.{Width}
-use Rattle.seh_num.specs.declared.width.Width.TheVariants.{W8, W16}
 use Rattle.c_operations.specs.declared.operation.Operation.TheVariants.{Pure, Load, Store as StoreTo}
 use Rattle.c_operations.specs.declared.operation.Pure.TheVariants as pures
 use Rattle.c_operations.specs.Performed as performing
 use Rattle.c_checked.specs.declared.expression.Access.{Access}
 use Rattle.source_meaning.specs.State.{local_of, set_local}
-use Rattle.source_meaning.specs.Expressions.{value_width, value_of, tried, load}
-use Rattle.linear_machine.specs.Frames.{SameOperation}
 use Rattle.linear_machine.specs.Frames as machine
-use Rattle.linear_machine.proofs.Stretch.{Part, at, Site, conf, Kept, Ways, Price, price, Claim, value_ways, joins}
-use Rattle.linear_machine.proofs.StretchJoins.{more, then_value, then_plain}
-use Rattle.linear_machine.proofs.SingleTurns.{first, still, stepped}
-use Rattle.source_meaning.proofs.Prefixes.{prefix_self, prefix_same}
-use Rattle.lowering_expressions.specs.Expressions.{size_of, load_code}
+use Rattle.lowering_follows.proofs.Lemmas.{Part, at, Site, conf, Ways, Price, price, Claim, value_ways, joins, more, then_value, then_plain, first, still, stepped, prefix_self, prefix_same}
+use Rattle.linear_machine.proofs.Stretch.{Kept}
 use Rattle.lowering_follows.proofs.Stores.{Shape, memory_alike, local_set_alike, everywhere, kept_through, kept_set}
 use Rattle.lowering_follows.proofs.Places.{has_front, has_after}
 use Rattle.lowering_follows.proofs.Lengths.{expression_length}

@@ -3,24 +3,21 @@ use Rattle.std.proofs.Common.{◌≡◌, ◌<◌, ◌≤◌, ℕ, zero, suc, ◌
 use Rattle.std.proofs.lemmas.Bool.{lt-ltb, ltb-true, ltb-false}
 use Rattle.std.proofs.lemmas.List.{length_push}
 use Rattle.std.specs.Prelude.{◌-◌, ◌/◌, nat_lt, negsuc, ◌-ℤ◌, int_div, neg_ℤ, Bool, true, false, if◌then◌else◌, ℤ, pos}
-use Rattle.lowering_follows.specs.Words.{W64, low, Expression, Program, State, Value, Gives, Context, Temporary, LinearProgram, Store, with_temporary, exec, Names, expression_size, constant, combine, node_code, NodeFits, expression_weight, node_weight, HasAt, signed, wrapped, Long, result_of, performed, is_reserved, Memory, computed}
+use Rattle.lowering_follows.specs.Words.{W64, low, signed, wrapped, Expression, Program, State, Value, Gives, Context, Temporary, LinearProgram, Store, with_temporary, exec, Names, expression_size, constant, combine, node_code, NodeFits, expression_weight, node_weight, HasAt, Long, result_of, performed, is_reserved, Memory, computed, limit, half, signed_part, apart}
 use Rattle.c_operations.specs.declared.operation.Operation.TheVariants as operations
 use Rattle.c_operations.specs.declared.operation.Pure.TheVariants as pures
 use Rattle.c_checked.specs.Expression as nodes
-use Rattle.linear_machine.proofs.Stretch.{Site, conf}
+use Rattle.lowering_follows.proofs.Lemmas.{Site, conf}
 use Rattle.lowering_follows.proofs.Stores.{Shape}
 use Rattle.lowering_follows.proofs.TaskClaims.{pushed, Around, Runs}
 use Rattle.lowering_follows.proofs.Turns.{combining, pure_turn, constant_turn}
 use Rattle.lowering_follows.proofs.Operations.{push_put}
 use Rattle.lowering_follows.proofs.NodeParts.{Kp, turn, here_other}
 use Rattle.lowering_follows.proofs.Nodes.{NodeRuns}
-use Rattle.seh_num.specs.Widths.{limit, half}
 use Rattle.seh_num.specs.Division.{is_signed, divided_signed}
 use Rattle.seh_num.proofs.Quotients.{divided}
 use Rattle.c_operations.specs.declared.operation.Signedness.TheVariants.{Signed}
 use Rattle.c_operations.specs.Performed as performing
-use Rattle.c_operations.specs.Performed.{signed_part}
-use Rattle.source_meaning.specs.Expressions.{apart}
 use Rattle.lowering_follows.proofs.Turns.{computed_gives, computes}
 use Rattle.lowering_follows.proofs.Nodes.{two_runs}
 

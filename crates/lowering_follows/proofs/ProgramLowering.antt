@@ -2,19 +2,15 @@
 use Rattle.std.proofs.Common.{◌≡◌, ℕ, inr, zero, suc, ◌+◌, ◌≤◌, List, [], ◌∷◌, length, refl, ap, subst, ◌∙◌, arith, length-append}
 use Rattle.std.proofs.lemmas.Option.{slice_get-map}
 use Rattle.std.specs.Prelude.{true, ◌||◌, slice_get, option_map, Option, Some, None}
-use Rattle.lowering_follows.specs.Words.{Size, Int, Long, Program, Function, are_sizes, funclets, count_up, function_sound, Temporary, FunctionBody, body_of, Owner, statements_size, constant, statements_code, statements_regions, statements_funclets, own_locals, scope_of, FunctionPlaced, statements_weight}
+use Rattle.lowering_follows.specs.Words.{Size, Int, Long, Program, Function, are_sizes, funclets, count_up, function_sound, Temporary, FunctionBody, body_of, Owner, statements_size, constant, statements_code, statements_regions, statements_funclets, own_locals, scope_of, FunctionPlaced, statements_weight, some_sizes, functions_sound, main_sound, function_body, all_locals, lowered_function, lowered_funclets, all_funclets, lowered}
 use Rattle.c_checked.specs.Sound as sound
-use Rattle.c_checked.specs.Sound.{some_sizes, functions_sound, main_sound}
 use Rattle.linear_code.specs.declared.instruction.Instruction.TheVariants as instructions
-use Rattle.linear_machine.specs.Frames.{function_body}
-use Rattle.seh_ir.specs.Lowered.{all_locals, lowered_function, lowered_funclets, all_funclets, lowered}
-use Rattle.seh_ir.proofs.StatementCodes.{statements_length}
+use Rattle.lowering_follows.proofs.Lemmas.{statements_length, statements_count}
 use Rattle.lowering_follows.proofs.WholeProgram.{linked_follows}
 use Rattle.lowering_follows.specs.StepsPerTurn.{weight_of, steps_per_turn_of}
 use Rattle.lowering_follows.specs.LoweringLaws.{LoweredIsLinked, LoweredFollows, LoweredShowsNoMore}
 use Rattle.lowering_follows.proofs.SoundExpressions.{both_left, both_right}
 use Rattle.lowering_follows.proofs.Segments.{IsSegmentAt, front, back, whole_is_at}
-use Rattle.seh_ir.proofs.FuncletCounts.{statements_count}
 use Rattle.lowering_follows.proofs.FuncletNumbers.{count_front, count_back}
 use Rattle.lowering_follows.proofs.Regions.{all_outside}
 use Rattle.lowering_follows.proofs.StatementPlaces.{Alike, code_is_at, whole_cover, bare, place_all}

@@ -7,15 +7,11 @@ use Rattle.c_checked.specs.Expression as nodes
 use Rattle.source_meaning.specs.Expressions as model
 use Rattle.linear_code.specs.declared.instruction.Instruction.TheVariants as instructions
 use Rattle.linear_machine.specs.Frames as machine
-use Rattle.linear_machine.proofs.Stretch.{at, Site, conf, price, Claim, normal_ways, joins}
-use Rattle.linear_machine.proofs.StretchJoins.{more, then_value}
-use Rattle.linear_machine.proofs.SingleTurns.{counted_claim, shown_deep}
+use Rattle.lowering_follows.proofs.Lemmas.{at, Site, conf, price, Claim, normal_ways, joins, more, then_value, counted_claim, shown_deep, prefix_less, from_none}
 use Rattle.lowering_follows.proofs.Stores.{Shape, everywhere}
 use Rattle.lowering_follows.proofs.Places.{has_front, has_after}
 use Rattle.lowering_follows.proofs.Lengths.{node_length}
 use Rattle.lowering_follows.proofs.Environments.{FilterFits}
-use Rattle.source_meaning.proofs.Prefixes.{prefix_less}
-use Rattle.linear_machine.proofs.RunLengths.{from_none}
 use Rattle.lowering_follows.proofs.TaskClaims.{pushed, with_address, Operands, Around, SameOperation', resumes, answers_search, Runs, shown_raise}
 use Rattle.lowering_follows.proofs.Raises.{raise_runs, filter_runs}
 use Rattle.lowering_follows.proofs.Operations.{locate_runs, operate_runs}

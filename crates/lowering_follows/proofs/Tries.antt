@@ -2,15 +2,13 @@
 -- out.
 use Rattle.std.proofs.Common.{◌≡◌, ◌⊎◌, inl, inr, ◌<◌, ◌≤◌, ℕ, ◌+◌, List, ◌∷◌, ◌++◌, length, refl, ap, sym, subst, ◌∙◌, arith}
 use Rattle.std.specs.Prelude.{Bool, slice_get, Option, Some, None}
-use Rattle.lowering_follows.specs.Words.{Filter, Always, Funclet, Program, Exception, State, Returned, Broke, Continued, LeftTry, Target, Outcome, Gives, Context, Handler, of_test, Region, LinearProgram, BodyName, Store, set_local, Names, ExceptionSource, LoweringContext, NoException, OfFilter, KeptIn, Nowhere, Jumps, Unwinds, except_names, filter_names, finally_names, in_try, in_except, in_guarded, except_kind, region, FilterPlaced}
+use Rattle.lowering_follows.specs.Words.{Filter, Always, Funclet, Program, Exception, State, Returned, Broke, Continued, LeftTry, Target, Outcome, Gives, Context, Handler, of_test, Region, LinearProgram, BodyName, Store, set_local, Names, ExceptionSource, LoweringContext, NoException, OfFilter, KeptIn, Nowhere, Jumps, except_names, filter_names, finally_names, in_try, in_except, in_guarded, except_kind, region, FilterPlaced, Unwinds, handlers_of}
+use Rattle.lowering_expressions.specs.declared.scope.Way.TheVariants.{Unwinds}
 use Rattle.linear_code.specs.declared.program.RegionKind.{RegionKind}
 use Rattle.linear_code.specs.declared.program.RegionKind.TheVariants as regions
-use Rattle.linear_machine.specs.Frames.{Unwinds}
 use Rattle.linear_machine.specs.Frames as machine
-use Rattle.linear_machine.specs.Regions.{handlers_of}
-use Rattle.linear_machine.proofs.Stretch.{Part, Site, Picked, Kept, Price, found, Arrives, Claim}
-use Rattle.linear_machine.proofs.StretchJoins.{claim_kept}
-use Rattle.linear_machine.proofs.Walks.{BlockAt, IsExcept, around_part}
+use Rattle.lowering_follows.proofs.Lemmas.{Part, Site, Picked, Price, found, Arrives, Claim, claim_kept, BlockAt, IsExcept, around_part}
+use Rattle.linear_machine.proofs.Stretch.{Kept}
 use Rattle.lowering_expressions.specs.declared.scope.Way as jumps
 use Rattle.lowering_expressions.specs.Scope as scopes
 use Rattle.lowering_follows.proofs.Stores.{Shape, NotesKept, below_slot, kept_set, kept_through, kept_fewer, kept_itself, note_read, note_set_alike}

@@ -3,15 +3,12 @@ use Rattle.std.proofs.Common.{◌≡◌, ◌⊎◌, inl, inr, ◌<◌, ◌≤◌
 use Rattle.std.proofs.lemmas.Bool.{eq-eqb, ne_eqb}
 use Rattle.std.specs.Prelude.{Bool, true, false, nat_eq, Some, None}
 use Rattle.seh_num.specs.declared.event.Event.TheVariants as events
-use Rattle.lowering_follows.specs.Words.{Filter, Program, Exception, State, Value, Normal, Returned, Broke, Continued, LeftTry, Target, End, Outcome, Gives, choose, emit, Context, landing, Jump, Landing, Region, LinearProgram, Store, Configuration, Finished, with_some, set_local, handlers_in, handlers, target_past, unwind, target_of, exec, Names, LoweringContext, Nowhere, Jumps, Unwinds, in_try, except_kind, region, HasAt}
-use Rattle.linear_code.specs.declared.slot.Slot.TheVariants.{Local}
-use Rattle.linear_machine.specs.Frames.{Unwinds}
+use Rattle.lowering_follows.specs.Words.{Filter, Program, Exception, State, Value, Normal, Returned, Broke, Continued, LeftTry, Target, End, Outcome, Gives, choose, emit, Context, landing, Jump, Landing, Region, LinearProgram, Store, Configuration, Finished, with_some, set_local, handlers_in, handlers, target_past, unwind, target_of, exec, Names, LoweringContext, Nowhere, Jumps, in_try, except_kind, region, HasAt, Local, Unwinds}
+use Rattle.lowering_expressions.specs.declared.scope.Way.TheVariants.{Unwinds}
 use Rattle.linear_machine.specs.Frames as machine
-use Rattle.linear_machine.proofs.Stretch.{Part, at, Site, conf, Picked, Kept, Price, price, found, Reaches, unwound, Arrives, Claim}
-use Rattle.linear_machine.proofs.StretchJoins.{after, reaches_after, reaches_more, arrives_more, finishes_more, stops_more}
-use Rattle.linear_machine.proofs.SingleTurns.{onto, stepped, first, fetch, sooner}
-use Rattle.source_meaning.proofs.Prefixes.{prefix_self}
-use Rattle.linear_machine.proofs.Walks.{Around, Inside, Outward, FindsRegions, finds_own, picked_less, picked_inside, skips, lands}
+use Rattle.lowering_follows.proofs.Lemmas.{Part, at, Site, conf, Picked, Price, price, found, Reaches, Arrives, Claim, after, reaches_after, reaches_more, arrives_more, finishes_more, stops_more, onto, stepped, first, fetch, sooner, prefix_self, Around, Outward, FindsRegions, finds_own, picked_less, picked_inside, skips, lands}
+use Rattle.linear_machine.proofs.Stretch.{Kept, unwound}
+use Rattle.linear_machine.proofs.Walks.{Inside}
 use Rattle.lowering_expressions.specs.declared.scope.Way as jumps
 use Rattle.lowering_follows.proofs.Stores.{Shape}
 use Rattle.lowering_follows.proofs.Turns.{jump_turn}

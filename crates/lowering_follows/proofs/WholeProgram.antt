@@ -3,23 +3,17 @@ use Rattle.std.proofs.Common.{◌≡◌, ◌⊎◌, inl, inr, ◌<◌, ◌≤◌
 use native.Mathlib.Nat.{mul-add, mul_comm, mul-one}
 use Rattle.std.proofs.lemmas.Bool.{cases_lt, ne_eqb}
 use Rattle.std.specs.Prelude.{false, nat_eq, if◌then◌else◌, replicate, slice_get, ℤ, Some, None}
-use Rattle.lowering_follows.specs.Words.{Event, W32, W64, signed, wrapped, Size, Program, Function, State, Value, Normal, Returned, Target, End, Outcome, Gives, choose, Context, no_exception, all, ended_call, enter, within, Temporary, LinearProgram, LinearFunction, FunctionBody, Store, Configuration, Seen, Finished, with_some, begin_function, exec, statements_size, statements_notes, constant, own_locals, scope_of, statements_weight, HasAt, FunctionPlaced}
+use Rattle.seh_num.specs.declared.event.Event.{Event}
+use Rattle.lowering_follows.specs.Words.{W32, W64, signed, wrapped, Size, Program, Function, State, Value, Normal, Returned, Target, End, Outcome, Gives, choose, Context, no_exception, all, ended_call, enter, within, Temporary, LinearProgram, LinearFunction, FunctionBody, Store, Configuration, Seen, Finished, with_some, begin_function, exec, statements_size, statements_notes, constant, own_locals, scope_of, statements_weight, HasAt, FunctionPlaced, first_memory, does, for_parameters, outside, ran, shows, meaning, IsPrefixOf, Running, Stuck, main_arguments, start, seen, shown}
 use Rattle.source_meaning.specs.declared.ended.Ended.{Ended}
 use Rattle.source_meaning.specs.declared.ended.Ended.TheVariants.{Exit}
-use Rattle.source_meaning.specs.Source.{first_memory}
 use Rattle.source_meaning.specs.State.{deeper}
 use Rattle.source_meaning.specs.Meaning as source
-use Rattle.source_meaning.specs.Meaning.{does, for_parameters, outside, ran, shows, meaning}
-use Rattle.source_meaning.specs.Laws.{IsPrefixOf}
 use Rattle.source_meaning.proofs.RemainingSteps.{enters_within}
 use Rattle.linear_code.specs.declared.instruction.Instruction.TheVariants as instructions
-use Rattle.linear_machine.specs.Frames.{Running, Stuck}
-use Rattle.linear_machine.specs.Run.{main_arguments, start, seen, shown}
-use Rattle.linear_machine.proofs.RunLengths.{events_of, More, longer}
+use Rattle.lowering_follows.proofs.Lemmas.{events_of, More, longer, prefix_same, prefix_then, Part, at, Site, conf, price, Claim, Stops, fetch}
 use Rattle.linear_machine.proofs.MoreTurns.{front}
-use Rattle.source_meaning.proofs.Prefixes.{prefix_same, prefix_then}
-use Rattle.linear_machine.proofs.Stretch.{Part, at, Site, conf, Kept, price, Claim, Stops}
-use Rattle.linear_machine.proofs.SingleTurns.{fetch}
+use Rattle.linear_machine.proofs.Stretch.{Kept}
 use Rattle.lowering_follows.specs.FollowLaws.{Follows, NoMore, LinkedFollows}
 use Rattle.lowering_follows.proofs.Stores.{Shape, FrameAlike, Alike, below_slot, kept_itself, push_alike}
 use Rattle.lowering_follows.proofs.Places.{has_at}

@@ -3,10 +3,9 @@
 use Rattle.std.proofs.Common.{ℕ, ◌+◌, List, ◌++◌}
 use Rattle.std.specs.List.{AllByRecursion}
 use Rattle.std.specs.Prelude.{Bool}
-use Rattle.lowering_invariants.specs.Words.{Operation, Expression, Program, Temporary, Instruction, LinearProgram, BodyName, ExceptionSource, NoException, OfFilter, KeptIn, Names, code_code, expression_code, IsCalled, ExpressionFits, IsCallee, IsInstructionOf}
+use Rattle.lowering_invariants.specs.Words.{Operation, Expression, Program, Temporary, Instruction, LinearProgram, BodyName, ExceptionSource, NoException, OfFilter, KeptIn, Names, code_code, expression_code, IsCalled, ExpressionFits, IsCallee, IsInstructionOf, ReadsWell}
 use Rattle.c_operations.specs.declared.operation.Operation.TheVariants as operations
-use Rattle.seh_ir.proofs.EveryInstruction.{all_append}
-use Rattle.lowering_invariants.specs.Bodies.{ReadsWell}
+use Rattle.lowering_invariants.proofs.Lemmas.{all_append}
 use Rattle.lowering_invariants.proofs.EveryExpression.{HoldsOfOperations, expression_every}
 
 -- an operation on one temporary and the next

@@ -7,7 +7,7 @@ use Rattle.c_operations.specs.declared.operation.Pure.TheVariants as pures
 use Rattle.c_checked.specs.Expression as nodes
 use Rattle.c_checked.specs.Expression.{Next}
 use Rattle.linear_code.specs.declared.instruction.Instruction.TheVariants as instructions
-use Rattle.lowering_expressions.proofs.Codes.{expression_length, locate_length, conversion_length, read_length}
+use Rattle.lowering_invariants.proofs.Lemmas.{expression_length, locate_length, conversion_length, read_length}
 use Rattle.lowering_invariants.proofs.Scans.{past, past_to, past_both, Scans, scan_start, scan_moved, scan_front, scan_back, scan_end, Leads, AllLead, lead_both, lead_moved}
 
 -- ---- depths

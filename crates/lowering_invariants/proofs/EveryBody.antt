@@ -2,9 +2,10 @@
 use Rattle.std.proofs.Common.{◌≡◌, ℕ, List, [], ◌∷◌, map, refl, subst}
 use Rattle.std.specs.List.{AllByRecursion}
 use Rattle.std.specs.Prelude.{slice_get, Option, Some, None}
-use Rattle.lowering_invariants.specs.Words.{Expression, Program, Function, Statements, LinearBody, LinearFunction, LinearFunclet, BodyName, FunctionBody, FuncletBody, function_body, funclet_body, body_of, Owner, Names, filter_funclet, finally_funclet, lowered_function, all_funclets, lowered}
+use Rattle.lowering_invariants.specs.Words.{Expression, Program, Function, Statements, LinearBody, LinearFunction, LinearFunclet, BodyName, FunctionBody, FuncletBody, function_body, funclet_body, body_of, Owner, Names, finally_funclet, lowered_function, all_funclets, lowered}
+use Rattle.seh_ir.specs.Funclets.{filter_funclet}
 use Rattle.lowering_invariants.proofs.StackTargets.{same_it, all_at}
-use Rattle.seh_ir.proofs.EveryFunclet.{funclets_any}
+use Rattle.lowering_invariants.proofs.Lemmas.{funclets_any}
 
 module _ (P : LinearBody → Type 0) (of_filter : (owner : Owner) (names : Names) (e : Expression)
     → P (filter_funclet owner names e).body)

@@ -2,14 +2,13 @@
 use Rattle.std.proofs.Common.{◌≡◌, ℕ, ◌+◌, List, [], ◌∷◌, ◌++◌}
 use Rattle.std.specs.List.{AllByRecursion}
 use Rattle.std.specs.Prelude.{Bool, true, Option, Some, None}
-use Rattle.lowering_invariants.specs.Words.{Width, BuiltIn, Field, Operation, Pure, Signed, Long, Access, Conversion, Kept, Extend, Scale, Expression, On, Node, Lvalue, Global, Indirection, Element, Arguments, Done, Program, Slot, Local, Temporary, Instruction, Names, address_count, locate_size, read_size, conversion_size, expression_size, constant, copy, change, combine, conversion_code, unary_code, choice_code, code_code, abnormal_code, load_code, read_code, write_code, address_code, chosen_of, expression_code, locate_code, arguments_code, node_code, IsCalled, ExpressionFits, LvalueFits, ArgumentsFit, NodeFits}
+use Rattle.lowering_invariants.specs.Words.{Width, BuiltIn, Field, Operation, Pure, Signed, Long, Access, Conversion, Kept, Extend, Scale, Expression, On, Node, Lvalue, Global, Indirection, Element, Arguments, Done, Program, Slot, Local, Temporary, Instruction, Names, address_count, locate_size, read_size, conversion_size, expression_size, constant, copy, change, combine, conversion_code, unary_code, choice_code, code_code, abnormal_code, load_code, read_code, write_code, address_code, chosen_of, expression_code, locate_code, arguments_code, node_code, IsCalled, ExpressionFits, LvalueFits, ArgumentsFit, NodeFits, store_code}
 use Rattle.c_operations.specs.declared.operation.Operation.TheVariants as operations
 use Rattle.c_operations.specs.declared.operation.Pure.TheVariants as pures
 use Rattle.c_checked.specs.Expression as nodes
 use Rattle.c_checked.specs.Expression.{Next}
 use Rattle.linear_code.specs.declared.instruction.Instruction.TheVariants as instructions
-use Rattle.lowering_expressions.specs.Expressions.{store_code}
-use Rattle.seh_ir.proofs.EveryInstruction.{all_append}
+use Rattle.lowering_invariants.proofs.Lemmas.{all_append}
 
 -- it holds of operations on temporaries and locals, of memory, and of jumps
 pub record HoldsOfOperations (P : Instruction → Type 0) : Type 0 where

@@ -2,11 +2,8 @@
 use Rattle.std.proofs.Common.{◌≡◌, ℕ, refl, ◌+◌, ◌≤◌, List, [], ◌∷◌, subst, arith}
 use Rattle.std.specs.List.{AllByRecursion}
 use Rattle.std.specs.Prelude.{None}
-use Rattle.lowering_invariants.specs.Words.{Function, LinearFunclet, statements_notes, Owner, all_locals, scope_of, lowered_funclets, all_funclets, lowered}
-use Rattle.lowering_invariants.specs.Slots.{HasFlag}
-use Rattle.seh_ir.proofs.EveryInstruction.{all_append}
-use Rattle.lowering_invariants.specs.PlaceLaws.{LoweredHasFlags}
-use Rattle.seh_ir.proofs.EveryFunclet.{HoldsOfFunclets, funclets_known}
+use Rattle.lowering_invariants.specs.Words.{Function, LinearFunclet, statements_notes, Owner, all_locals, scope_of, lowered_funclets, all_funclets, lowered, HasFlag, LoweredHasFlags}
+use Rattle.lowering_invariants.proofs.Lemmas.{all_append, HoldsOfFunclets, funclets_known}
 use Rattle.lowering_invariants.proofs.StackTargets.{all_at}
 
 abbrev Flagged : LinearFunclet → Type 0

@@ -1,3 +1,4 @@
+mod Lemmas
 pub mod Same
 pub mod Moves
 pub mod Turns

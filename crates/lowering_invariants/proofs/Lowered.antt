@@ -4,20 +4,13 @@ use Rattle.std.proofs.lemmas.List.{length-map}
 use Rattle.std.proofs.lemmas.Option.{slice_get-map, slice_get_within}
 use Rattle.std.specs.List.{AllByRecursion}
 use Rattle.std.specs.Prelude.{true, slice_get, option_map, Option, Some, None}
-use Rattle.lowering_invariants.specs.Words.{Program, Function, IsSound, funclets, count_up, function_sound, functions_sound, Temporary, LinearBody, LinearFunction, LinearFunclet, FunctionBody, FuncletBody, function_body, funclet_body, body_of, Owner, constant, statements_code, own_locals, all_locals, scope_of, lowered_function, lowered_funclets, all_funclets, lowered, IsCalled, IsCallee, IsBodyOf, AreBodies}
+use Rattle.lowering_invariants.specs.Words.{Program, Function, IsSound, funclets, count_up, function_sound, functions_sound, Temporary, LinearBody, LinearFunction, LinearFunclet, FunctionBody, FuncletBody, function_body, funclet_body, body_of, Owner, constant, statements_code, own_locals, all_locals, scope_of, lowered_function, lowered_funclets, all_funclets, lowered, IsCalled, IsCallee, IsBodyOf, AreBodies, LoweredIsWhole}
 use Rattle.c_checked.specs.Sound as sound
 use Rattle.linear_code.specs.declared.instruction.Instruction.TheVariants as instructions
-use Rattle.linear_machine.proofs.Ranges.{Range, part_of, both_parts, no_part, one_part}
-use Rattle.seh_ir.proofs.FuncletCounts.{statements_count}
-use Rattle.lowering_follows.proofs.FuncletNumbers.{count_front, count_back}
-use Rattle.lowering_follows.proofs.Segments.{IsSegmentAt, front, back, whole_is_at}
-use Rattle.lowering_follows.proofs.SoundExpressions.{both_left, both_right}
-use Rattle.lowering_follows.proofs.ProgramLowering.{lowered_is_linked}
-use Rattle.lowering_invariants.specs.TypeLaws.{LoweredIsWhole}
+use Rattle.lowering_invariants.proofs.Lemmas.{Range, part_of, both_parts, no_part, one_part, statements_count, count_front, count_back, IsSegmentAt, front, back, whole_is_at, both_left, both_right, lowered_is_linked, inside_function, knows_function}
 use Rattle.lowering_invariants.proofs.Calls.{append}
 use Rattle.lowering_invariants.proofs.StackTargets.{same_it, all_at}
 use Rattle.lowering_invariants.proofs.Wholes.{Fine, all_are_at}
-use Rattle.lowering_follows.proofs.SoundStatements.{inside_function, knows_function}
 
 module _ (program : Program) where
   callee : (f count : ℕ) → IsCalled program f count → IsCallee (lowered program) f count

@@ -7,7 +7,7 @@ use Rattle.lowering_invariants.specs.Words.{Pure, Signed, Long, Conversion, Expr
 use Rattle.c_operations.specs.declared.operation.Pure.TheVariants as pures
 use Rattle.c_checked.specs.Expression as nodes
 use Rattle.c_checked.specs.Expression.{Next}
-use Rattle.seh_ir.proofs.EveryInstruction.{all_append}
+use Rattle.lowering_invariants.proofs.Lemmas.{all_append}
 use Rattle.lowering_invariants.proofs.EveryExpression.{HoldsOfOperations, conversion_every, unary_every, choice_every, read_every, write_every, address_every, flag_every}
 
 abbrev pub RunsNoBlock : Instruction → Type 0

@@ -1,6 +1,5 @@
 -- What holds of each configuration that the linear code of a sound program comes to.
-use Rattle.lowering_invariants.specs.Words.{lowered}
-use Rattle.lowering_invariants.specs.TypeLaws.{ReachedIsStacked, ReachedHasActivations, ReachedIsSmall, ReachedHasDepths}
+use Rattle.lowering_invariants.specs.Words.{lowered, ReachedIsStacked, ReachedHasActivations, ReachedIsSmall, ReachedHasDepths}
 use Rattle.lowering_invariants.proofs.Lowered.{lowered_is_whole}
 use Rattle.lowering_invariants.proofs.TurnActivations.{reached_both}
 use Rattle.lowering_invariants.proofs.TurnNumbers.{reached_small}

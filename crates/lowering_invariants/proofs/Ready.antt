@@ -3,12 +3,11 @@ use Rattle.std.proofs.Common.{◌≡◌, ℕ, ◌+◌, ◌*◌, List, [], length
 use Rattle.std.proofs.lemmas.Bool.{eqb-true, leb-true}
 use Rattle.std.proofs.lemmas.Option.{slice_get_within}
 use Rattle.std.specs.Prelude.{Bool, true, false, nat_eq, nat_le, if◌then◌else◌, slice_get, Option, Some, None}
-use Rattle.lowering_invariants.specs.Words.{Event, Program, IsSound, Slot, Local, Temporary, Instruction, LinearProgram, Configuration, Seen, Stuck, Next, pick, with_some, read, write, with_temporary, with_temporaries, last_temporaries, at_label, forth, flag_of, is_constant, operand, written, computed, tested, waiting, count_of, built_in, end_body, not_landed, act, performed, is_reserved, field_of, instruction_at, exec, start, lowered, IsReached}
+use Rattle.lowering_invariants.specs.Words.{Event, Program, IsSound, Slot, Local, Temporary, Instruction, LinearProgram, Configuration, Seen, Stuck, Next, pick, with_some, read, write, with_temporary, with_temporaries, last_temporaries, at_label, forth, flag_of, is_constant, operand, written, computed, tested, waiting, count_of, built_in, end_body, not_landed, act, performed, is_reserved, field_of, instruction_at, exec, start, lowered, IsReached, ReachedContinues}
 use Rattle.linear_code.specs.declared.instruction.Instruction.TheVariants as instructions
 use Rattle.lowering_follows.specs.StepsPerTurn.{steps_per_turn_of}
-use Rattle.lowering_follows.proofs.ProgramLowering.{lowered_shows_no_more}
+use Rattle.lowering_invariants.proofs.Lemmas.{lowered_shows_no_more}
 use Rattle.lowering_invariants.specs.Ready.{IsHeld, IsNextSlot, IsRead, held, IsReady}
-use Rattle.lowering_invariants.specs.TypeLaws.{ReachedContinues}
 use Rattle.lowering_invariants.proofs.Turns.{there, come}
 
 -- ---- slots

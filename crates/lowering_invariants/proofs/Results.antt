@@ -2,18 +2,13 @@
 use Rattle.std.proofs.Common.{◌≡◌, ℕ, zero, suc, ◌/◌, ◌%◌, ◌^◌, ◌<◌, refl, ap, subst, arith}
 use Rattle.std.proofs.Math.Nat.{div-le_self, mod-le}
 use Rattle.std.specs.Prelude.{Bool, true, false, cond, not, ◌==◌, nat_lt, if◌then◌else◌, ℤ, Option, Some, None, Result, Ok, Err}
-use Rattle.lowering_invariants.specs.Words.{Width, W32, W64, low, signed, wrapped, Memory, Signed, Operation, OperationResult, Gives, Raises, Undefined, performed, IsSmallAccess}
-use Rattle.seh_num.specs.declared.width.Width.TheVariants.{W8, W16}
+use Rattle.lowering_invariants.specs.Words.{Width, W32, W64, low, signed, wrapped, Memory, Signed, Operation, OperationResult, Gives, Raises, Undefined, performed, IsSmallAccess, W8, W16, limit, bytes_of, next, first_refused, may_read, may_write, number_at, with_number, with_bytes, Unsigned, fault_of, signed_part, unsigned_part, unless_reserved, unless_refused, accessed}
 use Rattle.seh_num.specs.declared.division.DivFault.{DivFault}
 use Rattle.seh_num.specs.declared.division.DivFault.TheVariants.{Zero, Overflow}
-use Rattle.seh_num.specs.Widths.{limit, bytes_of}
-use Rattle.seh_num.proofs.Below.{low_below, wrapped_below}
+use Rattle.lowering_invariants.proofs.Lemmas.{low_below, wrapped_below}
 use Rattle.seh_num.specs.Division.{divided_signed, divided_unsigned}
-use Rattle.flat_memory.specs.Memory.{next, first_refused, may_read, may_write, number_at, with_number, with_bytes}
-use Rattle.c_operations.specs.declared.operation.Signedness.TheVariants.{Unsigned}
 use Rattle.c_operations.specs.declared.operation.Operation.TheVariants as operations
 use Rattle.c_operations.specs.Numbers.{width}
-use Rattle.c_operations.specs.Performed.{fault_of, signed_part, unsigned_part, unless_reserved, unless_refused, accessed}
 use Rattle.c_operations.proofs.SmallResults.{result_small}
 
 -- ---- widths

@@ -3,16 +3,12 @@
 use Rattle.std.proofs.Common.{◌≡◌, ℕ, zero, suc, ◌+◌, ◌<◌, List, [], ◌∷◌, ◌++◌, length, filter, refl, sym, ap, subst, ◌∙◌, arith, append-nil}
 use Rattle.std.specs.List.{AllByRecursion}
 use Rattle.std.specs.Prelude.{Bool, true, false, cond, ◌&&◌, nat_le, nat_lt, slice_get, Some}
-use Rattle.lowering_invariants.specs.Words.{Expression, Program, Function, Statements, Local, Temporary, Instruction, Jump, JumpIfZero, Separator, Region, LinearBody, BodyName, body_of, holds, statements_notes, Owner, Names, Way, Nowhere, Jumps, LoweringContext, finally_scope, constant, copy, expression_code, return_code, returned_code, statements_code, statements_regions, filter_funclet, finally_funclet, scope_of, lowered_function, lowered}
-use Rattle.linear_code.specs.declared.instruction.Instruction.TheVariants.{LocalUnwind, Return}
+use Rattle.lowering_invariants.specs.Words.{Expression, Program, Function, Statements, Local, Temporary, Instruction, Jump, JumpIfZero, Separator, Region, LinearBody, BodyName, body_of, holds, statements_notes, Owner, Names, Way, Nowhere, Jumps, LoweringContext, finally_scope, constant, copy, expression_code, return_code, returned_code, statements_code, statements_regions, finally_funclet, scope_of, lowered_function, lowered, LocalUnwind, LoweredIsApart}
+use Rattle.seh_ir.specs.Funclets.{filter_funclet}
+use Rattle.linear_code.specs.declared.instruction.Instruction.TheVariants.{Return}
 use Rattle.lowering_expressions.specs.declared.scope.Way.TheVariants.{Unwinds}
-use Rattle.seh_ir.proofs.StatementParts.{statements_have}
-use Rattle.seh_ir.proofs.EveryStatement.{WaysHave, IsPlaced, HoldsOfPieces, statements_every}
-use Rattle.seh_ir.proofs.AnyStatement.{HoldsOfAnyPieces, neutral_of}
-use Rattle.seh_ir.proofs.EveryInstruction.{all_append}
-use Rattle.lowering_follows.proofs.Segments.{IsSegmentAt, front, back, whole_is_at}
+use Rattle.lowering_invariants.proofs.Lemmas.{statements_have, WaysHave, IsPlaced, HoldsOfPieces, statements_every, HoldsOfAnyPieces, neutral_of, all_append, IsSegmentAt, front, back, whole_is_at}
 use Rattle.lowering_invariants.specs.ReturnRegions.{is_call}
-use Rattle.lowering_invariants.specs.TypeLaws.{LoweredIsApart}
 use Rattle.lowering_invariants.proofs.EveryBody.{every_body}
 use Rattle.lowering_invariants.proofs.StackTargets.{same_it}
 

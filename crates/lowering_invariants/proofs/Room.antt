@@ -2,15 +2,12 @@
 use Rattle.std.proofs.Common.{◌≡◌, ℕ, zero, suc, ◌≤◌, List, [], ◌∷◌, refl, subst, arith}
 use Rattle.std.specs.List.{AllByRecursion}
 use Rattle.std.specs.Prelude.{slice_get, get_or, Option, Some, None}
-use Rattle.lowering_invariants.specs.Words.{Program, IsSound, Slot, Local, Temporary, Instruction, LinearBody, LinearFunction, LinearFunclet, BodyName, FunctionBody, FuncletBody, function_body, funclet_body, body_of, instruction_temporaries, temporaries_in, instruction_passes, passed_in, lowered, AreShallow, IsPlain, IsSmallBody, IsSmallFunction, IsSmallFunclet, with_written, with_tested, after, depths}
+use Rattle.lowering_invariants.specs.Words.{Program, IsSound, Slot, Local, Temporary, Instruction, LinearBody, LinearFunction, LinearFunclet, BodyName, FunctionBody, FuncletBody, function_body, funclet_body, body_of, instruction_temporaries, temporaries_in, instruction_passes, passed_in, lowered, AreShallow, IsPlain, IsSmallBody, IsSmallFunction, IsSmallFunclet, with_written, with_tested, after, depths, slot_temporaries, IsAmong, LoweredHasRoom}
 use Rattle.linear_code.specs.declared.instruction.Instruction.TheVariants as instructions
 use Rattle.linear_code.specs.BodyState.{Counts}
 use Rattle.linear_code.specs.Meaning.{IsSlot, HasSlots}
-use Rattle.seh_ir.specs.Slots.{slot_temporaries}
-use Rattle.lowering_invariants.specs.Slots.{IsAmong}
 use Rattle.lowering_invariants.proofs.Small.{lowered_is_small}
 use Rattle.lowering_invariants.specs.Room.{counts_of, PassesWell, BodyHasRoom}
-use Rattle.lowering_invariants.specs.TypeLaws.{LoweredHasRoom}
 use Rattle.lowering_invariants.proofs.EveryBody.{every_body}
 use Rattle.lowering_invariants.proofs.StackTargets.{same_it, all_at}
 

@@ -5,21 +5,14 @@ use Rattle.std.proofs.lemmas.List.{length-map}
 use Rattle.std.proofs.lemmas.Option.{slice_get_within}
 use Rattle.std.specs.List.{AllByRecursion}
 use Rattle.std.specs.Prelude.{true, false, slice_get, Option, Some, None}
-use Rattle.lowering_invariants.specs.Words.{Program, Function, funclets, function_sound, functions_sound, Temporary, constant, statements_code, statements_regions, own_locals, all_locals, scope_of, lowered_function, lowered_funclets, all_funclets, lowered, expression_nesting, expression_reads, AreShallow, IsSmallFunction, IsSmallFunclet, statements_notes}
+use Rattle.lowering_invariants.specs.Words.{Program, Function, funclets, function_sound, functions_sound, Temporary, constant, statements_code, statements_regions, own_locals, all_locals, scope_of, lowered_function, lowered_funclets, all_funclets, lowered, expression_nesting, expression_reads, AreShallow, IsSmallFunction, IsSmallFunclet, statements_notes, main_sound, IsShallow}
 use Rattle.c_checked.specs.Sound as sound
-use Rattle.c_checked.specs.Sound.{main_sound}
 use Rattle.linear_code.specs.declared.instruction.Instruction.TheVariants as instructions
-use Rattle.lowering_follows.proofs.SoundExpressions.{both_left, both_right}
-use Rattle.lowering_invariants.specs.Nesting.{IsShallow}
+use Rattle.lowering_invariants.proofs.Lemmas.{both_left, both_right, all_append, StatementsHave, all_front, all_back, all_funclets_every, functions_count, inside_function, knows_function, statements_sound_have}
 use Rattle.lowering_invariants.specs.BoundLaws.{LoweredIsSmall}
 use Rattle.lowering_invariants.proofs.PlainExpressions.{NamesAmong, append, constant_good}
-use Rattle.seh_ir.proofs.EveryInstruction.{all_append}
 use Rattle.lowering_invariants.proofs.PlainStatements.{small_body, statements_good, statements_within, numbers_within, Value, Named, Fitting, funclets_small, Within}
 use Rattle.seh_num.specs.declared.limit.TheConstants.{MOST_GLOBALS}
-use Rattle.seh_ir.proofs.StatementParts.{StatementsHave}
-use Rattle.seh_ir.proofs.EveryFunclet.{all_front, all_back, all_funclets_every}
-use Rattle.seh_ir.proofs.FuncletCounts.{functions_count}
-use Rattle.lowering_follows.proofs.SoundStatements.{inside_function, knows_function, statements_sound_have}
 
 the_same : {X : Type 0} (x y : X) → Some x ≡ Some y → x ≡ y
 the_same x y e = ap (λ o. elim o [ None ↦ x | Some z ↦ z ]) e

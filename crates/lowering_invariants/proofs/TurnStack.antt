@@ -2,15 +2,14 @@
 use Rattle.std.proofs.Common.{◌≡◌, inl, ℕ, ◌+◌, ◌^◌, List, [], ◌∷◌, ◌++◌, length, refl, sym, ap, subst, ◌∙◌}
 use Rattle.std.proofs.lemmas.Bool.{eqb-true, eqb-false}
 use Rattle.std.specs.Prelude.{Bool, true, false, nat_eq, nat_lt, slice_get, take, get_or, ℤ, Option, Some, None}
-use Rattle.lowering_invariants.specs.Words.{Event, W32, signed, BuiltIn, Put, Protect, RaiseException, Operation, OperationResult, Gives, Raises, Undefined, performed, Exception, is_reserved, field_of, raised, noncontinuable, raise_event, Slot, Local, Temporary, Instruction, Region, RegionKind, FuncletKind, LinearProgram, LinearBody, LinearFunction, BodyName, FunctionBody, FuncletBody, body_of, Handler, Target, Resumption, AfterCall, SameOperation, Item, Waits, Searches, Unwinds, Store, Configuration, Seen, Finished, Stuck, Next, pick, read, write, with_temporary, with_temporaries, last_temporaries, set_local, at_label, forth, with_last, regions_at, regions_left, handlers, stops, flag_of, run_finally, arrive, target_past, left_store, leave_region, unwind_body, unwind, target_of, accept, consult, search, raise, resumed, answer, is_constant, operand, written, computed, tested, count_of, built_in, return, end_finally, end_funclet, end_body, not_landed, act, instruction_in, instruction_at, start, IsTurn, IsFinallyKind, IsFuncletOf, IsKindOf, IsInstructionOf, AreBodies, MayWait, IsHandler, LandsAt, IsTarget, IsAbove, IsRaisedIn, AreHandlers, AreWaiting, IsStacked}
+use Rattle.lowering_invariants.specs.Words.{Event, W32, signed, BuiltIn, Put, Protect, RaiseException, Operation, OperationResult, Gives, Raises, Undefined, performed, Exception, is_reserved, field_of, raised, noncontinuable, raise_event, Slot, Local, Temporary, Instruction, Region, RegionKind, FuncletKind, LinearProgram, LinearBody, LinearFunction, BodyName, FunctionBody, FuncletBody, body_of, Handler, Target, Resumption, AfterCall, SameOperation, Item, Waits, Searches, Unwinds, Store, Configuration, Seen, Finished, Stuck, Next, pick, read, write, with_temporary, with_temporaries, last_temporaries, set_local, at_label, forth, with_last, regions_at, regions_left, handlers, stops, flag_of, run_finally, arrive, target_past, left_store, leave_region, unwind_body, unwind, target_of, accept, consult, search, raise, resumed, answer, is_constant, operand, written, computed, tested, count_of, built_in, return, end_finally, end_funclet, end_body, not_landed, act, instruction_in, instruction_at, start, IsTurn, IsFinallyKind, IsFuncletOf, IsKindOf, IsInstructionOf, AreBodies, MayWait, IsHandler, LandsAt, IsTarget, IsAbove, IsRaisedIn, AreHandlers, AreWaiting, IsStacked, LandsWell}
 use Rattle.seh_num.specs.declared.event.Event.TheVariants as events
 use Rattle.seh_num.specs.Widths.{low as low_bits}
 use Rattle.source_meaning.specs.declared.ended.Ended.TheVariants as ends
 use Rattle.linear_code.specs.declared.instruction.Instruction.TheVariants as instructions
 use Rattle.linear_code.specs.declared.program.RegionKind.TheVariants as kinds
 use Rattle.linear_code.specs.declared.program.FuncletKind.TheVariants as funclets
-use Rattle.lowering_follows.proofs.SoundExpressions.{both_left}
-use Rattle.lowering_invariants.specs.Waiting.{LandsWell}
+use Rattle.lowering_invariants.proofs.Lemmas.{both_left}
 use Rattle.lowering_invariants.proofs.Moves.{Turn, Halts, Moves, pick_turn, some_turn, deeper_turn, kept}
 use Rattle.lowering_invariants.proofs.StackTargets.{same_it, taken, Regions, Left, left_are, handlers_are, aimed, here, further, past_target}
 use Rattle.lowering_invariants.proofs.StackTargets.{all_at}

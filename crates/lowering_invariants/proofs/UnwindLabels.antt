@@ -3,17 +3,14 @@
 use Rattle.std.proofs.Common.{◌≡◌, ℕ, ◌+◌, ◌<◌, List, [], ◌∷◌, ◌++◌, length, arith, length-append}
 use Rattle.std.specs.List.{AllByRecursion}
 use Rattle.std.specs.Prelude.{false, slice_get, Some}
-use Rattle.lowering_invariants.specs.Words.{Expression, Function, Statements, Local, Temporary, Instruction, statements_size, statements_notes, Owner, Names, LoweringContext, finally_scope, constant, expression_code, statements_code, filter_funclet, finally_funclet, scope_of, lowered_function, runs_blocks}
+use Rattle.lowering_invariants.specs.Words.{Expression, Function, Statements, Local, Temporary, Instruction, statements_size, statements_notes, Owner, Names, LoweringContext, finally_scope, constant, expression_code, statements_code, finally_funclet, scope_of, lowered_function, runs_blocks, LoweredStaysInside}
+use Rattle.seh_ir.specs.Funclets.{filter_funclet}
 use Rattle.linear_code.specs.declared.instruction.Instruction.TheVariants as instructions
-use Rattle.seh_ir.proofs.StatementCodes.{statements_length}
+use Rattle.lowering_invariants.proofs.Lemmas.{statements_length, statements_have, WaysHave, IsPlaced, any_neutral, statements_every, all_append, HoldsOfInstructions, all_pieces}
 use Rattle.lowering_invariants.proofs.EveryBody.{every_body}
 use Rattle.lowering_invariants.proofs.StackTargets.{all_at}
 use Rattle.lowering_invariants.specs.UnwindLabels.{StaysInside}
-use Rattle.lowering_invariants.specs.PlaceLaws.{LoweredStaysInside}
 use Rattle.lowering_invariants.proofs.NoBlocks.{RunNoBlocks, expression_no_blocks}
-use Rattle.seh_ir.proofs.StatementParts.{statements_have}
-use Rattle.seh_ir.proofs.EveryStatement.{WaysHave, IsPlaced, any_neutral, statements_every}
-use Rattle.seh_ir.proofs.EveryInstruction.{all_append, HoldsOfInstructions, all_pieces}
 
 -- ---- so many instructions
 

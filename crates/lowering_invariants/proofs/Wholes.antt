@@ -3,29 +3,14 @@
 use Rattle.std.proofs.Common.{◌≡◌, ℕ, ◌+◌, ◌-◌, List, [], ◌∷◌, ◌++◌, length, refl, sym, ap, subst, ◌∙◌, arith, length-append}
 use Rattle.std.specs.List.{AllByRecursion}
 use Rattle.std.specs.Prelude.{true, false, slice_get, Option, Some, None}
-use Rattle.lowering_invariants.specs.Words.{Expression, Program, funclets, count_up, Declared, Filter, Always, Funclet, Statement, Declare, Block, Evaluate, If, IfElse, For, DoWhile, Return, Break, Continue, Leave, TryExcept, TryFinally, Statements, Empty, Then, Local, Temporary, Instruction, Jump, JumpIfZero, Separator, Region, LinearProgram, LinearBody, LinearFunclet, BodyName, FuncletBody, funclet_body, body_of, instruction_in, expression_size, statements_size, Owner, Names, Way, Nowhere, Jumps, LoweringContext, except_names, filter_names, finally_names, finally_scope, expression_code, return_code, returned_code, repeated, statements_code, statements_regions, finally_funclet, IsCalled, IsFinallyKind, function_of, owner_of, IsFuncletOf, IsLanding, IsKindOf, IsRegionOf, IsCallee, IsInstructionOf, IsBodyOf}
+use Rattle.lowering_invariants.specs.Words.{Expression, Program, funclets, count_up, Declared, Filter, Always, Funclet, Statement, Declare, Block, Evaluate, If, IfElse, For, DoWhile, Return, Break, Continue, Leave, TryExcept, TryFinally, Statements, Empty, Then, Local, Temporary, Instruction, Jump, JumpIfZero, Separator, Region, LinearProgram, LinearBody, LinearFunclet, BodyName, FuncletBody, funclet_body, body_of, instruction_in, expression_size, statements_size, Owner, Names, Way, Nowhere, Jumps, LoweringContext, except_names, filter_names, finally_names, finally_scope, expression_code, return_code, returned_code, repeated, statements_code, statements_regions, finally_funclet, IsCalled, IsFinallyKind, function_of, owner_of, IsFuncletOf, IsLanding, IsKindOf, IsRegionOf, IsCallee, IsInstructionOf, IsBodyOf, Inside, funclets_in, filter_funclet, optional_sound, test_sound, value_fits, declared_sound, all_declared_sound, result_sound, filter_sound, expression_sound, statement_sound, statements_sound, CallFinally, discarded_size, condition_size, declared_size, all_declared_size, statement_size, in_loop, in_try, in_except, in_guarded, jump_code, leave_code, discarded_code, condition_code, initialiser_code, declared_code, all_declared_code, landed, statement_code, except_kind, region, statement_regions, filter_funclets, in_funclet, statement_funclets, statements_funclets, parent_of}
 use Rattle.c_operations.specs.declared.operation.Size.{Size}
 use Rattle.c_checked.specs.Sound as sound
-use Rattle.c_checked.specs.Sound.{Inside, funclets_in, filter_funclet, optional_sound, test_sound, value_fits, declared_sound, all_declared_sound, result_sound, filter_sound, expression_sound, statement_sound, statements_sound}
-use Rattle.linear_code.specs.declared.instruction.Instruction.TheVariants.{CallFinally}
 use Rattle.linear_code.specs.declared.instruction.Instruction.TheVariants as instructions
 use Rattle.linear_code.specs.declared.program.RegionKind.TheVariants as kinds
-use Rattle.linear_machine.proofs.Ranges.{Range, part_of, both_parts, no_part, one_part}
-use Rattle.lowering_sizes.specs.Sizes.{discarded_size, condition_size, declared_size, all_declared_size, statement_size}
+use Rattle.lowering_invariants.proofs.Lemmas.{Range, part_of, both_parts, no_part, one_part, expression_length, discarded_length, condition_length, all_declared_length, statement_length, statements_length, filter_count, statement_count, statements_count, count_front, count_back, counted, IsSegmentAt, front, back, whole_is_at, both_left, both_right, Knows, expression_fits, all_append}
 use Rattle.lowering_expressions.specs.declared.scope.Way.TheVariants.{Unwinds}
-use Rattle.lowering_expressions.specs.Scope.{in_loop, in_try, in_except, in_guarded}
-use Rattle.seh_ir.specs.Statements.{jump_code, leave_code, discarded_code, condition_code, initialiser_code, declared_code, all_declared_code, landed, statement_code}
-use Rattle.seh_ir.specs.Regions.{except_kind, region, statement_regions}
 use Rattle.seh_ir.specs.Funclets as funclets_of
-use Rattle.seh_ir.specs.Funclets.{filter_funclets, in_funclet, statement_funclets, statements_funclets}
-use Rattle.lowering_expressions.proofs.Codes.{expression_length}
-use Rattle.seh_ir.proofs.StatementCodes.{discarded_length, condition_length, all_declared_length, statement_length, statements_length}
-use Rattle.seh_ir.proofs.FuncletCounts.{filter_count, statement_count, statements_count}
-use Rattle.lowering_follows.proofs.FuncletNumbers.{count_front, count_back, counted}
-use Rattle.lowering_follows.proofs.Segments.{IsSegmentAt, front, back, whole_is_at}
-use Rattle.lowering_follows.proofs.SoundExpressions.{both_left, both_right, Knows, expression_fits}
-use Rattle.seh_ir.proofs.EveryInstruction.{all_append}
-use Rattle.lowering_invariants.specs.Bodies.{parent_of}
 use Rattle.lowering_invariants.proofs.Calls.{AllCall, append, expression_calls}
 use Rattle.lowering_invariants.proofs.StackTargets.{same_it}
 

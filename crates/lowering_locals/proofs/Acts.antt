@@ -1,10 +1,11 @@
 -- What each instruction leads to.
 use Rattle.std.proofs.Common.{◌≡◌, inl, inr, ℕ, ◌+◌, ◌<◌, ◌⊎◌, List, ◌∷◌, refl, sym, ap, subst, ◌∙◌}
 use Rattle.std.specs.Prelude.{true, false, nat_eq, length, slice_get, take, get_or, Option, Some, None}
-use Rattle.lowering_locals.specs.Words.{BuiltIn, Put, Protect, RaiseException, Operation, OperationResult, Gives, Raises, Undefined, performed, is_reserved, field_of, raised, Slot, Local, Temporary, Instruction, LinearProgram, LinearFunction, BodyName, FunctionBody, SameOperation, AfterCall, Waits, Configuration, Finished, pick, read, with_temporary, with_temporaries, last_temporaries, set_local, at_label, forth, with_last, is_constant, operand, written, computed, tested, count_of, built_in, not_landed, act, instruction_at, IsTurn, IsWhole, Marks, outcome_of, local_given, local_in, local_written, SeenNames, IsPart, with_slot, IsLocalOf, locals_at, Leads, IsSetMap, Marked, here, AreKept, AreCovered, IsRecorded, IsGiven, Before, Written, Passed, IsStep, write, IsCallee, IsStacked}
+use Rattle.lowering_locals.specs.Words.{BuiltIn, Put, Protect, RaiseException, Operation, OperationResult, Gives, Raises, Undefined, performed, is_reserved, field_of, raised, Slot, Local, Temporary, Instruction, LinearProgram, LinearFunction, BodyName, FunctionBody, SameOperation, AfterCall, Waits, Configuration, Finished, pick, read, with_temporary, with_temporaries, last_temporaries, set_local, at_label, forth, with_last, write, is_constant, operand, written, computed, tested, count_of, built_in, not_landed, act, instruction_at, IsTurn, IsWhole, IsCallee, Marks, outcome_of, local_given, local_in, local_written, SeenNames, IsPart, with_slot, IsLocalOf, locals_at, Leads, IsSetMap, Marked, here, AreKept, AreCovered, IsRecorded, IsGiven, Before, Written, Passed, IsStep, IsStacked}
 use Rattle.source_meaning.specs.declared.ended.Ended.TheVariants as ends
 use Rattle.linear_code.specs.declared.instruction.Instruction.TheVariants as instructions
-use Rattle.lowering_locals.proofs.Lemmas.{Turn, Halts, Moves, pick_turn, some_turn, deeper_turn, kept, same_it, instruction_fits, seen_cases, is_parameter}
+use Rattle.lowering_locals.proofs.Lemmas.{Turn, Halts, Moves, pick_turn, some_turn, deeper_turn, kept, same_it, seen_cases, is_parameter}
+use Rattle.lowering_invariants.proofs.TurnStack.{instruction_fits}
 use Rattle.lowering_locals.proofs.Events.{adds_none}
 use Rattle.lowering_locals.proofs.TurnSets as goes
 

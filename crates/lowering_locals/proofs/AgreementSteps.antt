@@ -2,7 +2,7 @@
 use Rattle.std.proofs.Common.{◌≡◌, ℕ, zero, ◌+◌, ◌-◌, List, [], ◌∷◌, ◌++◌, length, refl, sym, ap, subst, ◌∙◌}
 use Rattle.std.specs.List.{AllByRecursion}
 use Rattle.std.specs.Prelude.{false, nat_lt, slice_get, replicate, Option, Some}
-use Rattle.lowering_locals.specs.Words.{Deep, LinearProgram, LinearFunction, Frame, Waits, Configuration, Seen, Finished, Next, pick, with_some, deeper, last_temporaries, begin_function, waiting, act, instruction_at, instruction_in, start, main_arguments, body_of, Marks, next_marks, AreAlike, GoAlike, start_marks, called, IsReached}
+use Rattle.lowering_locals.specs.Words.{Deep, LinearProgram, LinearFunction, Frame, Waits, Configuration, Seen, Finished, Next, pick, with_some, deeper, last_temporaries, body_of, begin_function, waiting, act, instruction_at, instruction_in, start, main_arguments, Marks, next_marks, AreAlike, GoAlike, start_marks, called, IsReached}
 use Rattle.linear_code.specs.declared.instruction.Instruction.TheVariants as instructions
 use Rattle.lowering_invariants.specs.SmallNumbers.{AreSmall, HasSmallNumbers}
 use Rattle.lowering_invariants.proofs.TurnNumbers.{stays_small, reached_small}

@@ -2,7 +2,7 @@
 use Rattle.std.proofs.Common.{◌≡◌, ℕ, zero, suc, ◌-◌, List, ◌∷◌, refl, sym, ap, subst, ◌∙◌}
 use Rattle.std.proofs.lemmas.List.{length-replicate}
 use Rattle.std.specs.Prelude.{replicate}
-use Rattle.lowering_locals.specs.Words.{Instruction, LinearProgram, Waits, Configuration, waiting, act, main_arguments, IsTurn, Marks, next_marks, AreActivationsAlike, AreAlike, GoAlike, ComesMarked, called, exec, Comes, StepsAreAlike, CallsAreAlike, called_with, StartsAreAlike, MarkedIsReached, MarkedContinues}
+use Rattle.lowering_locals.specs.Words.{Instruction, LinearProgram, Waits, Configuration, waiting, act, main_arguments, exec, IsTurn, Comes, Marks, next_marks, AreActivationsAlike, AreAlike, GoAlike, ComesMarked, called, StepsAreAlike, CallsAreAlike, called_with, StartsAreAlike, MarkedIsReached, MarkedContinues}
 use Rattle.linear_code.specs.declared.instruction.Instruction.TheVariants as instructions
 use Rattle.lowering_invariants.proofs.Same.{alike_is_same}
 use Rattle.lowering_locals.proofs.Lists.{as_long, begun_alike}

@@ -2,7 +2,7 @@
 use Rattle.std.proofs.Common.{◌≡◌, ℕ, suc, ◌+◌, List, ◌∷◌, ◌++◌, subst, arith}
 use Rattle.std.proofs.lemmas.List.{length-replicate}
 use Rattle.std.specs.Prelude.{true, replicate, Option}
-use Rattle.lowering_locals.specs.Words.{Expression, Statement, If, IfElse, Return, Statements, Then, Temporary, Instruction, Jump, LinearProgram, BodyName, expression_size, returned_size, statement_size, statements_size, LoweringContext, expression_code, returned_code, return_code, statement_code, statements_code, SeenNames, IsPart, after_statement, expression_within, optional_within, locals_at, statement_sets, statements_sets, set_in, JumpIfZero}
+use Rattle.lowering_locals.specs.Words.{Expression, Statement, If, IfElse, Return, Statements, Then, Temporary, Instruction, Jump, JumpIfZero, LinearProgram, BodyName, expression_size, returned_size, statement_size, statements_size, LoweringContext, expression_code, returned_code, return_code, statement_code, statements_code, SeenNames, IsPart, after_statement, expression_within, optional_within, locals_at, statement_sets, statements_sets, set_in}
 use Rattle.lowering_locals.proofs.Lemmas.{expression_length, returned_length, statement_length, IsSegmentAt, front, back, itself, within}
 use Rattle.lowering_locals.proofs.StraightCode.{is_same, head_recorded, even_part, even_list, AllLead, both_lead}
 use Rattle.lowering_locals.proofs.ExpressionSets.{IsAround}

@@ -1,7 +1,7 @@
 -- The code of an expression reads locals alone that are seen, and jumps within itself.
 use Rattle.std.proofs.Common.{◌≡◌, ℕ, ◌+◌, ◌<◌, ◌≤◌, List, [], ◌∷◌, ◌++◌, arith}
 use Rattle.std.specs.Prelude.{true, Option, Some, None}
-use Rattle.lowering_locals.specs.Words.{Operation, Expression, Temporary, Instruction, is_constant, ExceptionSource, NoException, OfFilter, KeptIn, Names, expression_size, expression_code, SeenNames, IsPart, expression_within, OperandsIn, On, Node, Lvalue, Global, Indirection, Element, Arguments, Done, address_count, locate_size, read_size, conversion_size, arguments_size, node_size, conversion_code, unary_code, choice_code, code_code, abnormal_code, read_code, write_code, locate_code, arguments_code, node_code, node_within, lvalue_within, arguments_within}
+use Rattle.lowering_locals.specs.Words.{Operation, Expression, On, Node, Lvalue, Global, Indirection, Element, Arguments, Done, Temporary, Instruction, is_constant, ExceptionSource, NoException, OfFilter, KeptIn, Names, expression_size, address_count, locate_size, read_size, conversion_size, arguments_size, node_size, expression_code, conversion_code, unary_code, choice_code, code_code, abnormal_code, read_code, write_code, locate_code, arguments_code, node_code, SeenNames, IsPart, expression_within, node_within, lvalue_within, arguments_within, OperandsIn}
 use Rattle.c_operations.specs.declared.operation.Operation.TheVariants as operations
 use Rattle.c_operations.specs.declared.operation.Pure.{Pure}
 use Rattle.c_operations.specs.declared.operation.Pure.TheVariants as pures
@@ -9,9 +9,8 @@ use Rattle.c_checked.specs.declared.expression.Conversion.{Conversion}
 use Rattle.c_checked.specs.declared.expression.Conversion.TheVariants.{Kept, Extend, Scale}
 use Rattle.c_checked.specs.Expression as nodes
 use Rattle.c_checked.specs.Expression.{Next}
-use Rattle.lowering_locals.proofs.Lemmas.{both_left, both_right}
+use Rattle.lowering_locals.proofs.Lemmas.{both_left, both_right, all_append}
 use Rattle.lowering_locals.proofs.StraightCode.{Fine, AllFine, temporaries_in}
-use Rattle.seh_ir.proofs.EveryInstruction.{all_append}
 
 -- where the code of an exception and the flag of a block are kept
 abbrev pub CodeIn : SeenNames → ExceptionSource → Type 0

@@ -4,14 +4,12 @@ use Rattle.std.proofs.lemmas.Bool.{leb-true, ltb-true}
 use Rattle.std.proofs.lemmas.List.{length-replicate}
 use Rattle.std.specs.List.{AllByRecursion}
 use Rattle.std.specs.Prelude.{true, false, replicate, slice_get, Some, None}
-use Rattle.lowering_locals.specs.Words.{Expression, funclets_in, funclets, filter_funclet, Filter, Always, Funclet, TryExcept, TryFinally, Statements, Local, Temporary, RegionKind, BodyName, FuncletBody, holds, flag_of, expression_size, statements_size, Owner, Names, LoweringContext, filter_names, finally_names, expression_code, statements_code, owner_of, SeenNames, with_local, IsPart, expression_within, with_flag, function_locals, owner_locals, locals_at, FinallyBegins, statements_sets, filter_sets, finally_sets, statement_funclet_sets, statements_funclet_sets, count_up, except_names, finally_scope, function_of, filter_within}
+use Rattle.lowering_locals.specs.Words.{Expression, funclets_in, funclets, filter_funclet, count_up, Filter, Always, Funclet, TryExcept, TryFinally, Statements, Local, Temporary, RegionKind, BodyName, FuncletBody, holds, flag_of, expression_size, statements_size, Owner, Names, LoweringContext, filter_names, finally_names, except_names, finally_scope, expression_code, statements_code, owner_of, function_of, SeenNames, with_local, IsPart, expression_within, filter_within, with_flag, function_locals, owner_locals, locals_at, FinallyBegins, statements_sets, filter_sets, finally_sets, statement_funclet_sets, statements_funclet_sets, except_kind, region, statements_regions, filter_funclets, finally_funclet, in_funclet, statement_funclets, statements_funclets}
 use Rattle.linear_code.specs.declared.instruction.Instruction.TheVariants as instructions
 use Rattle.linear_code.specs.declared.program.RegionKind.TheVariants as kinds
-use Rattle.lowering_locals.proofs.Lemmas.{Range, part_of, both_parts, no_part, one_part, expression_length, statements_length, filter_count, statements_count, IsSegmentAt, front, back, whole_is_at, all_append, same_it, both_left, both_right, sees_own, itself, within, part_with}
-use Rattle.seh_ir.specs.Regions.{except_kind, region, statements_regions}
+use Rattle.lowering_locals.proofs.Lemmas.{Range, part_of, both_parts, no_part, one_part, expression_length, statements_length, filter_count, statements_count, IsSegmentAt, front, back, whole_is_at, same_it, both_left, both_right, sees_own, itself, within, part_with, counted}
+use Rattle.lowering_invariants.proofs.PlainExpressions.{all_append}
 use Rattle.seh_ir.specs.Funclets as funclets_of
-use Rattle.seh_ir.specs.Funclets.{filter_funclets, finally_funclet, in_funclet, statement_funclets, statements_funclets}
-use Rattle.lowering_follows.proofs.FuncletNumbers.{counted}
 use Rattle.lowering_locals.proofs.StraightCode.{is_same, head_recorded, past_end, even_list, Fine, both_lead, straight}
 use Rattle.lowering_locals.proofs.ExpressionSets.{IsAround, expression_fine}
 use Rattle.lowering_locals.proofs.SetLists.{statements_long, filter_many, statements_many, statements_first, begins}

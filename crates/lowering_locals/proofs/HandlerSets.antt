@@ -2,10 +2,9 @@
 use Rattle.std.proofs.Common.{◌≡◌, inl, inr, ℕ, ◌+◌, ◌<◌, List, [], ◌∷◌, length, filter, refl, sym, subst, arith}
 use Rattle.std.specs.List.{AllByRecursion}
 use Rattle.std.specs.Prelude.{Bool, true, false, cond, Option, Some, None}
-use Rattle.lowering_locals.specs.Words.{Region, RegionKind, LinearProgram, LinearBody, BodyName, FunctionBody, FuncletBody, body_of, Frame, Handler, Target, Item, Waits, Searches, Unwinds, holds, regions_at, regions_left, handlers, target_past, target_of, Marks, SeenNames, IsPart, Guards, IsSetMap, Marked, here, IsHandler, IsTarget, AreRegions, AreHandlers, AreKept, AreCovered, regions_of, handlers_of, handlers_in, AreLeft}
+use Rattle.lowering_locals.specs.Words.{Region, RegionKind, LinearProgram, LinearBody, BodyName, FunctionBody, FuncletBody, body_of, Frame, Handler, Target, Item, Waits, Searches, Unwinds, holds, regions_at, regions_left, handlers, regions_of, handlers_of, handlers_in, target_past, target_of, Marks, SeenNames, IsPart, Guards, IsSetMap, Marked, here, IsHandler, IsTarget, AreRegions, AreHandlers, AreKept, AreCovered, AreLeft}
 use Rattle.linear_code.specs.declared.program.RegionKind.TheVariants as kinds
-use Rattle.lowering_locals.proofs.Lemmas.{same_it, all_map}
-use Rattle.seh_ir.proofs.EveryInstruction.{all_append}
+use Rattle.lowering_locals.proofs.Lemmas.{same_it, all_map, all_append}
 
 -- what holds of those that pass a test
 passed : {X : Type 0} (P : X → Type 0) (test : X → Bool) (xs : List X)

@@ -2,7 +2,7 @@
 use Rattle.std.proofs.Common.{◌≡◌, ℕ, suc, ◌+◌, ◌≤◌, List, [], ◌∷◌, ◌++◌, length, refl, sym, subst, arith}
 use Rattle.std.proofs.lemmas.List.{length-replicate}
 use Rattle.std.specs.Prelude.{true, replicate, Option}
-use Rattle.lowering_locals.specs.Words.{Expression, all_declared_sound, Declared, Statement, For, DoWhile, Instruction, Jump, Separator, LinearProgram, BodyName, expression_size, discarded_size, condition_size, all_declared_size, statement_size, LoweringContext, in_loop, expression_code, discarded_code, condition_code, all_declared_code, statement_code, SeenNames, IsPart, after_all_declared, after_statement, expression_within, optional_within, all_declared_within, locals_at, statement_sets, all_declared_sets, set_in, repeated}
+use Rattle.lowering_locals.specs.Words.{Expression, all_declared_sound, Declared, Statement, For, DoWhile, Instruction, Jump, Separator, LinearProgram, BodyName, expression_size, discarded_size, condition_size, all_declared_size, statement_size, LoweringContext, in_loop, expression_code, discarded_code, condition_code, all_declared_code, statement_code, repeated, SeenNames, IsPart, after_all_declared, after_statement, expression_within, optional_within, all_declared_within, locals_at, statement_sets, all_declared_sets, set_in}
 use Rattle.c_checked.specs.Sound as sound
 use Rattle.lowering_locals.proofs.Lemmas.{expression_length, discarded_length, condition_length, all_declared_length, statement_length, IsSegmentAt, front, back, within}
 use Rattle.lowering_locals.proofs.StraightCode.{is_same, Even, even_part, even_list, AllLead, both_lead}

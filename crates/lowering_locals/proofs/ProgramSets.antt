@@ -3,7 +3,7 @@ use Rattle.std.proofs.Common.{◌≡◌, ℕ, zero, suc, ◌+◌, ◌<◌, ◌�
 use Rattle.std.proofs.lemmas.List.{length-map}
 use Rattle.std.proofs.lemmas.Option.{slice_get_within}
 use Rattle.std.specs.Prelude.{true, slice_get, replicate, get_or, Option, Some, None}
-use Rattle.lowering_locals.specs.Words.{funclets, Temporary, LinearProgram, LinearBody, LinearFunction, LinearFunclet, BodyName, FunctionBody, FuncletBody, funclet_body, body_of, flag_of, statements_size, Owner, statements_code, SeenNames, IsPart, function_locals, IsSetBody, IsSetMap, statements_sets, statements_funclet_sets, IsSound, function_sound, functions_sound, function_body, constant, first_seen, function_within, functions_within, IsScoped, parameters_seen, function_sets, all_funclet_sets, list_of, sets_of}
+use Rattle.lowering_locals.specs.Words.{funclets, IsSound, function_sound, functions_sound, Temporary, LinearProgram, LinearBody, LinearFunction, LinearFunclet, BodyName, FunctionBody, FuncletBody, funclet_body, body_of, function_body, flag_of, statements_size, Owner, statements_code, SeenNames, IsPart, first_seen, function_within, functions_within, IsScoped, function_locals, IsSetBody, IsSetMap, statements_sets, statements_funclet_sets, parameters_seen, function_sets, all_funclet_sets, list_of, sets_of, constant}
 use Rattle.c_checked.specs.Program.{Program, Function}
 use Rattle.c_checked.specs.Sound as sound
 use Rattle.linear_code.specs.declared.instruction.Instruction.TheVariants as instructions

@@ -3,7 +3,7 @@ use Rattle.std.proofs.Common.{◌≡◌, ℕ, zero, suc, ◌-◌, ◌<◌, ◌�
 use Rattle.std.proofs.lemmas.List.{length-replicate}
 use Rattle.std.proofs.lemmas.Option.{slice_get_within}
 use Rattle.std.specs.Prelude.{Bool, true, false, slice_get, replicate, drop, ℤ, Option, Some, None}
-use Rattle.lowering_locals.specs.Words.{Slot, Local, Temporary, Instruction, LinearProgram, LinearFunction, BodyName, FunctionBody, FuncletBody, Frame, Item, Waits, Searches, Unwinds, Configuration, is_constant, instruction_at, start, main_arguments, owner_of, IsWhole, owners_of, AreActivations, HasActivations, Marks, marks_of, first_marks, begins_block, flag_set, local_written, with_mark, marks_left, next_marks, AreActivationsAlike, AreAlike, IsSet, AreOperandsSet, ReadsSet, ComesMarked, start_marks, SeenNames, function_locals, owner_locals, locals_at, ReadsIn, OperandsIn, Leads, IsSetMap, Marked, AreCovered, IsRecorded, IsGiven, Before, Written, Flag, Passed, IsStep, with_own, WorksOn, AreWorking, IsMarked, ReadsNoUnset, started_with}
+use Rattle.lowering_locals.specs.Words.{Slot, Local, Temporary, Instruction, LinearProgram, LinearFunction, BodyName, FunctionBody, FuncletBody, Frame, Item, Waits, Searches, Unwinds, Configuration, is_constant, instruction_at, start, main_arguments, owner_of, IsWhole, owners_of, AreActivations, HasActivations, with_own, WorksOn, AreWorking, Marks, marks_of, first_marks, begins_block, flag_set, local_written, with_mark, marks_left, next_marks, AreActivationsAlike, AreAlike, IsSet, AreOperandsSet, ReadsSet, ComesMarked, start_marks, IsMarked, ReadsNoUnset, SeenNames, function_locals, owner_locals, locals_at, ReadsIn, OperandsIn, Leads, IsSetMap, Marked, AreCovered, IsRecorded, IsGiven, Before, Written, Flag, Passed, IsStep, started_with}
 use Rattle.linear_code.specs.declared.instruction.Instruction.TheVariants as instructions
 use Rattle.lowering_locals.proofs.Lemmas.{same_it, is_parameter}
 use Rattle.lowering_invariants.proofs.TurnActivations.{reached_both}

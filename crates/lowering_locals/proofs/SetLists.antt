@@ -5,9 +5,8 @@ use Rattle.std.proofs.lemmas.List.{length-replicate}
 use Rattle.std.specs.List.{AllByRecursion}
 use Rattle.std.specs.Prelude.{replicate, Option, Some, None}
 use Rattle.lowering_locals.specs.Words.{Expression, funclets_in, funclets, filter_funclet, Declared, Filter, Always, Funclet, Statement, Declare, Block, Evaluate, If, IfElse, For, DoWhile, Return, Break, Continue, Leave, TryExcept, TryFinally, Statements, Empty, Then, expression_size, discarded_size, condition_size, returned_size, declared_size, all_declared_size, statement_size, statements_size, SeenNames, with_local, IsPart, after_declared, after_all_declared, after_statement, initialiser_size, declared_sets, all_declared_sets, statement_sets, statements_sets, filter_sets, finally_sets, statement_funclet_sets, statements_funclet_sets, set_in}
-use Rattle.lowering_locals.proofs.Lemmas.{IsSegmentAt, sees_before, itself, within}
+use Rattle.lowering_locals.proofs.Lemmas.{IsSegmentAt, sees_before, itself, within, all_append}
 use Rattle.lowering_locals.proofs.StraightCode.{is_same, is_same_back, head_recorded}
-use Rattle.seh_ir.proofs.EveryInstruction.{all_append}
 
 -- ---- lengths
 

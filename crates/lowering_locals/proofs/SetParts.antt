@@ -2,11 +2,9 @@
 -- its regions guard no more, and so it is in its filters and `__finally` blocks.
 use Rattle.std.proofs.Common.{◌≡◌, ℕ, ◌+◌, ◌-◌, ◌<◌, ◌≤◌, [], ◌∷◌, length, refl, subst, arith}
 use Rattle.std.specs.Prelude.{true, false}
-use Rattle.lowering_locals.specs.Words.{Inside, funclets_in, funclets, filter_funclet, statement_sound, Statement, Declare, Block, Evaluate, If, IfElse, For, DoWhile, Return, Break, Continue, Leave, TryExcept, TryFinally, Statements, Empty, Then, BodyName, FuncletBody, expression_size, discarded_size, statement_size, statements_size, Owner, LoweringContext, in_loop, in_try, in_except, in_guarded, statement_code, statements_code, SeenNames, with_local, after_all_declared, after_statement, statement_sets, statements_sets, statement_funclet_sets, statements_funclet_sets, statements_sound, statement_notes, statements_notes, finally_scope, statement_within, statements_within}
+use Rattle.lowering_locals.specs.Words.{Inside, funclets_in, funclets, filter_funclet, statement_sound, statements_sound, Statement, Declare, Block, Evaluate, If, IfElse, For, DoWhile, Return, Break, Continue, Leave, TryExcept, TryFinally, Statements, Empty, Then, BodyName, FuncletBody, expression_size, discarded_size, statement_size, statements_size, statement_notes, statements_notes, Owner, LoweringContext, in_loop, in_try, in_except, in_guarded, finally_scope, statement_code, statements_code, SeenNames, with_local, after_all_declared, after_statement, statement_within, statements_within, statement_sets, statements_sets, statement_funclet_sets, statements_funclet_sets, except_kind, region, statement_regions, statements_regions, in_funclet, statement_funclets, statements_funclets}
 use Rattle.linear_code.specs.declared.program.RegionKind.TheVariants as kinds
-use Rattle.lowering_locals.proofs.Lemmas.{statement_count, IsSegmentAt, both_left, both_right, sees_before, within}
-use Rattle.seh_ir.specs.Regions.{except_kind, region, statement_regions, statements_regions}
-use Rattle.seh_ir.specs.Funclets.{in_funclet, statement_funclets, statements_funclets}
+use Rattle.lowering_locals.proofs.Lemmas.{statement_count, IsSegmentAt, both_left, both_right, sees_before, within, all_append}
 use Rattle.lowering_locals.proofs.StraightCode.{is_same, even_list}
 use Rattle.lowering_locals.proofs.SetLists.{statement_many, grows, all_grow}
 use Rattle.lowering_locals.proofs.StatementPieces.{around_all_declared, jump_leads, leave_leads, discarded_leads, declared_leads}
@@ -14,7 +12,6 @@ use Rattle.lowering_locals.proofs.ChoiceSets.{if_parts, if_else_parts, returns_l
 use Rattle.lowering_locals.proofs.LoopSets as loops
 use Rattle.lowering_locals.proofs.Around.{around_after, above_body}
 use Rattle.lowering_locals.proofs.TrySets.{except_parts, finally_parts}
-use Rattle.seh_ir.proofs.EveryInstruction.{all_append}
 use Rattle.lowering_locals.proofs.SetPlaces.{HasFunclets, IsFine, IsGuarded, IsPlace, IsRecordedAt, IsSetAt, WithSets, except_place, guarded_place, has_back, has_front, locals_are, loop_place, more_place, plain, sets, try_place}
 use Rattle.lowering_locals.proofs.FuncletSets.{block_ranges, except_funclets, filter_is_set, finally_alone, finally_funclets, in_region, three_ranges, two_ranges}
 

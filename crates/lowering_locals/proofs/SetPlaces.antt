@@ -4,8 +4,7 @@ use Rattle.std.proofs.Common.{◌≡◌, ℕ, ◌+◌, ◌<◌, List, [], ◌++�
 use Rattle.std.specs.List.{AllByRecursion}
 use Rattle.std.specs.Prelude.{true, slice_get, Some}
 use Rattle.lowering_locals.specs.Words.{Instruction, Region, LinearProgram, LinearBody, LinearFunclet, BodyName, FuncletBody, funclet_body, body_of, holds, flag_of, Owner, LoweringContext, in_loop, in_try, in_except, in_guarded, owner_of, SeenNames, with_local, IsPart, function_locals, owner_locals, locals_at, Leads, Guards, IsSetBody, set_in, count_up}
-use Rattle.lowering_locals.proofs.Lemmas.{Range, no_part, IsSegmentAt, front, back, same_it, all_map, sees_own, sees_before, within}
-use Rattle.lowering_follows.proofs.FuncletNumbers.{count_front, count_back}
+use Rattle.lowering_locals.proofs.Lemmas.{Range, no_part, IsSegmentAt, front, back, same_it, all_map, sees_own, sees_before, within, count_front, count_back}
 use Rattle.lowering_locals.proofs.StraightCode.{AllLead, lead_at}
 use Rattle.lowering_locals.proofs.ExpressionSets.{IsAround}
 use Rattle.lowering_locals.proofs.StatementPieces.{flag_kept, below_with, WayIn, LabelIn}

@@ -3,15 +3,14 @@ use Rattle.std.proofs.Common.{◌≡◌, ◌⊎◌, inl, inr, ℕ, ◌+◌, ◌<
 use Rattle.std.proofs.lemmas.Bool.{ltb-true}
 use Rattle.std.proofs.lemmas.List.{length-replicate}
 use Rattle.std.specs.Prelude.{true, replicate, Option, Some, None}
-use Rattle.lowering_locals.specs.Words.{Expression, all_declared_sound, Declared, Local, Temporary, Instruction, LinearProgram, BodyName, expression_size, discarded_size, condition_size, returned_size, declared_size, all_declared_size, ExceptionSource, NoException, OfFilter, KeptIn, Names, Way, Nowhere, Jumps, expression_code, return_code, discarded_code, returned_code, condition_code, all_declared_code, SeenNames, with_local, IsPart, expression_within, optional_within, after_declared, after_all_declared, all_declared_within, locals_at, Leads, initialiser_size, declared_sets, all_declared_sets, set_in, declared_sound, copy, jump_code, leave_code, initialiser_code, declared_code, declared_within}
+use Rattle.lowering_locals.specs.Words.{Expression, all_declared_sound, declared_sound, Declared, Local, Temporary, Instruction, LinearProgram, BodyName, expression_size, discarded_size, condition_size, returned_size, declared_size, all_declared_size, ExceptionSource, NoException, OfFilter, KeptIn, Names, Way, Nowhere, Jumps, expression_code, copy, return_code, discarded_code, returned_code, condition_code, all_declared_code, jump_code, leave_code, initialiser_code, declared_code, SeenNames, with_local, IsPart, expression_within, optional_within, after_declared, after_all_declared, all_declared_within, declared_within, locals_at, Leads, initialiser_size, declared_sets, all_declared_sets, set_in}
 use Rattle.c_checked.specs.Sound as sound
 use Rattle.linear_code.specs.declared.instruction.Instruction.TheVariants as instructions
 use Rattle.lowering_expressions.specs.declared.scope.Way.TheVariants.{Unwinds}
-use Rattle.lowering_locals.proofs.Lemmas.{expression_length, discarded_length, declared_length, IsSegmentAt, front, back, both_left, both_right, seen_cases, sees_before, part_with, within}
+use Rattle.lowering_locals.proofs.Lemmas.{expression_length, discarded_length, declared_length, IsSegmentAt, front, back, both_left, both_right, seen_cases, sees_before, part_with, within, all_append}
 use Rattle.lowering_locals.proofs.StraightCode.{is_same, is_same_back, head_recorded, Even, even_part, even_list, Fine, AllFine, AllLead, both_lead, straight}
 use Rattle.lowering_locals.proofs.ExpressionSets.{CodeIn, FlagIn, IsAround, expression_fine}
 use Rattle.lowering_locals.proofs.SetLists.{declared_long, all_declared_long, replicate_first, all_declared_first, begins, initialiser_is}
-use Rattle.seh_ir.proofs.EveryInstruction.{all_append}
 
 -- ---- what is recorded around a part, with one more local
 

@@ -4,7 +4,7 @@ use Rattle.std.proofs.Common.{◌≡◌, ℕ, ◌+◌, ◌-◌, List, [], ◌∷
 use Rattle.std.proofs.lemmas.List.{length-drop, length-replicate}
 use Rattle.std.specs.Prelude.{Bool, true, false, nat_eq, take, drop, get_or, replicate, slice_get, if◌then◌else◌, Option, Some, None}
 use Rattle.std.specs.Prelude.{is_some}
-use Rattle.lowering_locals.specs.Words.{Event, W32, signed, BuiltIn, Put, Protect, RaiseException, Operation, OperationResult, Gives, Raises, Undefined, performed, is_reserved, of_test, field_of, raised, Slot, Local, Temporary, Instruction, LinearProgram, LinearFunction, FunctionBody, Item, Waits, AfterCall, SameOperation, Store, Configuration, Seen, Finished, Stuck, Next, pick, with_some, deeper, read, with_temporary, with_temporaries, last_temporaries, set_local, at_label, forth, with_last, is_constant, operand, written, computed, tested, waiting, begin_function, count_of, built_in, end_body, not_landed, act, Marks, flag_set, with_mark, first_marks, outcome_of, local_in, local_given, marks_left, next_marks, AreActivationsAlike, AreLocalsAlike, IsSet, AreOperandsSet, ReadsSet, W64, no_exception}
+use Rattle.lowering_locals.specs.Words.{Event, W32, W64, signed, BuiltIn, Put, Protect, RaiseException, Operation, OperationResult, Gives, Raises, Undefined, performed, is_reserved, of_test, field_of, raised, no_exception, Slot, Local, Temporary, Instruction, LinearProgram, LinearFunction, FunctionBody, Item, Waits, AfterCall, SameOperation, Store, Configuration, Seen, Finished, Stuck, Next, pick, with_some, deeper, read, with_temporary, with_temporaries, last_temporaries, set_local, at_label, forth, with_last, is_constant, operand, written, computed, tested, waiting, begin_function, count_of, built_in, end_body, not_landed, act, Marks, flag_set, with_mark, first_marks, outcome_of, local_in, local_given, marks_left, next_marks, AreActivationsAlike, AreLocalsAlike, IsSet, AreOperandsSet, ReadsSet}
 use Rattle.seh_num.specs.declared.event.Event.TheVariants as events
 use Rattle.flat_memory.specs.Memory.{protected, rights_asked}
 use Rattle.source_meaning.specs.declared.ended.Ended.TheVariants as ends

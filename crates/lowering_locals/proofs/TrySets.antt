@@ -1,7 +1,7 @@
 -- `__try` statements beside their sets.
 use Rattle.std.proofs.Common.{◌≡◌, ℕ, ◌+◌, ◌-◌, ◌<◌, ◌≤◌, List, [], ◌∷◌, ◌++◌, refl, sym, subst, arith}
 use Rattle.std.specs.Prelude.{replicate}
-use Rattle.lowering_locals.specs.Words.{Filter, TryExcept, TryFinally, Statements, Instruction, Separator, LinearProgram, BodyName, statement_size, statements_size, LoweringContext, in_try, in_except, in_guarded, statement_code, statements_code, SeenNames, with_local, IsPart, locals_at, FinallyBegins, statement_sets, statements_sets, set_in, CallFinally, landed}
+use Rattle.lowering_locals.specs.Words.{Filter, TryExcept, TryFinally, Statements, Instruction, Separator, CallFinally, LinearProgram, BodyName, statement_size, statements_size, LoweringContext, in_try, in_except, in_guarded, statement_code, statements_code, landed, SeenNames, with_local, IsPart, locals_at, FinallyBegins, statement_sets, statements_sets, set_in}
 use Rattle.lowering_locals.proofs.Lemmas.{statements_length, IsSegmentAt, front, back, sees_before, itself, within}
 use Rattle.lowering_locals.proofs.StraightCode.{is_same, is_same_back, head_recorded, even_part, even_list, AllLead, both_lead}
 use Rattle.lowering_locals.proofs.ExpressionSets.{IsAround}

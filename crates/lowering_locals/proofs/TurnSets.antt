@@ -2,7 +2,7 @@
 use Rattle.std.proofs.Common.{◌≡◌, inl, inr, ℕ, ◌+◌, ◌^◌, ◌<◌, ◌⊎◌, List, [], ◌∷◌, ◌++◌, length, refl, sym, ap, subst, ◌∙◌}
 use Rattle.std.proofs.lemmas.Bool.{eqb-true, eqb-false}
 use Rattle.std.specs.Prelude.{Bool, true, false, nat_eq, nat_lt, slice_get, drop, Option, Some, None}
-use Rattle.lowering_locals.specs.Words.{Event, W32, low, signed, RaiseException, Exception, noncontinuable, raise_event, Instruction, Region, RegionKind, FuncletKind, LinearProgram, LinearBody, BodyName, FunctionBody, FuncletBody, body_of, Frame, Handler, Target, Resumption, AfterCall, SameOperation, Item, Waits, Searches, Unwinds, Store, Configuration, Seen, Finished, Stuck, Next, at_label, regions_at, regions_left, handlers, stops, flag_of, begin_finally, run_finally, arrive, target_past, left_store, leave_region, unwind_body, unwind, target_of, accept, consult, search, raise, resumed, answer, return, end_finally, end_funclet, end_body, instruction_in, Marks, flag_set, begins_block, IsPart, with_flag, locals_at, FinallyBegins, Leads, Guards, IsSetMap, Marked, here, IsHandler, IsTarget, AreRegions, AreHandlers, AreKept, AreCovered, IsGiven, Before, Flag, IsStep, IsAt, IsAbove, IsCalledBy, IsRunFor, IsRaisedIn, AreWaiting, IsCovered}
+use Rattle.lowering_locals.specs.Words.{Event, W32, low, signed, RaiseException, Exception, noncontinuable, raise_event, Instruction, Region, RegionKind, FuncletKind, LinearProgram, LinearBody, BodyName, FunctionBody, FuncletBody, body_of, Frame, Handler, Target, Resumption, AfterCall, SameOperation, Item, Waits, Searches, Unwinds, Store, Configuration, Seen, Finished, Stuck, Next, at_label, regions_at, regions_left, handlers, stops, flag_of, begin_finally, run_finally, arrive, target_past, left_store, leave_region, unwind_body, unwind, target_of, accept, consult, search, raise, resumed, answer, return, end_finally, end_funclet, end_body, instruction_in, Marks, flag_set, begins_block, IsPart, with_flag, locals_at, FinallyBegins, Leads, Guards, IsSetMap, Marked, here, IsHandler, IsTarget, AreRegions, AreHandlers, AreKept, AreCovered, IsGiven, Before, Flag, IsStep, IsCovered, IsAt, IsAbove, IsCalledBy, IsRunFor, IsRaisedIn, AreWaiting}
 use Rattle.seh_num.specs.declared.event.Event.TheVariants as events
 use Rattle.source_meaning.specs.declared.ended.Ended.TheVariants as ends
 use Rattle.linear_code.specs.declared.instruction.Instruction.TheVariants as instructions

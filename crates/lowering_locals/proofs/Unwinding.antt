@@ -1,7 +1,7 @@
 -- Unwindings and searches over the same that waits go alike, whatever the locals are.
 use Rattle.std.proofs.Common.{◌≡◌, ℕ, ◌+◌, ◌^◌, List, [], ◌∷◌, ◌++◌, length, refl, sym, subst}
 use Rattle.std.specs.Prelude.{Bool, true, nat_eq, nat_lt, drop, take, slice_get, Option, Some, None}
-use Rattle.lowering_locals.specs.Words.{Event, W32, low, signed, Exception, of_test, noncontinuable, raise_event, Region, RegionKind, FuncletKind, LinearProgram, BodyName, FunctionBody, FuncletBody, Handler, Target, Resumption, AfterCall, SameOperation, Item, Waits, Searches, Unwinds, Store, Configuration, Seen, Finished, Stuck, Next, pick, deeper, at_label, forth, with_last, regions_at, regions_left, handlers, stops, flag_of, begin_finally, run_finally, arrive, target_past, left_store, leave_region, unwind_body, unwind, target_of, accept, consult, search, raise, resumed, answer, return, end_finally, end_funclet, end_body, Marks, begins_block, flag_set, with_mark, AreActivationsAlike, begin_filter, answered}
+use Rattle.lowering_locals.specs.Words.{Event, W32, low, signed, Exception, of_test, noncontinuable, raise_event, Region, RegionKind, FuncletKind, LinearProgram, BodyName, FunctionBody, FuncletBody, Handler, Target, Resumption, AfterCall, SameOperation, Item, Waits, Searches, Unwinds, Store, Configuration, Seen, Finished, Stuck, Next, pick, deeper, at_label, forth, with_last, regions_at, regions_left, handlers, stops, flag_of, begin_finally, run_finally, arrive, target_past, left_store, leave_region, unwind_body, unwind, target_of, accept, consult, search, raise, resumed, answer, begin_filter, answered, return, end_finally, end_funclet, end_body, Marks, begins_block, flag_set, with_mark, AreActivationsAlike}
 use Rattle.seh_num.specs.declared.event.Event.TheVariants as events
 use Rattle.source_meaning.specs.declared.ended.Ended.TheVariants as ends
 use Rattle.linear_code.specs.declared.program.RegionKind.TheVariants as kinds

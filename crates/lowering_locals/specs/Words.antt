@@ -7,9 +7,9 @@ pub use Rattle.c_operations.specs.declared.built_in.BuiltIn.{BuiltIn}
 pub use Rattle.c_operations.specs.declared.built_in.BuiltIn.TheVariants.{Put, Protect, RaiseException}
 pub use Rattle.c_operations.specs.declared.operation.Operation.{Operation}
 pub use Rattle.c_checked.specs.Expression.{Expression, On, Node, Lvalue, Global, Indirection, Element, Arguments, Done}
-pub use Rattle.c_checked.specs.LocalScopes.{SeenNames, IsPart, with_local, after_statement, expression_within, optional_within, after_all_declared, all_declared_within, after_declared, node_within, lvalue_within, arguments_within, first_seen, function_within, functions_within, IsScoped, filter_within, statement_within, statements_within, declared_within}
-pub use Rattle.c_checked.specs.Sound.{Inside, statement_sound, all_declared_sound, funclets, funclets_in, filter_funclet, IsSound, function_sound, functions_sound, count_up, statements_sound, declared_sound}
-pub use Rattle.c_checked.specs.Statement.{Statement, Declare, Block, Evaluate, If, IfElse, For, DoWhile, Return, Break, Continue, Leave, TryExcept, TryFinally, Statements, Then, Declared, Filter, Always, Funclet, Empty}
+pub use Rattle.c_checked.specs.LocalScopes.{SeenNames, IsPart, with_local, after_statement, expression_within, optional_within, node_within, lvalue_within, arguments_within, filter_within, after_all_declared, all_declared_within, first_seen, function_within, functions_within, IsScoped, after_declared, statement_within, statements_within, declared_within}
+pub use Rattle.c_checked.specs.Sound.{Inside, statement_sound, funclets_in, funclets, filter_funclet, count_up, all_declared_sound, IsSound, function_sound, functions_sound, statements_sound, declared_sound}
+pub use Rattle.c_checked.specs.Statement.{Statement, Declare, Block, Evaluate, If, IfElse, For, DoWhile, Return, Break, Continue, Leave, TryExcept, TryFinally, Statements, Then, Filter, Always, Funclet, Declared, Empty}
 pub use Rattle.source_meaning.specs.Expressions.{field_of, raised, of_test, no_exception}
 pub use Rattle.source_meaning.specs.Raises.{noncontinuable, raise_event}
 pub use Rattle.source_meaning.specs.Source.{is_reserved}
@@ -17,39 +17,41 @@ pub use Rattle.source_meaning.specs.State.{Exception}
 pub use Rattle.source_meaning.specs.declared.ended.Ended.TheVariants.{Deep}
 pub use Rattle.linear_code.specs.Program.{LinearProgram, LinearFunction, LinearBody, LinearFunclet}
 pub use Rattle.linear_code.specs.declared.instruction.Instruction.{Instruction}
-pub use Rattle.linear_code.specs.declared.instruction.Instruction.TheVariants.{Jump, Separator, JumpIfZero, CallFinally}
+pub use Rattle.linear_code.specs.declared.instruction.Instruction.TheVariants.{Jump, JumpIfZero, Separator, CallFinally}
 pub use Rattle.linear_code.specs.declared.program.FuncletKind.{FuncletKind}
 pub use Rattle.linear_code.specs.declared.program.Region.{Region}
 pub use Rattle.linear_code.specs.declared.program.RegionKind.{RegionKind}
 pub use Rattle.linear_code.specs.declared.slot.Slot.{Slot}
 pub use Rattle.linear_code.specs.declared.slot.Slot.TheVariants.{Local, Temporary}
-pub use Rattle.linear_machine.specs.Frames.{BodyName, FunctionBody, SameOperation, AfterCall, Waits, Configuration, Finished, read, with_temporary, with_temporaries, last_temporaries, set_local, at_label, forth, with_last, Frame, Seen, Next, deeper, body_of, Unwinds, FuncletBody, Handler, Target, Item, Searches, funclet_body, Store, Stuck, Resumption, write, function_body, Running}
+pub use Rattle.linear_machine.specs.Frames.{BodyName, FunctionBody, SameOperation, AfterCall, Waits, Configuration, Finished, read, with_temporary, with_temporaries, last_temporaries, set_local, at_label, forth, with_last, write, Frame, Seen, Next, deeper, body_of, FuncletBody, Handler, Target, Item, Searches, Unwinds, funclet_body, function_body, Store, Stuck, Running, Resumption}
 unfoldable pub use Rattle.linear_machine.specs.Frames.{pick, with_some}
 pub use Rattle.linear_machine.specs.Instructions.{is_constant, operand, written, computed, tested, count_of, built_in, not_landed, act, begin_function, waiting, end_body, return, end_finally, end_funclet}
-pub use Rattle.linear_machine.specs.Regions.{holds, regions_at, regions_left, handlers, stops, regions_of, handlers_of, handlers_in}
+pub use Rattle.linear_machine.specs.Regions.{holds, regions_at, regions_left, handlers, regions_of, handlers_of, handlers_in, stops}
 pub use Rattle.linear_machine.specs.Run.{instruction_at, instruction_in, start, main_arguments}
 unfoldable pub use Rattle.linear_machine.specs.Run.{exec}
 pub use Rattle.linear_machine.specs.Searching.{target_of, accept, consult, search, raise, resumed, answer, begin_filter, answered}
-pub use Rattle.linear_machine.specs.Unwinding.{target_past, flag_of, begin_finally, run_finally, arrive, left_store, leave_region, unwind_body, unwind}
-pub use Rattle.lowering_sizes.specs.Sizes.{statements_size, expression_size, returned_size, statement_size, discarded_size, condition_size, all_declared_size, declared_size, address_count, locate_size, read_size, conversion_size, arguments_size, node_size, statement_notes, statements_notes}
+pub use Rattle.linear_machine.specs.Unwinding.{flag_of, target_past, begin_finally, run_finally, arrive, left_store, leave_region, unwind_body, unwind}
+pub use Rattle.lowering_sizes.specs.Sizes.{statements_size, expression_size, returned_size, statement_size, address_count, locate_size, read_size, conversion_size, arguments_size, node_size, discarded_size, condition_size, all_declared_size, declared_size, statement_notes, statements_notes}
 pub use Rattle.lowering_expressions.specs.Expressions.{expression_code, conversion_code, unary_code, choice_code, code_code, abnormal_code, read_code, write_code, locate_code, arguments_code, node_code, constant, copy}
-pub use Rattle.lowering_expressions.specs.Scope.{filter_names, finally_names, in_loop, in_try, in_except, in_guarded, unwound, except_names, finally_scope}
+pub use Rattle.lowering_expressions.specs.Scope.{filter_names, finally_names, unwound, except_names, finally_scope, in_loop, in_try, in_except, in_guarded}
 pub use Rattle.lowering_expressions.specs.declared.scope.ExceptionSource.{ExceptionSource}
 pub use Rattle.lowering_expressions.specs.declared.scope.ExceptionSource.TheVariants.{NoException, OfFilter, KeptIn}
 pub use Rattle.lowering_expressions.specs.declared.scope.LoweringContext.{LoweringContext}
 pub use Rattle.lowering_expressions.specs.declared.scope.Names.{Names}
 pub use Rattle.lowering_expressions.specs.declared.scope.Way.{Way}
 pub use Rattle.lowering_expressions.specs.declared.scope.Way.TheVariants.{Nowhere, Jumps}
+pub use Rattle.seh_ir.specs.Funclets.{filter_funclets, finally_funclet, in_funclet, statement_funclets, statements_funclets}
+pub use Rattle.seh_ir.specs.Regions.{except_kind, region, statements_regions, statement_regions}
 pub use Rattle.seh_ir.specs.Statements.{returned_code, return_code, statement_code, statements_code, discarded_code, condition_code, all_declared_code, repeated, jump_code, leave_code, initialiser_code, declared_code, landed}
 pub use Rattle.seh_ir.specs.declared.funclets.Owner.{Owner}
 pub use Rattle.lowering_invariants.specs.Activations.{AreActivations, HasActivations, owners_of, with_own, WorksOn, AreWorking}
-pub use Rattle.lowering_invariants.specs.Bodies.{IsWhole, owner_of, IsCallee, function_of}
+pub use Rattle.lowering_invariants.specs.Bodies.{IsWhole, IsCallee, owner_of, function_of}
 pub use Rattle.lowering_invariants.specs.Turns.{IsTurn, IsReached, Comes}
 pub use Rattle.lowering_invariants.specs.Waiting.{IsStacked, IsAt, IsAbove, IsCalledBy, IsRunFor, IsRaisedIn, AreWaiting}
 pub use Rattle.lowering_locals.specs.Alike.{AreAlike, GoAlike, AreActivationsAlike, IsSame, AreLocalsAlike}
-pub use Rattle.lowering_locals.specs.Lives.{Marked, here, AreKept, AreCovered, IsRecorded, IsGiven, Before, Written, Passed, IsStep, IsHandler, IsTarget, AreRegions, AreHandlers, Flag, AreLeft, IsCovered}
+pub use Rattle.lowering_locals.specs.Lives.{Marked, here, AreKept, AreCovered, IsRecorded, IsGiven, Before, Written, Passed, IsStep, IsHandler, IsTarget, AreRegions, AreHandlers, AreLeft, Flag, IsCovered}
 pub use Rattle.lowering_locals.specs.Marks.{Marks, outcome_of, local_given, local_in, local_written, next_marks, begins_block, marks_of, set_mark, with_mark, first_marks, flag_set, marks_left}
-pub use Rattle.lowering_locals.specs.Places.{statements_sets, set_in, statement_sets, all_declared_sets, statements_funclet_sets, initialiser_size, declared_sets, filter_sets, finally_sets, statement_funclet_sets, parameters_seen, function_sets, all_funclet_sets, list_of, sets_of, none_seen}
+pub use Rattle.lowering_locals.specs.Places.{statements_sets, set_in, statement_sets, filter_sets, finally_sets, statement_funclet_sets, statements_funclet_sets, all_declared_sets, parameters_seen, function_sets, all_funclet_sets, list_of, sets_of, initialiser_size, declared_sets, none_seen}
 pub use Rattle.lowering_locals.specs.Reads.{start_marks, ComesMarked, IsSet, AreOperandsSet, ReadsSet, IsMarked, ReadsNoUnset}
-pub use Rattle.lowering_locals.specs.Sets.{with_slot, IsLocalOf, locals_at, Leads, IsSetMap, OperandsIn, Guards, function_locals, IsSetBody, owner_locals, ReadsIn, with_flag, FinallyBegins}
+pub use Rattle.lowering_locals.specs.Sets.{with_slot, IsLocalOf, locals_at, Leads, IsSetMap, OperandsIn, with_flag, function_locals, owner_locals, FinallyBegins, Guards, IsSetBody, ReadsIn}
 pub use Rattle.lowering_locals.specs.UnsetLaws.{called, StepsAreAlike, CallsAreAlike, called_with, StartsAreAlike, MarkedIsReached, MarkedContinues, AlikeHasActivations, started_with}

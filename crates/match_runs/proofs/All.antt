@@ -2,12 +2,12 @@
 use Rattle.std.proofs.Common.{◌≡◌, ℕ, zero, suc, ◌+◌, ◌-◌, ◌≤◌, false, Some, List, [], sym, ap, subst, ◌∙◌, arith}
 use Rattle.std.proofs.lemmas.List.{append-nil}
 use Rattle.std.specs.Prelude.{Option}
-use Rattle.match_runs.specs.Words.{Shown, RunEnd, Event, State, Functions, host, run, Funclet, is_calm, Ended, Seen, shown}
+use Rattle.match_runs.specs.Words.{Shown, RunEnd, Event, State, Functions, host, run, Funclet, is_calm, Seen, shown, ShowsAll}
+use Rattle.source_meaning.specs.declared.ended.Ended.{Ended}
 use Rattle.host_model.specs.Laws.{IsShownFirst}
 use Rattle.host_model.proofs.Longer.{begins, none_yet}
 use Rattle.source_meaning.specs.declared.ended.Ended.TheVariants as source
-use Rattle.match_runs.specs.Laws.{ShowsAll}
-use Rattle.source_meaning.proofs.Prefixes.{prefix_then}
+use Rattle.match_runs.proofs.Lemmas.{prefix_then}
 use Rattle.match_runs.proofs.MatchedRuns.{RunOutcome, RunsOn, Exited, Died, Failed, RunIsMatched}
 use Rattle.match_runs.proofs.RunEnds.{HasEnded, returned, died, run_from}
 

@@ -1,3 +1,4 @@
+mod Lemmas
 pub mod Shadows
 pub mod Turns
 pub mod Matches

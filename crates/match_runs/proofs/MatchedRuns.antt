@@ -2,10 +2,11 @@
 use Rattle.std.proofs.Common.{◌≡◌, inl, inr, ℕ, zero, suc, ◌+◌, ◌*◌, ◌<◌, ◌≤◌, false, Some, List, [], ◌++◌, sym, ap, subst, ◌∙◌, arith, append_assoc}
 use Rattle.std.proofs.Math.Nat.{mul-suc}
 use Rattle.std.proofs.lemmas.List.{append-nil}
-use Rattle.match_runs.specs.Words.{signed, Code, Event, W32, Rax, State, register, Functions, turn, Ends, Funclet, IsPrefixOf, is_calm, Ended, LinearProgram, Instruction, Configuration, Finished, Running, Seen, instruction_at, exec, Comes, IsLive, HasRule, Follows, IsMatched}
+use Rattle.match_runs.specs.Words.{signed, Code, Event, W32, Rax, State, register, Functions, turn, Ends, Funclet, IsPrefixOf, is_calm, LinearProgram, Instruction, Configuration, Finished, Running, Seen, instruction_at, exec, Comes, IsLive, HasRule, Follows, IsMatched}
+use Rattle.source_meaning.specs.declared.ended.Ended.{Ended}
 use Rattle.seh_num.specs.declared.end.RunEnd.TheVariants as ends
 use Rattle.source_meaning.specs.declared.ended.Ended.TheVariants as source
-use Rattle.source_meaning.proofs.Prefixes.{prefix_after}
+use Rattle.match_runs.proofs.Lemmas.{prefix_after}
 use Rattle.match_runs.proofs.Turns.{comes_nowhere, comes_then}
 use Rattle.match_runs.proofs.Steps.{at_instruction, matched_step}
 

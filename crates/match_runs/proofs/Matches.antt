@@ -1,9 +1,9 @@
 -- Steps that are matched, from their parts.
 use Rattle.std.proofs.Common.{◌≡◌, inl, inr, ℕ, ◌+◌, ◌≤◌, false, Some, List, [], ◌++◌, refl, sym, ap, subst, ◌∙◌, arith}
 use Rattle.std.proofs.lemmas.List.{append-nil}
-use Rattle.match_runs.specs.Words.{Event, State, Functions, Funclet, is_calm, Ended, LinearProgram, Instruction, Configuration, Finished, Seen, act, Comes, Fails, IsMatched}
+use Rattle.match_runs.specs.Words.{Event, State, Functions, Funclet, is_calm, LinearProgram, Instruction, Configuration, Finished, Seen, act, Comes, Fails, IsMatched, Next}
+use Rattle.source_meaning.specs.declared.ended.Ended.{Ended}
 use Rattle.source_meaning.specs.declared.ended.Ended.TheVariants as source
-use Rattle.linear_machine.specs.Frames.{Next}
 use Rattle.match_runs.proofs.Turns.{comes_nowhere, comes_then}
 
 -- turns that show nothing, before and after others

@@ -1,9 +1,9 @@
 -- A run of the machine shows no more than linear code, and ends only as that ends.
 use Rattle.std.proofs.Common.{◌≡◌, inl, inr, ℕ, zero, suc, ◌+◌, ◌-◌, ◌<◌, ◌≤◌, true, false, Some, None, List, ◌++◌, sym, ap, subst, ◌∙◌, arith}
 use Rattle.std.proofs.lemmas.Bool.{cases_lt}
-use Rattle.match_runs.specs.Words.{Shown, RunEnd, Event, State, Functions, host, run, Funclet, IsPrefixOf, is_calm, Ended, Finished, Seen, shown, Comes, IsCalm}
-use Rattle.match_runs.specs.Laws.{ShowsNoMore}
-use Rattle.source_meaning.proofs.Prefixes.{prefix_same, prefix_then, prefix_after}
+use Rattle.match_runs.specs.Words.{Shown, RunEnd, Event, State, Functions, host, run, Funclet, IsPrefixOf, is_calm, Finished, Seen, shown, Comes, IsCalm, ShowsNoMore}
+use Rattle.source_meaning.specs.declared.ended.Ended.{Ended}
+use Rattle.match_runs.proofs.Lemmas.{prefix_same, prefix_then, prefix_after}
 use Rattle.match_runs.proofs.Turns.{partway, run_pauses}
 use Rattle.match_runs.proofs.MatchedRuns.{RunOutcome, RunsOn, Exited, Died, Failed, RunIsMatched}
 use Rattle.match_runs.proofs.RunEnds.{HasEnded, returned, died, run_from}

@@ -1,9 +1,8 @@
 -- Runs of the machine past the turns that match a run of linear code.
 use Rattle.std.proofs.Common.{◌≡◌, ℕ, suc, ◌+◌, ◌-◌, ◌≤◌, Some, List, ◌++◌, sym, ap, ◌∙◌, arith}
-use Rattle.match_runs.specs.Words.{Shown, signed, RunEnd, Code, Event, W32, Rax, State, register, Functions, host, turn, run, Ends, Funclet, Finished, Seen, shown, IsLive}
+use Rattle.match_runs.specs.Words.{Shown, signed, RunEnd, Code, Event, W32, Rax, State, register, Functions, host, turn, run, Ends, Funclet, Finished, Seen, shown, IsLive, run_end_of}
 use Rattle.seh_num.specs.declared.end.RunEnd.TheVariants as ends
 use Rattle.source_meaning.specs.declared.ended.Ended.TheVariants as source
-use Rattle.match_runs.specs.Ends.{run_end_of}
 use Rattle.match_runs.proofs.Turns.{run_comes, run_returned, run_dies}
 use Rattle.match_runs.proofs.MatchedRuns.{RunIsMatched}
 

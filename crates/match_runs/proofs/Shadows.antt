@@ -2,21 +2,17 @@
 use Rattle.std.proofs.Common.{◌≡◌, ℕ, zero, suc, ◌+◌, ◌<◌, ◌≤◌, Bool, true, false, Option, Some, None, Ok, Err, List, [], ◌∷◌, refl, sym, ap, subst, ◌∙◌, arith}
 use Rattle.std.specs.Prelude.{nat_eq, map}
 use Rattle.std.proofs.lemmas.Bool.{lt-ltb, le-ltb}
-use Rattle.match_runs.specs.Words.{Code, Event, State, register, step, Context, Functions, distance, arrivals, Funclet, KeepsShadow, WalkGives, shadow_after}
+use Rattle.match_runs.specs.Words.{Code, Event, State, register, step, Context, Functions, distance, arrivals, Funclet, KeepsShadow, WalkGives, shadow_after, Rsp, Answer, CallerFrame, caller_at, if_below, drop_below, is_call, entered, started, served, by_step, callers_of, GivesCallers, AllKeep}
 use Rattle.host_layout.specs.Services.{service_at}
 use Rattle.flat_memory.specs.Memory.{Memory, executable}
-use Rattle.x64_instr.specs.declared.register.Reg.TheVariants.{Rsp}
 use Rattle.x64_instr.specs.declared.instruction.Instr.{Instr}
 use Rattle.x64_instr.specs.Spelling.{leading}
 use Rattle.x64_machine.specs.declared.outcome.Stop.TheVariants as stops
 use Rattle.x64_machine.specs.Contexts.{context_of}
-use Rattle.x64_machine.specs.Effect.{Answer}
 use Rattle.virtual_unwind.specs.Contexts.{rsp}
-use Rattle.virtual_unwind.specs.CallerOf.{CallerFrame}
 use Rattle.seh_walk.specs.declared.walk.WalkState.{WalkState}
 use Rattle.seh_walk.specs.Walk.{Visited, Over, Past, Frame, visited, if_over}
 use Rattle.match_runs.specs.Walked.{LiveFrame, with_frame, given_by, walked}
-use Rattle.match_runs.specs.Shadow.{caller_at, if_below, drop_below, is_call, entered, started, served, by_step, callers_of, GivesCallers, AllKeep}
 
 -- ---- what a walk gives
 

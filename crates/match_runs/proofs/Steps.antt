@@ -1,10 +1,8 @@
 -- Steps of linear code, and what they show whatever follows.
 use Rattle.std.proofs.Common.{◌≡◌, ℕ, zero, suc, ◌+◌, List, refl, ap, subst, ◌∙◌, arith}
 use Rattle.std.specs.Prelude.{Option, Some, None}
-use Rattle.match_runs.specs.Words.{State, Functions, Funclet, LinearProgram, Instruction, Configuration, Finished, Running, Seen, with_some, act, instruction_at, exec, HasRule, Follows, IsMatched}
-use Rattle.linear_machine.specs.Frames.{Stuck}
+use Rattle.match_runs.specs.Words.{State, Functions, Funclet, LinearProgram, Instruction, Configuration, Finished, Running, Seen, with_some, act, instruction_at, exec, HasRule, Follows, IsMatched, Stuck, StepIsMatched, Simulates}
 use Rattle.linear_machine.proofs.RunLengths.{More, longer}
-use Rattle.match_runs.specs.Matched.{StepIsMatched, Simulates}
 use Rattle.match_runs.proofs.Matches.{matched_as}
 
 module _ (program : LinearProgram) where

@@ -2,11 +2,8 @@
 use Rattle.std.proofs.Common.{◌≡◌, ℕ, zero, suc, ◌+◌, ◌<◌, Bool, Some, None, Ok, List, [], ◌++◌, refl, sym, ap, subst, ◌∙◌, arith, append_assoc}
 use Rattle.std.proofs.lemmas.List.{append-nil}
 use Rattle.std.specs.Prelude.{◌==◌}
-use Rattle.match_runs.specs.Words.{signed, RunEnd, Event, W32, Rax, State, register, step, Functions, distance, arrivals, host, turn, run, Continues, Ends, Funclet, Comes, IsLive, KeepsShadow}
+use Rattle.match_runs.specs.Words.{signed, RunEnd, Event, W32, Rax, State, register, step, Functions, distance, arrivals, host, turn, run, Continues, Ends, Funclet, Comes, IsLive, KeepsShadow, arrived, Ended, over, turned, end_of, or_turn, continued_by}
 use Rattle.seh_num.specs.declared.end.RunEnd.TheVariants as ends
-use Rattle.host_model.specs.Funclets.{arrived}
-use Rattle.host_model.specs.HostStep.{Ended, over, turned, end_of}
-use Rattle.host_model.specs.Machine.{or_turn, continued_by}
 
 module _ (t : Functions) (fs : List Funclet) where
   -- ---- turns

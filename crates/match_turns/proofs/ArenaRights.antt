@@ -2,7 +2,7 @@
 use Rattle.std.proofs.Common.{◌≡◌, ℕ, ◌/◌, ◌<◌, ◌≤◌, Bool, true, false, cond, leb, ltb, ℤ, Option, Some, None, refl, sym, ap, ◌∙◌, arith, inl, inr}
 use Rattle.std.specs.Prelude.{◌⊎◌, nat_eq}
 use Rattle.std.proofs.lemmas.Bool.{and_parts, and_from, leb-true, ltb-true, eqb-true, ne_eqb, le-leb, lt-ltb, cases_lt}
-use Rattle.match_turns.specs.Words.{Protection, is_writable, Memory, may_write, rights_asked, protected, is_reserved, Agrees, KeepsStack, Setting, IsMachineMemory, ARENA_START, ARENA_END, rights_numbered, with_rights}
+use Rattle.match_turns.specs.Words.{Protection, is_writable, rights_numbered, Memory, may_write, rights_asked, protected, with_rights, is_reserved, Agrees, KeepsStack, Setting, IsMachineMemory, ARENA_START, ARENA_END}
 use Rattle.host_layout.specs.Ranges.{in_arena}
 use Rattle.flat_memory.specs.declared.protection.Rights.{Rights}
 use Rattle.match_turns.proofs.Lemmas.{program_stays}

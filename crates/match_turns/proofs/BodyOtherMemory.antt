@@ -1,6 +1,6 @@
 -- The same body in another memory, whose stack is the same from RSP up.
 use Rattle.std.proofs.Common.{◌≡◌, ℕ, ◌+◌, ◌≤◌, false, sym, ap, ◌∙◌, arith}
-use Rattle.match_turns.specs.Words.{STACK_START, STACK_END, Memory, Rsp, context_of, State, register, Configuration, context_below, activations_below, BodyWaits, KeepsStack, slots_end, last_temporary, Setting, IsMachineMemory, RepresentsAt, temporaries_end}
+use Rattle.match_turns.specs.Words.{STACK_START, STACK_END, Memory, Rsp, context_of, State, register, Configuration, context_below, activations_below, BodyWaits, temporaries_end, KeepsStack, slots_end, last_temporary, Setting, IsMachineMemory, RepresentsAt}
 use Rattle.match_turns.proofs.Lemmas.{end_within, reads_other, kept_by_other_memories, IsCounted, sp_low, frame_top, some_is}
 use Rattle.match_stack.proofs.ListMemories.{ReadsSame, body_kept, pointers_kept}
 

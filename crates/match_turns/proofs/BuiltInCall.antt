@@ -1,7 +1,8 @@
 -- A built-in function is called: RAX is cleared, the arguments are passed, and the thunk leads to
 -- the service.
 use Rattle.std.proofs.Common.{◌≡◌, ℕ, ◌+◌, ◌≤◌, [], ◌∷◌, refl, ap, subst, arith}
-use Rattle.match_turns.specs.Words.{opcode_register, Flags, Temporary, BodyState, size, sizes, keep, IsNear, return_at, begin_call, call_code, clear_result, MachineView, machine, sp_of, with_four, pushed, HasBelow, Reaches, HasCode, FramePlace, Roomy, FrameHolds, effect, call_built_in_code}
+use Rattle.match_turns.specs.Words.{opcode_register, Flags, Temporary, BodyState, size, sizes, keep, IsNear, return_at, begin_call, call_code, clear_result, call_built_in_code, MachineView, machine, sp_of, with_four, pushed, HasBelow, HasCode, FramePlace, Roomy, FrameHolds, effect}
+use Rattle.x64_templates.specs.Runs.{Reaches}
 use Rattle.x64_templates.specs.Thunks.{HasThunk}
 use Rattle.match_turns.proofs.Lemmas.{reaches_then, code_split, call_begins, thunk_reaches, pushed_thunk}
 use Rattle.x64_templates.proofs.Jumps.{one_reaches}

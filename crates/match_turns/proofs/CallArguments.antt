@@ -4,7 +4,8 @@ use Rattle.std.proofs.Common.{◌≡◌, ℕ, ◌+◌, ◌-◌, ◌*◌, ◌<◌
 use Rattle.std.specs.Prelude.{◌⊎◌}
 use Rattle.std.proofs.lemmas.Bool.{cases_lt}
 use Rattle.std.proofs.lemmas.List.{length-drop}
-use Rattle.match_turns.specs.Words.{STACK_START, STACK_END, number_at, may_write, Protection, is_writable, Rsp, Instr, Flags, State, register, Slot, Local, Temporary, IsSlot, BodyState, Layout, sizes, spelled, keep, IsNear, return_at, begin_call, call_code, passing_code, MachineView, machine, sp_of, with_four, pushed, HasBelow, InRegisters, slot_at, IsBytes, Agrees, HasCode, Reaches, FramePlace, counts_of, LARGEST_FRAME, Setting, CallBegun}
+use Rattle.match_turns.specs.Words.{STACK_START, STACK_END, number_at, may_write, Protection, is_writable, Rsp, Instr, Flags, State, register, Slot, Local, Temporary, IsSlot, BodyState, Layout, sizes, spelled, keep, IsNear, return_at, begin_call, call_code, passing_code, MachineView, machine, sp_of, with_four, pushed, HasBelow, InRegisters, slot_at, IsBytes, Agrees, HasCode, FramePlace, counts_of, LARGEST_FRAME, Setting, CallBegun}
+use Rattle.x64_templates.specs.Runs.{Reaches}
 use Rattle.linear_code.specs.declared.instruction.Instruction.TheVariants as instructions
 use Rattle.match_turns.proofs.Lemmas.{bytes_kept, reaches_then, same_number, Reached, code_split, runs_view, call_begins, beside, pushed_agrees, pushed_bytes, KeepsSlot, stack_is_reserved, AsFunction, AsFunclet, kind, sp_low, frame_top, room_here, holds_here, v, base, frame, slots, same_state, template_here, has_slots, sp_is}
 use Rattle.x64_templates.proofs.Passing.{passed_in_registers}

@@ -2,12 +2,12 @@
 use Rattle.std.proofs.Common.{◌≡◌, ℕ, ◌+◌, ◌≤◌, Bool, true, false, List, [], ◌∷◌, ◌++◌, length, refl, ap, ◌∙◌, arith, inl, inr, append_assoc}
 use Rattle.std.specs.Prelude.{nat_lt}
 use Rattle.std.proofs.lemmas.List.{append-nil}
-use Rattle.match_turns.specs.Words.{Event, Context, State, Functions, Funclet, Turn, Continues, with_event, arrived, turn, Deep, Instruction, LinearProgram, Configuration, Seen, Finished, Next, pick, act, ImagePlan, KeepsShadow, IsLive, Comes, LeadsTo, IsMatched, Sites, turns_left, KnownNext, entry_turns, KeepsWith, Ends, with_events, ContinuesAs, EndsRun}
+use Rattle.match_turns.specs.Words.{Event, Context, State, Functions, Funclet, Turn, Continues, with_event, Ends, arrived, turn, Deep, Instruction, LinearProgram, Configuration, Seen, Finished, Next, pick, act, ImagePlan, KeepsShadow, IsLive, Comes, LeadsTo, IsMatched, Sites, turns_left, KnownNext, entry_turns, KeepsWith, with_events, EndsRun}
+use Rattle.match_turns.specs.DispatchOutcome.{ContinuesAs}
 use Rattle.seh_num.specs.declared.end.RunEnd.TheVariants as ends
-use Rattle.match_turns.proofs.Lemmas.{comes_one, silently_before, silently_after}
+use Rattle.match_turns.proofs.Lemmas.{comes_one, silently_before, silently_after, matched_as}
 use Rattle.match_bodies.specs.Bodies.{RepresentsAt}
 use Rattle.match_turns.specs.DispatchOutcome.{Represents, EntersFunclet, Outcome}
-use Rattle.match_runs.proofs.Matches.{matched_as}
 
 -- an event that is shown first
 pub arrived_with : (t : Functions) (fs : List Funclet) (e : Event) (x : Turn)

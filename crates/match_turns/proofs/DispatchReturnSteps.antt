@@ -2,7 +2,8 @@
 -- block above an unwinding.
 use Rattle.std.proofs.Common.{◌≡◌, ℕ, zero, ◌+◌, ◌≤◌, List, [], ◌∷◌, ap, subst, arith}
 use Rattle.std.specs.Prelude.{◌==◌}
-use Rattle.match_turns.specs.Words.{Rsp, context_of, State, register, DispatchRecord, fetched, filter_return, finally_return, arrived, finally_returned, Exception, Instruction, Region, Frame, Handler, Target, Resumption, Item, Waits, Searches, Unwinds, Configuration, Next, act, end_finally, exec, StackItem, Searching, Unwinding, Activation, locals_of, On, IsWellFormed, SearchIsAnswered, filter_turn, linear_answer, IsLive, Comes, HasRule, IsMatched, callers, held_below, turns_left, KnownNext, FlagsFit, NoneLanded, waiting_below, Setting, IsMachineMemory, Continuations, Represents}
+use Rattle.match_turns.specs.Words.{Rsp, context_of, State, register, DispatchRecord, filter_return, finally_return, arrived, finally_returned, Exception, Instruction, Region, Frame, Handler, Target, Resumption, Item, Waits, Searches, Unwinds, Configuration, Next, act, end_finally, exec, StackItem, Searching, Unwinding, Activation, locals_of, On, IsWellFormed, SearchIsAnswered, filter_turn, linear_answer, IsLive, Comes, HasRule, IsMatched, callers, held_below, turns_left, KnownNext, FlagsFit, NoneLanded, waiting_below, Setting, IsMachineMemory, Continuations, Represents}
+use Rattle.seh_records.specs.Record.{fetched}
 use Rattle.match_turns.proofs.Lemmas.{on_stack}
 use Rattle.match_turns.proofs.DispatchReturn.{filter_answered, finally_ended}
 use Rattle.match_turns.proofs.HostTurns.{filter_turns, finally_turns, filter_return_keeps, finally_return_keeps, matched_when_shown}

@@ -1,7 +1,7 @@
 -- A filter's answer is its low 32 bits.
 use Rattle.std.proofs.Common.{◌≡◌, ℕ, ◌^◌, List, [], ◌∷◌, ◌++◌, sym, ap, arith}
 use Rattle.std.specs.Prelude.{nat_eq, nat_lt, if◌then◌else◌, ℤ, pos, ◌-ℤ◌}
-use Rattle.match_turns.specs.Words.{Event, W32, low, Exception, noncontinuable, LinearProgram, Frame, Handler, Resumption, Item, Waits, Searches, Store, Configuration, Seen, Next, pick, search, accept, raise, resumed, answer, half, limit}
+use Rattle.match_turns.specs.Words.{Event, W32, low, half, limit, Exception, noncontinuable, LinearProgram, Frame, Handler, Resumption, Item, Waits, Searches, Store, Configuration, Seen, Next, pick, search, accept, raise, resumed, answer}
 use Rattle.seh_num.specs.declared.event.Event.TheVariants as events
 
 low_twice : (v : ℕ) → low W32 (low W32 v) ≡ low W32 v

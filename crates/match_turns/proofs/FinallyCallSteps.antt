@@ -2,7 +2,7 @@
 use Rattle.std.proofs.Common.{◌≡◌, ℕ, ◌+◌, Bool, true, false, Some, [], ◌∷◌, ◌++◌, length, refl, ap, ◌∙◌, arith, inl, inr}
 use Rattle.std.specs.Prelude.{nat_lt, slice_get}
 use Rattle.seh_num.specs.declared.event.Event.TheVariants as events
-use Rattle.match_turns.specs.Words.{State, Deep, Instruction, FuncletKind, LinearBody, Waits, Configuration, Finished, Next, pick, with_some, deeper, act, instruction_at, flag_of, begin_finally, IsMatched, LeadsTo, IsFinallyKind, IsInstructionOf, IsFuncletOf, turns_left, IsWellMade, IsKnown, KnownNext, turns_per_step, entry_turns, FlagsFit, Setting, setting_of, RepresentsAt, SeparatorsFollow}
+use Rattle.match_turns.specs.Words.{State, Deep, Instruction, FuncletKind, LinearBody, Waits, Configuration, Finished, Next, pick, with_some, deeper, act, instruction_at, flag_of, begin_finally, IsMatched, LeadsTo, IsFinallyKind, IsInstructionOf, IsFuncletOf, turns_left, IsWellMade, IsKnown, KnownNext, turns_per_step, entry_turns, FlagsFit, SeparatorsFollow, Setting, setting_of, RepresentsAt}
 use Rattle.linear_code.specs.declared.instruction.Instruction.TheVariants as instructions
 use Rattle.linear_code.specs.declared.program.FuncletKind.TheVariants as funclets
 use Rattle.match_turns.proofs.Lemmas.{silently_after, fails_at_once, locals_count, counted_here, code_at, each}

@@ -1,7 +1,7 @@
 -- A `__finally` block begins that an unwinding runs.
 use Rattle.std.proofs.Common.{◌+◌, ◌≤◌, true, List, [], ◌∷◌, ◌++◌, length, ap, arith}
 use Rattle.seh_num.specs.declared.event.Event.TheVariants as events
-use Rattle.match_turns.specs.Words.{Functions, Funclet, LinearProgram, Waits, Unwinds, context_below, ImagePlan, Sites, IsProgramImage, FlagsFit, setting_of, BlocksBegin}
+use Rattle.match_turns.specs.Words.{Functions, Funclet, LinearProgram, Waits, Unwinds, context_below, ImagePlan, Sites, IsProgramImage, FlagsFit, BlocksBegin, setting_of}
 use Rattle.match_turns.proofs.Lemmas.{locals_count}
 use Rattle.match_turns.proofs.DispatchSpace.{shallow_is, unwind_space}
 use Rattle.match_turns.proofs.FuncletFrame.{arrives_below}

@@ -1,7 +1,7 @@
 -- What is known of a funclet that begins, from the configuration in which it does.
 use Rattle.std.proofs.Common.{◌≡◌, ℕ, zero, suc, false, Option, Some, None, List, [], ◌∷◌, ◌++◌, length, refl, sym, ap, subst, ◌∙◌, arith, inl, inr, length-append}
 use Rattle.std.specs.Prelude.{slice_get}
-use Rattle.match_turns.specs.Words.{Memory, RegionKind, FuncletKind, LinearProgram, LinearBody, LinearFunclet, BodyName, FunctionBody, FuncletBody, body_of, function_body, funclet_body, Frame, Handler, Item, Waits, Searches, Unwinds, parent_of, function_of, owner_of, IsFuncletOf, with_own, owners_of, by_parent, Activation, activations_below, parent_base, IsFuncletPlan, OwnerHasFrame, Setting, IsFilterKind, IsKindOf, Handles, IsHandler, AreWorking, IsActivationOf, AreActivations, Leads}
+use Rattle.match_turns.specs.Words.{Memory, RegionKind, FuncletKind, LinearProgram, LinearBody, LinearFunclet, BodyName, FunctionBody, FuncletBody, body_of, function_body, funclet_body, Frame, Handler, Item, Waits, Searches, Unwinds, parent_of, function_of, owner_of, IsFuncletOf, IsFilterKind, IsKindOf, with_own, owners_of, AreWorking, IsActivationOf, AreActivations, by_parent, Activation, activations_below, Leads, parent_base, IsFuncletPlan, OwnerHasFrame, Setting, Handles, IsHandler}
 use Rattle.linear_code.specs.declared.program.RegionKind.TheVariants as kinds
 use Rattle.linear_code.specs.declared.program.FuncletKind.TheVariants as funclets
 use Rattle.lowering_invariants.specs.Activations.{WorksOn}

@@ -1,7 +1,7 @@
 -- The steps that call a `__finally` block and return from it, by what is known of configurations.
 use Rattle.std.proofs.Common.{◌≡◌, ℕ, zero, suc, ◌<◌, Option, Some, None, List, [], ◌∷◌, length, refl, subst, arith}
 use Rattle.std.specs.Prelude.{slice_get, slice_index}
-use Rattle.match_turns.specs.Words.{Slot, Local, Temporary, Instruction, LinearProgram, LinearBody, FuncletBody, body_of, Frame, Waits, Configuration, read, local_of, instruction_in, IsHeld, AreWaiting, Setting, setting_of, IsAt, IsBlockOf}
+use Rattle.match_turns.specs.Words.{Slot, Local, Temporary, Instruction, LinearProgram, LinearBody, FuncletBody, body_of, Frame, Waits, Configuration, read, local_of, instruction_in, IsHeld, AreWaiting, IsAt, IsBlockOf, Setting, setting_of}
 use Rattle.linear_code.specs.declared.instruction.Instruction.TheVariants as instructions
 use Rattle.lowering_invariants.specs.Waiting.{IsAbove}
 use Rattle.match_turns.proofs.Lemmas.{counted_here, code_at, ready_here}

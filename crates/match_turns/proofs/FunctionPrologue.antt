@@ -2,7 +2,8 @@
 -- all in a leaf function.
 use Rattle.std.proofs.Common.{◌≡◌, ◌≢◌, ℕ, zero, suc, ◌+◌, ◌-◌, ◌^◌, ◌<◌, ◌≤◌, List, length, get_or, set, refl, subst, ◌∙◌, arith, inl, inr, get_or-set_same, get_or-set_other, length-set}
 use Rattle.std.specs.Prelude.{◌⊎◌}
-use Rattle.match_turns.specs.Words.{Flags, State, sizes, IsNear, enter_code, check_stack, enter_large, MachineView, machine, sp_of, with_sp, pushed, moved, HasBelow, InRegisters, HasCode, Reaches, Enters}
+use Rattle.match_turns.specs.Words.{Flags, State, sizes, IsNear, enter_code, check_stack, enter_large, MachineView, machine, sp_of, with_sp, pushed, moved, HasBelow, InRegisters, HasCode, Enters}
+use Rattle.x64_templates.specs.Runs.{Reaches}
 use Rattle.match_turns.proofs.Lemmas.{call_size, sp_moved, enter_run, beside}
 use Rattle.x64_templates.proofs.LargeEntries.{enter_large_run}
 use Rattle.x64_templates.proofs.Probing.{Touchable}

@@ -3,7 +3,8 @@ use Rattle.std.proofs.Common.{◌≡◌, ◌≢◌, ℕ, ◌+◌, ◌<◌, Some,
 use Rattle.std.specs.Prelude.{get_or, slice_get, replicate}
 use Rattle.std.proofs.lemmas.List.{append-nil, length-drop}
 use Rattle.std.proofs.lemmas.Option.{slice_get-get_or}
-use Rattle.match_turns.specs.Words.{W32, signed, Rsp, Context, State, register, distance, arrivals, Slot, LinearBody, LinearFunclet, FunctionBody, FuncletBody, body_of, funclet_body, Frame, Item, Waits, Store, Configuration, Finished, Next, with_some, read, instruction_in, left_store, end_body, act, Layout, return_code, MachineView, machine, HasBack, with_sp, moved, Returned, Reaches, context_below, Activation, activations_below, return_of, ReturnsTo, On, store_of, on_top, IsWellFormed, AllKeep, Moves, HaveRoom, held_below, turns_left, slots_end, Setting, RepresentsAt, return, Exits}
+use Rattle.match_turns.specs.Words.{W32, signed, Rsp, Context, State, register, distance, arrivals, Slot, LinearBody, LinearFunclet, FunctionBody, FuncletBody, body_of, funclet_body, Frame, Item, Waits, Store, Configuration, Finished, Next, with_some, read, instruction_in, left_store, end_body, act, return, Layout, return_code, MachineView, machine, HasBack, with_sp, moved, Returned, context_below, Activation, activations_below, return_of, ReturnsTo, On, store_of, on_top, IsWellFormed, AllKeep, Moves, Exits, HaveRoom, held_below, turns_left, slots_end, Setting, RepresentsAt}
+use Rattle.x64_templates.specs.Runs.{Reaches}
 use Rattle.linear_code.specs.declared.instruction.Instruction.TheVariants as instructions
 use Rattle.linear_code.specs.declared.program.FuncletKind.TheVariants as kinds
 use Rattle.source_meaning.specs.declared.ended.Ended.TheVariants as ends

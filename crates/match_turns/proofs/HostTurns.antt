@@ -1,7 +1,8 @@
 -- The host's turns at its services, and steps of linear code that one of them matches.
 use Rattle.std.proofs.Common.{◌≡◌, ℕ, ◌+◌, ◌%◌, ◌≤◌, Bool, cond, List, [], ◌∷◌, ◌++◌, Option, None, Ok, Err, refl, ap, ◌∙◌}
 use Rattle.std.specs.Prelude.{Result}
-use Rattle.match_turns.specs.Words.{W32, W64, Code, Event, low, address_of, service_at, in_host_page, RefusedAccess, executable, loaded, Rcx, Rdx, Rsp, leading, Context, State, Answer, register, hosted, execute, step, Functions, distance, fetched, filter_return, finally_return, Funclet, Turn, arrivals, arrived, raised, unwound_locally, finally_returned, back, returned, turned, turn, Instruction, LinearProgram, Configuration, Seen, Next, act, ImagePlan, filter_turn, drop_below, started, served, WalkGives, KeepsShadow, IsLive, Comes, IsMatched, Sites, turns_left, KnownNext, entry_turns, KeepsWith}
+use Rattle.match_turns.specs.Words.{W32, W64, Code, Event, low, address_of, service_at, in_host_page, RefusedAccess, executable, loaded, Rcx, Rdx, Rsp, leading, Context, State, Answer, register, hosted, execute, step, Functions, distance, filter_return, finally_return, Funclet, Turn, arrivals, arrived, raised, unwound_locally, finally_returned, back, returned, turned, turn, Instruction, LinearProgram, Configuration, Seen, Next, act, ImagePlan, filter_turn, drop_below, started, served, WalkGives, KeepsShadow, IsLive, Comes, IsMatched, Sites, turns_left, KnownNext, entry_turns, KeepsWith}
+use Rattle.seh_records.specs.Record.{fetched}
 use Rattle.host_layout.specs.declared.service.Service.TheVariants as services
 use Rattle.x64_machine.specs.declared.outcome.Stop.TheVariants as stops
 use Rattle.match_turns.proofs.Lemmas.{host_keeps, fault_keeps}

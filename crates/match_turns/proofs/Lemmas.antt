@@ -20,7 +20,7 @@ pub use Rattle.x64_templates.proofs.Returns.{sp_moved, return_run, call_ends, en
 pub use Rattle.x64_templates.proofs.Services.{thunk_reaches, pushed_thunk}
 pub use Rattle.x64_templates.proofs.Straight.{executes_then, executes_nothing, executes_one}
 pub use Rattle.x64_templates.proofs.Unwinds.{with_two, FinallyCalled, finally_begins, local_unwind_begins}
-pub use Rattle.match_runs.proofs.Matches.{fails_at_once, silently_before, silently_after, matched_after, matched_slower}
+pub use Rattle.match_runs.proofs.Matches.{fails_at_once, silently_before, silently_after, matched_as, matched_after, matched_slower}
 pub use Rattle.match_runs.proofs.Shadows.{none_below, straight, keep_first, host_keeps, fault_keeps, one_below}
 pub use Rattle.match_runs.proofs.Turns.{comes_then, comes_one, comes_nowhere}
 pub use Rattle.match_stack.proofs.DispatchSteps.{answers_continue, finally_returns_unwind, raise_searches, local_unwind_unwinds, acceptance_unwinds}
@@ -43,6 +43,7 @@ pub use Rattle.match_bodies.proofs.PlainSteps.{GoesInside, from_here, label_smal
 pub use Rattle.match_bodies.proofs.ProgramKeeping.{program_stays, KeepsImage}
 pub use Rattle.match_bodies.proofs.ReturnAddresses.{label_found, argument_found, template_there}
 pub use Rattle.match_bodies.proofs.RoutineWalks.{reaches_steps, StepsTo, steps_split, keeps_split, AllPlain, enters_steps, read_here, Beneath, beneath_by, callers_above, Finds, ran}
+pub use Rattle.match_bodies.proofs.ShadowTurns.{gives_here}
 pub use Rattle.match_bodies.proofs.SilentTurns.{reaches_silently, enters_silently, program_reaches, KeepsCode, program_kept, reaches_comes, funclet_makes, silent_here}
 pub use Rattle.match_bodies.proofs.SlotPlaces.{KeepsSlot, stack_is_reserved, SlotsPlaced}
 pub use Rattle.match_bodies.proofs.SlotWrites.{locals_after, temporaries_after, FitsAfter, one_more, set_length, local_after}

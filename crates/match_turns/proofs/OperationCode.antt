@@ -2,7 +2,7 @@
 use Rattle.std.proofs.Common.{◌≡◌, ◌≢◌, ℕ, ◌+◌, ◌*◌, ◌^◌, ◌<◌, ◌≤◌, Bool, true, false, List, [], ◌∷◌, length, Option, Some, None, refl, sym, ap, subst, ◌∙◌, arith, inl, inr}
 use Rattle.std.specs.Prelude.{◌⊎◌, slice_get}
 use Rattle.std.proofs.lemmas.Option.{slice_get_cases}
-use Rattle.match_turns.specs.Words.{Memory, executable, Instr, leading, chosen, Cpu, State, Functions, distance, Funclet, arrivals, no_flags, Operation, Slot, Instruction, HasSlots, LinearProgram, LinearBody, BodyName, FunctionBody, FuncletBody, body_of, Layout, spelled, sizes, keep, operands_code, finish_code, template, template_size, HasBase, HasCode, HaveRoom, ImagePlan, Sites, links_of, IsFunctionLayout, IsLeafLayout, IsLayoutIf, IsLaidOut, IsProgramImage, counts_of, setting_of, Counts, work, SlotsHaveRoom, IsFuncletLayout}
+use Rattle.match_turns.specs.Words.{Memory, executable, Instr, leading, chosen, Cpu, State, Functions, distance, Funclet, arrivals, no_flags, Operation, Slot, Instruction, HasSlots, LinearProgram, LinearBody, BodyName, FunctionBody, FuncletBody, body_of, Layout, spelled, sizes, keep, operands_code, finish_code, template, template_size, HasBase, SlotsHaveRoom, HasCode, HaveRoom, ImagePlan, Sites, links_of, IsFunctionLayout, IsLeafLayout, IsLayoutIf, IsLaidOut, IsFuncletLayout, IsProgramImage, counts_of, setting_of, Counts, work}
 use Rattle.match_turns.proofs.Lemmas.{longest, sizes_append, bytes_split, spells, reads, code_split, Fine, none_taking, finish_fine, funclet_makes, template_there, template_some, each}
 use Rattle.linear_code.specs.declared.instruction.Instruction.TheVariants as instructions
 use Rattle.match_bodies.specs.ProgramImages.{HasProgram}

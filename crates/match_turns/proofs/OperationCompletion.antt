@@ -3,7 +3,7 @@ use Rattle.std.proofs.Common.{◌≡◌, ℕ, zero, ◌+◌, ◌*◌, ◌^◌, �
 use Rattle.std.specs.Prelude.{slice_index, slice_set}
 use Rattle.std.proofs.lemmas.List.{append-nil}
 use Rattle.std.proofs.lemmas.Option.{slice_get_within}
-use Rattle.match_turns.specs.Words.{Memory, Rax, Rcx, Rsp, Instr, State, register, Gives, Operation, Slot, Temporary, Layout, Instruction, BodyState, with_slot, HasSlots, LinearBody, Configuration, Next, act, exec, sizes, operands_code, finish_code, machine, ReachesBody, FramePlace, locals_of, AllKeep, Comes, HasRule, Moves, turns_left, IsWellMade, IsKnown, seen_by_templates, counts_of, with_values, ComesTo, Setting, RepresentsAt, WorksOn, written}
+use Rattle.match_turns.specs.Words.{Memory, Rax, Rcx, Rsp, Instr, State, register, Gives, Operation, Slot, Temporary, Layout, Instruction, BodyState, with_slot, HasSlots, LinearBody, Configuration, Next, act, written, exec, sizes, operands_code, finish_code, machine, ReachesBody, FramePlace, locals_of, AllKeep, Comes, HasRule, Moves, turns_left, IsWellMade, IsKnown, seen_by_templates, counts_of, with_values, ComesTo, Setting, RepresentsAt, WorksOn}
 use Rattle.linear_code.specs.declared.instruction.Instruction.TheVariants as instructions
 use Rattle.linear_machine.specs.Frames as linear
 use Rattle.match_turns.proofs.Lemmas.{compute_length, reaches_silently, locals_count, activated, IsCounted, is_machine, Keeps, reaches_keeps, stays_well_formed, Leaves, further, Ran, represents_next, kept_by_rest, is_here, is_after, ends_at, RunsKeep, finish_keeps, Surroundings, dropped, has_slots, next_address, silent_at, locals_after, temporaries_after, FitsAfter, one_more, at_other, label_small, stored, writes, fits_when_read, leaves_stored, held_here, goes_inside}

@@ -1,7 +1,7 @@
 -- What linear code does at an operation.
 use Rattle.std.proofs.Common.{◌≡◌, ℕ, zero, suc, ◌<◌, Bool, true, false, List, [], ◌∷◌, length, Option, Some, None, refl, sym, ap, ◌∙◌, arith}
 use Rattle.std.specs.Prelude.{slice_get, slice_index}
-use Rattle.match_turns.specs.Words.{Code, Memory, Operation, OperationResult, Raises, Undefined, performed, is_reserved, Slot, Local, Temporary, Instruction, LinearProgram, Configuration, Next, local_of, read, with_some, is_constant, operand, act, instruction_at, IsTemporary, ReadsWell, IsHeld, IsReady, LandsWell, turns_left, turns_per_step, ComesTo, computed, UndefinedAccessesAreMatched}
+use Rattle.match_turns.specs.Words.{Code, Memory, Operation, OperationResult, Raises, Undefined, performed, is_reserved, Slot, Local, Temporary, Instruction, LinearProgram, Configuration, Next, local_of, read, with_some, is_constant, operand, act, computed, instruction_at, IsTemporary, ReadsWell, IsHeld, IsReady, LandsWell, turns_left, turns_per_step, ComesTo, UndefinedAccessesAreMatched}
 use Rattle.c_operations.specs.declared.operation.Operation.TheVariants as operations
 use Rattle.c_operations.specs.declared.operation.Pure.TheVariants.{Constant}
 use Rattle.source_meaning.specs.declared.ended.Ended.TheVariants as source

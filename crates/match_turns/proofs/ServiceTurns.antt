@@ -4,7 +4,7 @@ use Rattle.std.specs.Prelude.{Result, slice_get, if◌then◌else◌, is_some}
 use Rattle.std.proofs.lemmas.Bool.{eq-eqb}
 use Rattle.std.proofs.lemmas.List.{append-nil}
 use Rattle.std.proofs.lemmas.Option.{slice_get-get_or}
-use Rattle.match_turns.specs.Words.{W32, W64, Event, signed, address_of, service_at, in_host_page, RefusedAccess, Memory, executable, loaded, protected, rights_asked, Rcx, Rdx, Rsp, leading, State, register, hosted, execute, step, Functions, Funclet, Turn, Continues, arrived, back, returned, turned, turn, BuiltIn, Put, Protect, of_test, Temporary, LinearProgram, Configuration, Next, with_some, last_temporaries, count_of, built_in, waiting, act, KeepsStack, Moves, HaveRoom, turns_left, Setting, IsMachineMemory, RepresentsAt, answer_number, protecting}
+use Rattle.match_turns.specs.Words.{W32, W64, Event, signed, address_of, service_at, in_host_page, RefusedAccess, Memory, executable, loaded, protected, rights_asked, Rcx, Rdx, Rsp, leading, State, register, hosted, execute, step, Functions, Funclet, Turn, Continues, arrived, back, returned, turned, turn, answer_number, protecting, BuiltIn, Put, Protect, of_test, Temporary, LinearProgram, Configuration, Next, with_some, last_temporaries, count_of, built_in, waiting, act, KeepsStack, Moves, HaveRoom, turns_left, Setting, IsMachineMemory, RepresentsAt}
 use Rattle.seh_num.specs.declared.event.Event.TheVariants as events
 use Rattle.host_layout.specs.declared.service.Service.TheVariants as services
 use Rattle.linear_code.specs.declared.instruction.Instruction.TheVariants as instructions

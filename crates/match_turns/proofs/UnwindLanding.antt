@@ -1,11 +1,10 @@
 -- An unwinding lands in a body, which continues at the label.
 use Rattle.std.proofs.Common.{◌≡◌, true, ℕ, ◌≤◌, List, [], ◌∷◌, ◌++◌, Option, Some, None, refl, sym, ap, subst, ◌∙◌, arith, inl}
 use Rattle.std.proofs.lemmas.List.{append-nil}
-use Rattle.match_turns.specs.Words.{Event, Memory, Context, State, DispatchRecord, Turn, at_landing, Frame, Target, Item, Waits, Configuration, Next, arrive, StackItem, Framed, InCode, Activation, On, store_of, on_top, IsWellFormed, IsUnwinding, Unwound, LandsThere, LeadsTo, callers, turns_left, entry_turns, Setting, IsMachineMemory, RepresentsAt, Represents, StackFrame, landing_value, landing_events}
+use Rattle.match_turns.specs.Words.{Event, Memory, Context, State, DispatchRecord, Turn, at_landing, Frame, Target, Item, Waits, Configuration, Next, arrive, StackItem, Framed, StackFrame, InCode, Activation, On, store_of, on_top, IsWellFormed, IsUnwinding, Unwound, LandsThere, landing_value, landing_events, LeadsTo, callers, turns_left, entry_turns, Setting, IsMachineMemory, RepresentsAt, Represents, ContinuesAs}
 use Rattle.linear_machine.specs.Unwinding as linear
 use Rattle.match_turns.proofs.Lemmas.{waits_in_body, no_front, all_front, first_in_code}
 use Rattle.match_turns.proofs.DispatchWalks.{landing_walk}
-use Rattle.match_turns.specs.SettingOutcome.{ContinuesAs}
 
 same_code : (a b : ℕ) → Some a ≡ Some b → a ≡ b
 same_code a b e = cc

@@ -1,17 +1,8 @@
 -- What holds of each piece of code, wherever it is and whatever is around it, holds of the code of
 -- all statements.
 use Rattle.std.proofs.Common.{ℕ, ◌+◌, List, [], ◌∷◌, Option, None, Some, arith}
-use Rattle.c_checked.specs.Expression.{Expression}
-use Rattle.c_checked.specs.Statement.{Declared, Always, Statement, Declare, Evaluate, Statements}
-use Rattle.linear_code.specs.declared.instruction.Instruction.{Instruction}
-use Rattle.linear_code.specs.declared.program.Region.{Region}
+use Rattle.seh_ir.specs.Words.{Expression, Declared, Always, Statement, Declare, Evaluate, Statements, Instruction, Region, Names, Nowhere, LoweringContext, declared_size, statement_notes, statements_notes, discarded_code, condition_code, declared_code, all_declared_code, statement_code, statements_code, statement_regions, statements_regions}
 use Rattle.lowering_expressions.specs.declared.scope.ExceptionSource.TheVariants.{NoException}
-use Rattle.lowering_expressions.specs.declared.scope.Names.{Names}
-use Rattle.lowering_expressions.specs.declared.scope.Way.TheVariants.{Nowhere}
-use Rattle.lowering_expressions.specs.declared.scope.LoweringContext.{LoweringContext}
-use Rattle.lowering_sizes.specs.Sizes.{declared_size, statement_notes, statements_notes}
-use Rattle.seh_ir.specs.Statements.{discarded_code, condition_code, declared_code, all_declared_code, statement_code, statements_code}
-use Rattle.seh_ir.specs.Regions.{statement_regions, statements_regions}
 use Rattle.seh_ir.proofs.StatementCodes.{declared_length}
 use Rattle.seh_ir.proofs.StatementParts.{statement_has, statements_have}
 use Rattle.seh_ir.proofs.EveryStatement.{IsNeutral, HoldsOfPieces, any_neutral, any_place, any_ways, statement_every, statements_every}

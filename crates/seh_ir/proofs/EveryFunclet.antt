@@ -1,19 +1,9 @@
 -- What holds of each filter and each `__finally` block holds of all funclets of a statement.
 use Rattle.std.proofs.Common.{ℕ, ◌+◌, ◌-◌, ◌≤◌, List, [], ◌∷◌, ◌++◌, arith}
 use Rattle.std.specs.List.{AllByRecursion}
-use Rattle.c_checked.specs.Expression.{Expression}
+use Rattle.seh_ir.specs.Words.{Expression, Function, funclets_in, funclets, filter_funclet, Filter, Always, Funclet, Statement, Declare, Block, Evaluate, If, IfElse, For, DoWhile, Return, Break, Continue, Leave, TryExcept, TryFinally, Statements, Empty, Then, LinearFunclet, Names, except_names, filter_names, finally_names, statement_notes, statements_notes, Owner, filter_funclets, finally_funclet, in_funclet, statement_funclets, statements_funclets, all_locals, scope_of, lowered_funclets, all_funclets}
 use Rattle.std.specs.Prelude.{None}
-use Rattle.c_checked.specs.Program.{Function}
-use Rattle.c_checked.specs.Sound.{funclets_in, funclets, filter_funclet}
-use Rattle.c_checked.specs.Statement.{Filter, Always, Funclet, Statement, Declare, Block, Evaluate, If, IfElse, For, DoWhile, Return, Break, Continue, Leave, TryExcept, TryFinally, Statements, Empty, Then}
-use Rattle.linear_code.specs.Program.{LinearFunclet}
-use Rattle.lowering_expressions.specs.declared.scope.Names.{Names}
-use Rattle.lowering_expressions.specs.Scope.{except_names, filter_names, finally_names}
-use Rattle.lowering_sizes.specs.Sizes.{statement_notes, statements_notes}
-use Rattle.seh_ir.specs.declared.funclets.Owner.{Owner}
 use Rattle.seh_ir.specs.Funclets as funclets_of
-use Rattle.seh_ir.specs.Funclets.{filter_funclets, finally_funclet, in_funclet, statement_funclets, statements_funclets}
-use Rattle.seh_ir.specs.Lowered.{all_locals, scope_of, lowered_funclets, all_funclets}
 use Rattle.seh_ir.proofs.StatementParts.{FilterHas, StatementHas, StatementsHave, statements_have}
 use Rattle.seh_ir.proofs.EveryStatement.{InExcept}
 use Rattle.seh_ir.proofs.EveryInstruction.{all_append}

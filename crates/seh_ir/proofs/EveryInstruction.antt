@@ -2,20 +2,8 @@
 -- them, holds of all instructions.
 use Rattle.std.proofs.Common.{ℕ, ◌≤◌, List, [], ◌∷◌, ◌++◌, Option, None, Some}
 use Rattle.std.specs.List.{AllByRecursion}
-use Rattle.c_operations.specs.declared.operation.Operation.TheVariants.{Pure}
-use Rattle.c_operations.specs.declared.operation.Pure.TheVariants.{Constant}
-use Rattle.c_checked.specs.Expression.{Expression}
-use Rattle.c_checked.specs.Statement.{Statements}
-use Rattle.linear_code.specs.declared.slot.Slot.TheVariants.{Local, Temporary}
-use Rattle.linear_code.specs.declared.instruction.Instruction.{Instruction}
-use Rattle.linear_code.specs.declared.instruction.Instruction.TheVariants.{Compute, Jump, JumpIfZero, CallFinally, LocalUnwind, Landing, Separator, Return}
-use Rattle.lowering_expressions.specs.declared.scope.Names.{Names}
-use Rattle.lowering_expressions.specs.declared.scope.Way.{Way}
-use Rattle.lowering_expressions.specs.declared.scope.Way.TheVariants.{Nowhere, Jumps, Unwinds}
-use Rattle.lowering_expressions.specs.Expressions.{constant, copy, expression_code}
-use Rattle.lowering_expressions.specs.declared.scope.LoweringContext.{LoweringContext}
-use Rattle.lowering_sizes.specs.Sizes.{statements_notes}
-use Rattle.seh_ir.specs.Statements.{return_code, returned_code, repeated, statements_code}
+use Rattle.seh_ir.specs.Words.{Pure, Constant, Expression, Statements, Local, Temporary, Instruction, Compute, Jump, JumpIfZero, CallFinally, LocalUnwind, Landing, Separator, Names, Way, Nowhere, Jumps, Unwinds, constant, copy, expression_code, LoweringContext, statements_notes, return_code, returned_code, repeated, statements_code}
+use Rattle.linear_code.specs.declared.instruction.Instruction.TheVariants.{Return}
 use Rattle.seh_ir.proofs.StatementParts.{OptionalHas, StatementsHave}
 use Rattle.seh_ir.proofs.EveryStatement.{WayHas, any_ways, any_neutral, any_place, InExcept, HoldsOfPieces, statements_every}
 

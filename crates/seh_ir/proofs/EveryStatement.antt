@@ -1,24 +1,8 @@
 -- What holds of each piece of which the code of statements is made holds of all of it.
 use Rattle.std.proofs.Common.{◌≡◌, ℕ, ◌+◌, ◌-◌, ◌≤◌, List, [], ◌∷◌, ◌++◌, length, Option, None, Some, sym, subst, arith, append_assoc, append-nil}
-use Rattle.c_operations.specs.declared.operation.Operation.TheVariants.{Pure}
-use Rattle.c_operations.specs.declared.operation.Pure.TheVariants.{Constant}
-use Rattle.c_checked.specs.Expression.{Expression}
+use Rattle.seh_ir.specs.Words.{Pure, Constant, Expression, Declared, Filter, Statement, Declare, Block, Evaluate, If, IfElse, For, DoWhile, Break, Continue, Leave, TryExcept, TryFinally, Statements, Empty, Then, Local, Temporary, Instruction, Compute, Jump, JumpIfZero, LocalUnwind, Separator, Region, Names, Way, Nowhere, Jumps, Unwinds, LoweringContext, except_names, unwound, in_loop, in_try, in_except, in_guarded, expression_size, discarded_size, condition_size, declared_size, all_declared_size, statement_size, statements_size, statement_notes, statements_notes, expression_code, jump_code, return_code, leave_code, discarded_code, returned_code, condition_code, initialiser_code, declared_code, all_declared_code, landed, repeated, finally_called, statement_code, statements_code, except_kind, region, statement_regions, statements_regions}
 use Rattle.c_checked.specs.Statement as statements
-use Rattle.c_checked.specs.Statement.{Declared, Filter, Statement, Declare, Block, Evaluate, If, IfElse, For, DoWhile, Break, Continue, Leave, TryExcept, TryFinally, Statements, Empty, Then}
-use Rattle.linear_code.specs.declared.slot.Slot.TheVariants.{Local, Temporary}
-use Rattle.linear_code.specs.declared.instruction.Instruction.{Instruction}
-use Rattle.linear_code.specs.declared.instruction.Instruction.TheVariants.{Compute, Jump, JumpIfZero, LocalUnwind, Separator}
-use Rattle.linear_code.specs.declared.program.Region.{Region}
 use Rattle.linear_code.specs.declared.program.RegionKind.TheVariants as kinds
-use Rattle.lowering_expressions.specs.declared.scope.Names.{Names}
-use Rattle.lowering_expressions.specs.declared.scope.Way.{Way}
-use Rattle.lowering_expressions.specs.declared.scope.Way.TheVariants.{Nowhere, Jumps, Unwinds}
-use Rattle.lowering_expressions.specs.declared.scope.LoweringContext.{LoweringContext}
-use Rattle.lowering_expressions.specs.Scope.{except_names, unwound, in_loop, in_try, in_except, in_guarded}
-use Rattle.lowering_sizes.specs.Sizes.{expression_size, discarded_size, condition_size, declared_size, all_declared_size, statement_size, statements_size, statement_notes, statements_notes}
-use Rattle.lowering_expressions.specs.Expressions.{expression_code}
-use Rattle.seh_ir.specs.Statements.{jump_code, return_code, leave_code, discarded_code, returned_code, condition_code, initialiser_code, declared_code, all_declared_code, landed, repeated, finally_called, statement_code, statements_code}
-use Rattle.seh_ir.specs.Regions.{except_kind, region, statement_regions, statements_regions}
 use Rattle.seh_ir.proofs.StatementCodes.{discarded_length, condition_length, declared_length, all_declared_length, statement_length, statements_length}
 use Rattle.seh_ir.proofs.StatementParts.{OptionalHas, DeclaredHas, AllDeclaredHave, StatementHas, StatementsHave}
 

@@ -1,15 +1,8 @@
 -- A statement has as many funclets as numbers of funclets.
 use Rattle.std.proofs.Common.{◌≡◌, ℕ, suc, ◌+◌, ◌-◌, List, [], ◌∷◌, ◌++◌, length, refl, sym, ap, ◌∙◌, arith, length-append}
 use Rattle.std.specs.Prelude.{None}
-use Rattle.c_checked.specs.Program.{Function}
+use Rattle.seh_ir.specs.Words.{Function, funclets_in, funclets, filter_funclet, Filter, Always, Funclet, Statement, Declare, Block, Evaluate, If, IfElse, For, DoWhile, Return, Break, Continue, Leave, TryExcept, TryFinally, Statements, Empty, Then, Owner, Names, except_names, filter_names, finally_names, filter_funclets, finally_funclet, in_funclet, statement_funclets, statements_funclets, all_locals, scope_of, lowered_funclets, all_funclets}
 use Rattle.c_checked.specs.Sound as sound
-use Rattle.c_checked.specs.Sound.{funclets_in, funclets, filter_funclet}
-use Rattle.c_checked.specs.Statement.{Filter, Always, Funclet, Statement, Declare, Block, Evaluate, If, IfElse, For, DoWhile, Return, Break, Continue, Leave, TryExcept, TryFinally, Statements, Empty, Then}
-use Rattle.seh_ir.specs.declared.funclets.Owner.{Owner}
-use Rattle.lowering_expressions.specs.declared.scope.Names.{Names}
-use Rattle.lowering_expressions.specs.Scope.{except_names, filter_names, finally_names}
-use Rattle.seh_ir.specs.Funclets.{filter_funclets, finally_funclet, in_funclet, statement_funclets, statements_funclets}
-use Rattle.seh_ir.specs.Lowered.{all_locals, scope_of, lowered_funclets, all_funclets}
 
 pub filter_count : (owner : Owner) (names : Names) (f : Filter)
     → length (filter_funclets owner names f) ≡ length (filter_funclet f)

@@ -1,6 +1,6 @@
 -- Instructions, one after another.
 use Rattle.std.proofs.Common.{◌≡◌, ℕ, zero, suc, ◌+◌, ◌<◌, max, List, [], ◌∷◌, length, take, get_or, refl, arith}
-use Rattle.linear_code.specs.declared.instruction.Instruction.{Instruction}
+use Rattle.seh_ir.specs.Words.{Instruction}
 use Rattle.seh_ir.specs.Slots.{instruction_temporaries, temporaries_in, instruction_passes, passed_in}
 
 used_next : (f : Instruction → ℕ) (all : List Instruction → ℕ) → (all [] ≡ 0)

@@ -1,19 +1,9 @@
 -- Regions, funclets and functions, one after another.
 use Rattle.std.proofs.Common.{◌≡◌, ℕ, zero, suc, ◌+◌, ◌<◌, List, [], ◌∷◌, ◌++◌, length, map, take, get_or, refl, sym, ap, ◌∙◌, arith, append_assoc}
 use Rattle.std.proofs.lemmas.List.{append-nil}
-use Rattle.c_checked.specs.declared.statement.Stmt.{Stmt}
+use Rattle.seh_ir.specs.Words.{Stmt, statement, statements, function, Region, LinearFunction, LinearFunclet, linear_function, Names, Owner, statement_size, statements_size, statement_regions, statements_regions, statement_funclets, statements_funclets, lowered_function, lowered_funclets, all_funclets}
 use Rattle.c_checked.specs.declared.function.Function.{Function}
-use Rattle.c_checked.specs.Statement.{statement, statements}
-use Rattle.c_checked.specs.Program.{function}
-use Rattle.linear_code.specs.declared.program.Region.{Region}
 use Rattle.linear_code.specs.declared.program.IrFunction.{IrFunction}
-use Rattle.linear_code.specs.Program.{LinearFunction, LinearFunclet, linear_function}
-use Rattle.lowering_expressions.specs.declared.scope.Names.{Names}
-use Rattle.seh_ir.specs.declared.funclets.Owner.{Owner}
-use Rattle.lowering_sizes.specs.Sizes.{statement_size, statements_size}
-use Rattle.seh_ir.specs.Regions.{statement_regions, statements_regions}
-use Rattle.seh_ir.specs.Funclets.{statement_funclets, statements_funclets}
-use Rattle.seh_ir.specs.Lowered.{lowered_function, lowered_funclets, all_funclets}
 
 more_sizes : (items : List Stmt) (i : ℕ) (x : Stmt) → i < length items
     → statements_size (statements (map statement (take (suc i) items)))

@@ -3,20 +3,7 @@ use Rattle.std.proofs.Common.{◌≡◌, ℕ, zero, suc, ◌+◌, ◌<◌, List,
 use Rattle.std.specs.Prelude.{◌-◌}
 use Rattle.std.proofs.lemmas.List.{append-nil}
 use Rattle.c_checked.specs.declared.statement.Declared.{Declared as Declared'}
-use Rattle.c_checked.specs.declared.statement.Stmt.{Stmt}
-use Rattle.c_checked.specs.Expression.{Expression}
-use Rattle.c_checked.specs.Statement.{Declared, Filter, Statement, Declare, Block, Evaluate, If, IfElse, For, DoWhile, Return, Break, Continue, Leave, TryExcept, TryFinally, Statements, Empty, Then, statement, statements, declared}
-use Rattle.linear_code.specs.declared.slot.Slot.TheVariants.{Local, Temporary}
-use Rattle.linear_code.specs.declared.instruction.Instruction.{Instruction}
-use Rattle.linear_code.specs.declared.instruction.Instruction.TheVariants.{Jump, JumpIfZero, CallFinally, Separator}
-use Rattle.lowering_expressions.specs.declared.scope.Names.{Names}
-use Rattle.lowering_expressions.specs.declared.scope.Way.{Way}
-use Rattle.lowering_expressions.specs.declared.scope.Way.TheVariants.{Nowhere, Jumps, Unwinds}
-use Rattle.lowering_expressions.specs.declared.scope.LoweringContext.{LoweringContext}
-use Rattle.lowering_expressions.specs.Scope.{in_loop, in_try, in_except, in_guarded}
-use Rattle.lowering_sizes.specs.Sizes.{expression_size, discarded_size, condition_size, returned_size, declared_size, all_declared_size, statement_size, statements_size}
-use Rattle.lowering_expressions.specs.Expressions.{copy, expression_code}
-use Rattle.seh_ir.specs.Statements.{jump_code, return_code, discarded_code, returned_code, condition_code, initialiser_code, declared_code, all_declared_code, landed, repeated, statement_code, statements_code, when_code}
+use Rattle.seh_ir.specs.Words.{Stmt, Expression, Declared, Filter, Statement, Declare, Block, Evaluate, If, IfElse, For, DoWhile, Return, Break, Continue, Leave, TryExcept, TryFinally, Statements, Empty, Then, statement, statements, declared, Local, Temporary, Instruction, Jump, JumpIfZero, CallFinally, Separator, Names, Way, Nowhere, Jumps, Unwinds, LoweringContext, in_loop, in_try, in_except, in_guarded, expression_size, discarded_size, condition_size, returned_size, declared_size, all_declared_size, statement_size, statements_size, copy, expression_code, jump_code, return_code, discarded_code, returned_code, condition_code, initialiser_code, declared_code, all_declared_code, landed, repeated, statement_code, statements_code, when_code}
 use Rattle.lowering_expressions.proofs.Codes.{joined, longer, more, two, expression_length}
 use Rattle.lowering_expressions.proofs.Arms.{after, after_one, after_expression}
 

@@ -1,8 +1,7 @@
 -- What is known of each expression in statements, of each filter's, and of each declared local.
 use Rattle.std.proofs.Common.{ℕ, List, [], ◌∷◌}
 use Rattle.std.specs.Prelude.{Option, Some, None}
-use Rattle.c_checked.specs.Expression.{Expression}
-use Rattle.c_checked.specs.Statement.{Declared, Filter, Always, Funclet, Statement, Declare, Block, Evaluate, If, IfElse, For, DoWhile, Return, Break, Continue, Leave, TryExcept, TryFinally, Statements, Empty, Then}
+use Rattle.seh_ir.specs.Words.{Expression, Declared, Filter, Always, Funclet, Statement, Declare, Block, Evaluate, If, IfElse, For, DoWhile, Return, Break, Continue, Leave, TryExcept, TryFinally, Statements, Empty, Then}
 
 abbrev pub OptionalHas : (Expression → Type 0) → Option Expression → Type 0
 OptionalHas E None = Unit {0}

@@ -3,3 +3,4 @@ pub mod Statements
 pub mod Regions
 pub mod Funclets
 pub mod Lowered
+pub mod Words

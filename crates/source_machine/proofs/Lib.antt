@@ -1,3 +1,4 @@
+mod Lemmas
 pub mod HandlersBelow
 pub mod FrameKeeping
 pub mod TaskKeeping

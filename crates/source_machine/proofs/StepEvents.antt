@@ -1,11 +1,12 @@
 -- Each step shows more or the same.
 use Rattle.std.proofs.Common.{ℕ, zero, suc, List, [], ◌∷◌, ◌++◌, length, refl, Option, Some, None}
 use Rattle.std.specs.Prelude.{Bool, true, false, nat_eq, slice_get}
-use Rattle.source_machine.specs.Words.{Event, BuiltIn, Put, Protect, RaiseException, Operation, performed, Program, Function, Lvalue, Local, Global, Indirection, Element, Filter, Always, Funclet, Statements, is_reserved, Exception, Result, Value, Normal, Returned, Continued, LeftTry, Target, End, Handler, Task, IsPrefixOf, Place, Callee, ContinuationFrame, Operand, Assignment, InStatement, Sequel, Body, EndsCall, Lands, Finishes, Next, Over, Give, Start, Begin, Plan, Then, Push, operand_plan, assignment_plan, in_statement_plan, sequel_plan, body_plan, Machine, follow, unless_deep, started, begun, fetched, put, operated, entered, built_in, called, asked_by, asked, searched, target_landed, landed, finished, left_call, after_value, after_normal, after_body, resumed, given, outside, done, is_deep, with_local, Extends}
+use Rattle.seh_num.specs.declared.event.Event.{Event}
+use Rattle.source_machine.specs.Words.{BuiltIn, Put, Protect, RaiseException, Operation, performed, Program, Function, Lvalue, Local, Global, Indirection, Element, Filter, Always, Funclet, Statements, is_reserved, Exception, Result, Value, Normal, Returned, Continued, LeftTry, Target, End, Handler, Task, IsPrefixOf, Place, Callee, ContinuationFrame, Operand, Assignment, InStatement, Sequel, Body, EndsCall, Lands, Finishes, Next, Over, Give, Start, Begin, Plan, Then, Push, operand_plan, assignment_plan, in_statement_plan, sequel_plan, body_plan, Machine, follow, unless_deep, started, begun, fetched, put, operated, entered, built_in, called, asked_by, asked, searched, target_landed, landed, finished, left_call, after_value, after_normal, after_body, resumed, given, outside, done, is_deep, with_local, Extends}
 use Rattle.c_operations.specs.Performed as performing
 use Rattle.source_meaning.specs.Tasks as tasks
 use Rattle.source_machine.specs.Frames as frames
-use Rattle.source_meaning.proofs.Prefixes.{prefix_self}
+use Rattle.source_machine.proofs.Lemmas.{prefix_self}
 
 one : (es : List Event) (e : Event) → IsPrefixOf es (es ++ e ∷ [])
 one es e = (e ∷ [], refl)

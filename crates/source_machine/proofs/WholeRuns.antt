@@ -7,7 +7,7 @@ use Rattle.source_machine.specs.Words.{Program, state_of, does, IsPrefixOf, Next
 use Rattle.source_machine.proofs.StepKeeping.{keeps_meaning}
 use Rattle.source_machine.proofs.StepDistance.{decreases}
 use Rattle.source_machine.proofs.StepEvents.{extends}
-use Rattle.source_meaning.proofs.Prefixes.{prefix_self, prefix_then}
+use Rattle.source_machine.proofs.Lemmas.{prefix_self, prefix_then}
 
 -- a machine whose run is over has shown all
 over_shows : (program : Program) (m : Machine) (next : Next) → is_over next ≡ true

@@ -1,6 +1,5 @@
 -- The words of this crate's proofs: what its lemma files import, by the crates below.
 pub use Rattle.seh_num.specs.Widths.{low}
-pub use Rattle.seh_num.specs.declared.event.Event.{Event}
 pub use Rattle.seh_num.specs.declared.width.Width.TheVariants.{W32}
 pub use Rattle.c_operations.specs.Performed.{performed}
 pub use Rattle.c_operations.specs.declared.built_in.BuiltIn.{BuiltIn}

@@ -1,6 +1,7 @@
 -- The further worked programs, computed.
 use Rattle.std.proofs.Common.{refl}
-use Rattle.source_meaning.specs.Words.{computed, FilterAskedOnceUnderCollision, CollidedTwice, TargetInOuterActivation, TwoFiltersOfOneFault, BreakThroughFinally, ReturnThroughTwoFinallys, StoreAcrossPages, FaultAddressInFilter, UndefinedReservedAccess, ConversionsAndShifts, Operators, SixArguments, SumToArgument, Loops, DeepRecursion}
+use Rattle.source_meaning.specs.Words.{computed}
+use Rattle.source_meaning.specs.MoreRows.{FilterAskedOnceUnderCollision, CollidedTwice, TargetInOuterActivation, TwoFiltersOfOneFault, BreakThroughFinally, ReturnThroughTwoFinallys, StoreAcrossPages, FaultAddressInFilter, UndefinedReservedAccess, ConversionsAndShifts, Operators, SixArguments, SumToArgument, Loops, DeepRecursion}
 
 pub filter_asked_once_under_collision : FilterAskedOnceUnderCollision
 unfolding computed

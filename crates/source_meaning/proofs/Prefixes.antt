@@ -1,8 +1,7 @@
 -- Events that are the front of others.
 use Rattle.std.proofs.Common.{◌≡◌, List, [], ◌∷◌, ◌++◌, refl, sym, ap, ◌∙◌, append_assoc}
 use Rattle.std.proofs.lemmas.List.{append-nil}
-use Rattle.seh_num.specs.declared.event.Event.{Event}
-use Rattle.source_meaning.specs.Laws.{IsPrefixOf}
+use Rattle.source_meaning.specs.Words.{Event, IsPrefixOf}
 
 -- a list is its own front
 pub prefix_self : (es : List Event) → IsPrefixOf es es

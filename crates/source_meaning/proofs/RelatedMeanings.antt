@@ -9,7 +9,10 @@ use Rattle.c_checked.specs.declared.expression.Access.{Access}
 use Rattle.c_operations.specs.declared.built_in.BuiltIn.{BuiltIn}
 use Rattle.c_operations.specs.declared.built_in.BuiltIn.TheVariants.{Put, Protect, RaiseException}
 use Rattle.c_checked.specs.Expression as nodes
-use Rattle.source_meaning.specs.Words.{Expression, On, Node, Lvalue, Local, Global, Indirection, Element, Arguments, Done, Next, Declared, Filter, Always, Funclet, Statement, Declare, Block, Evaluate, If, IfElse, For, DoWhile, Return, Break, Continue, Leave, TryExcept, TryFinally, Statements, Empty, Then, Program, Function, Unhandled, Undefined, Exception, State, Value, Normal, Returned, Broke, Continued, LeftTry, Target, End, Outcome, set_memory, Handler, Context, Task, Eval, Locate, Run, ForIteration, DoIteration, TryBody, Raise, RunFilter, RunFinally, Retry, Does, tried, operate, locate, load, read, write, each, all, enter, call_built_in, node, expression, optional, declare, declare_each, statement, for_iteration, do_iteration, noncontinuable, answered, search_by, search, run_filter, run_finally, perform}
+use Rattle.c_checked.specs.Expression.{Expression, On, Node, Lvalue, Local, Global, Indirection, Element, Arguments, Done, Next}
+use Rattle.c_checked.specs.Statement.{Declared, Filter, Always, Funclet, Statement, Declare, Block, Evaluate, If, IfElse, For, DoWhile, Return, Break, Continue, Leave, TryExcept, TryFinally, Statements, Empty, Then}
+use Rattle.source_meaning.specs.Words.{Program, Function, Unhandled, Undefined, Exception, State, Value, Normal, Returned, Broke, Continued, LeftTry, Target, End, Outcome, set_memory, Handler, Context, Task, Eval, Locate, Run, ForIteration, DoIteration, TryBody, Raise, RunFilter, RunFinally, Retry, Does, tried, operate, locate, load, read, write, each, all, enter, call_built_in, node, expression, optional, declare, declare_each, statement, for_iteration, do_iteration, perform}
+use Rattle.source_meaning.specs.Raises.{noncontinuable, answered, search_by, search, run_filter, run_finally}
 use Rattle.source_meaning.specs.Source.{is_reserved}
 use Rattle.source_meaning.proofs.Relations.{Relation, Go, GoWith, give, value_go, then_go, loop_go}
 use Rattle.source_meaning.proofs.Relations.{choice_go, deeper_go, landing_go, finally_go, ended_go}

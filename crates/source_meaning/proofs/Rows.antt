@@ -1,6 +1,7 @@
 -- The worked programs, computed.
 use Rattle.std.proofs.Common.{refl}
-use Rattle.source_meaning.specs.Words.{computed, SumAndReturn, NullStoreCaught, FilterThenFinally, ContinueSameOperand, ReturnAndLeaveFlags, DivisionFaultsUnhandled, RaiseInFilter, RaiseInFinally, ContinueNoncontinuable}
+use Rattle.source_meaning.specs.Words.{computed}
+use Rattle.source_meaning.specs.Rows.{SumAndReturn, NullStoreCaught, FilterThenFinally, ContinueSameOperand, ReturnAndLeaveFlags, DivisionFaultsUnhandled, RaiseInFilter, RaiseInFinally, ContinueNoncontinuable}
 
 pub sum_and_return : SumAndReturn
 unfolding computed

@@ -1,16 +1,11 @@
 -- The words of this crate's proofs: what its lemma files import, by the crates below.
 pub use Rattle.seh_num.specs.declared.event.Event.{Event}
-pub use Rattle.c_checked.specs.Expression.{Expression, On, Node, Lvalue, Local, Global, Indirection, Element, Arguments, Done, Next}
 pub use Rattle.c_checked.specs.Program.{Program, Function}
-pub use Rattle.c_checked.specs.Statement.{Declared, Filter, Always, Funclet, Statement, Declare, Block, Evaluate, If, IfElse, For, DoWhile, Return, Break, Continue, Leave, TryExcept, TryFinally, Statements, Empty, Then}
 pub use Rattle.source_meaning.specs.Expressions.{enter, tried, operate, locate, load, read, write, each, all, call_built_in, node, expression}
 unfoldable pub use Rattle.source_meaning.specs.Expressions.{ended_call}
 pub use Rattle.source_meaning.specs.Laws.{IsPrefixOf, ShowsMore, EndStays, CalmBefore, EventsGrow, DoesIs, NeverRises}
 pub use Rattle.source_meaning.specs.Meaning.{perform, within, start, outside, main_arguments, ran, shows, meaning, is_calm, does}
 unfoldable pub use Rattle.source_meaning.specs.Meaning.{computed}
-pub use Rattle.source_meaning.specs.MoreRows.{FilterAskedOnceUnderCollision, CollidedTwice, TargetInOuterActivation, TwoFiltersOfOneFault, BreakThroughFinally, ReturnThroughTwoFinallys, StoreAcrossPages, FaultAddressInFilter, UndefinedReservedAccess, ConversionsAndShifts, Operators, SixArguments, SumToArgument, Loops, DeepRecursion}
-pub use Rattle.source_meaning.specs.Raises.{noncontinuable, answered, search_by, search, run_filter, run_finally}
-pub use Rattle.source_meaning.specs.Rows.{SumAndReturn, NullStoreCaught, FilterThenFinally, ContinueSameOperand, ReturnAndLeaveFlags, DivisionFaultsUnhandled, RaiseInFilter, RaiseInFinally, ContinueNoncontinuable}
 pub use Rattle.source_meaning.specs.State.{State, Result, Value, End, Outcome, Gives, how_of, state_of, Exception, Normal, Returned, Broke, Continued, LeftTry, Target, set_memory, depth}
 unfoldable pub use Rattle.source_meaning.specs.State.{choose, deeper, with_value, and_then}
 pub use Rattle.source_meaning.specs.Statements.{optional, declare, declare_each, statement, for_iteration, do_iteration}

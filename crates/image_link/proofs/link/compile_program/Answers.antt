@@ -1,9 +1,7 @@
 use Rattle.std.proofs.Common.{ℕ, List, sym, subst, ◌∙◌, arith}
 use Rattle.std.specs.List.{AllByRecursion}
 use Rattle.std.proofs.lemmas.List.{length-map}
-use Rattle.linear_code.specs.Program.{linear_program, linear_function}
-use Rattle.image_link.specs.Routines.{RoutineView, routines}
-use Rattle.image_link.specs.Near.{IsRoutineNear, HasPlaces}
+use Rattle.image_link.specs.Words.{linear_program, linear_function, RoutineView, routines, IsRoutineNear, HasPlaces}
 use Rattle.image_link.proofs.Nearness.{routines_near}
 use Rattle.image_link.proofs.Images.{has_places}
 use Rattle.image_link.proofs.link.compile_program.Goals as goal

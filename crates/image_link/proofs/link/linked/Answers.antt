@@ -1,6 +1,5 @@
 use Rattle.std.proofs.Common.{◌≡◌, sym, subst, ◌∙◌, arith}
-use Rattle.pe_write.specs.Program.{ImageContents, CanBeImage}
-use Rattle.image_link.specs.Linked.{first, image_of}
+use Rattle.image_link.specs.Words.{ImageContents, CanBeImage, first, image_of}
 use Rattle.image_link.proofs.Images.{if_ok, there, past, is_site_near, image_is, is_program, no_routine}
 use Rattle.image_link.proofs.link.linked.Goals as goal
 

@@ -1,8 +1,6 @@
 use Rattle.std.proofs.Common.{◌≡◌, ℕ, ◌+◌, ◌∷◌, get_or, drop, sym, ap, ◌∙◌, arith}
-use Rattle.x64_emit.proofs.Nearby.{all_at, label_added}
-use Rattle.image_link.specs.Routines.{RoutineView}
-use Rattle.image_link.specs.Near.{IsRoutineNear}
-use Rattle.image_link.specs.Text.{bounds, routine_size}
+use Rattle.image_link.proofs.Lemmas.{all_at, label_added}
+use Rattle.image_link.specs.Words.{RoutineView, IsRoutineNear, bounds, routine_size}
 use Rattle.image_link.proofs.Entries.{routine_small, room_next, bounds_next}
 use Rattle.image_link.proofs.place.bounds_of.Goals as goal
 

@@ -1,6 +1,5 @@
 use Rattle.std.proofs.Common.{ap, arith}
-use Rattle.x64_emit.specs.Rooms.{code_room}
-use Rattle.image_link.specs.Routines.{RoutineView}
+use Rattle.image_link.specs.Words.{code_room, RoutineView}
 use Rattle.image_link.proofs.place.labels_at.Goals as goal
 
 pub labels_of-requires-clause-room : goal.labels_of-requires-clause-room

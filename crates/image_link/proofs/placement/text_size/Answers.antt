@@ -1,5 +1,5 @@
 use Rattle.std.proofs.Common.{length, ◌∙◌, arith}
-use Rattle.image_link.specs.Linked.{first}
+use Rattle.image_link.specs.Words.{first}
 use Rattle.image_link.proofs.Images.{there, past, text_between}
 use Rattle.image_link.proofs.placement.text_size.Goals as goal
 

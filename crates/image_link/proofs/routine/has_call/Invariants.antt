@@ -1,5 +1,5 @@
 use Rattle.std.proofs.Common.{◌≡◌, drop}
-use Rattle.image_link.specs.Routines.{has_call}
+use Rattle.image_link.specs.Words.{has_call}
 use Rattle.image_link.proofs.routine.has_call.Given as goal
 
 abbrev pub invariant-loop-instruction : goal.invariant-loop-instruction

@@ -1,6 +1,5 @@
 use Rattle.std.proofs.Common.{subst}
-use Rattle.linear_code.specs.Program.{linear_program}
-use Rattle.image_link.specs.Routines.{HasParent}
+use Rattle.image_link.specs.Words.{linear_program, HasParent}
 use Rattle.image_link.proofs.Fitting.{funclet_fits, funclet_below}
 use Rattle.image_link.proofs.routine.kept_by.Goals as goal
 

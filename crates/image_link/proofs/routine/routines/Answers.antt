@@ -1,9 +1,6 @@
 use Rattle.std.proofs.Common.{List, map, sym, subst}
 use Rattle.std.specs.List.{AllByRecursion}
-use Rattle.linear_code.specs.declared.program.IrFunction.{IrFunction}
-use Rattle.linear_code.specs.declared.program.IrFunclet.{IrFunclet}
-use Rattle.linear_code.specs.Program.{linear_function, linear_funclet, linear_program}
-use Rattle.image_link.specs.Fits.{FitsFunction, FitsFunclet}
+use Rattle.image_link.specs.Words.{IrFunction, IrFunclet, linear_function, linear_funclet, linear_program, FitsFunction, FitsFunclet}
 use Rattle.image_link.proofs.Fitting.{function_fits, funclet_fits}
 use Rattle.image_link.proofs.routine.routines.Goals as goal
 

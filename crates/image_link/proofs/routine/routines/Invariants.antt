@@ -1,5 +1,5 @@
 use Rattle.std.proofs.Common.{◌≡◌, ◌++◌, map, drop}
-use Rattle.linear_code.specs.Program.{linear_function, linear_funclet, linear_program}
+use Rattle.image_link.specs.Words.{linear_function, linear_funclet, linear_program}
 use Rattle.image_link.specs.Routines as spec
 use Rattle.image_link.proofs.routine.routines.Given as goal
 

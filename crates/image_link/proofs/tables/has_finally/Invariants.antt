@@ -1,5 +1,5 @@
 use Rattle.std.proofs.Common.{◌≡◌, drop}
-use Rattle.image_link.specs.Tables.{has_finally}
+use Rattle.image_link.specs.Words.{has_finally}
 use Rattle.image_link.proofs.tables.has_finally.Given as goal
 
 abbrev pub invariant-loop-region : goal.invariant-loop-region

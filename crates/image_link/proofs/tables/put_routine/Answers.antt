@@ -1,7 +1,5 @@
 use Rattle.std.proofs.Common.{ℕ, List, ◌++◌, ap, ◌∙◌}
-use Rattle.image_link.specs.Routines.{RoutineView}
-use Rattle.image_link.specs.Text.{own_addresses}
-use Rattle.image_link.specs.Tables.{info_if, info_bytes}
+use Rattle.image_link.specs.Words.{RoutineView, own_addresses, info_if, info_bytes}
 use Rattle.image_link.proofs.tables.put_routine.Goals as goal
 
 pub returns-clause-infos : goal.returns-clause-infos

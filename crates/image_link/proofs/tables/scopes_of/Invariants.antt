@@ -1,5 +1,5 @@
 use Rattle.std.proofs.Common.{◌≡◌, ◌++◌, drop}
-use Rattle.image_link.specs.Tables.{scope_records}
+use Rattle.image_link.specs.Words.{scope_records}
 use Rattle.image_link.proofs.tables.scopes_of.Given as goal
 
 abbrev pub invariant-loop-region : goal.invariant-loop-region

@@ -1,9 +1,6 @@
 use Rattle.std.proofs.Common.{◌≡◌, ℕ, ◌+◌, ◌++◌, length, get_or, drop, sym, ap, ◌∙◌, arith, length-append}
-use Rattle.x64_emit.proofs.Nearby.{all_at}
-use Rattle.image_link.specs.Routines.{RoutineView}
-use Rattle.image_link.specs.Near.{IsRoutineNear}
-use Rattle.image_link.specs.Text.{routine_size}
-use Rattle.image_link.specs.Tables.{info_bytes, infos, range_of, ranges}
+use Rattle.image_link.proofs.Lemmas.{all_at}
+use Rattle.image_link.specs.Words.{RoutineView, IsRoutineNear, routine_size, info_bytes, infos, range_of, ranges}
 use Rattle.image_link.proofs.Entries.{routine_small, room_next, appended}
 use Rattle.image_link.proofs.Infos.{info_small, infos_next, ranges_next, infos_room_next}
 use Rattle.image_link.proofs.tables.tables_of.Goals as goal

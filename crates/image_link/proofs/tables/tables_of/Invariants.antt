@@ -2,7 +2,7 @@ use Rattle.std.proofs.Common.{◌≡◌, ◌++◌, ◌+◌, ◌<◌, ◌^◌, le
 use Rattle.image_link.specs.Text as texts
 use Rattle.image_link.specs.Tables as spec
 use Rattle.image_link.proofs.tables.tables_of.Given as goal
-use Rattle.x64_emit.specs.Near.{IsNear}
+use Rattle.image_link.specs.Words.{IsNear}
 
 abbrev pub invariant-loop-routine : goal.invariant-loop-routine
 invariant-loop-routine l = record {

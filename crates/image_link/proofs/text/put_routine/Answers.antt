@@ -1,8 +1,5 @@
 use Rattle.std.proofs.Common.{ℕ, ◌+◌, List, ◌++◌, sym, subst, ap, ◌∙◌, arith}
-use Rattle.template_code.specs.Bytes.{spelled}
-use Rattle.x64_emit.specs.Near.{AreNear}
-use Rattle.x64_emit.specs.Linking.{Addresses, links_of}
-use Rattle.image_link.specs.Text.{SiteView, entry_size, own_addresses, check_stack_at, thunks_at, code_at, routine_bytes}
+use Rattle.image_link.specs.Words.{spelled, AreNear, Addresses, links_of, SiteView, entry_size, own_addresses, check_stack_at, thunks_at, code_at, routine_bytes}
 use Rattle.image_link.proofs.Entries.{entry_small, routine_small, labels_near}
 use Rattle.image_link.proofs.text.put_routine.Goals as goal
 

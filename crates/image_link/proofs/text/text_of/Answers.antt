@@ -1,8 +1,6 @@
 use Rattle.std.proofs.Common.{◌≡◌, ℕ, ◌+◌, ◌++◌, get_or, drop, sym, ap, ◌∙◌, arith}
-use Rattle.x64_emit.proofs.Nearby.{all_at}
-use Rattle.image_link.specs.Routines.{RoutineView}
-use Rattle.image_link.specs.Near.{IsRoutineNear}
-use Rattle.image_link.specs.Text.{routine_size, routine_bytes, routines_bytes}
+use Rattle.image_link.proofs.Lemmas.{all_at}
+use Rattle.image_link.specs.Words.{RoutineView, IsRoutineNear, routine_size, routine_bytes, routines_bytes}
 use Rattle.image_link.proofs.Entries.{routine_small, room_next, text_next, appended}
 use Rattle.image_link.proofs.text.text_of.Goals as goal
 

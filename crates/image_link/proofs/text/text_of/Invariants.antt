@@ -1,7 +1,7 @@
 use Rattle.std.proofs.Common.{◌≡◌, ◌++◌, ◌+◌, drop}
 use Rattle.image_link.specs.Text as spec
 use Rattle.image_link.proofs.text.text_of.Given as goal
-use Rattle.x64_emit.specs.Near.{IsNear}
+use Rattle.image_link.specs.Words.{IsNear}
 
 abbrev pub invariant-loop-routine : goal.invariant-loop-routine
 invariant-loop-routine l = record {

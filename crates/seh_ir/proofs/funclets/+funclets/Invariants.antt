@@ -1,6 +1,6 @@
 use Rattle.std.proofs.Common.{◌≡◌, ◌++◌, map, take}
 use Rattle.c_checked.specs.Statement as tree
-use Rattle.linear_code.specs.Program.{linear_funclet}
+use Rattle.seh_ir.specs.Words.{linear_funclet}
 use Rattle.seh_ir.specs.Funclets as spec
 use Rattle.seh_ir.proofs.funclets.+funclets.Given as goal
 

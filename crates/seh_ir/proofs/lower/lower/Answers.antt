@@ -1,6 +1,6 @@
 use Rattle.std.proofs.Common.{◌≡◌, ◌+◌, ◌<◌, List, length, map, get_or, ap, subst, ◌∙◌, arith}
 use Rattle.c_checked.specs.declared.function.Function.{Function}
-use Rattle.linear_code.specs.Program.{linear_function, linear_funclet}
+use Rattle.seh_ir.specs.Words.{linear_function, linear_funclet}
 use Rattle.seh_ir.proofs.Lowering.{functions_next, all_next, mapped}
 use Rattle.seh_ir.proofs.lower.lower.Goals as goal
 

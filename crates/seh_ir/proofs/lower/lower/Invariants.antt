@@ -1,6 +1,6 @@
 use Rattle.std.proofs.Common.{◌≡◌, map, take}
 use Rattle.c_checked.specs.Program as programs
-use Rattle.linear_code.specs.Program.{linear_function, linear_funclet}
+use Rattle.seh_ir.specs.Words.{linear_function, linear_funclet}
 use Rattle.seh_ir.specs.Lowered as spec
 use Rattle.seh_ir.proofs.lower.lower.Given as goal
 

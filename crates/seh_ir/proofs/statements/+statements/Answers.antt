@@ -1,9 +1,8 @@
 use Rattle.std.proofs.Common.{map, ap, ◌∙◌}
 use Rattle.std.specs.Prelude.{option_map}
 use Rattle.std.proofs.lemmas.Result.{on_ok_weaker}
-use Rattle.c_checked.specs.Expression.{expression}
+use Rattle.seh_ir.specs.Words.{expression, Empty}
 use Rattle.c_checked.specs.Statement as tree
-use Rattle.c_checked.specs.Statement.{Empty}
 use Rattle.c_checked.proofs.StatementTrees as made
 use Rattle.seh_ir.proofs.StatementCodes.{when_is, if_is, if_else_is, for_is, do_is, tried_is, except_is, finally_is, statements_next}
 use Rattle.seh_ir.proofs.statements.+statements.Goals as goal

@@ -1,6 +1,6 @@
 use Rattle.std.specs.Prelude.{option_map}
 use Rattle.std.proofs.lemmas.Result.{on_ok_weaker}
-use Rattle.c_checked.specs.Expression.{expression}
+use Rattle.seh_ir.specs.Words.{expression}
 use Rattle.seh_ir.proofs.StatementCodes.{return_is}
 use Rattle.seh_ir.proofs.statements.leave_function.Goals as goal
 

@@ -1,0 +1,32 @@
+-- The lemmas of the crates below that files of this crate cite.
+pub use Rattle.c_resolved.proofs.SoundPrograms.{accepted_is_sound}
+pub use Rattle.lowering_invariants.proofs.Lowered.{lowered_is_whole}
+pub use Rattle.lowering_invariants.proofs.Ready.{continues}
+pub use Rattle.lowering_invariants.proofs.TurnStack.{all_at}
+pub use Rattle.lowering_locals.proofs.AgreementSteps.{agreement_at_call, agreeing_are_small, agreement_continues, agreement_at_start}
+pub use Rattle.template_code.proofs.Sizes.{template_sizes, sizes_append}
+pub use Rattle.x64_templates.proofs.PlacedCode.{same_number, bytes_kept, enters_then, outside_page, bytes_split, spells, reads}
+pub use Rattle.match_runs.proofs.Steps.{at_instruction, matched_step, follows}
+pub use Rattle.match_stack.proofs.ItemVisits.{set_head, frame_is_visited, leaf_is_visited, search_is_passed, unwinding_is_passed, stack_is_over}
+pub use Rattle.match_bodies.proofs.BodyResumption.{frame_size}
+pub use Rattle.match_bodies.proofs.ChainKeeping.{Keeps, enters_keeps, stays_well_formed}
+pub use Rattle.match_bodies.proofs.FrameMaking.{making_steps}
+pub use Rattle.match_bodies.proofs.SlotPlaces.{stack_is_reserved}
+pub use Rattle.match_bodies.proofs.StackTop.{leaf_layout, OnTop, others_of, framed_top, leaf_top, body_on_top}
+pub use Rattle.match_bodies.proofs.StackWords.{word_is, may_read_written, word_of}
+pub use Rattle.match_bodies.proofs.StepNeeds.{label_in}
+pub use Rattle.match_bodies.proofs.TemplateRuns.{index_of, sp_seen, get_or_is}
+pub use Rattle.match_bodies.proofs.TemplateSizes.{template_some, first_in_code, address_next}
+pub use Rattle.match_turns.proofs.FunctionLocals.{words_count, words_small, arguments_then_words, argument_is}
+unfoldable pub use Rattle.match_turns.proofs.FunctionLocals.{words_at}
+pub use Rattle.match_turns.proofs.FunctionParameters.{with_home, home_parameters, own_frame, IsOwn, roomy_own, fresh_own, parameters_soon}
+pub use Rattle.match_turns.proofs.FunctionPrologue.{Made, no_frame, small_frame, large_frame}
+pub use Rattle.match_turns.proofs.OperationCode.{is_some, IsSome, template_is_at, some_finish}
+pub use Rattle.image_link.proofs.Images.{images_are_small}
+pub use Rattle.image_tables.proofs.FuncletNumbers.{sum_of, sum_from_one, sums_agree, counts, lowered_names_funclets}
+pub use Rattle.image_tables.proofs.RegionRanges.{lowered_has_regions}
+pub use Rattle.image_tables.proofs.Table.{is, tables_are_read}
+pub use Rattle.text_bounds.proofs.StatementNesting.{resolved_is_shallow}
+pub use Rattle.text_bounds.proofs.StepsPerTurn.{steps_per_turn_are_bounded}
+pub use Rattle.image_states.proofs.Images.{images_are_programs}
+pub use Rattle.image_states.proofs.Starting.{images_start, images_load}
