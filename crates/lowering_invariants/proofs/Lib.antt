@@ -8,6 +8,7 @@ pub mod TurnStack
 pub mod ActivationOwners
 pub mod TurnActivations
 pub mod Results
+pub mod SmallLists
 pub mod TurnNumbers
 pub mod EveryExpression
 pub mod Calls

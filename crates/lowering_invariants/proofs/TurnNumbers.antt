@@ -1,12 +1,9 @@
 -- Each turn keeps every number one of 64 bits.
-use Rattle.std.proofs.Common.{◌≡◌, ℕ, zero, suc, ◌+◌, ◌-◌, ◌^◌, ◌<◌, List, [], ◌∷◌, ◌++◌, length, refl, subst, arith}
-use Rattle.std.specs.List.{AllByRecursion}
-use Rattle.std.specs.Prelude.{Bool, true, false, nat_eq, nat_lt, slice_get, slice_set, take, drop, replicate, if◌then◌else◌, get_or, ℤ, Option, Some, None}
-use Rattle.lowering_invariants.specs.Words.{Event, W32, W64, low, signed, wrapped, BuiltIn, Put, Protect, RaiseException, Field, OperationResult, Gives, Raises, Undefined, performed, Exception, is_reserved, of_test, field_of, raised, noncontinuable, raise_event, Slot, Local, Temporary, Instruction, Region, RegionKind, FuncletKind, LinearProgram, LinearFunction, BodyName, FunctionBody, FuncletBody, Frame, Handler, Target, Resumption, AfterCall, SameOperation, Item, Waits, Searches, Unwinds, Store, Configuration, Seen, Finished, Stuck, Next, pick, read, write, with_temporary, with_temporaries, last_temporaries, set_local, at_label, forth, with_last, regions_at, regions_left, handlers, stops, flag_of, run_finally, arrive, target_past, left_store, leave_region, unwind_body, unwind, target_of, accept, consult, search, raise, resumed, answer, is_constant, operand, written, computed, tested, waiting, count_of, built_in, return, end_finally, end_funclet, end_body, not_landed, act, start, main_arguments, IsTurn, IsReached, IsSmallAccess, parameter_of, AreSmall, IsSmallCode, IsSmallException, IsSmallFrame, AreSmallItems, HasSmallNumbers}
+use Rattle.std.proofs.Common.{◌≡◌, ℕ, ◌+◌, ◌-◌, ◌^◌, ◌<◌, List, [], ◌∷◌, ◌++◌, length, refl, subst, arith}
+use Rattle.std.specs.Prelude.{Bool, true, false, nat_eq, nat_lt, slice_get, take, drop, if◌then◌else◌, get_or, ℤ, Option, Some, None}
+use Rattle.lowering_invariants.specs.Words.{Event, W32, W64, low, signed, wrapped, BuiltIn, Put, Protect, RaiseException, OperationResult, Gives, Raises, Undefined, performed, Exception, is_reserved, of_test, field_of, raised, noncontinuable, raise_event, Slot, Local, Temporary, Instruction, Region, RegionKind, FuncletKind, LinearProgram, LinearFunction, BodyName, FunctionBody, FuncletBody, Frame, Handler, Target, Resumption, AfterCall, SameOperation, Item, Waits, Searches, Unwinds, Store, Configuration, Seen, Finished, Stuck, Next, pick, read, write, with_temporary, with_temporaries, last_temporaries, set_local, at_label, forth, with_last, regions_at, regions_left, handlers, stops, flag_of, run_finally, arrive, target_past, left_store, leave_region, unwind_body, unwind, target_of, accept, consult, search, raise, resumed, answer, is_constant, operand, written, computed, tested, waiting, count_of, built_in, return, end_finally, end_funclet, end_body, not_landed, act, start, main_arguments, IsTurn, IsReached, AreSmall, IsSmallCode, IsSmallException, IsSmallFrame, AreSmallItems, HasSmallNumbers}
 use Rattle.seh_num.specs.declared.event.Event.TheVariants as events
-use Rattle.c_operations.specs.declared.field.Field.TheVariants as fields
 use Rattle.source_meaning.specs.declared.ended.Ended.TheVariants as ends
-use Rattle.source_meaning.specs.Expressions.{count_of as parameters_of}
 use Rattle.linear_code.specs.declared.instruction.Instruction.TheVariants as instructions
 use Rattle.linear_code.specs.declared.program.RegionKind.TheVariants as kinds
 use Rattle.linear_code.specs.declared.program.FuncletKind.TheVariants as funclets
@@ -14,108 +11,9 @@ use Rattle.lowering_invariants.proofs.Moves.{Turn, Halts, Moves, pick_turn, some
 use Rattle.lowering_invariants.proofs.StackTargets.{same_it}
 use Rattle.lowering_invariants.proofs.Lemmas.{low_below, wrapped_below}
 use Rattle.lowering_invariants.proofs.Results.{IsSmallOutcome, outcome_small}
+use Rattle.lowering_invariants.proofs.SmallLists.{all_joined, all_taken, all_dropped, zeros, one_of, got_of, AllSmall, locals_in, locals_small, joined_small, left_small, local_small, test_small, field_small}
 
 -- ---- lists
-
-all_joined : (xs ys : List ℕ) → AreSmall xs → AreSmall ys → AreSmall (xs ++ ys)
-all_joined [] ys h k = k
-all_joined (x ∷ xs) ys h k = (h.0, all_joined xs ys h.1 k)
-
-all_taken : (n : ℕ) (xs : List ℕ) → AreSmall xs → AreSmall (take n xs)
-all_taken zero xs h = tt
-all_taken (suc n) [] h = tt
-all_taken (suc n) (x ∷ xs) h = (h.0, all_taken n xs h.1)
-
-all_dropped : (n : ℕ) (xs : List ℕ) → AreSmall xs → AreSmall (drop n xs)
-all_dropped zero xs h = h
-all_dropped (suc n) [] h = tt
-all_dropped (suc n) (x ∷ xs) h = all_dropped n xs h.1
-
-all_set : (xs : List ℕ) (i v : ℕ) → AreSmall xs → v < 2 ^ 64 → AreSmall (slice_set xs i v)
-all_set [] i v h lt = tt
-all_set (x ∷ xs) zero v h lt = (lt, h.1)
-all_set (x ∷ xs) (suc i) v h lt = (h.0, all_set xs i v h.1 lt)
-
-zeros : (n : ℕ) → AreSmall (replicate n 0)
-zeros zero = tt
-zeros (suc n) = (omega arith, zeros n)
-
-one_of : (xs : List ℕ) (i : ℕ) → AreSmall xs → get_or xs i 0 < 2 ^ 64
-one_of [] i h = omega arith
-one_of (x ∷ xs) zero h = h.0
-one_of (x ∷ xs) (suc i) h = one_of xs i h.1
-
-got_of : (xs : List ℕ) (i v : ℕ) → AreSmall xs → slice_get xs i ≡ Some v → v < 2 ^ 64
-got_of [] i v h e = absurd (cc)
-got_of (x ∷ xs) zero v h e = subst (λ y. y < 2 ^ 64) (same_it x v e) h.0
-got_of (x ∷ xs) (suc i) v h e = got_of xs i v h.1 e
-
--- ---- activations
-
-abbrev AllSmall : List (List ℕ) → Type 0
-AllSmall acts = AllByRecursion AreSmall acts
-
-abbrev locals_in : Option (List ℕ) → List ℕ
-locals_in o = elim o [ Some locals ↦ locals | None ↦ [] ]
-
-locals_small : (acts : List (List ℕ)) (k : ℕ) → AllSmall acts
-    → AreSmall (locals_in (slice_get acts k))
-locals_small [] k h = tt
-locals_small (a ∷ acts) zero h = h.0
-locals_small (a ∷ acts) (suc k) h = locals_small acts k h.1
-
-set_small : (acts : List (List ℕ)) (k : ℕ) (vs : List ℕ) → AllSmall acts → AreSmall vs
-    → AllSmall (slice_set acts k vs)
-set_small [] k vs h l = tt
-set_small (a ∷ acts) zero vs h l = (l, h.1)
-set_small (a ∷ acts) (suc k) vs h l = (h.0, set_small acts k vs h.1 l)
-
-taken_small : (n : ℕ) (acts : List (List ℕ)) → AllSmall acts → AllSmall (take n acts)
-taken_small zero acts h = tt
-taken_small (suc n) [] h = tt
-taken_small (suc n) (a ∷ acts) h = (h.0, taken_small n acts h.1)
-
-joined_small : (acts : List (List ℕ)) (vs : List ℕ) → AllSmall acts → AreSmall vs
-    → AllSmall (acts ++ vs ∷ [])
-joined_small [] vs h l = (l, tt)
-joined_small (a ∷ acts) vs h l = (h.0, joined_small acts vs h.1 l)
-
-left_small : (name : BodyName) (k : ℕ) (store : Store) → AllSmall store.activations
-    → AllSmall (left_store name k store).activations
-left_small (FunctionBody f) k store h = taken_small k store.activations h
-left_small (FuncletBody j) k store h = h
-
-local_small : (store : Store) (k x v : ℕ) → AllSmall store.activations → v < 2 ^ 64
-    → AllSmall (set_local store k x v).activations
-local_small store k x v h lt = set_small store.activations k
-    (slice_set (locals_in (slice_get store.activations k)) x v) h
-    (all_set (locals_in (slice_get store.activations k)) x v (locals_small store.activations k h)
-    lt)
-
--- ---- exceptions
-
-test_small : (b : Bool) → of_test b < 2 ^ 64
-test_small true = omega arith
-test_small false = omega arith
-
-count_small : (o : Option (Bool × ℕ)) → parameters_of o < 2 ^ 64
-count_small None = omega arith
-count_small (Some access) = omega arith
-
-parameter_small : (o : Option (Bool × ℕ)) (k : ℕ) → IsSmallAccess o → parameter_of o k < 2 ^ 64
-parameter_small None k h = omega arith
-parameter_small (Some access) k h = of (nat_eq k 0) (nat_eq k 1)
-  where
-    of : (a b : Bool) → (if a then of_test access.0 else if b then access.1 else 0) < 2 ^ 64
-    of true b = test_small access.0
-    of false true = h
-    of false false = omega arith
-
-field_small : (f : Field) (e : Exception) → IsSmallException e → field_of f e < 2 ^ 64
-field_small fields.ExceptionCode e h = let c = h.code in omega arith
-field_small fields.ExceptionFlags e h = test_small e.flag
-field_small fields.NumberParameters e h = count_small e.access
-field_small (fields.ExceptionInformation k) e h = parameter_small e.access k h.access
 
 -- ---- what runs or waits, over a store
 
