@@ -1,60 +1,35 @@
-//! StackWrite, Unsaved and Epilogue: a body, instruction by instruction.
+//! StackWrite, Unsaved and Epilogue: the instructions past the prologue, one after another
+//! (Microsoft x64 ABI, "Prolog and epilog").
 
-ghost use Rattle.std.specs.Prelude.{◌≡◌, ◌+◌, ◌<◌, ◌^◌, [], ◌∷◌, IfOk, length, option_map};
+ghost use Rattle.std.specs.Prelude.{◌≡◌, ◌+◌, ◌<◌, ◌^◌, [], ◌∷◌, IfOk, option_map};
 ghost use Rattle.virtual_unwind.specs.Undone.{operations};
 ghost use Rattle.frame_rules.specs.Body as rules;
 ghost use Rattle.frame_rules.specs.Prologue.{bytes};
 ghost use Rattle.unwind_check.specs.Bodies as spec;
 ghost use Rattle.unwind_check.specs.Steps.{shown, past_plain, past_rest, step_of};
 
-use crate::epilogue::{is_epilogue, restored_by};
-use crate::item::Item;
-use crate::rest::rest;
+use crate::epilogue::is_epilogue;
+use crate::fetched::FetchedInstr;
+use crate::loads::{are_restored, restored_by};
 use crate::rule::{Fault, Rule};
+use crate::tail::tail_at;
 use crate::written::{keeps_saved, keeps_stack};
-use eh_tables::{Info, UnwindCode, UnwindOperation};
+use eh_tables::{Info, UnwindCode};
 use std::alloc::{AllocError, Global};
 use x64_instr::instruction::Instr;
 use x64_memory::space::CodeSpace;
 
-fn has(register: u8, registers: &[u8]) -> bool
-    ensures { result ≡ rules.has register registers.now }
-{
-    match registers {
-        [] => false,
-        [first, rest @ ..] => *first == register || has(register, rest),
-    }
-}
-
-fn is_restored(loaded: &[u8], operation: UnwindOperation) -> bool
-    ensures { result ≡ rules.is_restored loaded.now operation }
-{
-    match operation {
-        UnwindOperation::Save { register, .. } => has(register, loaded),
-        _ => true,
-    }
-}
-
-fn are_restored(loaded: &[u8], codes: &[UnwindCode]) -> bool
-    ensures { result ≡ rules.are_restored loaded.now (operations codes.now) }
-{
-    match codes {
-        [] => true,
-        [first, rest @ ..] => is_restored(loaded, first.operation) && are_restored(loaded, rest),
-    }
-}
-
-/// Whether the rest of an epilogue is a whole one of the function, inside the entry.
+/// Whether the trailing part of a legal epilogue is a whole epilogue of the function, with all
+/// saved registers loaded before it, and ends inside the entry.
 fn is_own(
     info: &Info,
     codes: &[UnwindCode],
     loaded: &[u8],
-    item: &Item,
-    more: &[Item],
+    item: &FetchedInstr,
+    more: &[FetchedInstr],
     instrs: &[Instr],
 ) -> bool
     requires codes { codes.now ≡ info.now.codes }
-    requires count { length codes.now < 2 ^ 16 }
     ensures { result ≡ spec.is_own info.now.frame_register info.now.frame_offset
         (operations info.now.codes) loaded.now (item.now ∷ more.now) instrs.now }
 {
@@ -64,7 +39,8 @@ fn is_own(
         && instrs.len() <= more.len() + 1
 }
 
-fn note(loaded: &mut Vec<u8>, register: Option<u8>) -> Result<(), AllocError>
+/// Adds the register that an instruction loads, where it loads one; else none is known any longer.
+fn note_load(loaded: &mut Vec<u8>, register: Option<u8>) -> Result<(), AllocError>
     ensures { IfOk result
         (λ u. loaded.new.items ≡ rules.with_restored loaded.old.items register) }
 {
@@ -86,7 +62,7 @@ fn pass_plain(
     codes: &[UnwindCode],
     at: u64,
     loaded: &mut Vec<u8>,
-    item: &Item,
+    item: &FetchedInstr,
 ) -> Result<Result<usize, Fault>, AllocError>
     requires codes { codes.now ≡ info.now.codes }
     ensures { IfOk result (λ r. shown loaded.new.items r
@@ -106,22 +82,21 @@ fn pass_plain(
     }
     let offset = info.frame_offset() as u64;
     let restored = restored_by(info.frame_register(), offset, codes, item.instr());
-    note(loaded, restored)?;
+    note_load(loaded, restored)?;
     Ok(Ok(0))
 }
 
-/// Past an instruction, by the rest of an epilogue that stands there.
+/// Past an instruction, by the trailing part of a legal epilogue that stands there, if one does.
 fn pass_rest(
     info: &Info,
     codes: &[UnwindCode],
     at: u64,
     loaded: &mut Vec<u8>,
-    item: &Item,
-    more: &[Item],
+    item: &FetchedInstr,
+    more: &[FetchedInstr],
     found: Option<Vec<Instr>>,
 ) -> Result<Result<usize, Fault>, AllocError>
     requires codes { codes.now ≡ info.now.codes }
-    requires count { length codes.now < 2 ^ 16 }
     ensures { IfOk result (λ r. shown loaded.new.items r ≡ past_rest info.now at loaded.old.items
         item.now more.now (option_map (λ v. v.items) found)) }
 {
@@ -141,26 +116,26 @@ fn pass_rest(
     }
 }
 
-/// Past an instruction, with so many instructions of an epilogue left.
+/// Past an instruction: how many instructions of an epilogue are left, or the fault at it. `left`
+/// are those before it, and `loaded` the registers that the instructions straight before it loaded.
 #[tactic(auto, using(crate::proofs::Passing::starting, crate::proofs::Passing::skipping))]
-pub fn step<S: CodeSpace>(
+fn step<S: CodeSpace>(
     alloc: Global,
     space: &S,
     info: &Info,
     codes: &[UnwindCode],
     at: u64,
     loaded: &mut Vec<u8>,
-    item: &Item,
-    more: &[Item],
+    item: &FetchedInstr,
+    more: &[FetchedInstr],
     left: usize,
 ) -> Result<Result<usize, Fault>, AllocError>
     requires codes { codes.now ≡ info.now.codes }
-    requires count { length codes.now < 2 ^ 16 }
     ensures { IfOk result (λ r. shown loaded.new.items r
         ≡ step_of (S.memory space.now) info.now at loaded.old.items item.now more.now left) }
 {
     if left == 0 {
-        let found = rest(alloc, space, info.frame_register(), at)?;
+        let found = tail_at(alloc, space, info.frame_register(), at)?;
         pass_rest(info, codes, at, loaded, item, more, found)
     } else {
         loaded.clear();
@@ -168,7 +143,8 @@ pub fn step<S: CodeSpace>(
     }
 }
 
-/// The first fault of a body: its instructions from an address on.
+/// The first fault of the instructions past a prologue, which begin at an address, and where
+/// `is_whole` says that none is missing up to the entry's end. Refused for want of memory alone.
 pub fn body_fault<S: CodeSpace>(
     alloc: Global,
     space: &S,
@@ -176,10 +152,9 @@ pub fn body_fault<S: CodeSpace>(
     codes: &[UnwindCode],
     is_whole: bool,
     begin: u64,
-    items: &[Item],
+    items: &[FetchedInstr],
 ) -> Result<Option<Fault>, AllocError>
     requires codes { codes.now ≡ info.now.codes }
-    requires count { length codes.now < 2 ^ 16 }
     requires low { begin + bytes items.now < 2 ^ 63 }
     ensures { IfOk result (λ o. o
         ≡ spec.body_from (S.memory space.now) info.now is_whole items.now begin [] 0) }

@@ -1,26 +1,27 @@
-//! An entry: all rules on it.
+//! All rules on an entry of a function table.
 
-ghost use Rattle.std.specs.Prelude.{◌≡◌, ◌≤◌, ◌<◌, ◌^◌, [], IfOk, length};
+ghost use Rattle.std.specs.Prelude.{◌≡◌, ◌≤◌, ◌<◌, ◌^◌, [], IfOk};
 ghost use Rattle.frame_rules.specs.Validated.{turned};
 ghost use Rattle.unwind_check.specs.Faults as spec;
 
 use crate::body::body_fault;
-use crate::codes::{is_ordered, keep_codes};
-use crate::part::{Part, decoded, ends};
+use crate::code_order::is_ordered;
+use crate::codes::keep_codes;
+use crate::decoded::{DecodedInstrs, decoded_between, ends};
+use crate::prologue::prologue_fault;
 use crate::rule::{Fault, Rule};
-use crate::stepping::prologue_fault;
 use eh_tables::{Info, UnwindCode};
 use std::alloc::{AllocError, Global};
 use x64_memory::space::CodeSpace;
 
 /// The codes of an info, in their order, and in the order of execution.
 #[derive(Drop)]
-struct Gathered {
+struct OrderedCodes {
     codes: Vec<UnwindCode>,
     steps: Vec<UnwindCode>,
 }
 
-fn gather(alloc: Global, info: &Info) -> Result<Gathered, AllocError>
+fn ordered_codes(alloc: Global, info: &Info) -> Result<OrderedCodes, AllocError>
     ensures codes { IfOk result (λ g. g.codes.items ≡ info.now.codes) }
     ensures steps { IfOk result (λ g. g.steps.items ≡ turned [] info.now.codes) }
 {
@@ -30,26 +31,24 @@ fn gather(alloc: Global, info: &Info) -> Result<Gathered, AllocError>
         codes.push(code)?;
         steps.insert(0, code)?;
     }
-    Ok(Gathered { codes, steps })
+    Ok(OrderedCodes { codes, steps })
 }
 
-/// The first fault of the prologue and the body.
+/// The first fault of the prologue and of what follows it, from `middle` on.
 fn parts_fault<S: CodeSpace>(
     alloc: Global,
     space: &S,
-    routine: &[u8],
+    probe: &[u8],
     begin: u64,
     middle: u64,
     end: u64,
     info: &Info,
-    codes: &[UnwindCode],
-    steps: &[UnwindCode],
-    prologue: &Part,
-    body: &Part,
+    codes: &OrderedCodes,
+    prologue: &DecodedInstrs,
+    body: &DecodedInstrs,
 ) -> Result<Option<Fault>, AllocError>
-    requires codes { codes.now ≡ info.now.codes }
-    requires steps { steps.now ≡ turned [] info.now.codes }
-    requires count { length codes.now < 2 ^ 16 }
+    requires codes { codes.now.codes.items ≡ info.now.codes }
+    requires steps { codes.now.steps.items ≡ turned [] info.now.codes }
     requires order { begin ≤ middle }
     requires order_2 { middle ≤ end }
     requires low { end < 2 ^ 63 }
@@ -57,37 +56,27 @@ fn parts_fault<S: CodeSpace>(
     requires prologue { prologue.now ≡ spec.prologue_of (S.memory space.now) begin end info.now }
     requires body { body.now ≡ spec.body_of (S.memory space.now) begin end info.now }
     ensures { IfOk result (λ o. o
-        ≡ spec.parts_fault (S.memory space.now) routine.now begin end info.now) }
+        ≡ spec.parts_fault (S.memory space.now) probe.now begin end info.now) }
 {
-    let offset = info.frame_offset() as u64;
-    let first = prologue.instructions();
-    let second = body.instructions();
-    match prologue_fault(
-        space,
-        routine,
-        begin,
-        info.frame_register(),
-        offset,
-        prologue.is_whole,
-        0,
-        steps,
-        first,
-    ) {
+    let first = prologue.items();
+    let second = body.items();
+    let whole = prologue.is_whole();
+    match prologue_fault(space, probe, begin, info, whole, 0, &codes.steps, first) {
         Some(fault) => Ok(Some(fault)),
-        None => body_fault(alloc, space, info, codes, body.is_whole, middle, second),
+        None => body_fault(alloc, space, info, &codes.codes, body.is_whole(), middle, second),
     }
 }
 
 fn codes_fault<S: CodeSpace>(
     alloc: Global,
     space: &S,
-    routine: &[u8],
+    probe: &[u8],
     begin: u64,
     middle: u64,
     end: u64,
     info: &Info,
-    prologue: &Part,
-    body: &Part,
+    prologue: &DecodedInstrs,
+    body: &DecodedInstrs,
 ) -> Result<Option<Fault>, AllocError>
     requires order { begin ≤ middle }
     requires order_2 { middle ≤ end }
@@ -96,37 +85,32 @@ fn codes_fault<S: CodeSpace>(
     requires prologue { prologue.now ≡ spec.prologue_of (S.memory space.now) begin end info.now }
     requires body { body.now ≡ spec.body_of (S.memory space.now) begin end info.now }
     ensures { IfOk result (λ o. o
-        ≡ spec.codes_fault (S.memory space.now) routine.now begin end info.now) }
+        ≡ spec.codes_fault (S.memory space.now) probe.now begin end info.now) }
 {
-    let all = gather(alloc, info)?;
-    if all.codes.len() >= 0x1_0000 {
-        return Err(AllocError);
-    }
-    let first = prologue.instructions();
+    let all = ordered_codes(alloc, info)?;
+    let first = prologue.items();
     let ends = ends(alloc, first)?;
-    if !keep_codes(info, &all.codes, &ends) {
-        return Ok(Some(Fault {
-            at: begin,
-            rule: Rule::Codes,
-        }));
-    }
-    if !is_ordered(&all.codes) {
-        return Ok(Some(Fault {
-            at: begin,
-            rule: Rule::Prologue,
-        }));
-    }
-    parts_fault(
-        alloc, space, routine, begin, middle, end, info, &all.codes, &all.steps, prologue, body,
-    )
+    let rule = if !keep_codes(info, &all.codes, &ends) {
+        Rule::Codes
+    } else if !is_ordered(&all.codes) {
+        Rule::Prologue
+    } else {
+        return parts_fault(
+            alloc, space, probe, begin, middle, end, info, &all, prologue, body,
+        );
+    };
+    Ok(Some(Fault { at: begin, rule }))
 }
 
-/// The first fault of an entry, by its range and its infos.
+/// The first fault of an entry: at its first boundary at which a rule fails, the first rule that
+/// does. The entry's code is from `begin` to `end`, `info` is its unwind info and `parents` those
+/// that it is chained to, and `probe` has the bytes of the stack probe. Refused for want of memory
+/// alone.
 #[tactic(auto, unfolding(crate::specs::Faults::entry_fault))]
 pub fn entry_fault<S: CodeSpace>(
     alloc: Global,
     space: &S,
-    routine: &[u8],
+    probe: &[u8],
     begin: u64,
     end: u64,
     info: &Info,
@@ -135,7 +119,7 @@ pub fn entry_fault<S: CodeSpace>(
     requires begin { begin < 2 ^ 63 }
     requires low { end < 2 ^ 63 }
     ensures { IfOk result (λ o. o
-        ≡ spec.entry_fault (S.memory space.now) routine.now begin end info.now parents.now) }
+        ≡ spec.entry_fault (S.memory space.now) probe.now begin end info.now parents.now) }
 {
     let size = info.prologue_size() as u64;
     let middle = begin + size;
@@ -145,9 +129,9 @@ pub fn entry_fault<S: CodeSpace>(
             rule: Rule::Decode,
         }));
     }
-    let prologue = decoded(alloc, space, begin, middle)?;
-    let body = decoded(alloc, space, middle, end)?;
-    if prologue.items.is_empty() && (size != 0 || body.items.is_empty()) {
+    let prologue = decoded_between(alloc, space, begin, middle)?;
+    let body = decoded_between(alloc, space, middle, end)?;
+    if prologue.items().is_empty() && (size != 0 || body.items().is_empty()) {
         return Ok(Some(Fault {
             at: begin,
             rule: Rule::Decode,
@@ -155,7 +139,7 @@ pub fn entry_fault<S: CodeSpace>(
     }
     match parents {
         [] => codes_fault(
-            alloc, space, routine, begin, middle, end, info, &prologue, &body,
+            alloc, space, probe, begin, middle, end, info, &prologue, &body,
         ),
         _ => Ok(Some(Fault {
             at: begin,

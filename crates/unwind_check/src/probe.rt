@@ -1,4 +1,5 @@
-//! The routine that a large allocation calls to touch its pages.
+//! The stack probe that a large allocation calls to touch its pages (Microsoft x64 ABI, "Prolog
+//! code": `__chkstk`).
 
 ghost use Rattle.std.specs.Prelude.{◌≡◌, ◌&&◌, ◌==◌};
 ghost use Rattle.flat_memory.specs.Memory.{executable};
@@ -34,12 +35,12 @@ fn has_bytes<S: CodeSpace>(space: &S, at: u64, bytes: &[u8]) -> bool
 }
 
 /// Whether an instruction, whose next one is at an address, is a call of a routine of these bytes.
-pub fn is_call_of<S: CodeSpace>(space: &S, routine: &[u8], after: u64, instr: &Instr) -> bool
-    ensures { result ≡ spec.is_call_of (S.memory space.now) routine.now after instr.now }
+pub fn is_call_of<S: CodeSpace>(space: &S, probe: &[u8], after: u64, instr: &Instr) -> bool
+    ensures { result ≡ spec.is_call_of (S.memory space.now) probe.now after instr.now }
 {
     match instr {
         Instr::Call(Target::Relative(distance)) => {
-            has_bytes(space, after.wrapping_add(*distance), routine)
+            has_bytes(space, after.wrapping_add(*distance), probe)
         }
         _ => false,
     }
