@@ -63,7 +63,15 @@ fn parts_fault<S: CodeSpace>(
     let whole = prologue.is_whole();
     match prologue_fault(space, probe, begin, info, whole, 0, &codes.steps, first) {
         Some(fault) => Ok(Some(fault)),
-        None => body_fault(alloc, space, info, &codes.codes, body.is_whole(), middle, second),
+        None => body_fault(
+            alloc,
+            space,
+            info,
+            &codes.codes,
+            body.is_whole(),
+            middle,
+            second,
+        ),
     }
 }
 

@@ -34,7 +34,15 @@ pub fn validate<S: CodeSpace>(
         let range = entry.range();
         let begin = range.begin as u64;
         let end = range.end as u64;
-        match entry_fault(alloc, space, probe, begin, end, entry.info(), entry.parents())? {
+        match entry_fault(
+            alloc,
+            space,
+            probe,
+            begin,
+            end,
+            entry.info(),
+            entry.parents(),
+        )? {
             Some(fault) => return Ok(Verdict::No { index, fault }),
             None => {}
         }

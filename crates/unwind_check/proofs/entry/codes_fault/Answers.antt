@@ -15,5 +15,5 @@ ends-requires g c =
     let f = part_fits m c.args.begin (prologue_end c.args.begin c.args.end c.args.info.now)
     (omega (arith, middle, order)) in
     let e = ap (λ (d : Decoded). bytes d.items) c.requires.prologue in
-    let b = ap bytes c.instructions-first.ensures in
+    let b = ap bytes c.items-first.ensures in
     omega (arith, middle, order_2, low, f, e, b)

@@ -15,7 +15,7 @@ prologue_fault-requires g c =
     let f = part_fits m c.args.begin (prologue_end c.args.begin c.args.end c.args.info.now)
     (omega (arith, middle, order)) in
     let e = ap (λ (d : Decoded). bytes d.items) c.requires.prologue in
-    let b = ap bytes c.instructions-first.ensures in
+    let b = ap bytes c.items-first.ensures in
     omega (arith, middle, order_2, low, f, e, b)
 
 pub body_fault-requires-clause-low : goal.body_fault-requires-clause-low
@@ -27,5 +27,5 @@ body_fault-requires-clause-low g c =
     let f = part_fits m (prologue_end c.args.begin c.args.end c.args.info.now) c.args.end
     (omega (arith, middle, order_2)) in
     let e = ap (λ (d : Decoded). bytes d.items) c.requires.body in
-    let b = ap bytes c.instructions-second.ensures in
+    let b = ap bytes c.items-second.ensures in
     omega (arith, middle, low, f, e, b)
