@@ -1,5 +1,5 @@
-use Rattle.unwind_check.proofs.Reached.{at_most}
-use Rattle.unwind_check.proofs.TailSteps.{no_load}
+use Rattle.unwind_check.proofs.FirstPrologues.{kind}
+use Rattle.unwind_check.proofs.FirstBodies.{body_first}
 use Rattle.unwind_check.proofs.laws.first_faults.Goals as goal
 
 pub returns : goal.returns
