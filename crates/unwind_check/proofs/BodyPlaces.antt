@@ -1,5 +1,5 @@
 -- What is known at a place past a prologue.
-use Rattle.std.proofs.Common.{◌≡◌, ◌≢◌, ◌⊎◌, ℕ, zero, suc, ◌+◌, ◌-◌, ◌^◌, ◌<◌, ◌≤◌, Bool, true, false, ◌&&◌, eqb, leb, List, [], ◌∷◌, ◌++◌, length, Option, Some, None, refl, sym, ap, subst, ◌∙◌, arith, inl, inr}
+use Rattle.std.proofs.Common.{◌≡◌, ◌⊎◌, ℕ, zero, suc, ◌+◌, ◌^◌, ◌<◌, ◌≤◌, Bool, true, false, ◌&&◌, eqb, leb, List, [], ◌∷◌, ◌++◌, length, Option, Some, None, refl, sym, ap, subst, ◌∙◌, arith, inl, inr}
 use Rattle.std.proofs.lemmas.Bool.{false≢true, and_parts, and_from, eqb-true, eqb-false, le-leb, leb-true}
 use Rattle.flat_memory.specs.Memory.{Memory}
 use Rattle.x64_instr.specs.declared.instruction.Instr.{Instr}
@@ -8,22 +8,21 @@ use Rattle.eh_tables.specs.Infos.{Info}
 use Rattle.virtual_unwind.specs.Tail.{FetchedInstr, fetched_at}
 use Rattle.frame_rules.specs.Codes.{is_ordered}
 use Rattle.frame_rules.specs.Epilogue.{is_epilogue}
-use Rattle.frame_rules.specs.Body.{written, restored_by, with_restored, are_restored}
+use Rattle.frame_rules.specs.Body.{restored_by, with_restored, are_restored}
 use Rattle.frame_rules.specs.States.{HasItems}
 use Rattle.frame_rules.proofs.Tails.{items_rise}
 use Rattle.unwind_check.specs.declared.rule.Rule.{Rule}
-use Rattle.unwind_check.specs.declared.rule.Rule.TheVariants.{Decode, Chain, Codes, Prologue, StackWrite, Unsaved, Epilogue}
 use Rattle.unwind_check.specs.declared.rule.Fault.{Fault}
-use Rattle.unwind_check.specs.Boundaries.{fault, unless, or_next}
+use Rattle.unwind_check.specs.Boundaries.{fault}
 use Rattle.unwind_check.specs.Codes.{keep_codes}
-use Rattle.unwind_check.specs.Bodies.{keeps_stack, keeps_saved, written_fault, is_own, by_tail, body_from}
-use Rattle.unwind_check.specs.FailingRules.{CodeEntry, body_begin, operations_of, prologue_instrs, tail_there, HasInstr, HasOtherInstr, LacksInstr, loaded_by, IsOwnEpilogue, IsInOwnEpilogue, Fails, place_of, IsFirstOf}
-use Rattle.unwind_check.proofs.Reached.{StandsAt, Beyond, one_there, one_more, not_inside, same_end, same_way, at_most}
+use Rattle.unwind_check.specs.Bodies.{is_own}
+use Rattle.unwind_check.specs.FailingRules.{CodeEntry, body_begin, operations_of, prologue_instrs, tail_there, HasOtherInstr, LacksInstr, loaded_by, IsOwnEpilogue, IsInOwnEpilogue, Fails, place_of, IsFirstOf}
+use Rattle.unwind_check.proofs.Reached.{StandsAt, one_there, one_more, not_inside, same_end, same_way, at_most}
 use Rattle.unwind_check.proofs.TailSteps.{TailStep, tail_step, no_load}
 
 -- ---- numbers and faults
 
-at_or_below : (a b : ℕ) → a ≤ b → (a ≡ b) ⊎ (a < b)
+pub at_or_below : (a b : ℕ) → a ≤ b → (a ≡ b) ⊎ (a < b)
 at_or_below a b le = go (eqb a b) refl
   where
     go : (t : Bool) → eqb a b ≡ t → (a ≡ b) ⊎ (a < b)
@@ -50,9 +49,9 @@ pub is_first : (e : CodeEntry) (at : ℕ) (rule : Rule) (b : ℕ) (r : Rule) →
 is_first e at rule b r le none fails = elim (at_or_below at b le) [
   | inr lt ↦ inl lt
   | inl same ↦ elim (up_to_or_above (place_of rule) (place_of r)) [
-      | inl h ↦ inr (same, h)
-      | inr h ↦ absurd (none r h (subst (λ k. Fails e k r) (sym same) fails))
-    ]
+    | inl h ↦ inr (same, h)
+    | inr h ↦ absurd (none r h (subst (λ k. Fails e k r) (sym same) fails))
+  ]
 ]
 
 same_fault : (x y : Fault) → Some x ≡ Some y → x ≡ y
@@ -206,15 +205,15 @@ module _ (e : CodeEntry) (stop : ℕ) (whole : Bool) (good : HasGoodPrologue e s
                 elim (not_inside m mid p.done at x before o p.reached there h) [
                   | inr far ↦ absurd (omega (arith, far, lt))
                   | inl near ↦ elim (at_or_below o at near) [
-                      | inr below ↦ p.older o before r all fin h below t a s
-                      | inl eq ↦
-                          let t' : tail_there e at ≡ Some r = subst (λ k. tail_there e k ≡ Some r) eq t in
-                          let a' : HasItems m at all fin = subst (λ k. HasItems m k all fin) eq a in
-                          let n' = ap length (same_rest own.rest r (sym own.there ∙ t')) in
-                          let z = own.size in
-                          let f = same_end m at (y ∷ ys) p.end all fin g a' (omega (arith, l, s, n', z)) in
-                          omega (arith, f)
-                    ]
+                    | inr below ↦ p.older o before r all fin h below t a s
+                    | inl eq ↦
+                        let t' : tail_there e at ≡ Some r = subst (λ k. tail_there e k ≡ Some r) eq t in
+                        let a' : HasItems m at all fin = subst (λ k. HasItems m k all fin) eq a in
+                        let n' = ap length (same_rest own.rest r (sym own.there ∙ t')) in
+                        let z = own.size in
+                        let f = same_end m at (y ∷ ys) p.end all fin g a' (omega (arith, l, s, n', z)) in
+                        omega (arith, f)
+                  ]
                 ];
             own = λ z. record {
               opening = own.opening;
@@ -247,12 +246,12 @@ module _ (e : CodeEntry) (stop : ℕ) (whole : Bool) (good : HasGoodPrologue e s
             elim (not_inside m mid p.done at x before o p.reached there h) [
               | inr far ↦ absurd (omega (arith, far, lt))
               | inl near ↦ elim (at_or_below o at near) [
-                  | inr below ↦
-                      let f = p.older o before r all fin h below t a s in
-                      omega (arith, f, here)
-                  | inl eq ↦ absurd (both (tail_there e at) r none
-                      (subst (λ k. tail_there e k ≡ Some r) eq t))
-                ]
+                | inr below ↦
+                    let f = p.older o before r all fin h below t a s in
+                    omega (arith, f, here)
+                | inl eq ↦ absurd (both (tail_there e at) r none
+                    (subst (λ k. tail_there e k ≡ Some r) eq t))
+              ]
             ];
         own = λ z. absurd (omega (arith, z));
       }

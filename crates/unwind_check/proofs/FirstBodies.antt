@@ -1,25 +1,22 @@
 -- The first fault past a prologue.
-use Rattle.std.proofs.Common.{◌≡◌, ◌≢◌, ◌⊎◌, ℕ, zero, suc, ◌+◌, ◌-◌, ◌^◌, ◌<◌, ◌≤◌, Bool, true, false, ◌&&◌, eqb, leb, List, [], ◌∷◌, ◌++◌, length, Option, Some, None, refl, sym, ap, subst, ◌∙◌, arith, inl, inr}
-use Rattle.std.proofs.lemmas.Bool.{false≢true, and_parts, and_from, eqb-true, eqb-false, le-leb, leb-true}
+use Rattle.std.proofs.Common.{◌≡◌, ◌⊎◌, ℕ, zero, suc, ◌+◌, ◌-◌, ◌<◌, ◌≤◌, Bool, true, false, List, [], ◌∷◌, length, Option, Some, None, refl, sym, ap, subst, ◌∙◌, arith, inl, inr}
+use Rattle.std.proofs.lemmas.Bool.{false≢true}
 use Rattle.flat_memory.specs.Memory.{Memory}
 use Rattle.x64_instr.specs.declared.instruction.Instr.{Instr}
 use Rattle.eh_tables.specs.declared.code.UnwindOperation.{UnwindOperation}
 use Rattle.eh_tables.specs.Infos.{Info}
 use Rattle.virtual_unwind.specs.Tail.{FetchedInstr, fetched_at}
-use Rattle.frame_rules.specs.Codes.{is_ordered}
-use Rattle.frame_rules.specs.Epilogue.{is_epilogue}
-use Rattle.frame_rules.specs.Body.{written, restored_by, with_restored, are_restored}
+use Rattle.frame_rules.specs.Body.{written, restored_by, with_restored}
 use Rattle.frame_rules.specs.States.{HasItems}
 use Rattle.frame_rules.proofs.Tails.{items_rise}
 use Rattle.unwind_check.specs.declared.rule.Rule.{Rule}
 use Rattle.unwind_check.specs.declared.rule.Rule.TheVariants.{Decode, Chain, Codes, Prologue, StackWrite, Unsaved, Epilogue}
 use Rattle.unwind_check.specs.declared.rule.Fault.{Fault}
 use Rattle.unwind_check.specs.Boundaries.{fault, unless, or_next}
-use Rattle.unwind_check.specs.Codes.{keep_codes}
-use Rattle.unwind_check.specs.Bodies.{keeps_stack, keeps_saved, written_fault, is_own, by_tail, body_from}
-use Rattle.unwind_check.specs.FailingRules.{CodeEntry, body_begin, operations_of, prologue_instrs, tail_there, HasInstr, HasOtherInstr, LacksInstr, loaded_by, IsOwnEpilogue, IsInOwnEpilogue, Fails, place_of, IsFirstOf}
-use Rattle.unwind_check.proofs.Reached.{StandsAt, Beyond, one_there, one_more, not_inside, same_end, same_way, at_most}
-use Rattle.unwind_check.proofs.TailSteps.{TailStep, tail_step, no_load}
+use Rattle.unwind_check.specs.Bodies.{keeps_stack, keeps_saved, is_own, by_tail, body_from}
+use Rattle.unwind_check.specs.FailingRules.{CodeEntry, body_begin, operations_of, tail_there, HasInstr, Fails, place_of}
+use Rattle.unwind_check.proofs.Reached.{Beyond, one_there}
+use Rattle.unwind_check.proofs.TailSteps.{tail_step}
 use Rattle.unwind_check.proofs.BodyPlaces.{IsBefore, is_first, fault_fails, both, HasGoodPrologue, Passed, some_items, in_epilogue, outside, opened, not_own}
 
 module _ (e : CodeEntry) (stop : ℕ) (whole : Bool) (good : HasGoodPrologue e stop whole) where

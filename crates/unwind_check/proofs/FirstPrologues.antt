@@ -1,10 +1,9 @@
 -- The first fault of a prologue.
-use Rattle.std.proofs.Common.{◌≡◌, ◌⊎◌, ℕ, zero, suc, ◌+◌, ◌-◌, ◌<◌, ◌≤◌, Bool, true, false, ◌&&◌, eqb, ltb, leb, List, [], ◌∷◌, Option, Some, None, refl, sym, ap, subst, ◌∙◌, arith, inl, inr}
+use Rattle.std.proofs.Common.{◌≡◌, ◌⊎◌, ℕ, zero, suc, ◌+◌, ◌<◌, ◌≤◌, Bool, true, false, ◌&&◌, eqb, ltb, leb, List, [], ◌∷◌, Option, Some, None, refl, sym, ap, subst, ◌∙◌, arith, inl, inr}
 use Rattle.std.proofs.lemmas.Bool.{false≢true, and_from, eqb-true, lt-ltb, le-leb}
 use Rattle.flat_memory.specs.Memory.{Memory}
 use Rattle.eh_tables.specs.declared.code.UnwindCode.{UnwindCode}
 use Rattle.virtual_unwind.specs.Tail.{FetchedInstr, fetched_at}
-use Rattle.frame_rules.specs.Prologue.{bytes}
 use Rattle.frame_rules.specs.States.{HasItems}
 use Rattle.frame_rules.specs.Validated.{turned, fits}
 use Rattle.frame_rules.proofs.Tails.{items_rise}

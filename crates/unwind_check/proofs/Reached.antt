@@ -1,5 +1,5 @@
 -- Places that instructions reach one after another.
-use Rattle.std.proofs.Common.{◌≡◌, ◌⊎◌, ℕ, zero, suc, ◌+◌, ◌<◌, ◌≤◌, List, [], ◌∷◌, ◌++◌, length, Option, Some, None, refl, sym, ap, subst, ◌∙◌, arith, inl, inr}
+use Rattle.std.proofs.Common.{◌≡◌, ◌⊎◌, ℕ, ◌+◌, ◌<◌, ◌≤◌, List, [], ◌∷◌, ◌++◌, length, Some, refl, sym, ap, subst, ◌∙◌, arith, inl, inr}
 use Rattle.flat_memory.specs.Memory.{Memory}
 use Rattle.virtual_unwind.specs.Tail.{FetchedInstr, fetched_at}
 use Rattle.frame_rules.specs.States.{HasItems}

@@ -1,5 +1,5 @@
 -- The trailing part of an epilogue, past its first instruction.
-use Rattle.std.proofs.Common.{◌≡◌, ◌≢◌, ◌⊎◌, ℕ, zero, suc, ◌+◌, ◌-◌, ◌%◌, ◌^◌, ◌<◌, ◌≤◌, Bool, true, false, List, [], ◌∷◌, Option, Some, None, refl, sym, ap, subst, ◌∙◌, arith, inl, inr}
+use Rattle.std.proofs.Common.{◌≡◌, ◌≢◌, ℕ, zero, suc, ◌+◌, ◌%◌, ◌^◌, ◌<◌, ◌≤◌, Bool, true, false, List, [], ◌∷◌, Option, Some, None, refl, sym, ap, subst, ◌∙◌, arith, inl, inr}
 use Rattle.std.proofs.lemmas.Bool.{false≢true}
 use Rattle.flat_memory.specs.Memory.{Memory}
 use Rattle.seh_num.specs.declared.width.Width.TheVariants.{W64}
@@ -13,7 +13,7 @@ use Rattle.virtual_unwind.specs.declared.tail.Role.TheVariants.{Opens, Restores,
 use Rattle.virtual_unwind.specs.Tail.{FetchedInstr, fetched_at, role_of, prepend_instr, by_role, from_item, tail, tail_at}
 use Rattle.frame_rules.specs.Body.{restored_by}
 use Rattle.frame_rules.specs.States.{is_other}
-use Rattle.unwind_check.proofs.Tails.{is_opens, is_restores, taken, Taken, Stops, Goes}
+use Rattle.unwind_check.proofs.Tails.{is_opens, is_restores, taken, Taken}
 
 -- one that may come later may come first, and may be read on further
 pub wider : (j n : ℕ) (first : Bool) (f : ℕ) (m : Memory) (at : ℕ) (is : List Instr) → j ≤ n
@@ -84,9 +84,9 @@ tail_step f m at x is low there h = go (taken 0xFFFF_FFFF_FFFF_FFFF 0xFFFF_FFFF_
       role = elim t.how [
         | inl s ↦ ap is_other s.0
         | inr g ↦ elim g.0 [
-            | inl r ↦ restores_other (role_of f x.plain x.instr) r
-            | inr r ↦ opens_other (role_of f x.plain x.instr) r
-          ]
+          | inl r ↦ restores_other (role_of f x.plain x.instr) r
+          | inr r ↦ opens_other (role_of f x.plain x.instr) r
+        ]
       ];
       next = λ ne. elim t.how [
         | inl s ↦ absurd (ne s.1)
