@@ -11,12 +11,11 @@ use Rattle.frame_rules.proofs.Tails.{items_rise}
 use Rattle.unwind_check.specs.declared.rule.Rule.{Rule}
 use Rattle.unwind_check.specs.declared.rule.Rule.TheVariants.{Decode, Chain, Codes, Prologue, StackWrite, Unsaved, Epilogue}
 use Rattle.unwind_check.specs.declared.rule.Fault.{Fault}
-use Rattle.unwind_check.specs.Boundaries.{fault, unless, or_next, is_some}
+use Rattle.unwind_check.specs.Boundaries.{IsBoundary, fault, unless, or_next, is_some}
 use Rattle.unwind_check.specs.Codes.{keep_codes}
 use Rattle.unwind_check.specs.Bodies.{body_from}
 use Rattle.unwind_check.specs.Faults.{prologue_end, prologue_of, body_of, site, begins, parts_fault, codes_fault, entry_fault}
-use Rattle.unwind_check.specs.Laws.{IsBoundary}
-use Rattle.unwind_check.specs.FailingRules.{CodeEntry, body_begin, operations_of, prologue_instrs, HasInstr, Fails, FailsDecode, place_of, AreFaults, FaultsAreFirst}
+use Rattle.unwind_check.specs.FailingRules.{CodeEntry, body_begin, operations_of, prologue_instrs, HasInstr, Fails, FailsDecode, place_of, KeepsRules, AreFaults, FaultsAreFirst}
 use Rattle.unwind_check.proofs.Boundaries.{Stopped, stopped, faults_are_at_boundaries}
 use Rattle.unwind_check.proofs.Reached.{StandsAt, beyond, within}
 use Rattle.unwind_check.proofs.Stepped.{stepped}
@@ -460,3 +459,13 @@ module _ (e : CodeEntry) (rise : e.begin < e.to) (low : e.to < 2 ^ 63) where
 
 pub faults_are_first : FaultsAreFirst
 faults_are_first e rise low = answer e rise low
+
+-- where no rule fails no fault is given
+pub kept_none : (e : CodeEntry) → e.begin < e.to → e.to < 2 ^ 63 → KeepsRules e
+    → entry_fault e.memory e.probe e.begin e.to e.info e.parents ≡ None
+kept_none e rise low keeps = go (entry_fault e.memory e.probe e.begin e.to e.info e.parents)
+    (faults_are_first e rise low)
+  where
+    go : (o : Option Fault) → AreFaults e o → o ≡ None
+    go None a = refl
+    go (Some f) a = absurd (keeps f.at f.rule a.boundary a.fails)

@@ -1,16 +1,21 @@
 -- The entries of a table that was read whole, one by one.
-use Rattle.std.proofs.Common.{◌≡◌, ℕ, zero, suc, ◌+◌, ◌<◌, ◌≤◌, Option, Ok, Err, List, [], ◌∷◌, length, drop, get_or, refl, sym, ap, ◌∙◌, arith}
+use Rattle.std.proofs.Common.{◌≡◌, ℕ, zero, suc, ◌+◌, ◌^◌, ◌<◌, ◌≤◌, Bool, true, false, Option, Ok, Err, List, [], ◌∷◌, ◌++◌, length, take, drop, get_or, refl, sym, ap, subst, ◌∙◌, arith}
+use Rattle.std.specs.Prelude.{nat_le, nat_lt}
+use Rattle.std.proofs.lemmas.Bool.{ltb-true}
+use Rattle.std.proofs.lemmas.List.Elements.{All-append, All-nil, All-cons}
 use Rattle.eh_tables.specs.declared.range.RuntimeFunction.{RuntimeFunction}
-use Rattle.eh_tables.specs.Infos.{Info}
+use Rattle.eh_tables.specs.Infos.{Info, info}
+use Rattle.eh_tables.specs.declared.layout.TheConstants.{MOST_PARENTS}
+use Rattle.eh_tables.specs.declared.refusal.TableErr.TheVariants as refusals
 use Rattle.eh_tables.specs.declared.refusal.TableErr.{TableErr}
-use Rattle.seh_num.specs.Answers.{◌>>=◌, prepend}
+use Rattle.seh_num.specs.Answers.{◌>>=◌, unless, prepend}
 use Rattle.eh_tables.specs.Answer.{Table}
-use Rattle.flat_memory.specs.Memory.{Memory}
-use Rattle.eh_tables.specs.Tables.{Entry, Tables, entry, entry_at, no_range, end_before, entries, entries_of, TablesAreWhole}
+use Rattle.eh_tables.specs.Tables.{Entry, Tables, entry, entry_at, parents, no_range, end_before, entries, entries_of, TablesAreWhole}
 use Rattle.unwind_check.specs.declared.rule.Fault.{Fault}
-use Rattle.unwind_check.specs.declared.rule.Verdict.{Verdict}
-use Rattle.unwind_check.specs.declared.rule.Verdict.TheVariants.{Yes}
-use Rattle.unwind_check.specs.Faults.{entry_fault, or_fault, verdict_from}
+use Rattle.unwind_check.specs.Faults.{entry_fault}
+use Rattle.unwind_check.specs.FailingRules.{KeepsRules, AreFaults}
+use Rattle.unwind_check.specs.Verdicts.{ImageCode, entry_in, AllKeepRules}
+use Rattle.unwind_check.proofs.FirstFaults.{faults_are_first}
 
 record Split (ts : Tables) (index last : ℕ) (r : RuntimeFunction) (rs : List RuntimeFunction)
     (es : List Entry) : Type 0 where
@@ -107,31 +112,110 @@ at t k w lt =
       all = s.all;
     }
 
-abbrev pub left_from : Memory → List ℕ → Tables → ℕ → Verdict
-left_from m probe t k = verdict_from m probe k (drop k (entries_of t))
+-- ---- what an entry that is read says
 
--- the entry of an index, and those after it
-pub by_fault : (m : Memory) (probe : List ℕ) (t : Tables) (k : ℕ) (e : Entry)
-    (r : RuntimeFunction) (i : Info) (ps : List Info) (o : Option Fault)
-    → TablesAreWhole t → k < length t.ranges → Ok e ≡ entry_at t k
-    → r ≡ e.range → i ≡ e.info → ps ≡ e.parents → o ≡ entry_fault m probe r.begin r.end i ps
-    → left_from m probe t k ≡ or_fault (left_from m probe t (k + 1)) k o
-by_fault m probe t k e r i ps o w lt is range info parents f =
+record Given {A B : Type 0} (t : Table A) (f : A → Table B) (y : B) : Type 0 where
+  value : A
+  first : t ≡ Ok value
+  then : f value ≡ Ok y
+
+given : {A B : Type 0} (t : Table A) (f : A → Table B) (y : B) → t >>= f ≡ Ok y → Given t f y
+given (Ok x) f y h = record { value = x; first = refl; then = h }
+given (Err e) f y h = cc
+
+holds_then : (b : Bool) (e : TableErr) (u : Unit {0}) → unless b e ≡ Ok u → b ≡ true
+holds_then true e u h = refl
+holds_then false e u h = cc
+
+-- its range isn't empty
+some_bytes : (ts : Tables) (index last : ℕ) (r : RuntimeFunction) (e : Entry)
+    → entry ts.image index last r ≡ Ok e → r.begin < r.end
+unfolding entry
+some_bytes ts index last r e h =
+    let one = given (unless (nat_lt r.begin r.end) (refusals.EmptyRange index)) _ e h in
+    ltb-true r.begin r.end (holds_then (nat_lt r.begin r.end) (refusals.EmptyRange index) one.value
+    one.first)
+
+range_of : (ts : Tables) (index last : ℕ) (r : RuntimeFunction) (e : Entry)
+    → entry ts.image index last r ≡ Ok e → e.range ≡ r
+unfolding entry
+range_of ts index last r e h =
+    let one = given (unless (nat_lt r.begin r.end) (refusals.EmptyRange index)) _ e h in
+    let two = given (unless (nat_le last r.begin) (refusals.Unsorted index)) _ e one.then in
+    let three = given (info ts.image index r.unwind_info) _ e two.then in
+    let four = given (parents MOST_PARENTS ts.image index three.value.parent) _ e three.then in
+    same (record { range = r; info = three.value; parents = four.value }) e four.then
+  where
+    same : (d e : Entry) → (let t : Table Entry = Ok d in t) ≡ Ok e → e.range ≡ d.range
+    same d e h = let g : d ≡ e = cc in ap (λ (x : Entry). x.range) (sym g)
+
+-- ---- the rules, entry by entry
+
+-- what is said of the entry of an index
+pub says_of : (c : ImageCode) (t : Tables) (k : ℕ) (e : Entry) (r : RuntimeFunction) (i : Info)
+    (ps : List Info) (o : Option Fault) → Ok e ≡ entry_at t k → r ≡ e.range → i ≡ e.info
+    → ps ≡ e.parents → r.end < 2 ^ 63 → o ≡ entry_fault c.memory c.probe r.begin r.end i ps
+    → AreFaults (entry_in c e) o
+says_of c t k e r i ps o is range info parents low f =
+    let q = get_or t.ranges k no_range in
+    let some = some_bytes t k (end_before t.ranges k) q e (sym is) in
+    let same = range_of t k (end_before t.ranges k) q e (sym is) in
+    let rise : e.range.begin < e.range.end = subst (λ (p : RuntimeFunction). p.begin < p.end) (sym same)
+    some in
+    let here : entry_fault c.memory c.probe e.range.begin e.range.end e.info e.parents ≡ o =
+    ap (λ (r : RuntimeFunction). entry_fault c.memory c.probe r.begin r.end e.info e.parents)
+    (sym range)
+    ∙ ap (λ (i : Info). entry_fault c.memory c.probe r.begin r.end i e.parents) (sym info)
+    ∙ ap (λ (ps : List Info). entry_fault c.memory c.probe r.begin r.end i ps) (sym parents)
+    ∙ sym f in
+    subst (AreFaults (entry_in c e)) here (faults_are_first (entry_in c e) rise
+    (subst (λ (p : RuntimeFunction). p.end < 2 ^ 63) range low))
+
+-- the entry of an index in the list of all
+pub record IsEntryOf (es : List Entry) (k : ℕ) (e : Entry) : Type 0 where
+  pub parts : es ≡ take k es ++ (e ∷ drop (suc k) es)
+  pub next : take (suc k) es ≡ take k es ++ (e ∷ [])
+  pub count : length (take k es) ≡ k
+
+entry_of : (es : List Entry) (k : ℕ) (e : Entry) → drop k es ≡ e ∷ drop (suc k) es
+    → IsEntryOf es k e
+entry_of [] zero e h = cc
+entry_of [] (suc k) e h = cc
+entry_of (x ∷ es) zero e h =
+    let same : x ≡ e = cc in
+    record {
+      parts = ap (λ (y : Entry). y ∷ es) same;
+      next = ap (λ (y : Entry). y ∷ []) same;
+      count = refl;
+    }
+entry_of (x ∷ es) (suc k) e h =
+    let r = entry_of es k e h in
+    let n = r.count in
+    record {
+      parts = ap (λ (ys : List Entry). x ∷ ys) r.parts;
+      next = ap (λ (ys : List Entry). x ∷ ys) r.next;
+      count = omega (arith, n);
+    }
+
+pub is_entry_of : (t : Tables) (k : ℕ) (e : Entry) → TablesAreWhole t → k < length t.ranges
+    → Ok e ≡ entry_at t k → IsEntryOf (entries_of t) k e
+is_entry_of t k e w lt is =
     let s = at t k w lt in
-    let n : suc k ≡ k + 1 = omega arith in
     let same : s.entry ≡ e = one (sym s.is ∙ sym is) in
-    let here : entry_fault m probe e.range.begin e.range.end e.info e.parents ≡ o =
-    ap (λ (r : RuntimeFunction). entry_fault m probe r.begin r.end e.info e.parents) (sym range)
-    ∙ ap (λ (i : Info). entry_fault m probe r.begin r.end i e.parents) (sym info)
-    ∙ ap (λ (ps : List Info). entry_fault m probe r.begin r.end i ps) (sym parents) ∙ sym f in
-    ap (verdict_from m probe k) s.all
-    ∙ ap (λ (x : Entry). verdict_from m probe k (x ∷ drop (suc k) (entries_of t))) same
-    ∙ ap (λ j. or_fault (verdict_from m probe (k + 1) (drop j (entries_of t))) k
-    (entry_fault m probe e.range.begin e.range.end e.info e.parents)) n
-    ∙ ap (or_fault (left_from m probe t (k + 1)) k) here
+    entry_of (entries_of t) k e
+    (s.all ∙ ap (λ (x : Entry). x ∷ drop (suc k) (entries_of t)) same)
   where
     one : {x y : Entry} → (let t : Table Entry = Ok x in t) ≡ Ok y → x ≡ y
     one e = cc
+
+-- one more that keeps the rules
+pub one_more : (c : ImageCode) (es : List Entry) (k : ℕ) (e : Entry) → IsEntryOf es k e
+    → AllKeepRules c (take k es) → KeepsRules (entry_in c e) → AllKeepRules c (take (k + 1) es)
+one_more c es k e is all keeps =
+    let n : suc k ≡ k + 1 = omega arith in
+    subst (AllKeepRules c) (sym is.next ∙ ap (λ j. take j es) n)
+    (All-append (λ e. KeepsRules (entry_in c e)) (take k es) (e ∷ []) all
+    (All-cons (λ e. KeepsRules (entry_in c e)) e [] keeps (All-nil (λ e. KeepsRules (entry_in c e)))))
 
 pub entry_refused : (t : Tables) (k : ℕ) (x : TableErr) → TablesAreWhole t → k < length t.ranges
     → Err x ≡ entry_at t k → ⊥
@@ -140,7 +224,26 @@ entry_refused t k x w lt is = let s = at t k w lt in never (sym s.is ∙ sym is)
     never : {e : Entry} → (let t : Table Entry = Ok e in t) ≡ Err x → ⊥
     never h = cc
 
-pub none_left : (m : Memory) (probe : List ℕ) (t : Tables) (k : ℕ) → TablesAreWhole t
-    → length t.ranges ≤ k → left_from m probe t k ≡ Yes k
-none_left m probe t k w le = ap (verdict_from m probe k)
-    (over t 0 0 t.ranges (entries_of t) k w.whole le)
+-- past the last
+all_taken : (es : List Entry) (k : ℕ) → length es ≤ k → take k es ≡ es
+all_taken [] zero le = refl
+all_taken [] (suc k) le = refl
+all_taken (x ∷ es) zero le = absurd (omega (arith, le))
+all_taken (x ∷ es) (suc k) le =
+    ap (λ (ys : List Entry). x ∷ ys) (all_taken es k (omega (arith, le)))
+
+as_many : (ts : Tables) (index last : ℕ) (rs : List RuntimeFunction) (es : List Entry)
+    → entries ts.image index last rs ≡ Ok es → length es ≡ length rs
+as_many ts index last [] es h = let e : es ≡ [] = cc in ap length e
+as_many ts index last (r ∷ rs) es h =
+    let s = split ts index last r rs es h in
+    ap length s.all ∙ ap (λ k. suc k) (as_many ts (index + 1) r.end rs s.rest s.others)
+
+pub all_keep : (c : ImageCode) (t : Tables) (k : ℕ) → TablesAreWhole t → length t.ranges ≤ k
+    → AllKeepRules c (take k (entries_of t))
+    → AllKeepRules c (entries_of t) × (length (entries_of t) ≡ length t.ranges)
+all_keep c t k w le all =
+    let n = as_many t 0 0 t.ranges (entries_of t) w.whole in (
+      subst (AllKeepRules c) (all_taken (entries_of t) k (omega (arith, n, le))) all,
+      n,
+    )

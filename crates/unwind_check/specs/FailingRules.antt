@@ -15,11 +15,11 @@ use Rattle.frame_rules.specs.Validated.{turned, fits}
 use Rattle.unwind_check.specs.declared.rule.Rule.{Rule}
 use Rattle.unwind_check.specs.declared.rule.Rule.TheVariants.{Decode, Chain, Codes, Prologue, StackWrite, Unsaved, Epilogue}
 use Rattle.unwind_check.specs.declared.rule.Fault.{Fault}
+use Rattle.unwind_check.specs.Boundaries.{IsBoundary}
 use Rattle.unwind_check.specs.Codes.{keep_codes}
 use Rattle.unwind_check.specs.Prologues.{Site, is_probed}
 use Rattle.unwind_check.specs.Bodies.{keeps_stack, keeps_saved}
 use Rattle.unwind_check.specs.Faults.{prologue_of, site, entry_fault}
-use Rattle.unwind_check.specs.Laws.{IsBoundary}
 
 -- an entry: the memory of its code, the bytes of the stack probe, its range, its unwind info, and
 -- those that this is chained to
@@ -194,9 +194,12 @@ pub record IsLeastFault (e : CodeEntry) (f : Fault) : Type 0 where
   pub first : (at : ℕ) (r : Rule) → IsBoundary e.memory e.begin e.to at → Fails e at r
       → IsFirstOf f at r
 
--- no rule fails at any boundary, or this is the first fault
+-- no rule fails at any boundary
+abbrev pub KeepsRules : CodeEntry → Type 0
+KeepsRules e = (at : ℕ) (r : Rule) → IsBoundary e.memory e.begin e.to at → Fails e at r → ⊥
+
 abbrev pub AreFaults : CodeEntry → Option Fault → Type 0
-AreFaults e None = (at : ℕ) (r : Rule) → IsBoundary e.memory e.begin e.to at → Fails e at r → ⊥
+AreFaults e None = KeepsRules e
 AreFaults e (Some f) = IsLeastFault e f
 
 -- the first fault of an entry is the first boundary and the first rule that fails there

@@ -14,7 +14,6 @@ use x64_memory::space::CodeSpace;
 /// does, with its first fault. `space` is the image's own memory, from the image's first byte at
 /// address 0 on, so that its addresses are RVAs: the image needs no place. `probe` has the bytes
 /// of the stack probe, `__chkstk`. Refused for want of memory alone.
-#[tactic(auto, using(crate::proofs::Verdicts::says_of))]
 pub fn validate<S: CodeSpace>(
     alloc: Global,
     space: &S,

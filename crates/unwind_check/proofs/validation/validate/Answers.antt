@@ -1,10 +1,8 @@
-use Rattle.std.proofs.Common.{◌≡◌, ◌+◌, ◌<◌, ◌≤◌, length, sym, ap, ◌∙◌, arith}
+use Rattle.std.proofs.Common.{◌<◌, ◌≤◌, length, take, drop, suc, sym, subst, ◌∙◌, arith}
 use Rattle.eh_tables.specs.Tables.{entries_of}
-use Rattle.unwind_check.specs.declared.rule.Verdict.{Verdict}
-use Rattle.unwind_check.specs.declared.rule.Verdict.TheVariants.{Yes, No}
-use Rattle.unwind_check.specs.Faults.{or_fault}
-use Rattle.unwind_check.proofs.TableEntries.{left_from, by_fault, entry_refused, none_left}
-use Rattle.unwind_check.proofs.Verdicts.{says_of}
+use Rattle.unwind_check.specs.FailingRules.{AreFaults}
+use Rattle.unwind_check.specs.Verdicts.{ImageCode, entry_in}
+use Rattle.unwind_check.proofs.TableEntries.{says_of, is_entry_of, one_more, entry_refused, all_keep}
 use Rattle.unwind_check.proofs.validation.validate.Goals as goal
 
 pub loop-index-preserved-in_default : goal.loop-index-preserved-in_default
@@ -16,40 +14,58 @@ loop-index-preserved-in_default g c =
 
 pub returns-in-Some : goal.returns-in-Some
 returns-in-Some g c =
-    let m = g.S.CodeSpace.memory c.args.space.now in
+    let code : ImageCode = record {
+      memory = g.S.CodeSpace.memory c.args.space.now;
+      probe = c.args.probe.now;
+    } in
     let t = c.args.tables.now in
     let k = c.loop-index.index in
+    let e = c.in-Ok.entry in
     let lt : k < length t.ranges = omega
     (arith, c.loop-index-test.true, c.len-index-end.ensures) in
-    says_of (record { memory = m; probe = c.args.probe.now }) (entries_of t) (No k c.in-Some.fault)
-    (sym (ap (or_fault (left_from m c.args.probe.now t (k + 1)) k) c.in-Some.is)
-    ∙ sym (by_fault m c.args.probe.now t k c.in-Ok.entry c.range-range.result c.info.result.now
-    c.parents.result.now c.in_ok-fault.field-0 c.requires lt c.in-Ok.ensures c.range-range.ensures
-    c.info.ensures c.parents.ensures c.in_ok-fault.ensures) ∙ c.loop-index.invariant.same)
+    let is = is_entry_of t k e c.requires lt c.in-Ok.ensures in
+    let says = says_of code t k e c.range-range.result c.info.result.now c.parents.result.now
+    c.in_ok-fault.field-0 c.in-Ok.ensures c.range-range.ensures c.info.ensures c.parents.ensures (omega (arith, c.range-range.type_inv.1.1.1.0.1))
+    c.in_ok-fault.ensures in
+    record {
+      before = take k (entries_of t);
+      entry = e;
+      after = drop (suc k) (entries_of t);
+      parts = is.parts;
+      index = is.count;
+      keep = c.loop-index.invariant.keep;
+      least = subst (AreFaults (entry_in code e)) c.in-Some.is says;
+    }
 
 pub loop-index-preserved : goal.loop-index-preserved
 loop-index-preserved g c =
-    let m = g.S.CodeSpace.memory c.args.space.now in
+    let code : ImageCode = record {
+      memory = g.S.CodeSpace.memory c.args.space.now;
+      probe = c.args.probe.now;
+    } in
     let t = c.args.tables.now in
     let k = c.loop-index.index in
+    let e = c.in-Ok.entry in
     let lt : k < length t.ranges = omega
     (arith, c.loop-index-test.true, c.len-index-end.ensures) in
+    let is = is_entry_of t k e c.requires lt c.in-Ok.ensures in
+    let says = says_of code t k e c.range-range.result c.info.result.now c.parents.result.now
+    c.in_ok-fault.field-0 c.in-Ok.ensures c.range-range.ensures c.info.ensures c.parents.ensures (omega (arith, c.range-range.type_inv.1.1.1.0.1))
+    c.in_ok-fault.ensures in
     record {
       most = omega (arith, lt);
-      same = sym (ap (or_fault (left_from m c.args.probe.now t (k + 1)) k) c.in-None.is)
-          ∙ sym (by_fault m c.args.probe.now t k c.in-Ok.entry c.range-range.result c.info.result.now
-          c.parents.result.now c.in_ok-fault.field-0 c.requires lt c.in-Ok.ensures c.range-range.ensures
-          c.info.ensures c.parents.ensures c.in_ok-fault.ensures) ∙ c.loop-index.invariant.same;
+      keep = one_more code (entries_of t) k e is c.loop-index.invariant.keep
+          (subst (AreFaults (entry_in code e)) c.in-None.is says);
     }
 
 pub returns : goal.returns
 returns g c =
-    let m = g.S.CodeSpace.memory c.args.space.now in
+    let code : ImageCode = record {
+      memory = g.S.CodeSpace.memory c.args.space.now;
+      probe = c.args.probe.now;
+    } in
     let t = c.args.tables.now in
     let k = c.loop-index.index in
-    let most = c.loop-index.invariant.most in
     let over : length t.ranges ≤ k = omega (arith, c.loop-index-test.false, c.len-index-end.ensures) in
-    let count : c.len.result ≡ k = omega (arith, over, most, c.len.ensures) in
-    says_of (record { memory = m; probe = c.args.probe.now }) (entries_of t) (Yes c.len.result)
-    (ap (λ n. let v : Verdict = Yes n in v) count
-    ∙ sym (none_left m c.args.probe.now t k c.requires over) ∙ c.loop-index.invariant.same)
+    let all = all_keep code t k c.requires over c.loop-index.invariant.keep in
+    (all.0, all.1 ∙ sym c.len.ensures)

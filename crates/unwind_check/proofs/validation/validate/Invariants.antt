@@ -1,12 +1,11 @@
-use Rattle.std.proofs.Common.{◌≡◌, ◌≤◌, length}
+use Rattle.std.proofs.Common.{◌≤◌, length, take}
 use Rattle.eh_tables.specs.Tables.{entries_of}
-use Rattle.unwind_check.specs.Faults.{verdict_from}
-use Rattle.unwind_check.proofs.TableEntries.{left_from}
+use Rattle.unwind_check.specs.Verdicts.{AllKeepRules}
 use Rattle.unwind_check.proofs.validation.validate.Given as goal
 
 abbrev pub invariant-loop-index : goal.invariant-loop-index
 invariant-loop-index g l = record {
   most : l.index ≤ length l.tables.ranges;
-  same : left_from (g.S.CodeSpace.memory l.space) l.probe l.tables l.index
-      ≡ verdict_from (g.S.CodeSpace.memory l.space) l.probe 0 (entries_of l.tables);
+  keep : AllKeepRules (record { memory = g.S.CodeSpace.memory l.space; probe = l.probe })
+      (take l.index (entries_of l.tables));
 }
