@@ -13,8 +13,8 @@ use Rattle.eh_tables.specs.Answer.{Table}
 use Rattle.eh_tables.specs.Tables.{Entry, Tables, entry, entry_at, parents, no_range, end_before, entries, entries_of, TablesAreWhole}
 use Rattle.unwind_check.specs.declared.rule.Fault.{Fault}
 use Rattle.unwind_check.specs.Faults.{entry_fault}
-use Rattle.unwind_check.specs.FailingRules.{KeepsRules, AreFaults}
-use Rattle.unwind_check.specs.Verdicts.{ImageCode, entry_in, AllKeepRules}
+use Rattle.unwind_check.specs.FailingRules.{AreFaults}
+use Rattle.unwind_check.specs.Verdicts.{ImageCode, entry_in, IsKept, AllAreKept}
 use Rattle.unwind_check.proofs.FirstFaults.{faults_are_first}
 
 record Split (ts : Tables) (index last : ℕ) (r : RuntimeFunction) (rs : List RuntimeFunction)
@@ -85,17 +85,6 @@ entry_is_at ts index last (r ∷ rs) es (suc k) j h lt e =
       all = ap (drop (suc k)) s.all ∙ rest.all
           ∙ ap (λ (t : List Entry). rest.entry ∷ t) (sym (ap (drop (suc (suc k))) s.all));
     }
-
-over : (ts : Tables) (index last : ℕ) (rs : List RuntimeFunction) (es : List Entry) (k : ℕ)
-    → entries ts.image index last rs ≡ Ok es → length rs ≤ k → drop k es ≡ []
-over ts index last [] es k h le = let e : es ≡ [] = cc in ap (drop k) e ∙ nothing k
-  where
-    nothing : (k : ℕ) → (let l : List Entry = [] in drop k l) ≡ []
-    nothing zero = refl
-    nothing (suc k) = refl
-over ts index last (r ∷ rs) es zero h le = absurd (omega arith)
-over ts index last (r ∷ rs) es (suc k) h le = let s = split ts index last r rs es h in
-    ap (drop (suc k)) s.all ∙ over ts (index + 1) r.end rs s.rest k s.others (omega arith)
 
 first_end : (t : Tables) (k : ℕ) → end_from 0 t.ranges k ≡ end_before t.ranges k
 first_end t zero = refl
@@ -210,12 +199,12 @@ is_entry_of t k e w lt is =
 
 -- one more that keeps the rules
 pub one_more : (c : ImageCode) (es : List Entry) (k : ℕ) (e : Entry) → IsEntryOf es k e
-    → AllKeepRules c (take k es) → KeepsRules (entry_in c e) → AllKeepRules c (take (k + 1) es)
+    → AllAreKept c (take k es) → IsKept c e → AllAreKept c (take (k + 1) es)
 one_more c es k e is all keeps =
     let n : suc k ≡ k + 1 = omega arith in
-    subst (AllKeepRules c) (sym is.next ∙ ap (λ j. take j es) n)
-    (All-append (λ e. KeepsRules (entry_in c e)) (take k es) (e ∷ []) all
-    (All-cons (λ e. KeepsRules (entry_in c e)) e [] keeps (All-nil (λ e. KeepsRules (entry_in c e)))))
+    subst (AllAreKept c) (sym is.next ∙ ap (λ j. take j es) n)
+    (All-append (IsKept c) (take k es) (e ∷ []) all
+    (All-cons (IsKept c) e [] keeps (All-nil (IsKept c))))
 
 pub entry_refused : (t : Tables) (k : ℕ) (x : TableErr) → TablesAreWhole t → k < length t.ranges
     → Err x ≡ entry_at t k → ⊥
@@ -240,10 +229,10 @@ as_many ts index last (r ∷ rs) es h =
     ap length s.all ∙ ap (λ k. suc k) (as_many ts (index + 1) r.end rs s.rest s.others)
 
 pub all_keep : (c : ImageCode) (t : Tables) (k : ℕ) → TablesAreWhole t → length t.ranges ≤ k
-    → AllKeepRules c (take k (entries_of t))
-    → AllKeepRules c (entries_of t) × (length (entries_of t) ≡ length t.ranges)
+    → AllAreKept c (take k (entries_of t))
+    → AllAreKept c (entries_of t) × (length (entries_of t) ≡ length t.ranges)
 all_keep c t k w le all =
     let n = as_many t 0 0 t.ranges (entries_of t) w.whole in (
-      subst (AllKeepRules c) (all_taken (entries_of t) k (omega (arith, n, le))) all,
+      subst (AllAreKept c) (all_taken (entries_of t) k (omega (arith, n, le))) all,
       n,
     )

@@ -1,6 +1,6 @@
 //! All rules on an entry of a function table.
 
-ghost use Rattle.std.specs.Prelude.{◌≡◌, ◌≤◌, ◌<◌, ◌^◌, [], IfOk};
+ghost use Rattle.std.specs.Prelude.{◌≡◌, ◌≤◌, ◌<◌, ◌^◌, [], IfOk, IfNone};
 ghost use Rattle.frame_rules.specs.Validated.{turned};
 ghost use Rattle.unwind_check.specs.Faults as spec;
 
@@ -55,13 +55,26 @@ fn parts_fault<S: CodeSpace>(
     requires middle { middle ≡ spec.prologue_end begin end info.now }
     requires prologue { prologue.now ≡ spec.prologue_of (S.memory space.now) begin end info.now }
     requires body { body.now ≡ spec.body_of (S.memory space.now) begin end info.now }
-    ensures { IfOk result (λ o. o
+    ensures fault { IfOk result (λ o. o
         ≡ spec.parts_fault (S.memory space.now) probe.now begin end info.now) }
+    ensures near { info.now.frame_offset < 2 ^ 8 }
 {
+    let frame = info.frame_register();
+    let offset = info.frame_offset() as u64;
     let first = prologue.items();
     let second = body.items();
     let whole = prologue.is_whole();
-    match prologue_fault(space, probe, begin, info, whole, 0, &codes.steps, first) {
+    match prologue_fault(
+        space,
+        probe,
+        begin,
+        frame,
+        offset,
+        whole,
+        0,
+        &codes.steps,
+        first,
+    ) {
         Some(fault) => Ok(Some(fault)),
         None => body_fault(
             alloc,
@@ -92,8 +105,9 @@ fn codes_fault<S: CodeSpace>(
     requires middle { middle ≡ spec.prologue_end begin end info.now }
     requires prologue { prologue.now ≡ spec.prologue_of (S.memory space.now) begin end info.now }
     requires body { body.now ≡ spec.body_of (S.memory space.now) begin end info.now }
-    ensures { IfOk result (λ o. o
+    ensures fault { IfOk result (λ o. o
         ≡ spec.codes_fault (S.memory space.now) probe.now begin end info.now) }
+    ensures near { IfOk result (λ o. IfNone o (info.now.frame_offset < 2 ^ 8)) }
 {
     let all = ordered_codes(alloc, info)?;
     let first = prologue.items();
@@ -126,8 +140,9 @@ pub fn entry_fault<S: CodeSpace>(
 ) -> Result<Option<Fault>, AllocError>
     requires begin { begin < 2 ^ 63 }
     requires low { end < 2 ^ 63 }
-    ensures { IfOk result (λ o. o
+    ensures fault { IfOk result (λ o. o
         ≡ spec.entry_fault (S.memory space.now) probe.now begin end info.now parents.now) }
+    ensures near { IfOk result (λ o. IfNone o (info.now.frame_offset < 2 ^ 8)) }
 {
     let size = info.prologue_size() as u64;
     let middle = begin + size;
