@@ -68,7 +68,7 @@ both o is a b = absurd cc
 same_rest : (is js : List Instr) → Some is ≡ Some js → is ≡ js
 same_rest is js e = cc
 
--- ---- what is known of an entry past whose prologue no rule has failed, and of where decoding stops
+-- ---- what is known of an entry in whose prologue no rule fails, and of where decoding stops
 
 pub record HasGoodPrologue (e : CodeEntry) (stop : ℕ) (whole : Bool) : Type 0 where
   pub low : e.to < 2 ^ 63
@@ -207,11 +207,13 @@ module _ (e : CodeEntry) (stop : ℕ) (whole : Bool) (good : HasGoodPrologue e s
                   | inl near ↦ elim (at_or_below o at near) [
                     | inr below ↦ p.older o before r all fin h below t a s
                     | inl eq ↦
-                        let t' : tail_there e at ≡ Some r = subst (λ k. tail_there e k ≡ Some r) eq t in
+                        let t' : tail_there e at ≡ Some r = subst (λ k. tail_there e k
+                        ≡ Some r) eq t in
                         let a' : HasItems m at all fin = subst (λ k. HasItems m k all fin) eq a in
                         let n' = ap length (same_rest own.rest r (sym own.there ∙ t')) in
                         let z = own.size in
-                        let f = same_end m at (y ∷ ys) p.end all fin g a' (omega (arith, l, s, n', z)) in
+                        let f = same_end m at (y ∷ ys) p.end all fin g a' (omega
+                        (arith, l, s, n', z)) in
                         omega (arith, f)
                   ]
                 ];
@@ -227,7 +229,8 @@ module _ (e : CodeEntry) (stop : ℕ) (whole : Bool) (good : HasGoodPrologue e s
           }
 
   -- where no epilogue's trailing part is
-  pub outside : (at : ℕ) (loaded : List ℕ) (x : FetchedInstr) → fetched_at m at ≡ Some x → 0 < x.size
+  pub outside : (at : ℕ) (loaded : List ℕ) (x : FetchedInstr) → fetched_at m at ≡ Some x
+      → 0 < x.size
       → tail_there e at ≡ None → Passed e at loaded 0 → Passed e (at + x.size)
       (with_restored loaded (restored_by i.frame_register i.frame_offset ops x.instr)) 0
   outside at loaded x there pos none p =
@@ -257,13 +260,15 @@ module _ (e : CodeEntry) (stop : ℕ) (whole : Bool) (good : HasGoodPrologue e s
       }
 
   -- at the opening of an epilogue of the function
-  pub opened : (at : ℕ) (loaded : List ℕ) (x : FetchedInstr) (xs : List FetchedInstr) (is : List Instr)
+  pub opened : (at : ℕ) (loaded : List ℕ) (x : FetchedInstr) (xs : List FetchedInstr)
+      (is : List Instr)
       → tail_there e at ≡ Some is
       → is_own i.frame_register i.frame_offset ops loaded (x ∷ xs) is ≡ true
       → HasItems m at (x ∷ xs) stop → Passed e at loaded 0 → Passed e at loaded (length is)
   opened at loaded x xs is there own h p =
       let a = and_parts (are_restored loaded ops)
-      (is_epilogue i.frame_register i.frame_offset ops is && leb (length is) (length (x ∷ xs))) own in
+      (is_epilogue i.frame_register i.frame_offset ops is && leb (length is) (length
+      (x ∷ xs))) own in
       let b = and_parts (is_epilogue i.frame_register i.frame_offset ops is)
       (leb (length is) (length (x ∷ xs))) a.1 in
       let t = first_items m at (x ∷ xs) stop (length is) h
@@ -312,15 +317,18 @@ module _ (e : CodeEntry) (stop : ℕ) (whole : Bool) (good : HasGoodPrologue e s
       let w = q.is in
       elim (at_or_below q.opening at q.from) [
         | inr below ↦
-            let f = p.older q.opening w.done w.rest w.all q.end w.reached below w.there w.ends w.count in
+            let f = p.older q.opening w.done w.rest w.all q.end w.reached below w.there w.ends
+            w.count in
             let before = q.before in
             absurd (omega (arith, f, before, here))
         | inl eq ↦
             let r : HasItems m mid w.done at = subst (λ k. HasItems m mid w.done k) eq w.reached in
             let same : w.done ≡ p.done = same_way m mid w.done p.done at r p.reached in
-            let t : tail_there e at ≡ Some w.rest = subst (λ k. tail_there e k ≡ Some w.rest) eq w.there in
+            let t : tail_there e at ≡ Some w.rest = subst (λ k. tail_there e k
+            ≡ Some w.rest) eq w.there in
             let rest : w.rest ≡ is = same_rest w.rest is (sym t ∙ there) in
-            let ends : HasItems m at w.all q.end = subst (λ k. HasItems m k w.all q.end) eq w.ends in
+            let ends : HasItems m at w.all q.end = subst
+            (λ k. HasItems m k w.all q.end) eq w.ends in
             let n = at_most m at (x ∷ xs) stop w.all q.end e.to h ends w.inside good.none in
             let c = w.count in
             let d = ap length rest in
@@ -329,7 +337,8 @@ module _ (e : CodeEntry) (stop : ℕ) (whole : Bool) (good : HasGoodPrologue e s
             let whole = subst (λ (js : List Instr).
             is_epilogue i.frame_register i.frame_offset ops js ≡ true) rest w.whole in
             false≢true (sym own ∙ and_from (are_restored loaded ops)
-            (is_epilogue i.frame_register i.frame_offset ops is && leb (length is) (length (x ∷ xs)))
+            (is_epilogue i.frame_register i.frame_offset ops is && leb (length is) (length
+            (x ∷ xs)))
             restored (and_from (is_epilogue i.frame_register i.frame_offset ops is)
             (leb (length is) (length (x ∷ xs))) whole
             (le-leb (length is) (length (x ∷ xs)) (omega (arith, n, c, d)))))

@@ -109,7 +109,8 @@ module _ (e : CodeEntry) (stop : ℕ) (whole : Bool) (good : HasGoodPrologue e s
       → keeps_saved ops (written x.instr) ≡ true → (r : Rule) → Fails e at r → ⊥
   nothing at x le has there none k s Unsaved h =
       let same = one_there m at h.item x h.is.there there in
-      false≢true (sym h.writes ∙ ap (λ (z : FetchedInstr). keeps_saved ops (written z.instr)) same ∙ s)
+      false≢true (sym h.writes ∙ ap (λ (z : FetchedInstr). keeps_saved ops
+      (written z.instr)) same ∙ s)
   nothing at x le has there none k s Epilogue h = both (tail_there e at) h.rest none h.there
   nothing at x le has there none k s StackWrite h =
       no_unsaved at x le has there k StackWrite (omega arith) h
@@ -146,7 +147,8 @@ module _ (e : CodeEntry) (stop : ℕ) (whole : Bool) (good : HasGoodPrologue e s
   body_first [] at loaded left le p h ys b g lt r fails = go whole refl
     where
       go : (w : Bool) → whole ≡ w → IsBefore (unless w at Decode) b r
-      go true w = let f = good.full w in let rise = items_rise m at ys b g in let z : at ≡ stop = h in
+      go true w = let f = good.full w in let rise = items_rise m at ys b g in let z : at
+          ≡ stop = h in
           absurd (omega (arith, f, rise, z, lt))
       go false w = is_first e at Decode b r (items_rise m at ys b g)
           (λ r l z. absurd (omega (arith, l))) fails
@@ -158,11 +160,13 @@ module _ (e : CodeEntry) (stop : ℕ) (whole : Bool) (good : HasGoodPrologue e s
         | inl eq ↦ absurd (clean at loaded (suc k) (omega arith) le
             (has_instr at x le h.0 h.1 inside) p r (subst (λ q. Fails e q r) (sym eq) fails))
         | inr more ↦ body_first xs (at + x.size) [] k (omega (arith, le))
-            (in_epilogue e stop whole good at loaded (suc k) k x (omega arith) h.0 h.1 inside p) h.2 more.left b more.items
+            (in_epilogue e stop whole good at loaded (suc k) k x
+            (omega arith) h.0 h.1 inside p) h.2 more.left b more.items
             lt r fails
       ]
   body_first (x ∷ xs) at loaded zero le p h ys b g lt r fails = go (tail_there e at) refl
-      (λ rs n q w. body_first xs (at + x.size) rs n (omega (arith, le)) q h.2 w.left b w.items lt r fails)
+      (λ rs n q w. body_first xs (at + x.size) rs n (omega
+      (arith, le)) q h.2 w.left b w.items lt r fails)
     where
       inside : at + x.size ≤ e.to
       inside =
@@ -180,7 +184,8 @@ module _ (e : CodeEntry) (stop : ℕ) (whole : Bool) (good : HasGoodPrologue e s
           → IsBefore (fault at rule) b r
       first rule none = is_first e at rule b r up none fails
 
-      passing : (rs : List ℕ) (n : ℕ) → ((r : Rule) → Fails e at r → ⊥) → Passed e (at + x.size) rs n
+      passing : (rs : List ℕ) (n : ℕ) → ((r : Rule) → Fails e at r → ⊥)
+          → Passed e (at + x.size) rs n
           → ((rs : List ℕ) (n : ℕ) → Passed e (at + x.size) rs n → Beyond m (at + x.size) b
           → IsBefore (body_from m i whole xs (at + x.size) rs n) b r)
           → IsBefore (body_from m i whole xs (at + x.size) rs n) b r
@@ -215,7 +220,8 @@ module _ (e : CodeEntry) (stop : ℕ) (whole : Bool) (good : HasGoodPrologue e s
           let n = one_or_more at x is h.0 inside some in
           let q = opened e stop whole good at loaded x xs is some ea h p in
           passing [] (length is - 1) (clean at loaded (length is) (omega (arith, n)) le has q)
-          (in_epilogue e stop whole good at loaded (length is) (length is - 1) x n h.0 h.1 inside q) more
+          (in_epilogue e stop whole good at loaded (length is)
+          (length is - 1) x n h.0 h.1 inside q) more
 
       go : (o : Option (List Instr)) → tail_there e at ≡ o
           → ((rs : List ℕ) (n : ℕ) → Passed e (at + x.size) rs n → Beyond m (at + x.size) b
@@ -272,7 +278,8 @@ module _ (e : CodeEntry) (stop : ℕ) (whole : Bool) (good : HasGoodPrologue e s
           (record { item = x; is = record { there = h.0; past = le; outside = none }; writes = ea })
       by_writes true false none ea ec q more = fault_fails e at Unsaved f q
           (record { item = x; is = record { there = h.0; past = le; outside = none }; writes = ec })
-      by_writes true true none ea ec q more = more loads 0 (outside e stop whole good at loaded x h.0 h.1 none p) q
+      by_writes true true none ea ec q more = more loads 0
+          (outside e stop whole good at loaded x h.0 h.1 none p) q
 
       by_own : (is : List Instr) (a : Bool) → tail_there e at ≡ Some is
           → is_own i.frame_register i.frame_offset ops loaded (x ∷ xs) is ≡ a
@@ -289,7 +296,8 @@ module _ (e : CodeEntry) (stop : ℕ) (whole : Bool) (good : HasGoodPrologue e s
       })
       by_own is true some ea q more =
           let n = one_or_more at x is h.0 inside some in
-          more [] (length is - 1) (in_epilogue e stop whole good at loaded (length is) (length is - 1) x n h.0 h.1 inside
+          more [] (length is - 1) (in_epilogue e stop whole good at loaded (length is)
+          (length is - 1) x n h.0 h.1 inside
           (opened e stop whole good at loaded x xs is some ea h p)) q
 
       go : (o : Option (List Instr)) → tail_there e at ≡ o

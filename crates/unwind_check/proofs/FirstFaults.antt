@@ -242,7 +242,8 @@ module _ (e : CodeEntry) (rise : e.begin < e.to) (low : e.to < 2 ^ 63) where
           -- before its stop no rule but Prologue fails
           by_prologue : (b : ℕ) (r : Rule) → IsBoundary m begin e.to b → b < stop → Fails e b r
               → (r ≡ Prologue) × (prologue_answer e ≡ fault b Prologue)
-          by_prologue b r at lt h = go (within m begin (prologue_of m begin e.to i).items stop at.done b
+          by_prologue b r at lt h = go (within m begin
+              (prologue_of m begin e.to i).items stop at.done b
               (prologue_stop le).items at.reached lt) r h
             where
               has : StandsAt m b stop → HasInstr e b
@@ -276,7 +277,8 @@ module _ (e : CodeEntry) (rise : e.begin < e.to) (low : e.to < 2 ^ 63) where
 
           in_prologue : (f : Fault) → prologue_answer e ≡ Some f → IsAnswer e (Some f)
           in_prologue f is = go (kind e stop f 0 (turned [] i.codes) (prologue_instrs e)
-              (subst (λ a. HasItems m a (prologue_instrs e) stop) zero_more (prologue_stop le).items)
+              (subst (λ a. HasItems m a (prologue_instrs e) stop) zero_more
+              (prologue_stop le).items)
               (λ k ds zs l. l) is)
             where
               zero_more : begin ≡ begin + 0
@@ -350,7 +352,8 @@ module _ (e : CodeEntry) (rise : e.begin < e.to) (low : e.to < 2 ^ 63) where
           module _ (none : prologue_answer e ≡ None) where
             whole : stop ≡ end
             whole = (prologue_stop le).full (stepped (site m e.probe begin i)
-                (prologue_of m begin e.to i).is_whole 0 (turned [] i.codes) (prologue_instrs e) none).ends
+                (prologue_of m begin e.to i).is_whole 0 (turned [] i.codes)
+                (prologue_instrs e) none).ends
 
             good : HasGoodPrologue e (body_stop le).stop (body_of m begin e.to i).is_whole
             good = record {
@@ -385,15 +388,18 @@ module _ (e : CodeEntry) (rise : e.begin < e.to) (low : e.to < 2 ^ 63) where
             in_body : IsAnswer e (body_from m i (body_of m begin e.to i).is_whole
                 (body_of m begin e.to i).items end [] 0)
             in_body = record {
-              fails = λ f is. body_fails e (body_stop le).stop (body_of m begin e.to i).is_whole good
-                  (body_of m begin e.to i).items end [] 0 (let z = end_is le in omega (arith, z)) passed
+              fails = λ f is. body_fails e (body_stop le).stop
+                  (body_of m begin e.to i).is_whole good
+                  (body_of m begin e.to i).items end [] 0 (let z = end_is le in omega
+                  (arith, z)) passed
                   (body_stop le).items f is;
               first = λ b r at h. elim (up_to_or_above end b) [
                 | inl up ↦
                     let more = beyond m begin (prologue_of m begin e.to i).items stop at.done b
                     (prologue_stop le).items at.reached (let w = whole in omega (arith, w, up)) in
                     body_first e (body_stop le).stop (body_of m begin e.to i).is_whole good
-                    (body_of m begin e.to i).items end [] 0 (let z = end_is le in omega (arith, z)) passed
+                    (body_of m begin e.to i).items end [] 0 (let z = end_is le in omega
+                    (arith, z)) passed
                     (body_stop le).items more.left b
                     (subst (λ k. HasItems m k more.left b) whole more.items) at.inside r h
                 | inr lt ↦ absurd (none_fault (prologue_answer e) b Prologue none
@@ -402,7 +408,8 @@ module _ (e : CodeEntry) (rise : e.begin < e.to) (low : e.to < 2 ^ 63) where
             }
 
           parts : (o : Option Fault) → prologue_answer e ≡ o → IsAnswer e (or_next o
-              (body_from m i (body_of m begin e.to i).is_whole (body_of m begin e.to i).items end [] 0))
+              (body_from m i (body_of m begin e.to i).is_whole
+              (body_of m begin e.to i).items end [] 0))
           parts None is = in_body is
           parts (Some f) is = in_prologue f is
 
@@ -413,7 +420,8 @@ module _ (e : CodeEntry) (rise : e.begin < e.to) (low : e.to < 2 ^ 63) where
 
       by_codes : (b : Bool) → keep_codes i (prologue_instrs e) ≡ b
           → IsAnswer e (or_next (unless b begin Codes) (or_next
-          (unless (is_ordered (operations_of e)) begin Prologue) (parts_fault m e.probe begin e.to i)))
+          (unless (is_ordered (operations_of e)) begin Prologue)
+          (parts_fault m e.probe begin e.to i)))
       by_codes true q = by_order q (is_ordered (operations_of e)) refl
       by_codes false q = at_codes q
 

@@ -215,7 +215,8 @@ module _ (e : CodeEntry) where
               → IsKind stop f
           go false t q = other_kind stop f d (c ∷ cs) y (y2 ∷ y3 ∷ zs) g
               (on d (c ∷ cs) (y ∷ y2 ∷ y3 ∷ zs) here) (miss, t) q
-          go true t q = more zs (third y2 y3 zs g t) (λ k ds vs l. on k ds vs (past_three miss t l)) q
+          go true t q = more zs (third y2 y3 zs g t) (λ k ds vs l. on k ds vs
+              (past_three miss t l)) q
 
       first : ((zs : List FetchedInstr) → HasItems e.memory (e.begin + c.offset) zs stop
           → ((k : ℕ) (ds : List UnwindCode) (vs : List FetchedInstr)

@@ -100,7 +100,8 @@ not_inside m from [] at x [] b h there g = inl (let e : from ≡ at = h in let f
     omega (arith, e, f))
 not_inside m from [] at x (y ∷ ys) b h there g =
     let e : from ≡ at = h in
-    let same : y ≡ x = one_there m from y x g.0 (subst (λ k. fetched_at m k ≡ Some x) (sym e) there) in
+    let same : y ≡ x = one_there m from y x g.0 (subst (λ k. fetched_at m k
+    ≡ Some x) (sym e) there) in
     let rest = subst (λ (z : FetchedInstr). HasItems m (from + z.size) ys b) same g.2 in
     let rise = items_rise m (from + x.size) ys b rest in
     inr (omega (arith, e, rise))

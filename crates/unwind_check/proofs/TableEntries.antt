@@ -149,7 +149,8 @@ says_of c t k e r i ps o is range info parents low f =
     let q = get_or t.ranges k no_range in
     let some = some_bytes t k (end_before t.ranges k) q e (sym is) in
     let same = range_of t k (end_before t.ranges k) q e (sym is) in
-    let rise : e.range.begin < e.range.end = subst (λ (p : RuntimeFunction). p.begin < p.end) (sym same)
+    let rise : e.range.begin < e.range.end = subst (λ (p : RuntimeFunction). p.begin < p.end)
+    (sym same)
     some in
     let here : entry_fault c.memory c.probe e.range.begin e.range.end e.info e.parents ≡ o =
     ap (λ (r : RuntimeFunction). entry_fault c.memory c.probe r.begin r.end e.info e.parents)

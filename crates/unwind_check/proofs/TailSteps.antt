@@ -22,7 +22,8 @@ unfolding tail
 wider zero n first f m at is le h = absurd cc
 wider (suc j) zero first f m at is le h = absurd (omega arith)
 wider (suc j) (suc n) first f m at is le h =
-    by_item (λ k js g. wider j n false f m ((at + k) % 2 ^ 64) js (omega arith) g) (fetched_at m at) h
+    by_item (λ k js g. wider j n false f m ((at + k) % 2 ^ 64) js (omega arith) g)
+    (fetched_at m at) h
   where
     short : ℕ → Option (List Instr)
     short k = tail j false f m ((at + k) % 2 ^ 64)
@@ -74,7 +75,8 @@ pub tail_step : (f : ℕ) (m : Memory) (at : ℕ) (x : FetchedInstr) (is : List 
     → at + x.size < 2 ^ 64 → fetched_at m at ≡ Some x → tail_at f m at ≡ Some is
     → TailStep f m at x is
 unfolding tail_at
-tail_step f m at x is low there h = go (taken 0xFFFF_FFFF_FFFF_FFFF 0xFFFF_FFFF_FFFF_FFFE true f m at x
+tail_step f m at x is low there h = go
+    (taken 0xFFFF_FFFF_FFFF_FFFF 0xFFFF_FFFF_FFFF_FFFE true f m at x
     is (omega arith) there h)
   where
     go : Taken 0xFFFF_FFFF_FFFF_FFFE f m at x is → TailStep f m at x is

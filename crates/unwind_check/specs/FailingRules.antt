@@ -22,7 +22,7 @@ use Rattle.unwind_check.specs.Bodies.{keeps_stack, keeps_saved}
 use Rattle.unwind_check.specs.Faults.{prologue_of, site, entry_fault}
 
 -- an entry: the memory of its code, the bytes of the stack probe, its range, its unwind info, and
--- those that this is chained to
+-- those that it is chained to
 pub record CodeEntry : Type 0 where
   pub memory : Memory
   pub probe : List ℕ

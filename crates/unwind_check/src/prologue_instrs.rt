@@ -1,5 +1,5 @@
-//! Prologue: whether an instruction is the one that its unwind code says (Microsoft x64 ABI, "Prolog
-//! code").
+//! Prologue: whether an instruction is the one that its unwind code says (Microsoft x64 ABI,
+//! "Prolog code").
 
 ghost use Rattle.std.specs.Prelude.{◌≡◌};
 ghost use Rattle.eh_tables.specs.declared.code.UnwindOperation.TheVariants as codes;

@@ -27,7 +27,8 @@ loop-rest-preserved g c =
       low = omega (arith, size, c.size-at.ensures, c.loop-rest.invariant.low);
       same = ap (λ k. body_from m c.args.info.now c.args.is_whole xs (c.loop-rest.at + k)
           c.step.new.loaded.items c.in-Ok.still) c.size-at.ensures
-          ∙ sym (going_first m c.args.info.now c.args.is_whole zs c.item-item.result xs c.loop-rest.at
+          ∙ sym (going_first m c.args.info.now c.args.is_whole zs c.item-item.result xs
+          c.loop-rest.at
           c.loop-rest.loaded.items c.step.new.loaded.items c.loop-rest.left c.in_ok-fault.field-0
           c.in-Ok.still z c.in_ok-fault.ensures c.in-Ok.is) ∙ c.loop-rest.invariant.same;
     }

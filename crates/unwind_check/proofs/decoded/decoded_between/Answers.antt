@@ -39,7 +39,8 @@ loop-at-preserved g c =
           c.args.end)) c.in_ok-push-in-Some.ensures.items
           ∙ onto_one c.loop-at.items.items c.in-Some.item (between m
           (c.loop-at.at + c.in-Some.item.size) c.args.end)
-          ∙ sym (ap (onto c.loop-at.items.items) (goes_on m c.args.end c.loop-at.at c.in-Some.item test
+          ∙ sym (ap (onto c.loop-at.items.items)
+          (goes_on m c.args.end c.loop-at.at c.in-Some.item test
           (sym c.in-Some.ensures) (omega arith) (omega arith))) ∙ c.loop-at.invariant.same;
     }
 

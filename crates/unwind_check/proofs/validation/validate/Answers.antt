@@ -28,7 +28,8 @@ returns-in-Some g c =
     (arith, c.loop-index-test.true, c.len-index-end.ensures) in
     let is = is_entry_of t k e c.requires lt c.in-Ok.ensures in
     let says = says_of code t k e c.range-range.result c.info.result.now c.parents.result.now
-    c.in_ok-fault.field-0 c.in-Ok.ensures c.range-range.ensures c.info.ensures c.parents.ensures (omega (arith, c.range-range.type_inv.1.1.1.0.1))
+    c.in_ok-fault.field-0 c.in-Ok.ensures c.range-range.ensures c.info.ensures c.parents.ensures
+    (omega (arith, c.range-range.type_inv.1.1.1.0.1))
     c.in_ok-fault.ensures.fault in
     record {
       before = take k (entries_of t);
@@ -53,7 +54,8 @@ loop-index-preserved g c =
     (arith, c.loop-index-test.true, c.len-index-end.ensures) in
     let is = is_entry_of t k e c.requires lt c.in-Ok.ensures in
     let says = says_of code t k e c.range-range.result c.info.result.now c.parents.result.now
-    c.in_ok-fault.field-0 c.in-Ok.ensures c.range-range.ensures c.info.ensures c.parents.ensures (omega (arith, c.range-range.type_inv.1.1.1.0.1))
+    c.in_ok-fault.field-0 c.in-Ok.ensures c.range-range.ensures c.info.ensures c.parents.ensures
+    (omega (arith, c.range-range.type_inv.1.1.1.0.1))
     c.in_ok-fault.ensures.fault in
     record {
       most = omega (arith, lt);
@@ -73,6 +75,7 @@ returns g c =
     } in
     let t = c.args.tables.now in
     let k = c.loop-index.index in
-    let over : length t.ranges ≤ k = omega (arith, c.loop-index-test.false, c.len-index-end.ensures) in
+    let over : length t.ranges ≤ k = omega
+    (arith, c.loop-index-test.false, c.len-index-end.ensures) in
     let all = all_keep code t k c.requires over c.loop-index.invariant.kept in
     (all.0, all.1 ∙ sym c.len.ensures)
