@@ -18,7 +18,7 @@ use Rattle.host_model.proofs.TurnsMade.{after_one_more, shown_one_more, after_mo
 use Rattle.seh_host.specs.declared.host.Turn.TheVariants as turns
 use Rattle.seh_host.specs.Running.{Running, made, shown_made, after_turn, shown_of, run_of}
 use Rattle.seh_host.specs.Turns.{answer_of, end_within}
-use Rattle.seh_host.specs.Writing.{Stopped, Written}
+use Rattle.seh_host.specs.Writing.{Stopped, StoppedText, Written}
 
 -- ---- turns made
 
@@ -103,6 +103,7 @@ module _ (n k : ℕ) (trace : Bool) (r r' : Running) (x z : Writer) (le : k ≤ 
       last = last;
       before = before;
     };
+    made_lines = w;
     all = λ is. host ∙ sym (all is).0;
     wrote = elim (cases_Bool z.failed) [
       | inl was ↦ later was
@@ -236,7 +237,7 @@ part_of_text count taken trace r r' x y z end w q is fresh e =
     ]
 
 -- what a failed line left holds after the line of the end too
-pub stopped_then : (count : ℕ) (trace : Bool) (r r' : Running) (x y z : Writer) (u : List ℕ)
+abbrev stopped_then : (count : ℕ) (trace : Bool) (r r' : Running) (x y z : Writer) (u : List ℕ)
     → Written count trace r x r' y → Wrote y u z → Stopped count trace r x.taken r' z.taken
 stopped_then count trace r r' x y z u w q = record {
   turns_made = w.stopped.turns_made;
@@ -253,9 +254,22 @@ stopped_then count trace r r' x y z u w q = record {
   );
 }
 
+-- and all that was taken is of the turns that were made, and of their end
+pub stopped_text : (count taken : ℕ) (trace : Bool) (r r' : Running) (x y z : Writer) (end : RunEnd)
+    → Written count trace r x r' y → Wrote y (end_line end) z
+    → end ≡ end_within count (end_of r'.host) → x.count ≡ 0 → taken ≡ z.count
+    → StoppedText count trace r x.taken r' z.taken
+stopped_text count taken trace r r' x y z end w q is fresh e = record {
+  stopped = stopped_then count trace r r' x y z (end_line end) w q;
+  count = taken;
+  front = ran_part x y z (lines trace (shown_made w.stopped.turns_made r))
+      (end_line (end_within count (end_of r'.host))) w.made_lines
+      (subst (λ last. Wrote y (end_line last) z) is q) taken fresh e;
+}
+
 pub same_stopped : (count : ℕ) (trace trace' : Bool) (r r' : Running) (a a' b b' : Option (List ℕ))
-    → a ≡ a' → trace ≡ trace' → b ≡ b' → Stopped count trace r a r' b
-    → Stopped count trace' r a' r' b'
+    → a ≡ a' → trace ≡ trace' → b ≡ b' → StoppedText count trace r a r' b
+    → StoppedText count trace' r a' r' b'
 same_stopped count trace trace' r r' a a' b b' e f k h =
-    subst (λ c. Stopped count trace' r c r' b') e
-    (subst (λ t. Stopped count t r a r' b') f (subst (λ c. Stopped count trace r a r' c) k h))
+    subst (λ c. StoppedText count trace' r c r' b') e
+    (subst (λ t. StoppedText count t r a r' b') f (subst (λ c. StoppedText count trace r a r' c) k h))

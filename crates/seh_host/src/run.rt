@@ -7,7 +7,7 @@ ghost use Rattle.seh_io.specs.Text.{text};
 ghost use Rattle.seh_io.specs.Writer.{TookPart, writer_of};
 ghost use Rattle.host_model.specs.HostStep as model;
 ghost use Rattle.seh_host.specs.Running.{running_of, after_turn, shown_of, run_of, made, image_of};
-ghost use Rattle.seh_host.specs.Writing.{Stopped, Written, run_text};
+ghost use Rattle.seh_host.specs.Writing.{StoppedText, Written, run_text};
 ghost use Rattle.seh_host.specs.Turns.{answer_of, end_within, taken_before};
 
 use crate::RunEnd;
@@ -73,8 +73,9 @@ pub enum RunErr {
 /// With `trace` each event has its line, else what is put alone. The last line is that of the end
 /// that is answered. The host is then as its turns left it, so that a later run begins there; one
 /// that has ended answers the same end. After `Write` the sink has taken a part of the text from
-/// the front, of `taken` bytes (a count that stays at 2^64 - 1), and no turn was made after the one
-/// whose line failed. The host keeps its image in both.
+/// the front, of `taken` bytes (a count that stays at 2^64 - 1). No turn was made after the one
+/// whose line failed, and no byte was taken of a turn that wasn't made. The host keeps its image in
+/// both.
 pub fn run<O: Sink>(
     host: &mut Host<'_, '_>,
     turns: u64,
@@ -88,7 +89,7 @@ pub fn run<O: Sink>(
         (run_text turns trace (running_of host.old)) (O.taken sink.new) (taken_before e)) }
     ensures host { IfOk result (λ _. running_of host.new ≡ made turns (running_of host.old)) }
     ensures image { image_of host.new ≡ image_of host.old }
-    ensures stopped { IfErr result (λ _. Stopped turns trace (running_of host.old)
+    ensures stopped { IfErr result (λ _. StoppedText turns trace (running_of host.old)
         (O.taken sink.old) (running_of host.new) (O.taken sink.new)) }
     ensures cause { OnErr result (Rose (O.faults sink.old) (O.faults sink.new)) }
     ensures faults { O.faults sink.old ≤ O.faults sink.new }

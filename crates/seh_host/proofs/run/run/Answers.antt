@@ -5,7 +5,7 @@ use Rattle.x64_memory.specs.PageMaps.{memory_of}
 use Rattle.seh_host.specs.Running.{running_of, run_of}
 use Rattle.seh_host.specs.Turns.{end_within}
 use Rattle.seh_host.proofs.Runs.{within, end_left}
-use Rattle.seh_host.proofs.Writing.{events_of, end_answered, part_of_text, stopped_then, same_stopped}
+use Rattle.seh_host.proofs.Writing.{events_of, end_answered, part_of_text, stopped_text, same_stopped}
 use Rattle.seh_host.proofs.run.run.Goals as goal
 
 pub returns-in-Ok-clause-end : goal.returns-in-Ok-clause-end
@@ -59,5 +59,8 @@ returns-clause-stopped g c =
     (ap g.O.Sink.taken c.new-lines.ensures.sink)
     c.new-lines.ensures.trace
     (search rules)
-    (stopped_then c.args.turns c.new-lines.result.trace r (running_of host) _ _ _
-    (end_line c.unwrap_or-end.result) c.write_turns.ensures.written c.end.ensures.wrote)
+    (stopped_text c.args.turns c.in-Err.fault.taken c.new-lines.result.trace r (running_of host) _ _ _
+    c.unwrap_or-end.result c.write_turns.ensures.written c.end.ensures.wrote
+    (c.unwrap_or-end.ensures ∙ within c.args.turns host.end
+    ∙ ap (end_within c.args.turns) (end_left host.cpu (memory_of host.space) host.end))
+    c.new-lines.ensures.taken (c.in-Err.ensures.outcome).1)
