@@ -8,10 +8,10 @@ use Rattle.c_operations.specs.declared.operation.Operation.{Operation}
 use Rattle.c_operations.specs.Performed as performing
 use Rattle.c_operations.specs.Performed.{performed}
 use Rattle.c_checked.specs.Program.{Program, Function}
-use Rattle.c_checked.specs.Expression.{Lvalue, Local, Global, Indirection, Element}
+use Rattle.c_checked.specs.Expression.{Lvalue, Local}
 use Rattle.c_checked.specs.Statement.{Filter, Always, Funclet, Statements}
 use Rattle.source_meaning.specs.Source.{is_reserved}
-use Rattle.source_meaning.specs.State.{Exception, Result, Value, Normal, Returned, Continued, LeftTry}
+use Rattle.source_meaning.specs.State.{Exception, Result, Value, Normal, Continued, LeftTry}
 use Rattle.source_meaning.specs.State.{Target, End}
 use Rattle.source_meaning.specs.Tasks as tasks
 use Rattle.source_meaning.specs.Tasks.{Handler, Task}
@@ -64,9 +64,7 @@ body_shows m plan how = prefix_self m.state.events
 
 call_shows : (m : Machine) (n : ℕ) (how : Result) → Shows m.state.events (left_call m n how)
 call_shows m n (End e) = prefix_self m.state.events
-call_shows m n Normal = prefix_self m.state.events
-call_shows m n (Returned v) = prefix_self m.state.events
-call_shows m n how = prefix_self m.state.events
+call_shows m n x = prefix_self m.state.events
 
 target_shows : (b : Bool) (m : Machine) (held : ℕ) (block : Statements) (p : Place) (to : ℕ)
     (exc : Exception) → Shows m.state.events (target_landed m b held block p to exc)
@@ -83,9 +81,7 @@ land_shows m held block p how = prefix_self m.state.events
 finish_shows : (m : Machine) (k : ℕ) (last : Statements) (p : Place) (how : Result)
     → Shows m.state.events (finished m k last p how)
 finish_shows m k last p (End e) = prefix_self m.state.events
-finish_shows m k last p Normal = prefix_self m.state.events
-finish_shows m k last p LeftTry = prefix_self m.state.events
-finish_shows m k last p how = prefix_self m.state.events
+finish_shows m k last p x = prefix_self m.state.events
 
 resumed_shows : (m : Machine) (f : ContinuationFrame) (how : Result)
     → Shows m.state.events (resumed m f how)
@@ -127,15 +123,11 @@ begun_shows m (tasks.Retry o a b) p = prefix_self m.state.events
 fetched_shows : (m : Machine) (l : Lvalue) (a : ℕ) (p : Place)
     → Shows m.state.events (fetched m l a p)
 fetched_shows m (Local x) a p = prefix_self m.state.events
-fetched_shows m (Global access _) a p = prefix_self m.state.events
-fetched_shows m (Indirection access _) a p = prefix_self m.state.events
-fetched_shows m (Element access _ _) a p = prefix_self m.state.events
+fetched_shows m y a p = prefix_self m.state.events
 
 put_shows : (m : Machine) (l : Lvalue) (a v : ℕ) (p : Place) → Shows m.state.events (put m l a v p)
 put_shows m (Local x) a v p = prefix_self m.state.events
-put_shows m (Global access _) a v p = prefix_self m.state.events
-put_shows m (Indirection access _) a v p = prefix_self m.state.events
-put_shows m (Element access _ _) a v p = prefix_self m.state.events
+put_shows m y a v p = prefix_self m.state.events
 
 operated_shows : (m : Machine) (o : Operation) (a b : ℕ) (p : Place)
     (x : performing.OperationResult)

@@ -7,10 +7,10 @@ use Rattle.c_operations.specs.declared.operation.Operation.{Operation}
 use Rattle.c_operations.specs.Performed as performing
 use Rattle.c_operations.specs.Performed.{performed}
 use Rattle.c_checked.specs.Program.{Program, Function}
-use Rattle.c_checked.specs.Expression.{Lvalue, Local, Global, Indirection, Element}
+use Rattle.c_checked.specs.Expression.{Lvalue, Local}
 use Rattle.c_checked.specs.Statement.{Filter, Always, Funclet, Statements}
 use Rattle.source_meaning.specs.Source.{is_reserved}
-use Rattle.source_meaning.specs.State.{Exception, Result, Value, Normal, Returned, Continued, LeftTry, Target, End}
+use Rattle.source_meaning.specs.State.{Exception, Result, Value, Normal, Continued, LeftTry, Target, End}
 use Rattle.source_meaning.specs.Tasks as tasks
 use Rattle.source_meaning.specs.Tasks.{Handler, Task}
 use Rattle.source_machine.specs.Frames as frames
@@ -51,9 +51,7 @@ module _ (l : ℕ) where
   call : (m : Machine) (n : ℕ) (how : Result)
       → left_call (with_left l m) n how ≡ with_left l (left_call m n how)
   call m n (End e) = refl
-  call m n Normal = refl
-  call m n (Returned v) = refl
-  call m n how = refl
+  call m n x = refl
 
   target : (b : Bool) (m : Machine) (held : ℕ) (block : Statements) (p : Place) (to : ℕ)
       (exc : Exception)
@@ -71,9 +69,7 @@ module _ (l : ℕ) where
   finish : (m : Machine) (k : ℕ) (last : Statements) (p : Place) (how : Result)
       → finished (with_left l m) k last p how ≡ with_left l (finished m k last p how)
   finish m k last p (End e) = refl
-  finish m k last p Normal = refl
-  finish m k last p LeftTry = refl
-  finish m k last p how = refl
+  finish m k last p x = refl
 
   resume : (m : Machine) (f : ContinuationFrame) (how : Result)
       → resumed (with_left l m) f how ≡ with_left l (resumed m f how)
@@ -107,16 +103,12 @@ module _ (l : ℕ) where
   fetch : (m : Machine) (at : Lvalue) (a : ℕ) (p : Place)
       → fetched (with_left l m) at a p ≡ with_left l (fetched m at a p)
   fetch m (Local x) a p = refl
-  fetch m (Global access _) a p = refl
-  fetch m (Indirection access _) a p = refl
-  fetch m (Element access _ _) a p = refl
+  fetch m y a p = refl
 
   puts : (m : Machine) (at : Lvalue) (a v : ℕ) (p : Place)
       → put (with_left l m) at a v p ≡ with_left l (put m at a v p)
   puts m (Local x) a v p = refl
-  puts m (Global access _) a v p = refl
-  puts m (Indirection access _) a v p = refl
-  puts m (Element access _ _) a v p = refl
+  puts m y a v p = refl
 
   operate : (m : Machine) (o : Operation) (a b : ℕ) (p : Place) (x : performing.OperationResult)
       → operated (with_left l m) o a b p x ≡ with_left l (operated m o a b p x)
@@ -177,7 +169,5 @@ module _ (l : ℕ) where
   alike program m (frames.DeclareEach ds p) = follows m _
   alike program m (frames.DeclareName d p) = follows (with_local m p d.local 0) _
   alike program m (frames.SetLocal x v p) = refl
-  alike program m (frames.Guard ss f block p) = refl
-  alike program m (frames.Answer v) = refl
-  alike program m frames.LetGo = refl
   alike program m (frames.Search level exc p) = searches m level exc p
+  alike program m y = refl
