@@ -4,7 +4,7 @@ use Rattle.std.specs.Prelude.{List, slice_get, ℤ, Some}
 use Rattle.image_runs.specs.Words.{State, Functions, Funclet, Program, IsSound, LinearFunction, ImagePlan, lowered, ReadsNoUnset, started_with, Sites, turns_left, turns_per_step, IsSoundImage, MainBegins, RepresentsWhereSet}
 use Rattle.linear_machine.specs.Run.{start}
 use Rattle.match_runs.specs.Laws.{RunBegins}
-use Rattle.match_runs.proofs.Steps.{follows}
+use Rattle.match_runs.proofs.Steps.{steps_are_matched}
 use Rattle.lowering_locals.proofs.AgreementSteps.{agreement_at_start}
 use Rattle.image_runs.proofs.RunMatches as runs
 use Rattle.image_runs.specs.RunLaws.{ImagesShowAll, ImagesShowNoMore}
@@ -22,7 +22,7 @@ module _ (t : Functions) (fs : List Funclet) (program : Program) (p : ImagePlan)
     state = b.state;
     comes = b.comes;
     no_credit = refl;
-    follows = follows t fs (lowered program) turns_per_step turns_left
+    steps = steps_are_matched t fs (lowered program) turns_per_step turns_left
         (λ n. RepresentsWhereSet t fs (lowered program) p q)
         (agreement_simulates t fs program p q sound reads image) n b.state
         (start (lowered program) arg main)

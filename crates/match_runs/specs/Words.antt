@@ -27,6 +27,6 @@ pub use Rattle.linear_machine.specs.Run.{instruction_at, shown}
 unfoldable pub use Rattle.linear_machine.specs.Run.{exec}
 pub use Rattle.match_runs.specs.Comes.{Comes, IsLive}
 pub use Rattle.match_runs.specs.Ends.{HasRule, IsCalm}
-pub use Rattle.match_runs.specs.Matched.{Fails, Follows, IsMatched}
+pub use Rattle.match_runs.specs.Matched.{Fails, StepsAreMatched, IsMatched}
 pub use Rattle.match_runs.specs.Shadow.{KeepsShadow, WalkGives}
 unfoldable pub use Rattle.match_runs.specs.Shadow.{shadow_after}
