@@ -98,29 +98,26 @@ module _ (linear : LinearProgram) (rate : ℕ) where
           (target_of a.handler exc.code end.held) a.temps end a.store a.pc) a.reaches;
     }
 
-  -- whatever the result is
-  attains_by : (s : Part) (st : State) (p : Price) (s' : Part) (st' : State) (r : Price)
-      (end : State) → Carries s st p s' st' r end → (w : Ways) (kept : Kept)
-      → ((store : Store) → w.kept end store → kept end store) → (x : Result)
-      → Attains linear rate s st p w end x
-      → Attains linear rate s' st' r (record w { kept = kept }) end x
-  attains_by s st p s' st' r end c w kept fits (Value x) a = arrives_by s st p s' st' r end w.kept
-      kept fits c.slack w.held (w.value x) a
-  attains_by s st p s' st' r end c w kept fits Normal a = arrives_by s st p s' st' r end w.kept
-      kept fits c.slack w.held w.normal a
-  attains_by s st p s' st' r end c w kept fits (Returned v) a = arrives_by s st p s' st' r end
-      w.kept kept fits c.slack w.held (w.returned v) a
-  attains_by s st p s' st' r end c w kept fits Broke a = arrives_by s st p s' st' r end w.kept
-      kept fits c.slack w.held w.broke a
-  attains_by s st p s' st' r end c w kept fits Continued a = arrives_by s st p s' st' r end w.kept
-      kept fits c.slack w.held w.again a
-  attains_by s st p s' st' r end c w kept fits LeftTry a = arrives_by s st p s' st' r end w.kept
-      kept fits c.slack w.held w.left a
-  attains_by s st p s' st' r end c w kept fits (Target level exc) a = targets_by s st p s' st' r end
-      w.kept kept fits c.out w.context w.site level exc a
-  attains_by s st p s' st' r end c w kept fits (End (Some e)) a = c.finishes (Finished e end.events)
-      a
-  attains_by s st p s' st' r end c w kept fits (End None) a = c.stops a
+  module _ (s : Part) (st : State) (p : Price) (s' : Part) (st' : State) (r : Price) (end : State)
+      (carries : Carries s st p s' st' r end) (w : Ways) (kept : Kept)
+      (fits : (store : Store) → w.kept end store → kept end store) where
+    arrives : (way : Way) → Arrives linear rate s st p w.kept w.held end way
+        → Arrives linear rate s' st' r kept w.held end way
+    arrives = arrives_by s st p s' st' r end w.kept kept fits carries.slack w.held
+
+    -- whatever the result is
+    attains_by : (x : Result) → Attains linear rate s st p w end x
+        → Attains linear rate s' st' r (record w { kept = kept }) end x
+    attains_by (Value x) a = arrives (w.value x) a
+    attains_by Normal a = arrives w.normal a
+    attains_by (Returned v) a = arrives (w.returned v) a
+    attains_by Broke a = arrives w.broke a
+    attains_by Continued a = arrives w.again a
+    attains_by LeftTry a = arrives w.left a
+    attains_by (Target level exc) a = targets_by s st p s' st' r end w.kept kept fits carries.out
+        w.context w.site level exc a
+    attains_by (End (Some e)) a = carries.finishes (Finished e end.events) a
+    attains_by (End None) a = carries.stops a
 
   -- ---- after a stretch
 

@@ -2,13 +2,14 @@
 use Rattle.std.proofs.Common.{◌≡◌, inl, inr, ℕ, zero, suc, ◌+◌, ◌*◌, ◌<◌, ◌≤◌, false, Some, List, [], ◌++◌, sym, ap, subst, ◌∙◌, arith, append_assoc}
 use Rattle.std.proofs.Math.Nat.{mul-suc}
 use Rattle.std.proofs.lemmas.List.{append-nil}
-use Rattle.match_runs.specs.Words.{signed, Code, Event, W32, Rax, State, register, Functions, turn, Ends, Funclet, IsPrefixOf, is_calm, LinearProgram, Instruction, Configuration, Finished, Running, Seen, instruction_at, exec, Comes, IsLive, HasRule, Follows, IsMatched}
+use Rattle.match_runs.specs.Words.{signed, Code, Event, W32, Rax, State, register, Functions, turn, Ends, Funclet, IsPrefixOf, is_calm, LinearProgram, Instruction, Configuration, Finished, Running, Seen, instruction_at, exec, Comes, IsLive, HasRule, IsMatched}
 use Rattle.source_meaning.specs.declared.ended.Ended.{Ended}
 use Rattle.seh_num.specs.declared.end.RunEnd.TheVariants as ends
 use Rattle.source_meaning.specs.declared.ended.Ended.TheVariants as source
 use Rattle.match_runs.proofs.Lemmas.{prefix_after}
 use Rattle.match_runs.proofs.Turns.{comes_nowhere, comes_then}
 use Rattle.match_runs.proofs.Steps.{at_instruction, matched_step}
+use Rattle.match_runs.specs.Words.{StepsAreMatched}
 
 module _ (t : Functions) (fs : List Funclet) where
   -- how the turns that match a run end: what the run shows is seen, and these events are shown
@@ -67,6 +68,12 @@ module _ (t : Functions) (fs : List Funclet) where
 
 module _ (t : Functions) (fs : List Funclet) (program : LinearProgram) (turns_per_step : ℕ)
     (credit : Configuration → ℕ) where
+  abbrev AreMatched : ℕ → State → Configuration → Type 0
+  AreMatched = StepsAreMatched t fs program turns_per_step credit
+
+  abbrev Step : ℕ → State → Configuration → Instruction → Type 0
+  Step n s c i = IsMatched t fs program turns_per_step credit (AreMatched n) s c i
+
   -- so many steps from here
   abbrev RunFrom : ℕ → State → Configuration → Type 0
   RunFrom n s c = RunIsMatched t fs n (turns_per_step * n + credit c) s c.events (exec program n c)
@@ -85,18 +92,14 @@ module _ (t : Functions) (fs : List Funclet) (program : LinearProgram) (turns_pe
 
   one_step : (n : ℕ) (s : State) (c : Configuration) (i : Instruction)
       → instruction_at program c ≡ Some i
-      → ((u : State) (d : Configuration) → Follows t fs program turns_per_step credit n u d
-      → HasRule (exec program n d) → RunFrom n u d)
-      → HasRule (exec program (suc n) c)
-      → IsMatched t fs program turns_per_step credit (Follows t fs program turns_per_step credit n)
-      s c i → RunFrom (suc n) s c
+      → ((u : State) (d : Configuration) → AreMatched n u d → HasRule (exec program n d)
+      → RunFrom n u d) → HasRule (exec program (suc n) c) → Step n s c i → RunFrom (suc n) s c
   one_step n s c i at rest rule m = by m
     where
       most : turns_per_step * suc n ≡ turns_per_step * n + turns_per_step
       most = mul-suc turns_per_step n ∙ omega arith
 
-      by : IsMatched t fs program turns_per_step credit (Follows t fs program turns_per_step credit
-          n) s c i → RunFrom (suc n) s c
+      by : Step n s c i → RunFrom (suc n) s c
       by (inl v) =
           let few = v.few in
           let some = v.some in
@@ -142,10 +145,8 @@ module _ (t : Functions) (fs : List Funclet) (program : LinearProgram) (turns_pe
 
   -- steps that are matched one after another make a run that is matched
   pub matched_run : (n : ℕ) (s : State) (c : Configuration)
-      → Follows t fs program turns_per_step credit n s c → HasRule (exec program n c)
-      → RunFrom n s c
-  matched_run zero s c follows rule = no_steps s c follows
-  matched_run (suc n) s c follows rule =
-      let x = matched_step t fs program turns_per_step credit
-      (Follows t fs program turns_per_step credit n) n s c follows rule in
+      → AreMatched n s c → HasRule (exec program n c) → RunFrom n s c
+  matched_run zero s c steps rule = no_steps s c steps
+  matched_run (suc n) s c steps rule =
+      let x = matched_step t fs program turns_per_step credit (AreMatched n) n s c steps rule in
       one_step n s c x.instruction x.at (λ u d. matched_run n u d) rule x.matched

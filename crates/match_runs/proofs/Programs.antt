@@ -8,14 +8,14 @@ use Rattle.match_runs.proofs.NoMore.{shows_no_more}
 use Rattle.match_runs.proofs.Shadowed.{walks_the_shadow}
 
 pub all : RunsShowAll
-all t fs program turns_per_step credit n turns s c follows rule enough =
+all t fs program turns_per_step credit n turns s c steps rule enough =
     shows_all t fs n (turns_per_step * n + credit c) turns s c.events (exec program n c)
-    (matched_run t fs program turns_per_step credit n s c follows rule) enough
+    (matched_run t fs program turns_per_step credit n s c steps rule) enough
 
 pub no_more : RunsShowNoMore
-no_more t fs program turns_per_step credit m n s c follows calm fewer =
+no_more t fs program turns_per_step credit m n s c steps calm fewer =
     shows_no_more t fs n (turns_per_step * n + credit c) m s c.events (exec program n c)
-    (matched_run t fs program turns_per_step credit n s c follows calm.rule) calm fewer
+    (matched_run t fs program turns_per_step credit n s c steps calm.rule) calm fewer
 
 -- ---- from the first turn on
 
@@ -37,7 +37,7 @@ module _ (t : Functions) (fs : List Funclet) (program : LinearProgram) (turns_pe
       subst (RunIsMatched t fs n (first + turns_per_step * n) s []) (sym from_main)
       (turns_before t fs first n (turns_per_step * n + credit c) n (first + turns_per_step * n) s
       b.state [] [] (exec program n c) (omega arith) (omega arith) b.comes
-      (matched_run t fs program turns_per_step credit n b.state c b.follows
+      (matched_run t fs program turns_per_step credit n b.state c b.steps
       (subst HasRule from_main rule)))
 
 pub programs_all : ProgramsShowAll

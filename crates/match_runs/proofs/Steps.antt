@@ -1,12 +1,13 @@
--- Steps of linear code, and what they show whatever follows.
+-- Steps of linear code, and what they show whatever steps_are_matched.
 use Rattle.std.proofs.Common.{◌≡◌, ℕ, zero, suc, ◌+◌, List, refl, ap, subst, ◌∙◌, arith}
 use Rattle.std.specs.Prelude.{Option, Some, None}
-use Rattle.match_runs.specs.Words.{State, Functions, Funclet, LinearProgram, Instruction, Configuration, Finished, Running, Seen, with_some, act, instruction_at, exec, HasRule, Follows, IsMatched, Stuck, StepIsMatched, Simulates}
+use Rattle.match_runs.specs.Words.{State, Functions, Funclet, LinearProgram, Instruction, Configuration, Finished, Running, Seen, with_some, act, instruction_at, exec, HasRule, IsMatched, Stuck, StepIsMatched, Simulates}
 use Rattle.linear_machine.proofs.RunLengths.{More, longer}
 use Rattle.match_runs.proofs.Matches.{matched_as}
+use Rattle.match_runs.specs.Words.{StepsAreMatched}
 
 module _ (program : LinearProgram) where
-  -- a step and what follows
+  -- a step and what steps_are_matched
   pub one_more : (n : ℕ) (c : Configuration) → exec program (suc n) c
       ≡ with_some c.events (instruction_at program c) (λ i. act program i (exec program n) c)
   unfolding exec
@@ -74,11 +75,11 @@ module _ (t : Functions) (fs : List Funclet) (program : LinearProgram) (turns_pe
 
   -- ---- relations that each step keeps
 
-  pub follows : (R : ℕ → State → Configuration → Type 0)
+  pub steps_are_matched : (R : ℕ → State → Configuration → Type 0)
       → Simulates t fs program turns_per_step credit R → (n : ℕ) (s : State) (c : Configuration)
-      → R n s c → Follows t fs program turns_per_step credit n s c
-  follows R simulates zero s c r = simulates.live s c r
-  follows R simulates (suc n) s c r = λ i at rule. matched_as t fs program credit turns_per_step
-      (R n)
-      (Follows t fs program turns_per_step credit n) (follows R simulates n) s c i
+      → R n s c → StepsAreMatched t fs program turns_per_step credit n s c
+  steps_are_matched R simulates zero s c r = simulates.live s c r
+  steps_are_matched R simulates (suc n) s c r = λ i at rule. matched_as t fs program credit
+      turns_per_step (R n)
+      (StepsAreMatched t fs program turns_per_step credit n) (steps_are_matched R simulates n) s c i
       (simulates.steps n s c r i at rule)

@@ -18,7 +18,7 @@ use Rattle.match_runs.specs.Shadow.{WalkGives}
 use Rattle.match_runs.specs.Shadowed.{WalkGivesShadow}
 use Rattle.match_runs.specs.Comes.{Comes}
 use Rattle.match_runs.specs.Ends.{run_end_of, HasRule, IsCalm}
-use Rattle.match_runs.specs.Matched.{Follows}
+use Rattle.match_runs.specs.Matched.{StepsAreMatched}
 
 -- a run of the machine shows these events at least; where the program has ended, the run has ended
 -- so and shows nothing else
@@ -40,7 +40,7 @@ RunsShowAll =
     (t : Functions) (fs : List Funclet) (program : LinearProgram) (turns_per_step : ℕ)
     (credit : Configuration → ℕ)
     (n turns : ℕ) (s : State) (c : Configuration)
-    → Follows t fs program turns_per_step credit n s c → HasRule (exec program n c)
+    → StepsAreMatched t fs program turns_per_step credit n s c → HasRule (exec program n c)
     → turns_per_step * n + credit c ≤ turns
     → ShowsAll (shown (exec program n c)) (run t fs turns (host s) c.events)
 
@@ -50,7 +50,7 @@ RunsShowNoMore =
     (t : Functions) (fs : List Funclet) (program : LinearProgram) (turns_per_step : ℕ)
     (credit : Configuration → ℕ)
     (m n : ℕ) (s : State) (c : Configuration)
-    → Follows t fs program turns_per_step credit n s c → IsCalm (exec program n c) → m ≤ n
+    → StepsAreMatched t fs program turns_per_step credit n s c → IsCalm (exec program n c) → m ≤ n
     → ShowsNoMore (shown (exec program n c)) (run t fs m (host s) c.events)
 
 -- ---- whole programs
@@ -65,7 +65,7 @@ pub record RunBegins (t : Functions) (fs : List Funclet) (program : LinearProgra
   pub state : State
   pub comes : Comes t fs first s [] state
   pub no_credit : credit (start program arg main) ≡ 0
-  pub follows : Follows t fs program turns_per_step credit n state (start program arg main)
+  pub steps : StepsAreMatched t fs program turns_per_step credit n state (start program arg main)
 
 -- a program's run shows all that its linear code shows
 abbrev pub ProgramsShowAll : Type 0

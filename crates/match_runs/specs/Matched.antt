@@ -94,9 +94,9 @@ module _ (t : Functions) (fs : List Funclet) (program : LinearProgram) (turns_pe
       → HasRule (act program i (exec program zero) c) → IsMatched Represents s c i
 
   -- so many steps are matched, one after another
-  abbrev pub Follows : ℕ → State → Configuration → Type 0
-  Follows zero s c = IsLive s
-  Follows (suc n) s c = StepIsMatched (Follows n) s c
+  abbrev pub StepsAreMatched : ℕ → State → Configuration → Type 0
+  StepsAreMatched zero s c = IsLive s
+  StepsAreMatched (suc n) s c = StepIsMatched (StepsAreMatched n) s c
 
   -- a relation that each step keeps; it may speak of the number of steps that are left
   pub record Simulates (R : ℕ → State → Configuration → Type 0) : Type 0 where

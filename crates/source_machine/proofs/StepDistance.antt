@@ -2,7 +2,7 @@
 use Rattle.std.proofs.Common.{◌≡◌, ℕ, zero, suc, ◌+◌, ◌*◌, ◌<◌, List, [], ◌∷◌, length, refl, arith}
 use Rattle.std.proofs.Common.{lit<, Option, Some, None}
 use Rattle.std.specs.Prelude.{Bool, true, false, nat_eq, nat_lt, slice_get, ◌^◌}
-use Rattle.source_machine.specs.Words.{W32, low, BuiltIn, Put, Protect, RaiseException, Operation, performed, Program, Function, Expression, On, Node, Lvalue, Local, Global, Indirection, Element, Arguments, Done, Filter, Always, Funclet, Statement, Statements, Empty, Declared, is_reserved, Exception, Result, Value, Normal, Returned, Continued, LeftTry, Target, End, Handler, Task, Place, Callee, OperandFrame, AssignmentFrame, StatementFrame, SequelFrame, BodyFrame, ContinuationFrame, Operand, Assignment, InStatement, Sequel, Body, EndsCall, Lands, Finishes, Next, Over, Give, Start, Begin, Plan, Then, Push, chosen, node_plan, expression_plan, find_plan, pass_plan, operand_plan, assignment_plan, evaluated, branch, answer_plan, in_statement_plan, sequel_plan, body_plan, proceed_plan, declare_plan, statement_plan, Machine, follow, unless_deep, started, begun, fetched, put, operated, entered, built_in, called, declared, asked_by, asked, searched, target_landed, landed, finished, left_call, after_value, after_normal, after_body, resumed, given, outside, done, is_deep, with_local, is_over, operand_worth, assignment_worth, statement_worth, worth, all_worth, next_worth, distance, Decreases}
+use Rattle.source_machine.specs.Words.{W32, low, BuiltIn, Put, Protect, RaiseException, Operation, performed, Program, Function, Expression, On, Node, Lvalue, Local, Global, Indirection, Element, Arguments, Done, Filter, Always, Funclet, Statement, Statements, Empty, Declared, is_reserved, Exception, Result, Value, Normal, Continued, LeftTry, Target, End, Handler, Task, Place, Callee, OperandFrame, AssignmentFrame, StatementFrame, SequelFrame, BodyFrame, ContinuationFrame, Operand, Assignment, InStatement, Sequel, Body, EndsCall, Lands, Finishes, Next, Over, Give, Start, Begin, Plan, Then, Push, chosen, node_plan, expression_plan, find_plan, pass_plan, operand_plan, assignment_plan, evaluated, branch, answer_plan, in_statement_plan, sequel_plan, body_plan, proceed_plan, declare_plan, statement_plan, Machine, follow, unless_deep, started, begun, fetched, put, operated, entered, built_in, called, declared, asked_by, asked, searched, target_landed, landed, finished, left_call, after_value, after_normal, after_body, resumed, given, outside, done, is_deep, with_local, is_over, operand_worth, assignment_worth, statement_worth, worth, all_worth, next_worth, distance, Decreases}
 use Rattle.c_operations.specs.Performed as performing
 use Rattle.c_checked.specs.Expression as nodes
 use Rattle.c_checked.specs.Expression.{Next as Another}
@@ -46,31 +46,12 @@ evaluated_worth f (Some e) p plan b lt le = le
 node_worth : (n : Node) (p : Place) → plan_worth (node_plan n p) < 30
 unfolding plan_worth
 node_worth (nodes.Constant z n) p = lit< tt
-node_worth (nodes.Read l) p = lit< tt
-node_worth (nodes.AddressOf l) p = lit< tt
-node_worth (nodes.Assign l e) p = lit< tt
-node_worth (nodes.CompoundAssign l before o e after) p = lit< tt
-node_worth (nodes.Increment k l before o n after) p = lit< tt
-node_worth (nodes.Unary o e) p = lit< tt
-node_worth (nodes.Binary o e f) p = lit< tt
-node_worth (nodes.PointerDifference size e f) p = lit< tt
-node_worth (nodes.Not e) p = lit< tt
-node_worth (nodes.And e f) p = lit< tt
-node_worth (nodes.Or e f) p = lit< tt
-node_worth (nodes.Conditional c e f) p = lit< tt
-node_worth (nodes.Comma e f) p = lit< tt
-node_worth (nodes.Call f es) p = lit< tt
-node_worth (nodes.CallBuiltIn k es) p = lit< tt
-node_worth nodes.ExceptionCode p = lit< tt
-node_worth (nodes.Information f) p = lit< tt
-node_worth nodes.AbnormalTermination p = lit< tt
+node_worth x p = lit< tt
 
 find_worth : (l : Lvalue) (p : Place) → plan_worth (find_plan l p) < 21
 unfolding plan_worth
 find_worth (Local x) p = lit< tt
-find_worth (Global access a) p = lit< tt
-find_worth (Indirection access e) p = lit< tt
-find_worth (Element access e i) p = lit< tt
+find_worth y p = lit< tt
 
 pass_worth : (callee : Callee) (vs : List ℕ) (es : Arguments) (p : Place)
     → plan_worth (pass_plan callee vs es p) < 24
@@ -95,16 +76,10 @@ statement_plan_worth (statements.Block ss) p = lit< tt
 statement_plan_worth (statements.Evaluate e) p =
     evaluated_worth frames.EndsEvaluation e p _ 40 (lit< tt) (lit< tt)
 statement_plan_worth (statements.If c s) p = lit< tt
-statement_plan_worth (statements.IfElse c s t) p = lit< tt
-statement_plan_worth (statements.For ds first c next s) p = lit< tt
-statement_plan_worth (statements.DoWhile s c) p = lit< tt
 statement_plan_worth (statements.Return e) p =
     evaluated_worth frames.Returns e p _ 40 (lit< tt) (lit< tt)
 statement_plan_worth statements.Break p = lit< tt
-statement_plan_worth statements.Continue p = lit< tt
-statement_plan_worth statements.Leave p = lit< tt
-statement_plan_worth (statements.TryExcept body filter block) p = lit< tt
-statement_plan_worth (statements.TryFinally body k last) p = lit< tt
+statement_plan_worth x p = lit< tt
 
 expression_worth : (e : Expression) (p : Place) → plan_worth (expression_plan e p) < 40
 unfolding plan_worth
@@ -116,14 +91,6 @@ operand_plan_worth : (f : OperandFrame) (v : ℕ)
     → plan_worth (operand_plan f v) < operand_worth f + 20
 unfolding plan_worth
 operand_plan_worth (frames.Converts c) v = lit< tt
-operand_plan_worth (frames.EvaluatesIndex i p) v = lit< tt
-operand_plan_worth (frames.AddsIndex a) v = lit< tt
-operand_plan_worth (frames.Applies o) v = lit< tt
-operand_plan_worth (frames.EvaluatesRight o f p) v = lit< tt
-operand_plan_worth (frames.Operates o x p) v = lit< tt
-operand_plan_worth (frames.EvaluatesSubtrahend size f p) v = lit< tt
-operand_plan_worth (frames.Measures size x) v = lit< tt
-operand_plan_worth frames.Inverts v = lit< tt
 operand_plan_worth (frames.EvaluatesIfTrue f p) v =
     chosen_worth (nat_eq v 0) _ _ 22 (lit< tt) (lit< tt)
 operand_plan_worth (frames.EvaluatesIfFalse f p) v =
@@ -132,22 +99,13 @@ operand_plan_worth frames.Tests v = lit< tt
 operand_plan_worth (frames.Chooses e f p) v = chosen_worth (nat_eq v 0) _ _ 21 (lit< tt) (lit< tt)
 operand_plan_worth (frames.Discards f p) v = lit< tt
 operand_plan_worth (frames.PassesArgument callee vs es p) v = lit< tt
+operand_plan_worth x v = lit< tt
 
 assignment_plan_worth : (f : AssignmentFrame) (v : ℕ)
     → plan_worth (assignment_plan f v) < assignment_worth f + 20
 unfolding plan_worth
 assignment_plan_worth (frames.ReadsPlace l p) v = lit< tt
-assignment_plan_worth (frames.Extends access) v = lit< tt
-assignment_plan_worth (frames.EvaluatesAssigned l e p) v = lit< tt
-assignment_plan_worth (frames.Assigns l a p) v = lit< tt
-assignment_plan_worth (frames.ReadsCompound k p) v = lit< tt
-assignment_plan_worth (frames.EvaluatesCompound k a p) v = lit< tt
-assignment_plan_worth (frames.OperatesCompound k a x p) v = lit< tt
-assignment_plan_worth (frames.AssignsCompound k a p) v = lit< tt
-assignment_plan_worth (frames.ReadsStepped k p) v = lit< tt
-assignment_plan_worth (frames.OperatesStepped k a p) v = lit< tt
-assignment_plan_worth (frames.AssignsStepped k a x p) v = lit< tt
-assignment_plan_worth (frames.GivesStepped k x) v = lit< tt
+assignment_plan_worth x v = lit< tt
 
 branch_worth : (c : Bool) (s : Statement) (t : Option Statement) (p : Place)
     → plan_worth (branch c s t p) < 22
@@ -185,9 +143,7 @@ sequel_plan_worth (frames.DeclaresRest ds p) = lit< tt
 sequel_plan_worth (frames.EvaluatesFirst first k p) =
     evaluated_worth (frames.Iterates k p) first p _ 22 (lit< tt) (lit< tt)
 sequel_plan_worth (frames.Retries o a b p) = lit< tt
-sequel_plan_worth frames.GivesZero = lit< tt
-sequel_plan_worth (frames.GivesResult how) = lit< tt
-sequel_plan_worth frames.EndsFinally = lit< tt
+sequel_plan_worth x = lit< tt
 
 body_plan_worth : (f : BodyFrame) → plan_worth (body_plan f) < 23
 unfolding plan_worth
@@ -216,9 +172,7 @@ body_decreases m plan h how = omega arith
 
 call_decreases : (m : Machine) (n : ℕ) (how : Result) → distance (left_call m n how) < at_worth m 21
 call_decreases m n (End e) = omega arith
-call_decreases m n Normal = omega arith
-call_decreases m n (Returned v) = omega arith
-call_decreases m n how = omega arith
+call_decreases m n x = omega arith
 
 target_decreases : (c : Bool) (m : Machine) (held : ℕ) (block : Statements) (p : Place) (to : ℕ)
     (exc : Exception) → distance (target_landed m c held block p to exc) < at_worth m 22
@@ -236,9 +190,7 @@ finish_decreases : (m : Machine) (k : ℕ) (last : Statements) (p : Place) (how 
     → distance (finished m k last p how) < at_worth m 21
 unfolding plan_worth
 finish_decreases m k last p (End e) = omega arith
-finish_decreases m k last p Normal = omega arith
-finish_decreases m k last p LeftTry = omega arith
-finish_decreases m k last p how = omega arith
+finish_decreases m k last p x = omega arith
 
 resumed_decreases : (m : Machine) (f : ContinuationFrame) (how : Result)
     → distance (resumed m f how) < at_worth m (worth f + 20)
@@ -248,27 +200,14 @@ resumed_decreases m (Operand f) how =
   where
     operand_more : (f : OperandFrame) → 20 < operand_worth f + 20
     operand_more (frames.PassesArgument callee vs es p) = lit< tt
-    operand_more (frames.Operates o x p) = lit< tt
-    operand_more (frames.EvaluatesIfTrue f p) = lit< tt
-    operand_more (frames.EvaluatesIfFalse f p) = lit< tt
-    operand_more f = lit< tt
+    operand_more x = lit< tt
 resumed_decreases m (Assignment f) how =
     value_decreases m (assignment_plan f) (assignment_worth f + 20) (assignment_more f)
     (assignment_plan_worth f) how
   where
     assignment_more : (f : AssignmentFrame) → 20 < assignment_worth f + 20
     assignment_more (frames.ReadsPlace l p) = lit< tt
-    assignment_more (frames.Extends access) = lit< tt
-    assignment_more (frames.EvaluatesAssigned l e p) = lit< tt
-    assignment_more (frames.Assigns l a p) = lit< tt
-    assignment_more (frames.ReadsCompound k p) = lit< tt
-    assignment_more (frames.EvaluatesCompound k a p) = lit< tt
-    assignment_more (frames.OperatesCompound k a x p) = lit< tt
-    assignment_more (frames.AssignsCompound k a p) = lit< tt
-    assignment_more (frames.ReadsStepped k p) = lit< tt
-    assignment_more (frames.OperatesStepped k a p) = lit< tt
-    assignment_more (frames.AssignsStepped k a x p) = lit< tt
-    assignment_more (frames.GivesStepped k x) = lit< tt
+    assignment_more x = lit< tt
 resumed_decreases m (InStatement f) how =
     value_decreases m (in_statement_plan f) (statement_worth f + 20) (statement_more f)
     (in_statement_worth f) how
@@ -317,17 +256,13 @@ fetched_decreases : (m : Machine) (l : Lvalue) (a : ℕ) (p : Place)
     → distance (fetched m l a p) < at_worth m 23
 unfolding plan_worth
 fetched_decreases m (Local x) a p = omega arith
-fetched_decreases m (Global access _) a p = omega arith
-fetched_decreases m (Indirection access _) a p = omega arith
-fetched_decreases m (Element access _ _) a p = omega arith
+fetched_decreases m y a p = omega arith
 
 put_decreases : (m : Machine) (l : Lvalue) (a v : ℕ) (p : Place)
     → distance (put m l a v p) < at_worth m 22
 unfolding plan_worth
 put_decreases m (Local x) a v p = omega arith
-put_decreases m (Global access _) a v p = omega arith
-put_decreases m (Indirection access _) a v p = omega arith
-put_decreases m (Element access _ _) a v p = omega arith
+put_decreases m y a v p = omega arith
 
 operated_decreases : (m : Machine) (o : Operation) (a b : ℕ) (p : Place)
     (x : performing.OperationResult)
@@ -397,10 +332,8 @@ done_decreases program m (frames.Proceed ss p) e = followed m _ 21 (proceed_wort
 done_decreases program m (frames.DeclareEach ds p) e = followed m _ 21 (declare_worth ds p)
 done_decreases program m (frames.DeclareName d p) e = declared_decreases m d p
 done_decreases program m (frames.SetLocal x v p) e = omega arith
-done_decreases program m (frames.Guard body filter block p) e = omega arith
-done_decreases program m (frames.Answer v) e = omega arith
-done_decreases program m frames.LetGo e = omega arith
 done_decreases program m (frames.Search level exc p) e = searched_decreases m level exc p
+done_decreases program m y e = omega arith
 
 pub decreases : Decreases
 decreases program m e = done_decreases program m m.next e

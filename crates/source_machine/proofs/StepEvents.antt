@@ -2,7 +2,7 @@
 use Rattle.std.proofs.Common.{ℕ, zero, suc, List, [], ◌∷◌, ◌++◌, length, refl, Option, Some, None}
 use Rattle.std.specs.Prelude.{Bool, true, false, nat_eq, slice_get}
 use Rattle.seh_num.specs.declared.event.Event.{Event}
-use Rattle.source_machine.specs.Words.{BuiltIn, Put, Protect, RaiseException, Operation, performed, Program, Function, Lvalue, Local, Global, Indirection, Element, Filter, Always, Funclet, Statements, is_reserved, Exception, Result, Value, Normal, Returned, Continued, LeftTry, Target, End, Handler, Task, IsPrefixOf, Place, Callee, ContinuationFrame, Operand, Assignment, InStatement, Sequel, Body, EndsCall, Lands, Finishes, Next, Over, Give, Start, Begin, Plan, Then, Push, operand_plan, assignment_plan, in_statement_plan, sequel_plan, body_plan, Machine, follow, unless_deep, started, begun, fetched, put, operated, entered, built_in, called, asked_by, asked, searched, target_landed, landed, finished, left_call, after_value, after_normal, after_body, resumed, given, outside, done, is_deep, with_local, Extends}
+use Rattle.source_machine.specs.Words.{BuiltIn, Put, Protect, RaiseException, Operation, performed, Program, Function, Lvalue, Local, Filter, Always, Funclet, Statements, is_reserved, Exception, Result, Value, Normal, Continued, LeftTry, Target, End, Handler, Task, IsPrefixOf, Place, Callee, ContinuationFrame, Operand, Assignment, InStatement, Sequel, Body, EndsCall, Lands, Finishes, Next, Over, Give, Start, Begin, Plan, Then, Push, operand_plan, assignment_plan, in_statement_plan, sequel_plan, body_plan, Machine, follow, unless_deep, started, begun, fetched, put, operated, entered, built_in, called, asked_by, asked, searched, target_landed, landed, finished, left_call, after_value, after_normal, after_body, resumed, given, outside, done, is_deep, with_local, Extends}
 use Rattle.c_operations.specs.Performed as performing
 use Rattle.source_meaning.specs.Tasks as tasks
 use Rattle.source_machine.specs.Frames as frames
@@ -42,9 +42,7 @@ body_shows m plan how = prefix_self m.state.events
 
 call_shows : (m : Machine) (n : ℕ) (how : Result) → Shows m.state.events (left_call m n how)
 call_shows m n (End e) = prefix_self m.state.events
-call_shows m n Normal = prefix_self m.state.events
-call_shows m n (Returned v) = prefix_self m.state.events
-call_shows m n how = prefix_self m.state.events
+call_shows m n x = prefix_self m.state.events
 
 target_shows : (b : Bool) (m : Machine) (held : ℕ) (block : Statements) (p : Place) (to : ℕ)
     (exc : Exception) → Shows m.state.events (target_landed m b held block p to exc)
@@ -61,9 +59,7 @@ land_shows m held block p how = prefix_self m.state.events
 finish_shows : (m : Machine) (k : ℕ) (last : Statements) (p : Place) (how : Result)
     → Shows m.state.events (finished m k last p how)
 finish_shows m k last p (End e) = prefix_self m.state.events
-finish_shows m k last p Normal = prefix_self m.state.events
-finish_shows m k last p LeftTry = prefix_self m.state.events
-finish_shows m k last p how = prefix_self m.state.events
+finish_shows m k last p x = prefix_self m.state.events
 
 resumed_shows : (m : Machine) (f : ContinuationFrame) (how : Result)
     → Shows m.state.events (resumed m f how)
@@ -105,15 +101,11 @@ begun_shows m (tasks.Retry o a b) p = prefix_self m.state.events
 fetched_shows : (m : Machine) (l : Lvalue) (a : ℕ) (p : Place)
     → Shows m.state.events (fetched m l a p)
 fetched_shows m (Local x) a p = prefix_self m.state.events
-fetched_shows m (Global access _) a p = prefix_self m.state.events
-fetched_shows m (Indirection access _) a p = prefix_self m.state.events
-fetched_shows m (Element access _ _) a p = prefix_self m.state.events
+fetched_shows m y a p = prefix_self m.state.events
 
 put_shows : (m : Machine) (l : Lvalue) (a v : ℕ) (p : Place) → Shows m.state.events (put m l a v p)
 put_shows m (Local x) a v p = prefix_self m.state.events
-put_shows m (Global access _) a v p = prefix_self m.state.events
-put_shows m (Indirection access _) a v p = prefix_self m.state.events
-put_shows m (Element access _ _) a v p = prefix_self m.state.events
+put_shows m y a v p = prefix_self m.state.events
 
 operated_shows : (m : Machine) (o : Operation) (a b : ℕ) (p : Place)
     (x : performing.OperationResult)

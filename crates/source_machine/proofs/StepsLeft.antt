@@ -1,7 +1,7 @@
 -- What is done next doesn't look at how many steps are left, unless it begins a task.
 use Rattle.std.proofs.Common.{◌≡◌, ℕ, zero, suc, List, [], ◌∷◌, length, refl, Option, Some, None}
 use Rattle.std.specs.Prelude.{Bool, true, false, nat_eq, slice_get}
-use Rattle.source_machine.specs.Words.{BuiltIn, Put, Protect, RaiseException, Operation, performed, Program, Function, Lvalue, Local, Global, Indirection, Element, Filter, Always, Funclet, Statements, is_reserved, Exception, Result, Value, Normal, Returned, Continued, LeftTry, Target, End, Handler, Task, Place, Callee, ContinuationFrame, Operand, Assignment, InStatement, Sequel, Body, EndsCall, Lands, Finishes, Next, Over, Give, Start, Begin, Plan, Then, Push, operand_plan, assignment_plan, in_statement_plan, sequel_plan, body_plan, Machine, follow, unless_deep, begun, fetched, put, operated, entered, built_in, called, asked_by, asked, searched, target_landed, landed, finished, left_call, after_value, after_normal, after_body, resumed, given, outside, done, is_deep, with_local}
+use Rattle.source_machine.specs.Words.{BuiltIn, Put, Protect, RaiseException, Operation, performed, Program, Function, Lvalue, Local, Filter, Always, Funclet, Statements, is_reserved, Exception, Result, Value, Normal, Continued, LeftTry, Target, End, Handler, Task, Place, Callee, ContinuationFrame, Operand, Assignment, InStatement, Sequel, Body, EndsCall, Lands, Finishes, Next, Over, Give, Start, Begin, Plan, Then, Push, operand_plan, assignment_plan, in_statement_plan, sequel_plan, body_plan, Machine, follow, unless_deep, begun, fetched, put, operated, entered, built_in, called, asked_by, asked, searched, target_landed, landed, finished, left_call, after_value, after_normal, after_body, resumed, given, outside, done, is_deep, with_local}
 use Rattle.c_operations.specs.Performed as performing
 use Rattle.source_meaning.specs.Tasks as tasks
 use Rattle.source_machine.specs.Frames as frames
@@ -39,9 +39,7 @@ module _ (l : ℕ) where
   call : (m : Machine) (n : ℕ) (how : Result)
       → left_call (with_left l m) n how ≡ with_left l (left_call m n how)
   call m n (End e) = refl
-  call m n Normal = refl
-  call m n (Returned v) = refl
-  call m n how = refl
+  call m n x = refl
 
   target : (b : Bool) (m : Machine) (held : ℕ) (block : Statements) (p : Place) (to : ℕ)
       (exc : Exception)
@@ -59,9 +57,7 @@ module _ (l : ℕ) where
   finish : (m : Machine) (k : ℕ) (last : Statements) (p : Place) (how : Result)
       → finished (with_left l m) k last p how ≡ with_left l (finished m k last p how)
   finish m k last p (End e) = refl
-  finish m k last p Normal = refl
-  finish m k last p LeftTry = refl
-  finish m k last p how = refl
+  finish m k last p x = refl
 
   resume : (m : Machine) (f : ContinuationFrame) (how : Result)
       → resumed (with_left l m) f how ≡ with_left l (resumed m f how)
@@ -95,16 +91,12 @@ module _ (l : ℕ) where
   fetch : (m : Machine) (at : Lvalue) (a : ℕ) (p : Place)
       → fetched (with_left l m) at a p ≡ with_left l (fetched m at a p)
   fetch m (Local x) a p = refl
-  fetch m (Global access _) a p = refl
-  fetch m (Indirection access _) a p = refl
-  fetch m (Element access _ _) a p = refl
+  fetch m y a p = refl
 
   puts : (m : Machine) (at : Lvalue) (a v : ℕ) (p : Place)
       → put (with_left l m) at a v p ≡ with_left l (put m at a v p)
   puts m (Local x) a v p = refl
-  puts m (Global access _) a v p = refl
-  puts m (Indirection access _) a v p = refl
-  puts m (Element access _ _) a v p = refl
+  puts m y a v p = refl
 
   operate : (m : Machine) (o : Operation) (a b : ℕ) (p : Place) (x : performing.OperationResult)
       → operated (with_left l m) o a b p x ≡ with_left l (operated m o a b p x)
@@ -165,7 +157,5 @@ module _ (l : ℕ) where
   alike program m (frames.DeclareEach ds p) = follows m _
   alike program m (frames.DeclareName d p) = follows (with_local m p d.local 0) _
   alike program m (frames.SetLocal x v p) = refl
-  alike program m (frames.Guard ss f block p) = refl
-  alike program m (frames.Answer v) = refl
-  alike program m frames.LetGo = refl
   alike program m (frames.Search level exc p) = searches m level exc p
+  alike program m y = refl

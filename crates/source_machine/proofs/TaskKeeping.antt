@@ -52,16 +52,10 @@ module _ (program : Program) (d : Does) where
   statement_keeps m (statements.Evaluate e) p =
       evaluated_keeps program d m frames.EndsEvaluation e p ends 0 refl
   statement_keeps m (statements.If c s) p = refl
-  statement_keeps m (statements.IfElse c s t) p = refl
-  statement_keeps m (statements.For ds first c next s) p = refl
-  statement_keeps m (statements.DoWhile s c) p = refl
   statement_keeps m (statements.Return e) p =
       evaluated_keeps program d m frames.Returns e p _ 0 refl
   statement_keeps m statements.Break p = refl
-  statement_keeps m statements.Continue p = refl
-  statement_keeps m statements.Leave p = refl
-  statement_keeps m (statements.TryExcept body filter block) p = refl
-  statement_keeps m (statements.TryFinally body k last) p = refl
+  statement_keeps m x p = refl
 
   -- ---- tasks
 
