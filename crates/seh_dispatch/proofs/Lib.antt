@@ -7,3 +7,4 @@ pub mod TurnOutcomes
 pub mod TableEntries
 pub mod FuncletOrder
 pub mod FuncletInsertion
+pub mod QuietTurns
