@@ -18,6 +18,7 @@ use seh_dispatch::gathering::funclets_in;
 use seh_num::extension::wrap;
 use seh_num::width::Width;
 use std::alloc::{AllocError, Global};
+use x64_decoded::cache::InstructionCache;
 use x64_instr::register::Reg;
 use x64_machine::cpu::{Cpu, Flags};
 use x64_memory::page_map::PageMap;
@@ -107,11 +108,15 @@ pub fn load<'image, 'bytes>(
     let Ok(funclets) = funclets_in(alloc, &tables) else {
         return Err(LoadErr::Memory);
     };
+    let Ok(instructions) = InstructionCache::new(alloc) else {
+        return Err(LoadErr::Memory);
+    };
     Ok(Host {
         cpu: first_cpu(image.base() + image.entry(), arg),
         space,
         end: None,
         tables,
         funclets,
+        instructions,
     })
 }
