@@ -27,3 +27,7 @@ returns-clause-loaded c =
     ∙ sym (ap (over (start image c.args.arg))
     (place_above image image.entry (c.in_default.ensures.place refl))) in
     λ i. record { functions = functions i; funclets = listed i; host = going i }
+
+pub invariant_of-result-clause-coherent : goal.invariant_of-result-clause-coherent
+invariant_of-result-clause-coherent c =
+    λ e. c.in-Ok-new.ensures (memory_of c.in-Ok-mapped.space)

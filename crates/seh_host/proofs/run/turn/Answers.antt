@@ -1,4 +1,4 @@
-use Rattle.std.proofs.Common.{◌≡◌, Bool, false, is_some, Option, Some, None, refl, sym, ◌∙◌}
+use Rattle.std.proofs.Common.{◌≡◌, false, is_some, Option, Some, None, refl, sym, ◌∙◌}
 use Rattle.seh_num.specs.declared.end.RunEnd.{RunEnd}
 use Rattle.seh_host.proofs.run.turn.Goals as goal
 
@@ -8,4 +8,5 @@ lives (Some x) e = absurd cc
 
 pub advance-host-requires-clause-coherent : goal.advance-host-requires-clause-coherent
 advance-host-requires-clause-coherent g c =
-    c.args.host.now.coherent (lives c.args.host.now.end (sym c.is_some.ensures ∙ c.if-is_some.false))
+    let host = c.args.host.now in
+    host.coherent (lives host.end (sym c.is_some.ensures ∙ c.if-is_some.false))
