@@ -1,10 +1,8 @@
 -- What the tests of addresses say.
-use Rattle.std.proofs.Common.{◌≡◌, ℕ, ◌+◌, ◌%◌, ◌^◌, Bool, true, false, cond, Some, None, Result, Err, refl, subst, arith, inl, inr}
-use Rattle.std.proofs.lemmas.Bool.{cases_lt}
+use Rattle.std.proofs.Common.{◌≡◌, ℕ, Bool, true, false, cond, Some, None, Result, Err, refl}
 use Rattle.seh_num.specs.declared.width.Width.TheVariants.{W8}
 use Rattle.flat_memory.specs.declared.access.RefusedAccess.{RefusedAccess}
 use Rattle.flat_memory.specs.Memory.{Memory, first_refused, may_write, access, stored}
-use Rattle.x64_decoded.specs.Fixed.{IsFixedAt, AreFixed}
 
 -- a refused store of one byte
 pub refused_write : (m : Memory) (at : ℕ) (a : RefusedAccess) → Err a ≡ stored m at W8
@@ -17,11 +15,3 @@ refused_write m at a e = go (may_write m at) e
         → b ≡ false
     go true e = absurd cc
     go false e = refl
-
--- one address more
-pub more_fixed : (m : Memory) (n at : ℕ) → AreFixed m n at → IsFixedAt m ((at + n) % 2 ^ 64)
-    → AreFixed m (n + 1) at
-more_fixed m n at f g i il = elim (cases_lt i n) [
-  | inl lt ↦ f i lt
-  | inr ge ↦ let e : n ≡ i = omega arith in subst (λ k. IsFixedAt m ((at + k) % 2 ^ 64)) e g
-]
