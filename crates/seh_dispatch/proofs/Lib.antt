@@ -8,3 +8,4 @@ pub mod TableEntries
 pub mod FuncletOrder
 pub mod FuncletInsertion
 pub mod QuietTurns
+pub mod FuncletMarks

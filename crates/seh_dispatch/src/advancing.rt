@@ -9,10 +9,12 @@ ghost use Rattle.host_model.specs.Turns.{shown_in};
 ghost use Rattle.host_model.specs.Funclets.{arrivals};
 ghost use Rattle.host_model.specs.HostStep.{turn, after};
 ghost use Rattle.seh_dispatch.specs.FuncletLists.{AreAscending, listed};
+ghost use Rattle.seh_dispatch.specs.Filters.{Admits};
 ghost use Rattle.seh_dispatch.specs.TurnEnds.{left};
 ghost use Rattle.seh_dispatch.specs.TurnEnds.{over_cpu};
 
 use crate::arrival::arrival;
+use crate::filter::FuncletFilter;
 use crate::outcome::TurnOutcome;
 use crate::serving::make;
 use eh_tables::Tables;
@@ -49,26 +51,35 @@ fn tell<V: Events>(to: &mut V, event: Option<Event>)
 }
 
 /// What follows where a turn has left RIP: the event of the funclet there, and the end at 0.
-fn arrive<V: Events>(tables: &Tables, funclets: &[Funclet], cpu: &Cpu, to: &mut V) -> Option<RunEnd>
+fn arrive<V: Events>(
+    tables: &Tables,
+    filter: &FuncletFilter,
+    funclets: &[Funclet],
+    cpu: &Cpu,
+    to: &mut V,
+) -> Option<RunEnd>
+    requires admitted { Admits filter.now funclets.now }
     requires few { length funclets.now < 2 ^ 32 - 1 }
     requires ascending { AreAscending 0 funclets.now }
     ensures end { result ≡ over_cpu cpu.now }
     ensures shown { V.took to.old
         (arrivals cpu.now (distance tables.now.image.base cpu.now.rip) 1 funclets.now) to.new }
 {
-    tell(to, arrival(funclets, tables.base(), cpu));
+    tell(to, arrival(filter, funclets, tables.base(), cpu));
     over(cpu)
 }
 
 /// One turn from a state that hasn't ended, whatever it comes to.
 fn dispatch<S: AddressSpace, V: Events>(
     tables: &Tables,
+    filter: &FuncletFilter,
     funclets: &[Funclet],
     cpu: &mut Cpu,
     space: &mut S,
     to: &mut V,
 ) -> Option<RunEnd>
     requires whole { TablesAreWhole tables.now }
+    requires admitted { Admits filter.now funclets.now }
     requires few { length funclets.now < 2 ^ 32 - 1 }
     requires ascending { AreAscending 0 funclets.now }
     ensures host { left cpu.new (S.memory space.new) result
@@ -83,7 +94,7 @@ fn dispatch<S: AddressSpace, V: Events>(
         TurnOutcome::Ends(end) => Some(end),
         TurnOutcome::Continues(event) => {
             tell(to, event);
-            arrive(tables, funclets, cpu, to)
+            arrive(tables, filter, funclets, cpu, to)
         }
     }
 }
@@ -93,6 +104,7 @@ fn dispatch<S: AddressSpace, V: Events>(
 /// so after a turn in which the run hasn't ended. No memory of the system is taken.
 pub fn advance<S: AddressSpace, V: Events>(
     tables: &Tables,
+    filter: &FuncletFilter,
     funclets: &[Funclet],
     instructions: &mut InstructionCache,
     cpu: &mut Cpu,
@@ -100,6 +112,7 @@ pub fn advance<S: AddressSpace, V: Events>(
     to: &mut V,
 ) -> Option<RunEnd>
     requires whole { TablesAreWhole tables.now }
+    requires admitted { Admits filter.now funclets.now }
     requires few { length funclets.now < 2 ^ 32 - 1 }
     requires ascending { AreAscending 0 funclets.now }
     requires coherent { IsCoherent (S.memory space.old) instructions.old }
@@ -110,7 +123,7 @@ pub fn advance<S: AddressSpace, V: Events>(
     ensures coherent { result ≡ None → IsCoherent (S.memory space.new) instructions.new }
 {
     if step(cpu, space, instructions) {
-        return arrive(tables, funclets, cpu, to);
+        return arrive(tables, filter, funclets, cpu, to);
     }
-    dispatch(tables, funclets, cpu, space, to)
+    dispatch(tables, filter, funclets, cpu, space, to)
 }

@@ -14,6 +14,7 @@ use crate::mapping::{has_entry, has_place, regions};
 use eh_tables::Tables;
 use host_layout::range::FIRST_STACK;
 use pe_image::ImageView;
+use seh_dispatch::filter::FuncletFilter;
 use seh_dispatch::gathering::funclets_in;
 use seh_num::extension::wrap;
 use seh_num::width::Width;
@@ -108,6 +109,9 @@ pub fn load<'image, 'bytes>(
     let Ok(funclets) = funclets_in(alloc, &tables) else {
         return Err(LoadErr::Memory);
     };
+    let Ok(filter) = FuncletFilter::new(alloc, &funclets) else {
+        return Err(LoadErr::Memory);
+    };
     let Ok(instructions) = InstructionCache::new(alloc) else {
         return Err(LoadErr::Memory);
     };
@@ -116,6 +120,7 @@ pub fn load<'image, 'bytes>(
         space,
         end: None,
         tables,
+        filter,
         funclets,
         instructions,
     })

@@ -31,6 +31,7 @@ pub fn turn<V: Events>(host: &mut Host<'_, '_>, to: &mut V) -> Turn
     }
     host.end = advance(
         &host.tables,
+        &host.filter,
         &host.funclets,
         &mut host.instructions,
         &mut host.cpu,

@@ -1,10 +1,11 @@
-use Rattle.std.proofs.Common.{◌≡◌, refl, ◌+◌, sym, ap, ◌∙◌, w64, to_z, of_z}
+use Rattle.std.proofs.Common.{◌≡◌, refl, ◌+◌, sym, ap, subst, ◌∙◌, w64, to_z, of_z}
 use Rattle.std.proofs.lemmas.Int.{to_z-of_z}
 use Rattle.x64_memory.specs.PageMaps.{memory_of}
 use Rattle.virtual_unwind.specs.CallerOf.{Functions}
 use Rattle.host_model.specs.Funclets.{funclets}
 use Rattle.host_model.specs.Loading.{first_cpu, start}
 use Rattle.host_model.specs.HostStep.{Live, host, over}
+use Rattle.seh_dispatch.specs.Filters.{Admits}
 use Rattle.seh_host.proofs.AsLoaded.{place_above}
 use Rattle.seh_host.proofs.Loaded.{functions_read}
 use Rattle.seh_host.proofs.loading.load.Goals as goal
@@ -30,4 +31,8 @@ returns-clause-loaded c =
 
 pub invariant_of-result-clause-coherent : goal.invariant_of-result-clause-coherent
 invariant_of-result-clause-coherent c =
-    λ e. c.in-Ok-new.ensures (memory_of c.in-Ok-mapped.space)
+    λ e. c.in-Ok-new-2.ensures (memory_of c.in-Ok-mapped.space)
+
+pub invariant_of-result-clause-admitted : goal.invariant_of-result-clause-admitted
+invariant_of-result-clause-admitted c =
+    subst (Admits c.in-Ok-new.filter) c.deref.ensures.value c.in-Ok-new.ensures
