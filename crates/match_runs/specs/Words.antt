@@ -29,7 +29,6 @@ pub use Rattle.host_model.specs.declared.funclet.Funclet.{Funclet}
 pub use Rattle.match_runs.specs.Comes.{Comes, IsLive}
 pub use Rattle.match_runs.specs.Ends.{HasRule, IsCalm, run_end_of}
 pub use Rattle.match_runs.specs.Laws.{ShowsAll, ShowsNoMore, RunBegins, RunsShowAll, RunsShowNoMore, ProgramsShowAll, ProgramsShowNoMore, ProgramsWalkTheShadow, TurnsAreEnough}
-pub use Rattle.match_runs.specs.Matched.{Follows, IsMatched, Fails, StepIsMatched, Simulates}
+pub use Rattle.match_runs.specs.Matched.{StepsAreMatched, IsMatched, Fails, StepIsMatched, Simulates}
 pub use Rattle.match_runs.specs.Shadow.{WalkGives, KeepsShadow, caller_at, if_below, drop_below, is_call, entered, started, served, by_step, callers_of, GivesCallers, AllKeep}
 use Rattle.match_runs.specs.Shadow.{shadow_after}
-use Rattle.match_runs.specs.Matched.{StepsAreMatched}

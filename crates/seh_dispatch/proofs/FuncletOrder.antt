@@ -80,7 +80,8 @@ addresses_rise low xs up i j d le within = elim (cases_lt i j) [
       (λ k. (get_or xs i d).address ≤ (get_or xs k d).address) e (omega arith)
 ]
 
-none_arrives : (c : Cpu) (rva k : ℕ) (fs : List Funclet) (d : Funclet)
+-- no event where no funclet begins
+pub none_arrives : (c : Cpu) (rva k : ℕ) (fs : List Funclet) (d : Funclet)
     → ((j : ℕ) → j < length fs → rva ≢ (get_or fs j d).address) → arrivals c rva k fs ≡ []
 none_arrives c rva k [] d other = refl
 none_arrives c rva k (f ∷ fs) d other =

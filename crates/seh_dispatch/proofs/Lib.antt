@@ -7,3 +7,5 @@ pub mod TurnOutcomes
 pub mod TableEntries
 pub mod FuncletOrder
 pub mod FuncletInsertion
+pub mod QuietTurns
+pub mod FuncletMarks

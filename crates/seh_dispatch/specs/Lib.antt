@@ -1,3 +1,5 @@
 pub mod Outcomes
 pub mod TurnEnds
 pub mod FuncletLists
+pub mod Marks
+pub mod Filters

@@ -5,7 +5,9 @@ ghost use Rattle.virtual_unwind.specs.CallerOf.{distance};
 ghost use Rattle.host_model.specs.Funclets as spec;
 ghost use Rattle.host_model.specs.declared.funclet.Funclet.{Funclet};
 ghost use Rattle.seh_dispatch.specs.FuncletLists.{AreAscending, listed};
+ghost use Rattle.seh_dispatch.specs.Filters.{Admits};
 
+use crate::filter::FuncletFilter;
 use host_model::funclet::Funclet;
 use seh_num::event::Event;
 use x64_instr::register::Reg;
@@ -37,13 +39,18 @@ fn count_below(funclets: &[Funclet], rva: u64) -> usize
     funclets.partition_point(|f| (f.address as u64) < rva)
 }
 
-/// The event where RIP is a funclet's first byte. The funclets are searched by halves.
-pub fn arrival(funclets: &[Funclet], base: u64, cpu: &Cpu) -> Option<Event>
+/// The event where RIP is a funclet's first byte. The funclets are searched by halves, where the
+/// filter lets the address pass.
+pub fn arrival(filter: &FuncletFilter, funclets: &[Funclet], base: u64, cpu: &Cpu) -> Option<Event>
+    requires admitted { Admits filter.now funclets.now }
     requires few { length funclets.now < 2 ^ 32 - 1 }
     requires ascending { AreAscending 0 funclets.now }
     ensures { listed result ≡ spec.arrivals cpu.now (distance base cpu.now.rip) 1 funclets.now }
 {
     let rva = cpu.rip.wrapping_sub(base);
+    if !filter.may_begin(rva) {
+        return None;
+    }
     let index = count_below(funclets, rva);
     if index >= funclets.len() {
         return None;

@@ -11,6 +11,7 @@ pub mod advancing;
 pub mod answering;
 pub mod arrival;
 pub mod dispatching;
+pub mod filter;
 pub mod gathering;
 pub mod outcome;
 pub mod serving;

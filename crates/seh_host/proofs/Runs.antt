@@ -1,10 +1,9 @@
 -- Runs, turn by turn.
-use Rattle.std.proofs.Common.{◌≡◌, ℕ, [], Option, Some, None, refl}
+use Rattle.std.proofs.Common.{◌≡◌, ℕ, Option, Some, None, refl}
 use Rattle.std.specs.Option.{unwrap_or}
 use Rattle.seh_num.specs.declared.end.RunEnd.{RunEnd}
 use Rattle.seh_num.specs.declared.end.RunEnd.TheVariants.{OutOfTurns}
 use Rattle.host_model.specs.HostStep.{end_of}
-use Rattle.seh_host.specs.declared.host.Turn.TheVariants as turns
 use Rattle.flat_memory.specs.Memory.{Memory}
 use Rattle.x64_machine.specs.declared.cpu.Cpu.{Cpu}
 use Rattle.seh_dispatch.specs.TurnEnds.{left}

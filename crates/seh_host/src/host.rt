@@ -1,25 +1,35 @@
-ghost use Rattle.std.specs.Prelude.{◌≡◌, ◌-◌, ◌<◌, ◌^◌, length};
+ghost use Rattle.std.specs.Prelude.{◌≡◌, ◌-◌, ◌<◌, ◌^◌, None, length};
 ghost use Rattle.eh_tables.specs.Tables.{TablesAreWhole, entries_of};
+ghost use Rattle.x64_memory.specs.PageMaps.{memory_of};
+ghost use Rattle.x64_decoded.specs.Caches.{IsCoherent};
 ghost use Rattle.host_model.specs.Funclets as spec;
+ghost use Rattle.seh_dispatch.specs.Filters.{Admits};
 
 use eh_tables::Tables;
 use host_model::funclet::Funclet;
+use seh_dispatch::filter::FuncletFilter;
 use seh_num::end::RunEnd;
+use x64_decoded::cache::InstructionCache;
 use x64_machine::cpu::Cpu;
 use x64_memory::page_map::PageMap;
 
 /// An image that is run: its registers and memory, and how its run ended, once it has; with its
-/// function table, which is read whole, and its funclets.
+/// function table, which is read whole, its funclets with their filter, and instructions that were
+/// decoded before, which agree with memory while the run lasts.
 #[derive(Drop)]
 pub struct Host<'image, 'bytes> {
     pub(crate) cpu: Cpu,
     pub(crate) space: PageMap,
     pub(crate) end: Option<RunEnd>,
     pub(crate) tables: Tables<'image, 'bytes>,
+    pub(crate) filter: FuncletFilter,
     pub(crate) funclets: Vec<Funclet>,
+    pub(crate) instructions: InstructionCache,
     ghost whole: { TablesAreWhole tables },
     ghost few: { length funclets.items < 2 ^ 32 - 1 },
+    ghost admitted: { Admits filter funclets.items },
     ghost listed: { funclets.items ≡ spec.funclets (entries_of tables) },
+    ghost coherent: { end ≡ None → IsCoherent (memory_of space) instructions },
 }
 
 /// Whether a turn was made.

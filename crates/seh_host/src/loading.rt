@@ -14,10 +14,12 @@ use crate::mapping::{has_entry, has_place, regions};
 use eh_tables::Tables;
 use host_layout::range::FIRST_STACK;
 use pe_image::ImageView;
+use seh_dispatch::filter::FuncletFilter;
 use seh_dispatch::gathering::funclets_in;
 use seh_num::extension::wrap;
 use seh_num::width::Width;
 use std::alloc::{AllocError, Global};
+use x64_decoded::cache::InstructionCache;
 use x64_instr::register::Reg;
 use x64_machine::cpu::{Cpu, Flags};
 use x64_memory::page_map::PageMap;
@@ -107,11 +109,19 @@ pub fn load<'image, 'bytes>(
     let Ok(funclets) = funclets_in(alloc, &tables) else {
         return Err(LoadErr::Memory);
     };
+    let Ok(filter) = FuncletFilter::new(alloc, &funclets) else {
+        return Err(LoadErr::Memory);
+    };
+    let Ok(instructions) = InstructionCache::new(alloc) else {
+        return Err(LoadErr::Memory);
+    };
     Ok(Host {
         cpu: first_cpu(image.base() + image.entry(), arg),
         space,
         end: None,
         tables,
+        filter,
         funclets,
+        instructions,
     })
 }

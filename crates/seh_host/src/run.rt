@@ -31,7 +31,9 @@ pub fn turn<V: Events>(host: &mut Host<'_, '_>, to: &mut V) -> Turn
     }
     host.end = advance(
         &host.tables,
+        &host.filter,
         &host.funclets,
+        &mut host.instructions,
         &mut host.cpu,
         &mut host.space,
         to,

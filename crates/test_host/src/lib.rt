@@ -2,6 +2,8 @@
 #![tactic(auto)]
 
 #[cfg(test)]
+mod decoded;
+#[cfg(test)]
 mod dispatched;
 #[cfg(test)]
 mod images;

@@ -1,64 +1,48 @@
-use Rattle.std.proofs.Common.{ℕ, ◌++◌, append-nil, sym, ap, ◌∙◌, subst}
-use Rattle.virtual_unwind.specs.CallerOf.{functions_of, distance}
-use Rattle.x64_machine.specs.Effect.{state}
+use Rattle.std.proofs.Common.{◌≡◌, sym, ap, subst, ◌∙◌}
+use Rattle.virtual_unwind.specs.CallerOf.{functions_of}
+use Rattle.x64_machine.specs.Effect.{State, state, step}
 use Rattle.host_model.specs.Turns.{shown_in}
-use Rattle.host_model.specs.Funclets.{arrivals}
-use Rattle.host_model.specs.HostStep.{after}
-use Rattle.seh_dispatch.specs.FuncletLists.{listed}
+use Rattle.host_model.specs.HostStep.{turn, after}
 use Rattle.seh_dispatch.specs.TurnEnds.{left}
-use Rattle.seh_dispatch.proofs.TurnOutcomes.{goes_turn, ends_turn, left_over}
+use Rattle.seh_dispatch.proofs.TurnOutcomes.{left_over}
+use Rattle.seh_dispatch.proofs.QuietTurns.{kept_state, quiet_turn, coherent_after}
 use Rattle.seh_dispatch.proofs.advancing.advance.Goals as goal
 
-pub returns-in-Ends-clause-host : goal.returns-in-Ends-clause-host
-returns-in-Ends-clause-host g c =
-    let s = state c.args.cpu.now (g.S.CodeSpace.memory c.args.space.now) in
-    sym (ap after (ends_turn (functions_of c.args.tables.now) c.args.funclets.now s
-    c.make-made.new.cpu (g.S.CodeSpace.memory c.make-made.new.space) c.make-made.result
-    c.in-Ends.end c.make-made.ensures c.in-Ends.is))
-
-pub returns-in-Ends-clause-shown : goal.returns-in-Ends-clause-shown
-returns-in-Ends-clause-shown g c =
-    let s = state c.args.cpu.now (g.S.CodeSpace.memory c.args.space.now) in
-    let made = c.make-made.result in
-    let turned = ends_turn (functions_of c.args.tables.now) c.args.funclets.now s
-    c.make-made.new.cpu (g.S.CodeSpace.memory c.make-made.new.space) made c.in-Ends.end
-    c.make-made.ensures c.in-Ends.is in
-    subst (λ es. g.V.Events.took c.args.to.now es c.tell-2.new.to)
-    (ap (λ es. listed made.first ++ es) (sym (append-nil (listed made.rest.first)))
-    ∙ sym (ap shown_in turned))
-    (g.met.V.Events.more c.args.to.now c.tell.new.to c.tell-2.new.to (listed made.first)
-    (listed made.rest.first) c.tell.ensures c.tell-2.ensures)
-
-pub returns-in-Continues-clause-host : goal.returns-in-Continues-clause-host
-returns-in-Continues-clause-host g c =
-    let s = state c.args.cpu.now (g.S.CodeSpace.memory c.args.space.now) in
-    let cpu = c.make-made.new.cpu in
-    let m = g.S.CodeSpace.memory c.make-made.new.space in
-    ap (left cpu m) c.over.ensures
-    ∙ left_over cpu m
-    ∙ sym (ap after (goes_turn (functions_of c.args.tables.now) c.args.funclets.now s cpu m
-    c.make-made.result c.in-Continues.event c.make-made.ensures c.in-Continues.is))
-
-pub returns-in-Continues-clause-shown : goal.returns-in-Continues-clause-shown
-returns-in-Continues-clause-shown g c =
-    let s = state c.args.cpu.now (g.S.CodeSpace.memory c.args.space.now) in
-    let cpu = c.make-made.new.cpu in
-    let made = c.make-made.result in
+pub returns-then-step : goal.returns-then-step
+returns-then-step g c =
+    let t = functions_of c.args.tables.now in
     let fs = c.args.funclets.now in
-    let first = listed made.first in
-    let second = listed made.rest.first in
-    let event = listed c.in-Continues.event in
-    let more = g.met.V.Events.more in
-    let turned = goes_turn (functions_of c.args.tables.now) fs s cpu
-    (g.S.CodeSpace.memory c.make-made.new.space) made c.in-Continues.event c.make-made.ensures
-    c.in-Continues.is in
-    let arrived = c.arrival-arrived.ensures ∙ ap (λ (b : ℕ). arrivals cpu (distance b cpu.rip) 1 fs)
-    c.base.ensures in
-    subst (λ es. g.V.Events.took c.args.to.now es c.tell-in-Continues-2.new.to)
-    (ap (λ es. (first ++ (second ++ event)) ++ es) arrived ∙ sym (ap shown_in turned))
-    (more c.args.to.now c.tell-in-Continues.new.to c.tell-in-Continues-2.new.to
-    (first ++ (second ++ event)) (listed c.arrival-arrived.result)
-    (more c.args.to.now c.tell.new.to c.tell-in-Continues.new.to first (second ++ event)
-    c.tell.ensures (more c.tell.new.to c.tell-2.new.to c.tell-in-Continues.new.to second event
-    c.tell-2.ensures c.tell-in-Continues.ensures))
-    c.tell-in-Continues-2.ensures)
+    let m = g.S.CodeSpace.memory c.args.space.now in
+    let cpu = c.step.new.cpu in
+    let n = g.S.CodeSpace.memory c.step.new.space in
+    let quiet = quiet_turn t fs c.args.cpu.now cpu m n (sym c.if-step.true ∙ c.step.ensures.answer)
+    c.step.ensures.cpu c.step.ensures.memory in
+    let host : left cpu n c.arrive.result ≡ after (turn t fs (state c.args.cpu.now m)) =
+    ap (left cpu n) c.arrive.ensures.end ∙ left_over cpu n ∙ sym (ap after quiet) in
+    record {
+      host = host;
+      shown = subst (λ es. g.V.Events.took c.args.to.now es c.arrive.new.to)
+          (sym (ap shown_in quiet)) c.arrive.ensures.shown;
+      coherent = coherent_after t fs (state c.args.cpu.now m) cpu n c.arrive.result
+          c.step.new.cache host c.step.ensures.before;
+    }
+
+pub returns : goal.returns
+returns g c =
+    let t = functions_of c.args.tables.now in
+    let fs = c.args.funclets.now in
+    let m = g.S.CodeSpace.memory c.args.space.now in
+    let s = state c.args.cpu.now m in
+    let new = g.S.CodeSpace.memory c.dispatch.new.space in
+    let kept = kept_state c.args.cpu.now c.step.new.cpu m (g.S.CodeSpace.memory c.step.new.space)
+    (step s) (sym c.if-step.false ∙ c.step.ensures.answer) c.step.ensures.cpu
+    c.step.ensures.memory in
+    let host : left c.dispatch.new.cpu new c.dispatch.result ≡ after (turn t fs s) =
+    c.dispatch.ensures.host ∙ ap (λ (u : State). after (turn t fs u)) kept in
+    record {
+      host = host;
+      shown = subst (λ es. g.V.Events.took c.args.to.now es c.dispatch.new.to)
+          (ap (λ (u : State). shown_in (turn t fs u)) kept) c.dispatch.ensures.shown;
+      coherent = coherent_after t fs s c.dispatch.new.cpu new c.dispatch.result
+          c.step.new.cache host c.step.ensures.before;
+    }

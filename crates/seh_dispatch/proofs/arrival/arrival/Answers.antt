@@ -1,8 +1,14 @@
 use Rattle.std.proofs.Common.{◌∙◌, ◌∷◌, [], sym, ap, arith}
 use Rattle.seh_num.specs.declared.event.Event.{Event}
 use Rattle.virtual_unwind.specs.CallerOf.{distance}
-use Rattle.seh_dispatch.proofs.FuncletOrder.{past_all, between, arrives}
+use Rattle.seh_dispatch.proofs.FuncletOrder.{no_funclet, none_arrives, past_all, between, arrives}
 use Rattle.seh_dispatch.proofs.arrival.arrival.Goals as goal
+
+pub returns-then-not-may_begin : goal.returns-then-not-may_begin
+returns-then-not-may_begin c =
+    let fs = c.args.funclets.now in
+    sym (none_arrives c.args.cpu.now (distance c.args.base c.args.cpu.now.rip) 1 fs no_funclet
+    (λ k lt. c.may_begin.ensures fs k no_funclet c.requires.admitted c.if-not-may_begin.true lt))
 
 pub returns-then-index-funclets : goal.returns-then-index-funclets
 returns-then-index-funclets c =

@@ -1,10 +1,11 @@
-use Rattle.std.proofs.Common.{◌≡◌, refl, ◌+◌, sym, ap, ◌∙◌, w64, to_z, of_z}
+use Rattle.std.proofs.Common.{◌≡◌, refl, ◌+◌, sym, ap, subst, ◌∙◌, w64, to_z, of_z}
 use Rattle.std.proofs.lemmas.Int.{to_z-of_z}
 use Rattle.x64_memory.specs.PageMaps.{memory_of}
 use Rattle.virtual_unwind.specs.CallerOf.{Functions}
 use Rattle.host_model.specs.Funclets.{funclets}
 use Rattle.host_model.specs.Loading.{first_cpu, start}
 use Rattle.host_model.specs.HostStep.{Live, host, over}
+use Rattle.seh_dispatch.specs.Filters.{Admits}
 use Rattle.seh_host.proofs.AsLoaded.{place_above}
 use Rattle.seh_host.proofs.Loaded.{functions_read}
 use Rattle.seh_host.proofs.loading.load.Goals as goal
@@ -27,3 +28,11 @@ returns-clause-loaded c =
     ∙ sym (ap (over (start image c.args.arg))
     (place_above image image.entry (c.in_default.ensures.place refl))) in
     λ i. record { functions = functions i; funclets = listed i; host = going i }
+
+pub invariant_of-result-clause-coherent : goal.invariant_of-result-clause-coherent
+invariant_of-result-clause-coherent c =
+    λ e. c.in-Ok-new-2.ensures (memory_of c.in-Ok-mapped.space)
+
+pub invariant_of-result-clause-admitted : goal.invariant_of-result-clause-admitted
+invariant_of-result-clause-admitted c =
+    subst (Admits c.in-Ok-new.filter) c.deref.ensures.value c.in-Ok-new.ensures

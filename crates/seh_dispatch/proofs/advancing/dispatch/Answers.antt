@@ -1,0 +1,62 @@
+use Rattle.std.proofs.Common.{◌++◌, append-nil, sym, ap, ◌∙◌, subst}
+use Rattle.virtual_unwind.specs.CallerOf.{functions_of, distance}
+use Rattle.x64_machine.specs.Effect.{state}
+use Rattle.host_model.specs.Turns.{shown_in}
+use Rattle.host_model.specs.Funclets.{arrivals}
+use Rattle.host_model.specs.HostStep.{after}
+use Rattle.seh_dispatch.specs.FuncletLists.{listed}
+use Rattle.seh_dispatch.specs.TurnEnds.{left}
+use Rattle.seh_dispatch.proofs.TurnOutcomes.{goes_turn, ends_turn, left_over}
+use Rattle.seh_dispatch.proofs.advancing.dispatch.Goals as goal
+
+pub returns-in-Ends-clause-host : goal.returns-in-Ends-clause-host
+returns-in-Ends-clause-host g c =
+    let s = state c.args.cpu.now (g.S.CodeSpace.memory c.args.space.now) in
+    sym (ap after (ends_turn (functions_of c.args.tables.now) c.args.funclets.now s
+    c.make-made.new.cpu (g.S.CodeSpace.memory c.make-made.new.space) c.make-made.result
+    c.in-Ends.end c.make-made.ensures c.in-Ends.is))
+
+pub returns-in-Ends-clause-shown : goal.returns-in-Ends-clause-shown
+returns-in-Ends-clause-shown g c =
+    let s = state c.args.cpu.now (g.S.CodeSpace.memory c.args.space.now) in
+    let made = c.make-made.result in
+    let turned = ends_turn (functions_of c.args.tables.now) c.args.funclets.now s
+    c.make-made.new.cpu (g.S.CodeSpace.memory c.make-made.new.space) made c.in-Ends.end
+    c.make-made.ensures c.in-Ends.is in
+    subst (λ es. g.V.Events.took c.args.to.now es c.tell-2.new.to)
+    (ap (λ es. listed made.first ++ es) (sym (append-nil (listed made.rest.first)))
+    ∙ sym (ap shown_in turned))
+    (g.met.V.Events.more c.args.to.now c.tell.new.to c.tell-2.new.to (listed made.first)
+    (listed made.rest.first) c.tell.ensures c.tell-2.ensures)
+
+pub returns-in-Continues-clause-host : goal.returns-in-Continues-clause-host
+returns-in-Continues-clause-host g c =
+    let s = state c.args.cpu.now (g.S.CodeSpace.memory c.args.space.now) in
+    let cpu = c.make-made.new.cpu in
+    let m = g.S.CodeSpace.memory c.make-made.new.space in
+    ap (left cpu m) c.arrive.ensures.end
+    ∙ left_over cpu m
+    ∙ sym (ap after (goes_turn (functions_of c.args.tables.now) c.args.funclets.now s cpu m
+    c.make-made.result c.in-Continues.event c.make-made.ensures c.in-Continues.is))
+
+pub returns-in-Continues-clause-shown : goal.returns-in-Continues-clause-shown
+returns-in-Continues-clause-shown g c =
+    let s = state c.args.cpu.now (g.S.CodeSpace.memory c.args.space.now) in
+    let cpu = c.make-made.new.cpu in
+    let made = c.make-made.result in
+    let fs = c.args.funclets.now in
+    let t = functions_of c.args.tables.now in
+    let first = listed made.first in
+    let second = listed made.rest.first in
+    let event = listed c.in-Continues.event in
+    let more = g.met.V.Events.more in
+    let turned = goes_turn t fs s cpu (g.S.CodeSpace.memory c.make-made.new.space) made
+    c.in-Continues.event c.make-made.ensures c.in-Continues.is in
+    subst (λ es. g.V.Events.took c.args.to.now es c.arrive.new.to)
+    (sym (ap shown_in turned))
+    (more c.args.to.now c.tell-in-Continues.new.to c.arrive.new.to
+    (first ++ (second ++ event)) (arrivals cpu (distance t.base cpu.rip) 1 fs)
+    (more c.args.to.now c.tell.new.to c.tell-in-Continues.new.to first (second ++ event)
+    c.tell.ensures (more c.tell.new.to c.tell-2.new.to c.tell-in-Continues.new.to second event
+    c.tell-2.ensures c.tell-in-Continues.ensures))
+    c.arrive.ensures.shown)

@@ -1,0 +1,4 @@
+pub mod Fixed
+pub mod Entries
+pub mod Caches
+pub mod Laws
