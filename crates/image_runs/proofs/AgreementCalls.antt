@@ -3,7 +3,7 @@ use Rattle.std.proofs.Common.{◌≡◌, ℕ, ◌+◌, ◌-◌, Bool, true, fals
 use Rattle.std.specs.Prelude.{◌⊎◌, nat_lt, replicate, if◌then◌else◌}
 use Rattle.std.proofs.lemmas.Bool.{eq-eqb}
 use Rattle.std.proofs.lemmas.List.{append-nil}
-use Rattle.image_runs.specs.Words.{State, Functions, Funclet, Instruction, LinearProgram, LinearFunction, Waits, Configuration, Seen, Running, Finished, Next, act, instruction_at, ImagePlan, Moves, Fails, IsMatched, AgreeOnSet, StepsAgree, Sites, turns_left, turns_per_step, RepresentsWhereSet, pick, last_temporaries, begin_function, waiting, called_with, CallBegins}
+use Rattle.image_runs.specs.Words.{State, Functions, Funclet, Instruction, LinearProgram, LinearFunction, Waits, Configuration, Seen, Running, Finished, Next, pick, last_temporaries, act, begin_function, waiting, instruction_at, ImagePlan, Moves, Fails, IsMatched, AgreeOnSet, StepsAgree, Sites, turns_left, turns_per_step, RepresentsWhereSet, called_with, CallBegins}
 use Rattle.source_meaning.specs.declared.ended.Ended.TheVariants.{Deep}
 use Rattle.linear_code.specs.declared.instruction.Instruction.TheVariants as instructions
 use Rattle.lowering_invariants.proofs.Same.{alike_is_same}

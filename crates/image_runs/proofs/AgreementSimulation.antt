@@ -1,7 +1,7 @@
 -- The machine keeps representing where linear code is, in all locals that have been set.
 use Rattle.std.proofs.Common.{◌≡◌, ℕ, zero, ◌+◌, length, Some, refl, inl, inr, sym, ap, subst, ◌∙◌}
 use Rattle.std.specs.Prelude.{List}
-use Rattle.image_runs.specs.Words.{State, Functions, Funclet, Program, IsSound, Slot, Instruction, LinearProgram, BodyName, FunctionBody, Frame, Configuration, body_of, act, instruction_in, instruction_at, exec, ImagePlan, lowered, HasRule, IsMatched, IsReady, CanContinue, ReadsNoUnset, AgreeOnSet, StepsAgree, Sites, turns_left, RepresentsAt, IsKnown, KnownNext, turns_per_step, Represents, IsSoundImage, RepresentsWhereSet, FuncletBody, StepIsMatched, IsWithinBody, AgreementSimulates}
+use Rattle.image_runs.specs.Words.{State, Functions, Funclet, Program, IsSound, Slot, Instruction, LinearProgram, BodyName, FunctionBody, Frame, Configuration, body_of, FuncletBody, act, instruction_in, instruction_at, exec, ImagePlan, lowered, HasRule, IsMatched, StepIsMatched, IsReady, CanContinue, ReadsNoUnset, AgreeOnSet, StepsAgree, Sites, turns_left, RepresentsAt, IsKnown, KnownNext, turns_per_step, IsWithinBody, Represents, IsSoundImage, RepresentsWhereSet, AgreementSimulates}
 use Rattle.linear_code.specs.declared.instruction.Instruction.TheVariants as instructions
 use Rattle.image_runs.proofs.Lemmas.{agreement_continues}
 use Rattle.match_bodies.proofs.BodySteps.{within_body}

@@ -1,6 +1,6 @@
 -- A step that is matched from the actual configuration is matched.
 use Rattle.std.proofs.Common.{◌≡◌, ◌+◌, ◌*◌, List, length, sym, ap, arith}
-use Rattle.image_runs.specs.Words.{State, Functions, Funclet, Instruction, LinearProgram, Configuration, ImagePlan, IsMatched, Marks, AreAlike, AgreeOnSet, StepsAgree, Sites, turns_left, turns_per_step, Represents, RepresentsWhereSet, held_below}
+use Rattle.image_runs.specs.Words.{State, Functions, Funclet, Instruction, LinearProgram, Configuration, ImagePlan, IsMatched, Marks, AreAlike, AgreeOnSet, StepsAgree, Sites, turns_left, held_below, turns_per_step, Represents, RepresentsWhereSet}
 use Rattle.match_runs.proofs.Turns.{comes_nowhere}
 use Rattle.match_runs.proofs.Matches.{StepCarries, matched_by}
 

@@ -3,8 +3,7 @@ use Rattle.std.proofs.Common.{◌≡◌, ℕ, ◌+◌, ◌-◌, ◌*◌, ◌^◌
 use Rattle.std.specs.Prelude.{slice_get}
 use Rattle.std.proofs.lemmas.List.{append-nil}
 use Rattle.std.proofs.lemmas.Option.{slice_get_within}
-use Rattle.image_runs.specs.Words.{STACK_START, STACK_END, Memory, number_at, Protection, Rsp, State, register, word, Functions, distance, Funclet, LinearProgram, LinearBody, LinearFunction, FunctionBody, body_of, Layout, Instr, parameters_code, context_below, ImagePlan, IsWellFormed, Sites, arguments_code, IsLayoutIf, IsMachineMemory, IsProgramImage, slots_end, RepresentsAt, LARGEST_FRAME, arrivals, home_end, HoldsWords, AllKeep, Comes, function_arguments, begun}
-use Rattle.x64_templates.specs.Straight.{machine}
+use Rattle.image_runs.specs.Words.{STACK_START, STACK_END, Memory, number_at, Protection, Rsp, State, register, word, Functions, distance, Funclet, LinearProgram, LinearBody, LinearFunction, FunctionBody, body_of, Layout, Instr, parameters_code, context_below, ImagePlan, IsWellFormed, Sites, arguments_code, function_arguments, IsLayoutIf, IsMachineMemory, IsProgramImage, slots_end, RepresentsAt, LARGEST_FRAME, arrivals, home_end, HoldsWords, AllKeep, Comes, begun, machine}
 use Rattle.image_runs.proofs.Lemmas.{same_number, Keeps, enters_keeps, stays_well_formed, stack_is_reserved, word_is, may_read_written, word_of, words_at, words_count, words_small, arguments_then_words}
 use Rattle.match_stack.specs.StackRecords.{On}
 use Rattle.lowering_invariants.specs.SmallNumbers.{AreSmall}

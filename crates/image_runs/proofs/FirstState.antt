@@ -1,7 +1,7 @@
 -- The first state of a compiled program's image.
 use Rattle.std.proofs.Common.{◌≡◌, ℕ, zero, suc, ◌+◌, ◌^◌, ◌<◌, ◌≤◌, Ok, List, length, refl, ap, ◌∙◌, arith}
 use Rattle.std.proofs.lemmas.List.{get_or-take}
-use Rattle.image_runs.specs.Words.{Memory, number_at, word, first_cpu, image_of, LinearProgram, text_begin, linked, functions_of, funclets_of, plan_of, sites_of, HasWholeImage, first_stack, next, mapped, ImageContents, sizes_of, text_at, RoutineView, routines, bounds, first}
+use Rattle.image_runs.specs.Words.{Memory, number_at, next, word, first_cpu, mapped, image_of, ImageContents, sizes_of, text_at, LinearProgram, text_begin, linked, first, functions_of, funclets_of, plan_of, sites_of, HasWholeImage, first_stack, RoutineView, routines, bounds}
 use Rattle.host_model.specs.Loading.{start}
 use Rattle.image_link.proofs.Bounds.{bounds_least}
 use Rattle.image_runs.proofs.Lemmas.{is, images_are_programs, images_start, may_read_written, word_of}

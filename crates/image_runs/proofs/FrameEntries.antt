@@ -2,7 +2,7 @@
 use Rattle.std.proofs.Common.{◌≡◌, ℕ, ◌+◌, ◌-◌, ◌<◌, ◌≤◌, Bool, true, false, Some, List, length, refl, sym, ap, subst, ◌∙◌, arith, inl, inr, length-drop}
 use Rattle.std.specs.Prelude.{nat_le, if◌then◌else◌}
 use Rattle.std.proofs.lemmas.Bool.{cases_lt, le-leb}
-use Rattle.image_runs.specs.Words.{STACK_START, STACK_END, Memory, Instr, State, Functions, Funclet, LinearProgram, LinearBody, LinearFunction, FunctionBody, body_of, Layout, sizes, parameters_code, MachineView, HasCode, ImagePlan, Sites, IsLayoutIf, IsProgramImage, seen_by_templates, enter_code, making, IsFunctionLayout, IsLeafLayout}
+use Rattle.image_runs.specs.Words.{STACK_START, STACK_END, Memory, Instr, State, Functions, Funclet, LinearProgram, LinearBody, LinearFunction, FunctionBody, body_of, Layout, sizes, parameters_code, enter_code, MachineView, HasCode, ImagePlan, Sites, making, IsLayoutIf, IsFunctionLayout, IsLeafLayout, IsProgramImage, seen_by_templates}
 use Rattle.template_code.specs.Probing.{enter_large}
 use Rattle.image_runs.proofs.Lemmas.{making_steps, may_read_written, with_home, home_parameters, Made, no_frame, small_frame, large_frame}
 use Rattle.match_turns.proofs.FunctionEntryCode.{making_frame, HasEntry, has_entry}

@@ -2,7 +2,7 @@
 use Rattle.std.proofs.Common.{◌≡◌, ℕ, zero, suc, ◌+◌, ◌-◌, ◌<◌, List, [], ◌∷◌, length, map, None, Some, refl, ap, ◌∙◌, arith, length-append}
 use Rattle.std.specs.List.{AllByRecursion}
 use Rattle.std.specs.Prelude.{slice_get}
-use Rattle.image_runs.specs.Words.{Program, LinearFunction, LinearFunclet, scope_of, lowered, Function, all_locals, lowered_function, lowered_funclets, all_funclets}
+use Rattle.image_runs.specs.Words.{Program, Function, LinearFunction, LinearFunclet, scope_of, lowered, all_locals, lowered_function, lowered_funclets, all_funclets}
 use Rattle.c_checked.specs.Statement.{Statement, Declare, Block, Evaluate, If, IfElse, For, DoWhile, Return, Break, Continue, Leave, TryExcept, TryFinally, Statements, Empty, Then}
 use Rattle.linear_code.specs.declared.program.RegionKind.TheVariants as kinds
 use Rattle.lowering_sizes.specs.Sizes.{expression_size, discarded_size, condition_size, all_declared_size, statement_size, statements_size, statements_notes}

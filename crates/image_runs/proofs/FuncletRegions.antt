@@ -1,7 +1,7 @@
 -- Each funclet of a sound program is named by a region.
 use Rattle.std.proofs.Common.{◌≡◌, ℕ, ◌+◌, ◌-◌, ◌<◌, ◌≤◌, ◌==◌, Bool, true, false, cond, List, [], ◌∷◌, length, refl, ap, arith, inl, inr}
 use Rattle.std.proofs.lemmas.Bool.{and_parts, eqb-true, eq-eqb, cases_eq}
-use Rattle.image_runs.specs.Words.{Program, IsSound, lowered, count_up, IsMember}
+use Rattle.image_runs.specs.Words.{Program, IsSound, count_up, lowered, IsMember}
 use Rattle.c_checked.specs.Sound as sound
 use Rattle.seh_ir.proofs.FuncletCounts.{functions_count}
 use Rattle.image_tables.specs.RegionRows.{named, regions}

@@ -2,8 +2,7 @@
 -- the parameters go to their locals.
 use Rattle.std.proofs.Common.{◌≡◌, ℕ, ◌+◌, ◌*◌, ◌^◌, ◌<◌, ◌≤◌, true, Some, List, length, sym, ap, subst, ◌∙◌, arith, inl, inr}
 use Rattle.std.specs.Prelude.{◌⊎◌, slice_get, slice_index}
-use Rattle.image_runs.specs.Words.{STACK_START, STACK_END, Memory, number_at, Protection, Rsp, State, register, Functions, Funclet, Local, LinearProgram, LinearBody, LinearFunction, FunctionBody, body_of, function_body, Layout, sizes, spelled, parameters_code, MachineView, InRegisters, HasCode, ImagePlan, Sites, arguments_code, IsMachineMemory, IsProgramImage, seen_by_templates, LARGEST_FRAME, may_write, is_reserved, stack_parameter, with_arguments, OnStack, IsFunctionFrame, body_in_memory, Enters, ReachesBody, counts_of}
-use Rattle.x64_templates.specs.Straight.{machine}
+use Rattle.image_runs.specs.Words.{STACK_START, STACK_END, Memory, number_at, may_write, Protection, Rsp, State, register, Functions, Funclet, Local, LinearProgram, LinearBody, LinearFunction, FunctionBody, body_of, function_body, Layout, sizes, spelled, parameters_code, stack_parameter, MachineView, InRegisters, with_arguments, OnStack, IsFunctionFrame, body_in_memory, HasCode, Enters, ReachesBody, ImagePlan, Sites, arguments_code, IsMachineMemory, IsProgramImage, seen_by_templates, counts_of, LARGEST_FRAME, is_reserved, machine}
 use Rattle.flat_memory.specs.Protections.{is_writable}
 use Rattle.x64_templates.specs.CallStates.{sp_of, HasBelow}
 use Rattle.x64_templates.specs.Frames.{InTemporaries, InLocals, IsBytes, Agrees}

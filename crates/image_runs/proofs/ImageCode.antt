@@ -2,10 +2,9 @@
 use Rattle.std.proofs.Common.{◌≡◌, ℕ, ◌+◌, ◌<◌, ◌==◌, Bool, true, false, not, length, Some, refl, ap, ◌∙◌, arith}
 use Rattle.std.specs.Prelude.{◌&&◌, nat_le, slice_get}
 use Rattle.std.proofs.lemmas.Bool.{ne_eqb}
-use Rattle.image_runs.specs.Words.{Program, LinearBody, LinearFunclet, function_body, lowered, IsLinkable, IsSmallFunclet, has_call, IsFuncletSized, LoweredIsCompiled}
+use Rattle.image_runs.specs.Words.{Program, LinearBody, LinearFunclet, function_body, lowered, IsLinkable, IsSmallFunclet, has_call, IsFuncletSized, LoweredIsCompiled, is_leaf}
 use Rattle.lowering_invariants.proofs.Small.{lowered_is_small}
 use Rattle.image_runs.proofs.Lemmas.{lowered_is_whole, all_at, images_are_small, lowered_has_regions, lowered_names_funclets}
-use Rattle.image_link.specs.Routines.{is_leaf}
 use Rattle.image_runs.proofs.FuncletOwners.{is_owned}
 use Rattle.image_runs.proofs.FuncletRegions.{all_named}
 

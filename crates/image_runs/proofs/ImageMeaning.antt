@@ -2,7 +2,7 @@
 use Rattle.std.proofs.Common.{ℕ, ◌<◌, ◌≤◌, List, length, ap, subst, arith}
 use Rattle.std.specs.List.{AllByRecursion}
 use Rattle.std.specs.Prelude.{pos}
-use Rattle.image_runs.specs.Words.{image_of, Program, lowered, linked, HasBytes, IsLinkable, IsImageOf, parts_of, CanBeImage, CompiledRealise, CompiledShowNothingMore}
+use Rattle.image_runs.specs.Words.{image_of, parts_of, CanBeImage, Program, lowered, linked, HasBytes, IsLinkable, IsImageOf, CompiledRealise, CompiledShowNothingMore}
 use Rattle.pe_write.proofs.Back.{written_length}
 use Rattle.pe_write.proofs.Programs.{size_is, can_be_written}
 use Rattle.image_runs.proofs.Lemmas.{images_are_small, is, images_load}

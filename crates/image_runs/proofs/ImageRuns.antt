@@ -1,7 +1,8 @@
 -- The run of a linked image is that of the machine on its tables.
 use Rattle.std.proofs.Common.{◌≡◌, ℕ, ◌+◌, ◌*◌, zero, List, [], refl, sym, ap, subst, ◌∙◌}
 use Rattle.std.specs.Prelude.{ℤ, Result, slice_get, get_or, Some}
-use Rattle.image_runs.specs.Words.{image_of, Entry, funclets, host, run, Program, meaning, LinearFunction, LinearProgram, nothing, HasBytes, MainBegins, lowered, ShowsAll, ShowsNoMore, linked, functions_of, funclets_of, plan_of, sites_of, IsLinkable, machine_of, machine}
+use Rattle.image_runs.specs.Words.{image_of, Entry, funclets, host, run, machine_of, Program, meaning, LinearFunction, LinearProgram, nothing, HasBytes, MainBegins, lowered, ShowsAll, ShowsNoMore, linked, functions_of, funclets_of, plan_of, sites_of, IsLinkable}
+use Rattle.host_model.specs.Machine.{machine}
 use Rattle.eh_tables.specs.Tables.{or_none}
 use Rattle.host_model.specs.Loading.{start}
 use Rattle.pe_image.specs.declared.refusal.ImageErr.{ImageErr}

@@ -6,7 +6,7 @@ pub use Rattle.lowering_invariants.proofs.TurnStack.{all_at}
 pub use Rattle.lowering_locals.proofs.AgreementSteps.{agreement_at_call, agreeing_are_small, agreement_continues, agreement_at_start}
 pub use Rattle.template_code.proofs.Sizes.{template_sizes, sizes_append}
 pub use Rattle.x64_templates.proofs.PlacedCode.{same_number, bytes_kept, enters_then, outside_page, bytes_split, spells, reads}
-pub use Rattle.match_runs.proofs.Steps.{at_instruction, matched_step, follows}
+pub use Rattle.match_runs.proofs.Steps.{at_instruction, matched_step, steps_are_matched}
 pub use Rattle.match_stack.proofs.ItemVisits.{set_head, frame_is_visited, leaf_is_visited, search_is_passed, unwinding_is_passed, stack_is_over}
 pub use Rattle.match_bodies.proofs.BodyResumption.{frame_size}
 pub use Rattle.match_bodies.proofs.ChainKeeping.{Keeps, enters_keeps, stays_well_formed}

@@ -1,7 +1,7 @@
 -- The frames of a stack that linear code's list describes are the live ones.
 use Rattle.std.proofs.Common.{◌≡◌, ℕ, ◌+◌, Bool, Some, List, [], ◌∷◌, length, drop, refl, sym, ap, subst, ◌∙◌, arith}
 use Rattle.std.specs.Prelude.{slice_set}
-use Rattle.image_runs.specs.Words.{Memory, Context, context_of, rsp, Functions, Funclet, LinearProgram, Item, Waits, StackItem, Framed, Leaf, Searching, Unwinding, IsStack, after_frame, after_leaf, ImagePlan, Activation, activations_below, BodyWaits, Linked, Sites, IsProgramImage, slots_end, Searches, Unwinds, temporaries_end, ReturnsTo, last_temporary, back_to, AreFrames}
+use Rattle.image_runs.specs.Words.{Memory, Context, context_of, rsp, Functions, Funclet, LinearProgram, Item, Waits, Searches, Unwinds, StackItem, Framed, Leaf, Searching, Unwinding, IsStack, after_frame, after_leaf, ImagePlan, Activation, activations_below, BodyWaits, Linked, temporaries_end, ReturnsTo, Sites, IsProgramImage, slots_end, last_temporary, back_to, AreFrames}
 use Rattle.image_runs.proofs.Lemmas.{set_head, leaf_layout, frame_size}
 use Rattle.image_runs.proofs.WalkFrames.{frames}
 

@@ -2,7 +2,8 @@
 use Rattle.std.proofs.Common.{◌≡◌, ℕ, ◌+◌, ◌^◌, ◌<◌, false, List, [], ◌∷◌, ◌++◌, length, Option, Some, None, Ok, refl, sym, ap, subst, ◌∙◌, arith}
 use Rattle.std.specs.Prelude.{slice_get}
 use Rattle.std.proofs.lemmas.Bool.{false≢true}
-use Rattle.image_runs.specs.Words.{Memory, Rax, Instr, chosen, Context, rsp, word, FrameIsAt, Slot, Local, Temporary, LinearBody, LinearProgram, BodyName, body_of, Layout, spelled, sizes, text_begin, linked, HasProgram, functions_of, funclets_of, plan_of, sites_of, HasWholeImage, IsReturning, LeafIsAt, fetch_local, local_at, fetch, epilogue, code_from, entry_code, entry_size, check_stack_at, routine_code, stack_frame, begin_of, code_of, IsFramed, frame_with, is_leaf, or_none, routine_of, LinkedReturnsWait}
+use Rattle.image_runs.specs.Words.{Memory, Rax, Instr, chosen, Context, rsp, word, FrameIsAt, LeafIsAt, Slot, Local, Temporary, LinearBody, LinearProgram, BodyName, body_of, Layout, spelled, sizes, text_begin, linked, HasProgram, IsFramed, frame_with, functions_of, funclets_of, plan_of, sites_of, or_none, routine_of, HasWholeImage, IsReturning, fetch_local, local_at, fetch, epilogue, code_from, entry_code, entry_size, check_stack_at, routine_code, stack_frame, begin_of, code_of, LinkedReturnsWait}
+use Rattle.image_states.specs.Plans.{is_leaf}
 use Rattle.frame_rules.specs.Bytes.{IsExecutableAt}
 use Rattle.linear_code.specs.declared.instruction.Instruction.TheVariants as instructions
 use Rattle.frame_layout.specs.declared.frame.FrameLayout.{FrameLayout}

@@ -2,7 +2,7 @@
 use Rattle.std.proofs.Common.{◌≡◌, ℕ, ◌+◌, ◌*◌, true, Option, Some, None, List, [], ◌++◌, refl, sym, ap, ◌∙◌, arith}
 use Rattle.std.proofs.lemmas.List.{append_assoc}
 use Rattle.seh_num.specs.declared.event.Event.{Event}
-use Rattle.image_runs.specs.Words.{RunEnd, Shown, host, run, Ended, meaning, Seen, Running, Finished, Stuck, seen, lowered, steps_per_turn_of, run_end_of, HasRule, ShowsAll, ShowsNoMore, is_calm, linear_meaning}
+use Rattle.image_runs.specs.Words.{RunEnd, Shown, host, run, Ended, meaning, is_calm, Seen, Running, Finished, Stuck, seen, linear_meaning, lowered, steps_per_turn_of, run_end_of, HasRule, ShowsAll, ShowsNoMore}
 use Rattle.source_meaning.specs.Laws.{IsPrefixOf}
 use Rattle.lowering_follows.proofs.ProgramLowering.{lowered_follows, lowered_shows_no_more}
 use Rattle.source_meaning.proofs.Prefixes.{prefix_then}

@@ -1,6 +1,6 @@
 -- A run that is matched step by step passes a state for each step.
 use Rattle.std.proofs.Common.{◌≡◌, inl, inr, ℕ, zero, suc, List, Some, subst, ◌∙◌}
-use Rattle.image_runs.specs.Words.{State, Functions, Funclet, Instruction, LinearProgram, Configuration, Seen, Running, Finished, Stuck, act, instruction_at, exec, HasRule, IsMatched, IsRunning, Simulates, HasNextStep, Passes}
+use Rattle.image_runs.specs.Words.{State, Functions, Funclet, Instruction, LinearProgram, Configuration, Seen, Running, Finished, Stuck, act, instruction_at, exec, HasRule, IsMatched, Simulates, IsRunning, HasNextStep, Passes}
 use Rattle.image_runs.proofs.Lemmas.{at_instruction, matched_step}
 
 running_has_rule : (x : Seen) → IsRunning x → HasRule x

@@ -1,6 +1,6 @@
 -- What machine instructions leave that write RAX, RCX and RDX alone.
 use Rattle.std.proofs.Common.{◌≡◌, ℕ, true, Result, Ok, Err, refl, subst}
-use Rattle.image_runs.specs.Words.{RegisterOrMemory, Instr, State, effect, is_free_place, scratch_only, W8, Answer, with_register, with_flags, read, operand, write, may_change, computed, change, compare, with_quotient}
+use Rattle.image_runs.specs.Words.{RegisterOrMemory, Instr, State, effect, Answer, with_register, with_flags, read, operand, write, may_change, computed, change, compare, with_quotient, is_free_place, scratch_only, W8}
 use Rattle.seh_num.specs.declared.width.Width.{Width}
 use Rattle.seh_num.specs.declared.division.DivFault.{DivFault}
 use Rattle.x64_instr.specs.declared.register.Reg.TheVariants as regs

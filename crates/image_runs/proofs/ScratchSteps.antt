@@ -1,7 +1,7 @@
 -- After a machine instruction that writes no memory a state is still within its instruction.
 use Rattle.std.proofs.Common.{◌≡◌, ℕ, ◌+◌, ◌%◌, ◌^◌, ◌≤◌, true, false, eqb, ◌||◌, Ok, List, [], ◌∷◌, ◌++◌, length, refl, sym, ap, subst, ◌∙◌, arith, append_assoc}
 use Rattle.std.proofs.lemmas.Bool.{ne_eqb}
-use Rattle.image_runs.specs.Words.{Memory, Rax, Rsp, RegisterOrMemory, Instr, chosen, State, register, effect, Functions, Funclet, LinearProgram, Configuration, sizes, spelled, HasCode, ImagePlan, InCode, Sites, links_of, HasProgram, IsResumed, IsProgramImage, is_free_place, scratch_only, IsWithinInstruction, Rcx, Rdx, is_encodable, kept_of, with_rip, step, size, template_size, is_free, ScratchOnlyHere, ScratchStepsStayWithin}
+use Rattle.image_runs.specs.Words.{Memory, Rax, Rsp, Rcx, Rdx, RegisterOrMemory, Instr, chosen, is_encodable, State, register, effect, with_rip, step, Functions, Funclet, LinearProgram, Configuration, sizes, spelled, size, HasCode, ImagePlan, InCode, Sites, links_of, HasProgram, IsResumed, IsProgramImage, is_free_place, scratch_only, is_free, IsWithinInstruction, ScratchOnlyHere, kept_of, template_size, ScratchStepsStayWithin}
 use Rattle.x64_instr.specs.declared.register.Reg.{Reg}
 use Rattle.x64_instr.specs.declared.operand.RegisterOrMemory.TheVariants as places
 use Rattle.x64_instr.specs.declared.instruction.Operation.TheVariants as operations

@@ -2,10 +2,9 @@
 use Rattle.std.proofs.Common.{◌≡◌, ℕ, ◌+◌, ◌*◌, inl, refl}
 use Rattle.std.specs.Prelude.{List, slice_get, ℤ, Some}
 use Rattle.image_runs.specs.Words.{State, Functions, Funclet, Program, IsSound, LinearFunction, ImagePlan, lowered, ReadsNoUnset, started_with, Sites, turns_left, turns_per_step, IsSoundImage, MainBegins, RepresentsWhereSet, start, RunBegins, ImagesShowAll, ImagesShowNoMore}
-use Rattle.image_runs.proofs.Lemmas.{agreement_at_start}
+use Rattle.image_runs.proofs.Lemmas.{agreement_at_start, steps_are_matched}
 use Rattle.image_runs.proofs.RunMatches as runs
 use Rattle.image_runs.proofs.AgreementSimulation.{agreement_simulates}
-use Rattle.match_runs.proofs.Steps.{steps_are_matched}
 
 module _ (t : Functions) (fs : List Funclet) (program : Program) (p : ImagePlan) (q : Sites)
     (sound : IsSound program) (reads : ReadsNoUnset (lowered program))

@@ -51,7 +51,7 @@ pub use Rattle.template_code.specs.declared.layout.TheConstants.{LARGEST_FRAME}
 pub use Rattle.x64_templates.specs.EntryStates.{InRegisters, with_arguments, OnStack, IsFunctionFrame, body_in_memory}
 pub use Rattle.x64_templates.specs.Epilogues.{IsReturn}
 pub use Rattle.x64_templates.specs.Runs.{HasCode, Enters, ReachesBody}
-pub use Rattle.x64_templates.specs.Straight.{MachineView}
+pub use Rattle.x64_templates.specs.Straight.{machine, MachineView}
 pub use Rattle.virtual_unwind.specs.CallerOf.{Functions, distance}
 pub use Rattle.virtual_unwind.specs.Contexts.{rsp}
 pub use Rattle.virtual_unwind.specs.Undone.{word}
@@ -60,7 +60,7 @@ pub use Rattle.host_model.specs.HostStep.{host}
 pub use Rattle.host_model.specs.Loading.{first_cpu}
 unfoldable pub use Rattle.host_model.specs.Loading.{mapped}
 pub use Rattle.host_model.specs.Machine.{machine_of}
-unfoldable pub use Rattle.host_model.specs.Machine.{run, machine}
+unfoldable pub use Rattle.host_model.specs.Machine.{run}
 pub use Rattle.host_model.specs.declared.funclet.Funclet.{Funclet}
 pub use Rattle.match_runs.specs.Comes.{Comes, IsLive}
 pub use Rattle.match_runs.specs.Ends.{HasRule, run_end_of}
@@ -83,13 +83,13 @@ pub use Rattle.match_bodies.specs.StepLaws.{turns_per_step, IsWithinBody}
 pub use Rattle.match_turns.specs.CallOutcome.{CallBegins, begun, FunctionsApart}
 pub use Rattle.match_turns.specs.DispatchOutcome.{Represents, WorksOn}
 pub use Rattle.image_link.specs.Linked.{text_begin, linked, first}
-pub use Rattle.image_link.specs.Routines.{RoutineView, routines, has_call, nothing}
+pub use Rattle.image_link.specs.Routines.{RoutineView, routines, has_call, is_leaf, nothing}
 pub use Rattle.image_link.specs.Text.{bounds, entry_code, check_stack_at, routine_code}
 unfoldable pub use Rattle.image_link.specs.Text.{entry_size}
 pub use Rattle.image_tables.specs.FrameLaws.{stack_frame}
 pub use Rattle.text_bounds.specs.StepsPerTurnLaws.{steps_per_turn_in, program_of}
 pub use Rattle.image_states.specs.Compiled.{HasWholeImage, IsMember, IsFuncletSized}
-pub use Rattle.image_states.specs.Plans.{functions_of, funclets_of, plan_of, sites_of, is_leaf, or_none, routine_of}
+pub use Rattle.image_states.specs.Plans.{functions_of, funclets_of, plan_of, sites_of, or_none, routine_of}
 pub use Rattle.image_states.specs.StartLaws.{HasBytes}
 pub use Rattle.image_runs.specs.AgreementStates.{RepresentsWhereSet}
 pub use Rattle.image_runs.specs.ImageLaws.{LoweredIsCompiled, LoweredHasImage}

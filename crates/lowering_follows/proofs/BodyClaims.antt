@@ -3,7 +3,8 @@
 use Rattle.std.proofs.Common.{◌≡◌, ◌⊎◌, inl, inr, ◌≤◌, ℕ, ◌+◌, List, [], ◌∷◌, length, refl, ◌∙◌, arith}
 use Rattle.std.proofs.lemmas.Bool.{or_left}
 use Rattle.std.specs.Prelude.{◌-◌, Bool, true, false, Option, Some, None}
-use Rattle.lowering_follows.specs.Words.{Expression, Statement, Statements, Program, State, Outcome, with_value, Context, Eval, Run, ForIteration, DoIteration, TryBody, RunFinally, no_exception, within, Temporary, Region, LinearProgram, BodyName, FuncletBody, body_of, Item, Store, Configuration, Seen, Next, pick, deeper, holds, begin_finally, unwind_body, end_finally, end_body, instruction_in, Names, LoweringContext, OfFilter, Nowhere, Jumps, expression_size, statement_size, statements_size, statement_notes, statements_notes, expression_code, ExpressionFits, expression_weight, optional_weight, statement_weight, statements_weight, HasAt, Placed, AllPlaced, ForPlaced, DoPlaced, FinallyPlaced, for_end, do_end, leads_to, stops, arrive, leave_region}
+use Rattle.lowering_follows.specs.Words.{Expression, Statement, Statements, Program, State, Outcome, with_value, Context, Eval, Run, ForIteration, DoIteration, TryBody, RunFinally, no_exception, within, Temporary, Region, LinearProgram, BodyName, FuncletBody, body_of, Item, Store, Configuration, Seen, pick, deeper, holds, leads_to, stops, begin_finally, unwind_body, arrive, leave_region, end_finally, end_body, instruction_in, Names, LoweringContext, OfFilter, Nowhere, Jumps, expression_size, statement_size, statements_size, statement_notes, statements_notes, expression_code, ExpressionFits, expression_weight, optional_weight, statement_weight, statements_weight, HasAt, Placed, AllPlaced, ForPlaced, DoPlaced, FinallyPlaced, for_end, do_end}
+use Rattle.linear_machine.specs.Frames.{Next}
 use Rattle.lowering_expressions.specs.declared.scope.Way.TheVariants.{Unwinds}
 use Rattle.linear_code.specs.declared.instruction.Instruction.TheVariants as instructions
 use Rattle.linear_machine.specs.Frames as machine

@@ -3,7 +3,9 @@ use Rattle.std.proofs.Common.{◌≡◌, ◌<◌, ◌≤◌, ℕ, zero, suc, ◌
 use Rattle.std.specs.Prelude.{set, Option, Some, None}
 use Rattle.c_operations.specs.declared.operation.Operation.TheVariants as operations
 use Rattle.c_operations.specs.declared.operation.Pure.TheVariants as pures
-use Rattle.lowering_follows.specs.Words.{Expression, Program, State, Value, Normal, Broke, Continued, Outcome, Gives, Context, optional, in_loop, within, Temporary, Compute, Separator, LinearProgram, Store, with_some, set_local, end_body, exec, LoweringContext, Nowhere, Jumps, expression_size, discarded_size, declared_size, copy, expression_code, jump_code, return_code, leave_code, discarded_code, expression_weight, optional_weight, HasAt, IsWay, IsPlace, OptionalFits, DeclaredPlaced, declare, Local, LocalUnwind}
+use Rattle.lowering_follows.specs.Words.{Expression, Program, State, Value, Normal, Broke, Continued, Outcome, Gives, Context, optional, declare, within, Temporary, Compute, Separator, LocalUnwind, LinearProgram, Store, with_some, set_local, end_body, exec, LoweringContext, Nowhere, Jumps, expression_size, discarded_size, declared_size, copy, expression_code, jump_code, return_code, leave_code, discarded_code, expression_weight, optional_weight, HasAt, IsWay, IsPlace, OptionalFits, DeclaredPlaced}
+use Rattle.source_meaning.specs.Statements.{in_loop}
+use Rattle.linear_code.specs.declared.slot.Slot.TheVariants.{Local}
 use Rattle.lowering_expressions.specs.declared.scope.Way.TheVariants.{Unwinds}
 use Rattle.source_meaning.specs.State as model
 use Rattle.linear_code.specs.declared.instruction.Instruction.TheVariants as instructions

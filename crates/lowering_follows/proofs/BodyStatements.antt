@@ -1,8 +1,7 @@
 -- Statements, after their step.
 use Rattle.std.proofs.Common.{◌≡◌, ◌≤◌, ℕ, ◌+◌, List, [], ◌∷◌, length, refl, sym, subst, arith}
 use Rattle.std.specs.Prelude.{◌-◌, max, nat_eq, Option, Some, None}
-use Rattle.lowering_follows.specs.Words.{Expression, Declared, Filter, Statement, Declare, Block, Evaluate, If, IfElse, For, DoWhile, Break, Continue, Leave, TryExcept, TryFinally, Statements, Program, Exception, State, Normal, Returned, Outcome, Gives, choose, and_then, Context, Handler, Run, ForIteration, DoIteration, TryBody, RunFinally, all, optional, landing, finally_after, within, Temporary, JumpIfZero, Region, LinearProgram, BodyName, Store, set_local, LoweringContext, except_names, in_try, in_except, in_guarded, expression_size, discarded_size, declared_size, all_declared_size, returned_size, statement_size, statements_size, statement_notes, statements_notes, except_kind, region, expression_code, expression_weight, optional_weight, statement_weight, statements_weight, AllDeclaredPlaced, Placed, for_end, do_end, declare_each, statement, declared_weight, all_declared_weight}
-use Rattle.c_checked.specs.Statement.{Return}
+use Rattle.lowering_follows.specs.Words.{Expression, Declared, Filter, Statement, Declare, Block, Evaluate, If, IfElse, For, DoWhile, Break, Continue, Leave, TryExcept, TryFinally, Statements, Program, Exception, State, Normal, Returned, Outcome, Gives, choose, and_then, Context, Handler, Run, ForIteration, DoIteration, TryBody, RunFinally, all, optional, landing, finally_after, declare_each, statement, within, Temporary, JumpIfZero, Region, LinearProgram, BodyName, Store, set_local, LoweringContext, except_names, in_try, in_except, in_guarded, expression_size, discarded_size, declared_size, all_declared_size, returned_size, statement_size, statements_size, statement_notes, statements_notes, except_kind, region, expression_code, expression_weight, optional_weight, statement_weight, statements_weight, declared_weight, all_declared_weight, AllDeclaredPlaced, Placed, for_end, do_end, Return}
 use Rattle.linear_code.specs.declared.program.RegionKind.TheVariants as regions
 use Rattle.lowering_follows.proofs.Lemmas.{at, Site, conf, Ways, Price, price, found, joins, more, then_normal, chosen}
 use Rattle.lowering_follows.proofs.Stores.{Shape, Alike, below_slot}

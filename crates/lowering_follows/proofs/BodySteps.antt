@@ -1,7 +1,8 @@
 -- Statements, and iterations of loops, after their step.
 use Rattle.std.proofs.Common.{◌≡◌, inl, ◌≤◌, ℕ, ◌+◌, List, [], ◌∷◌, refl, sym, arith}
 use Rattle.std.specs.Prelude.{nat_eq, Option, Some, None}
-use Rattle.lowering_follows.specs.Words.{Expression, Statement, Program, State, Normal, Outcome, Gives, choose, with_value, Context, Eval, Run, ForIteration, DoIteration, optional, in_loop, within, Temporary, JumpIfZero, Region, LinearProgram, BodyName, Store, LoweringContext, expression_size, discarded_size, condition_size, statement_size, statement_notes, expression_code, expression_weight, optional_weight, statement_weight, ForPlaced, DoPlaced, for_end, do_end, for_iteration, do_iteration}
+use Rattle.lowering_follows.specs.Words.{Expression, Statement, Program, State, Normal, Outcome, Gives, choose, with_value, Context, Eval, Run, ForIteration, DoIteration, optional, for_iteration, do_iteration, within, Temporary, JumpIfZero, Region, LinearProgram, BodyName, Store, LoweringContext, expression_size, discarded_size, condition_size, statement_size, statement_notes, expression_code, expression_weight, optional_weight, statement_weight, ForPlaced, DoPlaced, for_end, do_end}
+use Rattle.source_meaning.specs.Statements.{in_loop}
 use Rattle.lowering_follows.proofs.Lemmas.{at, Site, conf, Ways, Price, price, joins, more, chosen, Around, around_part, holds_yes}
 use Rattle.lowering_expressions.specs.Scope as scopes
 use Rattle.lowering_follows.proofs.Stores.{Shape}

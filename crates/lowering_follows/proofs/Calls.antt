@@ -4,10 +4,9 @@ use Rattle.std.proofs.lemmas.Bool.{eq-eqb}
 use Rattle.std.proofs.lemmas.List.{length_push, take_at, drop_at}
 use Rattle.std.specs.Prelude.{Bool, take, nat_eq, get_or, slice_get, if◌then◌else◌, Some, None}
 use Rattle.std.specs.Prelude.{is_some}
-use Rattle.lowering_follows.specs.Words.{W64, W32, Arguments, Done, Program, Function, State, Value, Outcome, Gives, Exception, set_memory, emit, and_then, Context, Raise, of_test, enter, within, Instruction, LinearProgram, LinearFunction, Store, Seen, Waits, deeper, with_some, exec, Names, expression_size, arguments_size, expression_code, node_code, argument_count, arguments_code, NodeFits, ArgumentsFit, expression_weight, node_weight, HasAt, signed, BuiltIn, Put, Protect, RaiseException, raise, count_of, begin_function, protected, rights_asked, raised, each, call_built_in, Call, CallBuiltIn, AfterCall, last_temporaries, waiting, built_in, arguments_weight}
+use Rattle.lowering_follows.specs.Words.{W64, W32, Arguments, Done, Program, Function, State, Value, Outcome, Gives, Exception, set_memory, emit, and_then, Context, Raise, of_test, enter, raised, each, call_built_in, within, Instruction, LinearProgram, LinearFunction, Store, Seen, Waits, deeper, with_some, AfterCall, last_temporaries, exec, Names, expression_size, arguments_size, expression_code, node_code, argument_count, arguments_code, NodeFits, ArgumentsFit, expression_weight, node_weight, arguments_weight, HasAt, signed, BuiltIn, Put, Protect, RaiseException, raise, count_of, begin_function, waiting, built_in, protected, rights_asked, Call, CallBuiltIn, Next}
 use Rattle.c_checked.specs.Expression as nodes
-use Rattle.c_checked.specs.Expression.{Next}
-use Rattle.lowering_follows.proofs.Lemmas.{Part, Site, conf, price, joins, more, frame_of, then_plain, fetch, first, stepped, prefix_self}
+use Rattle.lowering_follows.proofs.Lemmas.{Part, Site, conf, price, joins, frame_of, more, then_plain, fetch, first, stepped, prefix_self}
 use Rattle.lowering_follows.proofs.Stores.{Shape}
 use Rattle.lowering_follows.proofs.Places.{has_at, has_front, has_after}
 use Rattle.lowering_follows.proofs.Lengths.{expression_length}

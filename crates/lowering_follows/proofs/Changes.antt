@@ -2,8 +2,7 @@
 use Rattle.std.proofs.Common.{◌≡◌, ◌≤◌, ℕ, ◌+◌, List, [], ◌∷◌, ◌++◌, length, refl, ap, sym, subst, ◌∙◌, arith, append_assoc}
 use Rattle.std.proofs.lemmas.List.{length_push}
 use Rattle.std.specs.Prelude.{Bool, Some}
-use Rattle.lowering_follows.specs.Words.{Operation, Conversion, Expression, Lvalue, Global, Indirection, Element, Program, State, Value, Outcome, Gives, with_value, Context, Eval, converted, operate, read, write, within, Temporary, Instruction, LinearProgram, Store, with_temporary, Names, address_count, read_size, conversion_size, expression_size, locate_size, node_size, constant, combine, copy, conversion_code, expression_code, read_code, write_code, locate_code, node_code, NodeFits, expression_weight, lvalue_weight, node_weight, HasAt, incremented_value, chosen_of}
-use Rattle.c_checked.specs.Expression.{Local}
+use Rattle.lowering_follows.specs.Words.{Operation, Conversion, Expression, Lvalue, Global, Indirection, Element, Program, State, Value, Outcome, Gives, with_value, Context, Eval, converted, operate, read, write, incremented_value, within, Temporary, Instruction, LinearProgram, Store, with_temporary, Names, address_count, read_size, conversion_size, expression_size, locate_size, node_size, constant, combine, copy, conversion_code, expression_code, read_code, write_code, locate_code, node_code, chosen_of, NodeFits, expression_weight, lvalue_weight, node_weight, HasAt, Local}
 use Rattle.c_operations.specs.declared.operation.Pure.TheVariants as pures
 use Rattle.c_checked.specs.declared.expression.Fixity.{Fixity}
 use Rattle.c_checked.specs.declared.expression.Fixity.TheVariants.{Postfix, Prefix}

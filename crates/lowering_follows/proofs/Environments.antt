@@ -2,7 +2,8 @@
 -- and which handlers a search meets.
 use Rattle.std.proofs.Common.{◌≡◌, ◌≤◌, ℕ, suc, ◌+◌, List, [], ◌∷◌, ◌++◌, length, refl, ap, ◌∙◌}
 use Rattle.std.specs.Prelude.{Bool, true, false, get_or, slice_get, Option, Some, None}
-use Rattle.lowering_follows.specs.Words.{Expression, Filter, Always, Funclet, Program, Exception, State, Context, Handler, of_test, Temporary, LinearProgram, LinearFunclet, FuncletBody, Store, ExceptionSource, Names, NoException, OfFilter, KeptIn, expression_code, ExpressionFits, expression_weight, HasAt, Return}
+use Rattle.lowering_follows.specs.Words.{Expression, Filter, Always, Funclet, Program, Exception, State, Context, Handler, of_test, Temporary, LinearProgram, LinearFunclet, FuncletBody, Store, ExceptionSource, Names, NoException, OfFilter, KeptIn, expression_code, ExpressionFits, expression_weight, HasAt}
+use Rattle.linear_code.specs.declared.instruction.Instruction.TheVariants.{Return}
 use Rattle.linear_code.specs.declared.program.FuncletKind.TheVariants as kinds
 use Rattle.linear_machine.specs.Frames as machine
 use Rattle.lowering_follows.proofs.Lemmas.{Site, found}

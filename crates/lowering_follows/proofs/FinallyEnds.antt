@@ -1,7 +1,8 @@
 -- A `__finally` block runs for every result of the body on its way out.
 use Rattle.std.proofs.Common.{◌≡◌, inl, inr, ◌<◌, ◌≤◌, ℕ, suc, ◌+◌, List, [], ◌∷◌, ◌++◌, length, refl, ap, sym, ◌∙◌, arith}
 use Rattle.std.specs.Prelude.{◌-◌, Bool, true, false, Some, None}
-use Rattle.lowering_follows.specs.Words.{Statements, Program, State, Value, Normal, Returned, Broke, Continued, LeftTry, Target, End, Outcome, Gives, and_then, Context, RunFinally, finally_after, within, Temporary, CallFinally, Separator, Region, LinearProgram, Item, Waits, Store, Configuration, Finished, Next, with_some, deeper, handlers_in, handlers, begin_finally, target_past, unwind, target_of, end_body, instruction_in, exec, Names, LoweringContext, Nowhere, Jumps, in_guarded, region, statements_notes, statements_weight, HasAt, HasFunclet, FinallyPlaced, Result, Unwinds, flag_in, flag_of, run_finally}
+use Rattle.lowering_follows.specs.Words.{Statements, Program, State, Value, Normal, Returned, Broke, Continued, LeftTry, Target, End, Outcome, Gives, and_then, Result, Context, RunFinally, finally_after, within, Temporary, CallFinally, Separator, Region, LinearProgram, Item, Waits, Store, Configuration, Finished, with_some, deeper, Unwinds, handlers_in, handlers, begin_finally, target_past, unwind, flag_in, flag_of, run_finally, target_of, end_body, instruction_in, exec, Names, LoweringContext, Nowhere, Jumps, in_guarded, region, statements_notes, statements_weight, HasAt, HasFunclet, FinallyPlaced}
+use Rattle.linear_machine.specs.Frames.{Next}
 use Rattle.linear_code.specs.declared.instruction.Instruction.TheVariants as instructions
 use Rattle.linear_code.specs.declared.program.RegionKind.TheVariants as regions
 use Rattle.linear_code.specs.declared.program.FuncletKind.TheVariants as kinds

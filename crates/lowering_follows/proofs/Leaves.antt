@@ -1,7 +1,7 @@
 -- Constants, codes, flags and fields in expressions.
 use Rattle.std.proofs.Common.{◌≡◌, ◌<◌, ◌≤◌, ℕ, suc, ◌+◌, ◌^◌, List, [], ◌∷◌, ◌++◌, length, refl, ap, sym, subst, ◌∙◌, arith}
 use Rattle.std.specs.Prelude.{Bool, Option, Some, None}
-use Rattle.lowering_follows.specs.Words.{Field, Size, Node, Program, State, Value, Outcome, Gives, Context, of_test, field_of, Temporary, Instruction, Information, LinearProgram, Store, with_temporary, exec, Names, ExceptionSource, NoException, OfFilter, KeptIn, constant, copy, node_code, NodeFits, HasAt, code_code, abnormal_code}
+use Rattle.lowering_follows.specs.Words.{Field, Size, Node, Program, State, Value, Outcome, Gives, Context, of_test, field_of, Temporary, Instruction, Information, LinearProgram, Store, with_temporary, exec, Names, ExceptionSource, NoException, OfFilter, KeptIn, constant, copy, node_code, code_code, abnormal_code, NodeFits, HasAt}
 use Rattle.c_operations.specs.declared.field.Field.TheVariants as fields
 use Rattle.c_checked.specs.Expression as nodes
 use Rattle.linear_code.specs.declared.slot.Slot.TheVariants.{Local as LocalSlot}

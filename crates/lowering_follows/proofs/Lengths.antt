@@ -1,11 +1,9 @@
 -- How many instructions code has.
 use Rattle.std.proofs.Common.{◌≡◌, ℕ, suc, ◌+◌, List, [], ◌∷◌, ◌++◌, length, refl, ap, ◌∙◌, arith, length-append}
-use Rattle.lowering_follows.specs.Words.{Conversion, Kept, Extend, Scale, Expression, On, Node, Lvalue, Global, Indirection, Element, Arguments, Done, Instruction, Names, conversion_size, unary_size, address_count, read_size, expression_size, locate_size, arguments_size, node_size, conversion_code, unary_code, read_code, expression_code, locate_code, arguments_code, node_code, address_size, address_code}
-use Rattle.c_checked.specs.Expression.{Local}
+use Rattle.lowering_follows.specs.Words.{Conversion, Kept, Extend, Scale, Expression, On, Node, Lvalue, Global, Indirection, Element, Arguments, Done, Instruction, Names, conversion_size, unary_size, address_count, read_size, expression_size, locate_size, arguments_size, node_size, address_size, conversion_code, unary_code, read_code, expression_code, locate_code, arguments_code, node_code, address_code, Local, Next}
 use Rattle.c_operations.specs.declared.operation.Pure.{Pure as Pure'}
 use Rattle.c_operations.specs.declared.operation.Pure.TheVariants as pures
 use Rattle.c_checked.specs.Expression as nodes
-use Rattle.c_checked.specs.Expression.{Next}
 
 pub conversion_length : (c : Conversion) (d : ℕ) → length (conversion_code c d) ≡ conversion_size c
 conversion_length Kept d = refl

@@ -2,8 +2,7 @@
 use Rattle.std.proofs.Common.{◌≡◌, ◌≤◌, ℕ, ◌+◌, List, [], ◌∷◌, ◌++◌, length, refl, sym, subst, arith}
 use Rattle.std.specs.Prelude.{Bool}
 use Rattle.c_checked.specs.Expression as nodes
-use Rattle.lowering_follows.specs.Words.{Expression, Node, Lvalue, Global, Indirection, Element, Program, State, Outcome, with_value, Context, Eval, Locate, read, write, within, Instruction, LinearProgram, Store, Names, address_count, read_size, expression_size, locate_size, expression_code, read_code, write_code, locate_code, node_code, LvalueFits, NodeFits, expression_weight, lvalue_weight, node_weight, HasAt}
-use Rattle.c_checked.specs.Expression.{Local}
+use Rattle.lowering_follows.specs.Words.{Expression, Node, Lvalue, Global, Indirection, Element, Program, State, Outcome, with_value, Context, Eval, Locate, read, write, within, Instruction, LinearProgram, Store, Names, address_count, read_size, expression_size, locate_size, expression_code, read_code, write_code, locate_code, node_code, LvalueFits, NodeFits, expression_weight, lvalue_weight, node_weight, HasAt, Local}
 use Rattle.lowering_follows.proofs.Lemmas.{Part, at, Site, conf, price, Claim, more}
 use Rattle.lowering_follows.proofs.Stores.{Shape}
 use Rattle.lowering_follows.proofs.Places.{has_front, has_after}

@@ -3,7 +3,7 @@ use Rattle.std.proofs.Common.{◌≡◌, ◌<◌, ◌≤◌, ℕ, zero, suc, ◌
 use Rattle.std.proofs.lemmas.Bool.{lt-ltb, ltb-true, ltb-false}
 use Rattle.std.proofs.lemmas.List.{length_push}
 use Rattle.std.specs.Prelude.{◌-◌, ◌/◌, nat_lt, negsuc, ◌-ℤ◌, int_div, neg_ℤ, Bool, true, false, if◌then◌else◌, ℤ, pos}
-use Rattle.lowering_follows.specs.Words.{W64, low, signed, wrapped, Expression, Program, State, Value, Gives, Context, Temporary, LinearProgram, Store, with_temporary, exec, Names, expression_size, constant, combine, node_code, NodeFits, expression_weight, node_weight, HasAt, Long, result_of, performed, is_reserved, Memory, computed, limit, half, signed_part, apart}
+use Rattle.lowering_follows.specs.Words.{W64, low, signed, wrapped, limit, half, Expression, Program, State, Value, Gives, Context, Temporary, LinearProgram, Store, with_temporary, exec, Names, expression_size, constant, combine, node_code, NodeFits, expression_weight, node_weight, HasAt, Long, result_of, performed, signed_part, is_reserved, Memory, computed, apart}
 use Rattle.c_operations.specs.declared.operation.Operation.TheVariants as operations
 use Rattle.c_operations.specs.declared.operation.Pure.TheVariants as pures
 use Rattle.c_checked.specs.Expression as nodes

@@ -1,7 +1,9 @@
 -- A raise asks the handlers that a search finds, in order.
 use Rattle.std.proofs.Common.{◌≡◌, ◌<◌, ◌≤◌, ℕ, suc, ◌+◌, ◌^◌, List, [], ◌∷◌, ◌++◌, length, refl, ap, sym, subst, ◌∙◌, arith, append_assoc}
 use Rattle.std.specs.Prelude.{Bool, true, false, nat_eq, nat_lt, slice_get, Option, Some, None}
-use Rattle.lowering_follows.specs.Words.{W32, low, signed, Expression, Filter, Always, Funclet, Program, Exception, State, Value, Normal, Target, Outcome, Gives, choose, emit, hold, let_go, with_value, Context, Handler, Eval, Raise, RunFilter, raise_event, within, Temporary, LinearProgram, LinearFunclet, FuncletBody, Resumption, Item, Waits, Store, Next, pick, with_some, deeper, regions_at, handlers_in, handlers, target_past, unwind_body, unwind, target_of, begin_filter, raise, resumed, answered, end_funclet, exec, Names, expression_size, expression_code, expression_weight, HasAt, noncontinuable, Return, Searches, left_store, accept, consult, search}
+use Rattle.lowering_follows.specs.Words.{W32, low, signed, Expression, Filter, Always, Funclet, Program, Exception, State, Value, Normal, Target, Outcome, Gives, choose, emit, hold, let_go, with_value, Context, Handler, Eval, Raise, RunFilter, raise_event, noncontinuable, within, Temporary, LinearProgram, LinearFunclet, FuncletBody, Resumption, Item, Waits, Store, pick, with_some, deeper, Searches, regions_at, handlers_in, handlers, target_past, unwind_body, unwind, left_store, target_of, begin_filter, raise, resumed, answered, accept, consult, search, end_funclet, exec, Names, expression_size, expression_code, expression_weight, HasAt}
+use Rattle.linear_machine.specs.Frames.{Next}
+use Rattle.linear_code.specs.declared.instruction.Instruction.TheVariants.{Return}
 use Rattle.seh_num.specs.declared.event.Event.TheVariants as events
 use Rattle.source_meaning.specs.Raises as source
 use Rattle.linear_code.specs.declared.program.FuncletKind.TheVariants as kinds

@@ -3,8 +3,7 @@ use Rattle.std.proofs.Common.{◌≡◌, ◌⊎◌, inl, inr, ℕ, ◌+◌, ◌-
 use Rattle.std.proofs.lemmas.Bool.{lt-ltb, le-ltb, le-leb}
 use Rattle.std.proofs.lemmas.List.Elements.{filter-append}
 use Rattle.std.specs.Prelude.{Bool, true, false, cond, ◌&&◌, nat_lt, nat_le}
-use Rattle.lowering_follows.specs.Words.{Statement, Declare, Block, Evaluate, If, IfElse, For, DoWhile, Break, Continue, Leave, TryExcept, TryFinally, Statements, Empty, Then, Region, holds, expression_size, discarded_size, condition_size, all_declared_size, statement_size, statements_size, except_kind, region, statement_regions, statements_regions}
-use Rattle.c_checked.specs.Statement.{Return}
+use Rattle.lowering_follows.specs.Words.{Statement, Declare, Block, Evaluate, If, IfElse, For, DoWhile, Break, Continue, Leave, TryExcept, TryFinally, Statements, Empty, Then, Region, holds, expression_size, discarded_size, condition_size, all_declared_size, statement_size, statements_size, except_kind, region, statement_regions, statements_regions, Return}
 use Rattle.linear_code.specs.declared.program.RegionKind.TheVariants as kinds
 
 abbrev pub held : ℕ → List Region → List Region

@@ -2,12 +2,10 @@
 use Rattle.std.proofs.Common.{◌≡◌, ◌<◌, ℕ, suc, ◌^◌, List, [], ◌∷◌, length, refl, sym, ap, subst, ◌∙◌, arith}
 use Rattle.std.proofs.lemmas.Bool.{ltb-true}
 use Rattle.std.specs.Prelude.{Bool, true, false, ◌&&◌, slice_get, Option, Some, None}
-use Rattle.lowering_follows.specs.Words.{BuiltIn, Put, Protect, RaiseException, Operation, Pure, Size, Int, Long, Conversion, Expression, On, Node, Lvalue, Global, Indirection, Element, Arguments, Done, Program, Function, are_sizes, is_constant, count_of, argument_count, ExpressionFits, LvalueFits, ArgumentsFit, NodeFits, TypingContext, is_number, size_after, unary_takes, takes, built_in_takes, constant_fits, amount_fits, change_fits, call_fits, lvalue_size, argument_sizes, expression_sound, node_sound, lvalue_sound, arguments_sound, IsCalled}
-use Rattle.c_checked.specs.Expression.{Local}
+use Rattle.lowering_follows.specs.Words.{BuiltIn, Put, Protect, RaiseException, Operation, Pure, Size, Int, Long, Conversion, Expression, On, Node, Lvalue, Global, Indirection, Element, Arguments, Done, Program, Function, are_sizes, TypingContext, is_number, size_after, unary_takes, takes, built_in_takes, constant_fits, amount_fits, change_fits, call_fits, lvalue_size, argument_sizes, expression_sound, node_sound, lvalue_sound, arguments_sound, is_constant, count_of, argument_count, ExpressionFits, LvalueFits, ArgumentsFit, NodeFits, IsCalled, Local, Next}
 use Rattle.c_operations.specs.declared.operation.Operation.TheVariants as operations
 use Rattle.c_operations.specs.declared.operation.Pure.TheVariants as pures
 use Rattle.c_checked.specs.Expression as nodes
-use Rattle.c_checked.specs.Expression.{Next}
 use Rattle.c_checked.specs.Sound.{expression_size}
 
 -- ---- tests of several parts

@@ -2,8 +2,7 @@
 use Rattle.std.proofs.Common.{◌≡◌, ℕ, ◌<◌, List, [], ◌∷◌, ◌++◌, length, refl, subst, length-append}
 use Rattle.std.proofs.lemmas.Bool.{ltb-true}
 use Rattle.std.specs.Prelude.{true, false, slice_get, Option, Some, None}
-use Rattle.lowering_follows.specs.Words.{Size, Expression, Program, Function, Inside, function_sound, optional_sound, test_sound, value_fits, declared_sound, all_declared_sound, result_sound, filter_sound, statement_sound, statements_sound, Declared, Filter, Always, Funclet, Statement, Declare, Block, Evaluate, If, IfElse, For, DoWhile, Break, Continue, Leave, TryExcept, TryFinally, Statements, Empty, Then, own_locals, ExpressionFits}
-use Rattle.c_checked.specs.Statement.{Return}
+use Rattle.lowering_follows.specs.Words.{Size, Expression, Program, Function, Inside, function_sound, optional_sound, test_sound, value_fits, declared_sound, all_declared_sound, result_sound, filter_sound, statement_sound, statements_sound, Declared, Filter, Always, Funclet, Statement, Declare, Block, Evaluate, If, IfElse, For, DoWhile, Break, Continue, Leave, TryExcept, TryFinally, Statements, Empty, Then, own_locals, ExpressionFits, Return}
 use Rattle.c_checked.specs.Sound as sound
 use Rattle.seh_ir.proofs.StatementParts.{OptionalHas, DeclaredHas, AllDeclaredHave, FilterHas, StatementHas, StatementsHave, statements_have}
 use Rattle.lowering_follows.proofs.SoundExpressions.{both_left, both_right, Knows, expression_fits}

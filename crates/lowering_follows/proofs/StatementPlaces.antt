@@ -2,14 +2,13 @@
 use Rattle.std.proofs.Common.{◌≡◌, inl, inr, ℕ, ◌+◌, ◌-◌, ◌<◌, ◌≤◌, List, [], ◌∷◌, ◌++◌, length, refl, sym, ap, subst, ◌∙◌, arith, append-nil, append_assoc, length-append}
 use Rattle.std.proofs.lemmas.Bool.{ltb-true}
 use Rattle.std.specs.Prelude.{true, false, slice_get, Option, Some, None}
-use Rattle.lowering_follows.specs.Words.{Size, Expression, Program, Inside, funclets, count_up, optional_sound, test_sound, value_fits, declared_sound, all_declared_sound, result_sound, filter_sound, statement_sound, statements_sound, Declared, Filter, Always, Funclet, Statement, Declare, Block, Evaluate, If, IfElse, For, DoWhile, Break, Continue, Leave, TryExcept, TryFinally, Statements, Empty, Then, Temporary, Instruction, Jump, JumpIfZero, CallFinally, Landing, Separator, Region, LinearProgram, BodyName, FuncletBody, body_of, regions_at, instruction_in, Owner, Names, Nowhere, Jumps, LoweringContext, except_names, filter_names, finally_names, finally_scope, in_try, in_except, in_guarded, expression_size, discarded_size, condition_size, declared_size, all_declared_size, returned_size, statement_size, statements_size, expression_code, jump_code, return_code, leave_code, discarded_code, statements_code, except_kind, region, statement_regions, statements_regions, statements_funclets, HasAt, IsWay, IsPlace, OptionalFits, DeclaredPlaced, AllDeclaredPlaced, FilterPlaced, Placed, AllPlaced, statement_weight, statements_weight, funclets_in, filter_funclet, Local, LinearBody, funclet_body, regions_of, unwound, returned_code, condition_code, declared_code, all_declared_code, landed, repeated, statement_code, filter_funclets, finally_funclet, in_funclet, statement_funclets, filter_weight}
-use Rattle.c_checked.specs.Statement.{Return}
+use Rattle.lowering_follows.specs.Words.{Size, Expression, Program, Inside, funclets, count_up, optional_sound, test_sound, value_fits, declared_sound, all_declared_sound, result_sound, filter_sound, statement_sound, statements_sound, funclets_in, filter_funclet, Declared, Filter, Always, Funclet, Statement, Declare, Block, Evaluate, If, IfElse, For, DoWhile, Break, Continue, Leave, TryExcept, TryFinally, Statements, Empty, Then, Temporary, Instruction, Jump, JumpIfZero, CallFinally, Landing, Separator, Region, LinearProgram, LinearBody, BodyName, FuncletBody, body_of, funclet_body, regions_at, regions_of, instruction_in, Owner, Names, Nowhere, Jumps, LoweringContext, except_names, filter_names, finally_names, finally_scope, in_try, in_except, in_guarded, unwound, expression_size, discarded_size, condition_size, declared_size, all_declared_size, returned_size, statement_size, statements_size, expression_code, jump_code, return_code, leave_code, discarded_code, statements_code, returned_code, condition_code, declared_code, all_declared_code, landed, repeated, statement_code, except_kind, region, statement_regions, statements_regions, statements_funclets, filter_funclets, finally_funclet, in_funclet, statement_funclets, HasAt, IsWay, IsPlace, OptionalFits, DeclaredPlaced, AllDeclaredPlaced, FilterPlaced, Placed, AllPlaced, statement_weight, statements_weight, filter_weight, Return, in_loop}
+use Rattle.linear_code.specs.declared.slot.Slot.TheVariants.{Local}
 use Rattle.lowering_expressions.specs.declared.scope.Way.TheVariants.{Unwinds}
 use Rattle.c_checked.specs.Sound as sound
 use Rattle.linear_code.specs.declared.instruction.Instruction.TheVariants as instructions
 use Rattle.linear_code.specs.declared.program.RegionKind.TheVariants as regions
 use Rattle.lowering_expressions.specs.declared.scope.Way.{Way}
-use Rattle.lowering_expressions.specs.Scope.{in_loop}
 use Rattle.seh_ir.specs.Funclets as funclets_of
 use Rattle.lowering_expressions.proofs.Codes.{expression_length}
 use Rattle.lowering_follows.proofs.Lemmas.{jump_length, return_length, discarded_length, returned_length, condition_length, declared_length, all_declared_length, statement_length, statements_length, filter_count, statement_count, statements_count}

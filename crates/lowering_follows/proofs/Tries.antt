@@ -2,7 +2,7 @@
 -- out.
 use Rattle.std.proofs.Common.{◌≡◌, ◌⊎◌, inl, inr, ◌<◌, ◌≤◌, ℕ, ◌+◌, List, ◌∷◌, ◌++◌, length, refl, ap, sym, subst, ◌∙◌, arith}
 use Rattle.std.specs.Prelude.{Bool, slice_get, Option, Some, None}
-use Rattle.lowering_follows.specs.Words.{Filter, Always, Funclet, Program, Exception, State, Returned, Broke, Continued, LeftTry, Target, Outcome, Gives, Context, Handler, of_test, Region, LinearProgram, BodyName, Store, set_local, Names, ExceptionSource, LoweringContext, NoException, OfFilter, KeptIn, Nowhere, Jumps, except_names, filter_names, finally_names, in_try, in_except, in_guarded, except_kind, region, FilterPlaced, Unwinds, handlers_of}
+use Rattle.lowering_follows.specs.Words.{Filter, Always, Funclet, Program, Exception, State, Returned, Broke, Continued, LeftTry, Target, Outcome, Gives, Context, Handler, of_test, Region, LinearProgram, BodyName, Store, set_local, Unwinds, Names, ExceptionSource, LoweringContext, NoException, OfFilter, KeptIn, Nowhere, Jumps, except_names, filter_names, finally_names, in_try, in_except, in_guarded, except_kind, region, FilterPlaced, handlers_of}
 use Rattle.lowering_expressions.specs.declared.scope.Way.TheVariants.{Unwinds}
 use Rattle.linear_code.specs.declared.program.RegionKind.{RegionKind}
 use Rattle.linear_code.specs.declared.program.RegionKind.TheVariants as regions

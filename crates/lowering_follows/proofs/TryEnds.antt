@@ -3,7 +3,8 @@ use Rattle.std.proofs.Common.{◌≡◌, ◌⊎◌, inl, inr, ◌<◌, ◌≤◌
 use Rattle.std.proofs.lemmas.Bool.{eq-eqb, ne_eqb}
 use Rattle.std.specs.Prelude.{Bool, true, false, nat_eq, Some, None}
 use Rattle.seh_num.specs.declared.event.Event.TheVariants as events
-use Rattle.lowering_follows.specs.Words.{Filter, Program, Exception, State, Value, Normal, Returned, Broke, Continued, LeftTry, Target, End, Outcome, Gives, choose, emit, Context, landing, Jump, Landing, Region, LinearProgram, Store, Configuration, Finished, with_some, set_local, handlers_in, handlers, target_past, unwind, target_of, exec, Names, LoweringContext, Nowhere, Jumps, in_try, except_kind, region, HasAt, Local, Unwinds}
+use Rattle.lowering_follows.specs.Words.{Filter, Program, Exception, State, Value, Normal, Returned, Broke, Continued, LeftTry, Target, End, Outcome, Gives, choose, emit, Context, landing, Jump, Landing, Region, LinearProgram, Store, Configuration, Finished, with_some, set_local, Unwinds, handlers_in, handlers, target_past, unwind, target_of, exec, Names, LoweringContext, Nowhere, Jumps, in_try, except_kind, region, HasAt}
+use Rattle.linear_code.specs.declared.slot.Slot.TheVariants.{Local}
 use Rattle.lowering_expressions.specs.declared.scope.Way.TheVariants.{Unwinds}
 use Rattle.linear_machine.specs.Frames as machine
 use Rattle.lowering_follows.proofs.Lemmas.{Part, at, Site, conf, Picked, Price, price, found, Reaches, Arrives, Claim, after, reaches_after, reaches_more, arrives_more, finishes_more, stops_more, onto, stepped, first, fetch, sooner, prefix_self, Around, Outward, FindsRegions, finds_own, picked_less, picked_inside, skips, lands}

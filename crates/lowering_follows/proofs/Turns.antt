@@ -3,7 +3,9 @@ use Rattle.std.proofs.Common.{◌≡◌, ◌<◌, ◌≤◌, ℕ, zero, suc, ◌
 use Rattle.std.proofs.lemmas.Bool.{le-leb}
 use Rattle.std.proofs.lemmas.List.{take_at, length_push}
 use Rattle.std.specs.Prelude.{Bool, true, false, nat_eq, nat_le, if◌then◌else◌, slice_get, take, Some, None}
-use Rattle.lowering_follows.specs.Words.{W64, low, Field, Operation, Pure, result_of, performed, State, Context, field_of, is_reserved, Temporary, Compute, Information, Jump, JumpIfZero, LinearProgram, Store, Next, Seen, pick, with_some, with_temporary, local_of, set_local, is_constant, computed, exec, HasAt, Local, with_temporaries, forth, operand}
+use Rattle.lowering_follows.specs.Words.{W64, low, Field, Operation, Pure, result_of, performed, State, Context, field_of, is_reserved, Temporary, Compute, Information, Jump, JumpIfZero, LinearProgram, Store, Seen, pick, with_some, with_temporary, local_of, set_local, with_temporaries, forth, is_constant, computed, operand, exec, HasAt}
+use Rattle.linear_code.specs.declared.slot.Slot.TheVariants.{Local}
+use Rattle.linear_machine.specs.Frames.{Next}
 use Rattle.c_operations.specs.declared.operation.Operation.TheVariants as operations
 use Rattle.c_operations.specs.declared.operation.Pure.TheVariants as pures
 use Rattle.c_operations.specs.Performed as performing

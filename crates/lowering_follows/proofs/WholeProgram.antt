@@ -4,7 +4,7 @@ use native.Mathlib.Nat.{mul-add, mul_comm, mul-one}
 use Rattle.std.proofs.lemmas.Bool.{cases_lt, ne_eqb}
 use Rattle.std.specs.Prelude.{false, nat_eq, if◌then◌else◌, replicate, slice_get, ℤ, Some, None}
 use Rattle.seh_num.specs.declared.event.Event.{Event}
-use Rattle.lowering_follows.specs.Words.{W32, W64, signed, wrapped, Size, Program, Function, State, Value, Normal, Returned, Target, End, Outcome, Gives, choose, Context, no_exception, all, ended_call, enter, within, Temporary, LinearProgram, LinearFunction, FunctionBody, Store, Configuration, Seen, Finished, with_some, begin_function, exec, statements_size, statements_notes, constant, own_locals, scope_of, statements_weight, HasAt, FunctionPlaced, first_memory, does, for_parameters, outside, ran, shows, meaning, IsPrefixOf, Running, Stuck, main_arguments, start, seen, shown}
+use Rattle.lowering_follows.specs.Words.{W32, W64, signed, wrapped, Size, Program, Function, State, Value, Normal, Returned, Target, End, Outcome, Gives, choose, Context, no_exception, all, ended_call, enter, within, does, for_parameters, outside, ran, shows, meaning, Temporary, LinearProgram, LinearFunction, FunctionBody, Store, Configuration, Seen, Finished, with_some, Running, Stuck, begin_function, exec, main_arguments, start, seen, shown, statements_size, statements_notes, constant, own_locals, scope_of, statements_weight, HasAt, FunctionPlaced, first_memory, IsPrefixOf}
 use Rattle.source_meaning.specs.declared.ended.Ended.{Ended}
 use Rattle.source_meaning.specs.declared.ended.Ended.TheVariants.{Exit}
 use Rattle.source_meaning.specs.State.{deeper}

@@ -11,10 +11,10 @@ pub use Rattle.c_operations.specs.declared.operation.Operation.{Operation}
 pub use Rattle.c_operations.specs.declared.operation.Pure.{Pure}
 pub use Rattle.c_operations.specs.declared.operation.Size.{Size}
 pub use Rattle.c_operations.specs.declared.operation.Size.TheVariants.{Long, Int}
-pub use Rattle.c_checked.specs.Expression.{Expression, Arguments, Done, Lvalue, Global, Indirection, Element, Node, On}
+pub use Rattle.c_checked.specs.Expression.{Expression, Arguments, Done, Next, Lvalue, Global, Indirection, Element, Local, Node, On}
 pub use Rattle.c_checked.specs.Program.{Program, Function}
 pub use Rattle.c_checked.specs.Sound.{count_up, are_sizes, funclets, function_sound, some_sizes, functions_sound, main_sound, TypingContext, is_number, size_after, unary_takes, takes, built_in_takes, constant_fits, amount_fits, change_fits, call_fits, lvalue_size, argument_sizes, expression_sound, node_sound, lvalue_sound, arguments_sound, Inside, optional_sound, test_sound, value_fits, declared_sound, all_declared_sound, result_sound, filter_sound, statement_sound, statements_sound, funclets_in, filter_funclet}
-pub use Rattle.c_checked.specs.Statement.{Statement, Statements, Empty, Then, Declared, Filter, Declare, Block, Evaluate, If, IfElse, For, DoWhile, Break, Continue, Leave, TryExcept, TryFinally, Always, Funclet}
+pub use Rattle.c_checked.specs.Statement.{Statement, Statements, Empty, Then, Declared, Filter, Declare, Block, Evaluate, If, IfElse, For, DoWhile, Break, Continue, Leave, TryExcept, TryFinally, Return, Always, Funclet}
 pub use Rattle.c_checked.specs.declared.expression.Conversion.{Conversion}
 pub use Rattle.c_checked.specs.declared.expression.Conversion.TheVariants.{Kept, Extend, Scale}
 pub use Rattle.source_meaning.specs.Expressions.{no_exception, of_test, all, enter, raised, each, call_built_in, converted, operate, read, write, incremented_value, field_of, locate, value_width, value_of, tried, load, apart}
@@ -26,14 +26,14 @@ pub use Rattle.source_meaning.specs.Source.{is_reserved, first_memory}
 pub use Rattle.source_meaning.specs.State.{State, Outcome, Normal, Target, Gives, emit, hold, let_go, Value, Broke, Continued, Exception, Returned, set_memory, LeftTry, End, Result}
 unfoldable pub use Rattle.source_meaning.specs.State.{with_value, and_then, choose}
 pub use Rattle.source_meaning.specs.Statements.{optional, declare, declare_each, statement, for_iteration, do_iteration}
-unfoldable pub use Rattle.source_meaning.specs.Statements.{in_loop, landing, finally_after}
+unfoldable pub use Rattle.source_meaning.specs.Statements.{landing, finally_after}
 pub use Rattle.source_meaning.specs.Tasks.{Context, Eval, Run, ForIteration, DoIteration, TryBody, RunFinally, Handler, Raise, Locate, Retry, RunFilter}
 pub use Rattle.linear_code.specs.Program.{LinearProgram, LinearFunction, LinearFunclet, LinearBody}
 pub use Rattle.linear_code.specs.declared.instruction.Instruction.{Instruction}
-pub use Rattle.linear_code.specs.declared.instruction.Instruction.TheVariants.{Compute, Separator, LocalUnwind, JumpIfZero, Call, CallBuiltIn, Return, CallFinally, Information, Jump, Landing}
+pub use Rattle.linear_code.specs.declared.instruction.Instruction.TheVariants.{Compute, Separator, LocalUnwind, JumpIfZero, Call, CallBuiltIn, CallFinally, Information, Jump, Landing}
 pub use Rattle.linear_code.specs.declared.program.Region.{Region}
-pub use Rattle.linear_code.specs.declared.slot.Slot.TheVariants.{Temporary, Local}
-pub use Rattle.linear_machine.specs.Frames.{deeper, BodyName, FuncletBody, body_of, Item, Store, Configuration, Seen, Next, set_local, local_of, Waits, AfterCall, last_temporaries, with_temporary, Finished, Unwinds, FunctionBody, SameOperation, function_body, Resumption, Searches, funclet_body, with_temporaries, forth, Running, Stuck}
+pub use Rattle.linear_code.specs.declared.slot.Slot.TheVariants.{Temporary}
+pub use Rattle.linear_machine.specs.Frames.{deeper, BodyName, FuncletBody, body_of, Item, Store, Configuration, Seen, set_local, local_of, Waits, AfterCall, last_temporaries, with_temporary, Finished, Unwinds, FunctionBody, SameOperation, function_body, Resumption, Searches, funclet_body, with_temporaries, forth, Running, Stuck}
 unfoldable pub use Rattle.linear_machine.specs.Frames.{pick, with_some}
 pub use Rattle.linear_machine.specs.Instructions.{end_finally, end_body, end_funclet, count_of, begin_function, waiting, built_in, is_constant, computed, operand}
 pub use Rattle.linear_machine.specs.Regions.{holds, leads_to, stops, handlers_in, handlers, regions_at, regions_of, handlers_of}
@@ -43,7 +43,7 @@ pub use Rattle.linear_machine.specs.Searching.{begin_filter, raise, target_of, r
 pub use Rattle.linear_machine.specs.Unwinding.{begin_finally, unwind_body, arrive, leave_region, target_past, unwind, flag_in, flag_of, run_finally, left_store}
 pub use Rattle.lowering_sizes.specs.Sizes.{expression_size, statement_size, statements_size, statement_notes, statements_notes, discarded_size, declared_size, all_declared_size, returned_size, condition_size, arguments_size, address_count, read_size, conversion_size, locate_size, node_size, unary_size, address_size}
 pub use Rattle.lowering_expressions.specs.Expressions.{expression_code, copy, node_code, argument_count, arguments_code, constant, combine, conversion_code, read_code, write_code, locate_code, chosen_of, code_code, abnormal_code, unary_code, address_code, choice_code, size_of, load_code}
-pub use Rattle.lowering_expressions.specs.Scope.{finally_names, finally_scope, except_names, in_try, in_except, in_guarded, filter_names, unwound}
+pub use Rattle.lowering_expressions.specs.Scope.{finally_names, finally_scope, except_names, in_try, in_except, in_guarded, filter_names, unwound, in_loop}
 pub use Rattle.lowering_expressions.specs.declared.scope.ExceptionSource.{ExceptionSource}
 pub use Rattle.lowering_expressions.specs.declared.scope.ExceptionSource.TheVariants.{OfFilter, NoException, KeptIn}
 pub use Rattle.lowering_expressions.specs.declared.scope.LoweringContext.{LoweringContext}

@@ -2,7 +2,7 @@
 use Rattle.std.proofs.Common.{◌≡◌, inl, inr, ℕ, zero, suc, ◌+◌, List, [], ◌∷◌, ◌++◌, length, refl, sym, ap, subst, ◌∙◌, arith}
 use Rattle.std.proofs.lemmas.List.{length-set, length-drop}
 use Rattle.std.specs.Prelude.{Bool, true, false, nat_eq, slice_get, slice_set, take, drop, if◌then◌else◌, Option, Some, None}
-use Rattle.lowering_invariants.specs.Words.{RegionKind, FuncletKind, LinearProgram, BodyName, FunctionBody, FuncletBody, Frame, Handler, Item, Waits, Searches, Unwinds, Store, Configuration, last_temporaries, left_store, function_of, owner_of, IsFuncletOf, IsKindOf, Handles, IsHandler, AreWaiting, IsFilterKind, with_own, owners_of, WorksOn, AreWorking, IsActivationOf, AreActivations, HasActivations}
+use Rattle.lowering_invariants.specs.Words.{RegionKind, FuncletKind, LinearProgram, BodyName, FunctionBody, FuncletBody, Frame, Handler, Item, Waits, Searches, Unwinds, Store, Configuration, last_temporaries, left_store, function_of, owner_of, IsFuncletOf, IsKindOf, IsFilterKind, Handles, IsHandler, AreWaiting, with_own, owners_of, WorksOn, AreWorking, IsActivationOf, AreActivations, HasActivations}
 use Rattle.linear_code.specs.declared.program.RegionKind.TheVariants as kinds
 use Rattle.lowering_invariants.proofs.Ready.{last_are}
 use Rattle.lowering_invariants.proofs.StackTargets.{same_it}

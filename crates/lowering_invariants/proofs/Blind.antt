@@ -2,7 +2,7 @@
 use Rattle.std.proofs.Common.{◌≡◌, ℕ, ◌+◌, ◌<◌, true, false, List, [], ◌∷◌, map, refl, subst, arith}
 use Rattle.std.specs.List.{AllByRecursion}
 use Rattle.std.specs.Prelude.{slice_get, Option, Some, None}
-use Rattle.lowering_invariants.specs.Words.{Field, Program, Function, funclets, functions_sound, Statements, Slot, Local, Temporary, Instruction, FuncletKind, LinearBody, LinearFunction, LinearFunclet, BodyName, FunctionBody, FuncletBody, function_body, funclet_body, body_of, Names, LoweringContext, finally_scope, constant, statements_code, own_locals, all_locals, scope_of, lowered_function, lowered_funclets, all_funclets, lowered, IsBlind, statements_notes, ExpressionFits, IsFilterBody, LoweredInformsFilters}
+use Rattle.lowering_invariants.specs.Words.{Field, Program, Function, funclets, functions_sound, Statements, Slot, Local, Temporary, Instruction, FuncletKind, LinearBody, LinearFunction, LinearFunclet, BodyName, FunctionBody, FuncletBody, function_body, funclet_body, body_of, Names, LoweringContext, finally_scope, constant, statements_code, own_locals, all_locals, scope_of, lowered_function, lowered_funclets, all_funclets, lowered, IsBlind, IsFilterBody, statements_notes, ExpressionFits, LoweredInformsFilters}
 use Rattle.linear_code.specs.declared.instruction.Instruction.TheVariants as instructions
 use Rattle.linear_code.specs.declared.program.FuncletKind.TheVariants as kinds
 use Rattle.lowering_invariants.proofs.Lemmas.{both_left, both_right, all_append, HoldsOfInstructions, statements_all, any_numbers, HoldsOfFunclets, all_funclets_every, StatementsFit, function_fits}

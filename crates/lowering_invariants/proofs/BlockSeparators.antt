@@ -1,8 +1,7 @@
 -- In lowered code an instruction that does nothing is after each that runs `__finally` blocks.
 use Rattle.std.proofs.Common.{◌≡◌, ℕ, zero, suc, ◌+◌, List, [], ◌∷◌, ◌++◌, refl, sym, ap, ◌∙◌, arith}
 use Rattle.std.specs.Prelude.{true, false, slice_get, Option, Some, None}
-use Rattle.lowering_invariants.specs.Words.{Expression, Function, Statements, Local, Temporary, Instruction, JumpIfZero, Separator, Owner, Names, Way, Nowhere, Jumps, LoweringContext, finally_scope, constant, copy, expression_code, return_code, returned_code, repeated, statements_code, finally_funclet, scope_of, lowered_function, runs_blocks, IsFollowed, LoweredIsFollowed}
-use Rattle.seh_ir.specs.Funclets.{filter_funclet}
+use Rattle.lowering_invariants.specs.Words.{Expression, Function, Statements, Local, Temporary, Instruction, JumpIfZero, Separator, Owner, Names, Way, Nowhere, Jumps, LoweringContext, finally_scope, constant, copy, expression_code, return_code, returned_code, repeated, statements_code, finally_funclet, scope_of, lowered_function, runs_blocks, IsFollowed, LoweredIsFollowed, filter_funclet}
 use Rattle.linear_code.specs.declared.instruction.Instruction.TheVariants as instructions
 use Rattle.lowering_expressions.specs.declared.scope.Way.TheVariants.{Unwinds}
 use Rattle.lowering_invariants.proofs.EveryBody.{every_body}

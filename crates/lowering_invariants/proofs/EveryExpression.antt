@@ -2,7 +2,7 @@
 use Rattle.std.proofs.Common.{◌≡◌, ℕ, ◌+◌, List, [], ◌∷◌, ◌++◌}
 use Rattle.std.specs.List.{AllByRecursion}
 use Rattle.std.specs.Prelude.{Bool, true, Option, Some, None}
-use Rattle.lowering_invariants.specs.Words.{Width, BuiltIn, Field, Operation, Pure, Signed, Long, Access, Conversion, Kept, Extend, Scale, Expression, On, Node, Lvalue, Global, Indirection, Element, Arguments, Done, Program, Slot, Local, Temporary, Instruction, Names, address_count, locate_size, read_size, conversion_size, expression_size, constant, copy, change, combine, conversion_code, unary_code, choice_code, code_code, abnormal_code, load_code, read_code, write_code, address_code, chosen_of, expression_code, locate_code, arguments_code, node_code, IsCalled, ExpressionFits, LvalueFits, ArgumentsFit, NodeFits, store_code}
+use Rattle.lowering_invariants.specs.Words.{Width, BuiltIn, Field, Operation, Pure, Signed, Long, Access, Conversion, Kept, Extend, Scale, Expression, On, Node, Lvalue, Global, Indirection, Element, Arguments, Done, Program, Slot, Local, Temporary, Instruction, Names, address_count, locate_size, read_size, conversion_size, expression_size, constant, copy, change, combine, conversion_code, unary_code, choice_code, code_code, abnormal_code, load_code, read_code, write_code, address_code, chosen_of, expression_code, locate_code, arguments_code, node_code, store_code, IsCalled, ExpressionFits, LvalueFits, ArgumentsFit, NodeFits}
 use Rattle.c_operations.specs.declared.operation.Operation.TheVariants as operations
 use Rattle.c_operations.specs.declared.operation.Pure.TheVariants as pures
 use Rattle.c_checked.specs.Expression as nodes

@@ -1,7 +1,7 @@
 -- A turn is an end, or leads to one configuration, whatever is done from there on.
 use Rattle.std.proofs.Common.{◌≡◌, ℕ, zero, suc, ◌+◌, List, [], length, refl, sym, subst, ◌∙◌}
 use Rattle.std.specs.Prelude.{Bool, true, false, nat_lt, Option, Some, None}
-use Rattle.lowering_invariants.specs.Words.{Event, Deep, LinearProgram, Store, Configuration, Seen, Running, Finished, Stuck, Next, pick, with_some, IsTurn, Comes, deeper}
+use Rattle.lowering_invariants.specs.Words.{Event, Deep, LinearProgram, Store, Configuration, Seen, Running, Finished, Stuck, Next, pick, with_some, deeper, IsTurn, Comes}
 use Rattle.lowering_invariants.proofs.Same.{alike_is_same}
 
 pub data Turn (P : Configuration → Type 0) (f : Next → Seen) : Type 0 where

@@ -2,7 +2,7 @@
 use Rattle.std.proofs.Common.{◌≡◌, ℕ, suc, ◌+◌, ◌*◌, ◌<◌, ◌≤◌, List, [], ◌∷◌, ◌++◌, length, arith}
 use Rattle.std.specs.List.{AllByRecursion}
 use Rattle.std.specs.Prelude.{Bool, slice_get, Option, Some, None}
-use Rattle.lowering_invariants.specs.Words.{BuiltIn, Field, Operation, Pure, Signed, Long, Access, Conversion, Kept, Extend, Scale, Expression, On, Node, Lvalue, Global, Indirection, Element, Arguments, Done, Program, Function, Local, Temporary, Instruction, count_of, ExceptionSource, NoException, OfFilter, KeptIn, Names, address_count, locate_size, read_size, conversion_size, expression_size, instruction_temporaries, instruction_passes, constant, copy, change, combine, conversion_code, unary_code, choice_code, code_code, abnormal_code, load_code, read_code, write_code, address_code, chosen_of, expression_code, locate_code, arguments_code, node_code, ExpressionFits, LvalueFits, ArgumentsFit, NodeFits, expression_nesting, expression_reads, IsPlain, size_of, argument_count, parameters_for, lvalue_nesting, arguments_nesting, node_nesting, lvalue_reads, arguments_read, node_reads, IsField}
+use Rattle.lowering_invariants.specs.Words.{BuiltIn, Field, Operation, Pure, Signed, Long, Access, Conversion, Kept, Extend, Scale, Expression, On, Node, Lvalue, Global, Indirection, Element, Arguments, Done, Program, Function, Local, Temporary, Instruction, count_of, ExceptionSource, NoException, OfFilter, KeptIn, Names, address_count, locate_size, read_size, conversion_size, expression_size, instruction_temporaries, instruction_passes, constant, copy, change, combine, conversion_code, unary_code, choice_code, code_code, abnormal_code, load_code, read_code, write_code, address_code, chosen_of, expression_code, locate_code, arguments_code, node_code, size_of, argument_count, ExpressionFits, LvalueFits, ArgumentsFit, NodeFits, expression_nesting, expression_reads, parameters_for, lvalue_nesting, arguments_nesting, node_nesting, lvalue_reads, arguments_read, node_reads, IsPlain, IsField}
 use Rattle.c_operations.specs.declared.field.Field.TheVariants as fields
 use Rattle.c_operations.specs.declared.operation.Operation.TheVariants as operations
 use Rattle.c_operations.specs.declared.operation.Pure.TheVariants as pures

@@ -3,8 +3,7 @@
 use Rattle.std.proofs.Common.{◌≡◌, ℕ, ◌+◌, ◌-◌, ◌*◌, ◌<◌, ◌≤◌, List, [], ◌∷◌, ◌++◌, length, sym, subst, arith}
 use Rattle.std.specs.List.{AllByRecursion}
 use Rattle.std.specs.Prelude.{Bool, true, false, slice_get, Option, Some, None}
-use Rattle.lowering_invariants.specs.Words.{Expression, Program, Function, count_up, Declared, Filter, Always, Funclet, Statement, Declare, Block, Evaluate, If, IfElse, For, DoWhile, Return, Break, Continue, Leave, TryExcept, TryFinally, Statements, Empty, Then, Local, Temporary, Instruction, LinearProgram, statements_notes, Owner, Names, LoweringContext, except_names, filter_names, finally_names, finally_scope, temporaries_in, passed_in, expression_code, statements_code, finally_funclet, expression_nesting, expression_reads, IsPlain, IsSmallBody, IsSmallFunclet, ExpressionFits, body_with, most_of_optional, most_of_declared, most_of_filter, most_of_statement, most_of, HasParent}
-use Rattle.seh_ir.specs.Funclets.{filter_funclet}
+use Rattle.lowering_invariants.specs.Words.{Expression, Program, Function, count_up, Declared, Filter, Always, Funclet, Statement, Declare, Block, Evaluate, If, IfElse, For, DoWhile, Return, Break, Continue, Leave, TryExcept, TryFinally, Statements, Empty, Then, Local, Temporary, Instruction, LinearProgram, statements_notes, Owner, Names, LoweringContext, except_names, filter_names, finally_names, finally_scope, temporaries_in, passed_in, body_with, expression_code, statements_code, finally_funclet, expression_nesting, expression_reads, most_of_optional, most_of_declared, most_of_filter, most_of_statement, most_of, IsPlain, IsSmallBody, IsSmallFunclet, HasParent, ExpressionFits, filter_funclet}
 use Rattle.linear_code.specs.declared.instruction.Instruction.TheVariants as instructions
 use Rattle.lowering_invariants.proofs.Lemmas.{counted, both_right, OptionalHas, AllDeclaredHave, FilterHas, StatementHas, StatementsHave, HoldsOfInstructions, statements_all, HoldsOfFunclets}
 use Rattle.lowering_invariants.proofs.PlainExpressions.{NamesAmong, Good, AllGood, append, kept_good, constant_good, expression_good}

@@ -2,7 +2,7 @@
 use Rattle.std.proofs.Common.{◌≡◌, ℕ, zero, suc, ◌/◌, ◌%◌, ◌^◌, ◌<◌, refl, ap, subst, arith}
 use Rattle.std.proofs.Math.Nat.{div-le_self, mod-le}
 use Rattle.std.specs.Prelude.{Bool, true, false, cond, not, ◌==◌, nat_lt, if◌then◌else◌, ℤ, Option, Some, None, Result, Ok, Err}
-use Rattle.lowering_invariants.specs.Words.{Width, W32, W64, low, signed, wrapped, Memory, Signed, Operation, OperationResult, Gives, Raises, Undefined, performed, IsSmallAccess, W8, W16, limit, bytes_of, next, first_refused, may_read, may_write, number_at, with_number, with_bytes, Unsigned, fault_of, signed_part, unsigned_part, unless_reserved, unless_refused, accessed}
+use Rattle.lowering_invariants.specs.Words.{Width, W32, W64, W8, W16, low, signed, wrapped, limit, bytes_of, Memory, next, first_refused, may_read, may_write, number_at, with_number, with_bytes, Signed, Unsigned, Operation, OperationResult, Gives, Raises, Undefined, performed, fault_of, signed_part, unsigned_part, unless_reserved, unless_refused, accessed, IsSmallAccess}
 use Rattle.seh_num.specs.declared.division.DivFault.{DivFault}
 use Rattle.seh_num.specs.declared.division.DivFault.TheVariants.{Zero, Overflow}
 use Rattle.lowering_invariants.proofs.Lemmas.{low_below, wrapped_below}

@@ -3,8 +3,7 @@
 use Rattle.std.proofs.Common.{◌≡◌, ℕ, zero, suc, ◌+◌, ◌<◌, List, [], ◌∷◌, ◌++◌, length, filter, refl, sym, ap, subst, ◌∙◌, arith, append-nil}
 use Rattle.std.specs.List.{AllByRecursion}
 use Rattle.std.specs.Prelude.{Bool, true, false, cond, ◌&&◌, nat_le, nat_lt, slice_get, Some}
-use Rattle.lowering_invariants.specs.Words.{Expression, Program, Function, Statements, Local, Temporary, Instruction, Jump, JumpIfZero, Separator, Region, LinearBody, BodyName, body_of, holds, statements_notes, Owner, Names, Way, Nowhere, Jumps, LoweringContext, finally_scope, constant, copy, expression_code, return_code, returned_code, statements_code, statements_regions, finally_funclet, scope_of, lowered_function, lowered, LocalUnwind, LoweredIsApart}
-use Rattle.seh_ir.specs.Funclets.{filter_funclet}
+use Rattle.lowering_invariants.specs.Words.{Expression, Program, Function, Statements, Local, Temporary, Instruction, Jump, JumpIfZero, Separator, LocalUnwind, Region, LinearBody, BodyName, body_of, holds, statements_notes, Owner, Names, Way, Nowhere, Jumps, LoweringContext, finally_scope, constant, copy, expression_code, return_code, returned_code, statements_code, statements_regions, finally_funclet, scope_of, lowered_function, lowered, LoweredIsApart, filter_funclet}
 use Rattle.linear_code.specs.declared.instruction.Instruction.TheVariants.{Return}
 use Rattle.lowering_expressions.specs.declared.scope.Way.TheVariants.{Unwinds}
 use Rattle.lowering_invariants.proofs.Lemmas.{statements_have, WaysHave, IsPlaced, HoldsOfPieces, statements_every, HoldsOfAnyPieces, neutral_of, all_append, IsSegmentAt, front, back, whole_is_at}

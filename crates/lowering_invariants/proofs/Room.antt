@@ -2,7 +2,7 @@
 use Rattle.std.proofs.Common.{◌≡◌, ℕ, zero, suc, ◌≤◌, List, [], ◌∷◌, refl, subst, arith}
 use Rattle.std.specs.List.{AllByRecursion}
 use Rattle.std.specs.Prelude.{slice_get, get_or, Option, Some, None}
-use Rattle.lowering_invariants.specs.Words.{Program, IsSound, Slot, Local, Temporary, Instruction, LinearBody, LinearFunction, LinearFunclet, BodyName, FunctionBody, FuncletBody, function_body, funclet_body, body_of, instruction_temporaries, temporaries_in, instruction_passes, passed_in, lowered, AreShallow, IsPlain, IsSmallBody, IsSmallFunction, IsSmallFunclet, with_written, with_tested, after, depths, slot_temporaries, IsAmong, LoweredHasRoom}
+use Rattle.lowering_invariants.specs.Words.{Program, IsSound, Slot, Local, Temporary, Instruction, LinearBody, LinearFunction, LinearFunclet, BodyName, FunctionBody, FuncletBody, function_body, funclet_body, body_of, instruction_temporaries, temporaries_in, instruction_passes, passed_in, slot_temporaries, lowered, AreShallow, IsPlain, IsSmallBody, IsSmallFunction, IsSmallFunclet, IsAmong, with_written, with_tested, after, depths, LoweredHasRoom}
 use Rattle.linear_code.specs.declared.instruction.Instruction.TheVariants as instructions
 use Rattle.linear_code.specs.BodyState.{Counts}
 use Rattle.linear_code.specs.Meaning.{IsSlot, HasSlots}

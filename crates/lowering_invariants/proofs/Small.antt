@@ -5,7 +5,7 @@ use Rattle.std.proofs.lemmas.List.{length-map}
 use Rattle.std.proofs.lemmas.Option.{slice_get_within}
 use Rattle.std.specs.List.{AllByRecursion}
 use Rattle.std.specs.Prelude.{true, false, slice_get, Option, Some, None}
-use Rattle.lowering_invariants.specs.Words.{Program, Function, funclets, function_sound, functions_sound, Temporary, constant, statements_code, statements_regions, own_locals, all_locals, scope_of, lowered_function, lowered_funclets, all_funclets, lowered, expression_nesting, expression_reads, AreShallow, IsSmallFunction, IsSmallFunclet, statements_notes, main_sound, IsShallow}
+use Rattle.lowering_invariants.specs.Words.{Program, Function, funclets, function_sound, functions_sound, main_sound, Temporary, constant, statements_code, statements_regions, own_locals, all_locals, scope_of, lowered_function, lowered_funclets, all_funclets, lowered, expression_nesting, expression_reads, AreShallow, IsShallow, IsSmallFunction, IsSmallFunclet, statements_notes}
 use Rattle.c_checked.specs.Sound as sound
 use Rattle.linear_code.specs.declared.instruction.Instruction.TheVariants as instructions
 use Rattle.lowering_invariants.proofs.Lemmas.{both_left, both_right, all_append, StatementsHave, all_front, all_back, all_funclets_every, functions_count, inside_function, knows_function, statements_sound_have}

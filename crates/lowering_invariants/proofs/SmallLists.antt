@@ -2,7 +2,7 @@
 use Rattle.std.proofs.Common.{◌≡◌, ℕ, zero, suc, ◌+◌, ◌-◌, ◌^◌, ◌<◌, List, [], ◌∷◌, ◌++◌, subst, arith}
 use Rattle.std.specs.List.{AllByRecursion}
 use Rattle.std.specs.Prelude.{Bool, true, false, nat_eq, slice_get, slice_set, take, drop, replicate, if◌then◌else◌, get_or, Option, Some, None}
-use Rattle.lowering_invariants.specs.Words.{Field, Exception, of_test, field_of, BodyName, FunctionBody, FuncletBody, Store, set_local, left_store, IsSmallAccess, parameter_of, AreSmall, IsSmallException}
+use Rattle.lowering_invariants.specs.Words.{Field, Exception, of_test, field_of, parameter_of, BodyName, FunctionBody, FuncletBody, Store, set_local, left_store, IsSmallAccess, AreSmall, IsSmallException}
 use Rattle.c_operations.specs.declared.field.Field.TheVariants as fields
 use Rattle.source_meaning.specs.Expressions.{count_of as parameters_of}
 use Rattle.lowering_invariants.proofs.StackTargets.{same_it}

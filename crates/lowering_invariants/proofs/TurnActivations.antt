@@ -2,7 +2,7 @@
 use Rattle.std.proofs.Common.{◌≡◌, ℕ, zero, suc, ◌+◌, ◌-◌, ◌^◌, ◌≤◌, List, [], ◌∷◌, ◌++◌, length, refl, sym, ap, subst, ◌∙◌, arith, length-append}
 use Rattle.std.proofs.lemmas.List.{length-replicate}
 use Rattle.std.specs.Prelude.{Bool, true, false, nat_eq, nat_lt, slice_get, take, replicate, get_or, ℤ, Option, Some, None}
-use Rattle.lowering_invariants.specs.Words.{Event, W32, low, signed, BuiltIn, Put, Protect, RaiseException, OperationResult, Gives, Raises, Undefined, performed, Exception, is_reserved, of_test, field_of, raised, noncontinuable, raise_event, Slot, Local, Temporary, Instruction, Region, RegionKind, FuncletKind, LinearProgram, LinearFunction, BodyName, FunctionBody, FuncletBody, Handler, Target, Resumption, AfterCall, SameOperation, Item, Waits, Searches, Unwinds, Store, Configuration, Seen, Finished, Stuck, Next, pick, read, write, with_temporary, with_temporaries, last_temporaries, set_local, at_label, forth, with_last, regions_at, regions_left, handlers, stops, flag_of, run_finally, arrive, target_past, left_store, leave_region, unwind_body, unwind, target_of, accept, consult, search, raise, resumed, answer, is_constant, operand, written, computed, tested, waiting, count_of, built_in, return, end_finally, end_funclet, end_body, not_landed, act, instruction_at, start, main_arguments, IsTurn, IsReached, IsFinallyKind, IsFuncletOf, IsKindOf, IsWhole, MayWait, IsHandler, AreHandlers, IsStacked, begin_function, owners_of, AreWorking, IsActivationOf, AreActivations, HasActivations}
+use Rattle.lowering_invariants.specs.Words.{Event, W32, low, signed, BuiltIn, Put, Protect, RaiseException, OperationResult, Gives, Raises, Undefined, performed, Exception, is_reserved, of_test, field_of, raised, noncontinuable, raise_event, Slot, Local, Temporary, Instruction, Region, RegionKind, FuncletKind, LinearProgram, LinearFunction, BodyName, FunctionBody, FuncletBody, Handler, Target, Resumption, AfterCall, SameOperation, Item, Waits, Searches, Unwinds, Store, Configuration, Seen, Finished, Stuck, Next, pick, read, write, with_temporary, with_temporaries, last_temporaries, set_local, at_label, forth, with_last, regions_at, regions_left, handlers, stops, flag_of, run_finally, arrive, target_past, left_store, leave_region, unwind_body, unwind, target_of, accept, consult, search, raise, resumed, answer, is_constant, operand, written, computed, tested, waiting, count_of, built_in, return, end_finally, end_funclet, end_body, not_landed, act, begin_function, instruction_at, start, main_arguments, IsTurn, IsReached, IsFinallyKind, IsFuncletOf, IsKindOf, IsWhole, MayWait, IsHandler, AreHandlers, IsStacked, owners_of, AreWorking, IsActivationOf, AreActivations, HasActivations}
 use Rattle.seh_num.specs.declared.event.Event.TheVariants as events
 use Rattle.source_meaning.specs.declared.ended.Ended.TheVariants as ends
 use Rattle.linear_code.specs.declared.instruction.Instruction.TheVariants as instructions

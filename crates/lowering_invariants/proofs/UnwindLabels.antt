@@ -3,8 +3,7 @@
 use Rattle.std.proofs.Common.{◌≡◌, ℕ, ◌+◌, ◌<◌, List, [], ◌∷◌, ◌++◌, length, arith, length-append}
 use Rattle.std.specs.List.{AllByRecursion}
 use Rattle.std.specs.Prelude.{false, slice_get, Some}
-use Rattle.lowering_invariants.specs.Words.{Expression, Function, Statements, Local, Temporary, Instruction, statements_size, statements_notes, Owner, Names, LoweringContext, finally_scope, constant, expression_code, statements_code, finally_funclet, scope_of, lowered_function, runs_blocks, LoweredStaysInside}
-use Rattle.seh_ir.specs.Funclets.{filter_funclet}
+use Rattle.lowering_invariants.specs.Words.{Expression, Function, Statements, Local, Temporary, Instruction, statements_size, statements_notes, Owner, Names, LoweringContext, finally_scope, constant, expression_code, statements_code, finally_funclet, scope_of, lowered_function, runs_blocks, LoweredStaysInside, filter_funclet}
 use Rattle.linear_code.specs.declared.instruction.Instruction.TheVariants as instructions
 use Rattle.lowering_invariants.proofs.Lemmas.{statements_length, statements_have, WaysHave, IsPlaced, any_neutral, statements_every, all_append, HoldsOfInstructions, all_pieces}
 use Rattle.lowering_invariants.proofs.EveryBody.{every_body}

@@ -3,7 +3,8 @@
 use Rattle.std.proofs.Common.{◌≡◌, ℕ, ◌+◌, ◌-◌, List, [], ◌∷◌, ◌++◌, length, refl, sym, ap, subst, ◌∙◌, arith, length-append}
 use Rattle.std.specs.List.{AllByRecursion}
 use Rattle.std.specs.Prelude.{true, false, slice_get, Option, Some, None}
-use Rattle.lowering_invariants.specs.Words.{Expression, Program, funclets, count_up, Declared, Filter, Always, Funclet, Statement, Declare, Block, Evaluate, If, IfElse, For, DoWhile, Return, Break, Continue, Leave, TryExcept, TryFinally, Statements, Empty, Then, Local, Temporary, Instruction, Jump, JumpIfZero, Separator, Region, LinearProgram, LinearBody, LinearFunclet, BodyName, FuncletBody, funclet_body, body_of, instruction_in, expression_size, statements_size, Owner, Names, Way, Nowhere, Jumps, LoweringContext, except_names, filter_names, finally_names, finally_scope, expression_code, return_code, returned_code, repeated, statements_code, statements_regions, finally_funclet, IsCalled, IsFinallyKind, function_of, owner_of, IsFuncletOf, IsLanding, IsKindOf, IsRegionOf, IsCallee, IsInstructionOf, IsBodyOf, Inside, funclets_in, filter_funclet, optional_sound, test_sound, value_fits, declared_sound, all_declared_sound, result_sound, filter_sound, expression_sound, statement_sound, statements_sound, CallFinally, discarded_size, condition_size, declared_size, all_declared_size, statement_size, in_loop, in_try, in_except, in_guarded, jump_code, leave_code, discarded_code, condition_code, initialiser_code, declared_code, all_declared_code, landed, statement_code, except_kind, region, statement_regions, filter_funclets, in_funclet, statement_funclets, statements_funclets, parent_of}
+use Rattle.lowering_invariants.specs.Words.{Expression, Program, funclets, count_up, Inside, funclets_in, optional_sound, test_sound, value_fits, declared_sound, all_declared_sound, result_sound, filter_sound, expression_sound, statement_sound, statements_sound, Declared, Filter, Always, Funclet, Statement, Declare, Block, Evaluate, If, IfElse, For, DoWhile, Return, Break, Continue, Leave, TryExcept, TryFinally, Statements, Empty, Then, Local, Temporary, Instruction, Jump, JumpIfZero, Separator, CallFinally, Region, LinearProgram, LinearBody, LinearFunclet, BodyName, FuncletBody, funclet_body, body_of, instruction_in, expression_size, statements_size, discarded_size, condition_size, declared_size, all_declared_size, statement_size, Owner, Names, Way, Nowhere, Jumps, LoweringContext, except_names, filter_names, finally_names, finally_scope, in_loop, in_try, in_except, in_guarded, expression_code, return_code, returned_code, repeated, statements_code, jump_code, leave_code, discarded_code, condition_code, initialiser_code, declared_code, all_declared_code, landed, statement_code, statements_regions, except_kind, region, statement_regions, finally_funclet, filter_funclets, in_funclet, statement_funclets, statements_funclets, IsCalled, IsFinallyKind, function_of, owner_of, IsFuncletOf, IsLanding, IsKindOf, IsRegionOf, IsCallee, IsInstructionOf, IsBodyOf, parent_of}
+use Rattle.c_checked.specs.Sound.{filter_funclet}
 use Rattle.c_operations.specs.declared.operation.Size.{Size}
 use Rattle.c_checked.specs.Sound as sound
 use Rattle.linear_code.specs.declared.instruction.Instruction.TheVariants as instructions

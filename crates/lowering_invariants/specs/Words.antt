@@ -15,12 +15,12 @@ pub use Rattle.c_operations.specs.declared.operation.Signedness.TheVariants.{Sig
 pub use Rattle.c_operations.specs.declared.operation.Size.TheVariants.{Long}
 pub use Rattle.c_checked.specs.Expression.{Expression, On, Node, Lvalue, Global, Indirection, Element, Arguments, Done}
 pub use Rattle.c_checked.specs.Program.{Program, Function}
-pub use Rattle.c_checked.specs.Sound.{funclets, functions_sound, IsSound, count_up, function_sound, main_sound, Inside, funclets_in, filter_funclet, optional_sound, test_sound, value_fits, declared_sound, all_declared_sound, result_sound, filter_sound, expression_sound, statement_sound, statements_sound}
+pub use Rattle.c_checked.specs.Sound.{funclets, functions_sound, IsSound, count_up, function_sound, main_sound, Inside, funclets_in, optional_sound, test_sound, value_fits, declared_sound, all_declared_sound, result_sound, filter_sound, expression_sound, statement_sound, statements_sound}
 pub use Rattle.c_checked.specs.Statement.{Statements, Declared, Filter, Always, Funclet, Statement, Declare, Block, Evaluate, If, IfElse, For, DoWhile, Return, Break, Continue, Leave, TryExcept, TryFinally, Empty, Then}
 pub use Rattle.c_checked.specs.declared.expression.Access.{Access}
 pub use Rattle.c_checked.specs.declared.expression.Conversion.{Conversion}
 pub use Rattle.c_checked.specs.declared.expression.Conversion.TheVariants.{Kept, Extend, Scale}
-pub use Rattle.source_meaning.specs.Expressions.{field_of, of_test, raised, parameter_of}
+pub use Rattle.source_meaning.specs.Expressions.{field_of, of_test, parameter_of, raised}
 pub use Rattle.source_meaning.specs.Raises.{noncontinuable, raise_event}
 pub use Rattle.source_meaning.specs.Source.{is_reserved}
 pub use Rattle.source_meaning.specs.State.{Exception}
@@ -50,7 +50,7 @@ pub use Rattle.lowering_expressions.specs.declared.scope.LoweringContext.{Loweri
 pub use Rattle.lowering_expressions.specs.declared.scope.Names.{Names}
 pub use Rattle.lowering_expressions.specs.declared.scope.Way.{Way}
 pub use Rattle.lowering_expressions.specs.declared.scope.Way.TheVariants.{Nowhere, Jumps}
-pub use Rattle.seh_ir.specs.Funclets.{finally_funclet, filter_funclets, in_funclet, statement_funclets, statements_funclets}
+pub use Rattle.seh_ir.specs.Funclets.{finally_funclet, filter_funclet, filter_funclets, in_funclet, statement_funclets, statements_funclets}
 pub use Rattle.seh_ir.specs.Lowered.{own_locals, all_locals, scope_of, lowered_function, lowered_funclets, all_funclets, lowered}
 pub use Rattle.seh_ir.specs.Regions.{statements_regions, except_kind, region, statement_regions}
 pub use Rattle.seh_ir.specs.Slots.{instruction_temporaries, instruction_passes, temporaries_in, passed_in, body_with, slot_temporaries}
@@ -65,7 +65,7 @@ pub use Rattle.lowering_invariants.specs.Depths.{after, depth_at, with_written, 
 pub use Rattle.lowering_invariants.specs.Nesting.{expression_nesting, expression_reads, parameters_for, lvalue_nesting, arguments_nesting, node_nesting, lvalue_reads, arguments_read, node_reads, most_of_optional, most_of_declared, most_of_filter, most_of_statement, most_of, AreShallow, IsShallow}
 pub use Rattle.lowering_invariants.specs.PlaceLaws.{LoweredInformsFilters, LoweredIsFollowed, LoweredHasSameRegions, LoweredHasFlags, LoweredStaysInside}
 pub use Rattle.lowering_invariants.specs.Slots.{HasFlag, IsPlain, IsField, IsSmallBody, IsSmallFunclet, HasParent, IsSmallFunction, IsAmong}
-pub use Rattle.lowering_invariants.specs.SmallNumbers.{IsSmallAccess, AreSmall, IsSmallCode, IsSmallException, IsSmallFrame, AreSmallItems, HasSmallNumbers}
+pub use Rattle.lowering_invariants.specs.SmallNumbers.{IsSmallAccess, AreSmall, IsSmallException, IsSmallCode, IsSmallFrame, AreSmallItems, HasSmallNumbers}
 pub use Rattle.lowering_invariants.specs.Turns.{IsTurn, Comes, IsReached}
 pub use Rattle.lowering_invariants.specs.TypeLaws.{LoweredIsWhole, ReachedIsStacked, ReachedHasActivations, ReachedIsSmall, ReachedHasDepths, ReachedContinues, LoweredIsApart, LoweredHasRoom, SeenAlikeIsSame}
 pub use Rattle.lowering_invariants.specs.Waiting.{Handles, IsHandler, AreWaiting, LandsAt, IsTarget, AreHandlers, AreLeft, MayWait, IsStacked, IsAbove, IsRaisedIn, IsAt, IsCalledBy, IsRunFor, LandsWell}

@@ -2,14 +2,13 @@
 use Rattle.std.proofs.Common.{◌≡◌, inl, inr, ℕ, zero, suc, ◌+◌, ◌*◌, ◌<◌, ◌≤◌, false, Some, List, [], ◌++◌, sym, ap, subst, ◌∙◌, arith, append_assoc}
 use Rattle.std.proofs.Math.Nat.{mul-suc}
 use Rattle.std.proofs.lemmas.List.{append-nil}
-use Rattle.match_runs.specs.Words.{signed, Code, Event, W32, Rax, State, register, Functions, turn, Ends, Funclet, IsPrefixOf, is_calm, LinearProgram, Instruction, Configuration, Finished, Running, Seen, instruction_at, exec, Comes, IsLive, HasRule, IsMatched}
+use Rattle.match_runs.specs.Words.{signed, Code, Event, W32, Rax, State, register, Functions, turn, Ends, Funclet, IsPrefixOf, is_calm, LinearProgram, Instruction, Configuration, Finished, Running, Seen, instruction_at, exec, Comes, IsLive, HasRule, IsMatched, StepsAreMatched}
 use Rattle.source_meaning.specs.declared.ended.Ended.{Ended}
 use Rattle.seh_num.specs.declared.end.RunEnd.TheVariants as ends
 use Rattle.source_meaning.specs.declared.ended.Ended.TheVariants as source
 use Rattle.match_runs.proofs.Lemmas.{prefix_after}
 use Rattle.match_runs.proofs.Turns.{comes_nowhere, comes_then}
 use Rattle.match_runs.proofs.Steps.{at_instruction, matched_step}
-use Rattle.match_runs.specs.Words.{StepsAreMatched}
 
 module _ (t : Functions) (fs : List Funclet) where
   -- how the turns that match a run end: what the run shows is seen, and these events are shown

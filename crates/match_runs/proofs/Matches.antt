@@ -1,7 +1,7 @@
 -- Steps that are matched, from their parts.
 use Rattle.std.proofs.Common.{◌≡◌, inl, inr, ℕ, ◌+◌, ◌≤◌, false, Some, List, [], ◌++◌, refl, sym, ap, subst, ◌∙◌, arith}
 use Rattle.std.proofs.lemmas.List.{append-nil}
-use Rattle.match_runs.specs.Words.{Event, State, Functions, Funclet, is_calm, LinearProgram, Instruction, Configuration, Finished, Seen, act, Comes, Fails, IsMatched, Next}
+use Rattle.match_runs.specs.Words.{Event, State, Functions, Funclet, is_calm, LinearProgram, Instruction, Configuration, Finished, Seen, Next, act, Comes, Fails, IsMatched}
 use Rattle.source_meaning.specs.declared.ended.Ended.{Ended}
 use Rattle.source_meaning.specs.declared.ended.Ended.TheVariants as source
 use Rattle.match_runs.proofs.Turns.{comes_nowhere, comes_then}

@@ -1,7 +1,7 @@
 -- Whole programs, from the first turn of the machine on.
 use Rattle.std.proofs.Common.{◌≡◌, ℕ, ◌+◌, ◌*◌, List, [], sym, ap, subst, arith}
 use Rattle.std.specs.Prelude.{Option, ℤ}
-use Rattle.match_runs.specs.Words.{State, Functions, Funclet, LinearProgram, Configuration, with_some, exec, HasRule, LinearFunction, start, seen, RunBegins, RunsShowAll, RunsShowNoMore, ProgramsShowAll, ProgramsShowNoMore, ProgramsWalkTheShadow, TurnsAreEnough}
+use Rattle.match_runs.specs.Words.{State, Functions, Funclet, LinearProgram, LinearFunction, Configuration, with_some, exec, start, seen, HasRule, RunBegins, RunsShowAll, RunsShowNoMore, ProgramsShowAll, ProgramsShowNoMore, ProgramsWalkTheShadow, TurnsAreEnough}
 use Rattle.match_runs.proofs.MatchedRuns.{RunIsMatched, turns_before, matched_run}
 use Rattle.match_runs.proofs.All.{shows_all}
 use Rattle.match_runs.proofs.NoMore.{shows_no_more}

@@ -2,7 +2,7 @@
 use Rattle.std.proofs.Common.{◌≡◌, ℕ, zero, suc, ◌+◌, ◌<◌, ◌≤◌, Bool, true, false, Option, Some, None, Ok, Err, List, [], ◌∷◌, refl, sym, ap, subst, ◌∙◌, arith}
 use Rattle.std.specs.Prelude.{nat_eq, map}
 use Rattle.std.proofs.lemmas.Bool.{lt-ltb, le-ltb}
-use Rattle.match_runs.specs.Words.{Code, Event, State, register, step, Context, Functions, distance, arrivals, Funclet, KeepsShadow, WalkGives, shadow_after, Rsp, Answer, CallerFrame, caller_at, if_below, drop_below, is_call, entered, started, served, by_step, callers_of, GivesCallers, AllKeep}
+use Rattle.match_runs.specs.Words.{Code, Event, State, register, step, Answer, Context, Functions, distance, CallerFrame, arrivals, Funclet, KeepsShadow, WalkGives, shadow_after, caller_at, if_below, drop_below, is_call, entered, started, served, by_step, callers_of, GivesCallers, AllKeep, Rsp}
 use Rattle.host_layout.specs.Services.{service_at}
 use Rattle.flat_memory.specs.Memory.{Memory, executable}
 use Rattle.x64_instr.specs.declared.instruction.Instr.{Instr}

@@ -1,10 +1,9 @@
 -- Steps of linear code, and what they show whatever steps_are_matched.
 use Rattle.std.proofs.Common.{◌≡◌, ℕ, zero, suc, ◌+◌, List, refl, ap, subst, ◌∙◌, arith}
 use Rattle.std.specs.Prelude.{Option, Some, None}
-use Rattle.match_runs.specs.Words.{State, Functions, Funclet, LinearProgram, Instruction, Configuration, Finished, Running, Seen, with_some, act, instruction_at, exec, HasRule, IsMatched, Stuck, StepIsMatched, Simulates}
+use Rattle.match_runs.specs.Words.{State, Functions, Funclet, LinearProgram, Instruction, Configuration, Finished, Running, Seen, with_some, Stuck, act, instruction_at, exec, HasRule, IsMatched, StepIsMatched, Simulates, StepsAreMatched}
 use Rattle.linear_machine.proofs.RunLengths.{More, longer}
 use Rattle.match_runs.proofs.Matches.{matched_as}
-use Rattle.match_runs.specs.Words.{StepsAreMatched}
 
 module _ (program : LinearProgram) where
   -- a step and what steps_are_matched

@@ -2,7 +2,7 @@
 use Rattle.std.proofs.Common.{◌≡◌, ℕ, zero, suc, ◌+◌, ◌<◌, Bool, Some, None, Ok, List, [], ◌++◌, refl, sym, ap, subst, ◌∙◌, arith, append_assoc}
 use Rattle.std.proofs.lemmas.List.{append-nil}
 use Rattle.std.specs.Prelude.{◌==◌}
-use Rattle.match_runs.specs.Words.{signed, RunEnd, Event, W32, Rax, State, register, step, Functions, distance, arrivals, host, turn, run, Continues, Ends, Funclet, Comes, IsLive, KeepsShadow, arrived, Ended, over, turned, end_of, or_turn, continued_by}
+use Rattle.match_runs.specs.Words.{signed, RunEnd, Event, W32, Rax, State, register, step, Functions, distance, arrivals, arrived, host, turn, Ended, over, turned, end_of, run, or_turn, continued_by, Continues, Ends, Funclet, Comes, IsLive, KeepsShadow}
 use Rattle.seh_num.specs.declared.end.RunEnd.TheVariants as ends
 
 module _ (t : Functions) (fs : List Funclet) where

@@ -10,25 +10,25 @@ pub use Rattle.source_meaning.specs.Meaning.{is_calm}
 pub use Rattle.linear_code.specs.Program.{LinearProgram, LinearFunction}
 pub use Rattle.linear_code.specs.declared.instruction.Instruction.{Instruction}
 pub use Rattle.linear_machine.specs.Frames.{Seen, Configuration, Finished, Running, Next, Stuck}
-use Rattle.linear_machine.specs.Frames.{with_some}
+unfoldable pub use Rattle.linear_machine.specs.Frames.{with_some}
 pub use Rattle.linear_machine.specs.Instructions.{act}
 pub use Rattle.linear_machine.specs.Run.{shown, instruction_at, start, seen}
-use Rattle.linear_machine.specs.Run.{exec}
+unfoldable pub use Rattle.linear_machine.specs.Run.{exec}
 pub use Rattle.x64_instr.specs.declared.register.Reg.TheVariants.{Rax, Rsp}
 pub use Rattle.x64_machine.specs.Effect.{State, register, Answer}
-use Rattle.x64_machine.specs.Effect.{step}
+unfoldable pub use Rattle.x64_machine.specs.Effect.{step}
 pub use Rattle.x64_machine.specs.declared.context.Context.{Context}
 pub use Rattle.virtual_unwind.specs.CallerOf.{Functions, distance, CallerFrame}
 pub use Rattle.host_model.specs.Funclets.{arrivals, arrived}
 pub use Rattle.host_model.specs.HostStep.{host, Ended, over, turned, end_of}
-use Rattle.host_model.specs.HostStep.{turn}
+unfoldable pub use Rattle.host_model.specs.HostStep.{turn}
 pub use Rattle.host_model.specs.Machine.{or_turn, continued_by}
-use Rattle.host_model.specs.Machine.{run}
+unfoldable pub use Rattle.host_model.specs.Machine.{run}
 pub use Rattle.host_model.specs.Turns.{Ends, Continues}
 pub use Rattle.host_model.specs.declared.funclet.Funclet.{Funclet}
 pub use Rattle.match_runs.specs.Comes.{Comes, IsLive}
 pub use Rattle.match_runs.specs.Ends.{HasRule, IsCalm, run_end_of}
 pub use Rattle.match_runs.specs.Laws.{ShowsAll, ShowsNoMore, RunBegins, RunsShowAll, RunsShowNoMore, ProgramsShowAll, ProgramsShowNoMore, ProgramsWalkTheShadow, TurnsAreEnough}
-pub use Rattle.match_runs.specs.Matched.{StepsAreMatched, IsMatched, Fails, StepIsMatched, Simulates}
+pub use Rattle.match_runs.specs.Matched.{IsMatched, StepsAreMatched, Fails, StepIsMatched, Simulates}
 pub use Rattle.match_runs.specs.Shadow.{WalkGives, KeepsShadow, caller_at, if_below, drop_below, is_call, entered, started, served, by_step, callers_of, GivesCallers, AllKeep}
-use Rattle.match_runs.specs.Shadow.{shadow_after}
+unfoldable pub use Rattle.match_runs.specs.Shadow.{shadow_after}

@@ -2,8 +2,7 @@
 -- the list.
 use Rattle.std.proofs.Common.{◌≡◌, ℕ, ◌+◌, ◌-◌, ◌%◌, ◌^◌, ◌<◌, ◌≤◌, Some, List, [], ◌∷◌, length, Ok, refl, sym, ap, subst, ◌∙◌, arith, length-set, set}
 use Rattle.std.specs.Prelude.{◌==◌, false, slice_get, take}
-use Rattle.match_turns.specs.Words.{W64, loaded, IMAGE_BASE, IMAGE_RANGE_END, STACK_START, STACK_END, address_of, Rsp, Instr, opcode_register, Cpu, State, register, BuiltIn, Put, Protect, RaiseException, Temporary, BodyState, LinearBody, Configuration, body_of, regions_of, waiting, instruction_at, Layout, size, sizes, put_back, keep, temporary_at, call, IsNear, return_at, begin_call, clear_result, template, template_size, MachineView, machine, pushed, HasCode, KeepsAbove, IsWellFormed, IsLive, Comes, links_of, service_of, IsWellMade, IsKnown, Setting, InBody, IsMachineMemory, IsResumed, RepresentsAt}
-use Rattle.template_code.specs.Calls.{arguments_code}
+use Rattle.match_turns.specs.Words.{W64, loaded, IMAGE_BASE, IMAGE_RANGE_END, STACK_START, STACK_END, address_of, Rsp, Instr, opcode_register, Cpu, State, register, BuiltIn, Put, Protect, RaiseException, Temporary, BodyState, LinearBody, Configuration, body_of, regions_of, waiting, instruction_at, Layout, size, sizes, put_back, keep, temporary_at, call, IsNear, return_at, begin_call, clear_result, template, template_size, MachineView, machine, pushed, HasCode, KeepsAbove, IsWellFormed, IsLive, Comes, links_of, service_of, IsWellMade, IsKnown, Setting, InBody, IsMachineMemory, IsResumed, RepresentsAt, arguments_code}
 use Rattle.x64_templates.specs.Runs.{Reaches}
 use Rattle.std.proofs.lemmas.List.{length-drop}
 use Rattle.linear_code.specs.declared.instruction.Instruction.TheVariants as instructions

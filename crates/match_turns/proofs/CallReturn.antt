@@ -2,8 +2,7 @@
 -- and the next instruction begins.
 use Rattle.std.proofs.Common.{◌≡◌, ℕ, ◌+◌, ◌-◌, ◌<◌, Some, None, List, [], ◌∷◌, ◌++◌, length, sym, arith, append_assoc}
 use Rattle.std.specs.Prelude.{slice_get}
-use Rattle.match_turns.specs.Words.{Event, Memory, Rax, Rsp, Instr, Context, State, register, rsp, Temporary, HasSlots, LinearBody, body_of, Frame, Item, Waits, Layout, sizes, keep, call, return_at, begin_call, passing_code, template_size, StackItem, Activation, On, on_top, IsWellFormed, HaveRoom, counts_of, Setting, IsMachineMemory}
-use Rattle.template_code.specs.Calls.{arguments_code}
+use Rattle.match_turns.specs.Words.{Event, Memory, Rax, Rsp, Instr, Context, State, register, rsp, Temporary, HasSlots, LinearBody, body_of, Frame, Item, Waits, Layout, sizes, keep, call, return_at, begin_call, passing_code, template_size, StackItem, Activation, On, on_top, IsWellFormed, HaveRoom, counts_of, Setting, IsMachineMemory, arguments_code}
 use Rattle.linear_code.specs.declared.instruction.Instruction.TheVariants as instructions
 use Rattle.match_turns.proofs.Lemmas.{sizes_append, call_size, passing_call_size, IsCounted, each}
 use Rattle.match_turns.proofs.CallResult.{IsSurrounded, answered}

@@ -3,7 +3,7 @@
 use Rattle.std.proofs.Common.{◌≡◌, ℕ, zero, suc, ◌+◌, ◌*◌, ◌%◌, ◌^◌, ◌<◌, ◌≤◌, true, false, Option, Some, None, [], ◌∷◌, refl, sym, ap, subst, ◌∙◌, arith, inl, inr}
 use Rattle.std.specs.Prelude.{◌⊎◌}
 use Rattle.std.proofs.lemmas.Bool.{cases_eq, cases_lt}
-use Rattle.match_turns.specs.Words.{Memory, may_write, number_at, with_number, with_bytes, Protection, is_writable, Rax, Rsp, Slot, Temporary, BodyState, temporary_at, keep_register, passing_code, MachineView, Executes, sp_of, slot_at, IsBytes, MemoryKeepsBase, FramePlace, Roomy, FrameHolds, IsThere, fetched}
+use Rattle.match_turns.specs.Words.{Memory, may_write, number_at, with_number, with_bytes, Protection, is_writable, Rax, Rsp, Slot, Temporary, BodyState, temporary_at, fetched, keep_register, passing_code, MachineView, Executes, sp_of, slot_at, IsBytes, MemoryKeepsBase, FramePlace, Roomy, FrameHolds, IsThere}
 use Rattle.match_turns.proofs.Lemmas.{untouched, stored_is_loaded, all_may, same_number, executes_then, executes_nothing, put, slot_high, fetch_does, Fine, near, kept_at, keeps_register}
 use Rattle.x64_templates.proofs.Accesses.{digits}
 

@@ -4,7 +4,8 @@ use Rattle.std.proofs.Common.{◌≡◌, ℕ, ◌+◌, ◌%◌, ◌^◌, ◌<◌
 use Rattle.std.proofs.lemmas.List.{append-nil}
 use Rattle.std.specs.Prelude.{nat_lt, slice_get}
 use Rattle.std.proofs.lemmas.Option.{slice_get_within}
-use Rattle.match_turns.specs.Words.{STACK_START, STACK_END, number_at, Rcx, Rdx, Rsp, Instr, word, State, register, Functions, Funclet, Exception, Instruction, LinearProgram, LinearBody, LinearFunclet, BodyName, FuncletBody, body_of, funclet_body, Handler, Resumption, Item, Waits, Searches, Configuration, begin_filter, instruction_in, Layout, sizes, keep_register, MachineView, machine, HasCode, Enters, parent_of, owner_of, ImagePlan, by_parent, parent_body, Activation, locals_of, IsActivation, HasSpace, below_end, KeepsPointers, context_below, IsWellFormed, Arrives, AllKeep, LeadsTo, Sites, parent_base, keep_argument, IsProgramImage, IsKnown, entry_turns, FiltersBegin, Setting, setting_of, IsMachineMemory, RepresentsAt}
+use Rattle.match_turns.specs.Words.{STACK_START, STACK_END, number_at, Rcx, Rdx, Rsp, Instr, State, register, Functions, Funclet, Exception, Instruction, LinearProgram, LinearBody, LinearFunclet, BodyName, FuncletBody, body_of, funclet_body, Handler, Resumption, Item, Waits, Searches, Configuration, begin_filter, instruction_in, Layout, sizes, keep_register, MachineView, machine, HasCode, Enters, parent_of, owner_of, ImagePlan, by_parent, parent_body, Activation, locals_of, IsActivation, HasSpace, below_end, KeepsPointers, context_below, IsWellFormed, Arrives, AllKeep, LeadsTo, Sites, parent_base, keep_argument, IsProgramImage, IsKnown, entry_turns, FiltersBegin, Setting, setting_of, IsMachineMemory, RepresentsAt}
+use Rattle.virtual_unwind.specs.Undone.{word}
 use Rattle.match_turns.proofs.Lemmas.{stored_is_loaded, enters_then, same_number, Reached, kept_at, HasCell, pointers_kept, Within, within_then, within_cell, enters_silently, enters_steps, plain_both, kept_plain, locals_count, enters_keeps, stays_well_formed}
 use Rattle.linear_code.specs.declared.program.FuncletKind.TheVariants as funclets
 use Rattle.match_turns.proofs.FuncletShadow.{base_code, arguments_are, base_is_plain, funclet_ran}

@@ -3,7 +3,8 @@ use Rattle.std.proofs.Common.{◌≡◌, ℕ, zero, suc, ◌+◌, ◌*◌, ◌<�
 use Rattle.std.specs.Prelude.{slice_get, slice_index, slice_set}
 use Rattle.std.proofs.lemmas.Option.{slice_get_within, slice_get_cases}
 use Rattle.std.proofs.lemmas.List.{append-nil}
-use Rattle.match_turns.specs.Words.{STACK_START, STACK_END, W32, low, Event, Memory, number_at, Rax, Rcx, Rdx, Rsp, Instr, State, register, of_test, no_exception, Local, FuncletKind, BodyState, with_slot, LinearBody, LinearFunclet, BodyName, FuncletBody, funclet_body, Item, Store, Configuration, set_local, flag_of, flag_in, Layout, sizes, move, put_back, keep, local_at, keep_local, machine, HasCode, Enters, FramePlace, ReachesBody, Steps, StackItem, is_encodable, IsFinallyKind, parent_of, function_of, owner_of, IsFuncletOf, owners_of, by_parent, Activation, locals_of, IsActivation, HasSpace, below_end, record_room, HasPointers, FuncletIsAbove, IsWellFormed, KeepsShadow, AllKeep, is_call, LeadsTo, parent_base, keep_argument, begin_of, making_size, FindsReturn, with_values, OwnerHasFrame, IsKnown, entry_turns, FlagsFit, LARGEST_FRAME, Setting, HasProgram, IsMachineMemory, RepresentsAt, frame_at, state_of, fetched, arguments_code}
+use Rattle.match_turns.specs.Words.{STACK_START, STACK_END, W32, low, Event, Memory, number_at, Rax, Rcx, Rdx, Rsp, Instr, State, register, of_test, no_exception, Local, FuncletKind, BodyState, with_slot, LinearBody, LinearFunclet, BodyName, FuncletBody, funclet_body, Item, Store, Configuration, set_local, flag_of, flag_in, Layout, sizes, move, put_back, keep, local_at, keep_local, fetched, machine, HasCode, Enters, FramePlace, ReachesBody, Steps, StackItem, is_encodable, IsFinallyKind, parent_of, function_of, owner_of, IsFuncletOf, owners_of, by_parent, Activation, locals_of, IsActivation, HasSpace, below_end, record_room, HasPointers, FuncletIsAbove, IsWellFormed, KeepsShadow, AllKeep, is_call, LeadsTo, parent_base, keep_argument, begin_of, making_size, FindsReturn, with_values, OwnerHasFrame, IsKnown, entry_turns, FlagsFit, LARGEST_FRAME, Setting, HasProgram, IsMachineMemory, RepresentsAt, frame_at, state_of}
+use Rattle.match_bodies.specs.CodeSites.{arguments_code}
 use Rattle.linear_code.specs.declared.program.FuncletKind.TheVariants as funclets
 use Rattle.linear_machine.specs.Frames as linear
 use Rattle.match_turns.proofs.Lemmas.{sizes_append, code_split, near, enters_then, flag_run, Within, straight, keep_first, others_of, program_kept, enters_silently, read_here, StepsTo, reaches_steps, enters_steps, keeps_split, Beneath, beneath_by, callers_above, Finds, ran, label_found, argument_found, frame_there, EntryRan, locals_count, activated, reaches_keeps, enters_keeps, stays_well_formed, SlotsPlaced, IsCounted, frame_top, room_here, holds_here, slots_here, locals_here, Leaves, Ran, returns, new_on, represents_next, set_length, local_after, gives_here}

@@ -3,7 +3,8 @@ use Rattle.std.proofs.Common.{◌≡◌, ℕ, ◌^◌, ◌<◌, ◌≤◌, Bool,
 use Rattle.std.specs.Prelude.{slice_get}
 use Rattle.std.proofs.lemmas.Bool.{le-leb}
 use Rattle.std.proofs.lemmas.Option.{slice_get_cases}
-use Rattle.match_turns.specs.Words.{W64, Memory, executable, Rsp, Instr, leading, chosen, is_encodable, Cpu, State, distance, arrivals, no_flags, LinearFunclet, FuncletBody, body_of, funclet_body, size, enter_code, code_from, HasCode, making, frame_code, entry_code, links_of, IsFuncletPlan, Setting, HasProgram, takes_frame, arguments_code}
+use Rattle.match_turns.specs.Words.{W64, Memory, executable, Rsp, Instr, leading, chosen, is_encodable, Cpu, State, distance, arrivals, no_flags, LinearFunclet, FuncletBody, body_of, funclet_body, size, enter_code, code_from, HasCode, making, frame_code, entry_code, links_of, IsFuncletPlan, Setting, HasProgram, takes_frame}
+use Rattle.match_bodies.specs.CodeSites.{arguments_code}
 use Rattle.x64_instr.specs.declared.operand.RegisterOrMemory.TheVariants as places
 use Rattle.x64_instr.specs.declared.operand.Operand.TheVariants as operands
 use Rattle.x64_instr.specs.declared.instruction.Operation.TheVariants as operations

@@ -4,7 +4,8 @@ use Rattle.std.proofs.Common.{◌≡◌, ℕ, ◌+◌, ◌^◌, ◌<◌, ◌≤�
 use Rattle.std.specs.Prelude.{◌⊎◌, slice_get}
 use Rattle.std.specs.List.{AllByRecursion}
 use Rattle.std.proofs.lemmas.Bool.{cases_lt}
-use Rattle.match_turns.specs.Words.{STACK_START, STACK_END, Event, Protection, is_writable, Memory, may_write, number_at, Rcx, Rdx, Rsp, context_of, State, register, word, Functions, Funclet, Exception, is_reserved, Region, LinearProgram, LinearFunclet, BodyName, FuncletBody, body_of, funclet_body, Frame, Item, Store, Configuration, holds, regions_of, Layout, StackItem, context_below, ImagePlan, InCode, IsFunclet, Activation, locals_of, IsActivation, HasActivation, HoldsWords, HasSpace, below_end, HasPointers, FuncletIsAbove, BodyWaits, ReturnsTo, KeepsStack, On, IsWellFormed, Arrives, IsFuncletPlan, slots_end, last_temporary, Setting, InBody, IsMachineMemory, RepresentsAt, Reaches}
+use Rattle.match_turns.specs.Words.{STACK_START, STACK_END, Event, Protection, is_writable, Memory, may_write, number_at, Rcx, Rdx, Rsp, context_of, State, register, Functions, Funclet, Exception, is_reserved, Region, LinearProgram, LinearFunclet, BodyName, FuncletBody, body_of, funclet_body, Frame, Item, Store, Configuration, holds, regions_of, Layout, StackItem, context_below, ImagePlan, InCode, IsFunclet, Activation, locals_of, IsActivation, HasActivation, HoldsWords, HasSpace, below_end, HasPointers, FuncletIsAbove, BodyWaits, ReturnsTo, Reaches, KeepsStack, On, IsWellFormed, Arrives, IsFuncletPlan, slots_end, last_temporary, Setting, InBody, IsMachineMemory, RepresentsAt}
+use Rattle.virtual_unwind.specs.Undone.{word}
 use Rattle.match_turns.proofs.Lemmas.{same_number, Within, kept_by_other_memories, word_is, word_of, may_read_written, stack_is_reserved, program_stays}
 
 pub same_regions : (rs : List Region) (label : ℕ)

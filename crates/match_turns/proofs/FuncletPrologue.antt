@@ -1,7 +1,8 @@
 -- Where a funclet begins its frame is made, and the base is kept in it: RDX, or what the parent's
 -- frame in RDX keeps.
 use Rattle.std.proofs.Common.{◌≡◌, ℕ, ◌+◌, ◌-◌, ◌%◌, ◌^◌, ◌<◌, ◌≤◌, true, false, Option, Some, None, Ok, List, [], ◌∷◌, ◌++◌, length, refl, ap, subst, ◌∙◌, arith}
-use Rattle.match_turns.specs.Words.{Memory, may_read, may_write, first_refused, number_at, access, word, readable, Rax, Rdx, Instr, Flags, Answer, load, W64, low, sizes, enter_code, keep_register, keep_parents_base, MachineView, machine, Executes, sp_of, with_sp, moved, HasCode, Enters, keep_base, fetched}
+use Rattle.match_turns.specs.Words.{Memory, may_read, may_write, first_refused, number_at, access, readable, Rax, Rdx, Instr, Flags, Answer, load, W64, low, sizes, enter_code, keep_register, keep_parents_base, MachineView, machine, Executes, sp_of, with_sp, moved, HasCode, Enters, keep_base, fetched}
+use Rattle.virtual_unwind.specs.Undone.{word}
 use Rattle.seh_num.specs.Answers.{◌>>=◌}
 use Rattle.match_turns.proofs.Lemmas.{sizes_append, all_may, load_at, enters_then, executes_one, executes_then, put, code_split, runs_view, near, sp_moved, enter_run, kept_at, keeps_register, HasCell, keeps_of_cell, funclet_enters, Within, within_cell}
 use Rattle.x64_templates.proofs.Calls.{word_is}

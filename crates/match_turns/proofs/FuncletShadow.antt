@@ -2,7 +2,8 @@
 use Rattle.std.proofs.Common.{◌≡◌, ℕ, ◌+◌, ◌^◌, ◌<◌, ◌≤◌, Option, Some, None, List, ◌++◌, length, refl, sym, ap, ◌∙◌, arith}
 use Rattle.std.specs.Prelude.{if◌then◌else◌}
 use Rattle.std.proofs.lemmas.Bool.{le-leb}
-use Rattle.match_turns.specs.Words.{STACK_START, STACK_END, Memory, Rsp, Instr, State, register, FuncletBody, funclet_body, Item, Activation, parent_base, keep_base, keep_argument, funclet_arguments, Setting, IsMachineMemory, arguments_code}
+use Rattle.match_turns.specs.Words.{STACK_START, STACK_END, Memory, Rsp, Instr, State, register, FuncletBody, funclet_body, Item, Activation, parent_base, keep_base, keep_argument, funclet_arguments, Setting, IsMachineMemory}
+use Rattle.match_bodies.specs.CodeSites.{arguments_code}
 use Rattle.match_turns.proofs.Lemmas.{others_of, StepsTo, AllPlain, making_steps, EntryRan, entry_ran, base_plain}
 use Rattle.match_turns.proofs.FuncletPrologue.{LeadsBy}
 use Rattle.match_turns.proofs.FuncletFrame.{ArrivesBelow, IsPlanned}

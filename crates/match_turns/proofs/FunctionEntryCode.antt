@@ -1,7 +1,8 @@
 -- The code at a function's first byte: it makes the frame, and stores the arguments.
 use Rattle.std.proofs.Common.{◌≡◌, ℕ, ◌+◌, Bool, Some, List, ◌++◌, length, sym, ap, subst, ◌∙◌, arith}
 use Rattle.std.specs.Prelude.{slice_get}
-use Rattle.match_turns.specs.Words.{Memory, Instr, Functions, Funclet, LinearProgram, LinearFunction, FunctionBody, function_body, body_of, Layout, sizes, parameters_code, code_from, HasCode, ImagePlan, Sites, links_of, frame_code, function_arguments, entry_code, IsProgramImage, arguments_code}
+use Rattle.match_turns.specs.Words.{Memory, Instr, Functions, Funclet, LinearProgram, LinearFunction, FunctionBody, function_body, body_of, Layout, sizes, parameters_code, code_from, HasCode, ImagePlan, Sites, links_of, frame_code, function_arguments, entry_code, IsProgramImage}
+use Rattle.match_bodies.specs.CodeSites.{arguments_code}
 use Rattle.match_turns.proofs.Lemmas.{sizes_append, code_split, making_steps}
 use Rattle.match_bodies.specs.ProgramImages.{HasProgram}
 

@@ -1,7 +1,8 @@
 -- A function begins: its frame is below its return address, and on top of what waits.
 use Rattle.std.proofs.Common.{◌≡◌, ℕ, suc, ◌+◌, ◌<◌, ◌≤◌, Bool, true, false, Some, None, Ok, List, [], ◌∷◌, length, refl, arith}
 use Rattle.std.specs.List.{AllByRecursion}
-use Rattle.match_turns.specs.Words.{Event, STACK_END, Memory, Rsp, context_of, State, register, Functions, word, Funclet, no_exception, Region, LinearProgram, LinearBody, FunctionBody, body_of, Item, Waits, Searches, Unwinds, holds, regions_of, Layout, StackItem, context_below, ImagePlan, Activation, locals_of, HasSpace, below_end, HoldsWords, home_end, BodyWaits, HasPointers, ReturnsTo, FunctionIsAbove, On, IsWellFormed, Sites, IsLayoutIf, IsProgramImage, slots_end, last_temporary, begun}
+use Rattle.match_turns.specs.Words.{Event, STACK_END, Memory, Rsp, context_of, State, register, Functions, Funclet, no_exception, Region, LinearProgram, LinearBody, FunctionBody, body_of, Item, Waits, Searches, Unwinds, holds, regions_of, Layout, StackItem, context_below, ImagePlan, Activation, locals_of, HasSpace, below_end, HoldsWords, home_end, BodyWaits, HasPointers, ReturnsTo, FunctionIsAbove, On, IsWellFormed, Sites, IsLayoutIf, IsProgramImage, slots_end, last_temporary, begun}
+use Rattle.virtual_unwind.specs.Undone.{word}
 use Rattle.match_bodies.specs.ProgramImages.{IsMachineMemory}
 use Rattle.match_bodies.specs.Bodies.{RepresentsAt}
 use Rattle.match_turns.proofs.Lemmas.{locals_count}

@@ -3,7 +3,8 @@ use Rattle.std.proofs.Common.{◌≡◌, ℕ, zero, suc, ◌+◌, ◌-◌, ◌*�
 use Rattle.std.specs.Prelude.{◌⊎◌, slice_get}
 use Rattle.std.proofs.lemmas.Bool.{cases_eq, eq-eqb, ne_eqb}
 use Rattle.std.proofs.lemmas.Option.{slice_get_within}
-use Rattle.match_turns.specs.Words.{Memory, number_at, Slot, Local, with_slot, word, with_arguments, IsBytes, HoldsWords}
+use Rattle.match_turns.specs.Words.{Memory, number_at, Slot, Local, with_slot, with_arguments, IsBytes, HoldsWords}
+use Rattle.virtual_unwind.specs.Undone.{word}
 use Rattle.lowering_invariants.specs.SmallNumbers.{AreSmall}
 use Rattle.match_turns.proofs.Lemmas.{number_small}
 use Rattle.match_bodies.proofs.TemplateChanges.{words_are}

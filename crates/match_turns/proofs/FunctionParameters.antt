@@ -2,7 +2,8 @@
 use Rattle.std.proofs.Common.{◌≡◌, ℕ, zero, suc, ◌+◌, ◌-◌, ◌*◌, ◌^◌, ◌<◌, ◌≤◌, true, false, Some, None, List, ◌++◌, length, refl, sym, ap, subst, ◌∙◌, arith, inl, inr, length-append}
 use Rattle.std.specs.Prelude.{◌⊎◌, slice_index, nat_lt}
 use Rattle.std.proofs.lemmas.Bool.{cases_lt, lt-ltb, le-ltb}
-use Rattle.match_turns.specs.Words.{STACK_START, STACK_END, Memory, may_write, number_at, Protection, is_writable, Rsp, Flags, State, register, is_reserved, Local, Temporary, LinearBody, FunctionBody, body_of, function_body, Layout, sizes, spelled, IsNear, return_at, passing_code, parameters_code, stack_parameter, parameter_code, MachineView, machine, HasBelow, with_arguments, OnStack, IsFunctionFrame, body_in_memory, FreshFrame, HasBase, MemoryKeepsBase, IsBytes, Agrees, InTemporaries, InLocals, KeepsReserved, HasCode, Enters, FramePlace, Roomy, ReachesBody, counts_of, LARGEST_FRAME, Setting, arguments_code}
+use Rattle.match_turns.specs.Words.{STACK_START, STACK_END, Memory, may_write, number_at, Protection, is_writable, Rsp, Flags, State, register, is_reserved, Local, Temporary, LinearBody, FunctionBody, body_of, function_body, Layout, sizes, spelled, IsNear, return_at, passing_code, parameters_code, stack_parameter, parameter_code, MachineView, machine, HasBelow, with_arguments, OnStack, IsFunctionFrame, body_in_memory, FreshFrame, HasBase, MemoryKeepsBase, IsBytes, Agrees, InTemporaries, InLocals, KeepsReserved, HasCode, Enters, FramePlace, Roomy, ReachesBody, counts_of, LARGEST_FRAME, Setting}
+use Rattle.match_bodies.specs.CodeSites.{arguments_code}
 use Rattle.x64_templates.specs.Runs.{Reaches}
 use Rattle.match_turns.proofs.Lemmas.{bytes_kept, same_number, enters_then, pushed_agrees, pushed_bytes, making_steps, stack_is_reserved, may_read_written, holds_here, index_of, Keeps, keeps_then, reaches_keeps, enters_keeps}
 use Rattle.x64_templates.proofs.Entering.{fresh_holds, parameters_run}

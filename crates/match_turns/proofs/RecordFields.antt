@@ -2,10 +2,9 @@
 use Rattle.std.proofs.Common.{◌≡◌, ℕ, zero, suc, ◌+◌, ◌*◌, ◌%◌, ◌^◌, ◌<◌, Bool, true, false, cond, List, get_or, Option, Some, None, refl, sym, ap, ◌∙◌, arith}
 use Rattle.std.specs.Prelude.{not, ◌==◌, replicate, nat_eq}
 use Rattle.std.proofs.lemmas.Bool.{eqb-true, ne_eqb}
-use Rattle.match_turns.specs.Words.{bytes_of, Memory, first_refused, may_read, number_at, Functions, DispatchRecord, if_readable, if_marked, of_kind, kind_of, recorded, mark, RecordFits, Funclet, parameters, write_number, count, Field, ExceptionCode, ExceptionFlags, NumberParameters, ExceptionInformation, Exception, of_test, field_of, parameter_of, LinearProgram, field_at, field_width, IsField, ImagePlan, HasException}
+use Rattle.match_turns.specs.Words.{bytes_of, Memory, first_refused, may_read, number_at, Functions, DispatchRecord, if_readable, if_marked, of_kind, kind_of, recorded, mark, RecordFits, Funclet, parameters, write_number, count, Field, ExceptionCode, ExceptionFlags, NumberParameters, ExceptionInformation, Exception, of_test, field_of, parameter_of, LinearProgram, field_at, field_width, IsField, ImagePlan, HasException, word}
 use Rattle.seh_records.specs.Record.{fetched}
 use Rattle.seh_records.specs.declared.dispatch.Kind.{Kind}
-use Rattle.seh_records.specs.Record.{word}
 use Rattle.seh_records.proofs.Fetched.{word_in}
 use Rattle.source_meaning.specs.Expressions.{count_of}
 use Rattle.match_turns.proofs.Lemmas.{field_number, some_is}

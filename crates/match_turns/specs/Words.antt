@@ -58,7 +58,7 @@ pub use Rattle.x64_machine.specs.declared.cpu.Cpu.{Cpu}
 pub use Rattle.x64_machine.specs.declared.cpu.Flags.{Flags}
 pub use Rattle.template_code.specs.Bytes.{sizes, spelled}
 unfoldable pub use Rattle.template_code.specs.Bytes.{size}
-pub use Rattle.template_code.specs.Calls.{return_code, epilogue, return_at, begin_call, call_code, clear_result, call_built_in_code, passing_code, parameters_code, passing_call_code, keep_register, information_code, field_at, finally_arguments, enter_code, keep_parents_base, stack_parameter, parameter_code, address_to, local_unwind_code}
+pub use Rattle.template_code.specs.Calls.{return_code, epilogue, return_at, begin_call, call_code, clear_result, call_built_in_code, arguments_code, passing_code, parameters_code, passing_call_code, keep_register, information_code, field_at, finally_arguments, enter_code, keep_parents_base, stack_parameter, parameter_code, address_to, local_unwind_code}
 pub use Rattle.template_code.specs.Jumps.{IsNear, call}
 pub use Rattle.template_code.specs.Operations.{move, work, before}
 pub use Rattle.template_code.specs.Probing.{check_stack, enter_large}
@@ -76,9 +76,9 @@ pub use Rattle.x64_templates.specs.Runs.{HasCode, FramePlace, Roomy, FrameHolds,
 pub use Rattle.x64_templates.specs.Straight.{MachineView, machine, Executes, takes_frame, AreSmall}
 pub use Rattle.virtual_unwind.specs.CallerOf.{Functions, distance}
 pub use Rattle.virtual_unwind.specs.Contexts.{rsp}
-pub use Rattle.virtual_unwind.specs.Undone.{word, readable}
+pub use Rattle.virtual_unwind.specs.Undone.{readable}
 pub use Rattle.seh_records.specs.Laws.{AllSmall, RecordFits}
-pub use Rattle.seh_records.specs.Record.{return_address_at, place_below, if_readable, if_marked, of_kind, kind_of, recorded, mark}
+pub use Rattle.seh_records.specs.Record.{return_address_at, place_below, if_readable, if_marked, of_kind, kind_of, recorded, mark, word}
 unfoldable pub use Rattle.seh_records.specs.Record.{placed, misplaced}
 pub use Rattle.seh_records.specs.declared.dispatch.DispatchRecord.{DispatchRecord}
 pub use Rattle.seh_walk.specs.Walk.{filter_return, finally_return, steps}
@@ -109,7 +109,7 @@ pub use Rattle.match_stack.specs.WalkLaws.{context_below}
 pub use Rattle.match_bodies.specs.Bodies.{slots_end, last_temporary, turns_left, held_below}
 pub use Rattle.match_bodies.specs.BodyViews.{counts_of, seen_by_templates, frame_at, state_of}
 pub use Rattle.match_bodies.specs.Callers.{FindsReturn, callers, caller_above}
-pub use Rattle.match_bodies.specs.CodeSites.{Sites, links_of, function_arguments, parent_base, keep_argument, begin_of, making_size, arguments_code, making, frame_code, entry_code, funclet_arguments, keep_base}
+pub use Rattle.match_bodies.specs.CodeSites.{Sites, links_of, function_arguments, parent_base, keep_argument, begin_of, making_size, making, frame_code, entry_code, funclet_arguments, keep_base}
 pub use Rattle.match_bodies.specs.ConfigurationFacts.{IsWellMade, IsKnown, KnownNext}
 pub use Rattle.match_bodies.specs.Layouts.{IsLayoutIf, IsFuncletPlan, IsFunctionLayout, IsLeafLayout, IsLaidOut, IsFuncletLayout}
 pub use Rattle.match_bodies.specs.ProgramImages.{service_of, WorksAgain, IsProgramImage, is_finally, view_of, ReturnsThere}

@@ -1,39 +1,19 @@
 -- Without faults, what a call gives is what its command gives.
 use Rattle.std.proofs.Common.{◌≡◌, ◌⊎◌, inl, inr, ℕ, ◌<◌, ◌≤◌, List, length, Option, Some, Result, Ok, Err, refl, sym, ap, subst, ◌∙◌, arith}
 use Rattle.std.specs.Option.{ForSome}
-use Rattle.seh_io.specs.Streams.{Rose, Grew}
-use Rattle.c_syntax.specs.Program.{ExternalDeclaration}
-use Rattle.c_checked.specs.Program.{Program}
-use Rattle.c_resolved.specs.Program.{resolve}
+use Rattle.seh.specs.Words.{Rose, Grew, ExternalDeclaration, Program, resolve, IsAccepted, TextIsRefused, Image, IsImage, ImageIsRefused, reading, ImageErr, lowered, linked, RunOptions, CommandOutcome, Compiled, Ran, Meant, Viewed, Refusal, text_limit, image_limit, Judged, FromInput, Loads, IsInputAnswer, IsCompileAnswer, IsRunAnswer, IsTextRunAnswer, IsShowAnswer, end_by, text_by, Call, HadNoFault, Asks, Gave, WantedMemory, CompileIsComplete, RunIsComplete, MeaningIsComplete, ShowIsComplete, ExecIsComplete, TextsHaveOneImage, IsCompiled, IsProgramOf, IsMeaningAnswer, IsMeaningInputAnswer, shown_of, text_of, Reported, refusal_status, status_of, meaning_status, Stream}
 use Rattle.c_meaning.specs.Texts as meanings
 use Rattle.c_text.specs.declared.accepting.TextErr.{TextErr}
-use Rattle.c_text.specs.Texts.{IsAccepted, TextIsRefused}
-use Rattle.c_text.proofs.NotRefused.{accepted_is_not_refused, accepted_is_one}
-use Rattle.pe_image.specs.Image.{Image}
-use Rattle.pe_image.specs.Reading.{IsImage, ImageIsRefused, reading}
-use Rattle.pe_image.specs.declared.refusal.ImageErr.{ImageErr}
+use Rattle.seh.proofs.Lemmas.{accepted_is_not_refused, accepted_is_one}
 use Rattle.pe_write.specs.Program.{parts_of}
 use Rattle.pe_write.specs.Written.{written}
 use Rattle.table_view.specs.View.{view}
-use Rattle.seh_ir.specs.Lowered.{lowered}
-use Rattle.image_link.specs.Linked.{linked}
 use Rattle.command_line.specs.declared.command.Command.{Command}
 use Rattle.command_line.specs.declared.command.Command.TheVariants.{Compile, Exec, Run, Meaning, Show}
-use Rattle.command_line.specs.declared.command.RunOptions.{RunOptions}
 use Rattle.command_line.proofs.OneCommand.{line_once}
-use Rattle.seh.specs.declared.outcome.CommandOutcome.{CommandOutcome}
-use Rattle.seh.specs.declared.outcome.CommandOutcome.TheVariants.{Compiled, Ran, Meant, Viewed}
-use Rattle.seh.specs.declared.refusal.Refusal.{Refusal}
 use Rattle.seh.specs.declared.refusal.Refusal.TheVariants as refusals
 use Rattle.seh.specs.declared.status.Status.TheVariants as statuses
-use Rattle.seh.specs.Answers.{text_limit, image_limit, Judged, FromInput, Loads, IsInputAnswer, IsCompileAnswer, IsRunAnswer, IsTextRunAnswer, IsShowAnswer, end_by, text_by}
-use Rattle.seh.specs.Calls.{Call, HadNoFault, Asks, Gave, WantedMemory, CompileIsComplete, RunIsComplete, MeaningIsComplete, ShowIsComplete, ExecIsComplete, TextsHaveOneImage}
 use Rattle.seh.specs.Commands.{IsAnswer, IsCommandAnswer}
-use Rattle.seh.specs.Images.{IsCompiled}
-use Rattle.seh.specs.Meanings.{IsProgramOf, IsMeaningAnswer, IsMeaningInputAnswer, shown_of, text_of}
-use Rattle.seh.specs.Refusals.{Reported, refusal_status}
-use Rattle.seh.specs.Statuses.{status_of, meaning_status}
-use Rattle.seh.specs.Streams.{Stream}
 use Rattle.seh.proofs.Completeness.{one_image, image_refused, load_refused}
 
 -- ---- texts, programs and images

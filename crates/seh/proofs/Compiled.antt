@@ -3,23 +3,17 @@ use Rattle.std.proofs.Common.{◌≤◌, ℕ, List, length, sym, subst, arith}
 use Rattle.image_runs.proofs.TextImages.{realise, nothing_more}
 use Rattle.image_runs.proofs.FrameCallers.{lowered_finds_callers}
 use Rattle.image_runs.proofs.ShadowWalks.{accepted_walk_the_shadow}
-use Rattle.c_checked.specs.Program.{Program}
+use Rattle.seh.specs.Words.{Program, resolve, ExternalDeclaration, IsAccepted, IsCheckedAs, linked, IsCompiled, lowered}
 use Rattle.c_syntax.specs.Nodes.{nodes_of}
 use Rattle.c_lex.proofs.Covering.{few_tokens}
 use Rattle.c_syntax.proofs.NodesOfPrograms as nodes
-use Rattle.c_resolved.specs.Program.{resolve}
 use Rattle.c_resolved.proofs.SoundPrograms.{accepted_is_sound}
-use Rattle.c_syntax.specs.Program.{ExternalDeclaration}
-use Rattle.c_text.specs.Texts.{IsAccepted, IsCheckedAs}
 use Rattle.text_bounds.proofs.CodeFits.{texts_fit}
 use Rattle.image_runs.specs.ImageMeaning.{IsImageOf}
 use Rattle.image_tables.proofs.RegionRanges.{lowered_has_regions}
 use Rattle.image_tables.proofs.TryRows.{lowered_is_shaped}
 use Rattle.image_link.specs.Fits.{FitsProgram}
-use Rattle.image_link.specs.Linked.{linked}
 use Rattle.image_tables.proofs.Table.{tables_are_read}
-use Rattle.seh.specs.Images.{IsCompiled}
-use Rattle.seh_ir.specs.Lowered.{lowered}
 
 -- ---- by linear code
 

@@ -1,16 +1,12 @@
 -- Neither an accepted text nor its image has what a refusal names.
 use Rattle.std.proofs.Common.{◌≡◌, ℕ, List, Option, Some, None, Result, Ok, Err, refl, sym, ap, subst, ◌∙◌}
-use Rattle.pe_image.specs.declared.refusal.ImageErr.{ImageErr}
+use Rattle.seh.specs.Words.{ImageErr, Image, IsImage, ImageIsRefused, reading, Compiled, Ran, IsRefusedLoad}
 use Rattle.pe_image.specs.declared.refusal.ImageErr.TheVariants as images
-use Rattle.pe_image.specs.Image.{Image}
-use Rattle.pe_image.specs.Reading.{IsImage, ImageIsRefused, reading}
 use Rattle.host_model.specs.declared.refusal.LoadErr.{LoadErr}
 use Rattle.host_model.specs.declared.refusal.LoadErr.TheVariants as loads
 use Rattle.host_model.specs.Loading.{load_refusal}
-use Rattle.c_text.proofs.NotRefused.{accepted_is_not_refused}
-use Rattle.seh.specs.declared.outcome.CommandOutcome.TheVariants.{Compiled, Ran}
+use Rattle.seh.proofs.Lemmas.{accepted_is_not_refused}
 use Rattle.seh.specs.declared.refusal.Refusal.TheVariants as refusals
-use Rattle.seh.specs.Answers.{IsRefusedLoad}
 use Rattle.seh.specs.Completeness.{IsWantOfMemory, AcceptedTextsCompile, CompiledImagesRun}
 
 -- bytes that are an image have one reading

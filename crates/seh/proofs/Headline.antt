@@ -1,22 +1,11 @@
 -- A run with more turns than a program's steps need shows what the program means.
 use Rattle.std.proofs.Common.{◌≡◌, ◌+◌, ◌*◌, ◌-◌, ℕ, ℤ, pos, Some, None, ap, sym, subst, ◌∙◌, arith}
-use Rattle.seh_num.specs.declared.end.RunEnd.{RunEnd}
+use Rattle.seh.specs.Words.{RunEnd, Shown, text, machine, end_within, Ended, meaning, resolve, run_end, run_end_of, shown_by, end_by, status_of, meaning_status, Headline, NothingMore, Walks}
 use Rattle.seh_num.specs.declared.end.RunEnd.TheVariants as ends
-use Rattle.seh_num.specs.Shown.{Shown}
-use Rattle.seh_io.specs.Text.{text}
 use Rattle.host_model.specs.Laws.{Covers}
-use Rattle.host_model.specs.Machine.{machine}
 use Rattle.host_model.proofs.Longer.{covers_then, images_cover}
-use Rattle.seh_host.specs.Turns.{end_within}
-use Rattle.source_meaning.specs.declared.ended.Ended.{Ended}
 use Rattle.source_meaning.specs.declared.ended.Ended.TheVariants as meant
-use Rattle.source_meaning.specs.Meaning.{meaning}
-use Rattle.c_resolved.specs.Program.{resolve}
-use Rattle.match_runs.specs.Ends.{run_end, run_end_of}
 use Rattle.match_runs.specs.Laws.{ShowsNoMore}
-use Rattle.seh.specs.Answers.{shown_by, end_by}
-use Rattle.seh.specs.Statuses.{status_of, meaning_status}
-use Rattle.seh.specs.Headline.{Headline, NothingMore, Walks}
 
 -- an end of both has one status
 same_status :

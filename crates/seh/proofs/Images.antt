@@ -1,12 +1,7 @@
 -- What comes of a text comes of its image, or is its refusal.
 use Rattle.std.proofs.Common.{ℕ, List, Result, Ok, Err, refl}
-use Rattle.command_line.specs.declared.command.RunOptions.{RunOptions}
-use Rattle.seh.specs.declared.outcome.CommandOutcome.{CommandOutcome}
-use Rattle.seh.specs.declared.refusal.Refusal.{Refusal}
+use Rattle.seh.specs.Words.{RunOptions, CommandOutcome, Refusal, IsCompiled, IsTextRefusal, Stream, IsRunAnswer, IsTextRunAnswer}
 use Rattle.seh.specs.declared.refusal.Refusal.TheVariants as refusals
-use Rattle.seh.specs.Images.{IsCompiled, IsTextRefusal}
-use Rattle.seh.specs.Streams.{Stream}
-use Rattle.seh.specs.Answers.{IsRunAnswer, IsTextRunAnswer}
 
 -- the run of an image that was compiled
 pub of_image : (options : RunOptions) (text image : List ℕ) (out out' : Stream)

@@ -1,15 +1,8 @@
 -- What comes of a text or an image comes of the input that it was.
 use Rattle.std.proofs.Common.{◌≡◌, ◌<◌, ℕ, min, List, [], length, append-nil, ◌∙◌, take, drop, Option, Result, Ok, Err, sym, ap, arith, refl, subst, inl, inr}
 use Rattle.std.proofs.lemmas.List.{take-append-drop, length-take-le}
-use Rattle.seh_io.specs.Streams.{Grew, last_count}
-use Rattle.seh_io.specs.Writer.{TookPart}
-use Rattle.seh.specs.declared.outcome.CommandOutcome.{CommandOutcome}
-use Rattle.seh.specs.declared.refusal.Refusal.{Refusal}
+use Rattle.seh.specs.Words.{Grew, last_count, TookPart, CommandOutcome, Refusal, Stream, RunOptions, IsMeaningAnswer, IsMeaningInputAnswer, text_limit, image_limit, Judged, IsRunAnswer, IsShowAnswer, IsInput, LostFew, IsCompileAnswer, IsTextRunAnswer, IsInputRefusal, IsInputAnswer}
 use Rattle.seh.specs.declared.refusal.Refusal.TheVariants as refusals
-use Rattle.seh.specs.Streams.{Stream}
-use Rattle.command_line.specs.declared.command.RunOptions.{RunOptions}
-use Rattle.seh.specs.Meanings.{IsMeaningAnswer, IsMeaningInputAnswer}
-use Rattle.seh.specs.Answers.{text_limit, image_limit, Judged, IsRunAnswer, IsShowAnswer, IsInput, LostFew, IsCompileAnswer, IsTextRunAnswer, IsInputRefusal, IsInputAnswer}
 
 -- what was read whole was lost from the front
 lost_all : (limit : ℕ) (source source' : Stream) (bytes : List ℕ)

@@ -1,3 +1,4 @@
+mod Lemmas
 pub mod Shown
 pub mod Inputs
 pub mod Images

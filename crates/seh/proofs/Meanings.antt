@@ -1,18 +1,10 @@
 -- What comes of a text that is accepted, by what its meaning's text came to.
 use Rattle.std.proofs.Common.{◌≡◌, ℕ, List, ◌++◌, sym, ap, ◌∙◌, subst}
 use Rattle.std.specs.Prelude.{ℤ, Option}
-use Rattle.seh_num.specs.Shown.{Shown}
-use Rattle.seh_io.specs.Streams.{Rose, Grew}
-use Rattle.seh_io.specs.Writer.{TookPart}
-use Rattle.c_checked.specs.Program.{Program}
-use Rattle.source_meaning.specs.Meaning.{meaning}
-use Rattle.source_meaning.specs.declared.ended.Ended.{Ended}
+use Rattle.seh.specs.Words.{Shown, Rose, Grew, TookPart, Program, meaning, Ended, RunOptions, IsProgramOf, TookMeaningFront, shown_of, text_of, Stream}
 use Rattle.c_meaning.specs.declared.interpret.MeanErr.{MeanErr}
 use Rattle.c_meaning.specs.declared.interpret.MeanErr.TheVariants.{Write, Memory}
 use Rattle.c_meaning.specs.Texts as texts
-use Rattle.command_line.specs.declared.command.RunOptions.{RunOptions}
-use Rattle.seh.specs.Meanings.{IsProgramOf, TookMeaningFront, shown_of, text_of}
-use Rattle.seh.specs.Streams.{Stream}
 
 module _ (options : RunOptions) (p : Program) (again : ℤ) (same : again ≡ options.argument) where
   abbrev shown : Shown Ended

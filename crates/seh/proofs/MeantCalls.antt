@@ -1,25 +1,10 @@
 -- What is compiled and run is what the text means, call by call.
 use Rattle.std.proofs.Common.{◌≡◌, ◌⊎◌, inl, inr, ℕ, pos, List, [], ◌∷◌, ◌++◌, Bool, Option, Some, None, refl, sym, ap, subst, ◌∙◌}
-use Rattle.seh_num.specs.Shown.{Shown}
-use Rattle.seh_num.specs.declared.end.RunEnd.{RunEnd}
+use Rattle.seh.specs.Words.{Shown, RunEnd, Grew, text, lines, end_line, Program, resolve, meaning, Ended, run_end, run_end_of, RunOptions, end_by, text_by, Call, Gave, WantedMemory, EndsWithin, GaveMeaning, LastLinesAgree, CompiledIsMeant, RunIsMeant, AreEnough, ShowsMeaning, IsCompiled, IsProgramOf, status_of, meaning_status}
 use Rattle.seh_num.specs.declared.end.RunEnd.TheVariants as ends
-use Rattle.seh_io.specs.Streams.{Grew}
-use Rattle.seh_io.specs.Text.{text, lines, end_line}
-use Rattle.c_checked.specs.Program.{Program}
-use Rattle.c_resolved.specs.Program.{resolve}
 use Rattle.c_meaning.specs.Texts as meanings
-use Rattle.source_meaning.specs.Meaning.{meaning}
-use Rattle.source_meaning.specs.declared.ended.Ended.{Ended}
 use Rattle.source_meaning.specs.declared.ended.Ended.TheVariants as meant
-use Rattle.match_runs.specs.Ends.{run_end, run_end_of}
-use Rattle.command_line.specs.declared.command.RunOptions.{RunOptions}
 use Rattle.seh.specs.declared.status.Status.TheVariants as statuses
-use Rattle.seh.specs.Answers.{end_by, text_by}
-use Rattle.seh.specs.Calls.{Call, Gave, WantedMemory, EndsWithin, GaveMeaning, LastLinesAgree, CompiledIsMeant, RunIsMeant}
-use Rattle.seh.specs.Headline.{AreEnough, ShowsMeaning}
-use Rattle.seh.specs.Images.{IsCompiled}
-use Rattle.seh.specs.Meanings.{IsProgramOf}
-use Rattle.seh.specs.Statuses.{status_of, meaning_status}
 use Rattle.seh.proofs.Calls.{program_once, image_loads, compile_is_complete, run_is_complete, exec_is_complete}
 use Rattle.seh.proofs.Headline.{headline}
 

@@ -1,15 +1,8 @@
 -- Of a Tame program each number of turns is matched by calm steps.
 use Rattle.std.proofs.Common.{◌≡◌, ◌≤◌, ◌+◌, ◌*◌, ℕ, pos, Option, Some, None, refl, subst, arith}
-use Rattle.seh_num.specs.declared.end.RunEnd.{RunEnd}
+use Rattle.seh.specs.Words.{RunEnd, machine, end_within, Ended, meaning, resolve, run_end_of, steps_per_turn}
 use Rattle.seh_num.specs.declared.end.RunEnd.TheVariants as ends
-use Rattle.host_model.specs.Machine.{machine}
-use Rattle.seh_host.specs.Turns.{end_within}
-use Rattle.source_meaning.specs.declared.ended.Ended.{Ended}
 use Rattle.source_meaning.specs.declared.ended.Ended.TheVariants as meant
-use Rattle.source_meaning.specs.Meaning.{meaning}
-use Rattle.c_resolved.specs.Program.{resolve}
-use Rattle.match_runs.specs.Ends.{run_end_of}
-use Rattle.seh.specs.Images.{steps_per_turn}
 use Rattle.seh.specs.TamePrograms.{IsNoFailure, TameProgramsWalk, TameProgramsEnd}
 
 itself : (n : ℕ) → n ≤ n

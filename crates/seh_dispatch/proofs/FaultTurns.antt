@@ -2,14 +2,9 @@
 use Rattle.std.proofs.Common.{◌≡◌, ℕ, Option, Ok, Err, ap, ◌∙◌}
 use Rattle.std.specs.Prelude.{Bool}
 use Rattle.seh_num.specs.declared.event.Code.{Code}
-use Rattle.flat_memory.specs.Memory.{Memory}
-use Rattle.x64_machine.specs.declared.cpu.Cpu.{Cpu}
+use Rattle.seh_dispatch.specs.Words.{Memory, Cpu, State, Answer, state, step_answer, cpu_after, memory_after, Functions, raised, turned}
 use Rattle.x64_machine.specs.declared.outcome.Stop.TheVariants as stops
 use Rattle.x64_machine.specs.declared.outcome.StepOutcome.TheVariants as steps
-use Rattle.x64_machine.specs.Effect.{State, Answer, state, step_answer, cpu_after, memory_after}
-use Rattle.virtual_unwind.specs.CallerOf.{Functions}
-use Rattle.host_model.specs.Dispatch.{raised}
-use Rattle.host_model.specs.HostStep.{turned}
 
 pub fault_turned : (t : Functions) (c d : Cpu) (m n : Memory) (code : Code)
     (access : Option (Bool × ℕ)) (a : Answer State) → steps.Fault code access ≡ step_answer a

@@ -1,11 +1,7 @@
 -- The row that a filter was asked for.
 use Rattle.std.proofs.Common.{◌≡◌, ◌≢◌, ℕ, zero, suc, ◌+◌, ◌%◌, ◌^◌, Option, Some, None, List, [], ◌∷◌, drop, refl, sym, ap, ◌∙◌}
 use Rattle.std.proofs.lemmas.Bool.{ne_eqb}
-use Rattle.eh_tables.specs.declared.scope.ScopeRecord.{ScopeRecord}
-use Rattle.virtual_unwind.specs.CallerOf.{Functions}
-use Rattle.x64_machine.specs.Effect.{State}
-use Rattle.seh_records.specs.declared.dispatch.DispatchRecord.{DispatchRecord}
-use Rattle.host_model.specs.Dispatch.{row_before, jumping, if_finally, accepted}
+use Rattle.seh_dispatch.specs.Words.{ScopeRecord, Functions, State, DispatchRecord, row_before, jumping, if_finally, accepted}
 
 zero_none : (rows : List ScopeRecord) → row_before rows 0 ≡ None
 zero_none [] = refl

@@ -8,9 +8,7 @@ use Rattle.std.specs.Cmp.{nat_cmp_is}
 use Rattle.std.specs.Map.{lookup}
 use Rattle.std.specs.BTreeMap.{is_at, insert_entry}
 use Rattle.std.proofs.lemmas.Bool.{cases_lt, cases_eq, ne_eqb, eq-eqb, lt-ltb, le-ltb}
-use Rattle.host_model.specs.declared.funclet.Funclet.{Funclet}
-use Rattle.host_model.specs.Funclets.{inserted, if_below, if_same}
-use Rattle.seh_dispatch.specs.FuncletLists.{AreAscending, funclet_of, funclets_of}
+use Rattle.seh_dispatch.specs.Words.{Funclet, inserted, if_below, if_same, AreAscending, funclet_of, funclets_of}
 
 less : (a b : ℕ) → a < b → nat_cmp a b ≡ Less
 less a b lt = sym (nat_cmp_is a b Less lt)

@@ -3,9 +3,7 @@ use Rattle.std.proofs.Common.{◌≡◌, ℕ, ◌+◌, ◌%◌, ◌<◌, Bool, t
 use Rattle.std.proofs.lemmas.Bool.{cases_eq}
 use Rattle.std.proofs.lemmas.Grind.{get_or-set_at}
 use Rattle.std.proofs.lemmas.List.Elements.{All-more, All-weaker}
-use Rattle.host_model.specs.declared.funclet.Funclet.{Funclet}
-use Rattle.seh_dispatch.specs.declared.filter.TheConstants.{REMAINDERS}
-use Rattle.seh_dispatch.specs.Marks.{AreMarked}
+use Rattle.seh_dispatch.specs.Words.{Funclet, REMAINDERS, AreMarked}
 use Rattle.seh_dispatch.proofs.FuncletOrder.{no_funclet}
 
 mark_stays : (marks : List Bool) (i j : ℕ) → i < length marks → get_or marks j false ≡ true

@@ -2,12 +2,7 @@
 use Rattle.std.proofs.Common.{◌≡◌, ◌≢◌, ℕ, zero, suc, ◌+◌, ◌<◌, ◌≤◌, Bool, true, false, eqb, List, [], ◌∷◌, length, get_or, refl, sym, ap, subst, ◌∙◌, arith, inl, inr}
 use Rattle.std.specs.List.Sorted.{IsNonDecreasingBy}
 use Rattle.std.proofs.lemmas.Bool.{cases_lt, cases_eq, ne_eqb, eq-eqb, lt-ltb, le-ltb}
-use Rattle.x64_machine.specs.declared.cpu.Cpu.{Cpu}
-use Rattle.eh_tables.specs.declared.scope.ScopeRecord.{ScopeRecord}
-use Rattle.eh_tables.specs.Tables.{Entry}
-use Rattle.host_model.specs.declared.funclet.Funclet.{Funclet}
-use Rattle.host_model.specs.Funclets.{inserted, if_below, if_same, with_row, of_rows, of_entries, funclets, by_kind, if_here, arrivals}
-use Rattle.seh_dispatch.specs.FuncletLists.{AreAscending}
+use Rattle.seh_dispatch.specs.Words.{Cpu, ScopeRecord, Entry, Funclet, inserted, if_below, if_same, with_row, of_rows, of_entries, funclets, by_kind, if_here, arrivals, AreAscending}
 
 -- ---- each that is put to its place keeps the order
 

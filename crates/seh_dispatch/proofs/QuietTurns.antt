@@ -1,19 +1,10 @@
 -- A turn that runs an instruction, and one that begins as if none had been tried.
 use Rattle.std.proofs.Common.{◌≡◌, true, false, Ok, Err, is_ok, Option, None, List, sym, ap, ◌∙◌}
-use Rattle.seh_num.specs.declared.end.RunEnd.{RunEnd}
-use Rattle.flat_memory.specs.Memory.{Memory}
-use Rattle.x64_machine.specs.declared.cpu.Cpu.{Cpu}
-use Rattle.x64_machine.specs.Effect.{State, Answer, state, step, cpu_after, memory_after}
+use Rattle.seh_dispatch.specs.Words.{RunEnd, Memory, Cpu, State, Answer, state, step, cpu_after, memory_after, Functions, distance, Funclet, Continues, arrivals, arrived, turn, turned, after, left}
 use Rattle.x64_decoded.specs.declared.cache.InstructionCache.{InstructionCache}
 use Rattle.x64_decoded.specs.Caches.{IsCoherent}
 use Rattle.x64_decoded.proofs.Staying.{cache_stays}
-use Rattle.virtual_unwind.specs.CallerOf.{Functions, distance}
-use Rattle.host_model.specs.declared.funclet.Funclet.{Funclet}
-use Rattle.host_model.specs.Turns.{Continues}
-use Rattle.host_model.specs.Funclets.{arrivals, arrived}
-use Rattle.host_model.specs.HostStep.{turn, turned, after}
 use Rattle.host_fixed.proofs.Turning.{hosts_keep}
-use Rattle.seh_dispatch.specs.TurnEnds.{left}
 
 -- the state after a step that was made
 made_state : (c d : Cpu) (m n : Memory) (a : Answer State) → true ≡ is_ok a → d ≡ cpu_after c a

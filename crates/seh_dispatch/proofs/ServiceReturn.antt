@@ -4,14 +4,8 @@ use Rattle.std.specs.Prelude.{Result}
 use Rattle.seh_num.specs.declared.end.Reason.TheVariants as reasons
 use Rattle.seh_num.specs.declared.width.Width.TheVariants.{W64}
 use Rattle.flat_memory.specs.declared.access.RefusedAccess.{RefusedAccess}
-use Rattle.flat_memory.specs.Memory.{Memory, loaded}
-use Rattle.x64_instr.specs.declared.register.Reg.TheVariants.{Rsp}
-use Rattle.x64_machine.specs.declared.cpu.Cpu.{Cpu}
-use Rattle.x64_machine.specs.Effect.{State, register, state}
+use Rattle.seh_dispatch.specs.Words.{Memory, loaded, Rsp, Cpu, State, register, state, Turn, stopped, returned, returning, back_of}
 use Rattle.seh_walk.specs.Walk.{stop_cause}
-use Rattle.host_model.specs.Turns.{Turn, stopped}
-use Rattle.host_model.specs.HostStep.{returned, returning}
-use Rattle.seh_dispatch.specs.Outcomes.{back_of}
 
 some_back : (c d : Cpu) (m : Memory) (go : State → Turn) (a : Result ℕ RefusedAccess)
     → Some d ≡ back_of c a → returned (state c m) a go ≡ go (state d m)

@@ -1,13 +1,8 @@
 -- Events before those of a turn.
 use Rattle.std.proofs.Common.{◌≡◌, Some, None, [], ◌∷◌, refl, ap, ◌∙◌}
-use Rattle.seh_num.specs.declared.event.Event.{Event}
-use Rattle.flat_memory.specs.Memory.{Memory}
-use Rattle.x64_machine.specs.declared.cpu.Cpu.{Cpu}
-use Rattle.host_model.specs.Turns.{Turn, Continues, Ends, with_event}
+use Rattle.seh_dispatch.specs.Words.{Event, Memory, Cpu, Turn, Continues, Ends, with_event, Made, led, turn_of, led_turn, made_turn, silent, all_silent}
 use Rattle.seh_dispatch.specs.declared.outcome.TurnOutcome as code
 use Rattle.seh_dispatch.specs.declared.outcome.Led.{Led}
-use Rattle.seh_dispatch.specs.declared.outcome.Made.{Made}
-use Rattle.seh_dispatch.specs.Outcomes.{led, turn_of, led_turn, made_turn, silent, all_silent}
 
 led_none : (t : Turn) → led [] t ≡ t
 led_none (Continues s es) = refl

@@ -1,22 +1,8 @@
 -- A turn by what the code made of it.
 use Rattle.std.proofs.Common.{◌≡◌, ◌++◌, Bool, true, false, eqb, Option, List, [], refl, sym, ap, ◌∙◌}
-use Rattle.seh_num.specs.declared.event.Event.{Event}
-use Rattle.seh_num.specs.declared.end.RunEnd.{RunEnd}
-use Rattle.flat_memory.specs.Memory.{Memory}
-use Rattle.x64_machine.specs.declared.cpu.Cpu.{Cpu}
-use Rattle.x64_machine.specs.Effect.{State, state, step}
-use Rattle.virtual_unwind.specs.CallerOf.{Functions, distance}
-use Rattle.host_model.specs.declared.funclet.Funclet.{Funclet}
-use Rattle.host_model.specs.Turns.{Continues, Ends}
-use Rattle.host_model.specs.Funclets.{arrivals, arrived}
-use Rattle.host_model.specs.HostStep.{turn, turned, over, host}
+use Rattle.seh_dispatch.specs.Words.{Event, RunEnd, Memory, Cpu, State, state, step, Functions, distance, Funclet, Continues, Ends, arrivals, arrived, turn, turned, over, host, Made, listed, led, turn_of, made_turn, left, over_if, over_cpu}
 use Rattle.seh_dispatch.specs.declared.outcome.TurnOutcome as code
 use Rattle.seh_dispatch.specs.declared.outcome.TurnOutcome.TheVariants as outcomes
-use Rattle.seh_dispatch.specs.declared.outcome.Made.{Made}
-use Rattle.seh_dispatch.specs.FuncletLists.{listed}
-use Rattle.seh_dispatch.specs.Outcomes.{led, turn_of, made_turn}
-use Rattle.seh_dispatch.specs.TurnEnds.{left}
-use Rattle.seh_dispatch.specs.TurnEnds.{over_if, over_cpu}
 
 -- what is shown of a turn that continues: what was made of it, and the event of its arrival
 abbrev pub all_shown : Functions → List Funclet → Cpu → Made → Option Event → List Event

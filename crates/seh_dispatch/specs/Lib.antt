@@ -3,3 +3,4 @@ pub mod TurnEnds
 pub mod FuncletLists
 pub mod Marks
 pub mod Filters
+pub mod Words

@@ -1,3 +1,4 @@
+mod Lemmas
 pub mod AsLoaded
 pub mod Runs
 pub mod Slots

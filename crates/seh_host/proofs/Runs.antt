@@ -1,13 +1,10 @@
 -- Runs, turn by turn.
 use Rattle.std.proofs.Common.{◌≡◌, ℕ, Option, Some, None, refl}
 use Rattle.std.specs.Option.{unwrap_or}
-use Rattle.seh_num.specs.declared.end.RunEnd.{RunEnd}
+use Rattle.seh_host.specs.Words.{RunEnd, end_of, Memory, end_within}
 use Rattle.seh_num.specs.declared.end.RunEnd.TheVariants.{OutOfTurns}
-use Rattle.host_model.specs.HostStep.{end_of}
-use Rattle.flat_memory.specs.Memory.{Memory}
 use Rattle.x64_machine.specs.declared.cpu.Cpu.{Cpu}
 use Rattle.seh_dispatch.specs.TurnEnds.{left}
-use Rattle.seh_host.specs.Turns.{end_within}
 
 -- ---- what a turn leaves of a host that has ended
 

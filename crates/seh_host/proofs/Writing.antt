@@ -2,22 +2,16 @@
 use Rattle.std.proofs.Common.{◌≡◌, ℕ, suc, ◌+◌, ◌-◌, ◌≤◌, ◌<◌, Bool, true, false, List, [], ◌++◌, Option, Some, refl, sym, ap, subst, ◌∙◌, arith, inl, inr, append_assoc}
 use Rattle.std.proofs.lemmas.Bool.{cases_Bool, true≢false}
 use Rattle.std.proofs.lemmas.List.{append-nil}
-use Rattle.seh_num.specs.declared.end.RunEnd.{RunEnd}
+use Rattle.seh_host.specs.Words.{RunEnd, lines, end_line, text, Writer, writer_of, Wrote, TookEvents, TookPart, Functions, Host, Live, Ended, end_of, Running, made, shown_made, after_turn, shown_of, run_of, answer_of, end_within}
 use Rattle.seh_num.specs.Shown.{Shown}
 use Rattle.seh_io.specs.Streams.{Grew}
-use Rattle.seh_io.specs.Text.{lines, end_line, text}
 use Rattle.seh_io.specs.declared.receiver.Lines.{Lines}
-use Rattle.seh_io.specs.Writer.{Writer, writer_of, Wrote, TookEvents, TookPart}
 use Rattle.seh_io.specs.Successive.{wrote_more, took_none, took_more, lines_append}
-use Rattle.seh_io.proofs.Writers.{wrote_nothing, ran_part}
-use Rattle.virtual_unwind.specs.CallerOf.{Functions}
+use Rattle.seh_host.proofs.Lemmas.{wrote_nothing, ran_part}
 use Rattle.host_model.specs.declared.funclet.Funclet.{Funclet}
-use Rattle.host_model.specs.HostStep.{Host, Live, Ended, end_of}
 use Rattle.host_model.specs.Laws.{after_turns, shown_in_turns}
 use Rattle.host_model.proofs.TurnsMade.{after_one_more, shown_one_more, after_more, shown_more, ends_stay, runs_are_turns}
 use Rattle.seh_host.specs.declared.host.Turn.TheVariants as turns
-use Rattle.seh_host.specs.Running.{Running, made, shown_made, after_turn, shown_of, run_of}
-use Rattle.seh_host.specs.Turns.{answer_of, end_within}
 use Rattle.seh_host.specs.Writing.{Stopped, StoppedText, Written}
 
 -- ---- turns made

@@ -3,3 +3,4 @@ pub mod Hosts
 pub mod Running
 pub mod Turns
 pub mod Writing
+pub mod Words

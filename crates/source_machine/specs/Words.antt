@@ -15,7 +15,7 @@ pub use Rattle.source_meaning.specs.Meaning.{does, ran, perform, is_calm, Calm}
 unfoldable pub use Rattle.source_meaning.specs.Meaning.{computed}
 pub use Rattle.source_meaning.specs.Raises.{noncontinuable, search, raise_event, search_by}
 pub use Rattle.source_meaning.specs.Source.{is_reserved}
-pub use Rattle.source_meaning.specs.State.{Exception, State, Result, Value, Normal, Continued, Target, End, Outcome, Gives, emit, Returned, LeftTry, state_of}
+pub use Rattle.source_meaning.specs.State.{Exception, State, Result, Value, Normal, Continued, Target, End, Outcome, Gives, emit, LeftTry, state_of}
 unfoldable pub use Rattle.source_meaning.specs.State.{choose, with_value, and_then, deeper}
 pub use Rattle.source_meaning.specs.Statements.{optional, declare, declare_each, statement}
 unfoldable pub use Rattle.source_meaning.specs.Statements.{in_loop, landing, finally_after}

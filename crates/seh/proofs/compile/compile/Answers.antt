@@ -1,5 +1,4 @@
-use Rattle.seh.specs.Answers.{text_limit, IsCompileAnswer}
-use Rattle.seh.specs.Streams.{stream}
+use Rattle.seh.specs.Words.{text_limit, IsCompileAnswer, stream}
 use Rattle.seh.proofs.Inputs.{same_input, from_text, refused_input}
 use Rattle.seh.proofs.compile.compile.Goals as goal
 

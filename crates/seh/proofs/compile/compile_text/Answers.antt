@@ -1,6 +1,5 @@
 use Rattle.std.proofs.Common.{subst}
-use Rattle.seh_io.specs.Streams.{Grew}
-use Rattle.seh_io.specs.Writer.{TookPart}
+use Rattle.seh.specs.Words.{Grew, TookPart}
 use Rattle.seh.proofs.Inputs.{took_front}
 use Rattle.seh.proofs.compile.compile_text.Goals as goal
 

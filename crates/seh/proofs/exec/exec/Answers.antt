@@ -1,5 +1,4 @@
-use Rattle.seh.specs.Answers.{image_limit, IsRunAnswer}
-use Rattle.seh.specs.Streams.{stream}
+use Rattle.seh.specs.Words.{image_limit, IsRunAnswer, stream}
 use Rattle.seh.proofs.Inputs.{same_input, from_image, refused_input}
 use Rattle.seh.proofs.exec.exec.Goals as goal
 

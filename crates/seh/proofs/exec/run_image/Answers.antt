@@ -1,13 +1,6 @@
 use Rattle.std.proofs.Common.{rules, ap, ◌∙◌, subst, w64, FitsSigned}
 use Rattle.std.proofs.lemmas.Int.{to_z-of_z}
-use Rattle.seh_num.specs.Shown.{Shown}
-use Rattle.seh_num.specs.declared.end.RunEnd.{RunEnd}
-use Rattle.seh_host.specs.Running.{running_of, first_running}
-use Rattle.seh_host.specs.Turns.{end_within, taken_before}
-use Rattle.seh_io.specs.Streams.{Grew}
-use Rattle.seh_io.specs.Text.{text}
-use Rattle.seh_io.specs.Writer.{TookPart}
-use Rattle.seh.specs.Answers.{shown_by}
+use Rattle.seh.specs.Words.{Shown, RunEnd, running_of, first_running, end_within, taken_before, Grew, text, TookPart, shown_by}
 use Rattle.seh.proofs.Shown.{shown_is}
 use Rattle.seh.proofs.exec.run_image.Goals as goal
 

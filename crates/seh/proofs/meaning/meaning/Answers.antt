@@ -1,5 +1,4 @@
-use Rattle.seh.specs.Answers.{text_limit}
-use Rattle.seh.specs.Streams.{stream}
+use Rattle.seh.specs.Words.{text_limit, stream}
 use Rattle.seh.proofs.Inputs.{same_input, from_meaning, refused_meaning}
 use Rattle.seh.proofs.meaning.meaning.Goals as goal
 

@@ -1,7 +1,5 @@
 use Rattle.std.proofs.Common.{◌≡◌, ◌∙◌, List, ℕ, ap, inr, refl, subst}
-use Rattle.seh_io.specs.Text.{ended}
-use Rattle.seh_io.specs.Writer.{TookPart}
-use Rattle.seh.specs.Refusals.{refusal_text}
+use Rattle.seh.specs.Words.{ended, TookPart, refusal_text}
 use Rattle.seh.proofs.Inputs.{took_front}
 use Rattle.seh.proofs.refusal.report.Goals as goal
 

@@ -1,5 +1,4 @@
-use Rattle.seh.specs.Answers.{text_limit, IsTextRunAnswer}
-use Rattle.seh.specs.Streams.{stream}
+use Rattle.seh.specs.Words.{text_limit, IsTextRunAnswer, stream}
 use Rattle.seh.proofs.Inputs.{same_input, from_run, refused_input}
 use Rattle.seh.proofs.run.run.Goals as goal
 

@@ -1,5 +1,5 @@
 use Rattle.std.proofs.Common.{List, ℕ, subst, sym}
-use Rattle.seh.specs.Images.{IsCompiled}
+use Rattle.seh.specs.Words.{IsCompiled}
 use Rattle.seh.proofs.Images.{of_image, of_refusal}
 use Rattle.seh.proofs.run.run_text.Goals as goal
 

@@ -1,5 +1,4 @@
-use Rattle.seh.specs.Answers.{image_limit, IsShowAnswer}
-use Rattle.seh.specs.Streams.{stream}
+use Rattle.seh.specs.Words.{image_limit, IsShowAnswer, stream}
 use Rattle.seh.proofs.Inputs.{same_input, from_shown, refused_input}
 use Rattle.seh.proofs.show.show.Goals as goal
 

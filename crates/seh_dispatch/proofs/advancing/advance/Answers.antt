@@ -1,9 +1,5 @@
 use Rattle.std.proofs.Common.{◌≡◌, sym, ap, subst, ◌∙◌}
-use Rattle.virtual_unwind.specs.CallerOf.{functions_of}
-use Rattle.x64_machine.specs.Effect.{State, state, step}
-use Rattle.host_model.specs.Turns.{shown_in}
-use Rattle.host_model.specs.HostStep.{turn, after}
-use Rattle.seh_dispatch.specs.TurnEnds.{left}
+use Rattle.seh_dispatch.specs.Words.{functions_of, State, state, step, shown_in, turn, after, left}
 use Rattle.seh_dispatch.proofs.TurnOutcomes.{left_over}
 use Rattle.seh_dispatch.proofs.QuietTurns.{kept_state, quiet_turn, coherent_after}
 use Rattle.seh_dispatch.proofs.advancing.advance.Goals as goal

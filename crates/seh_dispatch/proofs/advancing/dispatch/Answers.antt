@@ -1,11 +1,5 @@
 use Rattle.std.proofs.Common.{◌++◌, append-nil, sym, ap, ◌∙◌, subst}
-use Rattle.virtual_unwind.specs.CallerOf.{functions_of, distance}
-use Rattle.x64_machine.specs.Effect.{state}
-use Rattle.host_model.specs.Turns.{shown_in}
-use Rattle.host_model.specs.Funclets.{arrivals}
-use Rattle.host_model.specs.HostStep.{after}
-use Rattle.seh_dispatch.specs.FuncletLists.{listed}
-use Rattle.seh_dispatch.specs.TurnEnds.{left}
+use Rattle.seh_dispatch.specs.Words.{functions_of, distance, state, shown_in, arrivals, after, listed, left}
 use Rattle.seh_dispatch.proofs.TurnOutcomes.{goes_turn, ends_turn, left_over}
 use Rattle.seh_dispatch.proofs.advancing.dispatch.Goals as goal
 

@@ -1,8 +1,6 @@
 use Rattle.std.proofs.Common.{rules, ◌≡◌, ◌-◌, [], ◌∷◌, drop, sym, ap, ◌∙◌, arith, Option}
 use Rattle.eh_tables.specs.Infos.{Info}
-use Rattle.eh_tables.specs.Tables.{Entry, entries_of, holding}
-use Rattle.virtual_unwind.specs.CallerOf.{functions_of, entry_of, distance}
-use Rattle.host_model.specs.Dispatch.{rows_of, row_before}
+use Rattle.seh_dispatch.specs.Words.{Entry, entries_of, holding, functions_of, entry_of, distance, rows_of, row_before}
 use Rattle.seh_dispatch.proofs.FilterRows.{row_zero, row_some, row_none}
 use Rattle.seh_dispatch.proofs.answering.asked_row.Goals as goal
 

@@ -1,7 +1,5 @@
 use Rattle.std.proofs.Common.{sym, ◌∙◌}
-use Rattle.virtual_unwind.specs.CallerOf.{functions_of}
-use Rattle.x64_machine.specs.Effect.{state}
-use Rattle.host_model.specs.Dispatch.{asked_row}
+use Rattle.seh_dispatch.specs.Words.{functions_of, state, asked_row}
 use Rattle.seh_dispatch.proofs.FilterRows.{jumping_to}
 use Rattle.seh_dispatch.proofs.answering.jump.Goals as goal
 

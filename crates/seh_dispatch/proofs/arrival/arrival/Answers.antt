@@ -1,6 +1,5 @@
 use Rattle.std.proofs.Common.{◌∙◌, ◌∷◌, [], sym, ap, arith}
-use Rattle.seh_num.specs.declared.event.Event.{Event}
-use Rattle.virtual_unwind.specs.CallerOf.{distance}
+use Rattle.seh_dispatch.specs.Words.{Event, distance}
 use Rattle.seh_dispatch.proofs.FuncletOrder.{no_funclet, none_arrives, past_all, between, arrives}
 use Rattle.seh_dispatch.proofs.arrival.arrival.Goals as goal
 

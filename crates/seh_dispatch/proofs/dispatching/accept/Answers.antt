@@ -1,8 +1,5 @@
 use Rattle.std.proofs.Common.{sym, ap, ◌∙◌}
-use Rattle.virtual_unwind.specs.CallerOf.{functions_of}
-use Rattle.x64_machine.specs.Effect.{state}
-use Rattle.seh_records.specs.declared.dispatch.DispatchRecord.{DispatchRecord}
-use Rattle.host_model.specs.Dispatch.{after_placing, unwinds_on}
+use Rattle.seh_dispatch.specs.Words.{functions_of, state, DispatchRecord, after_placing, unwinds_on}
 use Rattle.seh_dispatch.proofs.RecordPlacement.{rewritten}
 use Rattle.seh_dispatch.proofs.dispatching.accept.Goals as goal
 

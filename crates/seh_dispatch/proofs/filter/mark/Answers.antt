@@ -1,5 +1,5 @@
 use Rattle.std.proofs.Common.{◌%◌, ◌<◌, length, get_or, refl, ◌∙◌, length-set, arith}
-use Rattle.seh_dispatch.specs.declared.filter.TheConstants.{REMAINDERS}
+use Rattle.seh_dispatch.specs.Words.{REMAINDERS}
 use Rattle.seh_dispatch.proofs.FuncletOrder.{no_funclet}
 use Rattle.seh_dispatch.proofs.FuncletMarks.{more_marked}
 use Rattle.seh_dispatch.proofs.filter.mark.Goals as goal

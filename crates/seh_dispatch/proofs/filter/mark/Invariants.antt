@@ -1,6 +1,5 @@
 use Rattle.std.proofs.Common.{◌≡◌, length, take}
-use Rattle.seh_dispatch.specs.declared.filter.TheConstants.{REMAINDERS}
-use Rattle.seh_dispatch.specs.Marks.{AreMarked}
+use Rattle.seh_dispatch.specs.Words.{REMAINDERS, AreMarked}
 use Rattle.seh_dispatch.proofs.filter.mark.Given as goal
 
 abbrev pub invariant-loop-funclet : goal.invariant-loop-funclet

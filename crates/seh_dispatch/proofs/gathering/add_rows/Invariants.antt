@@ -1,6 +1,5 @@
 use Rattle.std.proofs.Common.{◌≡◌}
-use Rattle.host_model.specs.Funclets.{of_rows}
-use Rattle.seh_dispatch.specs.FuncletLists.{AreAscending, funclets_of}
+use Rattle.seh_dispatch.specs.Words.{of_rows, AreAscending, funclets_of}
 use Rattle.seh_dispatch.proofs.gathering.add_rows.Given as goal
 
 abbrev pub invariant-loop-row : goal.invariant-loop-row

@@ -1,7 +1,5 @@
 use Rattle.std.proofs.Common.{◌≡◌, drop, []}
-use Rattle.eh_tables.specs.Tables.{entries_of}
-use Rattle.host_model.specs.Funclets.{of_entries}
-use Rattle.seh_dispatch.specs.FuncletLists.{AreAscending, funclets_of}
+use Rattle.seh_dispatch.specs.Words.{entries_of, of_entries, AreAscending, funclets_of}
 use Rattle.seh_dispatch.proofs.gathering.gather.Given as goal
 
 abbrev pub invariant-loop-index : goal.invariant-loop-index

@@ -1,5 +1,5 @@
 use Rattle.std.proofs.Common.{◌≡◌, ◌++◌}
-use Rattle.seh_dispatch.specs.FuncletLists.{funclets_of}
+use Rattle.seh_dispatch.specs.Words.{funclets_of}
 use Rattle.seh_dispatch.proofs.gathering.list.Given as goal
 
 abbrev pub invariant-loop-address : goal.invariant-loop-address

@@ -1,8 +1,5 @@
 use Rattle.std.proofs.Common.{ℕ, sym, ap, ◌∙◌}
-use Rattle.virtual_unwind.specs.CallerOf.{functions_of}
-use Rattle.x64_instr.specs.declared.register.Reg.TheVariants.{Rcx, Rdx}
-use Rattle.x64_machine.specs.Effect.{register, state}
-use Rattle.host_model.specs.Dispatch.{unwound_locally}
+use Rattle.seh_dispatch.specs.Words.{functions_of, Rcx, Rdx, register, state, unwound_locally}
 use Rattle.seh_dispatch.proofs.ServiceReturn.{returning_to}
 use Rattle.seh_dispatch.proofs.serving.local_unwind.Goals as goal
 

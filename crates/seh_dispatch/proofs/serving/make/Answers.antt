@@ -1,6 +1,5 @@
 use Rattle.std.proofs.Common.{◌∙◌}
-use Rattle.virtual_unwind.specs.CallerOf.{functions_of}
-use Rattle.x64_machine.specs.Effect.{state, step}
+use Rattle.seh_dispatch.specs.Words.{functions_of, state, step}
 use Rattle.seh_dispatch.proofs.FaultTurns.{fault_turned}
 use Rattle.seh_dispatch.proofs.TurnEvents.{made_later}
 use Rattle.seh_dispatch.proofs.serving.make.Goals as goal

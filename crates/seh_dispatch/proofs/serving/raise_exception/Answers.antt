@@ -1,8 +1,5 @@
 use Rattle.std.proofs.Common.{ℕ, ◌%◌, ◌^◌, None, sym, ap, ◌∙◌}
-use Rattle.virtual_unwind.specs.CallerOf.{functions_of}
-use Rattle.x64_instr.specs.declared.register.Reg.TheVariants.{Rcx, Rdx}
-use Rattle.x64_machine.specs.Effect.{register, state}
-use Rattle.host_model.specs.Dispatch.{raised}
+use Rattle.seh_dispatch.specs.Words.{functions_of, Rcx, Rdx, register, state, raised}
 use Rattle.seh_dispatch.proofs.ServiceReturn.{returning_to}
 use Rattle.seh_dispatch.proofs.serving.raise_exception.Goals as goal
 

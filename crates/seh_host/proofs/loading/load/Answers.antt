@@ -1,10 +1,7 @@
 use Rattle.std.proofs.Common.{◌≡◌, refl, ◌+◌, sym, ap, subst, ◌∙◌, w64, to_z, of_z}
 use Rattle.std.proofs.lemmas.Int.{to_z-of_z}
-use Rattle.x64_memory.specs.PageMaps.{memory_of}
-use Rattle.virtual_unwind.specs.CallerOf.{Functions}
+use Rattle.seh_host.specs.Words.{memory_of, Functions, first_cpu, start, Live, host, over}
 use Rattle.host_model.specs.Funclets.{funclets}
-use Rattle.host_model.specs.Loading.{first_cpu, start}
-use Rattle.host_model.specs.HostStep.{Live, host, over}
 use Rattle.seh_dispatch.specs.Filters.{Admits}
 use Rattle.seh_host.proofs.AsLoaded.{place_above}
 use Rattle.seh_host.proofs.Loaded.{functions_read}

@@ -1,9 +1,6 @@
 use Rattle.std.proofs.Common.{◌++◌, ap, ◌∙◌, rules}
-use Rattle.seh_io.specs.Text.{lines, end_line}
-use Rattle.seh_io.proofs.Writers.{ran_whole, same_grew, same_part}
-use Rattle.x64_memory.specs.PageMaps.{memory_of}
-use Rattle.seh_host.specs.Running.{running_of, run_of}
-use Rattle.seh_host.specs.Turns.{end_within}
+use Rattle.seh_host.specs.Words.{lines, end_line, memory_of, running_of, run_of, end_within}
+use Rattle.seh_host.proofs.Lemmas.{ran_whole, same_grew, same_part}
 use Rattle.seh_host.proofs.Runs.{within, end_left}
 use Rattle.seh_host.proofs.Writing.{events_of, end_answered, part_of_text, stopped_text, same_stopped}
 use Rattle.seh_host.proofs.run.run.Goals as goal

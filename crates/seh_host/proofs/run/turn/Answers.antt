@@ -1,5 +1,5 @@
 use Rattle.std.proofs.Common.{◌≡◌, false, is_some, Option, Some, None, refl, sym, ◌∙◌}
-use Rattle.seh_num.specs.declared.end.RunEnd.{RunEnd}
+use Rattle.seh_host.specs.Words.{RunEnd}
 use Rattle.seh_host.proofs.run.turn.Goals as goal
 
 lives : (end : Option RunEnd) → is_some end ≡ false → end ≡ None

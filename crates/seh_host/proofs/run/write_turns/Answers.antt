@@ -1,5 +1,5 @@
 use Rattle.std.proofs.Common.{refl, ◌∙◌, arith}
-use Rattle.seh_host.specs.Running.{running_of}
+use Rattle.seh_host.specs.Words.{running_of}
 use Rattle.seh_host.proofs.Writing.{next_host, next_took, stops, over, all_made, none_made, none_taken}
 use Rattle.seh_host.proofs.run.write_turns.Goals as goal
 

@@ -1,6 +1,5 @@
 use Rattle.std.proofs.Common.{◌≡◌, false}
-use Rattle.seh_io.specs.Writer.{TookEvents}
-use Rattle.seh_host.specs.Running.{running_of, made, shown_made, image_of}
+use Rattle.seh_host.specs.Words.{TookEvents, running_of, made, shown_made, image_of}
 use Rattle.seh_host.proofs.run.write_turns.Given as goal
 
 abbrev pub invariant-loop-i : goal.invariant-loop-i
