@@ -77,7 +77,7 @@ information_wraps l room text ts no_literal no_name no_punctuator = record {
 prefixed : (l room n : ℕ) (s : Punctuator) (op : Increment) (at end : ℕ) (text : List ℕ)
     (inner : List Token) → unary ≤ l → (1 ≤ n → 1 ≤ room) → increment_of s ≡ Some op → HasExpression
     unary (room - 1) n text inner → HasExpression l room n text (token (kinds.Punctuator s) at end
-        ∷ inner)
+    ∷ inner)
 prefixed l room n s op at end text inner p r e h =
     let q : s ≡ increment_punctuator op = increment_only op s e in
     record {
@@ -99,7 +99,7 @@ prefixed l room n s op at end text inner p r e h =
 unaried : (l room n : ℕ) (s : Punctuator) (op : UnaryOperator) (at end : ℕ) (text : List ℕ)
     (inner : List Token) → unary ≤ l → (1 ≤ n → 1 ≤ room) → unary_of s ≡ Some op → HasExpression
     cast (room - 1) n text inner → HasExpression l room n text (token (kinds.Punctuator s) at end
-        ∷ inner)
+    ∷ inner)
 unaried l room n s op at end text inner p r e h =
     let q : s ≡ unary_punctuator op = unary_only op s e in
     record {
@@ -121,7 +121,7 @@ unaried l room n s op at end text inner p r e h =
 pub prefix_wraps : (l room : ℕ) (s : Punctuator) (op : Increment) (at : ℕ) (text : List ℕ)
     (ts rest : List Token) → unary ≤ l → 1 ≤ room → IsPunctuator s at ts rest → increment_of s ≡
     Some op → Wraps (NoExpression unary (room - 1)) (HasExpression unary (room - 1))
-        (NoOperand l room)
+    (NoOperand l room)
     (HasExpression l room) text rest ts
 prefix_wraps l room s op at text ts rest p r h e = record {
   before = token (kinds.Punctuator s) at h.0 ∷ [];
@@ -225,7 +225,7 @@ cast_wraps l room at to text ts rest mid after p h t w g =
                 let e : ((m.front ++ (close ∷ [])) ++ inner) ++ other
                 ≡ m.front ++ (close ∷ (inner ++ other)) =
                 append_append (m.front ++ (close ∷ [])) inner other
-                    ∙ append_append m.front (close ∷ []) (inner ++ other) in
+                ∙ append_append m.front (close ∷ []) (inner ++ other) in
                 let y = subst (λ (z : List Token). IsType to z (close ∷ (inner ++ other))) (sym e)
                 (m.again text' (close ∷ (inner ++ other)) b) in
                 record {

@@ -65,7 +65,7 @@ step_wraps l room left text ts rest d c f low =
           (subst (λ n. n ≤ l) (sym (firsts.same_follows rest other s)) f) x;
       has = λ n text' inner a k h. able_now (HasExpression l room) n text' (m.front ++ inner)
           (step_has l room (follows rest) n left text' m.front inner
-              (λ other. m.again text' other a)
+          (λ other. m.again text' other a)
           f low h);
     }
 

@@ -52,7 +52,6 @@ module _ (program : Program) (linear : LinearProgram) (rate body : ℕ) where
         (record (normal_ways (λ st store next. end_finally linear next below st.events store) kept
         context site) { held = held }) (and_then o (λ st. Gives Normal (let_go st)))
     unfolding and_then
-    final_end s st x (Gives (Value v) mid) a = absurd a
     final_end s st x (Gives Normal mid) a = record {
       store = a.store;
       fits = out' mid a.store a.fits;
@@ -70,10 +69,6 @@ module _ (program : Program) (linear : LinearProgram) (rate body : ℕ) where
           (λ i. block_ends j names below held (record context { abnormal = flag }) done mid a.store
           i f has));
     }
-    final_end s st x (Gives (Returned v) mid) a = absurd a
-    final_end s st x (Gives Broke mid) a = absurd a
-    final_end s st x (Gives Continued mid) a = absurd a
-    final_end s st x (Gives LeftTry mid) a = absurd a
     final_end s st x (Gives (Target level exc) mid) a =
         let moved : Targets linear rate s st (price 0 0 x x) kept
         (record context { abnormal = flag }) (finally_site j below held) level exc mid =
@@ -95,6 +90,7 @@ module _ (program : Program) (linear : LinearProgram) (rate body : ℕ) where
         (Finished e mid.events) (omega arith) a
     final_end s st x (Gives (End None) mid) a = stops_more linear rate s st mid 0 0 x 1 0 x
         (omega arith) (omega arith) a
+    final_end s st x o a = absurd a
 
   module _ (roomy : 4 ≤ rate) (n : ℕ) (ih : Runs program linear rate body n)
       (bih : BodyRuns program linear rate body n) where

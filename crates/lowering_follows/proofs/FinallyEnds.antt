@@ -30,14 +30,9 @@ module _ (program : Program) (linear : LinearProgram) (rate body : ℕ) where
       → ((mid : State) (store : Store) → mid.steps_left ≤ st.steps_left → w.kept mid store
       → mid.held ≡ w.held → Claim linear rate (t mid store) mid q w (Gives Normal mid))
       → Claim linear rate s st r w o
-  plain_then s t w st p q r (Gives (Value x) mid) j a b = absurd a
   plain_then s t w st p q r (Gives Normal mid) j a b = after linear rate s (t mid a.store) st mid
       p.turns p.extra p.slack q r w (Gives Normal mid) (j.turns, j.slack, j.second_out) a.reaches
       (b mid a.store a.reaches.low a.fits a.same)
-  plain_then s t w st p q r (Gives (Returned x) mid) j a b = absurd a
-  plain_then s t w st p q r (Gives Broke mid) j a b = absurd a
-  plain_then s t w st p q r (Gives Continued mid) j a b = absurd a
-  plain_then s t w st p q r (Gives LeftTry mid) j a b = absurd a
   plain_then s t w st p q r (Gives (Target level exc) mid) j a b = let lr = j.turns in
       targets_more linear rate s st mid p r w.kept w.context w.site level exc (omega arith)
       j.first_out a
@@ -46,6 +41,7 @@ module _ (program : Program) (linear : LinearProgram) (rate body : ℕ) where
   plain_then s t w st p q r (Gives (End None) mid) j a b = let lr = j.turns in
       stops_more linear rate s st mid p.turns p.extra p.out r.turns r.extra r.out (omega arith)
       j.first_out a
+  plain_then s t w st p q r o j a b = absurd a
 
   -- the block begins
   run_is : (k : ℕ) (names : Names) (flag : Bool) (held : ℕ) (below : List Item) (next : Next)

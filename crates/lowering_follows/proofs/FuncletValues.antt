@@ -120,15 +120,6 @@ module _ (program : Program) (linear : LinearProgram) (rate body : ℕ) where
   then_value_out s v kept j inner isite w pc temps st p q r (Gives (Value x) mid) k t f g a
       b = after linear rate s (v x mid a.store) st mid p.turns p.extra p.slack q r w (k x mid)
       (t.turns, t.slack, t.second_out) a.reaches (b x mid a.store a.reaches.low a.fits a.same)
-  then_value_out s v kept j inner isite w pc temps st p q r (Gives Normal mid) k t f g a b =
-      absurd a
-  then_value_out s v kept j inner isite w pc temps st p q r (Gives (Returned x) mid) k t f g a b =
-      absurd a
-  then_value_out s v kept j inner isite w pc temps st p q r (Gives Broke mid) k t f g a b = absurd a
-  then_value_out s v kept j inner isite w pc temps st p q r (Gives Continued mid) k t f g a b =
-      absurd a
-  then_value_out s v kept j inner isite w pc temps st p q r (Gives LeftTry mid) k t f g a b =
-      absurd a
   then_value_out s v kept j inner isite w pc temps st p q r
       (Gives (Target level exc) mid) k t f g a b =
       let lr = t.turns in
@@ -151,3 +142,4 @@ module _ (program : Program) (linear : LinearProgram) (rate body : ℕ) where
   then_value_out s v kept j inner isite w pc temps st p q r (Gives (End None) mid) k t f g a
       b = let lr = t.turns in stops_more linear rate s st mid p.turns p.extra p.out r.turns r.extra
       r.out (omega arith) t.first_out a
+  then_value_out s v kept j inner isite w pc temps st p q r o k t f g a b = absurd a

@@ -197,7 +197,6 @@ module _ (program : Program) (linear : LinearProgram) (rate body : ℕ) where
         (value_ways (pushed context site (pc + 1) temps)
         (Within program linear rate body shapes base) context site) (ended_call m o)
     unfolding ended_call
-    function_ends s st x done (Gives (Value v) mid) e has l1 l2 l3 label l4 a = absurd a
     function_ends s st x done (Gives Normal mid) e has l1 l2 l3 label l4 a =
         let c0 = conf callee csite done [] mid a.store in
         let c1 = conf callee csite (done + 1) (0 ∷ []) mid a.store in
@@ -231,9 +230,6 @@ module _ (program : Program) (linear : LinearProgram) (rate body : ℕ) where
           mid
           0 0 x a.1.reaches);
     }
-    function_ends s st x done (Gives Broke mid) e has l1 l2 l3 label l4 a = absurd a
-    function_ends s st x done (Gives Continued mid) e has l1 l2 l3 label l4 a = absurd a
-    function_ends s st x done (Gives LeftTry mid) e has l1 l2 l3 label l4 a = absurd a
     function_ends s st x done (Gives (Target level exc) mid) e has l1 l2 l3 label l4 q =
         let to = target_of q.handler exc.code mid.held in
         let past = target_past (FunctionBody k) to in
@@ -278,6 +274,7 @@ module _ (program : Program) (linear : LinearProgram) (rate body : ℕ) where
         linear rate s st mid 0 2 (Finished c mid.events) (omega arith) a
     function_ends s st x done (Gives (End None) mid) e has l1 l2 l3 label l4 a = stops_more linear
         rate s st mid 0 0 x 2 0 x (omega arith) (omega arith) a
+    function_ends s st x done o e has l1 l2 l3 label l4 a = absurd a
 
   -- ---- a call
 

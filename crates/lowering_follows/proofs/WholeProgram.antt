@@ -186,7 +186,6 @@ module _ (program : Program) (linear : LinearProgram) (rate body : ℕ)
         (statement_ways program linear rate body (scope_of fn) inner csite kept done) o
         → Done s from (ended_call 0 o)
     unfolding ended_call
-    main_ends s from kept done (Gives (Value v) st) h p = absurd p
     main_ends s from kept done (Gives Normal st) h p =
         let y = p.reaches.by (suc (suc zero)) in
         let most = p.reaches.most in (
@@ -200,13 +199,11 @@ module _ (program : Program) (linear : LinearProgram) (rate body : ℕ)
         let y = p.1.reaches.by zero in
         let most = p.1.reaches.most in
         (y.0, omega (arith, y.1), y.2)
-    main_ends s from kept done (Gives Broke st) h p = absurd p
-    main_ends s from kept done (Gives Continued st) h p = absurd p
-    main_ends s from kept done (Gives LeftTry st) h p = absurd p
     main_ends s from kept done (Gives (Target level exc) st) h p = absurd p.picked
     main_ends s from kept done (Gives (End (Some e)) st) h p = let y = p.by in
         (y.0, omega (arith, y.1), y.2)
     main_ends s from kept done (Gives (End None) st) h p = p
+    main_ends s from kept done o h p = absurd p
 
     main_runs : (n : ℕ) → Done (at c0) (begun n)
         (ended_call 0 (all (within program n) fn.body inner (begun n)))
@@ -315,12 +312,7 @@ module _ (program : Program) (linear : LinearProgram) (rate body : ℕ)
           ),
           (λ c h. absurd (cc)),
         )
-    follows_by b from (Gives Normal st) le d = absurd d
-    follows_by b from (Gives (Returned v) st) le d = absurd d
-    follows_by b from (Gives Broke st) le d = absurd d
-    follows_by b from (Gives Continued st) le d = absurd d
-    follows_by b from (Gives LeftTry st) le d = absurd d
-    follows_by b from (Gives (Target level exc) st) le d = absurd d
+    follows_by b from o le d = absurd d
 
     abbrev NoMoreThan : ℕ → Outcome → Type 0
     NoMoreThan m o =
@@ -349,12 +341,7 @@ module _ (program : Program) (linear : LinearProgram) (rate body : ℕ)
         let b = d.prior (d.cost - 1) (omega arith) in
         against_running (exec linear m c0) (exec linear (d.cost - 1) c0) b.0 st.events
         (later m (d.cost - 1) (omega arith)) b.1 b.2
-    no_more_by m n (Gives Normal st) le d = absurd d
-    no_more_by m n (Gives (Returned v) st) le d = absurd d
-    no_more_by m n (Gives Broke st) le d = absurd d
-    no_more_by m n (Gives Continued st) le d = absurd d
-    no_more_by m n (Gives LeftTry st) le d = absurd d
-    no_more_by m n (Gives (Target level exc) st) le d = absurd d
+    no_more_by m n o le d = absurd d
 
   pub follows : Follows program linear
   follows arg n turns le =

@@ -21,13 +21,7 @@ module _ (program : Program) (d : Does) where
       → through program d hs f (Gives (End e) st) ≡ Gives (End e) st
   unfolding with_value and_then in_loop ended_call landing finally_after
   ended_frame hs (Operand f) e st = refl
-  ended_frame hs (Assignment f) e st = refl
-  ended_frame hs (InStatement f) e st = refl
-  ended_frame hs (Sequel f) e st = refl
-  ended_frame hs (Body f) e st = refl
-  ended_frame hs (EndsCall n) e st = refl
-  ended_frame hs (Lands held block p) e st = refl
-  ended_frame hs (Finishes k last p) e st = refl
+  ended_frame hs f e st = refl
 
   ended_all : (hs : List Handler) (fs : List ContinuationFrame) (e : Option Ended) (st : State)
       → through_all program d hs fs (Gives (End e) st) ≡ Gives (End e) st
@@ -93,17 +87,7 @@ module _ (program : Program) (d : Does) where
       ≡ from m (assignment_meaning program d m.handlers f v m.state)
   unfolding with_value
   assignment_keeps m (frames.ReadsPlace l p) v = refl
-  assignment_keeps m (frames.Extends access) v = refl
-  assignment_keeps m (frames.EvaluatesAssigned l e p) v = refl
-  assignment_keeps m (frames.Assigns l a p) v = refl
-  assignment_keeps m (frames.ReadsCompound k p) v = refl
-  assignment_keeps m (frames.EvaluatesCompound k a p) v = refl
-  assignment_keeps m (frames.OperatesCompound k a x p) v = refl
-  assignment_keeps m (frames.AssignsCompound k a p) v = refl
-  assignment_keeps m (frames.ReadsStepped k p) v = refl
-  assignment_keeps m (frames.OperatesStepped k a p) v = refl
-  assignment_keeps m (frames.AssignsStepped k a x p) v = refl
-  assignment_keeps m (frames.GivesStepped k x) v = refl
+  assignment_keeps m f v = refl
 
   branch_keeps : (b : Bool) (m : Machine) (s : Statement) (t : Option Statement) (p : Place)
       → comes (follow m (branch b s t p)) ≡ from m
@@ -150,9 +134,7 @@ module _ (program : Program) (d : Does) where
   sequel_keeps m (frames.EvaluatesFirst first k p) =
       evaluated_keeps m (frames.Iterates k p) first p _ 0 refl
   sequel_keeps m (frames.Retries o a b p) = refl
-  sequel_keeps m frames.GivesZero = refl
-  sequel_keeps m (frames.GivesResult how) = refl
-  sequel_keeps m frames.EndsFinally = refl
+  sequel_keeps m f = refl
 
   body_keeps : (m : Machine) (f : BodyFrame) → comes (follow m (body_plan f))
       ≡ from m (body_meaning program d m.handlers f m.state)

@@ -216,8 +216,6 @@ body_decreases m plan h how = omega arith
 
 call_decreases : (m : Machine) (n : ℕ) (how : Result) → distance (left_call m n how) < at_worth m 21
 call_decreases m n (End e) = omega arith
-call_decreases m n Normal = omega arith
-call_decreases m n (Returned v) = omega arith
 call_decreases m n how = omega arith
 
 target_decreases : (c : Bool) (m : Machine) (held : ℕ) (block : Statements) (p : Place) (to : ℕ)
@@ -236,8 +234,6 @@ finish_decreases : (m : Machine) (k : ℕ) (last : Statements) (p : Place) (how 
     → distance (finished m k last p how) < at_worth m 21
 unfolding plan_worth
 finish_decreases m k last p (End e) = omega arith
-finish_decreases m k last p Normal = omega arith
-finish_decreases m k last p LeftTry = omega arith
 finish_decreases m k last p how = omega arith
 
 resumed_decreases : (m : Machine) (f : ContinuationFrame) (how : Result)
@@ -317,17 +313,13 @@ fetched_decreases : (m : Machine) (l : Lvalue) (a : ℕ) (p : Place)
     → distance (fetched m l a p) < at_worth m 23
 unfolding plan_worth
 fetched_decreases m (Local x) a p = omega arith
-fetched_decreases m (Global access _) a p = omega arith
-fetched_decreases m (Indirection access _) a p = omega arith
-fetched_decreases m (Element access _ _) a p = omega arith
+fetched_decreases m l a p = omega arith
 
 put_decreases : (m : Machine) (l : Lvalue) (a v : ℕ) (p : Place)
     → distance (put m l a v p) < at_worth m 22
 unfolding plan_worth
 put_decreases m (Local x) a v p = omega arith
-put_decreases m (Global access _) a v p = omega arith
-put_decreases m (Indirection access _) a v p = omega arith
-put_decreases m (Element access _ _) a v p = omega arith
+put_decreases m l a v p = omega arith
 
 operated_decreases : (m : Machine) (o : Operation) (a b : ℕ) (p : Place)
     (x : performing.OperationResult)

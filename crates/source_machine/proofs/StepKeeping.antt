@@ -23,50 +23,27 @@ module _ (program : Program) (d : Does) where
       ≡ from program d m (node program d n (context_at m.handlers p) m.state)
   unfolding with_value
   node_keeps m (nodes.Constant z n) p = refl
-  node_keeps m (nodes.Read l) p = refl
-  node_keeps m (nodes.AddressOf l) p = refl
-  node_keeps m (nodes.Assign l e) p = refl
-  node_keeps m (nodes.CompoundAssign l before o e after) p = refl
-  node_keeps m (nodes.Increment k l before o n after) p = refl
-  node_keeps m (nodes.Unary o e) p = refl
-  node_keeps m (nodes.Binary o e f) p = refl
-  node_keeps m (nodes.PointerDifference size e f) p = refl
-  node_keeps m (nodes.Not e) p = refl
-  node_keeps m (nodes.And e f) p = refl
-  node_keeps m (nodes.Or e f) p = refl
-  node_keeps m (nodes.Conditional c e f) p = refl
-  node_keeps m (nodes.Comma e f) p = refl
-  node_keeps m (nodes.Call f es) p = refl
-  node_keeps m (nodes.CallBuiltIn k es) p = refl
-  node_keeps m nodes.ExceptionCode p = refl
-  node_keeps m (nodes.Information f) p = refl
-  node_keeps m nodes.AbnormalTermination p = refl
+  node_keeps m n p = refl
 
   find_keeps : (m : Machine) (l : Lvalue) (p : Place)
       → comes program d (follow m (find_plan l p))
       ≡ from program d m (locate d l (context_at m.handlers p) m.state)
   unfolding with_value
   find_keeps m (Local x) p = refl
-  find_keeps m (Global access a) p = refl
-  find_keeps m (Indirection access e) p = refl
-  find_keeps m (Element access e i) p = refl
+  find_keeps m l p = refl
 
   fetch_keeps : (m : Machine) (l : Lvalue) (a : ℕ) (p : Place)
       → comes program d (fetched m l a p) ≡ from program d m
       (read program d l a (context_at m.handlers p) m.state)
   unfolding with_value
   fetch_keeps m (Local x) a p = refl
-  fetch_keeps m (Global access _) a p = refl
-  fetch_keeps m (Indirection access _) a p = refl
-  fetch_keeps m (Element access _ _) a p = refl
+  fetch_keeps m l a p = refl
 
   put_keeps : (m : Machine) (l : Lvalue) (a v : ℕ) (p : Place)
       → comes program d (put m l a v p) ≡ from program d m
       (write program d l a v (context_at m.handlers p) m.state)
   put_keeps m (Local x) a v p = refl
-  put_keeps m (Global access _) a v p = refl
-  put_keeps m (Indirection access _) a v p = refl
-  put_keeps m (Element access _ _) a v p = refl
+  put_keeps m l a v p = refl
 
   operated_keeps : (m : Machine) (o : Operation) (a b : ℕ) (p : Place)
       (x : performing.OperationResult)

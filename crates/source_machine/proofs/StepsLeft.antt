@@ -39,8 +39,6 @@ module _ (l : ℕ) where
   call : (m : Machine) (n : ℕ) (how : Result)
       → left_call (with_left l m) n how ≡ with_left l (left_call m n how)
   call m n (End e) = refl
-  call m n Normal = refl
-  call m n (Returned v) = refl
   call m n how = refl
 
   target : (b : Bool) (m : Machine) (held : ℕ) (block : Statements) (p : Place) (to : ℕ)
@@ -59,8 +57,6 @@ module _ (l : ℕ) where
   finish : (m : Machine) (k : ℕ) (last : Statements) (p : Place) (how : Result)
       → finished (with_left l m) k last p how ≡ with_left l (finished m k last p how)
   finish m k last p (End e) = refl
-  finish m k last p Normal = refl
-  finish m k last p LeftTry = refl
   finish m k last p how = refl
 
   resume : (m : Machine) (f : ContinuationFrame) (how : Result)
@@ -95,16 +91,12 @@ module _ (l : ℕ) where
   fetch : (m : Machine) (at : Lvalue) (a : ℕ) (p : Place)
       → fetched (with_left l m) at a p ≡ with_left l (fetched m at a p)
   fetch m (Local x) a p = refl
-  fetch m (Global access _) a p = refl
-  fetch m (Indirection access _) a p = refl
-  fetch m (Element access _ _) a p = refl
+  fetch m at a p = refl
 
   puts : (m : Machine) (at : Lvalue) (a v : ℕ) (p : Place)
       → put (with_left l m) at a v p ≡ with_left l (put m at a v p)
   puts m (Local x) a v p = refl
-  puts m (Global access _) a v p = refl
-  puts m (Indirection access _) a v p = refl
-  puts m (Element access _ _) a v p = refl
+  puts m at a v p = refl
 
   operate : (m : Machine) (o : Operation) (a b : ℕ) (p : Place) (x : performing.OperationResult)
       → operated (with_left l m) o a b p x ≡ with_left l (operated m o a b p x)

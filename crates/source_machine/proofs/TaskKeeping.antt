@@ -58,10 +58,7 @@ module _ (program : Program) (d : Does) where
   statement_keeps m (statements.Return e) p =
       evaluated_keeps program d m frames.Returns e p _ 0 refl
   statement_keeps m statements.Break p = refl
-  statement_keeps m statements.Continue p = refl
-  statement_keeps m statements.Leave p = refl
-  statement_keeps m (statements.TryExcept body filter block) p = refl
-  statement_keeps m (statements.TryFinally body k last) p = refl
+  statement_keeps m s p = refl
 
   -- ---- tasks
 
