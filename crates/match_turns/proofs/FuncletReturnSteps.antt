@@ -42,18 +42,11 @@ module _ (setting : Setting) (made : IsWellMade setting.program setting.plan)
     module _ (g : LinearFunclet) (there : slice_get program.funclets k ≡ Some g) where
       by_list : (items : List Item) → c.below ≡ items
           → FuncletIsAbove t fs program p k c.frame (Some g) items → Goal
-      by_list [] e h = absurd h
-      by_list (Searches exception resumption asked rest ∷ []) e h = absurd h
-      by_list (Searches exception resumption asked rest ∷ Searches x y z w ∷ below) e h = absurd h
-      by_list (Searches exception resumption asked rest ∷ Unwinds x y ∷ below) e h = absurd h
       by_list (Searches exception resumption asked rest ∷ Waits w ∷ below) e h =
           filter_returns setting made.room s c b (counted_here setting made c known) k name from
           (code_at setting made s c b known (instructions.Return from) at) value.0 value.1 g there
           rule after fits continues h.0 exception resumption asked rest w below e
           known.stacked.below
-      by_list (Unwinds rest target ∷ []) e h = absurd h
-      by_list (Unwinds rest target ∷ Searches x y z w ∷ below) e h = absurd h
-      by_list (Unwinds rest target ∷ Unwinds x y ∷ below) e h = absurd h
       by_list (Unwinds rest target ∷ Waits f ∷ below) e h =
           block_returns setting made.room s c b (counted_here setting made c known) k name from
           (code_at setting made s c b known (instructions.Return from) at) value.0 value.1 g there
@@ -71,6 +64,7 @@ module _ (setting : Setting) (made : IsWellMade setting.program setting.plan)
             items = below;
             below = e;
           }))
+      by_list items e h = absurd h
 
     by_funclet : (o : Option LinearFunclet) → slice_get program.funclets k ≡ o
         → FuncletIsAbove t fs program p k c.frame o c.below → Goal

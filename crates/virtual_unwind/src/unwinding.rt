@@ -204,7 +204,11 @@ fn rising(context: &Context, answer: Result<Caller, UnwindErr>) -> Result<Caller
 /// The caller of the frame of a context, in an image that lies at `base`. `Unreadable` is answered
 /// exactly where a word of the stack that is needed may not be read, with the first one's address;
 /// else `Backward` exactly where RSP wouldn't rise.
-#[tactic(auto, using(crate::proofs::Past::risen_shown), unfolding(crate::specs::CallerOf::caller_in))]
+#[tactic(
+    auto,
+    using(crate::proofs::Past::risen_shown),
+    unfolding(crate::specs::CallerOf::caller_in)
+)]
 pub fn caller_at<S: ReadSpace>(
     tables: &Tables,
     base: u64,
@@ -213,7 +217,8 @@ pub fn caller_at<S: ReadSpace>(
 ) -> Result<Caller, UnwindErr>
     requires { TablesAreWhole tables.now }
     ensures { result ≡ shown (spec.caller_in
-        (record { base = base; entries = entries_of tables.now }) (S.memory space.now) context.now) }
+        (record { base = base; entries = entries_of tables.now })
+        (S.memory space.now) context.now) }
 {
     let rva = context.rip.wrapping_sub(base);
     let entry = tables.lookup(rva);
