@@ -294,16 +294,15 @@ module _ (program : Program) (linear : LinearProgram) (rate body : ℕ) where
         let to = own_target site label in
         unwinds_on s from x p.0 [] to how st p.1.store w steps p.1.same p.1.fits
         (inr (inl (omega arith))) p.1.reaches
-        (λ mid store' low kept held. go (unwound linear rate context site to [] mid store' p.0) mid
-            (
+        (λ mid store' low kept held.
+        let there = unwound linear rate context site to [] mid store' p.0 in
+        go there mid (
           p.0,
           record {
             store = store';
             fits = kept;
             same = held;
-            reaches = still linear rate (unwound linear rate context site to [] mid store' p.0)
-                (unwound linear rate context site to [] mid store' p.0) mid mid 1 0 0 refl
-                (omega arith)
+            reaches = still linear rate there there mid mid 1 0 0 refl (omega arith)
                 (prefix_self linear rate mid.events) (λ j. refl);
           },
         ))

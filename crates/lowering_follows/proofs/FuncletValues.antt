@@ -39,32 +39,32 @@ module _ (program : Program) (linear : LinearProgram) (rate body : ℕ) where
       (inner context : Context) (isite site : Site) (pc : ℕ) (temps : List ℕ) (level : ℕ)
       (exc : Exception) (st : State)
       → isite.body ≡ FuncletBody j → isite.regions ≡ []
-          → handlers linear isite.below None ≡ found linear rate context site
+      → handlers linear isite.below None ≡ found linear rate context site
       → ((next : Next) (target : machine.Target) (st : State) (store : Store)
       → unwind linear next target isite.below None st.events store
       ≡ unwound linear rate context site target temps st store pc next)
       → Targets linear rate s from p kept inner isite level exc st
-          → Targets linear rate s from p kept context site level exc st
+      → Targets linear rate s from p kept context site level exc st
   targets_out s from p kept j inner context isite site pc temps level exc st b e f onward q =
       record {
-    handler = q.handler;
-    picked = picked;
-    temps = temps;
-    pc = pc;
-    store = q.store;
-    fits = q.fits;
-    reaches = record {
-      cost = r.cost;
-      credit = r.credit;
-      paid = r.paid;
-      most = r.most;
-      least = r.least;
-      low = r.low;
-      grows = r.grows;
-      prior = r.prior;
-      by = λ k. let y = r.by k in (y.0, y.1, y.2 ∙ out (exec linear k));
-    };
-  }
+        handler = q.handler;
+        picked = picked;
+        temps = temps;
+        pc = pc;
+        store = q.store;
+        fits = q.fits;
+        reaches = record {
+          cost = r.cost;
+          credit = r.credit;
+          paid = r.paid;
+          most = r.most;
+          least = r.least;
+          low = r.low;
+          grows = r.grows;
+          prior = r.prior;
+          by = λ k. let y = r.by k in (y.0, y.1, y.2 ∙ out (exec linear k));
+        };
+      }
     where
       target : machine.Target
       target = target_of q.handler exc.code st.held

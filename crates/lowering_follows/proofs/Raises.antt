@@ -31,7 +31,7 @@ module _ (program : Program) (linear : LinearProgram) (rate body : ℕ) where
       ≡ unwound linear rate context site (target_of f exc.code st.held) temps st store pc next
   accepted f exc context site pc temps st store next t h =
       unwound_is program linear rate body (target_of f exc.code site.held) context site pc temps st
-          store next t
+      store next t
       ∙ ap (λ k. unwound linear rate context site (target_of f exc.code k) temps st store pc next)
       (sym h)
 
@@ -43,18 +43,19 @@ module _ (program : Program) (linear : LinearProgram) (rate body : ℕ) where
       → ((next : Next) → s next ≡ accept linear f exc next (conf context site pc temps st store))
       → Targets linear rate s st (price r e 1 rate) kept context site level exc st
   takes_over s f pre rest level r e exc kept context site pc temps st store len w le t h fits same =
+      let target = target_of f exc.code st.held in
       record {
-    handler = f;
-    picked = subst (λ fs. Picked fs level f) (sym w) (picked_at pre f rest level len);
-    temps = temps;
-    pc = pc;
-    store = store;
-    fits = fits;
-    reaches = still linear rate s (unwound linear rate context site (target_of f exc.code st.held)
-        temps st store pc) st st r e rate refl le (prefix_self linear rate st.events)
-        (λ k. same (exec linear k) ∙ accepted f exc context site pc temps st store
+        handler = f;
+        picked = subst (λ fs. Picked fs level f) (sym w) (picked_at pre f rest level len);
+        temps = temps;
+        pc = pc;
+        store = store;
+        fits = fits;
+        reaches = still linear rate s (unwound linear rate context site target temps st store pc) st
+            st r e rate refl le (prefix_self linear rate st.events)
+            (λ k. same (exec linear k) ∙ accepted f exc context site pc temps st store
             (exec linear k) t h);
-  }
+      }
 
   module _ (n : ℕ) (ih : Runs program linear rate body n) where
     -- what a filter's answer comes to
@@ -89,8 +90,11 @@ module _ (program : Program) (linear : LinearProgram) (rate body : ℕ) where
         more linear rate _ st (price 16 1 1 rate) (price 16 0 1 rate)
         (normal_ways (resumes program linear rate body resumption context site pc temps)
         (Within program linear rate body shapes base) context site)
-        (source.search (within program n) hs exc context st) (omega arith, omega arith,
-            omega arith) h
+        (source.search (within program n) hs exc context st) (
+          omega arith,
+          omega arith,
+          omega arith,
+        ) h
     answered_runs false true b3 hs f pre rest exc resumption names info z shapes context site base
         pc temps st store len t w le steps around kept held h =
         takes_over (λ next. accept linear f exc next (conf context site pc temps st store)) f pre
@@ -152,7 +156,7 @@ module _ (program : Program) (linear : LinearProgram) (rate body : ℕ) where
         site base pc temps st store fit a len steps le t w around kept held go =
         let light = fit.light in
         then_value linear rate _ (answers_search program linear rate body exc resumption f rest
-            context site pc temps)
+        context site pc temps)
         (normal_ways (resumes program linear rate body resumption context site pc temps)
         (Within program linear rate body shapes base) context site) st
         (price 0 1 0 (2 + expression_weight e)) (price 16 0 1 rate) (price 16 1 1 rate)
@@ -213,13 +217,13 @@ module _ (program : Program) (linear : LinearProgram) (rate body : ℕ) where
         let w = normal_ways (resumes program linear rate body resumption context site pc temps)
         (Within program linear rate body shapes base) context site in
         let o = source.search (within program n) context.handlers exc context
-            (emit (raise_event exc) st) in
+        (emit (raise_event exc) st) in
         subst (λ rs. Claim linear rate (λ next. search linear next
         (handlers_in rs context.activation (length site.below) ++ handlers linear site.below None)
         exc resumption (conf context site pc temps (emit (raise_event exc) st) store)) st
         (price 16 1 1 rate) w o) (sym t)
         (sooner linear rate _ st (emit (raise_event exc) st) (price 16 1 1 rate) w o refl
-            (raise_event exc ∷ [], refl)
+        (raise_event exc ∷ [], refl)
         (search_runs context.handlers [] (found linear rate context site) exc resumption names info
         z shapes context site base pc temps (emit (raise_event exc) st) store steps le t refl
         around.handlers around kept held))
@@ -257,7 +261,7 @@ module _ (program : Program) (linear : LinearProgram) (rate body : ℕ) where
         mid store in
         fetch linear rate c (Return (Temporary 0)) k has.0
         ∙ ap (λ o. with_some mid.events o (λ x. end_funclet linear (exec linear k) x.kind v c))
-            there
+        there
         ∙ ap (λ x. end_funclet linear (exec linear k) x v c) kind
 
     pub filter_runs : (k j : ℕ) (e : Expression) (h : Handler) (f : machine.Handler)
@@ -278,9 +282,15 @@ module _ (program : Program) (linear : LinearProgram) (rate body : ℕ) where
     filter_runs k j e h f rest exc resumption names info z shapes context site base pc temps st
         store steps light t a fit around kept held =
         let below : List Item = Searches exc resumption f rest
-            ∷ Waits (frame_of context site pc temps) ∷ site.below in
-        let isite : Site = record { body = FuncletBody j; regions = []; below = below; exception =
-            exc; held = site.held + 2 } in
+        ∷ Waits (frame_of context site pc temps) ∷ site.below in
+        let isite : Site = record {
+          body = FuncletBody j;
+          regions = [];
+          below = below;
+          exception =
+              exc;
+          held = site.held + 2;
+        } in
         let inner : Context = record {
           handlers = context.handlers;
           activation = h.activation;
@@ -291,7 +301,7 @@ module _ (program : Program) (linear : LinearProgram) (rate body : ℕ) where
         let w = value_ways (answers_search program linear rate body exc resumption f rest context
         site pc temps) (Within program linear rate body shapes base) context site in
         let keep : ℕ → State → Outcome = λ v st. Gives (Value v)
-            (emit (events.Answer (signed W32 v)) (let_go st)) in
+        (emit (events.Answer (signed W32 v)) (let_go st)) in
         let o = with_value (within program n (Eval e) inner asked) keep in
         let place : ℕ → ℕ → machine.Configuration = λ act m. record {
           frame = record {
@@ -315,7 +325,7 @@ module _ (program : Program) (linear : LinearProgram) (rate body : ℕ) where
         (λ rs. handlers_in rs context.activation (length site.below)
         ++ handlers linear site.below None) t in
         let env : Around program linear rate body fit.names true fit.shape shapes inner isite base =
-            record {
+        record {
           shape = fit.has_shape;
           code = subst (λ x. CodeBound everywhere fit.shape x inner exc base) (sym fit.source) refl;
           flag = fit.flag;
@@ -332,9 +342,9 @@ module _ (program : Program) (linear : LinearProgram) (rate body : ℕ) where
               pc temps st store next t;
         } in
         let deep : length store.activations ≡ length st.frames = kept.0.activations
-            ∙ sym kept.0.count in
+        ∙ sym kept.0.count in
         deep_claim linear rate 2 site.held store (at (place f.activation (j + 1))) st
-            (price 16 2 0 (2 + expression_weight e)) w
+        (price 16 2 0 (2 + expression_weight e)) w
         (λ st. with_value (within program n (Eval e)
         (record {
           handlers = context.handlers;
@@ -347,9 +357,9 @@ module _ (program : Program) (linear : LinearProgram) (rate body : ℕ) where
         (sooner linear rate (at (place f.activation (j + 1))) st asked
         (price 16 2 0 (2 + expression_weight e)) w o refl (events.Filter k ∷ [], refl)
         (subst (λ c. Claim linear rate (at c) asked (price 16 2 0 (2 + expression_weight e)) w o)
-            same
+        same
         (then_value_out program linear rate body (at (place h.activation k))
-            (pushed inner isite (0 + expression_size e) [])
+        (pushed inner isite (0 + expression_size e) [])
         (Within program linear rate body shapes base) j inner isite w pc temps asked
         (price 0 0 (expression_weight e) (expression_weight e)) (price 16 rate 0 0)
         (price 16 2 0 (2 + expression_weight e)) (within program n (Eval e) inner asked) keep
