@@ -53,23 +53,23 @@ module _ (text : List ℕ) (level : ℕ) where
       → IsOperand text level (Cast at to e) ts rest
   cast_derived at to e ts after_opening after_type after_closing rest fits opening type closing
       operand closes = record {
-    derives = record {
-      fits = fits;
-      spells = record {
-        after_operator = after_closing;
-        operator = record {
-          after_opening = after_opening;
-          after_inner = after_type;
-          opening = opening;
-          inner = type;
-          closing = closing;
+        derives = record {
+          fits = fits;
+          spells = record {
+            after_operator = after_closing;
+            operator = record {
+              after_opening = after_opening;
+              after_inner = after_type;
+              opening = opening;
+              inner = type;
+              closing = closing;
+            };
+            operand = operand;
+          };
         };
-        operand = operand;
-      };
-    };
-    head = tt;
-    closes = closes;
-  }
+        head = tt;
+        closes = closes;
+      }
 
   pub prefix_derived : (at : ℕ) (op : Increment) (e : Expression)
       (ts after_operator rest : List Token) → rank (Prefix at op e) ≤ level

@@ -44,13 +44,7 @@ base_bytes : (b : Base) → is_scalar (record { base = b; pointers = 0 }) ≡ tr
     → bytes_in (record { base = b; pointers = 0 }) ≡ size_of_base b
 base_bytes Void h = absurd (cc)
 base_bytes Char h = refl
-base_bytes UnsignedChar h = refl
-base_bytes Short h = refl
-base_bytes UnsignedShort h = refl
-base_bytes Int h = refl
-base_bytes Unsigned h = refl
-base_bytes LongLong h = refl
-base_bytes UnsignedLongLong h = refl
+base_bytes b h = refl
 
 positive : (p : ℕ) → nat_lt 0 (suc p) ≡ true
 positive p = lt-ltb 0 (suc p) (omega arith)

@@ -143,9 +143,7 @@ constant_good S t n h = typed_good S t (nodes.Constant (size_of t) (low (width (
 
 integer_scalar_type : (of : IntegerType) → is_scalar (plain (integer_base of)) ≡ true
 integer_scalar_type integers.Int = refl
-integer_scalar_type integers.Unsigned = refl
-integer_scalar_type integers.LongLong = refl
-integer_scalar_type integers.UnsignedLongLong = refl
+integer_scalar_type of = refl
 
 literal_good : (S : TypingContext) (l : Literal) → IsGood S (literal l)
 literal_good S (literals.Integer n of) =

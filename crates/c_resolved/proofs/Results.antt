@@ -23,25 +23,8 @@ use Rattle.c_resolved.proofs.Operands.{IsGood, GoodIf, HasSize, and_true, only_i
 takes_alike : (o : Arithmetic) (s : Signedness) (z : Size)
     → takes (operation_of o s z) (Some z) (Some z) ≡ Some z
 takes_alike arithmetic.Multiply s sizes.Int = refl
-takes_alike arithmetic.Multiply s sizes.Long = refl
-takes_alike arithmetic.Divide s sizes.Int = refl
-takes_alike arithmetic.Divide s sizes.Long = refl
-takes_alike arithmetic.Remainder s sizes.Int = refl
-takes_alike arithmetic.Remainder s sizes.Long = refl
-takes_alike arithmetic.Add s sizes.Int = refl
-takes_alike arithmetic.Add s sizes.Long = refl
-takes_alike arithmetic.Subtract s sizes.Int = refl
-takes_alike arithmetic.Subtract s sizes.Long = refl
-takes_alike arithmetic.ShiftLeft s sizes.Int = refl
-takes_alike arithmetic.ShiftLeft s sizes.Long = refl
-takes_alike arithmetic.ShiftRight s sizes.Int = refl
-takes_alike arithmetic.ShiftRight s sizes.Long = refl
-takes_alike arithmetic.And s sizes.Int = refl
-takes_alike arithmetic.And s sizes.Long = refl
-takes_alike arithmetic.ExclusiveOr s sizes.Int = refl
-takes_alike arithmetic.ExclusiveOr s sizes.Long = refl
-takes_alike arithmetic.Or s sizes.Int = refl
-takes_alike arithmetic.Or s sizes.Long = refl
+takes_alike o s sizes.Int = refl
+takes_alike o s z = refl
 
 takes_shift : (o : Arithmetic) (s : Signedness) (z y : Size) → is_shift o ≡ true
     → takes (operation_of o s z) (Some z) (Some y) ≡ Some z

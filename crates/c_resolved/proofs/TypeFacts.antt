@@ -24,21 +24,15 @@ void_size t h = none_when (is_void t) (size_of t) h
 
 pub size_in_memory_is : (w : Width) → size_in_memory w ≡ size_of_width w
 size_in_memory_is W8 = refl
-size_in_memory_is W16 = refl
-size_in_memory_is W32 = refl
-size_in_memory_is W64 = refl
+size_in_memory_is w = refl
 
 pub bytes_divide : (w : Width) → is_divisor (bytes_of w) ≡ true
 bytes_divide W8 = refl
-bytes_divide W16 = refl
-bytes_divide W32 = refl
-bytes_divide W64 = refl
+bytes_divide w = refl
 
 pub bytes_fit : (w : Width) → constant_fits sizes.Long (bytes_of w) ≡ true
 bytes_fit W8 = refl
-bytes_fit W16 = refl
-bytes_fit W32 = refl
-bytes_fit W64 = refl
+bytes_fit w = refl
 
 pub one_fits : (z : Size) → constant_fits z 1 ≡ true
 one_fits sizes.Int = refl
@@ -108,13 +102,7 @@ pointed_scalar t h =
 promoted_value : (b : Base) → is_void_base b ≡ false → is_void_base (promoted_base b) ≡ false
 promoted_value Void h = h
 promoted_value Char h = refl
-promoted_value UnsignedChar h = refl
-promoted_value Short h = refl
-promoted_value UnsignedShort h = refl
-promoted_value Int h = refl
-promoted_value Unsigned h = refl
-promoted_value LongLong h = refl
-promoted_value UnsignedLongLong h = refl
+promoted_value b h = refl
 
 wider_value : (a b : Base) → is_void_base a ≡ false → is_void_base b ≡ false
     → is_void_base (wider a b) ≡ false
@@ -142,13 +130,7 @@ promoted_width : (b : Base) → is_void_base b ≡ false
     → size_of_width (base_width (promoted_base b)) ≡ size_of_width (base_width b)
 promoted_width Void h = absurd (cc)
 promoted_width Char h = refl
-promoted_width UnsignedChar h = refl
-promoted_width Short h = refl
-promoted_width UnsignedShort h = refl
-promoted_width Int h = refl
-promoted_width Unsigned h = refl
-promoted_width LongLong h = refl
-promoted_width UnsignedLongLong h = refl
+promoted_width b h = refl
 
 -- promotion changes no number
 pub promoted_size : (t : CType) → is_integer t ≡ true → size_of (promoted t) ≡ size_of t

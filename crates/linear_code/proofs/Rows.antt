@@ -52,7 +52,8 @@ unsigned_less = refl
 greater_or_equal : result_of (pures.Compare relations.GreaterOrEqual Signed Long) 5 5 ≡ 1
 greater_or_equal = refl
 
--- ---- faults, in a memory of which 16 bytes from 4096 on may be read and written, and those from 8192 on are reserved
+-- ---- faults, in a memory of which 16 bytes from 4096 on may be read and written, and those from
+-- 8192 on are reserved
 
 some_memory : Memory
 some_memory = record {

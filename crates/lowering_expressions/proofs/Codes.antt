@@ -41,9 +41,7 @@ unary_length o d = refl
 
 pub read_length : (p : Lvalue) (a to : ℕ) → length (read_code p a to) ≡ read_size p
 read_length (Local x) a to = refl
-read_length (Global access n) a to = refl
-read_length (Indirection access e) a to = refl
-read_length (Element access e i) a to = refl
+read_length p a to = refl
 
 pub address_length : (p : Lvalue) (d : ℕ) (located : List Instruction) (n : ℕ) → length located ≡ n
     → length (address_code p d located) ≡ address_size p n

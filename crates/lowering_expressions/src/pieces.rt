@@ -103,8 +103,8 @@ pub fn skip(code: &mut Vec<Instruction>, size: u64, more: u64) -> Result<(), All
     put(code, Instruction::Jump { label })
 }
 
-/// A jump over an expression and so many instructions more, the jump among them, where the temporary
-/// is 0.
+/// A jump over an expression and so many instructions more, the jump among them, where the
+/// temporary is 0.
 pub fn test_before(
     code: &mut Vec<Instruction>,
     d: u64,

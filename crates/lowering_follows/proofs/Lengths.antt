@@ -16,9 +16,7 @@ unary_length o d = refl
 
 pub read_length : (p : Lvalue) (a to : ℕ) → length (read_code p a to) ≡ read_size p
 read_length (Local x) a to = refl
-read_length (Global access n) a to = refl
-read_length (Indirection access e) a to = refl
-read_length (Element access e i) a to = refl
+read_length p a to = refl
 
 address_length : (p : Lvalue) (d n : ℕ) (code : List Instruction) → length code ≡ n
     → length (address_code p d code) ≡ address_size p n

@@ -31,9 +31,7 @@ located_length (Element access e i) temps a = length_push temps a
 
 loaded_width : (w : Width) → width (size_of w) ≡ value_width w
 loaded_width W8 = refl
-loaded_width W16 = refl
-loaded_width W32 = refl
-loaded_width W64 = refl
+loaded_width w = refl
 
 module _ (program : Program) (linear : LinearProgram) (rate body : ℕ)
     (same_globals : linear.globals ≡ program.globals) (roomy : 4 ≤ rate) (n : ℕ)

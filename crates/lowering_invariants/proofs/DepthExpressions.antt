@@ -23,9 +23,7 @@ unary_past o d = refl
 
 read_past : (p : Lvalue) (address to d : ℕ) → past (read_code p address to) d ≡ to + 1
 read_past (nodes.Local x) address to d = refl
-read_past (Global access a) address to d = refl
-read_past (Indirection access e) address to d = refl
-read_past (Element access e i) address to d = refl
+read_past p address to d = refl
 
 -- the value of an assignment stays where it is, or comes to the first temporary
 write_past : (p : Lvalue) (d : ℕ) → after (write_code p d (d + address_count p) d)
@@ -149,9 +147,7 @@ module _ (depth : ℕ → ℕ) where
 
   write_leads : (p : Lvalue) (address from to x : ℕ) → Leads depth x (write_code p address from to)
   write_leads (nodes.Local y) address from to x = tt
-  write_leads (Global access a) address from to x = tt
-  write_leads (Indirection access e) address from to x = tt
-  write_leads (Element access e i) address from to x = tt
+  write_leads p address from to x = tt
 
   code_leads : (s : ExceptionSource) (d x : ℕ) → Leads depth x (code_code s d)
   code_leads NoException d x = tt
@@ -309,13 +305,14 @@ module _ (depth : ℕ → ℕ) where
       node_leads (nodes.Increment m p before o v after') d at h =
           let old = d + address_count p in
           let located = locate_code names p d at in
+          let converted = conversion_leads before (old + 1) (old + 1 + 1) in
           lead_both depth located _ d old (locate_past names p d at)
           (locate_leads p d at (scan_front depth at d located _ h))
           (lead_both depth (read_code p d old) _ old (old + 1) (read_past p d old old)
           (read_leads p d old old) (
             tt,
             lead_both depth (conversion_code before (old + 1)) _ (old + 1 + 1) (old + 1 + 1)
-                (conversion_past before (old + 1)) (conversion_leads before (old + 1) (old + 1 + 1)) (
+                (conversion_past before (old + 1)) converted (
                   tt,
                   (
                     tt,

@@ -147,8 +147,8 @@ module _ (names : Names) where
     node_no_blocks (nodes.And e g) d at =
         let second = at + expression_size e + 1 in
         let code = expression_code names g d second in
-        append (expression_code names e d at)
-        (_ ∷ (code ++ choice_code d (second + expression_size g) 0 1)) (expression_no_blocks e d at) (
+        let both = code ++ choice_code d (second + expression_size g) 0 1 in
+        append (expression_code names e d at) (_ ∷ both) (expression_no_blocks e d at) (
           refl,
           append code (choice_code d (second + expression_size g) 0 1)
               (expression_no_blocks g d second) (choice_no_blocks d (second + expression_size g) 0

@@ -145,9 +145,7 @@ module _ (most n : ℕ) where
 
     count_small : (p : Lvalue) → address_count p ≤ 1
     count_small (nodes.Local x) = omega arith
-    count_small (Global access a) = omega arith
-    count_small (Indirection access e) = omega arith
-    count_small (Element access e i) = omega arith
+    count_small p = omega arith
 
     chosen_small : (m : Fixity) (old : ℕ) → chosen_of m old ≤ old + 1
     chosen_small Postfix old = omega arith

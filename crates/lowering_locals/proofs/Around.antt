@@ -39,17 +39,7 @@ pub around_after : (s : Statement) (i : Inside) (locals : ℕ) (names : Names)
 around_after (Declare d) i locals names before seen fits ok a = around_declared locals names before
     seen d.local (declared_small i.scope d locals fits ok) a
 around_after (Block ss) i locals names before seen fits ok a = a
-around_after (Evaluate e) i locals names before seen fits ok a = a
-around_after (If c s) i locals names before seen fits ok a = a
-around_after (IfElse c s t) i locals names before seen fits ok a = a
-around_after (For ds first c next s) i locals names before seen fits ok a = a
-around_after (DoWhile s c) i locals names before seen fits ok a = a
-around_after (Return e) i locals names before seen fits ok a = a
-around_after Break i locals names before seen fits ok a = a
-around_after Continue i locals names before seen fits ok a = a
-around_after Leave i locals names before seen fits ok a = a
-around_after (TryExcept body filter block) i locals names before seen fits ok a = a
-around_after (TryFinally body k last) i locals names before seen fits ok a = a
+around_after s i locals names before seen fits ok a = a
 
 module _ (linear : LinearProgram) (lists : BodyName → List SeenNames) where
   abbrev sets : BodyName → ℕ → SeenNames

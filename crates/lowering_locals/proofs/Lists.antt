@@ -10,21 +10,15 @@ use Rattle.lowering_locals.specs.Words.{Marks, marks_of, set_mark, IsSame, AreLo
 pub locals_long : (ms : List Bool) (vs ws : List ℕ) → AreLocalsAlike ms vs ws
     → length ws ≡ length vs
 locals_long [] [] [] h = refl
-locals_long [] [] (w ∷ ws) h = absurd h
-locals_long [] (v ∷ vs) ws h = absurd h
-locals_long (m ∷ ms) [] ws h = absurd h
-locals_long (m ∷ ms) (v ∷ vs) [] h = absurd h
 locals_long (m ∷ ms) (v ∷ vs) (w ∷ ws) h = ap suc (locals_long ms vs ws h.1)
+locals_long ms vs ws h = absurd h
 
 locals_set : (ms : List Bool) (vs ws : List ℕ) (x v : ℕ) → AreLocalsAlike ms vs ws
     → AreLocalsAlike (slice_set ms x true) (slice_set vs x v) (slice_set ws x v)
 locals_set [] [] [] x v h = tt
-locals_set [] [] (w ∷ ws) x v h = absurd h
-locals_set [] (a ∷ vs) ws x v h = absurd h
-locals_set (m ∷ ms) [] ws x v h = absurd h
-locals_set (m ∷ ms) (a ∷ vs) [] x v h = absurd h
 locals_set (m ∷ ms) (a ∷ vs) (b ∷ ws) zero v h = (refl, h.1)
 locals_set (m ∷ ms) (a ∷ vs) (b ∷ ws) (suc x) v h = (h.0, locals_set ms vs ws x v h.1)
+locals_set ms vs ws x v h = absurd h
 
 same_if : (m : Bool) (v w : ℕ) → m ≡ true → IsSame m v w → w ≡ v
 same_if true v w e h = sym h
@@ -65,21 +59,15 @@ set_in xs k x v = slice_set xs k (slice_set (locals_in (slice_get xs k)) x v)
 pub as_long : (marks : Marks) (xs ys : List (List ℕ)) → AreActivationsAlike marks xs ys
     → length ys ≡ length xs
 as_long [] [] [] h = refl
-as_long [] [] (y ∷ ys) h = absurd h
-as_long [] (x ∷ xs) ys h = absurd h
-as_long (m ∷ marks) [] ys h = absurd h
-as_long (m ∷ marks) (x ∷ xs) [] h = absurd h
 as_long (m ∷ marks) (x ∷ xs) (y ∷ ys) h = ap suc (as_long marks xs ys h.1)
+as_long marks xs ys h = absurd h
 
 set_alike : (marks : Marks) (xs ys : List (List ℕ)) (k x v : ℕ) → AreActivationsAlike marks xs ys
     → AreActivationsAlike (set_mark marks k x) (set_in xs k x v) (set_in ys k x v)
 set_alike [] [] [] k x v h = tt
-set_alike [] [] (b ∷ ys) k x v h = absurd h
-set_alike [] (a ∷ xs) ys k x v h = absurd h
-set_alike (m ∷ marks) [] ys k x v h = absurd h
-set_alike (m ∷ marks) (a ∷ xs) [] k x v h = absurd h
 set_alike (m ∷ marks) (a ∷ xs) (b ∷ ys) zero x v h = (locals_set m a b x v h.0, h.1)
 set_alike (m ∷ marks) (a ∷ xs) (b ∷ ys) (suc k) x v h = (h.0, set_alike marks xs ys k x v h.1)
+set_alike marks xs ys k x v h = absurd h
 
 pub same_read : (marks : Marks) (xs ys : List (List ℕ)) (k x : ℕ) → AreActivationsAlike marks xs ys
     → slice_get (marks_of marks k) x ≡ Some true
@@ -94,11 +82,8 @@ pub one_more : (marks : Marks) (xs ys : List (List ℕ)) (m : List Bool) (vs ws 
     → AreActivationsAlike marks xs ys → AreLocalsAlike m vs ws
     → AreActivationsAlike (marks ++ m ∷ []) (xs ++ vs ∷ []) (ys ++ ws ∷ [])
 one_more [] [] [] m vs ws h l = (l, tt)
-one_more [] [] (b ∷ ys) m vs ws h l = absurd h
-one_more [] (a ∷ xs) ys m vs ws h l = absurd h
-one_more (n ∷ marks) [] ys m vs ws h l = absurd h
-one_more (n ∷ marks) (a ∷ xs) [] m vs ws h l = absurd h
 one_more (n ∷ marks) (a ∷ xs) (b ∷ ys) m vs ws h l = (h.0, one_more marks xs ys m vs ws h.1 l)
+one_more marks xs ys m vs ws h l = absurd h
 
 -- ---- with the marks of the activations that live, the first ones
 
@@ -108,20 +93,15 @@ Alive marks xs ys = AreActivationsAlike (take (length xs) marks) xs ys
 pub whole_alive : (marks : Marks) (xs ys : List (List ℕ)) → AreActivationsAlike marks xs ys
     → Alive marks xs ys
 whole_alive [] [] [] h = tt
-whole_alive [] [] (y ∷ ys) h = absurd h
-whole_alive [] (x ∷ xs) ys h = absurd h
-whole_alive (m ∷ marks) [] ys h = absurd h
-whole_alive (m ∷ marks) (x ∷ xs) [] h = absurd h
 whole_alive (m ∷ marks) (x ∷ xs) (y ∷ ys) h = (h.0, whole_alive marks xs ys h.1)
+whole_alive marks xs ys h = absurd h
 
 pub taken_alive : (k : ℕ) (marks : Marks) (xs ys : List (List ℕ)) → Alive marks xs ys
     → Alive marks (take k xs) (take k ys)
 taken_alive zero marks xs ys h = tt
 taken_alive (suc k) marks [] [] h = tt
-taken_alive (suc k) marks [] (y ∷ ys) h = absurd h
-taken_alive (suc k) [] (x ∷ xs) ys h = absurd h
-taken_alive (suc k) (m ∷ marks) (x ∷ xs) [] h = absurd h
 taken_alive (suc k) (m ∷ marks) (x ∷ xs) (y ∷ ys) h = (h.0, taken_alive k marks xs ys h.1)
+taken_alive k marks xs ys h = absurd h
 
 pub set_alive : (marks : Marks) (xs ys : List (List ℕ)) (k x v : ℕ) → Alive marks xs ys
     → AreActivationsAlike (set_mark (take (length (set_in xs k x v)) marks) k x) (set_in xs k x v)

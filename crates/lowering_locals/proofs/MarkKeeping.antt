@@ -86,39 +86,28 @@ first_set (suc n) rest (suc x) lt = first_set n rest x (omega arith)
 
 locals_marked : (ms : List Bool) (vs ws : List ℕ) → AreLocalsAlike ms vs ws → length ms ≡ length vs
 locals_marked [] [] [] h = refl
-locals_marked [] [] (w ∷ ws) h = absurd h
-locals_marked [] (v ∷ vs) ws h = absurd h
-locals_marked (m ∷ ms) [] ws h = absurd h
-locals_marked (m ∷ ms) (v ∷ vs) [] h = absurd h
 locals_marked (m ∷ ms) (v ∷ vs) (w ∷ ws) h = ap suc (locals_marked ms vs ws h.1)
+locals_marked ms vs ws h = absurd h
 
 pub marks_long : (marks : Marks) (xs ys : List (List ℕ)) → AreActivationsAlike marks xs ys
     → length marks ≡ length xs
 marks_long [] [] [] h = refl
-marks_long [] [] (y ∷ ys) h = absurd h
-marks_long [] (x ∷ xs) ys h = absurd h
-marks_long (m ∷ marks) [] ys h = absurd h
-marks_long (m ∷ marks) (x ∷ xs) [] h = absurd h
 marks_long (m ∷ marks) (x ∷ xs) (y ∷ ys) h = ap suc (marks_long marks xs ys h.1)
+marks_long marks xs ys h = absurd h
 
 pub own_long : (marks : Marks) (xs ys : List (List ℕ)) (k : ℕ) (vs : List ℕ)
     → AreActivationsAlike marks xs ys → slice_get xs k ≡ Some vs
     → length (marks_of marks k) ≡ length vs
 own_long [] [] ys k vs h e = absurd (cc)
-own_long [] (x ∷ xs) ys k vs h e = absurd h
-own_long (m ∷ marks) [] ys k vs h e = absurd h
-own_long (m ∷ marks) (x ∷ xs) [] k vs h e = absurd h
 own_long (m ∷ marks) (x ∷ xs) (y ∷ ys) zero vs h e = locals_marked m x y h.0
     ∙ ap length (same_it x vs e)
 own_long (m ∷ marks) (x ∷ xs) (y ∷ ys) (suc k) vs h e = own_long marks xs ys k vs h.1 e
+own_long marks xs ys k vs h e = absurd h
 
 -- the marks serve for the other's locals too
 pub alike_itself : (marks : Marks) (xs ys : List (List ℕ)) → AreActivationsAlike marks xs ys
     → AreActivationsAlike marks xs xs
 alike_itself [] [] ys h = tt
-alike_itself [] (x ∷ xs) ys h = absurd h
-alike_itself (m ∷ marks) [] ys h = absurd h
-alike_itself (m ∷ marks) (x ∷ xs) [] h = absurd h
 alike_itself (m ∷ marks) (x ∷ xs) (y ∷ ys) h = (of m x y h.0, alike_itself marks xs ys h.1)
   where
     one : (b : Bool) (v : ℕ) → IsSame b v v
@@ -127,7 +116,6 @@ alike_itself (m ∷ marks) (x ∷ xs) (y ∷ ys) h = (of m x y h.0, alike_itself
 
     of : (ms : List Bool) (vs ws : List ℕ) → AreLocalsAlike ms vs ws → AreLocalsAlike ms vs vs
     of [] [] ws h = tt
-    of [] (v ∷ vs) ws h = absurd h
-    of (n ∷ ms) [] ws h = absurd h
-    of (n ∷ ms) (v ∷ vs) [] h = absurd h
     of (n ∷ ms) (v ∷ vs) (w ∷ ws) h = (one n v, of ms vs ws h.1)
+    of ms vs ws h = absurd h
+alike_itself marks xs ys h = absurd h

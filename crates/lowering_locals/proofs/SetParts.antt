@@ -200,15 +200,14 @@ module _ (program : WithSets) where
         b.place fits notes_last (both_right _ _ ok)
         (both_right _ _ w) b.is_there b.end fs.of_last in
         let fine : IsFine program mid = subst (IsFine program) fs.same (b.fine y.leads y.regions) in
+        let begun : IsGuarded program name (region at (ends + 1) (kinds.Finally (k - 1))) = λ label
+        r. let g = in_region program at (ends + 1) label (kinds.Finally (k - 1)) r in
+        b.begun (sets program name label)
+        (above_body linear lists name body free seen at label q.is_there q.end g.0 g.1) in
         record {
           leads = q.leads b.begun x.leads;
           regions = all_append (IsGuarded program name) (statements_regions body at)
-              (region at (ends + 1) (kinds.Finally (k - 1)) ∷ []) x.regions (
-                (λ label r. let g = in_region program at (ends + 1) label (kinds.Finally (k - 1)) r
-                    in b.begun (sets program name label)
-                    (above_body linear lists name body free seen at label q.is_there q.end g.0 g.1)),
-                tt,
-              );
+              (region at (ends + 1) (kinds.Finally (k - 1)) ∷ []) x.regions (begun, tt);
           funclets = block_ranges program j (funclets body) k
               (funclets last) x.funclets fine y.funclets;
         }

@@ -164,11 +164,9 @@ module _ (program : LinearProgram) (sets : BodyName → ℕ → SeenNames) (name
             h = (reads_recorded (sets name at) seen slot here h.0, from label h.1.0 h.1.1, next)
         of (instructions.Call f first count) h = next
         of (instructions.CallBuiltIn f first) h = next
-        of (instructions.CallFinally k) h = absurd h
-        of (instructions.LocalUnwind label) h = absurd h
-        of (instructions.Landing to) h = absurd h
         of instructions.Separator h = next
         of (instructions.Return slot) h = reads_recorded (sets name at) seen slot here h
+        of i h = absurd h
 
     pub straight : (at : ℕ) (code : List Instruction) → lo ≤ at → at + length code ≤ hi
         → AllFine locals lo hi seen code → AllLead at code

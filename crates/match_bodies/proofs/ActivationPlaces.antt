@@ -133,26 +133,7 @@ module _ (t : Functions) (fs : List Funclet) (program : LinearProgram) (p : Imag
       let e = rises t m c (Unwinding r) s.0 in
       higher m (rsp c) (rsp r.walk) k base distance acts (omega arith)
       (are_there m r.walk is below acts k base distance s.1 h.1 i)
-  are_there m c [] (j ∷ items) acts k base distance s h i = absurd h
-  are_there m c (Framed f ∷ is) [] acts k base distance s h i = absurd h
-  are_there m c (Framed f ∷ is) (Searches exception resumption asked rest ∷ below) acts k base
-      distance s h i =
-      absurd h
-  are_there m c (Framed f ∷ is) (Unwinds rest target ∷ below) acts k base distance s h i = absurd h
-  are_there m c (Leaf back ∷ is) [] acts k base distance s h i = absurd h
-  are_there m c (Leaf back ∷ is) (Searches exception resumption asked rest ∷ below) acts k base
-      distance s h i =
-      absurd h
-  are_there m c (Leaf back ∷ is) (Unwinds rest target ∷ below) acts k base distance s h i = absurd h
-  are_there m c (Searching r ∷ is) [] acts k base distance s h i = absurd h
-  are_there m c (Searching r ∷ is) (Waits b ∷ below) acts k base distance s h i = absurd h
-  are_there m c (Searching r ∷ is) (Unwinds rest target ∷ below) acts k base distance s h i = absurd
-      h
-  are_there m c (Unwinding r ∷ is) [] acts k base distance s h i = absurd h
-  are_there m c (Unwinding r ∷ is) (Waits b ∷ below) acts k base distance s h i = absurd h
-  are_there m c (Unwinding r ∷ is) (Searches exception resumption asked rest ∷ below) acts k base
-      distance s h i =
-      absurd h
+  are_there m c is items acts k base distance s h i = absurd h
 
 pub activations_are_at : (t : Functions) (fs : List Funclet) (program : LinearProgram)
     (p : ImagePlan) → ActivationsAreAt t fs program p

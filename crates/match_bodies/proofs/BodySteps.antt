@@ -125,12 +125,7 @@ module _ (setting : Setting) (made : IsWellMade setting.program setting.plan) (s
       (around_here setting made s c b known) (free instructions.Separator e refl)
       (code_at setting made s c b known instructions.Separator e) (held_here setting made s c b
       known) (goes_inside setting made s c b known instructions.Separator e)
-  step (instructions.Information to field) e h rule = absurd h
-  step (instructions.Call f first count) e h rule = absurd h
-  step (instructions.CallBuiltIn f first) e h rule = absurd h
-  step (instructions.CallFinally k) e h rule = absurd h
-  step (instructions.LocalUnwind label) e h rule = absurd h
-  step (instructions.Return from) e h rule = absurd h
+  step i e h rule = absurd h
 
 pub within_body : StepsWithinBodiesAreMatched
 within_body t fs program p q image made s c i b known e h rule = step (setting_of t fs program p q

@@ -465,22 +465,7 @@ module _ (m m' : Memory) (t : Functions) (fs : List Funclet) (program : LinearPr
             outer.linked,
           );
         }
-    stored c [] (j ∷ items) acts s h i o fits keeps low = absurd h
-    stored c (Framed f ∷ is) [] acts s h i o fits keeps low = absurd h
-    stored c (Framed f ∷ is) (Searches exception resumption asked rest
-        ∷ below) acts s h i o fits keeps low = absurd h
-    stored c (Framed f ∷ is) (Unwinds rest target ∷ below) acts s h i o fits keeps low = absurd h
-    stored c (Leaf back ∷ is) [] acts s h i o fits keeps low = absurd h
-    stored c (Leaf back ∷ is) (Searches exception resumption asked rest
-        ∷ below) acts s h i o fits keeps low = absurd h
-    stored c (Leaf back ∷ is) (Unwinds rest target ∷ below) acts s h i o fits keeps low = absurd h
-    stored c (Searching d ∷ is) [] acts s h i o fits keeps low = absurd h
-    stored c (Searching d ∷ is) (Waits b ∷ below) acts s h i o fits keeps low = absurd h
-    stored c (Searching d ∷ is) (Unwinds rest target ∷ below) acts s h i o fits keeps low = absurd h
-    stored c (Unwinding d ∷ is) [] acts s h i o fits keeps low = absurd h
-    stored c (Unwinding d ∷ is) (Waits b ∷ below) acts s h i o fits keeps low = absurd h
-    stored c (Unwinding d ∷ is) (Searches exception resumption asked rest ∷ below) acts s h i o fits
-        keeps low = absurd h
+    stored c is items acts s h i o fits keeps low = absurd h
 
 pub activations_are_stored : (t : Functions) (fs : List Funclet) (program : LinearProgram)
     (p : ImagePlan) → ActivationsAreStored t fs program p

@@ -57,19 +57,10 @@ module _ (setting : Setting) where
             → FuncletIsAbove t fs program p k f o items
             → FuncletIsAbove t fs program p k (record f
             { next = label; temporaries = ts; landed = landed }) o items
-        by_funclet None items h = absurd h
-        by_funclet (Some g) [] h = absurd h
-        by_funclet (Some g) (Searches exception resumption asked rest ∷ []) h = absurd h
         by_funclet (Some g) (Searches exception resumption asked rest ∷ Waits w ∷ below) h = h
-        by_funclet (Some g) (Searches exception resumption asked rest ∷ Searches a b c d
-            ∷ below) h = absurd h
-        by_funclet (Some g) (Searches exception resumption asked rest ∷ Unwinds a b ∷ below) h =
-            absurd h
-        by_funclet (Some g) (Unwinds rest target ∷ []) h = absurd h
         by_funclet (Some g) (Unwinds rest target ∷ Waits w ∷ below) h = h
-        by_funclet (Some g) (Unwinds rest target ∷ Searches a b c d ∷ below) h = absurd h
-        by_funclet (Some g) (Unwinds rest target ∷ Unwinds a b ∷ below) h = absurd h
         by_funclet (Some g) (Waits w ∷ below) h = h
+        by_funclet o items h = absurd h
 
     -- a run of a template of this body
     pub record Ran (u : State) (d : BodyState) (values ts : List ℕ) : Type 0 where

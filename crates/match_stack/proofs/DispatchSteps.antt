@@ -155,25 +155,21 @@ module _ (t : Functions) (fs : List Funclet) (program : LinearProgram) (p : Imag
   onward_here : (m : Memory) (c : Context) (is : List StackItem) (b : Frame) (below : List Item)
       (acts : List Activation) → Linked t fs program p m c is (Waits b ∷ below) acts
       → Onward t fs program p c 0 (handlers program (Waits b ∷ below) None) c is (Waits b ∷ below)
-  onward_here m c [] b below acts h = absurd h
   onward_here m c (Framed f ∷ is) b below acts h = inl
       (record { same = refl; finds_handlers = refl })
   onward_here m c (Leaf back ∷ is) b below acts h = inl
       (record { same = refl; finds_handlers = refl })
-  onward_here m c (Searching r ∷ is) b below acts h = absurd h
-  onward_here m c (Unwinding r ∷ is) b below acts h = absurd h
+  onward_here m c is b below acts h = absurd h
 
   -- the space of the innermost body, with a record below it
   space_here : (m : Memory) (c : Context) (is : List StackItem) (b : Frame) (below : List Item)
       (acts : List Activation) (at : ℕ) → Linked t fs program p m c is (Waits b ∷ below) acts
       → rsp c ≤ at + record_room → HasSpace at (below_end + record_room) (length acts + b.held)
-  space_here m c [] b below acts at h near = absurd h
   space_here m c (Framed f ∷ is) b below acts at h near = with_record_below (rsp c) at
       (length acts + b.held) h.0.waits.space near
   space_here m c (Leaf back ∷ is) b below acts at h near = with_record_below (rsp c) at
       (length acts + b.held) h.0.waits.space near
-  space_here m c (Searching r ∷ is) b below acts at h near = absurd h
-  space_here m c (Unwinding r ∷ is) b below acts at h near = absurd h
+  space_here m c is b below acts at h near = absurd h
 
   near_of : (s : State) (saved : Cpu) (is : List StackItem) (items : List Item)
       (acts : List Activation) → AsksHost t fs program p s saved is items acts

@@ -37,19 +37,4 @@ module _ (t : Functions) (fs : List Funclet) (program : LinearProgram) (p : Imag
       let l = in_stack m (context_of r.saved) is below acts s.1 h.1 in omega arith
   in_stack m c (Unwinding r ∷ is) (Unwinds rest target ∷ below) acts s h = let e = rises t m c
       (Unwinding r) s.0 in let l = in_stack m r.walk is below acts s.1 h.1 in omega arith
-  in_stack m c [] (j ∷ items) acts s h = absurd h
-  in_stack m c (Framed f ∷ is) [] acts s h = absurd h
-  in_stack m c (Framed f ∷ is) (Searches exception resumption asked rest ∷ below) acts s h = absurd
-      h
-  in_stack m c (Framed f ∷ is) (Unwinds rest target ∷ below) acts s h = absurd h
-  in_stack m c (Leaf back ∷ is) [] acts s h = absurd h
-  in_stack m c (Leaf back ∷ is) (Searches exception resumption asked rest ∷ below) acts s h = absurd
-      h
-  in_stack m c (Leaf back ∷ is) (Unwinds rest target ∷ below) acts s h = absurd h
-  in_stack m c (Searching r ∷ is) [] acts s h = absurd h
-  in_stack m c (Searching r ∷ is) (Waits b ∷ below) acts s h = absurd h
-  in_stack m c (Searching r ∷ is) (Unwinds rest target ∷ below) acts s h = absurd h
-  in_stack m c (Unwinding r ∷ is) [] acts s h = absurd h
-  in_stack m c (Unwinding r ∷ is) (Waits b ∷ below) acts s h = absurd h
-  in_stack m c (Unwinding r ∷ is) (Searches exception resumption asked rest ∷ below) acts s h =
-      absurd h
+  in_stack m c is items acts s h = absurd h

@@ -266,19 +266,4 @@ module _ (m m' : Memory) (t : Functions) (fs : List Funclet) (program : LinearPr
           outer.linked,
         );
       }
-  list_kept c [] (j ∷ items) acts r s h = absurd h
-  list_kept c (Framed f ∷ is) [] acts r s h = absurd h
-  list_kept c (Framed f ∷ is) (Searches exception resumption asked rest ∷ below) acts r s h = absurd
-      h
-  list_kept c (Framed f ∷ is) (Unwinds rest target ∷ below) acts r s h = absurd h
-  list_kept c (Leaf back ∷ is) [] acts r s h = absurd h
-  list_kept c (Leaf back ∷ is) (Searches exception resumption asked rest ∷ below) acts r s h =
-      absurd h
-  list_kept c (Leaf back ∷ is) (Unwinds rest target ∷ below) acts r s h = absurd h
-  list_kept c (Searching d ∷ is) [] acts r s h = absurd h
-  list_kept c (Searching d ∷ is) (Waits b ∷ below) acts r s h = absurd h
-  list_kept c (Searching d ∷ is) (Unwinds rest target ∷ below) acts r s h = absurd h
-  list_kept c (Unwinding d ∷ is) [] acts r s h = absurd h
-  list_kept c (Unwinding d ∷ is) (Waits b ∷ below) acts r s h = absurd h
-  list_kept c (Unwinding d ∷ is) (Searches exception resumption asked rest ∷ below) acts r s h =
-      absurd h
+  list_kept c is items acts r s h = absurd h

@@ -318,28 +318,7 @@ module _ (t : Functions) (fs : List Funclet) (program : LinearProgram) (p : Imag
       (λ k base distance i. i) (λ to row found o. o) (λ depth label frame address a. a) _ _ _ refl
       (searched_plainly m acts is below r.walk r.row (Some rest) s.1 h.1 h.0.row
       (wide_walk r h.0.own.fits))
-  searched_plainly m acts [] (i ∷ items) c row left s h at wide = absurd h
-  searched_plainly m acts (Framed f ∷ is) [] c row left s h at wide = absurd h
-  searched_plainly m acts (Framed f ∷ is) (Searches exception resumption asked rest ∷ below) c row
-      left s h at wide =
-      absurd h
-  searched_plainly m acts (Framed f ∷ is) (Unwinds rest target ∷ below) c row left s h at wide =
-      absurd h
-  searched_plainly m acts (Leaf back ∷ is) [] c row left s h at wide = absurd h
-  searched_plainly m acts (Leaf back ∷ is) (Searches exception resumption asked rest ∷ below) c row
-      left s h at wide =
-      absurd h
-  searched_plainly m acts (Leaf back ∷ is) (Unwinds rest target ∷ below) c row left s h at wide =
-      absurd h
-  searched_plainly m acts (Searching r ∷ is) [] c row left s h at wide = absurd h
-  searched_plainly m acts (Searching r ∷ is) (Waits b ∷ below) c row left s h at wide = absurd h
-  searched_plainly m acts (Searching r ∷ is) (Unwinds rest target ∷ below) c row left s h at wide =
-      absurd h
-  searched_plainly m acts (Unwinding r ∷ is) [] c row left s h at wide = absurd h
-  searched_plainly m acts (Unwinding r ∷ is) (Waits b ∷ below) c row left s h at wide = absurd h
-  searched_plainly m acts (Unwinding r ∷ is) (Searches exception resumption asked rest ∷ below) c
-      row left s h at wide =
-      absurd h
+  searched_plainly m acts is items c row left s h at wide = absurd h
 
   -- from where it was suspended
   pub continues : (m : Memory) (acts : List Activation) (is : List StackItem) (items : List Item)

@@ -343,27 +343,7 @@ module _ (t : Functions) (fs : List Funclet) (program : LinearProgram) (p : Imag
       (let q = rises t m c (Unwinding r) s.0 in omega arith)
       (unwound_plainly held acts is below r.walk r.row (Some rest) s.1 h.1 h.0.row
       (wide_walk r h.0.own.fits) a e)
-  unwound_plainly held acts [] items c row left s h at wide a e = absurd a
-  unwound_plainly held acts (Framed f ∷ is) [] c row left s h at wide a e = absurd a
-  unwound_plainly held acts (Framed f ∷ is) (Searches exception resumption asked rest
-      ∷ below) c row left s h at wide a e = absurd a
-  unwound_plainly held acts (Framed f ∷ is) (Unwinds rest older
-      ∷ below) c row left s h at wide a e = absurd a
-  unwound_plainly held acts (Leaf back ∷ is) [] c row left s h at wide a e = absurd a
-  unwound_plainly held acts (Leaf back ∷ is) (Searches exception resumption asked rest
-      ∷ below) c row left s h at wide a e = absurd a
-  unwound_plainly held acts (Leaf back ∷ is) (Unwinds rest older
-      ∷ below) c row left s h at wide a e = absurd a
-  unwound_plainly held acts (Searching r ∷ is) [] c row left s h at wide a e = absurd a
-  unwound_plainly held acts (Searching r ∷ is) (Waits b ∷ below) c row left s h at wide a e =
-      absurd a
-  unwound_plainly held acts (Searching r ∷ is) (Unwinds rest older
-      ∷ below) c row left s h at wide a e = absurd a
-  unwound_plainly held acts (Unwinding r ∷ is) [] c row left s h at wide a e = absurd a
-  unwound_plainly held acts (Unwinding r ∷ is) (Waits b ∷ below) c row left s h at wide a e =
-      absurd a
-  unwound_plainly held acts (Unwinding r ∷ is) (Searches exception resumption asked rest
-      ∷ below) c row left s h at wide a e = absurd a
+  unwound_plainly held acts is items c row left s h at wide a e = absurd a
 
 pub unwinding_is_the_lists : UnwindingIsTheLists
 unwinding_is_the_lists t fs program p m c is items acts row left target frame address source events

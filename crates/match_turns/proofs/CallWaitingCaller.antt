@@ -135,20 +135,10 @@ module _ {setting : Setting} (at_call : AtCall setting) where
       by_funclet : (o : Option LinearFunclet) (items : List Item)
           → FuncletIsAbove t fs program p k c.frame o items
           → FuncletIsAbove t fs program p k (waiting c first).frame o items
-      by_funclet None items h = absurd h
-      by_funclet (Some g) [] h = absurd h
-      by_funclet (Some g) (Searches exception resumption asked rest ∷ []) h = absurd h
       by_funclet (Some g) (Searches exception resumption asked rest ∷ Waits w ∷ below) h = h
-      by_funclet (Some g) (Searches exception resumption asked rest ∷ Searches a b c d ∷ below)
-          h =
-          absurd h
-      by_funclet (Some g) (Searches exception resumption asked rest ∷ Unwinds a b ∷ below) h =
-          absurd h
-      by_funclet (Some g) (Unwinds rest target ∷ []) h = absurd h
       by_funclet (Some g) (Unwinds rest target ∷ Waits w ∷ below) h = h
-      by_funclet (Some g) (Unwinds rest target ∷ Searches a b c d ∷ below) h = absurd h
-      by_funclet (Some g) (Unwinds rest target ∷ Unwinds a b ∷ below) h = absurd h
       by_funclet (Some g) (Waits w ∷ below) h = h
+      by_funclet o items h = absurd h
 
   abbrev in_body : InBody setting later (waiting c first)
   in_body = record {

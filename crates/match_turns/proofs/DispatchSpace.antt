@@ -18,32 +18,24 @@ module _ (t : Functions) (fs : List Funclet) (program : LinearProgram) (p : Imag
   body_space : (m : Memory) (c : Context) (is : List StackItem) (f : Frame) (below : List Item)
       (acts : List Activation) → Linked t fs program p m c is (Waits f ∷ below) acts
       → HasSpace (rsp c) below_end (length acts + f.held)
-  body_space m c [] f below acts h = absurd h
   body_space m c (Framed x ∷ is) f below acts h = h.0.waits.space
   body_space m c (Leaf back ∷ is) f below acts h = h.0.waits.space
-  body_space m c (Searching r ∷ is) f below acts h = absurd h
-  body_space m c (Unwinding r ∷ is) f below acts h = absurd h
+  body_space m c is f below acts h = absurd h
 
   pub search_space : (m : Memory) (c : Context) (is : List StackItem) (exception : Exception)
       (resumption : Resumption) (asked : Handler) (rest : List Handler) (f : Frame)
       (below : List Item) (acts : List Activation)
       → Linked t fs program p m c is (Searches exception resumption asked rest ∷ Waits f ∷ below)
       acts → HasRecordSpace (rsp c) (length acts + f.held)
-  search_space m c [] exception resumption asked rest f below acts h = absurd h
-  search_space m c (Framed x ∷ is) exception resumption asked rest f below acts h = absurd h
-  search_space m c (Leaf back ∷ is) exception resumption asked rest f below acts h = absurd h
-  search_space m c (Unwinding r ∷ is) exception resumption asked rest f below acts h = absurd h
   search_space m c (Searching r ∷ is) exception resumption asked rest f below acts h =
       let near = h.0.near in
       let s = (body_space m _ is f below acts h.1).space in
       record { space = omega arith }
+  search_space m c is exception resumption asked rest f below acts h = absurd h
 
   pub unwind_space : (m : Memory) (c : Context) (is : List StackItem) (rest : List Region)
       (target : Target) (items : List Item) (acts : List Activation)
       → Linked t fs program p m c is (Unwinds rest target ∷ items) acts
       → HasRecordSpace (rsp c) (length acts + target.held)
-  unwind_space m c [] rest target items acts h = absurd h
-  unwind_space m c (Framed x ∷ is) rest target items acts h = absurd h
-  unwind_space m c (Leaf back ∷ is) rest target items acts h = absurd h
-  unwind_space m c (Searching r ∷ is) rest target items acts h = absurd h
   unwind_space m c (Unwinding r ∷ is) rest target items acts h = record { space = h.0.space.space }
+  unwind_space m c is rest target items acts h = absurd h

@@ -30,20 +30,14 @@ module _ (t : Functions) (fs : List Funclet) (program : LinearProgram) (p : Imag
       (acts : List Activation)
       → IsStack t m c is → Linked t fs program p m c is
       (Searches exception resumption asked rest ∷ items) acts → IsSearchOnTop c is
-  search_on_top m c [] exception resumption asked rest items acts s h = absurd h
-  search_on_top m c (Framed f ∷ is) exception resumption asked rest items acts s h = absurd h
-  search_on_top m c (Leaf back ∷ is) exception resumption asked rest items acts s h = absurd h
-  search_on_top m c (Unwinding r ∷ is) exception resumption asked rest items acts s h = absurd h
   search_on_top m c (Searching r ∷ is) exception resumption asked rest items acts s h =
       record { dispatch = r; others = is; items = refl; at_host = s.0.at_host }
+  search_on_top m c is exception resumption asked rest items acts s h = absurd h
 
   pub unwinding_on_top : (m : Memory) (c : Context) (is : List StackItem) (rest : List Region)
       (target : Target) (items : List Item) (acts : List Activation)
       → IsStack t m c is → Linked t fs program p m c is (Unwinds rest target ∷ items) acts
       → IsUnwindingOnTop c is
-  unwinding_on_top m c [] rest target items acts s h = absurd h
-  unwinding_on_top m c (Framed f ∷ is) rest target items acts s h = absurd h
-  unwinding_on_top m c (Leaf back ∷ is) rest target items acts s h = absurd h
-  unwinding_on_top m c (Searching r ∷ is) rest target items acts s h = absurd h
   unwinding_on_top m c (Unwinding r ∷ is) rest target items acts s h =
       record { dispatch = r; others = is; items = refl; at_host = s.0.at_host }
+  unwinding_on_top m c is rest target items acts s h = absurd h

@@ -28,8 +28,6 @@ module _ (t : Functions) (fs : List Funclet) (program : LinearProgram) (p : Imag
   filter_is_asked : (k : ℕ) (b : Frame) (f : LinearFunclet) (items : List Item)
       → f.kind ≡ funclets.Filter → FuncletIsAbove t fs program p k b (Some f) items
       → IsAsked b.exception items
-  filter_is_asked k b f [] e h = absurd h
-  filter_is_asked k b f (Searches exception resumption asked rest ∷ []) e h = absurd h
   filter_is_asked k b f (Searches exception resumption asked rest ∷ Waits w ∷ below) e h =
       let alike = h.1 in record {
         searched = exception;
@@ -40,16 +38,10 @@ module _ (t : Functions) (fs : List Funclet) (program : LinearProgram) (p : Imag
         items_are = refl;
         same = alike.1;
       }
-  filter_is_asked k b f (Searches exception resumption asked rest ∷ Searches x y z v ∷ below) e h =
-      absurd h
-  filter_is_asked k b f (Searches exception resumption asked rest ∷ Unwinds x y ∷ below) e h =
-      absurd h
-  filter_is_asked k b f (Unwinds rest target ∷ []) e h = absurd h
   filter_is_asked k b f (Unwinds rest target ∷ Waits w ∷ below) e h = absurd
       (no_block k h.0 (sym e ∙ h.1))
-  filter_is_asked k b f (Unwinds rest target ∷ Searches x y z v ∷ below) e h = absurd h
-  filter_is_asked k b f (Unwinds rest target ∷ Unwinds x y ∷ below) e h = absurd h
   filter_is_asked k b f (Waits w ∷ below) e h = absurd (no_block k h.0 (sym e ∙ h.1))
+  filter_is_asked k b f items e h = absurd h
 
   asked_by : (b : Frame) (items : List Item) → IsFilterBody program b.body
       → IsAbove t fs program p b b.body items → IsAsked b.exception items
@@ -72,10 +64,6 @@ module _ (t : Functions) (fs : List Funclet) (program : LinearProgram) (p : Imag
       (below : List Item)
       → IsStack t m c is → Linked t fs program p m c is
       (Searches exception resumption asked rest ∷ below) acts → HasRecord m c exception
-  record_on_top m c [] acts exception resumption asked rest below s l = absurd l
-  record_on_top m c (Framed f ∷ is) acts exception resumption asked rest below s l = absurd l
-  record_on_top m c (Leaf back ∷ is) acts exception resumption asked rest below s l = absurd l
-  record_on_top m c (Unwinding r ∷ is) acts exception resumption asked rest below s l = absurd l
   record_on_top m c (Searching r ∷ is) acts exception resumption asked rest below s l =
       let top = in_stack t fs program p m (context_of r.saved) is below acts s.1 l.1 in
       let a = s.0.above in
@@ -87,6 +75,7 @@ module _ (t : Functions) (fs : List Funclet) (program : LinearProgram) (p : Imag
         fits = l.0.own.fits;
         high = omega arith;
       }
+  record_on_top m c is acts exception resumption asked rest below s l = absurd l
 
   module _ (q : Sites) (s : State) (c : Configuration) (b : RepresentsAt t fs program p q s c) where
     abbrev sp : ℕ
@@ -131,9 +120,7 @@ module _ (t : Functions) (fs : List Funclet) (program : LinearProgram) (p : Imag
     width_most : (field : Field) → IsField field
         → field_at field + bytes_of (field_width field) ≤ 152
     width_most ExceptionCode is = omega arith
-    width_most ExceptionFlags is = omega arith
-    width_most NumberParameters is = omega arith
-    width_most (ExceptionInformation k) is = omega arith
+    width_most field is = omega arith
 
     -- what a filter reads is its exception's
     pub record ReadsException (field : Field) : Type 0 where

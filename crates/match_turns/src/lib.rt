@@ -1,6 +1,7 @@
 //! Steps of linear code that leave their body, each matched by turns of the machine: calls and
 //! returns, filters and `__finally` blocks, services, raises, faults, local unwinds, and the
-//! answers of filters. Begin reading with `specs/DispatchOutcome`, then the laws of each kind of step.
+//! answers of filters. Begin reading with `specs/DispatchOutcome`, then the laws of each kind of
+//! step.
 #![tactic(auto)]
 
 pub mod block_laws;

@@ -44,10 +44,7 @@ keep_length y (Local i) = keep_local_length y.base (local_at y i)
 
 pub before_length : (o : Operation) → length (before o) ≤ 1
 before_length (operations.Pure p) = omega arith
-before_length (operations.Divide s z) = omega arith
-before_length (operations.Remainder s z) = omega arith
-before_length (operations.Load w) = omega arith
-before_length (operations.Store w) = omega arith
+before_length o = omega arith
 
 extended_length : (s : Signedness) (n : Width) (z : Size) → length (extended s n z) ≤ 3
 extended_length Unsigned W8 z = omega arith
@@ -62,34 +59,18 @@ extended_length Signed W64 z = omega arith
 
 compare_length : (r : Relation) (s : Signedness) (w : Width) → length (compare r s w) ≤ 3
 compare_length relations.Equal s w = omega arith
-compare_length relations.NotEqual s w = omega arith
-compare_length relations.Less s w = omega arith
-compare_length relations.LessOrEqual s w = omega arith
-compare_length relations.Greater s w = omega arith
-compare_length relations.GreaterOrEqual s w = omega arith
+compare_length r s w = omega arith
 
 pure_length : (p : Pure) → length (pure_code p) ≤ 3
 pure_length (pures.Extend s n z) = extended_length s n z
 pure_length (pures.Compare r s z) = compare_length r s (width z)
 pure_length (pures.Constant v) = omega arith
-pure_length pures.First = omega arith
-pure_length (pures.Not z) = omega arith
-pure_length (pures.Negate z) = omega arith
-pure_length (pures.Add z) = omega arith
-pure_length (pures.Subtract z) = omega arith
-pure_length (pures.Multiply z) = omega arith
-pure_length (pures.And z) = omega arith
-pure_length (pures.Or z) = omega arith
-pure_length (pures.Xor z) = omega arith
-pure_length (pures.ShiftLeft z) = omega arith
-pure_length (pures.ShiftRight s z) = omega arith
+pure_length p = omega arith
 
 pub work_length : (o : Operation) → length (work o) ≤ 3
 work_length (operations.Pure p) = pure_length p
 work_length (operations.Divide s z) = omega arith
-work_length (operations.Remainder s z) = omega arith
-work_length (operations.Load w) = omega arith
-work_length (operations.Store w) = omega arith
+work_length o = omega arith
 
 pub compute_length : (y : Layout) (to : Slot) (o : Operation) (first second : Slot)
     → length (compute_code y to o first second) ≤ 10

@@ -213,7 +213,8 @@ pub fn caller_at<S: ReadSpace>(
 ) -> Result<Caller, UnwindErr>
     requires { TablesAreWhole tables.now }
     ensures { result ≡ shown (spec.caller_in
-        (record { base = base; entries = entries_of tables.now }) (S.memory space.now) context.now) }
+        (record { base = base; entries = entries_of tables.now })
+        (S.memory space.now) context.now) }
 {
     let rva = context.rip.wrapping_sub(base);
     let entry = tables.lookup(rva);

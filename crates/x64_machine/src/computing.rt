@@ -64,11 +64,14 @@ fn compare<S: AddressSpace>(
     second: &Operand,
 ) -> Result<(), Stop>
     ensures answer { result ≡ done_of
-        (spec.compare (spec.state cpu.old (S.memory space.now)) operation width first.now second.now) }
+        (spec.compare (spec.state cpu.old (S.memory space.now))
+        operation width first.now second.now) }
     ensures cpu { cpu.new ≡ cpu_after cpu.old
-        (spec.compare (spec.state cpu.old (S.memory space.now)) operation width first.now second.now) }
+        (spec.compare (spec.state cpu.old (S.memory space.now))
+        operation width first.now second.now) }
     ensures memory { LeavesMemory (S.memory space.now) (S.memory space.now)
-        (spec.compare (spec.state cpu.old (S.memory space.now)) operation width first.now second.now) }
+        (spec.compare (spec.state cpu.old (S.memory space.now))
+        operation width first.now second.now) }
 {
     let second = operand(cpu, space, width, second)?;
     let first = read(cpu, space, width, first)?;
@@ -95,11 +98,14 @@ fn arithmetic<S: AddressSpace>(
     from: &Operand,
 ) -> Result<(), Stop>
     ensures answer { result ≡ done_of
-        (spec.arithmetic (spec.state cpu.old (S.memory space.old)) operation width to.now from.now) }
+        (spec.arithmetic (spec.state cpu.old (S.memory space.old))
+        operation width to.now from.now) }
     ensures cpu { cpu.new ≡ cpu_after cpu.old
-        (spec.arithmetic (spec.state cpu.old (S.memory space.old)) operation width to.now from.now) }
+        (spec.arithmetic (spec.state cpu.old (S.memory space.old))
+        operation width to.now from.now) }
     ensures memory { LeavesMemory (S.memory space.old) (S.memory space.new)
-        (spec.arithmetic (spec.state cpu.old (S.memory space.old)) operation width to.now from.now) }
+        (spec.arithmetic (spec.state cpu.old (S.memory space.old))
+        operation width to.now from.now) }
 {
     if is_compare(operation) {
         compare(cpu, space, operation, width, to, from)

@@ -1,6 +1,6 @@
 use Rattle.std.proofs.Common.{◌≡◌, ℕ, map, List, sym, ap, ◌∙◌, subst, arith}
 use Rattle.std.proofs.lemmas.Result.{err_from_is_err_and, IfOk-weaker, IfErr-weaker}
-use Rattle.c_parse_expr.specs.Words.{Punctuator, Token, Expression, Call, Parentheses, Cast, expression, arguments, height, heights, SpellsExpression, Derives, follows, Stops, Closes, IsPunctuator, Operation, with, NoExpression, HasExpression, NoOperand, NoArguments, HasArguments, NoneAfterPunctuator, HasAfterPunctuator, AreListed, IsAfterPunctuator, IsPlacedRefusal}
+use Rattle.c_parse_expr.specs.Words.{Punctuator, Token, Expression, Parentheses, Cast, expression, arguments, height, heights, Derives, follows, Stops, Closes, IsPunctuator, Operation, with, NoExpression, HasExpression, NoOperand, NoArguments, HasArguments, NoneAfterPunctuator, HasAfterPunctuator, AreListed, IsAfterPunctuator, IsPlacedRefusal}
 use Rattle.c_lex.specs.declared.punctuator.Punctuator.TheVariants as punctuators
 use Rattle.c_syntax.specs.declared.expression.Expr.{Expr}
 use Rattle.c_syntax.specs.Steps as steps
@@ -26,18 +26,21 @@ pub expression-returns-in_err-left-clause-refused :
 expression-returns-in_err-left-clause-refused t c =
     let p = err_from_is_err_and c.from_residual.result c.from_residual.ensures.1 in
     rw (p.1, p.2) (placed_so c.in_err-left.field-0.0 _ _ _ _ _ _ _
-        (operand_wraps c.args.level c.args.room c.args.text.now c.args.tokens.now)
-        c.in_err-left.ensures.refused)
+    (operand_wraps c.args.level c.args.room c.args.text.now c.args.tokens.now)
+    c.in_err-left.ensures.refused)
 
 pub expression-loop-alloc-init : goal.expression-loop-alloc-init
-expression-loop-alloc-init t c = (c.in_ok-left.ensures.low, c.in_ok-left.ensures.found.derives,
-    c.in_ok-left.ensures.found.closes)
+expression-loop-alloc-init t c = (
+  c.in_ok-left.ensures.low,
+  c.in_ok-left.ensures.found.derives,
+  c.in_ok-left.ensures.found.closes,
+)
 
 pub expression-returns-in_err-following-clause-refused :
     goal.expression-returns-in_err-following-clause-refused
 expression-returns-in_err-following-clause-refused t c =
     let p = err_from_is_err_and c.from_residual-in_err-following.result
-        c.from_residual-in_err-following.ensures.1 in
+    c.from_residual-in_err-following.ensures.1 in
     let f = c.follows.ensures in
     let g = c.loop-alloc-test.true in
     let h = c.loop-alloc.left.exact in
@@ -58,7 +61,7 @@ expression-loop-alloc-preserved t c =
     let s = code_steps.step c.in_ok-following.following.step in
     let mid = c.in_ok-following.following.rest.now in
     let made : expression c.in_ok-left-2.left.expr ≡ steps.apply left s =
-        c.in_ok-left-2.ensures.made in
+    c.in_ok-left-2.ensures.made in
     let rest : c.in_ok-left-2.left.rest.now ≡ mid = c.in_ok-left-2.ensures.rest in
     let found = c.in_ok-following.ensures.found in
     let d : Derives text c.args.level (steps.apply left s) ts mid = continues text c.args.level left
@@ -73,7 +76,7 @@ expression-loop-alloc-preserved t c =
       omega arith,
       subst (λ (x : Expression). Derives text c.args.level x ts c.in_ok-left-2.left.rest.now)
           (sym made) (subst (λ (z : List Token). Derives text c.args.level
-              (steps.apply left s) ts z)
+          (steps.apply left s) ts z)
           (sym rest) d),
       subst (λ (x : Expression). Closes x c.in_ok-left-2.left.rest.now) (sym made)
           (subst (λ (z : List Token). Closes (steps.apply left s) z) (sym rest) found.closes),
@@ -183,7 +186,7 @@ chosen-returns-in_err-first-clause-refused t c =
 pub chosen-returns-in_err-second-clause-refused : goal.chosen-returns-in_err-second-clause-refused
 chosen-returns-in_err-second-clause-refused t c =
     let p = err_from_is_err_and c.from_residual-in_err-second.result
-        c.from_residual-in_err-second.ensures.1 in
+    c.from_residual-in_err-second.ensures.1 in
     let x = c.in_ok-first.first.exact in
     let low = c.in_ok-first.ensures.low in
     rw (p.1, p.2) (placed_so c.in_err-second.field-0.0 _ _ _ _ _ _ _
@@ -200,7 +203,7 @@ operated-returns-in_err-inner-in-Index-clause-refused t c =
     (HasAfterPunctuator c.args.room o c.args.at) c.args.text.now c.args.tokens.now)
     (sym c.in-Index.is)
     (placed_so e _ _ _ _ _ _ _ (index_wraps c.args.room c.args.at c.args.text.now c.args.tokens.now)
-        c.in_err-inner-in-Index.ensures.refused))
+    c.in_err-inner-in-Index.ensures.refused))
 
 pub operated-returns-in_err-value-in-Infix-clause-refused :
     goal.operated-returns-in_err-value-in-Infix-clause-refused
@@ -209,7 +212,7 @@ operated-returns-in_err-value-in-Infix-clause-refused t c =
     let k = c.in_err-value-in-Infix in
     let e = k.field-0.0 in
     let p = err_from_is_err_and c.from_residual-in_err-value-in-Infix.result
-        c.from_residual-in_err-value-in-Infix.ensures.1 in
+    c.from_residual-in_err-value-in-Infix.ensures.1 in
     let h = subst (λ (l : ℕ). IsPlacedRefusal e (NoExpression l c.args.room)
     (HasExpression l c.args.room) c.args.text.now c.args.tokens.now) c.right.ensures
     k.ensures.refused in
@@ -217,7 +220,7 @@ operated-returns-in_err-value-in-Infix-clause-refused t c =
     (HasAfterPunctuator c.args.room o c.args.at) c.args.text.now c.args.tokens.now)
     (sym c.in-Infix.is)
     (placed_so e _ _ _ _ _ _ _ (right_wraps c.args.room op c.args.at c.args.text.now
-        c.args.tokens.now) h))
+    c.args.tokens.now) h))
 
 pub operated-returns-in_ok-right-in-Infix-clause-found :
     goal.operated-returns-in_ok-right-in-Infix-clause-found
@@ -233,11 +236,11 @@ operated-returns-in_ok-right-in-Infix-clause-found t c =
     let rest = k.value.rest.now in
     let q = c.right.ensures in
     subst (λ (x : Expr). IsAfterPunctuator text c.args.operation at
-        (with op at (expression x)) ts rest) (sym same)
+    (with op at (expression x)) ts rest) (sym same)
     (subst (λ (o : Operation). IsAfterPunctuator text o at (with op at e) ts rest)
-        (sym c.in-Infix.is)
+    (sym c.in-Infix.is)
     (right_after text op at e ts rest (subst (λ (l : ℕ). Derives text l e ts rest) q
-        k.ensures.found) (subst (λ (l : ℕ). Stops l rest) q k.ensures.stops)))
+    k.ensures.found) (subst (λ (l : ℕ). Stops l rest) q k.ensures.stops)))
 
 -- ---- operands
 
@@ -304,7 +307,7 @@ signed-returns-in_err-inner-clause-refused t c =
 pub signed-returns-in_err-inner-2-clause-refused : goal.signed-returns-in_err-inner-2-clause-refused
 signed-returns-in_err-inner-2-clause-refused t c =
     let p = err_from_is_err_and c.from_residual-in_err-inner-2.result
-        c.from_residual-in_err-inner-2.ensures.1 in
+    c.from_residual-in_err-inner-2.ensures.1 in
     rw (p.1, p.2) (placed_so c.in_err-inner-2.field-0.0 _ _ _ _ _ _ _
     (unary_wraps c.args.level c.args.room c.args.punctuator c.in-Some-unary_of.operator c.args.at
     c.args.text.now c.args.tokens.now c.args.rest.now c.requires.level
@@ -319,7 +322,7 @@ signed-returns-in-Some-clause-found t c =
     let k = c.in_ok-inner in
     let level = c.requires.level in
     let h = subst (λ (z : Punctuator). IsPunctuator z c.args.at c.args.tokens.now c.args.rest.now) q
-        c.requires.punctuator in
+    c.requires.punctuator in
     rw c.in_ok-expr.ensures.made
     (prefix_derived c.args.text.now c.args.level c.args.at op (expression k.inner.expr)
     c.args.tokens.now c.args.rest.now k.inner.rest.now (omega arith) h k.ensures.found
@@ -332,7 +335,7 @@ signed-returns-in-Some-unary_of-clause-found t c =
     let k = c.in_ok-inner-2 in
     let level = c.requires.level in
     let h = subst (λ (z : Punctuator). IsPunctuator z c.args.at c.args.tokens.now c.args.rest.now) q
-        c.requires.punctuator in
+    c.requires.punctuator in
     rw c.in_ok-expr-2.ensures.made
     (unary_derived c.args.text.now c.args.level c.args.at op (expression k.inner.expr)
     c.args.tokens.now c.args.rest.now k.inner.rest.now (omega arith) h k.ensures.found
@@ -403,8 +406,8 @@ pub arguments-returns-then-room-eq0-clause-refused :
     goal.arguments-returns-then-room-eq0-clause-refused
 arguments-returns-then-room-eq0-clause-refused t c =
     subst (λ (z : ℕ). IsPlacedRefusal c.no_argument.result (NoArguments z)
-        (HasArguments z) c.args.text.now c.args.tokens.now)
-        (sym c.if-room-eq0.true) c.no_argument.ensures
+    (HasArguments z) c.args.text.now c.args.tokens.now)
+    (sym c.if-room-eq0.true) c.no_argument.ensures
 
 pub arguments-returns-in_err-first-clause-refused :
     goal.arguments-returns-in_err-first-clause-refused
@@ -418,7 +421,7 @@ arguments-returns-in_err-first-clause-refused t c =
 pub arguments-returns-in_err-next-clause-refused : goal.arguments-returns-in_err-next-clause-refused
 arguments-returns-in_err-next-clause-refused t c =
     let p = err_from_is_err_and c.from_residual-in_err-next.result
-        c.from_residual-in_err-next.ensures.1 in
+    c.from_residual-in_err-next.ensures.1 in
     let i = c.loop-following.invariant in
     let a = i.low in
     let b = i.exact in
@@ -443,7 +446,7 @@ arguments-loop-following-preserved t c =
     let old = c.loop-following.exprs.items in
     let e = expression c.in_ok-next.next.expr in
     let q = ap (map expression) c.in_ok-push-2.ensures.items
-        ∙ mapped_after expression old c.in_ok-next.next.expr in
+    ∙ mapped_after expression old c.in_ok-next.next.expr in
     let r = positive c.args.room i.some_room in
     let a = c.higher-over.ensures in
     let b = c.in_ok-next.ensures.low in
