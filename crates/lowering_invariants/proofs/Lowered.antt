@@ -7,10 +7,12 @@ use Rattle.std.specs.Prelude.{true, slice_get, option_map, Option, Some, None}
 use Rattle.lowering_invariants.specs.Words.{Program, Function, IsSound, funclets, count_up, function_sound, functions_sound, Temporary, LinearBody, LinearFunction, LinearFunclet, FunctionBody, FuncletBody, function_body, funclet_body, body_of, Owner, constant, statements_code, own_locals, all_locals, scope_of, lowered_function, lowered_funclets, all_funclets, lowered, IsCalled, IsCallee, IsBodyOf, AreBodies, LoweredIsWhole}
 use Rattle.c_checked.specs.Sound as sound
 use Rattle.linear_code.specs.declared.instruction.Instruction.TheVariants as instructions
-use Rattle.lowering_invariants.proofs.Lemmas.{Range, part_of, both_parts, no_part, one_part, statements_count, count_front, count_back, IsSegmentAt, front, back, whole_is_at, both_left, both_right, lowered_is_linked, inside_function, knows_function}
+use Rattle.lowering_invariants.proofs.Lemmas.{Range, part_of, both_parts, no_part, one_part, statements_count, count_front, count_back, IsSegmentAt, front, back, whole_is_at, both_left, both_right, lowered_is_linked}
 use Rattle.lowering_invariants.proofs.Calls.{append}
 use Rattle.lowering_invariants.proofs.StackTargets.{same_it, all_at}
-use Rattle.lowering_invariants.proofs.Wholes.{Fine, all_are_at}
+use Rattle.lowering_invariants.proofs.Wholes.{Fine}
+use Rattle.lowering_invariants.proofs.Wholes.{statements_have, typed}
+use Rattle.lowering_follows.proofs.SoundStatements.{function_fits}
 
 module _ (program : Program) where
   callee : (f count : ℕ) → IsCalled program f count → IsCallee (lowered program) f count
@@ -27,7 +29,7 @@ module _ (program : Program) where
       → IsBodyOf (lowered program) (FunctionBody k) b
 
   abbrev Tidy : ℕ → Type 0
-  Tidy k = Fine program (lowered program) callee k
+  Tidy k = Fine (lowered program) k
 
   function_is_at : (fn : Function) (number j : ℕ) → function_sound program.functions fn ≡ true
       → slice_get (lowered program).functions number ≡ Some (lowered_function fn)
@@ -40,17 +42,17 @@ module _ (program : Program) where
       let owner : Owner = record { function = number; locals = all_locals fn; parent = None } in
       let code = statements_code (scope_of fn) fn.body 0 in
       let ends = constant 0 0 ∷ instructions.Return (Temporary 0) ∷ [] in
-      let x = all_are_at program linear callee (own_locals fn) fn.body (FunctionBody number) body
-      (ap function_body there) (inside_function program fn) (knows_function program fn)
-      (scope_of fn) owner
-      (record { parent = refl; function = refl }) 0 j
-      (both_left _ _ (both_left _ _ ok)) (front body.code 0 code ends (whole_is_at body.code)) f
-      c in
+      let there' = ap function_body there in
+      let fits = function_fits program fn ok in
+      let x = statements_have program linear callee (own_locals fn) fn.body (FunctionBody number)
+      owner (record { parent = refl; function = refl }) (scope_of fn).names 0 fits j f c in
+      let y = typed program linear callee (own_locals fn) (FunctionBody number) body there' fn.body
+      (scope_of fn) 0 fits x.named (front body.code 0 code ends (whole_is_at body.code)) in
       let whole : IsBodyOf linear (FunctionBody number)
       body = record {
-        regions = x.regions;
+        regions = y.1;
         code = append program linear callee
-            (FunctionBody number) code ends x.calls (tt, (tt, tt));
+            (FunctionBody number) code ends y.0 (tt, (tt, tt));
       } in (
         (λ b e. subst (IsBodyOf linear (FunctionBody number))
             (same_it body b (sym (ap function_body there) ∙ e)) whole),

@@ -1,22 +1,36 @@
 -- What the regions and calls of lowered statements name is there, and so it is in their filters and
 -- `__finally` blocks.
-use Rattle.std.proofs.Common.{◌≡◌, ℕ, ◌+◌, ◌-◌, List, [], ◌∷◌, ◌++◌, length, refl, sym, ap, subst, ◌∙◌, arith, length-append}
+use Rattle.std.proofs.Common.{◌≡◌, ℕ, ◌+◌, ◌-◌, ◌<◌, List, [], ◌∷◌, ◌++◌, length, refl, sym, ap, subst, ◌∙◌, arith, append_assoc, length-append}
 use Rattle.std.specs.List.{AllByRecursion}
 use Rattle.std.specs.Prelude.{true, false, slice_get, Option, Some, None}
-use Rattle.lowering_invariants.specs.Words.{Expression, Program, funclets, count_up, Inside, funclets_in, optional_sound, test_sound, value_fits, declared_sound, all_declared_sound, result_sound, filter_sound, expression_sound, statement_sound, statements_sound, Declared, Filter, Always, Funclet, Statement, Declare, Block, Evaluate, If, IfElse, For, DoWhile, Return, Break, Continue, Leave, TryExcept, TryFinally, Statements, Empty, Then, Local, Temporary, Instruction, Jump, JumpIfZero, Separator, CallFinally, Region, LinearProgram, LinearBody, LinearFunclet, BodyName, FuncletBody, funclet_body, body_of, instruction_in, expression_size, statements_size, discarded_size, condition_size, declared_size, all_declared_size, statement_size, Owner, Names, Way, Nowhere, Jumps, LoweringContext, except_names, filter_names, finally_names, finally_scope, in_loop, in_try, in_except, in_guarded, expression_code, return_code, returned_code, repeated, statements_code, jump_code, leave_code, discarded_code, condition_code, initialiser_code, declared_code, all_declared_code, landed, statement_code, statements_regions, except_kind, region, statement_regions, finally_funclet, filter_funclets, in_funclet, statement_funclets, statements_funclets, IsCalled, IsFinallyKind, function_of, owner_of, IsFuncletOf, IsLanding, IsKindOf, IsRegionOf, IsCallee, IsInstructionOf, IsBodyOf, parent_of}
+use Rattle.lowering_invariants.specs.Words.{Expression, Program, funclets, count_up, funclets_in, Filter, Always, Funclet, Statement, Declare, Block, Evaluate, If, IfElse, For, DoWhile, Return, Break, Continue, Leave, TryExcept, TryFinally, Statements, Empty, Then, Local, Instruction, Region, LinearProgram, LinearBody, LinearFunclet, BodyName, FuncletBody, funclet_body, body_of, instruction_in, expression_size, statements_size, discarded_size, condition_size, all_declared_size, statement_size, Owner, Names, Way, Nowhere, Jumps, LoweringContext, except_names, filter_names, finally_names, finally_scope, expression_code, return_code, returned_code, statements_code, statements_regions, except_kind, region, statement_regions, finally_funclet, filter_funclets, in_funclet, statement_funclets, statements_funclets, IsCalled, IsFinallyKind, function_of, owner_of, IsFuncletOf, IsKindOf, IsRegionOf, IsCallee, IsBodyOf, parent_of}
 use Rattle.c_checked.specs.Sound.{filter_funclet}
-use Rattle.c_operations.specs.declared.operation.Size.{Size}
-use Rattle.c_checked.specs.Sound as sound
 use Rattle.linear_code.specs.declared.instruction.Instruction.TheVariants as instructions
+use Rattle.linear_code.specs.declared.program.RegionKind.{RegionKind}
 use Rattle.linear_code.specs.declared.program.RegionKind.TheVariants as kinds
-use Rattle.lowering_invariants.proofs.Lemmas.{Range, part_of, both_parts, no_part, one_part, expression_length, discarded_length, condition_length, all_declared_length, statement_length, statements_length, filter_count, statement_count, statements_count, count_front, count_back, counted, IsSegmentAt, front, back, whole_is_at, both_left, both_right, Knows, expression_fits, all_append}
+use Rattle.lowering_invariants.proofs.Lemmas.{Range, part_of, both_parts, no_part, one_part, filter_count, statement_count, statements_count, count_front, count_back, counted, IsSegmentAt, front, back, whole_is_at, both_right, all_append}
 use Rattle.lowering_expressions.specs.declared.scope.Way.TheVariants.{Unwinds}
 use Rattle.seh_ir.specs.Funclets as funclets_of
 use Rattle.lowering_invariants.proofs.Calls.{AllCall, append, expression_calls}
 use Rattle.lowering_invariants.proofs.StackTargets.{same_it}
+use Rattle.seh_ir.proofs.StatementParts.{FilterHas, OptionalHas, StatementHas}
+use Rattle.seh_ir.proofs.EveryStatement.{HoldsOfPieces, any_neutral, any_place, any_ways, statements_every}
+use Rattle.lowering_sizes.specs.Sizes.{statements_notes}
+use Rattle.lowering_invariants.specs.Words.{ExpressionFits}
+use Rattle.lowering_invariants.specs.Bodies.{IsFilterKind}
+use Rattle.lowering_follows.proofs.SoundStatements.{StatementsFit}
 
-module _ (program : Program) (linear : LinearProgram)
-    (callee : (f count : ℕ) → IsCalled program f count → IsCallee linear f count) where
+all_front : {X : Type 0} (P : X → Type 0) (xs ys : List X) → AllByRecursion P (xs ++ ys)
+    → AllByRecursion P xs
+all_front P [] ys h = tt
+all_front P (x ∷ xs) ys h = (h.0, all_front P xs ys h.1)
+
+all_back : {X : Type 0} (P : X → Type 0) (xs ys : List X) → AllByRecursion P (xs ++ ys)
+    → AllByRecursion P ys
+all_back P [] ys h = h
+all_back P (x ∷ xs) ys h = all_back P xs ys h.1
+
+module _ (linear : LinearProgram) where
   -- the body of the funclet of a number
   abbrev pub Fine : ℕ → Type 0
   Fine i = (b : LinearBody) → body_of linear (FuncletBody i) ≡ Some b
@@ -27,439 +41,268 @@ module _ (program : Program) (linear : LinearProgram)
     pub parent : parent_of owner.function owner.parent ≡ name
     pub function : owner_of linear name ≡ Some owner.function
 
-  -- what is claimed of a part
-  pub record IsTypedAt (name : BodyName) (code : List Instruction) (rs : List Region)
-      (j n : ℕ) : Type 0 where
-    pub calls : AllByRecursion (IsInstructionOf linear name) code
-    pub regions : AllByRecursion (IsRegionOf linear name) rs
-    pub funclets : Range Fine j (j + n)
+module _ (program : Program) (linear : LinearProgram)
+    (callee : (f count : ℕ) → IsCalled program f count → IsCallee linear f count) (own : ℕ) where
+  -- ---- the code and the regions of a body
+
+  -- the funclet of a region is one of the body
+  abbrev IsNamed : BodyName → RegionKind → Type 0
+  IsNamed name (kinds.Finally k) = IsFuncletOf linear name IsFinallyKind k
+  IsNamed name (kinds.Filter k target) = IsFuncletOf linear name IsFilterKind k
+  IsNamed name (kinds.Always target) = Unit {0}
+
+  abbrev AreNamed : BodyName → List Region → Type 0
+  AreNamed name rs = AllByRecursion (λ (r : Region). IsNamed name r.kind) rs
+
+  module _ (name : BodyName) (b : LinearBody) (there : body_of linear name ≡ Some b) where
+    abbrev All : List Instruction → Type 0
+    All code = AllCall program linear callee name code
+
+    -- what is claimed of code in its place, where the funclets of its regions are the body's
+    abbrev IsTyped : ℕ → List Instruction → List Region → Type 0
+    IsTyped at xs rs = AreNamed name rs → IsSegmentAt b.code at xs
+        → All xs × AllByRecursion (IsRegionOf linear name) rs
+
+    value : (names : Names) (e : Expression) (at : ℕ) (rest : List Instruction)
+        → ExpressionFits program own false e → All rest
+        → All (expression_code names e 0 at ++ rest)
+    value names e at rest fits h = append program linear callee name
+        (expression_code names e 0 at) rest
+        (expression_calls program linear callee name own false names e 0 at fits) h
+
+    exit_calls : (w : Way) → All (return_code w)
+    exit_calls Nowhere = (tt, (tt, tt))
+    exit_calls (Jumps label) = (tt, (tt, tt))
+    exit_calls (Unwinds label) = (tt, (tt, tt))
+
+    returned : (names : Names) (e : Option Expression) (exit : Way) (at : ℕ)
+        → OptionalHas (ExpressionFits program own false) e
+        → All (returned_code names e at ++ return_code exit)
+    returned names None exit at fits = (tt, exit_calls exit)
+    returned names (Some e) exit at fits = value names e at (return_code exit) fits
+        (exit_calls exit)
+
+    kind_is : (f : Filter) (end x : ℕ) → IsNamed name (except_kind f end)
+        → slice_get b.code end ≡ Some (instructions.Landing (Local x))
+        → IsKindOf linear name end (except_kind f end)
+    kind_is Always end x h landing =
+        ((x, ap (λ p. instruction_in p end) there ∙ landing), refl)
+    kind_is (Funclet k e) end x h landing =
+        (h, (x, ap (λ p. instruction_in p end) there ∙ landing), refl)
+
+    pieces_typed : HoldsOfPieces IsTyped (λ at xs. Unit {0}) (λ label. Unit {0})
+        (λ label. Unit {0}) (λ names m. Unit {0}) (ExpressionFits program own false)
+        (λ x. x < own)
+    pieces_typed = record {
+      none = λ at r s. (tt, tt);
+      both = λ at to xs ys rs qs e h k r s.
+          (let x = h (all_front (λ (r : Region). IsNamed name r.kind) rs qs r)
+          (front b.code at xs ys s) in
+          let y = k (all_back (λ (r : Region). IsNamed name r.kind) rs qs r)
+          (back b.code at to xs ys e s) in (
+            append program linear callee name xs ys x.0 y.0,
+            all_append (IsRegionOf linear name) rs qs x.1 y.1,
+          ));
+      of_separator = λ at r s. ((tt, tt), tt);
+      of_jump = λ at label l r s. ((tt, tt), tt);
+      of_unwind = λ at label l r s. ((tt, (tt, tt)), tt);
+      of_landing = λ names m begin end at f le n o b' t l r s. (
+        (tt, (tt, tt)),
+        (
+          record {
+            begins = omega arith;
+            kind = kind_is f (at + 1) names.free r.0 s.1.0;
+          },
+          tt,
+        ),
+      );
+      of_finally = λ k begin at o b' t r s.
+          ((tt, (r.0, (tt, tt))), (record { begins = omega arith; kind = r.0 }, tt));
+      of_zeroed = λ x at d r s. ((tt, tt), tt);
+      of_discarded = λ names m e at n h c r s. (value names e at _ h (tt, tt), tt);
+      of_condition = λ names m e label at n h l c r s. (value names e at _ h (tt, tt), tt);
+      of_initialiser = λ names m x e at n d h c r s. (value names e at _ h (tt, (tt, tt)), tt);
+      of_repeated = λ names m e end begin at n h l b' c r s.
+          (value names e at _ h (tt, (tt, tt)), tt);
+      of_return = λ names m e exit at n h w c r s. (returned names e exit at h, tt);
+    }
+
+    -- the code and the regions of statements
+    pub typed : (ss : Statements) (scope : LoweringContext) (at : ℕ) → StatementsFit program own ss
+        → IsTyped at (statements_code scope ss at) (statements_regions ss at)
+    typed ss scope at fits = statements_every IsTyped (λ at xs. Unit {0}) (λ xs. Unit {0})
+        (λ label. Unit {0}) (λ label. Unit {0}) (λ names m. Unit {0})
+        (ExpressionFits program own false) (ExpressionFits program own true) (λ x. x < own)
+        any_neutral any_place (λ names m k le n. tt) pieces_typed ss scope at
+        (statements_notes ss) (omega arith) tt (any_ways scope) fits tt
+
+  -- ---- funclets
+
+  -- what is claimed of the regions of a part and of its funclets
+  pub record AreFine (name : BodyName) (rs : List Region) (j n : ℕ) : Type 0 where
+    pub named : AreNamed name rs
+    pub funclets : Range (Fine linear) j (j + n)
+
+  -- where these are its funclets and their numbers
+  abbrev HasFunclets : BodyName → List Region → List LinearFunclet → List ℕ → Type 0
+  HasFunclets name rs fs ks =
+      (j : ℕ) → IsSegmentAt linear.funclets j fs → count_up (j + 1) ks ≡ true
+      → AreFine name rs j (length fs)
+
+  no_funclets : (name : BodyName) → HasFunclets name [] [] []
+  no_funclets name j s n =
+      record { named = tt; funclets = no_part (Fine linear) j (j + 0) (omega arith) }
+
+  both : (name : BodyName) (rs qs : List Region) (fs gs : List LinearFunclet) (ks js : List ℕ)
+      → length fs ≡ length ks → HasFunclets name rs fs ks → HasFunclets name qs gs js
+      → HasFunclets name (rs ++ qs) (fs ++ gs) (ks ++ js)
+  both name rs qs fs gs ks js e h k j s n =
+      let l = length-append fs gs in
+      let x = h j (front linear.funclets j fs gs s) (count_front (j + 1) ks js n) in
+      let y = k (j + length fs) (back linear.funclets j (j + length fs) fs gs refl s)
+      (count_back (j + 1) (j + length fs + 1) ks js (omega arith) n) in
+      let end = j + length fs + length gs in
+      record {
+        named = all_append (λ (r : Region). IsNamed name r.kind) rs qs x.named y.named;
+        funclets = part_of (Fine linear) j end j _ (omega arith) (omega arith)
+            (both_parts (Fine linear) j (j + length fs) end x.funclets y.funclets);
+      }
 
   fine : (i : ℕ) (f : LinearFunclet) → slice_get linear.funclets i ≡ Some f
-      → IsBodyOf linear (FuncletBody i) f.body → Fine i
+      → IsBodyOf linear (FuncletBody i) f.body → Fine linear i
   fine i f e h b g = subst (IsBodyOf linear (FuncletBody i))
       (same_it f.body b (sym (ap funclet_body e) ∙ g)) h
 
-  module _ (own : ℕ) where
-    -- ---- expressions in statements
-
-    module _ (name : BodyName) (s : sound.TypingContext) (knows : Knows program own false s)
-        (names : Names) where
-      abbrev All : List Instruction → Type 0
-      All code = AllCall program linear callee name code
-
-      and : (xs ys : List Instruction) → All xs → All ys → All (xs ++ ys)
-      and xs ys h k = append program linear callee name xs ys h k
-
-      value_calls : (e : Expression) (at : ℕ) → expression_sound s e ≡ true
-          → All (expression_code names e 0 at)
-      value_calls e at ok = expression_calls program linear callee name own false names e 0 at
-          (expression_fits program own false s knows e ok)
-
-      discarded_calls : (e : Option Expression) (at : ℕ) → optional_sound s e ≡ true
-          → All (discarded_code names e at)
-      discarded_calls None at ok = tt
-      discarded_calls (Some e) at ok = and (expression_code names e 0 at) (Separator ∷ [])
-          (value_calls e at ok) (tt, tt)
-
-      condition_calls : (e : Option Expression) (label at : ℕ) → test_sound s e ≡ true
-          → All (condition_code names e label at)
-      condition_calls None label at ok = tt
-      condition_calls (Some e) label at ok = and (expression_code names e 0 at)
-          (JumpIfZero (Temporary 0) label ∷ []) (value_calls e at (both_left _ _ ok)) (tt, tt)
-
-      initialiser_calls : (x : ℕ) (z : Option Size) (e : Option Expression) (at : ℕ)
-          → value_fits s z e ≡ true → All (initialiser_code names x e at)
-      initialiser_calls x z None at ok = tt
-      initialiser_calls x z (Some e) at ok = and (expression_code names e 0 at) (_ ∷ Separator ∷ [])
-          (value_calls e at (both_left _ _ ok)) (tt, (tt, tt))
-
-      declared_calls : (d : Declared) (at : ℕ) → declared_sound s d ≡ true
-          → All (declared_code names d at)
-      declared_calls d at ok = (
-        tt,
-        initialiser_calls d.local (slice_get s.sizes d.local) d.value
-            (at + 1) (both_right _ _ ok),
-      )
-
-      all_declared_calls : (ds : List Declared) (at : ℕ) → all_declared_sound s ds ≡ true
-          → All (all_declared_code names ds at)
-      all_declared_calls [] at ok = tt
-      all_declared_calls (d ∷ ds) at ok = and (declared_code names d at)
-          (all_declared_code names ds (at + declared_size d))
-          (declared_calls d at (both_left _ _ ok))
-          (all_declared_calls ds (at + declared_size d) (both_right _ _ ok))
-
-    returned_calls : (name : BodyName) (i : Inside) (knows : Knows program own false i.scope)
-        (names : Names) (e : Option Expression) (at : ℕ) → result_sound i e ≡ true
-        → AllCall program linear callee name (returned_code names e at)
-    returned_calls name i knows names None at ok = (tt, tt)
-    returned_calls name i knows names (Some e) at ok = value_calls name i.scope knows names e at
-        (both_left _ _ (both_left _ _ ok))
-
-    way_calls : (name : BodyName) (w : Way) → AllCall program linear callee name (jump_code w)
-    way_calls name Nowhere = (tt, (tt, tt))
-    way_calls name (Jumps label) = (tt, (tt, tt))
-    way_calls name (Unwinds label) = (tt, (tt, tt))
-
-    exit_calls : (name : BodyName) (w : Way) → AllCall program linear callee name (return_code w)
-    exit_calls name Nowhere = (tt, (tt, tt))
-    exit_calls name (Jumps label) = (tt, (tt, tt))
-    exit_calls name (Unwinds label) = (tt, (tt, tt))
-
-    leave_calls : (name : BodyName) (w : Option ℕ) → IsInstructionOf linear name (leave_code w)
-    leave_calls name None = tt
-    leave_calls name (Some label) = tt
-
-    -- ---- scopes
-
-    abbrev in_finally : Inside → Inside
-    in_finally i = record {
-      scope = record i.scope { abnormal = true };
-      returns = i.returns;
-      loop = false;
-      body = false;
-      function = false;
-    }
-
-    in_block : (i : Inside) → Knows program own false i.scope
-        → Knows program own false (record i.scope { code = true })
-    in_block i k = record { functions = k.functions; sizes = k.sizes; information = k.information }
-
-    in_last : (i : Inside) → Knows program own false i.scope
-        → Knows program own false (record i.scope { abnormal = true })
-    in_last i k = record { functions = k.functions; sizes = k.sizes; information = k.information }
-
-    -- ---- filters
-
-    filter_is_set : (name : BodyName) (i : Inside) → Knows program own false i.scope
-        → (owner : Owner) → IsOwner name owner → (names : Names) (f : Filter) (j target : ℕ)
-        → filter_sound i.scope f ≡ true
-        → IsSegmentAt linear.funclets j (filter_funclets owner (filter_names names) f)
-        → count_up (j + 1) (filter_funclet f) ≡ true → IsLanding linear name target
-        → IsKindOf linear name target (except_kind f target)
-        × Range Fine j (j + length (filter_funclets owner (filter_names names) f))
-    filter_is_set name i knows owner o names Always j target ok f n l =
-        ((l, refl), no_part Fine j (j + 0) (omega arith))
-    filter_is_set name i knows owner o names (Funclet k e) j target ok f n l =
-        let numbered = counted (j + 1) k [] n in
-        let funclet = funclets_of.filter_funclet owner (filter_names names) e in
-        let same : k - 1 ≡ j = omega arith in
-        let there : slice_get linear.funclets (k - 1)
-        ≡ Some funclet = ap (slice_get linear.funclets) same ∙ f.0 in
-        let inner : Knows program own true (record i.scope { code = true; information = true }) =
-        record { functions = knows.functions; sizes = knows.sizes; information = refl } in
-        let fits = expression_fits program own true
-        (record i.scope { code = true; information = true }) inner e (both_left _ _ ok) in (
-          (
-            record {
-              funclet = funclet;
-              there = there;
-              parent = o.parent;
-              owner = o.function;
-              fits = tt;
-            },
-            l,
-            refl,
-          ),
-          part_of Fine j (j + 1) j (j + 1) (omega arith) (omega arith)
-              (one_part Fine j (fine j funclet f.0 (record {
-                regions = tt;
-                code = append program linear callee (FuncletBody j)
-                    (expression_code (filter_names names) e 0 0) (_ ∷ [])
-                    (expression_calls program linear callee (FuncletBody j) own true
-                    (filter_names names)
-                    e 0 0 fits) (tt, tt);
-              }))),
-        )
-
-    -- ---- statements
-
-    none_is_at : (name : BodyName) (code : List Instruction) (j : ℕ)
-        → AllByRecursion (IsInstructionOf linear name) code → IsTypedAt name code [] j 0
-    none_is_at name code j h = record {
-      calls = h;
-      regions = tt;
-      funclets = no_part Fine j (j + 0) (omega arith);
-    }
-
-    mutual
-      pub is_there : (s : Statement) (name : BodyName) (b : LinearBody)
-          → body_of linear name ≡ Some b → (i : Inside) → Knows program own false i.scope
-          → (scope : LoweringContext) (owner : Owner) → IsOwner name owner → (at j : ℕ)
-          → statement_sound i s ≡ true → IsSegmentAt b.code at (statement_code scope s at)
-          → IsSegmentAt linear.funclets j (statement_funclets owner scope.names s)
-          → count_up (j + 1) (funclets_in s) ≡ true
-          → IsTypedAt name (statement_code scope s at) (statement_regions s at) j
-          (length (statement_funclets owner scope.names s))
-      is_there (Declare d) name b there i k scope owner o at j ok h f n = none_is_at name _ j
-          (declared_calls name i.scope k scope.names d at ok)
-      is_there (Block ss) name b there i k scope owner o at j ok h f n = all_are_at ss name b there
-          i k scope owner o at j ok h f n
-      is_there (Evaluate e) name b there i k scope owner o at j ok h f n = none_is_at name _ j
-          (discarded_calls name i.scope k scope.names e at ok)
-      is_there (If t s) name b there i k scope owner o at j ok h f n =
-          let code = expression_code scope.names t 0 at in
-          let l = expression_length scope.names t 0 at in
-          let then = at + expression_size t + 1 in
-          let test = JumpIfZero (Temporary 0) (then + statement_size s) in
-          let rest = statement_code scope s then in
-          let x = is_there s name b there i k scope owner o then j (both_right _ _ ok)
-          (back b.code at (at + expression_size t) code (test ∷ rest) (omega arith) h).1 f n in
+  filter_has : (name : BodyName) (owner : Owner) → IsOwner linear name owner → (names : Names)
+      (f : Filter) (begin end : ℕ) → FilterHas (ExpressionFits program own true) f
+      → HasFunclets name (region begin end (except_kind f end) ∷ [])
+      (filter_funclets owner (filter_names names) f) (filter_funclet f)
+  filter_has name owner o names Always begin end fits j s n =
+      record { named = (tt, tt); funclets = no_part (Fine linear) j (j + 0) (omega arith) }
+  filter_has name owner o names (Funclet k e) begin end fits j s n =
+      let numbered = counted (j + 1) k [] n in
+      let same : k - 1 ≡ j = omega arith in
+      record {
+        named = (
           record {
-            calls = append program linear callee name code (test ∷ rest)
-                (value_calls name i.scope k scope.names t at (both_left _ _ (both_left _ _ ok)))
-                (tt, x.calls);
-            regions = x.regions;
-            funclets = x.funclets;
-          }
-      is_there (IfElse t s u) name b there i k scope owner o at j ok h f n =
-          let code = expression_code scope.names t 0 at in
-          let l = expression_length scope.names t 0 at in
-          let then = at + expression_size t + 1 in
-          let otherwise = then + statement_size s + 1 in
-          let test = JumpIfZero (Temporary 0) otherwise in
-          let skip = Jump (otherwise + statement_size u) in
-          let yes = statement_code scope s then in
-          let no = statement_code scope u otherwise in
-          let ly = statement_length scope s then in
-          let fy = statement_funclets owner scope.names s in
-          let fn = statement_funclets owner scope.names u in
-          let count = statement_count owner scope.names s in
-          let both = length-append fy fn in
-          let after = (back b.code at (at + expression_size t) code (test ∷ (yes ++ skip ∷ no))
-          (omega arith) h).1 in
-          let second_part = back b.code then (then + statement_size s) yes (skip ∷ no) (omega arith)
-          after in
-          let x = is_there s name b there i k scope owner o then j
-          (both_right _ _ (both_left _ _ ok)) (front b.code then yes (skip ∷ no) after)
-          (front linear.funclets j fy fn f)
-          (count_front (j + 1) (funclets_in s) (funclets_in u) n) in
-          let y = is_there u name b there i k scope owner o otherwise (j + length fy)
-          (both_right _ _ ok) second_part.1 (back linear.funclets j (j + length fy) fy fn refl f)
-          (count_back (j + 1) (j + length fy + 1) (funclets_in s) (funclets_in u) (omega arith)
-          n) in
-          record {
-            calls = append program linear callee name code (test ∷ (yes ++ skip ∷ no))
-                (value_calls name i.scope k scope.names t at
-                (both_left _ _ (both_left _ _ (both_left _ _ ok))))
-                (tt, append program linear callee name yes (skip ∷ no) x.calls (tt, y.calls));
-            regions = all_append (IsRegionOf linear name) (statement_regions s then)
-                (statement_regions u otherwise) x.regions y.regions;
-            funclets = part_of Fine j (j + length fy + length fn) j _ (omega arith) (omega arith)
-                (both_parts Fine j (j + length fy) (j + length fy + length fn) x.funclets
-                y.funclets);
-          }
-      is_there (For ds first' t next s) name b there i k scope owner o at j ok h f n =
-          let names = scope.names in
-          let begin = at + all_declared_size ds in
-          let iteration = begin + discarded_size first' in
-          let start = iteration + condition_size t in
-          let again = start + statement_size s in
-          let end = again + 1 + discarded_size next + 1 in
-          let inner = in_loop end again scope in
-          let declares = all_declared_code names ds at in
-          let begins = discarded_code names first' begin in
-          let tests = condition_code names t end iteration in
-          let body = statement_code inner s start in
-          let steps = discarded_code names next (again + 1) in
-          let repeat = Jump iteration ∷ [] in
-          let ld = all_declared_length names ds at in
-          let lf = discarded_length names first' begin in
-          let lt = condition_length names t end iteration in
-          let h1 = back b.code at begin declares
-          (begins ++ (tests ++ (body ++ (Separator ∷ (steps ++ repeat))))) (omega arith) h in
-          let h2 = back b.code begin iteration begins
-          (tests ++ (body ++ (Separator ∷ (steps ++ repeat)))) (omega arith) h1 in
-          let h3 = back b.code iteration start tests (body ++ (Separator ∷ (steps ++ repeat)))
-          (omega arith) h2 in
-          let x = is_there s name b there (record i { loop = true }) k inner owner o start j
-          (both_right _ _ ok) (front b.code start body _ h3) f n in
-          record {
-            calls = append program linear callee name declares _
-                (all_declared_calls name i.scope k names ds at
-                (both_left _ _ (both_left _ _ (both_left _ _ (both_left _ _ ok)))))
-                (append program linear callee name begins _
-                (discarded_calls name i.scope k names first' begin
-                (both_right _ _ (both_left _ _ (both_left _ _ (both_left _ _ ok)))))
-                (append program linear callee name tests _
-                (condition_calls name i.scope k names t end iteration
-                (both_right _ _ (both_left _ _ (both_left _ _ ok))))
-                (append program linear callee name body _ x.calls (
-                  tt,
-                  append program linear callee name steps repeat
-                      (discarded_calls name i.scope k names next (again + 1)
-                      (both_right _ _ (both_left _ _ ok))) (tt, tt),
-                ))));
-            regions = x.regions;
-            funclets = x.funclets;
-          }
-      is_there (DoWhile s t) name b there i k scope owner o at j ok h f n =
-          let again = at + statement_size s in
-          let end = again + 1 + expression_size t + 2 in
-          let inner = in_loop end again scope in
-          let body = statement_code inner s at in
-          let code = expression_code scope.names t 0 (again + 1) in
-          let x = is_there s name b there (record i { loop = true }) k inner owner o at j
-          (both_right _ _ ok) (front b.code at body _ h) f n in
-          record {
-            calls = append program linear callee name body _ x.calls (
-              tt,
-              append program linear callee name code (repeated end at)
-                  (value_calls name i.scope k scope.names t (again + 1)
-                  (both_left _ _ (both_left _ _ ok))) (tt, (tt, tt)),
-            );
-            regions = x.regions;
-            funclets = x.funclets;
-          }
-      is_there (Return e) name b there i k scope owner o at j ok h f n =
-          none_is_at name _ j (append program linear callee name (returned_code scope.names e at)
-          (return_code scope.exit) (returned_calls name i k scope.names e at (both_right _ _ ok))
-          (exit_calls name scope.exit))
-      is_there Break name b there i k scope owner o at j ok h f n = none_is_at name _ j
-          (way_calls name scope.loop_end)
-      is_there Continue name b there i k scope owner o at j ok h f n = none_is_at name _ j
-          (way_calls name scope.loop_next)
-      is_there Leave name b there i k scope owner o at j ok h f n = none_is_at name _ j
-          (leave_calls name scope.leave, tt)
-      is_there (TryExcept body filter block) name b there i k scope owner o at j ok h f n =
-          let names = scope.names in
-          let at_jump = at + statements_size body in
-          let target = at_jump + 1 in
-          let end = target + 1 + statements_size block in
-          let inner = in_try end scope in
-          let guarded = statements_code inner body at in
-          let handles = statements_code (in_except scope) block (target + 1) in
-          let l = statements_length inner body at in
-          let h1 = back b.code at at_jump guarded (landed end names.free ++ handles) (omega arith)
-          h in
-          let fb = statements_funclets owner names body in
-          let ff = filter_funclets owner (filter_names names) filter in
-          let fh = statements_funclets owner (except_names names) block in
-          let f1 = back linear.funclets j (j + length fb) fb (ff ++ fh) refl f in
-          let f2 = back linear.funclets (j + length fb) (j + length fb + length ff) ff fh refl f1 in
-          let cb = statements_count owner names body in
-          let numbers = sound.filter_funclet filter in
-          let cf = filter_count owner (filter_names names) filter in
-          let cn = length-append (funclets body) numbers in
-          let m1 = length-append fb (ff ++ fh) in
-          let m2 = length-append ff fh in
-          let nb = count_front (j + 1) (funclets body ++ numbers) (funclets block) n in
-          let landing : IsLanding linear name
-          target = (names.free, ap (λ p. instruction_in p target) there ∙ h1.1.0) in
-          let x = all_are_at body name b there (record i { body = true }) k inner owner o at j
-          (both_left _ _ (both_left _ _ ok)) (front b.code at guarded _ h)
-          (front linear.funclets j fb (ff ++ fh) f)
-          (count_front (j + 1) (funclets body) numbers nb) in
-          let y = filter_is_set name i k owner o names filter (j + length fb) target
-          (both_right _ _ (both_left _ _ ok)) (front linear.funclets (j + length fb) ff fh f1)
-          (count_back (j + 1) (j + length fb + 1) (funclets body) numbers (omega arith) nb)
-          landing in
-          let z = all_are_at block name b there
-          (record i { scope = record i.scope { code = true } }) (in_block i k) (in_except scope)
-          owner o (target + 1) (j + length fb + length ff) (both_right _ _ ok) h1.1.1 f2
-          (count_back (j + 1) (j + length fb + length ff + 1) (funclets body ++ numbers)
-          (funclets block) (omega arith) n) in
-          let last = j + length fb + length ff + length fh in
-          record {
-            calls = append program linear callee name guarded (landed end names.free ++ handles)
-                x.calls (tt, (tt, z.calls));
-            regions = all_append (IsRegionOf linear name) (statements_regions body at)
-                (region at target (except_kind filter target) ∷ statements_regions block
-                (target + 1))
-                x.regions (record { begins = omega arith; kind = y.0 }, z.regions);
-            funclets = part_of Fine j last j _ (omega arith) (omega arith)
-                (both_parts Fine j (j + length fb) last x.funclets
-                (both_parts Fine (j + length fb) (j + length fb + length ff) last y.1 z.funclets));
-          }
-      is_there (TryFinally body k' last) name b there i k scope owner o at j ok h f n =
-          let names = scope.names in
-          let at_end = at + statements_size body in
-          let inner = in_guarded at_end scope in
-          let guarded = statements_code inner body at in
-          let fb = statements_funclets owner names body in
-          let fl = statements_funclets (in_funclet (k' - 1) owner) (finally_names names) last in
-          let funclet = finally_funclet owner names last in
-          let f1 = back linear.funclets j (j + length fb) fb (funclet ∷ fl) refl f in
-          let cb = statements_count owner names body in
-          let m = length-append fb (funclet ∷ fl) in
-          let n1 = count_back (j + 1) (j + length fb + 1) (funclets body) (k' ∷ funclets last)
-          (omega arith) n in
-          let numbered = counted (j + length fb + 1) k' (funclets last) n1 in
-          let same : k' - 1 ≡ j + length fb = omega arith in
-          let there' : slice_get linear.funclets (k' - 1)
-          ≡ Some funclet = ap (slice_get linear.funclets) same ∙ f1.0 in
-          let home : body_of linear (FuncletBody (k' - 1))
-          ≡ Some funclet.body = ap funclet_body there' in
-          let code = statements_code (finally_scope names) last 0 in
-          let ends = instructions.Return (Local names.free) ∷ [] in
-          let whole = whole_is_at funclet.body.code in
-          let is : IsFuncletOf linear name IsFinallyKind
-          (k' - 1) = record {
-            funclet = funclet;
-            there = there';
+            funclet = funclets_of.filter_funclet owner (filter_names names) e;
+            there = ap (slice_get linear.funclets) same ∙ s.0;
             parent = o.parent;
             owner = o.function;
             fits = tt;
-          } in
-          let x = all_are_at body name b there (record i { body = true }) k inner owner o at j
-          (both_left _ _ ok) (front b.code at guarded _ h)
-          (front linear.funclets j fb (funclet ∷ fl) f)
-          (count_front (j + 1) (funclets body) (k' ∷ funclets last) n) in
-          let y = all_are_at last (FuncletBody (k' - 1)) funclet.body home (in_finally i)
-          (in_last i k) (finally_scope names) (in_funclet (k' - 1) owner)
-          (record { parent = refl; function = ap function_of there' }) 0 (j + length fb + 1)
-          (both_right _ _ ok)
-          (front funclet.body.code 0 code ends whole) f1.1 (both_right _ _ n1) in
-          let own_body : Fine (k' - 1) = fine (k' - 1) funclet there'
-          (record {
-            regions = y.regions;
-            code = append program linear callee
-                (FuncletBody (k' - 1)) code ends y.calls (tt, tt);
-          }) in
-          let end = j + length fb + 1 + length fl in
-          record {
-            calls = append program linear callee name guarded
-                (Separator ∷ CallFinally (k' - 1) ∷ Separator ∷ []) x.calls (tt, (is, (tt, tt)));
-            regions = all_append (IsRegionOf linear name) (statements_regions body at)
-                (region at (at + statements_size body + 1) (kinds.Finally (k' - 1)) ∷ []) x.regions
-                (record { begins = omega arith; kind = is }, tt);
-            funclets = part_of Fine j end j _ (omega arith) (omega arith)
-                (both_parts Fine j (j + length fb) end x.funclets
-                (both_parts Fine (j + length fb) (j + length fb + 1) end
-                (one_part Fine (j + length fb) (subst Fine same own_body)) y.funclets));
-          }
+          },
+          tt,
+        );
+        funclets = one_part (Fine linear) j (fine j _ s.0 (record {
+          regions = tt;
+          code = append program linear callee (FuncletBody j)
+              (expression_code (filter_names names) e 0 0) (_ ∷ [])
+              (expression_calls program linear callee (FuncletBody j) own true
+              (filter_names names) e 0 0 fits) (tt, tt);
+        }));
+      }
 
-      pub all_are_at : (ss : Statements) (name : BodyName) (b : LinearBody)
-          → body_of linear name ≡ Some b → (i : Inside) → Knows program own false i.scope
-          → (scope : LoweringContext) (owner : Owner) → IsOwner name owner → (at j : ℕ)
-          → statements_sound i ss ≡ true → IsSegmentAt b.code at (statements_code scope ss at)
-          → IsSegmentAt linear.funclets j (statements_funclets owner scope.names ss)
-          → count_up (j + 1) (funclets ss) ≡ true
-          → IsTypedAt name (statements_code scope ss at) (statements_regions ss at) j
-          (length (statements_funclets owner scope.names ss))
-      all_are_at Empty name b there i k scope owner o at j ok h f n = none_is_at name [] j tt
-      all_are_at (Then s ss) name b there i k scope owner o at j ok h f n =
-          let next = at + statement_size s in
-          let l = statement_length scope s at in
-          let code = statement_code scope s at in
-          let rest = statements_code scope ss next in
-          let fs = statement_funclets owner scope.names s in
-          let fm = statements_funclets owner scope.names ss in
-          let count = statement_count owner scope.names s in
-          let m = length-append fs fm in
-          let x = is_there s name b there i k scope owner o at j (both_left _ _ ok)
-          (front b.code at code rest h) (front linear.funclets j fs fm f)
-          (count_front (j + 1) (funclets_in s) (funclets ss) n) in
-          let y = all_are_at ss name b there i k scope owner o next (j + length fs)
-          (both_right _ _ ok) (back b.code at next code rest (omega arith) h)
-          (back linear.funclets j (j + length fs) fs fm refl f)
-          (count_back (j + 1) (j + length fs + 1) (funclets_in s) (funclets ss) (omega arith)
-          n) in
+  -- a `__finally` block, with the funclets in it
+  block_has : (last : Statements) (name : BodyName) (owner : Owner) → IsOwner linear name owner
+      → (names : Names) (k begin end : ℕ) → StatementsFit program own last
+      → (IsOwner linear (FuncletBody (k - 1)) (in_funclet (k - 1) owner)
+      → HasFunclets (FuncletBody (k - 1)) (statements_regions last 0)
+      (statements_funclets (in_funclet (k - 1) owner) (finally_names names) last) (funclets last))
+      → HasFunclets name (region begin end (kinds.Finally (k - 1)) ∷ [])
+      (finally_funclet owner names last
+      ∷ statements_funclets (in_funclet (k - 1) owner) (finally_names names) last)
+      (k ∷ funclets last)
+  block_has last name owner o names k begin end fits all j s n =
+      let funclet = finally_funclet owner names last in
+      let numbered = counted (j + 1) k (funclets last) n in
+      let same : k - 1 ≡ j = omega arith in
+      let there : slice_get linear.funclets (k - 1)
+      ≡ Some funclet = ap (slice_get linear.funclets) same ∙ s.0 in
+      let name' = FuncletBody (k - 1) in
+      let code = statements_code (finally_scope names) last 0 in
+      let ends = instructions.Return (Local names.free) ∷ [] in
+      let inner = all (record { parent = refl; function = ap function_of there }) (j + 1) s.1
+      (both_right _ _ n) in
+      let own_body = typed name' funclet.body (ap funclet_body there) last (finally_scope names) 0
+      fits inner.named (front funclet.body.code 0 code ends (whole_is_at funclet.body.code)) in
+      let fl = statements_funclets (in_funclet (k - 1) owner) (finally_names names) last in
+      record {
+        named = (
           record {
-            calls = append program linear callee name code rest x.calls y.calls;
-            regions = all_append (IsRegionOf linear name) (statement_regions s at)
-                (statements_regions ss next) x.regions y.regions;
-            funclets = part_of Fine j (j + length fs + length fm) j _ (omega arith) (omega arith)
-                (both_parts Fine j (j + length fs) (j + length fs + length fm) x.funclets
-                y.funclets);
-          }
+            funclet = funclet;
+            there = there;
+            parent = o.parent;
+            owner = o.function;
+            fits = tt;
+          },
+          tt,
+        );
+        funclets = part_of (Fine linear) j (j + 1 + length fl) j _ (omega arith) (omega arith)
+            (both_parts (Fine linear) j (j + 1) (j + 1 + length fl)
+            (one_part (Fine linear) j (subst (Fine linear) same (fine (k - 1) funclet there (record {
+              regions = own_body.1;
+              code = append program linear callee name' code ends own_body.0 (tt, tt);
+            })))) inner.funclets);
+      }
+
+  mutual
+    statement_has : (s : Statement) (name : BodyName) (owner : Owner) → IsOwner linear name owner
+        → (names : Names) (at : ℕ)
+        → StatementHas (ExpressionFits program own false) (ExpressionFits program own true)
+        (λ x. x < own) s
+        → HasFunclets name (statement_regions s at) (statement_funclets owner names s)
+        (funclets_in s)
+    statement_has (Declare d) name owner o names at fits = no_funclets name
+    statement_has (Block ss) name owner o names at fits = statements_have ss name owner o names at
+        fits
+    statement_has (Evaluate e) name owner o names at fits = no_funclets name
+    statement_has (If c s) name owner o names at fits = statement_has s name owner o names
+        (at + expression_size c + 1) fits.1
+    statement_has (IfElse c s t) name owner o names at fits =
+        both name _ _ (statement_funclets owner names s) (statement_funclets owner names t)
+        (funclets_in s) (funclets_in t) (statement_count owner names s)
+        (statement_has s name owner o names (at + expression_size c + 1) fits.1)
+        (statement_has t name owner o names
+        (at + expression_size c + 1 + statement_size s + 1) fits.2)
+    statement_has (For ds first c next s) name owner o names at fits =
+        statement_has s name owner o names
+        (at + all_declared_size ds + discarded_size first + condition_size c) fits.4
+    statement_has (DoWhile s c) name owner o names at fits = statement_has s name owner o names at
+        fits.0
+    statement_has (Return e) name owner o names at fits = no_funclets name
+    statement_has Break name owner o names at fits = no_funclets name
+    statement_has Continue name owner o names at fits = no_funclets name
+    statement_has Leave name owner o names at fits = no_funclets name
+    statement_has (TryExcept body filter block) name owner o names at fits =
+        let target = at + statements_size body + 1 in
+        let fb = statements_funclets owner names body in
+        let ff = filter_funclets owner (filter_names names) filter in
+        let fh = statements_funclets owner (except_names names) block in
+        let nf = filter_funclet filter in
+        subst (HasFunclets name _ (fb ++ (ff ++ fh)))
+        (sym (append_assoc (funclets body) nf (funclets block)))
+        (both name _ _ fb (ff ++ fh) (funclets body) (nf ++ funclets block)
+        (statements_count owner names body)
+        (statements_have body name owner o names at fits.0)
+        (both name (region at target (except_kind filter target) ∷ []) _ ff fh nf (funclets block)
+        (filter_count owner (filter_names names) filter)
+        (filter_has name owner o names filter at target fits.1)
+        (statements_have block name owner o (except_names names) (target + 1) fits.2)))
+    statement_has (TryFinally body k last) name owner o names at fits =
+        both name _ _ (statements_funclets owner names body) _ (funclets body) (k ∷ funclets last)
+        (statements_count owner names body)
+        (statements_have body name owner o names at fits.0)
+        (block_has last name owner o names k at (at + statements_size body + 1) fits.1
+        (λ inside. statements_have last (FuncletBody (k - 1)) (in_funclet (k - 1) owner) inside
+        (finally_names names) 0 fits.1))
+
+    pub statements_have : (ss : Statements) (name : BodyName) (owner : Owner) → IsOwner linear name owner
+        → (names : Names) (at : ℕ) → StatementsFit program own ss
+        → HasFunclets name (statements_regions ss at) (statements_funclets owner names ss)
+        (funclets ss)
+    statements_have Empty name owner o names at fits = no_funclets name
+    statements_have (Then s ss) name owner o names at fits =
+        both name _ _ (statement_funclets owner names s) (statements_funclets owner names ss)
+        (funclets_in s) (funclets ss) (statement_count owner names s)
+        (statement_has s name owner o names at fits.0)
+        (statements_have ss name owner o names (at + statement_size s) fits.1)
