@@ -1,6 +1,7 @@
 //! All rules on an entry of a function table.
 
-ghost use Rattle.std.specs.Prelude.{◌≡◌, ◌≤◌, ◌<◌, ◌^◌, [], IfOk, IfNone};
+ghost use Rattle.std.specs.Prelude.{◌≡◌, ◌≤◌, ◌+◌, ◌<◌, ◌^◌, [], IfOk, IfNone};
+ghost use Rattle.frame_rules.specs.Prologue.{bytes};
 ghost use Rattle.frame_rules.specs.Validated.{turned};
 ghost use Rattle.unwind_check.specs.Faults as spec;
 
@@ -41,7 +42,6 @@ fn parts_fault<S: CodeSpace>(
     probe: &[u8],
     begin: u64,
     middle: u64,
-    end: u64,
     info: &Info,
     codes: &OrderedCodes,
     prologue: &DecodedInstrs,
@@ -49,14 +49,10 @@ fn parts_fault<S: CodeSpace>(
 ) -> Result<Option<Fault>, AllocError>
     requires codes { codes.now.codes.items ≡ info.now.codes }
     requires steps { codes.now.steps.items ≡ turned [] info.now.codes }
-    requires order { begin ≤ middle }
-    requires order_2 { middle ≤ end }
-    requires low { end < 2 ^ 63 }
-    requires middle { middle ≡ spec.prologue_end begin end info.now }
-    requires prologue { prologue.now ≡ spec.prologue_of (S.memory space.now) begin end info.now }
-    requires body { body.now ≡ spec.body_of (S.memory space.now) begin end info.now }
-    ensures fault { IfOk result (λ o. o
-        ≡ spec.parts_fault (S.memory space.now) probe.now begin end info.now) }
+    requires prologue_low { begin + bytes prologue.now.items < 2 ^ 63 }
+    requires body_low { middle + bytes body.now.items < 2 ^ 63 }
+    ensures fault { IfOk result (λ o. o ≡ spec.fault_of_parts (S.memory space.now) probe.now begin
+        middle info.now prologue.now body.now) }
     ensures near { info.now.frame_offset < 2 ^ 8 }
 {
     let frame = info.frame_register();
@@ -118,7 +114,7 @@ fn codes_fault<S: CodeSpace>(
         Rule::Prologue
     } else {
         return parts_fault(
-            alloc, space, probe, begin, middle, end, info, &all, prologue, body,
+            alloc, space, probe, begin, middle, info, &all, prologue, body,
         );
     };
     Ok(Some(Fault { at: begin, rule }))
