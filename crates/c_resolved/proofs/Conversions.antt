@@ -69,7 +69,7 @@ conversion_makes a b = by_same (same_type a b) refl
   where
     by_same : (x : Bool) → same_type a b ≡ x → Makes
         (if x then Kept else to_width (width_of a) (sort_of a) (width_of b) (sort_of b))
-            (width_of a)
+        (width_of a)
         (width_of b)
     by_same true e = kept_makes (width_of a) (width_of b) (same_type_width a b e)
     by_same false e = to_width_makes (width_of a) (sort_of a) (width_of b) (sort_of b)

@@ -286,9 +286,9 @@ pass_settled S w at fs (Some a) rest zs g p = by_fit (fits w a) refl
   where
     by_fit : (x : Bool) → fits w a ≡ x → PassedOr S (wanted_size w ∷ zs)
         (if x then before fs (passed w a) rest
-            else spoiled (fs ++ fault_at at TypeClash) rest).found
+        else spoiled (fs ++ fault_at at TypeClash) rest).found
         (if x then before fs (passed w a) rest
-            else spoiled (fs ++ fault_at at TypeClash) rest).faults
+        else spoiled (fs ++ fault_at at TypeClash) rest).faults
     by_fit true e = before_settled S (passed w a) (wanted_size w) zs fs rest.found rest.faults
         (passed_has S w a g e) p
     by_fit false e = fault_before (fs ++ fault_at at TypeClash) rest.faults

@@ -2,7 +2,7 @@
 use Rattle.std.proofs.Common.{◌≡◌, ◌≤◌, ℕ, zero, suc, ◌+◌, List, [], ◌∷◌, ◌++◌, length, refl, ap, sym, subst, ◌∙◌, arith}
 use Rattle.std.specs.Prelude.{◌-◌, Bool, Some, None}
 use Rattle.seh_num.specs.declared.event.Event.TheVariants as events
-use Rattle.lowering_follows.specs.Words.{Statements, Program, State, Value, Normal, Returned, Broke, Continued, LeftTry, Target, End, Outcome, Gives, emit, hold, let_go, and_then, Context, Run, ForIteration, DoIteration, TryBody, RunFinally, of_test, no_exception, all, perform, within, LinearProgram, FuncletBody, Item, Store, Configuration, Finished, with_some, set_local, local_of, deeper, begin_finally, end_funclet, end_finally, exec, Names, finally_names, finally_scope, statement_size, statements_size, statements_notes, expression_weight, optional_weight, statement_weight, statements_weight, HasAt, HasFunclet, FinallyPlaced, for_end, do_end}
+use Rattle.lowering_follows.specs.Words.{Statements, Program, State, Normal, Target, End, Outcome, Gives, emit, hold, let_go, and_then, Context, Run, ForIteration, DoIteration, TryBody, RunFinally, of_test, no_exception, all, perform, within, LinearProgram, FuncletBody, Item, Store, Configuration, Finished, with_some, set_local, local_of, deeper, begin_finally, end_funclet, end_finally, exec, Names, finally_names, finally_scope, statement_size, statements_size, statements_notes, expression_weight, optional_weight, statement_weight, statements_weight, HasAt, HasFunclet, FinallyPlaced, for_end, do_end}
 use Rattle.linear_code.specs.declared.slot.Slot.TheVariants.{Local}
 use Rattle.linear_code.specs.declared.instruction.Instruction.TheVariants as instructions
 use Rattle.linear_code.specs.declared.program.FuncletKind.TheVariants as kinds

@@ -1,25 +1,13 @@
 -- What a funclet's code comes to goes out to the body that waits below it.
-use Rattle.std.proofs.Common.{◌≡◌, ◌<◌, ◌≤◌, ℕ, suc, ◌+◌, ◌^◌, List, [], ◌∷◌, ◌++◌, length, refl, ap, sym, subst, ◌∙◌, arith, append_assoc}
-use Rattle.std.specs.Prelude.{Bool, true, false, nat_eq, nat_lt, slice_get, Option, Some, None}
-use Rattle.lowering_follows.specs.Words.{W32, low, signed, Expression, Filter, Always, Funclet, Program, Exception, State, Value, Normal, Returned, Broke, Continued, LeftTry, Target, End, Outcome, Gives, choose, emit, hold, let_go, with_value, Context, Handler, Eval, Raise, RunFilter, raise_event, within, Temporary, LinearProgram, LinearFunclet, FuncletBody, Resumption, Item, Waits, Store, Finished, Next, pick, with_some, deeper, regions_at, handlers_in, handlers, target_past, unwind_body, unwind, target_of, begin_filter, raise, resumed, answered, end_funclet, exec, Names, expression_size, expression_code, expression_weight, HasAt}
-use Rattle.seh_num.specs.declared.event.Event.TheVariants as events
-use Rattle.source_meaning.specs.Raises as source
-use Rattle.source_meaning.specs.Raises.{noncontinuable}
-use Rattle.linear_code.specs.declared.instruction.Instruction.TheVariants.{Return}
-use Rattle.linear_code.specs.declared.program.FuncletKind.TheVariants as kinds
+use Rattle.std.proofs.Common.{◌≡◌, ◌<◌, ◌≤◌, ℕ, List, [], ◌∷◌, ◌++◌, length, ap, subst, ◌∙◌, arith}
+use Rattle.std.specs.Prelude.{Some, None}
+use Rattle.lowering_follows.specs.Words.{Program, Exception, State, Value, Target, End, Outcome, Gives, with_value, Context, LinearProgram, FuncletBody, Waits, Store, Finished, Next, regions_at, handlers_in, handlers, target_past, unwind_body, unwind, target_of, exec}
 use Rattle.linear_machine.specs.Frames.{Searches}
 use Rattle.linear_machine.specs.Frames as machine
 use Rattle.linear_machine.specs.Unwinding.{left_store}
-use Rattle.linear_machine.specs.Searching.{accept, consult, search}
-use Rattle.linear_machine.proofs.Stretch.{Part, at, Site, frame_of, conf, Picked, Kept, price, Price, Join, Ways, found, Reaches, unwound, Targets, Claim, value_ways, normal_ways, joins}
-use Rattle.linear_machine.proofs.StretchJoins.{more, after, then_value, targets_more, finishes_more, stops_more}
-use Rattle.linear_machine.proofs.SingleTurns.{prefix_self, still, stepped, fetch, sooner, deep_claim}
-use Rattle.linear_machine.proofs.Walks.{picked_at, handlers_below, leaves}
-use Rattle.lowering_follows.proofs.Stores.{Shape, everywhere}
-use Rattle.lowering_follows.proofs.Places.{has_front, has_after}
-use Rattle.lowering_follows.proofs.Lengths.{expression_length}
-use Rattle.lowering_follows.proofs.Environments.{CodeBound, FilterFits, HowFits, Match, same_length}
-use Rattle.lowering_follows.proofs.TaskClaims.{pushed, Within, Around, resumes, answers_search, Runs}
+use Rattle.linear_machine.proofs.Stretch.{Part, Site, frame_of, conf, Picked, Kept, Price, Join, Ways, found, Reaches, unwound, Targets, Claim, value_ways}
+use Rattle.linear_machine.proofs.StretchJoins.{after, targets_more, finishes_more, stops_more}
+use Rattle.linear_machine.proofs.Walks.{handlers_below, leaves}
 
 module _ (program : Program) (linear : LinearProgram) (rate body : ℕ) where
   -- an unwinding from a place inside its regions

@@ -2,9 +2,9 @@
 use Rattle.std.proofs.Common.{◌≡◌, ◌≤◌, ℕ, suc, ◌+◌, List, [], ◌∷◌, ◌++◌, length, refl, ap, sym, subst, ◌∙◌, arith, append-nil}
 use Rattle.std.proofs.lemmas.List.{length_push}
 use Rattle.std.specs.Prelude.{Bool, false, slice_get, Some}
-use Rattle.lowering_follows.specs.Words.{W32, W64, Operation, Long, width, extended, result_of, performed, Lvalue, Local, Global, Indirection, Element, Program, Exception, State, Value, Outcome, Gives, set_memory, with_value, and_then, Context, Eval, Raise, Retry, is_reserved, operate, locate, read, write, within, Temporary, Compute, LinearProgram, Store, Configuration, with_temporary, raise, is_constant, computed, exec, Names, address_count, read_size, expression_size, locate_size, combine, expression_code, read_code, write_code, locate_code, LvalueFits, expression_weight, lvalue_weight, HasAt}
+use Rattle.lowering_follows.specs.Words.{Operation, Long, width, extended, result_of, performed, Lvalue, Local, Global, Indirection, Element, Program, Exception, State, Value, Outcome, Gives, set_memory, with_value, and_then, Context, Eval, Raise, Retry, is_reserved, operate, locate, read, write, within, Temporary, Compute, LinearProgram, Store, Configuration, with_temporary, raise, is_constant, computed, exec, Names, address_count, read_size, expression_size, locate_size, combine, expression_code, read_code, write_code, locate_code, LvalueFits, expression_weight, lvalue_weight, HasAt}
 use Rattle.seh_num.specs.declared.width.Width.{Width}
-use Rattle.seh_num.specs.declared.width.Width.TheVariants.{W8, W16}
+use Rattle.seh_num.specs.declared.width.Width.TheVariants.{W8}
 use Rattle.c_operations.specs.declared.operation.Operation.TheVariants.{Pure, Load, Store as StoreTo}
 use Rattle.c_operations.specs.declared.operation.Pure.TheVariants as pures
 use Rattle.c_operations.specs.Performed as performing

@@ -1,7 +1,7 @@
 -- A raise asks the handlers that a search finds, in order.
-use Rattle.std.proofs.Common.{◌≡◌, ◌<◌, ◌≤◌, ℕ, suc, ◌+◌, ◌^◌, List, [], ◌∷◌, ◌++◌, length, refl, ap, sym, subst, ◌∙◌, arith, append_assoc}
+use Rattle.std.proofs.Common.{◌≡◌, ◌≤◌, ℕ, suc, ◌+◌, ◌^◌, List, [], ◌∷◌, ◌++◌, length, refl, ap, sym, subst, ◌∙◌, arith, append_assoc}
 use Rattle.std.specs.Prelude.{Bool, true, false, nat_eq, nat_lt, slice_get, Option, Some, None}
-use Rattle.lowering_follows.specs.Words.{W32, low, signed, Expression, Filter, Always, Funclet, Program, Exception, State, Value, Normal, Returned, Broke, Continued, LeftTry, Target, End, Outcome, Gives, choose, emit, hold, let_go, with_value, Context, Handler, Eval, Raise, RunFilter, raise_event, within, Temporary, LinearProgram, LinearFunclet, FuncletBody, Resumption, Item, Waits, Store, Finished, Next, pick, with_some, deeper, regions_at, handlers_in, handlers, target_past, unwind_body, unwind, target_of, begin_filter, raise, resumed, answered, end_funclet, exec, Names, expression_size, expression_code, expression_weight, HasAt}
+use Rattle.lowering_follows.specs.Words.{W32, low, signed, Expression, Filter, Always, Funclet, Program, Exception, State, Value, Normal, Target, Outcome, Gives, choose, emit, hold, let_go, with_value, Context, Handler, Eval, Raise, RunFilter, raise_event, within, Temporary, LinearProgram, LinearFunclet, FuncletBody, Resumption, Item, Waits, Store, Next, pick, with_some, deeper, regions_at, handlers_in, handlers, target_of, begin_filter, raise, resumed, answered, end_funclet, exec, Names, expression_size, expression_code, expression_weight, HasAt}
 use Rattle.seh_num.specs.declared.event.Event.TheVariants as events
 use Rattle.source_meaning.specs.Raises as source
 use Rattle.source_meaning.specs.Raises.{noncontinuable}
@@ -9,12 +9,11 @@ use Rattle.linear_code.specs.declared.instruction.Instruction.TheVariants.{Retur
 use Rattle.linear_code.specs.declared.program.FuncletKind.TheVariants as kinds
 use Rattle.linear_machine.specs.Frames.{Searches}
 use Rattle.linear_machine.specs.Frames as machine
-use Rattle.linear_machine.specs.Unwinding.{left_store}
 use Rattle.linear_machine.specs.Searching.{accept, consult, search}
-use Rattle.linear_machine.proofs.Stretch.{Part, at, Site, frame_of, conf, Picked, Kept, price, Price, Join, Ways, found, Reaches, unwound, Targets, Claim, value_ways, normal_ways, joins}
-use Rattle.linear_machine.proofs.StretchJoins.{more, after, then_value, targets_more, finishes_more, stops_more}
+use Rattle.linear_machine.proofs.Stretch.{Part, at, Site, frame_of, conf, Picked, Kept, price, found, unwound, Targets, Claim, value_ways, normal_ways, joins}
+use Rattle.linear_machine.proofs.StretchJoins.{more, then_value}
 use Rattle.linear_machine.proofs.SingleTurns.{prefix_self, still, stepped, fetch, sooner, deep_claim}
-use Rattle.linear_machine.proofs.Walks.{picked_at, handlers_below, leaves}
+use Rattle.linear_machine.proofs.Walks.{picked_at}
 use Rattle.lowering_follows.proofs.Stores.{Shape, everywhere}
 use Rattle.lowering_follows.proofs.Places.{has_front, has_after}
 use Rattle.lowering_follows.proofs.Lengths.{expression_length}

@@ -53,7 +53,7 @@ module _ (m m' : Memory) (t : Functions) (fs : List Funclet) (program : LinearPr
   activation_passed y sp size number (a ∷ outer) (FunctionBody f) i h =
       let lt = is_lower outer k base distance i in
       subst (λ x. HasActivation m' y sp size number x (FunctionBody f))
-          (sym (later_changes a outer k values lt))
+      (sym (later_changes a outer k values lt))
       (record {
         none = h.none;
         activation = record {
@@ -142,8 +142,13 @@ module _ (m m' : Memory) (t : Functions) (fs : List Funclet) (program : LinearPr
       → HoldsLocals m y sp size number a outer
       → HasActivation m' y sp size number (record a { values = values } ∷ outer) (FunctionBody f)
   own_activation y sp size number f a outer own le words h =
-      let at : from ≡ sp + y.locals = omega (arith, h.activation.base, h.activation.distance,
-          own.base, own.distance) in
+      let at : from ≡ sp + y.locals = omega (
+        arith,
+        h.activation.base,
+        h.activation.distance,
+        own.base,
+        own.distance,
+      ) in
       record {
         none = h.none;
         activation = record {
@@ -224,7 +229,7 @@ module _ (m m' : Memory) (t : Functions) (fs : List Funclet) (program : LinearPr
         let y = p.layout b.body in
         let nine = frame.kept in
         let e : rsp (after_frame c f) ≡ rsp c + f.size + 8 =
-            set_head c.kept (rsp c + f.size + 8) (omega arith) in
+        set_head c.kept (rsp c + f.size + 8) (omega arith) in
         let l = in_stack t fs program p m (after_frame c f) is below outer rest linked in
         let at : from ≡ rsp c + y.locals = omega
         (arith, locals.activation.base, locals.activation.distance, own.base, own.distance) in
@@ -234,7 +239,7 @@ module _ (m m' : Memory) (t : Functions) (fs : List Funclet) (program : LinearPr
         let r = below_them (rsp c) low end keeps in
         let r' = above_them (rsp c) low (omega arith) keeps in
         let last : temporaries_end y b.body f.size ≡ y.locals =
-            ap (λ x. temporaries_end y x f.size) name in
+        ap (λ x. temporaries_end y x f.size) name in
         let temps = words_kept m m' from (rsp c) (rsp c + y.temporaries)
         (rsp c + temporaries_end y b.body f.size) b.temporaries r (omega arith) (omega arith)
         h.waits.temporaries in
@@ -243,8 +248,10 @@ module _ (m m' : Memory) (t : Functions) (fs : List Funclet) (program : LinearPr
         subst (λ acts. IsLinkedStack t fs program p m' c (Framed f ∷ is) (Waits b ∷ below) acts)
         (sym (first_changes a outer k values own.number))
         (record {
-          stack = (frame_above m m' STACK_END t fs program p to c f r' le (omega arith) frame,
-              outermost.stack);
+          stack = (
+            frame_above m m' STACK_END t fs program p to c f r' le (omega arith) frame,
+            outermost.stack,
+          );
           linked = (
             record {
               framed = h.framed;
@@ -266,7 +273,7 @@ module _ (m m' : Memory) (t : Functions) (fs : List Funclet) (program : LinearPr
     passes_frame : (c : Context) (f : StackFrame) (is : List StackItem) (b : Frame)
         (below : List Item) (acts : List Activation) → passes acts b.body
         → KeepsStackBut m m' (rsp c) from to → STACK_START ≤ rsp c → FrameIsAt t m c f
-            → rsp c + f.size + 8 ≤ from
+        → rsp c + f.size + 8 ≤ from
         → FrameWaits t fs program p m c f b below acts → IsAbove t fs program p b b.body below
         → Stored (after_frame c f) is below (activations_below b.body acts)
         → Stored c (Framed f ∷ is) (Waits b ∷ below) acts
@@ -286,7 +293,7 @@ module _ (m m' : Memory) (t : Functions) (fs : List Funclet) (program : LinearPr
     passes_leaf : (c : Context) (back : ℕ) (is : List StackItem) (b : Frame) (below : List Item)
         (acts : List Activation) → passes acts b.body
         → KeepsStackBut m m' (rsp c) from to → STACK_START ≤ rsp c → LeafIsAt t m c back
-            → rsp c + home_end ≤ from
+        → rsp c + home_end ≤ from
         → LeafWaits t fs program p m c back b below acts → IsAbove t fs program p b b.body below
         → Stored (after_leaf c back) is below (activations_below b.body acts)
         → Stored c (Leaf back ∷ is) (Waits b ∷ below) acts
@@ -314,11 +321,11 @@ module _ (m m' : Memory) (t : Functions) (fs : List Funclet) (program : LinearPr
     upper c f is b below acts name same i keeps low frame stack h above linked rest =
         let nine = frame.kept in
         let e : rsp (after_frame c f) ≡ rsp c + f.size + 8 =
-            set_head c.kept (rsp c + f.size + 8) (omega arith) in
+        set_head c.kept (rsp c + f.size + 8) (omega arith) in
         let high = (are_there t fs program p m (after_frame c f) is below
         (activations_below name acts) k base distance stack linked i).low_end in
         passes_frame c f is b below acts (subst (λ x. passes acts x) (sym same) i) keeps low frame
-            (omega arith) h above
+        (omega arith) h above
         (subst (λ x. Stored (after_frame c f) is below (activations_below x acts)) (sym same) rest)
 
     leaf_upper : (c : Context) (back : ℕ) (is : List StackItem) (b : Frame) (below : List Item)
@@ -337,12 +344,12 @@ module _ (m m' : Memory) (t : Functions) (fs : List Funclet) (program : LinearPr
         passes_leaf c back is b below acts (subst (λ x. passes acts x) (sym same) i) keeps low leaf
         (omega arith) h above
         (subst (λ x. Stored (after_leaf c back) is below (activations_below x acts))
-            (sym same) rest)
+        (sym same) rest)
 
     -- this frame's own, or that of one above
     by_frame : (c : Context) (f : StackFrame) (is : List StackItem) (b : Frame) (below : List Item)
         (acts : List Activation) (name : BodyName) → b.body ≡ name
-            → IsActivation acts k base distance
+        → IsActivation acts k base distance
         → Fits acts
         → KeepsStackBut m m' (rsp c) from to → STACK_START ≤ rsp c → FrameIsAt t m c f
         → IsStack t m (after_frame c f) is
@@ -356,11 +363,11 @@ module _ (m m' : Memory) (t : Functions) (fs : List Funclet) (program : LinearPr
         absurd i
     by_frame c f is b below (a ∷ outer) (FunctionBody n) same (inl own) fits keeps low frame stack h
         locals above linked rest = own_function c f is b below a outer n same own fits keeps low
-            frame
+        frame
         stack h locals above linked
     by_frame c f is b below (a ∷ outer) (FunctionBody n) same (inr i) fits keeps low frame stack h
         locals above linked rest = upper c f is b below (a
-            ∷ outer) (FunctionBody n) same i keeps low
+        ∷ outer) (FunctionBody n) same i keeps low
         frame stack h above linked (rest i)
     by_frame c f is b below (a ∷ outer) (FuncletBody j) same i fits keeps low frame stack h locals
         above linked rest = upper c f is b below (a ∷ outer) (FuncletBody j) same i keeps low frame
@@ -368,7 +375,7 @@ module _ (m m' : Memory) (t : Functions) (fs : List Funclet) (program : LinearPr
 
     by_leaf : (c : Context) (back : ℕ) (is : List StackItem) (b : Frame) (below : List Item)
         (acts : List Activation) (name : BodyName) → b.body ≡ name
-            → IsActivation acts k base distance
+        → IsActivation acts k base distance
         → (k ≡ length (activations_below name acts) → p.leaf b.body ≡ false)
         → KeepsStackBut m m' (rsp c) from to → STACK_START ≤ rsp c → LeafIsAt t m c back
         → IsStack t m (after_leaf c back) is
@@ -397,7 +404,7 @@ module _ (m m' : Memory) (t : Functions) (fs : List Funclet) (program : LinearPr
     stored c (Framed f ∷ is) (Waits b ∷ below) acts s h i o fits keeps low =
         let e = rises t m c (Framed f) s.0 in
         by_frame c f is b below acts b.body refl i fits keeps low s.0 s.1 h.0 h.0.waits.activation
-            h.1 h.2
+        h.1 h.2
         (λ j. stored (after_frame c f) is below (activations_below b.body acts) s.1 h.2 j o.1
         (outer_fits acts b.body fits) (kept_from (rsp c) (rsp (after_frame c f)) (omega arith)
         keeps) (omega arith))
@@ -412,7 +419,7 @@ module _ (m m' : Memory) (t : Functions) (fs : List Funclet) (program : LinearPr
         let e = rises t m c (Searching d) s.0 in
         let a = s.0.above in
         let high = (are_there t fs program p m (context_of d.saved) is below acts k base distance
-            s.1 h.1 i).low_end in
+        s.1 h.1 i).low_end in
         let r = below_them (rsp c) low end keeps in
         let outer = stored (context_of d.saved) is below acts s.1 h.1 i o fits
         (kept_from (rsp c) (rsp (context_of d.saved)) (omega arith) keeps) (omega arith) in
@@ -440,7 +447,7 @@ module _ (m m' : Memory) (t : Functions) (fs : List Funclet) (program : LinearPr
         let e = rises t m c (Unwinding d) s.0 in
         let a = s.0.above in
         let high = (are_there t fs program p m d.walk is below acts k base distance s.1 h.1
-            i).low_end in
+        i).low_end in
         let r = below_them (rsp c) low end keeps in
         let outer = stored d.walk is below acts s.1 h.1 i o fits
         (kept_from (rsp c) (rsp d.walk) (omega arith) keeps) (omega arith) in

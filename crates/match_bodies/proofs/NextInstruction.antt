@@ -22,8 +22,11 @@ module _ (setting : Setting) where
   further c acts label values ts landed source events = record {
     frame = record c.frame { next = label; temporaries = ts; landed = landed };
     below = c.below;
-    store = record { memory = source; activations =
-        locals_of (with_values acts c.frame.activation values) };
+    store = record {
+      memory = source;
+      activations =
+          locals_of (with_values acts c.frame.activation values);
+    };
     events = events;
   }
 
@@ -124,8 +127,8 @@ module _ (setting : Setting) where
           let room = last_room setting s c b counted in
           let few = r.leaves.few in
           words_are u.memory (sp + y.temporaries)
-              (sp + last_temporary y c.frame.body (p.leaf c.frame.body)) ts
-              (omega arith) new_temporary
+          (sp + last_temporary y c.frame.body (p.leaf c.frame.body)) ts
+          (omega arith) new_temporary
 
       -- a word that is in no slot
       kept_word : (at v : ℕ) → STACK_START ≤ at → at + 8 ≤ STACK_END
@@ -134,7 +137,7 @@ module _ (setting : Setting) where
           → word u.memory at ≡ Ok v
       kept_word at v l h out w = word_beside program.globals s u y (counts_of code) sp
           c.frame.activation b.body.acts here cnt r.changed b.memory.data_alone b.memory.stack at v
-              l
+          l
           h out w
 
       -- ---- by the kind of body
@@ -159,11 +162,15 @@ module _ (setting : Setting) where
       own_activation number size (a ∷ outer) e h le =
           let base = function_base h.none in
           subst (λ x. HasActivation u.memory y sp size c.frame.activation x (FunctionBody number))
-              (sym (first_changes a outer c.frame.activation values h.activation.number))
+          (sym (first_changes a outer c.frame.activation values h.activation.number))
           (record {
             none = h.none;
-            activation = record { number = h.activation.number; base = h.activation.base; distance =
-                h.activation.distance };
+            activation = record {
+              number = h.activation.number;
+              base = h.activation.base;
+              distance =
+                  h.activation.distance;
+            };
             values = subst (λ x. HoldsWords u.memory (x + y.locals) (sp + size) values) base
                 (new_locals (sp + size) (omega arith));
           })
@@ -182,8 +189,11 @@ module _ (setting : Setting) where
           let base = function_base f.layout.none in
           let x = f.layout.temporaries in
           let z = f.layout.locals in
-          elim i [ inl w ↦ (let g = w.1 in absurd (omega arith)) | inr w ↦ (let g = w.1 in
-              absurd (omega arith)) ]
+          elim i [
+            | inl w ↦ (let g = w.1 in absurd (omega arith))
+            | inr w ↦ (let g = w.1 in
+                absurd (omega arith))
+          ]
 
       leaf_beside : AsLeaf setting s c b counted → Beside y.frame
       leaf_beside f a l h i =
@@ -191,8 +201,11 @@ module _ (setting : Setting) where
           let x = f.layout.temporaries in
           let z = f.layout.locals in
           let n = f.layout.frame in
-          elim i [ inl w ↦ (let g = w.0 in absurd (omega arith)) | inr w ↦ (let g = w.0 in
-              absurd (omega arith)) ]
+          elim i [
+            | inl w ↦ (let g = w.0 in absurd (omega arith))
+            | inr w ↦ (let g = w.0 in
+                absurd (omega arith))
+          ]
 
       funclet_beside : (f : AsFunclet setting s c b counted) → (offset : ℕ) →
           (offset + 8 ≤ y.temporaries) ⊎ (y.frame ≡ offset) → Beside offset
@@ -202,8 +215,11 @@ module _ (setting : Setting) where
           elim i [
             | inl w ↦ (let g = w.0 in let z = w.1 in
                 elim o [ inl e ↦ absurd (omega arith) | inr e ↦ absurd (omega arith) ])
-            | inr w ↦ (let g = w.0 in elim o [ inl e ↦ absurd (omega arith) | inr
-                e ↦ absurd (omega arith) ])
+            | inr w ↦ (let g = w.0 in elim o [
+              | inl e ↦ absurd (omega arith)
+              | inr
+                  e ↦ absurd (omega arith)
+            ])
           ]
 
       -- the return address
@@ -225,20 +241,20 @@ module _ (setting : Setting) where
         | inl f ↦ subst (λ l. HasActivation u.memory y sp (slots_end y l) c.frame.activation
             (with_values b.body.acts c.frame.activation values) c.frame.body) (sym f.framed)
             (subst (λ n. HasActivation u.memory y sp y.frame c.frame.activation
-                (with_values b.body.acts c.frame.activation values) n) (sym f.name)
+            (with_values b.body.acts c.frame.activation values) n) (sym f.name)
             (own_activation f.number y.frame b.body.acts refl f.activation (let n = r.leaves.count
-                in let z = f.layout.locals in omega arith)))
+            in let z = f.layout.locals in omega arith)))
         | inr (inl f) ↦ subst (λ l. HasActivation u.memory y sp (slots_end y l) c.frame.activation
             (with_values b.body.acts c.frame.activation values) c.frame.body) (sym f.leaf)
             (subst (λ n. HasActivation u.memory y sp y.temporaries c.frame.activation
-                (with_values b.body.acts c.frame.activation values) n) (sym f.name)
+            (with_values b.body.acts c.frame.activation values) n) (sym f.name)
             (own_activation f.number y.temporaries b.body.acts refl f.activation
             (let n = r.leaves.count in let x = f.layout.temporaries in let z = f.layout.locals in
             omega arith)))
         | inr (inr f) ↦ subst (λ l. HasActivation u.memory y sp (slots_end y l) c.frame.activation
             (with_values b.body.acts c.frame.activation values) c.frame.body) (sym f.framed)
             (subst (λ n. HasActivation u.memory y sp y.frame c.frame.activation
-                (with_values b.body.acts c.frame.activation values) n) (sym f.name)
+            (with_values b.body.acts c.frame.activation values) n) (sym f.name)
             (record {
               slot = f.activation.slot;
               base = f.activation.base;
@@ -247,7 +263,7 @@ module _ (setting : Setting) where
               kept = (let k = funclet_base f.number y.frame f.activation in let z =
                   k.below_temporaries in let l = low in let h = top in let w = f.activation.room in
                   kept_word (sp + f.activation.slot) f.activation.base (omega arith) (omega arith)
-                      (funclet_beside f f.activation.slot (inl z)) f.activation.kept);
+                  (funclet_beside f f.activation.slot (inl z)) f.activation.kept);
               activation = still_is b.body.acts c.frame.activation values c.frame.activation
                   f.activation.base y.locals f.activation.activation;
             }))
@@ -273,7 +289,7 @@ module _ (setting : Setting) where
                   room = h.room;
                   kept = kept_word (sp + y.pointers) (sp + y.frame + 88)
                       (omega arith) (omega arith)
-                          (funclet_beside f y.pointers (inl (omega arith))) h.kept;
+                      (funclet_beside f y.pointers (inl (omega arith))) h.kept;
                 })
           ]
 
@@ -316,15 +332,15 @@ module _ (setting : Setting) where
             let base = function_base f.layout.none in
             subst New (sym f.name)
             (subst (λ acts. IsLinkedStack t fs program p u.memory above b.body.is c.below acts)
-                (function_below f.number b.body.acts y.frame f.activation)
+            (function_below f.number b.body.acts y.frame f.activation)
             (kept_by_other_memories t fs program p s.memory u.memory above b.body.is c.below
-                (activations_below (FunctionBody f.number) b.body.acts)
+            (activations_below (FunctionBody f.number) b.body.acts)
             (stack_kept program.globals s u y (counts_of code) sp c.frame.activation b.body.acts
             here cnt r.changed b.memory.data_alone b.memory.stack (sp + y.frame + 8) (omega arith)
             (omega arith) (omega arith))
             (omega arith)
             (subst (λ n. IsLinkedStack t fs program p s.memory above b.body.is c.below
-                (activations_below n b.body.acts)) f.name old)))
+            (activations_below n b.body.acts)) f.name old)))
 
         new_leaf : (f : AsLeaf setting s c b counted) → New c.frame.body
         new_leaf f =
@@ -340,7 +356,7 @@ module _ (setting : Setting) where
             (omega arith) (omega arith) (omega arith) in
             subst New (sym f.name)
             (subst (λ acts. IsLinkedStack t fs program p u.memory above b.body.is c.below acts)
-                (function_below f.number b.body.acts y.temporaries f.activation)
+            (function_below f.number b.body.acts y.temporaries f.activation)
             (home_is_free s.memory u.memory t fs program p image.laid_out above
             (record {
               bytes = λ a from to out. elim out
@@ -350,9 +366,9 @@ module _ (setting : Setting) where
               no_more_code = keep.no_more_code;
             })
             (omega arith) b.body.is c.below (activations_below (FunctionBody f.number) b.body.acts)
-                (caller f.leaf)
+            (caller f.leaf)
             (subst (λ n. IsLinkedStack t fs program p s.memory above b.body.is c.below
-                (activations_below n b.body.acts)) f.name old)))
+            (activations_below n b.body.acts)) f.name old)))
 
         new_funclet : (f : AsFunclet setting s c b counted) → New c.frame.body
         new_funclet f =
@@ -360,9 +376,9 @@ module _ (setting : Setting) where
             let x = f.layout.temporaries in
             let kept = funclet_base f.number y.frame f.activation in
             let base : f.activation.base ≡ here.base =
-                same_word f.activation.base here.base (sym f.activation.kept ∙ kept.word_is) in
+            same_word f.activation.base here.base (sym f.activation.kept ∙ kept.word_is) in
             let function_layout : IsFunctionLayout
-                (p.layout (FunctionBody f.plan.funclet.function)) f.plan.function =
+            (p.layout (FunctionBody f.plan.funclet.function)) f.plan.function =
             subst (λ l. IsLayoutIf program p (p.layout (FunctionBody f.plan.funclet.function))
             f.plan.function l) f.plan.function_framed
             (image.laid_out (FunctionBody f.plan.funclet.function) f.plan.function
@@ -377,15 +393,15 @@ module _ (setting : Setting) where
             let m : code.locals ≡ length values = sym r.leaves.count in
             subst New (sym f.name)
             (activations_are_stored t fs program p s.memory u.memory above b.body.is c.below
-                b.body.acts c.frame.activation here.base y.locals here.values values
+            b.body.acts c.frame.activation here.base y.locals here.values values
             (subst (λ n. IsLinkedStack t fs program p s.memory above b.body.is c.below
-                (activations_below n b.body.acts)) f.name old)
+            (activations_below n b.body.acts)) f.name old)
             (omega arith)
             (subst (λ x. IsActivation b.body.acts c.frame.activation x y.locals) base
-                f.activation.activation)
+            f.activation.activation)
             (omega arith) (owner f.number f.name) here.number n
             (subst (λ n. KeepsStackBut s.memory u.memory (sp + y.frame + 8) (here.base + y.locals)
-                (here.base + y.locals + 8 * n)) m keep)
+            (here.base + y.locals + 8 * n)) m keep)
             (new_locals (here.base + y.locals + 8 * length values) (omega arith)))
 
         pub new_list : New c.frame.body
@@ -405,7 +421,7 @@ module _ (setting : Setting) where
       module _ (label : ℕ) (landed : Option ℕ) (events : List Event)
           (rip : u.cpu.rip ≡ p.address c.frame.body label) (inside : label < length code.code)
           (well_formed : IsWellFormed u) (result : (value : ℕ) → landed ≡ Some value
-              → register u.cpu Rax ≡ value)
+          → register u.cpu Rax ≡ value)
           (caller : p.leaf c.frame.body ≡ true → CallerHasFrame p c.below)
           (owner : (k : ℕ) → c.frame.body ≡ FuncletBody k
           → OwnerHasFrame t fs program p c.frame.activation c.below b.body.acts) where
@@ -423,7 +439,7 @@ module _ (setting : Setting) where
 
         slots : BodyWaits t fs program p u.memory (context_of u.cpu)
             (slots_end y (p.leaf c.frame.body))
-                (last_temporary y c.frame.body (p.leaf c.frame.body))
+            (last_temporary y c.frame.body (p.leaf c.frame.body))
             next.frame (with_values b.body.acts c.frame.activation values)
         slots = record {
           code = code;

@@ -1,9 +1,9 @@
 -- A `__finally` block begins: base and flag are kept, and its first instruction follows.
-use Rattle.std.proofs.Common.{◌≡◌, ℕ, zero, suc, ◌+◌, ◌*◌, ◌<◌, ◌≤◌, Bool, true, false, Option, Some, None, List, [], ◌∷◌, ◌++◌, length, refl, sym, ap, subst, ◌∙◌, arith, inl, inr, append_assoc}
+use Rattle.std.proofs.Common.{◌≡◌, ℕ, ◌+◌, ◌*◌, ◌<◌, ◌≤◌, Bool, true, false, Some, None, List, [], ◌∷◌, ◌++◌, length, refl, sym, ap, subst, ◌∙◌, arith, inl, inr, append_assoc}
 use Rattle.std.specs.Prelude.{slice_get, slice_index, slice_set}
 use Rattle.std.proofs.lemmas.Option.{slice_get_within, slice_get_cases}
 use Rattle.std.proofs.lemmas.List.{append-nil}
-use Rattle.match_turns.specs.Words.{STACK_START, STACK_END, W32, low, Event, Memory, number_at, Rax, Rcx, Rdx, Rsp, Instr, State, register, of_test, no_exception, Local, FuncletKind, BodyState, with_slot, LinearBody, LinearFunclet, BodyName, FuncletBody, funclet_body, Item, Store, Configuration, flag_of, Layout, sizes, move, put_back, keep, local_at, machine, HasCode, Enters, FramePlace, ReachesBody, StackItem, is_encodable, IsFinallyKind, parent_of, function_of, owner_of, IsFuncletOf, owners_of, by_parent, Activation, locals_of, IsActivation, HasSpace, below_end, record_room, HasPointers, FuncletIsAbove, IsWellFormed, KeepsShadow, AllKeep, LeadsTo, parent_base, keep_argument, FindsReturn, with_values, OwnerHasFrame, IsKnown, entry_turns, FlagsFit, LARGEST_FRAME, Setting, HasProgram, IsMachineMemory, RepresentsAt, set_local, flag_in, keep_local, Steps, is_call, begin_of, making_size, frame_at, state_of}
+use Rattle.match_turns.specs.Words.{STACK_START, STACK_END, W32, low, Event, Memory, number_at, Rax, Rcx, Rdx, Rsp, Instr, State, register, of_test, no_exception, Local, BodyState, with_slot, LinearBody, LinearFunclet, BodyName, FuncletBody, funclet_body, Item, Store, Configuration, flag_of, Layout, sizes, move, put_back, keep, local_at, machine, HasCode, Enters, FramePlace, ReachesBody, StackItem, is_encodable, IsFinallyKind, parent_of, function_of, owner_of, IsFuncletOf, owners_of, by_parent, Activation, locals_of, IsActivation, HasSpace, below_end, record_room, HasPointers, FuncletIsAbove, IsWellFormed, KeepsShadow, AllKeep, LeadsTo, parent_base, keep_argument, FindsReturn, with_values, OwnerHasFrame, IsKnown, entry_turns, FlagsFit, LARGEST_FRAME, Setting, HasProgram, IsMachineMemory, RepresentsAt, keep_local, Steps, is_call, begin_of, making_size, frame_at, state_of}
 use Rattle.linear_code.specs.declared.program.FuncletKind.TheVariants as funclets
 use Rattle.linear_machine.specs.Frames as linear
 use Rattle.template_code.specs.Slots.{fetched}
@@ -27,18 +27,18 @@ module _ (setting : Setting) where
   module _ (s : State) (k flag activation held : ℕ) (abnormal : Bool) (items : List Item)
       (store : Store) (events : List Event) (acts : List Activation)
       (a : ArrivesBelow t fs program p s k activation (of_test abnormal) items acts)
-          (name : BodyName) (known : IsFuncletOf program name IsFinallyKind k)
+      (name : BodyName) (known : IsFuncletOf program name IsFinallyKind k)
       (flagged : flag_of (slice_get program.funclets k) ≡ Some flag) (fits : FlagsFit program)
       (memory : IsMachineMemory setting s.memory store.memory) (stored : store.activations ≡
       locals_of acts)
       (space : STACK_END ≤ a.at + (below_end + record_room) + LARGEST_FRAME * (length acts + held))
-          (few : length acts + held + 2 ≤ 1000)
+      (few : length acts + held + 2 ≤ 1000)
       (pointers : (m : Memory) (sp size : ℕ) → HasPointers t fs program p m
-          (p.layout (FuncletBody k)) sp size items)
+      (p.layout (FuncletBody k)) sp size items)
       (above : (g : LinearFunclet) → g.kind ≡ funclets.Finally flag → FuncletIsAbove t fs program p
       k (first_frame setting k activation no_exception (held + 2)) (Some g) items)
       (typed : IsKnown program (block_begins k flag activation held abnormal items store
-          events)) where
+      events)) where
     abbrev f : LinearFunclet
     f = known.funclet
 
@@ -144,24 +144,24 @@ module _ (setting : Setting) where
         let h = has_locals in
         let lt = slice_get_within _ activation h.locals h.there in
         let n = set_count store.activations activation
-            (slice_set (linear.locals_of store activation) flag (of_test abnormal)) in
+        (slice_set (linear.locals_of store activation) flag (of_test abnormal)) in
         let same : h.locals ≡ slice_set (linear.locals_of store activation) flag
-            (of_test abnormal) = same_list h.locals _ (sym h.there
-            ∙ set_here store.activations activation
-            (slice_set (linear.locals_of store activation) flag (of_test abnormal)) (omega arith))
-            in
+        (of_test abnormal) = same_list h.locals _ (sym h.there
+        ∙ set_here store.activations activation
+        (slice_set (linear.locals_of store activation) flag (of_test abnormal)) (omega arith))
+        in
         sym (set_length (linear.locals_of store activation) flag (of_test abnormal)) ∙ sym
         (ap length same) ∙ locals_counted setting k f works.0 h.locals known.there function_is
         h.of
         ∙ ap (λ (z : LinearBody). z.locals) (same_body f.body b (sym (ap funclet_body known.there)
-            ∙ is))
+        ∙ is))
 
     framed_owner : OwnerHasFrame t fs program p activation items acts
     framed_owner = owner_framed setting activation items acts
         (sym (ap length stored ∙ locals_count acts)
-            ∙ sym (set_count store.activations activation
-            (slice_set (linear.locals_of store activation) flag (of_test abnormal)))
-            ∙ sym (as_many program (owners_of items) _ typed.activations.stored))
+        ∙ sym (set_count store.activations activation
+        (slice_set (linear.locals_of store activation) flag (of_test abnormal)))
+        ∙ sym (as_many program (owners_of items) _ typed.activations.stored))
         typed.activations.working.1
         (λ function z. subst (λ j. p.leaf (linear.FunctionBody j) ≡ false)
         (same_number works.0 function (sym works.2 ∙ z)) (no_leaf setting k works.0 works.1).1)
@@ -184,8 +184,11 @@ module _ (setting : Setting) where
     code_here = subst (λ z. HasCode e.after.memory e.rip (keep_argument y z)) kind_is e.code
 
     abbrev r : ReachesBody fr (length last) (machine e.after e.rip e.flags)
-        (e.rip + sizes last) e.after.rest (record { slots =
-        with_slot old.slots (Local flag) (low W32 e.after.rcx); memory = old.memory })
+        (e.rip + sizes last) e.after.rest (record {
+          slots =
+              with_slot old.slots (Local flag) (low W32 e.after.rcx);
+          memory = old.memory;
+        })
     r = flag_run fr (Local flag) e.after e.rip e.flags old (room_here setting s1 c1 b1 counted)
         flag_fits (e.at ∙ sym stack_1) (holds_here setting s1 c1 b1 counted) code_here
 
@@ -221,10 +224,22 @@ module _ (setting : Setting) where
     ran_here =
         let z = reaches_keeps (length last) (machine e.after e.rip e.flags) u r.comes in
         record {
-          changed = record { changes = record { protection = r.changes.protection; byte =
-              r.changes.byte; bytes = r.changes.bytes }; keeps =
-              record { protection = z.protection; fixed = z.fixed; count = z.count; small =
-              z.small } };
+          changed = record {
+            changes = record {
+              protection = r.changes.protection;
+              byte =
+                  r.changes.byte;
+              bytes = r.changes.bytes;
+            };
+            keeps =
+                record {
+                  protection = z.protection;
+                  fixed = z.fixed;
+                  count = z.count;
+                  small =
+                      z.small;
+                };
+          };
           holds = r.holds;
           stack = ap (λ (xs : List ℕ). slice_index xs 1) r.rest;
           leaves = leaves;
@@ -256,8 +271,16 @@ module _ (setting : Setting) where
         store events)
     represents_here =
         subst (λ (xs : List (List ℕ)). let o : Configuration = record {
-          frame = record { body = FuncletBody k; next = 0; activation = activation; exception =
-              no_exception; held = held + 2; temporaries = []; landed = None };
+          frame = record {
+            body = FuncletBody k;
+            next = 0;
+            activation = activation;
+            exception =
+                no_exception;
+            held = held + 2;
+            temporaries = [];
+            landed = None;
+          };
           below = items;
           store = record { memory = store.memory; activations = xs };
           events = events;
@@ -333,8 +356,17 @@ module _ (setting : Setting) where
     beneath_1 : Beneath t y1 top1 (top1 + 8) b1.body.back others1 list1
     beneath_1 =
         let g = begins_beneath setting s1 c1 b1 counted in
-        record { others_are = g.others_are; count = g.count; returns = g.returns; list = g.list;
-            owned = g.owned; past = g.past; high = g.high; limit = g.limit; no_code = g.no_code }
+        record {
+          others_are = g.others_are;
+          count = g.count;
+          returns = g.returns;
+          list = g.list;
+          owned = g.owned;
+          past = g.past;
+          high = g.high;
+          limit = g.limit;
+          no_code = g.no_code;
+        }
 
     run_3 : StepsTo 3 y1 u
     run_3 = subst (λ n. StepsTo n y1 u) (ap (λ (xs : List Instr). length xs) last_is)
@@ -360,12 +392,12 @@ module _ (setting : Setting) where
     finds : Finds t fs program p q top1 (top1 + 8) b1.body.back others1 list1 y1.cpu.rip mid y.frame
     finds done left split m h =
         let z : begin + sizes (base ++ done) ≡ y1.cpu.rip + sizes done =
-            omega (arith, kept_base.rip, sizes_append base done) in
+        omega (arith, kept_base.rip, sizes_append base done) in
         subst (λ n. FindsReturn t m n y.frame) z
         (argument_found setting (FuncletBody k) f.body (ap funclet_body l.there) m h some
         (base ++ done) (left ++ (storing ∷ []))
         (all_parts ∙ ap (λ (xs : List Instr). (base ++ xs) ++ (storing ∷ [])) split
-            ∙ assoc base done left (storing ∷ [])))
+        ∙ assoc base done left (storing ∷ [])))
       where
         assoc : (a b c d : List Instr) → (a ++ (b ++ c)) ++ d ≡ (a ++ b) ++ (c ++ d)
         assoc a b c d = ap (λ (xs : List Instr). xs ++ d) (sym (append_assoc a b c))
@@ -375,16 +407,16 @@ module _ (setting : Setting) where
     middle =
         let place : begin + sizes base ≡ y1.cpu.rip = sym kept_base.rip in
         let code = (code_split y1.memory (begin + sizes base) mid []
-            (subst (HasCode y1.memory (begin + sizes base)) (sym (append-nil mid))
-            (code_split y1.memory begin base mid (codes y1.memory kept_base.has).0).1)).0 in
+        (subst (HasCode y1.memory (begin + sizes base)) (sym (append-nil mid))
+        (code_split y1.memory begin base mid (codes y1.memory kept_base.has).0).1)).0 in
         let small = l.plan.layout.small in
         let kept = l.plan.layout.kept in
         let at = l.plan.layout.temporaries in
         ran t fs program p q top1 (top1 + 8) b1.body.back others1 list1 mid y1 x y.frame 8
-            (run_3.0, run_3.1, (x, run_2.1, refl))
+        (run_3.0, run_3.1, (x, run_2.1, refl))
         ((refl, inl refl), ((near slot (omega arith), inl refl), tt))
-            (subst (λ n. HasCode y1.memory n mid) place code) kept_base.has beneath_1 refl refl
-            finds
+        (subst (λ n. HasCode y1.memory n mid) place code) kept_base.has beneath_1 refl refl
+        finds
 
     -- the store leads to another memory, in which the same list is
     others_there : others_of u.cpu.registers ≡ others1
@@ -406,26 +438,26 @@ module _ (setting : Setting) where
     storing_keeps : KeepsShadow t fs x u
     storing_keeps =
         let here' : begin + sizes (base ++ mid) ≡ x.cpu.rip =
-            omega (arith, middle.rip, kept_base.rip, sizes_append base mid) in
+        omega (arith, middle.rip, kept_base.rip, sizes_append base mid) in
         let code = subst (λ n. HasCode x.memory n (storing ∷ [])) here'
-            (codes x.memory middle.has).1 in
+        (codes x.memory middle.has).1 in
         let z = room_here setting s1 c1 b1 counted in
         let near_local = z.locals in
         let fitting = flag_fits in
         let enc : is_encodable storing ≡ true = near (local_at y flag) (omega arith) in
         let found_x = subst (λ n. FindsReturn t x.memory n y.frame) (sym middle.rip)
-            (finds mid [] (sym (append-nil mid)) x.memory middle.has) in
+        (finds mid [] (sym (append-nil mid)) x.memory middle.has) in
         let has_u = program_kept t fs program p q x.memory u.memory
-            (record { protection = last_step.protection; fixed = last_step.fixed }) middle.has in
+        (record { protection = last_step.protection; fixed = last_step.fixed }) middle.has in
         let found_u = subst (λ n. FindsReturn t u.memory n y.frame) (sym rip_here)
-            (first_found u.memory has_u) in
+        (first_found u.memory has_u) in
         let at_x = middle.stack in
         let up : register u.cpu Rsp + y.frame ≡ top1 =
-            ap (λ (xs : List ℕ). slice_index xs 1 + y.frame) r.rest in
+        ap (λ (xs : List ℕ). slice_index xs 1 + y.frame) r.rest in
         straight t fs x u (callers_above t top1 b1.body.back others1 list1) last_step.steps
-            (ap is_call (read_here x u storing [] enc code))
+        (ap is_call (read_here x u storing [] enc code))
         (gives_here t fs top1 (top1 + 8) b1.body.back others1 list1 x y.frame middle.beneath found_x
-            (ap (λ n. n + y.frame) at_x))
+        (ap (λ n. n + y.frame) at_x))
         (gives_here t fs top1 (top1 + 8) b1.body.back others1 list1 u y.frame beneath_u found_u up)
         (let h : register u.cpu Rsp + 8 ≤ top1 + 8 = omega arith in h)
       where
@@ -440,11 +472,11 @@ module _ (setting : Setting) where
     keeps_shadow : AllKeep t fs (e.turns + length last) s
     keeps_shadow =
         let three = keeps_split t fs 2 1 y1 x (run_3.0, run_3.1, (x, run_2.1, refl)) middle.keeps
-            (keep_first t fs 0 x u last_step.steps storing_keeps tt) in
+        (keep_first t fs 0 x u last_step.steps storing_keeps tt) in
         keeps_split t fs e.turns (length last) s y1
-            (enters_steps e.turns s y1 e.comes) kept_base.keeps
-            (subst (λ n. AllKeep t fs n y1) (sym (ap (λ (xs : List Instr). length xs) last_is))
-            three)
+        (enters_steps e.turns s y1 e.comes) kept_base.keeps
+        (subst (λ n. AllKeep t fs n y1) (sym (ap (λ (xs : List Instr). length xs) last_is))
+        three)
 
     pub block_leads : LeadsTo t fs entry_turns (RepresentsAt setting) s
         (block_begins k flag activation held abnormal items store events)

@@ -3,7 +3,6 @@ use Rattle.std.proofs.Common.{◌≡◌, ℕ, ◌+◌, ◌-◌, ◌<◌, ◌≤�
 use Rattle.std.specs.Prelude.{nat_le, if◌then◌else◌}
 use Rattle.std.proofs.lemmas.Bool.{cases_lt, le-leb}
 use Rattle.match_turns.specs.Words.{STACK_START, STACK_END, Rsp, Instr, register, LinearBody, FunctionBody, body_of, Layout, sizes, spelled, enter_code, parameters_code, check_stack, enter_large, HasBelow, HasCode, making, IsFunctionLayout, IsLeafLayout, IsLayoutIf, Setting}
-use Rattle.linear_code.specs.declared.instruction.Instruction.TheVariants as instructions
 use Rattle.match_turns.proofs.Lemmas.{bytes_kept, making_steps, may_read_written}
 use Rattle.match_turns.proofs.CallArguments as calling
 use Rattle.match_turns.proofs.FunctionParameters.{with_home, home_parameters}

@@ -3,7 +3,6 @@ use Rattle.std.proofs.Common.{◌≡◌, ℕ, zero, suc, ◌+◌, ◌-◌, ◌*�
 use Rattle.std.specs.Prelude.{◌⊎◌, slice_index, nat_lt}
 use Rattle.std.proofs.lemmas.Bool.{cases_lt, lt-ltb, le-ltb}
 use Rattle.match_turns.specs.Words.{STACK_START, STACK_END, Memory, may_write, number_at, Protection, is_writable, Rsp, Flags, State, register, is_reserved, Local, Temporary, LinearBody, FunctionBody, body_of, function_body, Layout, sizes, spelled, IsNear, return_at, passing_code, parameters_code, MachineView, machine, HasBelow, with_arguments, HasBase, MemoryKeepsBase, IsBytes, Agrees, HasCode, Reaches, Enters, FramePlace, Roomy, ReachesBody, counts_of, LARGEST_FRAME, Setting, stack_parameter, parameter_code, OnStack, IsFunctionFrame, body_in_memory, FreshFrame, InTemporaries, InLocals, KeepsReserved}
-use Rattle.linear_code.specs.declared.instruction.Instruction.TheVariants as instructions
 use Rattle.match_turns.proofs.Lemmas.{bytes_kept, same_number, enters_then, pushed_agrees, pushed_bytes, making_steps, stack_is_reserved, may_read_written, holds_here, index_of, Keeps, keeps_then, reaches_keeps, enters_keeps}
 use Rattle.x64_templates.proofs.Entering.{fresh_holds, parameters_run}
 use Rattle.match_bodies.specs.CodeSites.{arguments_code}

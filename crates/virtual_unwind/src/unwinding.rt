@@ -204,11 +204,7 @@ fn rising(context: &Context, answer: Result<Caller, UnwindErr>) -> Result<Caller
 /// The caller of the frame of a context, in an image that lies at `base`. `Unreadable` is answered
 /// exactly where a word of the stack that is needed may not be read, with the first one's address;
 /// else `Backward` exactly where RSP wouldn't rise.
-#[tactic(
-    auto,
-    using(crate::proofs::Past::risen_shown),
-    unfolding(crate::specs::CallerOf::caller_in)
-)]
+#[tactic(auto, using(crate::proofs::Past::risen_shown), unfolding(crate::specs::CallerOf::caller_in))]
 pub fn caller_at<S: ReadSpace>(
     tables: &Tables,
     base: u64,

@@ -92,11 +92,11 @@ low_high w a b la gb lb =
     elim (cases_lt n (half w)) [
       | inl lt ↦ less_by w a b n (pos a) (negsuc (limit w - 1 - b)) (pos n) false true false
           (signed_low w a la) (signed_high w b gb lb) (omega (arith, ints))
-              (low_is w n (omega arith))
+          (low_is w n (omega arith))
           (lt-leb (half w) n lt) (lt-ltb n (half w) lt) refl refl
       | inr ge ↦ less_by w a b n (pos a) (negsuc (limit w - 1 - b)) (pos n) true false false
           (signed_low w a la) (signed_high w b gb lb) (omega (arith, ints))
-              (low_is w n (omega arith))
+          (low_is w n (omega arith))
           (le-leb (half w) n ge) (le-ltb n (half w) ge) refl refl
     ]
 

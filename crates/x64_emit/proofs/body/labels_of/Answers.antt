@@ -28,7 +28,7 @@ loop-instruction-preserved c =
       starts = label_added c.loop-instruction.starts.items c.push.new.self.items _
           (label_list y (start + length new) (drop (i + 1) body)) _ (start + length old)
           (c.in_ok-push.ensures.items ∙ ap (λ (n : ℕ). c.loop-instruction.starts.items ++ n
-              ∷ []) len)
+          ∷ []) len)
           (labels_next y (start + length old) i body some_instruction lt
           ∙ ap (λ (n : ℕ). (start + length old) ∷ label_list y n (drop (i + 1) body)) there)
           inv.starts;
