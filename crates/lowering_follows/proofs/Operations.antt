@@ -2,7 +2,7 @@
 use Rattle.std.proofs.Common.{◌≡◌, ◌≤◌, ℕ, suc, ◌+◌, List, [], ◌∷◌, ◌++◌, length, refl, ap, sym, subst, ◌∙◌, arith, append-nil}
 use Rattle.std.proofs.lemmas.List.{length_push}
 use Rattle.std.specs.Prelude.{Bool, false, slice_get, Some}
-use Rattle.lowering_follows.specs.Words.{W32, W64, W8, W16, Operation, Long, width, extended, result_of, performed, Lvalue, Global, Indirection, Element, Program, Exception, State, Value, Outcome, Gives, set_memory, with_value, and_then, Context, Eval, Raise, Retry, is_reserved, operate, locate, read, write, value_width, value_of, tried, load, within, Temporary, Compute, LinearProgram, Store, Configuration, with_temporary, SameOperation, raise, is_constant, computed, exec, Names, address_count, read_size, expression_size, locate_size, combine, expression_code, read_code, write_code, locate_code, size_of, load_code, LvalueFits, expression_weight, lvalue_weight, HasAt, Local}
+use Rattle.lowering_follows.specs.Words.{W8, Operation, Long, width, extended, result_of, performed, Lvalue, Global, Indirection, Element, Program, Exception, State, Value, Outcome, Gives, set_memory, with_value, and_then, Context, Eval, Raise, Retry, is_reserved, operate, locate, read, write, value_width, value_of, tried, load, within, Temporary, Compute, LinearProgram, Store, Configuration, with_temporary, SameOperation, raise, is_constant, computed, exec, Names, address_count, read_size, expression_size, locate_size, combine, expression_code, read_code, write_code, locate_code, size_of, load_code, LvalueFits, expression_weight, lvalue_weight, HasAt, Local}
 use Rattle.seh_num.specs.declared.width.Width.{Width}
 use Rattle.c_operations.specs.declared.operation.Operation.TheVariants.{Pure, Load, Store as StoreTo}
 use Rattle.c_operations.specs.declared.operation.Pure.TheVariants as pures

@@ -1,6 +1,6 @@
 -- The body that runs is in its body too with the state that the host saves of it: RSP is the same,
 -- and RIP at the instruction or, where a call is the last of its code, at the next one.
-use Rattle.std.proofs.Common.{◌≡◌, ℕ, zero, suc, ◌+◌, ◌^◌, ◌<◌, ◌≤◌, List, [], ◌∷◌, length, Option, Some, None, Ok, sym, subst, arith}
+use Rattle.std.proofs.Common.{◌≡◌, ℕ, zero, suc, ◌+◌, ◌^◌, ◌<◌, ◌≤◌, List, [], ◌∷◌, length, Option, Some, Ok, sym, subst, arith}
 use Rattle.std.specs.Prelude.{slice_get, take}
 use Rattle.match_turns.specs.Words.{STACK_END, Memory, Rsp, Cpu, State, register, Functions, Funclet, Layout, LinearProgram, LinearFunclet, BodyName, FunctionBody, FuncletBody, body_of, Frame, Item, Waits, Searches, Unwinds, Configuration, with_last, context_below, ImagePlan, InCode, activations_below, home_end, below_end, HoldsWords, HasActivation, HasSpace, SameRegions, HasPointers, FuncletIsAbove, IsAbove, On, Sites, slots_end, last_temporary}
 use Rattle.virtual_unwind.specs.Undone.{word}

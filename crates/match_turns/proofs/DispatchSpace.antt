@@ -1,5 +1,5 @@
 -- The room below a suspended search or unwinding.
-use Rattle.std.proofs.Common.{◌≡◌, ℕ, ◌+◌, ◌*◌, ◌≤◌, true, false, List, [], ◌∷◌, length, sym, ◌∙◌, arith, inl, inr}
+use Rattle.std.proofs.Common.{◌≡◌, ℕ, ◌+◌, ◌*◌, ◌≤◌, true, false, List, ◌∷◌, length, sym, ◌∙◌, arith, inl, inr}
 use Rattle.std.specs.Prelude.{nat_lt}
 use Rattle.std.proofs.lemmas.Bool.{cases_lt, lt-ltb}
 use Rattle.match_turns.specs.Words.{STACK_END, Memory, Context, rsp, Functions, Funclet, Exception, Region, LinearProgram, Frame, Handler, Target, Resumption, Item, Waits, Searches, Unwinds, StackItem, Framed, Leaf, Searching, Unwinding, ImagePlan, Activation, HasSpace, below_end, record_room, Linked, LARGEST_FRAME}

@@ -1,7 +1,7 @@
 -- What is on top of the machine's stack where a search or an unwinding waits: its record, at the
 -- host's return address.
 use Rattle.std.proofs.Common.{◌≡◌, List, [], ◌∷◌, refl}
-use Rattle.match_turns.specs.Words.{Memory, Context, Functions, DispatchRecord, filter_return, finally_return, Funclet, Exception, Region, LinearProgram, Handler, Target, Resumption, Item, Waits, Searches, Unwinds, StackItem, Framed, Leaf, Searching, Unwinding, IsStack, ImagePlan, Activation, Linked, AreWaiting, NoneLanded}
+use Rattle.match_turns.specs.Words.{Memory, Context, Functions, DispatchRecord, filter_return, finally_return, Funclet, Exception, Region, LinearProgram, Handler, Target, Resumption, Item, Waits, Searches, Unwinds, StackItem, Searching, Unwinding, IsStack, ImagePlan, Activation, Linked, AreWaiting, NoneLanded}
 
 -- no body that waits has just taken over
 pub none_landed : (program : LinearProgram) (items : List Item) → AreWaiting program items

@@ -1,5 +1,5 @@
 -- A funclet returns, by what waits below it.
-use Rattle.std.proofs.Common.{◌≡◌, ℕ, zero, Option, Some, None, List, [], ◌∷◌, refl, subst, inl}
+use Rattle.std.proofs.Common.{◌≡◌, ℕ, zero, Option, Some, None, List, ◌∷◌, refl, subst, inl, []}
 use Rattle.std.specs.Prelude.{slice_get}
 use Rattle.match_turns.specs.Words.{State, Slot, LinearFunclet, FuncletBody, Item, Waits, Searches, Unwinds, Configuration, read, act, instruction_at, exec, FuncletIsAbove, IsAbove, HasRule, IsMatched, turns_left, IsWellMade, IsKnown, KnownNext, turns_per_step, FlagsFit, Setting, setting_of, RepresentsAt, Continuations, Represents}
 use Rattle.linear_code.specs.declared.instruction.Instruction.TheVariants as instructions

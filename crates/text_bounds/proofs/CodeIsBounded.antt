@@ -33,21 +33,8 @@ conversion_most (Scale s from by) = omega arith
 to_width_small : (from : Width) (s : Signedness) (to : Width) (t : Signedness)
     → conversion_room (to_width from s to t) ≤ 35
 to_width_small W8 s W8 t = omega arith
-to_width_small W8 s W16 t = omega arith
-to_width_small W8 s W32 t = omega arith
-to_width_small W8 s W64 t = omega arith
-to_width_small W16 s W8 t = omega arith
-to_width_small W16 s W16 t = omega arith
-to_width_small W16 s W32 t = omega arith
-to_width_small W16 s W64 t = omega arith
-to_width_small W32 s W8 t = omega arith
-to_width_small W32 s W16 t = omega arith
-to_width_small W32 s W32 t = omega arith
-to_width_small W32 s W64 t = omega arith
-to_width_small W64 s W8 t = omega arith
-to_width_small W64 s W16 t = omega arith
-to_width_small W64 s W32 t = omega arith
-to_width_small W64 s W64 t = omega arith
+to_width_small from s W8 t = omega arith
+to_width_small from s to t = omega arith
 
 kept_if : (b : Bool) (c : Conversion) → conversion_room c ≤ 35
     → conversion_room (if b then Kept else c) ≤ 35
@@ -63,15 +50,11 @@ conversion_small from to = kept_if (same_type from to)
 
 write_small : (p : Lvalue) → write_room p ≤ 43
 write_small (nodes.Local x) = omega arith
-write_small (nodes.Global access a) = omega arith
-write_small (nodes.Indirection access e) = omega arith
-write_small (nodes.Element access e i) = omega arith
+write_small p = omega arith
 
 address_small : (p : Lvalue) → node_room (nodes.AddressOf p) ≤ locate_room p + read_room p
 address_small (nodes.Local x) = omega arith
-address_small (nodes.Global access a) = omega arith
-address_small (nodes.Indirection access e) = omega arith
-address_small (nodes.Element access e i) = omega arith
+address_small p = omega arith
 
 -- ---- values, with what comes after them
 

@@ -25,16 +25,12 @@ converted (conversions.Scale s from by) d = omega arith
 
 read : (p : Lvalue) (address to : ℕ) → code_room (read_code p address to) ≤ read_room p
 read (nodes.Local x) address to = omega arith
-read (Global access a) address to = omega arith
-read (Indirection access e) address to = omega arith
-read (Element access e i) address to = omega arith
+read p address to = omega arith
 
 written : (p : Lvalue) (address from to : ℕ) → instruction_room (write_code p address from to)
     ≤ write_room p
 written (nodes.Local x) address from to = omega arith
-written (Global access a) address from to = omega arith
-written (Indirection access e) address from to = omega arith
-written (Element access e i) address from to = omega arith
+written p address from to = omega arith
 
 addressed : (p : Lvalue) (d : ℕ) (located : List Instruction) (n : ℕ) → code_room located ≤ n
     → code_room (address_code p d located) ≤ address_room p n
@@ -45,19 +41,7 @@ addressed (Element access e i) d located n h = h
 
 unary : (o : Pure') (d : ℕ) → code_room (unary_code o d) ≤ 70
 unary pures.First d = omega arith
-unary (pures.Constant v) d = omega arith
-unary (pures.Extend s from z) d = omega arith
-unary (pures.Not z) d = omega arith
-unary (pures.Negate z) d = omega arith
-unary (pures.Add z) d = omega arith
-unary (pures.Subtract z) d = omega arith
-unary (pures.Multiply z) d = omega arith
-unary (pures.And z) d = omega arith
-unary (pures.Or z) d = omega arith
-unary (pures.Xor z) d = omega arith
-unary (pures.ShiftLeft z) d = omega arith
-unary (pures.ShiftRight s z) d = omega arith
-unary (pures.Compare r s z) d = omega arith
+unary o d = omega arith
 
 coded : (e : ExceptionSource) (d : ℕ) → instruction_room (code_code e d) ≤ 51
 coded NoException d = omega arith

@@ -286,18 +286,7 @@ item_over : (s : Statement) (m : ℕ) → m ≤ 1 + statements_over s
     → m ≤ over_block_item s (statements_over s)
 item_over (statements.Declare base ls) m h d = let z = d base ls refl in omega arith
 item_over (statements.Block ss) m h d = h
-item_over (statements.Evaluate e) m h d = h
-item_over (statements.If at c s) m h d = h
-item_over (statements.IfElse at c s t) m h d = h
-item_over (statements.While at c s) m h d = h
-item_over (statements.DoWhile s at c) m h d = h
-item_over (statements.For at f c n s) m h d = h
-item_over (statements.Return at e) m h d = h
-item_over (statements.Break at) m h d = h
-item_over (statements.Continue at) m h d = h
-item_over (statements.Leave at) m h d = h
-item_over (statements.TryExcept body at f handler) m h d = h
-item_over (statements.TryFinally body at last) m h d = h
+item_over s m h d = h
 
 declare_notes : (s : Statement) (a : Environment) (block : Scope) (n : Numbering) (base : Base)
     (ls : List Local) → s ≡ statements.Declare base ls

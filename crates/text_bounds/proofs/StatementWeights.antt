@@ -23,35 +23,11 @@ use Rattle.text_bounds.proofs.ExpressionWeights.{resolved_light}
 
 some_nodes : (e : Expression) → 1 ≤ counted.nodes e
 some_nodes (trees.Constant at l) = omega arith
-some_nodes (trees.Variable n) = omega arith
-some_nodes (trees.Information at f) = omega arith
-some_nodes (trees.Call n es) = omega arith
-some_nodes (trees.Parentheses at e) = omega arith
-some_nodes (trees.Index a at i) = omega arith
-some_nodes (trees.Postfix e o at) = omega arith
-some_nodes (trees.Prefix at o e) = omega arith
-some_nodes (trees.Unary at o e) = omega arith
-some_nodes (trees.Cast at t e) = omega arith
-some_nodes (trees.Binary a at o b) = omega arith
-some_nodes (trees.Conditional c at a b) = omega arith
-some_nodes (trees.Assign a at o b) = omega arith
-some_nodes (trees.Comma a at b) = omega arith
+some_nodes e = omega arith
 
 some_statement : (s : Statement) → 1 ≤ nodes_of_statement s
 some_statement (statements.Declare base ls) = omega arith
-some_statement (statements.Block ss) = omega arith
-some_statement (statements.Evaluate e) = omega arith
-some_statement (statements.If at c s) = omega arith
-some_statement (statements.IfElse at c s t) = omega arith
-some_statement (statements.While at c s) = omega arith
-some_statement (statements.DoWhile s at c) = omega arith
-some_statement (statements.For at f c n s) = omega arith
-some_statement (statements.Return at e) = omega arith
-some_statement (statements.Break at) = omega arith
-some_statement (statements.Continue at) = omega arith
-some_statement (statements.Leave at) = omega arith
-some_statement (statements.TryExcept body at f handler) = omega arith
-some_statement (statements.TryFinally body at last) = omega arith
+some_statement s = omega arith
 
 -- ---- values
 

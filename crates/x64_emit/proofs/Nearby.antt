@@ -88,15 +88,7 @@ parameters_next y i count lt = ap (parameters_code y i)
 passes_few : (y : Layout) (i : Instruction) → IsInstructionNear y i → PassesFew i
 passes_few y (instructions.Call function first count) near = near.few
 passes_few y (instructions.Compute to o first second) near = tt
-passes_few y (instructions.Information to field) near = tt
-passes_few y (instructions.Landing to) near = tt
-passes_few y (instructions.Jump label) near = tt
-passes_few y (instructions.JumpIfZero slot label) near = tt
-passes_few y (instructions.CallBuiltIn function first) near = tt
-passes_few y (instructions.CallFinally funclet) near = tt
-passes_few y (instructions.LocalUnwind label) near = tt
-passes_few y instructions.Separator near = tt
-passes_few y (instructions.Return from) near = tt
+passes_few y i near = tt
 
 -- no template takes more than its room
 pub instruction_in_room : (y : Layout) (i : Instruction) → IsInstructionNear y i

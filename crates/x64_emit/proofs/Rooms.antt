@@ -109,17 +109,8 @@ extended_size Signed W64 Long = omega arith
 compare_size : (r : Relation) (s : Signedness) (z : Size) → sizes (compare r s (width z)) ≤ 11
 unfolding size modrm
 compare_size relations.Equal s Int = omega arith
-compare_size relations.Equal s Long = omega arith
-compare_size relations.NotEqual s Int = omega arith
-compare_size relations.NotEqual s Long = omega arith
-compare_size relations.Less s Int = omega arith
-compare_size relations.Less s Long = omega arith
-compare_size relations.LessOrEqual s Int = omega arith
-compare_size relations.LessOrEqual s Long = omega arith
-compare_size relations.Greater s Int = omega arith
-compare_size relations.Greater s Long = omega arith
-compare_size relations.GreaterOrEqual s Int = omega arith
-compare_size relations.GreaterOrEqual s Long = omega arith
+compare_size r s Int = omega arith
+compare_size r s z = omega arith
 
 pure_size : (p : Pure) → sizes (pure_code p) ≤ 11
 unfolding size modrm opcode_register
