@@ -57,30 +57,16 @@ fn parts_fault<S: CodeSpace>(
 {
     let frame = info.frame_register();
     let offset = info.frame_offset() as u64;
+    let steps = &codes.steps;
     let first = prologue.items();
-    let second = body.items();
     let whole = prologue.is_whole();
-    match prologue_fault(
-        space,
-        probe,
-        begin,
-        frame,
-        offset,
-        whole,
-        0,
-        &codes.steps,
-        first,
-    ) {
+    match prologue_fault(space, probe, begin, frame, offset, whole, 0, steps, first) {
         Some(fault) => Ok(Some(fault)),
-        None => body_fault(
-            alloc,
-            space,
-            info,
-            &codes.codes,
-            body.is_whole(),
-            middle,
-            second,
-        ),
+        None => {
+            let whole = body.is_whole();
+            let second = body.items();
+            body_fault(alloc, space, info, &codes.codes, whole, middle, second)
+        }
     }
 }
 
