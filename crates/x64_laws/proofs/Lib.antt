@@ -7,3 +7,5 @@ pub mod Effects
 pub mod Giving
 pub mod SpelledOperands
 pub mod Spelled
+pub mod Bitwise
+pub mod ConditionBytes

@@ -1,5 +1,6 @@
 pub mod Destinations
 pub mod Arithmetic
+pub mod Logic
 pub mod Comparing
 pub mod Spelled
 pub mod Words

@@ -11,4 +11,5 @@
 
 pub mod arithmetic;
 pub mod comparing;
+pub mod logic;
 pub mod spelling;
