@@ -9,3 +9,6 @@ pub mod SpelledOperands
 pub mod Spelled
 pub mod Bitwise
 pub mod ConditionBytes
+pub mod SignedQuotients
+pub mod Divisions
+pub mod Shifted

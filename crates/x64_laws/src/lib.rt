@@ -11,5 +11,7 @@
 
 pub mod arithmetic;
 pub mod comparing;
+pub mod dividing;
 pub mod logic;
+pub mod shifting;
 pub mod spelling;
