@@ -12,3 +12,5 @@ pub mod ConditionBytes
 pub mod SignedQuotients
 pub mod Divisions
 pub mod Shifted
+pub mod Addresses
+pub mod StackTop

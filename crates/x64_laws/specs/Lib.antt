@@ -6,3 +6,5 @@ pub mod Dividing
 pub mod Comparing
 pub mod Spelled
 pub mod Words
+pub mod Addressing
+pub mod Stack
