@@ -14,3 +14,4 @@ pub mod Divisions
 pub mod Shifted
 pub mod Addresses
 pub mod StackTop
+pub mod ReadOnlySpellings

@@ -8,3 +8,4 @@ pub mod Spelled
 pub mod Words
 pub mod Addressing
 pub mod Stack
+pub mod ReadOnly
