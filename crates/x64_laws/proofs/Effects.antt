@@ -13,7 +13,7 @@ use Rattle.x64_laws.proofs.AfterCompare.{difference_decides}
 
 -- ---- a register and the flags
 
-abbrev after : State → Width → Reg → ℕ → Flags → State
+abbrev pub after : State → Width → Reg → ℕ → Flags → State
 after s w to v f = record {
   cpu = record {
     registers = set s.cpu.registers (number to) (merged w (register s.cpu to) v);
@@ -23,16 +23,16 @@ after s w to v f = record {
   memory = s.memory;
 }
 
-merged_low : (w : Width) (old v : ℕ) → v < limit w → low w (merged w old v) ≡ v
+pub merged_low : (w : Width) (old v : ℕ) → v < limit w → low w (merged w old v) ≡ v
 merged_low W8 old v lt = omega arith
 merged_low W16 old v lt = omega arith
 merged_low W32 old v lt = omega arith
 merged_low W64 old v lt = omega arith
 
-read_back : (xs : List ℕ) (k v : ℕ) → length xs ≡ 16 → k < 16 → get_or (set xs k v) k 0 ≡ v
+pub read_back : (xs : List ℕ) (k v : ℕ) → length xs ≡ 16 → k < 16 → get_or (set xs k v) k 0 ≡ v
 read_back xs k v n lt = get_or-set_same xs k v 0 (omega arith)
 
-puts : (s : State) (w : Width) (to : Reg) (v : ℕ) (P : ℕ → Type 0) (f g : Flags) → HasRegisters s
+pub puts : (s : State) (w : Width) (to : Reg) (v : ℕ) (P : ℕ → Type 0) (f g : Flags) → HasRegisters s
     → v < limit w → P v → g ≡ f → Puts s w to P f (after s w to v g)
 puts s w to v P f g h lt is e =
     let xs = s.cpu.registers in
@@ -53,7 +53,7 @@ puts s w to v P f g h lt is e =
 
 -- ---- results modulo the limit
 
-is_of : (w : Width) (z : ℤ) (n : ℕ) → n ≡ wrapped w z → IsOf w z n
+pub is_of : (w : Width) (z : ℤ) (n : ℕ) → n ≡ wrapped w z → IsOf w z n
 is_of w z n e = record { modulo = e; whole = λ k. ap (signed w) e ∙ signed_wrapped w z k }
 
 below : (w : Width) (z : ℤ) (n : ℕ) → n ≡ wrapped w z → n < limit w
@@ -87,7 +87,7 @@ sub_is_difference s w to from h =
     h
     (difference_bits w a b (low_below w (register s.cpu to)) (low_below w (register s.cpu from)))
 
-signed_zero : (w : Width) → signed w 0 ≡ pos 0
+pub signed_zero : (w : Width) → signed w 0 ≡ pos 0
 signed_zero w = signed_low w 0 (half_positive w)
 
 pub neg_is_negative : NegIsNegative

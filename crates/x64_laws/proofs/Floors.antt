@@ -8,7 +8,7 @@ use Rattle.x64_laws.specs.Words.{Width, W8, W16, W32, W64, bytes_of, limit, half
 use Rattle.x64_laws.proofs.Lemmas.{limits, low_is, low_below, signed_low, signed_high}
 
 -- a number that isn't below 0
-floor_pos : (a p : ℕ) → 0 < p → IsFloor (pos a) p (pos (a / p))
+pub floor_pos : (a p : ℕ) → 0 < p → IsFloor (pos a) p (pos (a / p))
 floor_pos a p some =
     let e = mod-add-div a p in
     let c : a / p * p ≡ p * (a / p) = mul_comm (a / p) p in
@@ -54,13 +54,13 @@ floor_negsuc m p some =
         ap (λ (z : ℤ). z *ℤ pos p) one ∙ negsuc-*ℤ-pos q p
 
 -- the limit of a width is a power of two, which the power of a smaller count divides
-limit_is : (w : Width) → limit w ≡ 2 ^ (8 * bytes_of w)
+pub limit_is : (w : Width) → limit w ≡ 2 ^ (8 * bytes_of w)
 limit_is W8 = refl
 limit_is W16 = refl
 limit_is W32 = refl
 limit_is W64 = refl
 
-power_sum : (c k : ℕ) → 2 ^ (c + k) ≡ 2 ^ c * 2 ^ k
+pub power_sum : (c k : ℕ) → 2 ^ (c + k) ≡ 2 ^ c * 2 ^ k
 power_sum zero k = (let z : 0 + k ≡ k = omega arith in ap (λ (n : ℕ). 2 ^ n) z)
     ∙ sym (one-mul (2 ^ k))
 power_sum (suc c) k =
@@ -68,7 +68,7 @@ power_sum (suc c) k =
     ∙ pow-succ' 2 (c + k) ∙ ap (λ (n : ℕ). 2 * n) (power_sum c k)
     ∙ sym (mul_assoc 2 (2 ^ c) (2 ^ k)) ∙ ap (λ (n : ℕ). n * 2 ^ k) (sym (pow-succ' 2 c))
 
-power_positive : (c : ℕ) → 0 < 2 ^ c
+pub power_positive : (c : ℕ) → 0 < 2 ^ c
 power_positive zero = omega arith
 power_positive (suc c) = let p = power_positive c in let e = pow-succ' 2 c in omega arith
 
@@ -91,7 +91,7 @@ parts w c lt =
       more = power_positive k;
     }
 
-quotient_is : (p q r a : ℕ) → r < p → p * q + r ≡ a → a / p ≡ q
+pub quotient_is : (p q r a : ℕ) → r < p → p * q + r ≡ a → a / p ≡ q
 quotient_is p q r a lt e =
     let some : 0 < p = omega arith in
     ap (λ (n : ℕ). n / p) (sym e) ∙ mul-add-div some q r ∙ ap (λ (n : ℕ). q + n) (div-eq_of_lt lt)

@@ -7,3 +7,11 @@ pub mod Effects
 pub mod Giving
 pub mod SpelledOperands
 pub mod Spelled
+pub mod Bitwise
+pub mod ConditionBytes
+pub mod SignedQuotients
+pub mod Divisions
+pub mod Shifted
+pub mod Addresses
+pub mod StackTop
+pub mod ReadOnlySpellings

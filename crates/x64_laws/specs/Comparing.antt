@@ -2,7 +2,8 @@
 -- "above" of unsigned numbers, "less" and "greater" of signed ones).
 use Rattle.std.specs.Prelude.{◌≡◌, ℕ, Bool, not, nat_lt, nat_le, nat_eq, int_lt, int_le, pos, ◌-ℤ◌, IsOkAnd}
 use Rattle.seh_num.specs.declared.width.Width.{Width}
-use Rattle.seh_num.specs.Widths.{signed, wrapped}
+use Rattle.seh_num.specs.declared.width.Width.TheVariants.{W8}
+use Rattle.seh_num.specs.Widths.{signed, wrapped, if_set}
 use Rattle.seh_num.specs.Division.{is_signed}
 use Rattle.x64_instr.specs.declared.instruction.Condition.{Condition}
 use Rattle.x64_instr.specs.declared.instruction.Condition.TheVariants as conditions
@@ -13,7 +14,7 @@ use Rattle.x64_instr.specs.declared.instruction.Operation.TheVariants.{Compare}
 use Rattle.x64_instr.specs.declared.instruction.Instr.TheVariants as instrs
 use Rattle.x64_machine.specs.Conditions.{holds}
 use Rattle.x64_machine.specs.Effect.{State, effect}
-use Rattle.x64_laws.specs.Destinations.{unsigned_in}
+use Rattle.x64_laws.specs.Destinations.{HasRegisters, unsigned_in, Puts}
 
 abbrev pub compares : Condition → Width → ℕ → ℕ → Bool
 compares conditions.Equal w a b = nat_eq a b
@@ -44,3 +45,14 @@ CmpDecides =
     → IsOkAnd (effect s
     (instrs.Arithmetic Compare w (places.Register first) (operands.Register second)))
     (Compared s w (unsigned_in w s first) (unsigned_in w s second))
+
+-- SETcc after CMP leaves a byte of 1 where the comparison holds, and of 0 where it doesn't
+abbrev pub SetTellsComparison : Type 0
+SetTellsComparison =
+    (s : State) (w : Width) (first second to : Reg) (c : Condition) → HasRegisters s
+    → IsOkAnd (effect s
+    (instrs.Arithmetic Compare w (places.Register first) (operands.Register second)))
+    (λ t. IsOkAnd (effect t (instrs.Set c (places.Register to)))
+    (Puts t W8 to
+    (λ n. n ≡ if_set (compares c w (unsigned_in w s first) (unsigned_in w s second)) 1)
+    t.cpu.flags))

@@ -29,3 +29,10 @@ pub record Puts (s : State) (w : Width) (to : Reg) (P : ℕ → Type 0) (f : Fla
   pub flags : t.cpu.flags ≡ f
   pub rip : t.cpu.rip ≡ s.cpu.rip
   pub memory : t.memory ≡ s.memory
+
+-- the flags are these, and all else is as it was
+pub record PutsFlags (s : State) (f : Flags) (t : State) : Type 0 where
+  pub flags : t.cpu.flags ≡ f
+  pub registers : t.cpu.registers ≡ s.cpu.registers
+  pub rip : t.cpu.rip ≡ s.cpu.rip
+  pub memory : t.memory ≡ s.memory

@@ -9,6 +9,11 @@
 //! Begin with `specs/Arithmetic.antt`.
 #![tactic(auto)]
 
+pub mod addressing;
 pub mod arithmetic;
 pub mod comparing;
+pub mod dividing;
+pub mod logic;
+pub mod shifting;
 pub mod spelling;
+pub mod stack;

@@ -1,0 +1,19 @@
+//! The stack.
+
+ghost use Rattle.x64_laws.specs.Stack as spec;
+
+/// PUSH stores a number 8 bytes below the stack's top, and POP takes the number on the top; RSP
+/// moves by 8 (Intel manual, volume 2, PUSH and POP).
+pub fn pushes()
+    ensures push { spec.PushStoresBelowTop }
+    ensures pop { spec.PopTakesTop }
+    ensures refused { spec.PopIsRefused }
+{}
+
+/// CALL pushes the address of the next instruction and jumps, and RET goes to the address on the
+/// stack's top (Intel manual, volume 2, CALL and RET).
+pub fn calls()
+    ensures call { spec.CallPushesAndJumps }
+    ensures ret { spec.RetGoesToTop }
+    ensures refused { spec.RetIsRefused }
+{}
