@@ -28,14 +28,16 @@ steps_per_turn text = steps_per_turn_in (length text)
 -- where these are calm, and ends only as they end
 abbrev pub ShowsNoMoreByLength : (text image : List ℕ) → Program → Type 0
 ShowsNoMoreByLength text image program =
-    (arg m n : ℕ) → arg < 2 ^ 63 → (m + 1) * steps_per_turn text ≤ n → Calm program (pos arg) n ≡ true
+    (arg m n : ℕ) → arg < 2 ^ 63 → (m + 1) * steps_per_turn text ≤ n
+    → Calm program (pos arg) n ≡ true
     → ShowsNoMore (meaning program (pos arg) n) (machine image (pos arg) m)
 
 -- after m turns of a run, where it has not ended by then, the walk over the stack gives the shadow,
 -- as long as (m + 1) * steps_per_turn steps of the program are calm
 abbrev pub GivesTheShadow : (text image : List ℕ) → Program → Type 0
 GivesTheShadow text image program =
-    (arg m n : ℕ) → arg < 2 ^ 63 → (m + 1) * steps_per_turn text ≤ n → Calm program (pos arg) n ≡ true
+    (arg m n : ℕ) → arg < 2 ^ 63 → (m + 1) * steps_per_turn text ≤ n
+    → Calm program (pos arg) n ≡ true
     → (machine image (pos arg) m).end ≡ None → WalksTheShadow image (pos arg) m
 
 -- the function table of a program's image is read again as its entries, with one scope record for
