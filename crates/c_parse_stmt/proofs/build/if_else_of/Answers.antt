@@ -1,5 +1,6 @@
 use Rattle.std.proofs.Common.{Some, ap, ◌∙◌}
-use Rattle.c_parse_stmt.specs.Words.{Stmt, roll-Stmt, rolls-If, fold-roll-Stmt, expression, Statement, IfElse, node, statement}
+use Rattle.c_parse_stmt.specs.Words.{Stmt, rolls-If, fold-roll-Stmt, expression, Statement, IfElse, node, statement}
+use Rattle.c_syntax.specs.declared.statement.Stmt.TheViews.{roll-Stmt}
 use Rattle.c_syntax.specs.declared.statement.Stmt.TheOpen.{If as If_F}
 use denote.Hole.Carrier as Carrier
 use Rattle.c_parse_stmt.proofs.build.if_else_of.Goals as goal

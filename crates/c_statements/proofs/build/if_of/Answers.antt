@@ -1,5 +1,6 @@
 use Rattle.std.proofs.Common.{None, ap, ◌∙◌}
-use Rattle.c_statements.specs.Words.{roll-Stmt, rolls-If, fold-roll-Stmt, layer}
+use Rattle.c_statements.specs.Words.{rolls-If, fold-roll-Stmt, layer}
+use Rattle.c_checked.specs.declared.statement.Stmt.TheViews.{roll-Stmt}
 use Rattle.c_checked.specs.declared.statement.Stmt.TheOpen.{If as If_F}
 use denote.Hole.Carrier as Carrier
 use Rattle.c_checked.specs.Statement.{Statement, statement}
