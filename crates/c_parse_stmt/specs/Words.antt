@@ -20,7 +20,6 @@ pub use Rattle.c_syntax.specs.declared.operator.Increment.{Increment}
 pub use Rattle.c_syntax.specs.declared.statement.Stmt.{Stmt}
 pub use Rattle.c_syntax.specs.declared.statement.Stmt.TheFolds.{fold-roll-Stmt}
 pub use Rattle.c_syntax.specs.declared.statement.Stmt.TheVariants.{rolls-If}
-pub use Rattle.c_syntax.specs.declared.statement.Stmt.TheViews.{roll-Stmt}
 pub use Rattle.c_parse_type.specs.Bases.{NoBase, NoStar, EndsBase}
 pub use Rattle.c_parse_expr.specs.Readings.{NoExpression, HasExpression}
 pub use Rattle.c_parse_expr.specs.Refusals.{IsPlacedRefusal}

@@ -6,7 +6,6 @@ pub use Rattle.c_checked.specs.declared.expression.Expr.{Expr}
 pub use Rattle.c_checked.specs.declared.statement.Stmt.{Stmt}
 pub use Rattle.c_checked.specs.declared.statement.Stmt.TheFolds.{fold-roll-Stmt}
 pub use Rattle.c_checked.specs.declared.statement.Stmt.TheVariants.{rolls-For, rolls-If}
-pub use Rattle.c_checked.specs.declared.statement.Stmt.TheViews.{roll-Stmt}
 pub use Rattle.c_resolved.specs.Scopes.{Scope}
 pub use Rattle.c_resolved.specs.Statements.{Environment, Numbering, ResolvedStatements, resolve_statement, resolve_statements, Optional, inside, condition, any, optional, with_number, resolve_filter, resolve_for_initialiser, Value, only, jump, returned}
 pub use Rattle.c_expressions.specs.Kept.{least_of, kept}
