@@ -1,16 +1,17 @@
 -- What PUSH, POP, CALL and RET do to the stack's top.
-use Rattle.std.proofs.Common.{◌≡◌, ◌≢◌, ℕ, ◌+◌, ◌-◌, ◌*◌, ◌%◌, ◌^◌, ◌<◌, pos, ◌+ℤ◌, ◌-ℤ◌, Ok, Err, refl, sym, ap, subst, ◌∙◌, arith, set}
-use Rattle.std.specs.Prelude.{IsOkAnd}
+use Rattle.std.proofs.Common.{◌≡◌, ◌≢◌, ℕ, ◌+◌, ◌-◌, ◌*◌, ◌%◌, ◌^◌, ◌<◌, pos, ◌+ℤ◌, ◌-ℤ◌, Ok, Err, refl, sym, ap, subst, ◌∙◌, arith, set, get_or, List, length, get_or-set_other}
+use Rattle.std.specs.Prelude.{IfOk, IsOkAnd}
 use Rattle.std.proofs.lemmas.List.{length-set}
 use Rattle.std.proofs.lemmas.Int.{ints}
 use Rattle.seh_num.specs.Answers.{◌>>=◌}
 use Rattle.x64_laws.specs.Words.{W64, limit, low, wrapped, Reg, number, merged}
 use Rattle.x64_instr.specs.declared.register.Reg.TheVariants.{Rsp}
+use Rattle.x64_machine.specs.declared.cpu.Cpu.{Cpu}
 use Rattle.x64_machine.specs.declared.cpu.Flags.{Flags}
-use Rattle.x64_machine.specs.Effect.{State, Answer, register, store, push, pop, with_register, with_rip, relative}
+use Rattle.x64_machine.specs.Effect.{State, Answer, register, load, store, push, pop, with_register, with_rip, relative}
 use Rattle.x64_laws.specs.Destinations.{HasRegisters, unsigned_in}
-use Rattle.x64_laws.specs.Stack.{lowered, HasOnTop, Raises, PushStoresBelowTop, PopTakesTop, RetGoesToTop, PopIsRefused, RetIsRefused, CallPushesAndJumps}
-use Rattle.x64_laws.proofs.Lemmas.{low_below, low_is, twice}
+use Rattle.x64_laws.specs.Stack.{lowered, HasOnTop, Raises, PushStoresBelowTop, PopTakesTop, RetGoesToTop, PopIsRefused, RetIsRefused, PopRaisesBack, RetRaisesBack, CallPushesAndJumps}
+use Rattle.x64_laws.proofs.Lemmas.{low_below, low_is, twice, number_once}
 use Rattle.x64_laws.proofs.Numbers.{wrapped_from}
 use Rattle.x64_laws.proofs.Effects.{after, puts}
 
@@ -164,3 +165,103 @@ call_pushes_and_jumps s r d is =
         >>= λ u. Ok (with_rip u (relative u.cpu d)))
     goes (Ok x) t = refl
     goes (Err e) t = refl
+
+-- ---- RSP after both
+
+-- where the next number is pushed, and the registers with RSP there
+abbrev below_top : State → ℕ
+below_top s = (register s.cpu Rsp + (2 ^ 64 - 8)) % 2 ^ 64
+
+abbrev with_lower : State → Cpu
+with_lower s = with_register W64 s.cpu Rsp (below_top s)
+
+-- RSP lowered and risen
+back : (s t : State) → HasRegisters s → register s.cpu Rsp < 2 ^ 64
+    → t.cpu.registers ≡ (with_lower s).registers
+    → register (raised t).cpu Rsp ≡ register s.cpu Rsp
+back s t h lt e =
+    let at = below_top s in
+    let small : at < limit W64 = low_below W64 (register s.cpu Rsp + (2 ^ 64 - 8)) in
+    let p = puts s W64 Rsp at (λ m. m ≡ at) s.cpu.flags s.cpu.flags h small refl refl in
+    let many : HasRegisters t = ap (λ (xs : List ℕ). length xs) e
+    ∙ length-set s.cpu.registers (number Rsp) (merged W64 (register s.cpu Rsp) at) ∙ h in
+    let there : register t.cpu Rsp ≡ at = ap (λ (xs : List ℕ). get_or xs (number Rsp) 0) e
+    ∙ p.above ∙ ap (low W64) p.result ∙ (let z : at % 2 ^ 64 ≡ at = omega arith in z) in
+    (risen t many).top ∙ ap (λ (n : ℕ). (n + 8) % 2 ^ 64) there
+    ∙ (let z : (at + 8) % 2 ^ 64 ≡ register s.cpu Rsp = omega arith in z)
+
+many_after : (s t : State) → HasRegisters s → t.cpu.registers ≡ (with_lower s).registers
+    → HasRegisters (raised t)
+many_after s t h e =
+    length-set t.cpu.registers (number Rsp)
+    (merged W64 (register t.cpu Rsp) ((register t.cpu Rsp + 8) % 2 ^ 64))
+    ∙ ap (λ (xs : List ℕ). length xs) e
+    ∙ length-set s.cpu.registers (number Rsp) (merged W64 (register s.cpu Rsp) (below_top s)) ∙ h
+
+abbrev HasStackPointerOf : State → State → Type 0
+HasStackPointerOf s u = register u.cpu Rsp ≡ register s.cpu Rsp
+
+-- a push is a store with RSP lowered
+abbrev pushed_over : State → State → State
+pushed_over s t = record { cpu = with_lower s; memory = t.memory }
+
+push_over : (s : State) (v : ℕ) → push s v
+    ≡ (store s (below_top s) W64 v >>= λ t. Ok (pushed_over s t))
+push_over s v = passed _ _ (pushed_over s)
+
+-- what comes after a push, and after a load
+after_pushed : (s : State) (v : ℕ) (f : State → Answer State) (P : State → Type 0)
+    → ((t : State) → IfOk (f (pushed_over s t)) P) → IfOk (push s v >>= f) P
+after_pushed s v f P h = subst (λ (a : Answer State). IfOk (a >>= f) P) (sym (push_over s v))
+    (go (store s (below_top s) W64 v))
+  where
+    go : (a : Answer State)
+        → IfOk ((let x : Answer State = a >>= λ t. Ok (pushed_over s t) in x) >>= f) P
+    go (Ok t) = h t
+    go (Err e) = tt
+
+after_loaded : (l : Answer ℕ) (t : State) (f : ℕ × State → State) (P : State → Type 0)
+    → ((v : ℕ) → P (f (v, raised t))) → IfOk (popped_by t l >>= λ x. Ok (f x)) P
+after_loaded (Ok v) t f P h = h v
+after_loaded (Err e) t f P h = tt
+
+pub pop_raises_back : PopRaisesBack
+pop_raises_back s from to h lt other =
+    after_pushed s (register s.cpu from)
+    (λ t. pop t >>= λ x. Ok (record x.1 { cpu = with_register W64 x.1.cpu to x.0 }))
+    (HasStackPointerOf s) (λ t. taken (pushed_over s t) refl)
+  where
+    taken : (t : State) → t.cpu.registers ≡ (with_lower s).registers
+        → IfOk (pop t >>= λ x. Ok (record x.1 { cpu = with_register W64 x.1.cpu to x.0 }))
+        (HasStackPointerOf s)
+    taken t e =
+        let u = raised t in
+        let many = many_after s t h e in
+        after_loaded (load t.memory (register t.cpu Rsp) W64) t
+        (λ x. record x.1 { cpu = with_register W64 x.1.cpu to x.0 }) (HasStackPointerOf s)
+        (λ v. get_or-set_other u.cpu.registers (number to) (number Rsp)
+        (merged W64 (register u.cpu to) v) 0 (λ z. other (sym (number_once Rsp to z)))
+        ∙ back s t h lt e)
+
+pub ret_raises_back : RetRaisesBack
+ret_raises_back s d h lt =
+    ap_if (push s s.cpu.rip)
+    (after_pushed s s.cpu.rip
+    (λ t. pop (with_rip t (relative s.cpu d)) >>= λ x. Ok (with_rip x.1 x.0))
+    (HasStackPointerOf s) (λ t. taken (pushed_over s t) refl))
+  where
+    taken : (t : State) → t.cpu.registers ≡ (with_lower s).registers
+        → IfOk (pop (with_rip t (relative s.cpu d)) >>= λ x. Ok (with_rip x.1 x.0))
+        (HasStackPointerOf s)
+    taken t e =
+        let u = with_rip t (relative s.cpu d) in
+        after_loaded (load u.memory (register u.cpu Rsp) W64) u (λ x. with_rip x.1 x.0)
+        (HasStackPointerOf s) (λ v. back s u h lt e)
+
+    ap_if : (a : Answer State)
+        → IfOk (a >>= λ t. pop (with_rip t (relative s.cpu d)) >>= λ x. Ok (with_rip x.1 x.0))
+        (HasStackPointerOf s)
+        → IfOk ((let y : Answer State = a >>= λ t. Ok (with_rip t (relative s.cpu d)) in y)
+        >>= λ t. pop t >>= λ x. Ok (with_rip x.1 x.0)) (HasStackPointerOf s)
+    ap_if (Ok t) h = h
+    ap_if (Err e) h = tt

@@ -1,6 +1,6 @@
 -- The stack: PUSH and POP, CALL and RET (Intel manual, volume 1, "Stacks"; volume 2, each
 -- instruction's page). RIP is that of the next instruction.
-use Rattle.std.specs.Prelude.{◌≡◌, ◌≢◌, ℕ, ◌-◌, ◌^◌, ◌<◌, pos, ◌+ℤ◌, ◌-ℤ◌, None, Ok, Err, IsOkAnd}
+use Rattle.std.specs.Prelude.{◌≡◌, ◌≢◌, ℕ, ◌-◌, ◌^◌, ◌<◌, pos, ◌+ℤ◌, ◌-ℤ◌, None, Ok, Err, IfOk, IsOkAnd}
 use Rattle.seh_num.specs.declared.width.Width.TheVariants.{W64}
 use Rattle.seh_num.specs.Answers.{◌>>=◌}
 use Rattle.seh_num.specs.Widths.{low, wrapped}
@@ -80,3 +80,19 @@ CallPushesAndJumps =
     (s : State) (r : Reg) (d : ℕ) → register s.cpu r ≡ s.cpu.rip
     → effect s (instrs.Call (Relative d))
     ≡ (effect s (instrs.Push r) >>= λ t. effect t (instrs.Jump (Relative d)))
+
+-- POP after PUSH, and RET after CALL, where neither is refused, leave RSP as it was before both
+abbrev pub LeavesStackPointer : State → Instr → Instr → Type 0
+LeavesStackPointer s first second =
+    IfOk (effect s first >>= λ t. effect t second)
+    (λ u. register u.cpu Rsp ≡ register s.cpu Rsp)
+
+abbrev pub PopRaisesBack : Type 0
+PopRaisesBack =
+    (s : State) (from to : Reg) → HasRegisters s → register s.cpu Rsp < 2 ^ 64 → to ≢ Rsp
+    → LeavesStackPointer s (instrs.Push from) (instrs.Pop to)
+
+abbrev pub RetRaisesBack : Type 0
+RetRaisesBack =
+    (s : State) (d : ℕ) → HasRegisters s → register s.cpu Rsp < 2 ^ 64
+    → LeavesStackPointer s (instrs.Call (Relative d)) instrs.Return

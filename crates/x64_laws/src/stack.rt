@@ -8,6 +8,7 @@ pub fn pushes()
     ensures push { spec.PushStoresBelowTop }
     ensures pop { spec.PopTakesTop }
     ensures refused { spec.PopIsRefused }
+    ensures back { spec.PopRaisesBack }
 {}
 
 /// CALL pushes the address of the next instruction and jumps, and RET goes to the address on the
@@ -16,4 +17,5 @@ pub fn calls()
     ensures call { spec.CallPushesAndJumps }
     ensures ret { spec.RetGoesToTop }
     ensures refused { spec.RetIsRefused }
+    ensures back { spec.RetRaisesBack }
 {}
