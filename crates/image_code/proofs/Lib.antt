@@ -1,0 +1,4 @@
+pub mod Sections
+pub mod BoundBytes
+pub mod CodeBytes
+pub mod Fetching
