@@ -7,6 +7,7 @@
 #![tactic(auto)]
 
 mod code_view;
+pub mod laws;
 mod slots;
 
 pub use code_view::CodeView;
