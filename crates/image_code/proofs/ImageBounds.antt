@@ -65,6 +65,20 @@ is_read bytes image h = go (outline bytes) refl h
     go (Ok i) whole h = after i (imports i) whole refl h
     go (Err e) whole h = absurd cc
 
+-- the sections of an image that was read
+pub record HasSections (bytes : List ℕ) (image : Image) : Type 0 where
+  pub limit : ℕ
+  pub headers : List SectionHeader
+  pub is : sections_of bytes limit headers ≡ Ok image.sections
+
+pub sections_read : (bytes : List ℕ) (image : Image) → IsImage bytes image
+    → HasSections bytes image
+sections_read bytes image h = record {
+  limit = image_end bytes;
+  headers = table bytes;
+  is = (outlined bytes image (is_read bytes image h).whole).sections;
+}
+
 -- ---- sections
 
 passed : (b : Bool) (e : ImageErr) (r : Result Unit ImageErr) → (unless b e >>= λ _. r) ≡ Ok tt

@@ -4,3 +4,6 @@ pub mod CodeBytes
 pub mod Fetching
 pub mod ImageBounds
 pub mod LoadedCode
+pub mod Octets
+pub mod EntryBounds
+pub mod LoadedFrames
