@@ -7,7 +7,7 @@ use Rattle.std.proofs.lemmas.Bool.{cases_lt, cases_eq, ne_eqb, eq-eqb}
 use Rattle.flat_memory.specs.Memory.{distance, with_number, with_byte}
 use Rattle.flat_memory.proofs.Stores.{among, beyond, outside}
 use Rattle.pe_image.proofs.Inserted.{at_key, off_key}
-use Rattle.image_code.specs.Code.{byte_or, over}
+use Rattle.image_code.specs.Code.{byte_or, laid_over}
 
 -- ---- one byte more of a number
 
@@ -51,12 +51,12 @@ module _ (byte : ℕ → ℕ) (n at v : ℕ) (at_lt : at < 2 ^ 64) (small : n < 
 module _ (old new : BTreeMap ℕ ℕ) (k x : ℕ)
     (has : (q : ℕ) → get nat_cmp new q ≡ cond (is_at (nat_cmp k) q) (Some x) (get nat_cmp old q))
   where
-    over_inserted : (byte : ℕ → ℕ) (a : ℕ) → over new byte a ≡ with_byte (over old byte) k x a
+    over_inserted : (byte : ℕ → ℕ) (a : ℕ) → laid_over new byte a ≡ with_byte (laid_over old byte) k x a
     over_inserted byte a = elim (cases_eq a k) [
       | inl e ↦ ap (λ o. byte_or o (byte a)) (at_key old new k x has a e)
-          ∙ sym (here (over old byte) k x a e)
+          ∙ sym (here (laid_over old byte) k x a e)
       | inr ne ↦ ap (λ o. byte_or o (byte a)) (off_key old new k x has a ne)
-          ∙ sym (elsewhere (over old byte) k x a ne)
+          ∙ sym (elsewhere (laid_over old byte) k x a ne)
     ]
 
 -- ---- the bytes of an address
@@ -77,10 +77,10 @@ pub over_more : (first old new : BTreeMap ℕ ℕ) (n at v x : ℕ) → at < 2 ^
     → x ≡ v / 256 ^ n % 256
     → ((q : ℕ) → get nat_cmp new q
     ≡ cond (is_at (nat_cmp ((at + n) % 2 ^ 64)) q) (Some x) (get nat_cmp old q))
-    → ((byte : ℕ → ℕ) → over old byte ≡ with_number (over first byte) n at v)
-    → (byte : ℕ → ℕ) → over new byte ≡ with_number (over first byte) (n + 1) at v
+    → ((byte : ℕ → ℕ) → laid_over old byte ≡ with_number (laid_over first byte) n at v)
+    → (byte : ℕ → ℕ) → laid_over new byte ≡ with_number (laid_over first byte) (n + 1) at v
 over_more first old new n at v x lt small is has so_far byte =
     (λ i a. over_inserted old new ((at + n) % 2 ^ 64) x has byte a i)
     ∙ ap (λ f. with_byte f ((at + n) % 2 ^ 64) x) (so_far byte)
-    ∙ ap (with_byte (with_number (over first byte) n at v) ((at + n) % 2 ^ 64)) is
-    ∙ (λ i a. one_more (over first byte) n at v lt small a i)
+    ∙ ap (with_byte (with_number (laid_over first byte) n at v) ((at + n) % 2 ^ 64)) is
+    ∙ (λ i a. one_more (laid_over first byte) n at v lt small a i)

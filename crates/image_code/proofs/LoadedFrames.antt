@@ -4,7 +4,8 @@ use Rattle.virtual_unwind.specs.CallerOf.{distance}
 use Rattle.unwind_check.specs.Laws.{IsPlaced}
 use Rattle.unwind_check.proofs.Entries.{rules_find_callers}
 use Rattle.image_code.specs.Code.{code_of}
-use Rattle.image_code.specs.Frames.{YesFindsCallers, checked_code}
+use Rattle.image_code.specs.Frames.{YesFindsCallers}
+use Rattle.image_code.specs.Verdicts.{checked_code}
 use Rattle.image_code.proofs.ImageBounds.{bounded}
 use Rattle.image_code.proofs.LoadedCode.{loaded_code}
 use Rattle.image_code.proofs.EntryBounds.{bounded_entry}
@@ -20,4 +21,4 @@ yes_finds_callers bytes probe t n entry e s d is verdict code covers away rip st
       code = λ at lt. code (t.image.base + at)
           ∙ loaded_code bytes t.image 15 at is.read is.place (omega (arith, end, lt));
     } in
-    rules_find_callers t (checked_code t probe) n entry e s d verdict covers away placed rip state
+    rules_find_callers t (checked_code t.image probe) n entry e s d verdict covers away placed rip state

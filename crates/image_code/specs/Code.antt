@@ -22,9 +22,9 @@ abbrev pub byte_or : Option ℕ → ℕ → ℕ
 byte_or (Some b) other = b
 byte_or None other = other
 
--- over other bytes
-abbrev pub over : BTreeMap ℕ ℕ → (ℕ → ℕ) → ℕ → ℕ
-over bytes byte a = byte_or (get nat_cmp bytes a) (byte a)
+-- those that are kept in a map, over others
+abbrev pub laid_over : BTreeMap ℕ ℕ → (ℕ → ℕ) → ℕ → ℕ
+laid_over bytes byte a = byte_or (get nat_cmp bytes a) (byte a)
 
 -- ---- the loaded image
 

@@ -13,10 +13,11 @@ use Rattle.frame_rules.specs.Frame.{left_to}
 use Rattle.frame_rules.specs.States.{registers, return_address}
 use Rattle.frame_rules.specs.Rules.{IsFound}
 use Rattle.unwind_check.specs.declared.rule.Verdict.TheVariants.{Yes}
-use Rattle.unwind_check.specs.Verdicts.{ImageCode, IsVerdict}
+use Rattle.unwind_check.specs.Verdicts.{IsVerdict}
 use Rattle.unwind_check.specs.Laws.{IsInEntry}
 use Rattle.host_model.specs.Loading.{mapped, has_place}
 use Rattle.image_code.specs.Code.{code_of}
+use Rattle.image_code.specs.Verdicts.{checked_code}
 
 -- the function table of the image that bytes are read as, whole; the image has a place
 pub record IsTableOf (bytes : List ℕ) (t : Tables) : Type 0 where
@@ -31,16 +32,12 @@ abbrev pub HasCodeOf : Memory → Image → Type 0
 HasCodeOf m image = (a : ℕ)
     → executable m LONGEST_INSTRUCTION a ≡ executable (mapped image) LONGEST_INSTRUCTION a
 
--- with the bytes of the stack probe, `__chkstk`
-abbrev pub checked_code : Tables → List ℕ → ImageCode
-checked_code t probe = record { memory = code_of t.image; probe = probe }
-
 -- where the verdict on an image is yes, the caller is found in every state of each entry of the
 -- image as it is loaded, as it was at the entry's first byte
 abbrev pub YesFindsCallers : Type 0
 YesFindsCallers =
     (bytes probe : List ℕ) (t : Tables) (n : ℕ) (entry : Entry) (e s : State) (d : ℕ)
-    → IsTableOf bytes t → IsVerdict (checked_code t probe) (entries_of t) (Yes n)
+    → IsTableOf bytes t → IsVerdict (checked_code t.image probe) (entries_of t) (Yes n)
     → HasCodeOf s.memory t.image
     → holding (distance t.image.base s.cpu.rip) (entries_of t) ≡ Some entry
     → distance t.image.base s.cpu.rip ≡ entry.range.begin + d

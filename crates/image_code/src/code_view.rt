@@ -29,14 +29,14 @@ impl<'image, 'bytes> Model for CodeView<'image, 'bytes> {
     ghost use Rattle.host_model.specs.Loading.{with_slots};
     ghost use Rattle.pe_image.specs.Image.{Image};
     ghost use Rattle.pe_image.specs.Imports.{imports_of};
-    ghost use Rattle.image_code.specs.Code.{over};
+    ghost use Rattle.image_code.specs.Code.{laid_over};
 
     ghost Value = { Image };
 
     ghost view = { λ v. v.image.now };
 
     ghost invariant = { λ v. (byte : ℕ → ℕ)
-        → over v.bound byte ≡ with_slots 0 byte (imports_of v.image.now) };
+        → laid_over v.bound byte ≡ with_slots 0 byte (imports_of v.image.now) };
 }
 
 /// Whether an address lies in the pages of a section.

@@ -5,7 +5,7 @@ ghost use Rattle.flat_memory.specs.Memory.{with_number};
 ghost use Rattle.host_layout.specs.Services.{address_of};
 ghost use Rattle.host_model.specs.Loading.{with_slots};
 ghost use Rattle.pe_image.specs.Imports.{imports_of};
-ghost use Rattle.image_code.specs.Code.{over};
+ghost use Rattle.image_code.specs.Code.{laid_over};
 
 use host_layout::service::Service;
 use pe_image::ImageView;
@@ -14,8 +14,8 @@ use std::collections::BTreeMap;
 
 /// Puts the address of a service over the eight bytes of a slot.
 fn bind(bytes: &mut BTreeMap<u64, u8>, slot: u64, service: Service) -> Result<(), AllocError>
-    ensures { OnOk result ((byte : ℕ → ℕ)
-        → over bytes.new byte ≡ with_number (over bytes.old byte) 8 slot (address_of service)) }
+    ensures { OnOk result ((byte : ℕ → ℕ) → laid_over bytes.new byte
+        ≡ with_number (laid_over bytes.old byte) 8 slot (address_of service)) }
 {
     let address = service.address().to_le_bytes();
     for n in 0..address.len() {
@@ -29,7 +29,7 @@ fn bind(bytes: &mut BTreeMap<u64, u8>, slot: u64, service: Service) -> Result<()
 /// names no service binds nothing.
 pub fn bound_bytes(alloc: Global, image: &ImageView<'_>) -> Result<BTreeMap<u64, u8>, AllocError>
     ensures { IfOk result (λ bytes. (byte : ℕ → ℕ)
-        → over bytes byte ≡ with_slots 0 byte (imports_of image.now)) }
+        → laid_over bytes byte ≡ with_slots 0 byte (imports_of image.now)) }
 {
     let mut bytes = BTreeMap::new(alloc);
     for import in image.imports() {

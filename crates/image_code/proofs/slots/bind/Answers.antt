@@ -2,12 +2,12 @@ use Rattle.std.proofs.Common.{◌<◌, ◌∙◌, get_or, refl, ap, sym, w64, ru
 use Rattle.std.specs.Int.{to_le_bytes}
 use Rattle.flat_memory.proofs.Stores.{with_number-zero}
 use Rattle.host_layout.specs.Services.{address_of}
-use Rattle.image_code.specs.Code.{over}
+use Rattle.image_code.specs.Code.{laid_over}
 use Rattle.image_code.proofs.BoundBytes.{over_more, digit}
 use Rattle.image_code.proofs.slots.bind.Goals as goal
 
 pub loop-n-init : goal.loop-n-init
-loop-n-init c byte = sym (with_number-zero (over c.args.bytes.now byte) 0 c.args.slot
+loop-n-init c byte = sym (with_number-zero (laid_over c.args.bytes.now byte) 0 c.args.slot
     (address_of c.args.service) refl)
 
 pub loop-n-preserved : goal.loop-n-preserved
