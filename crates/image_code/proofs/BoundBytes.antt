@@ -31,7 +31,8 @@ module _ (byte : ℕ → ℕ) (n at v : ℕ) (at_lt : at < 2 ^ 64) (small : n < 
       ≡ with_number byte (n + 1) at v a
   one_more a = elim (cases_lt a (2 ^ 64)) [
     | inr ge ↦ elsewhere (with_number byte n at v) place (v / 256 ^ n % 256) a
-        (λ e. absurd (omega (arith, e, ge))) ∙ outside byte n at v a ge ∙ sym (outside byte (n + 1) at v a ge)
+        (λ e. absurd (omega (arith, e, ge))) ∙ outside byte n at v a ge
+        ∙ sym (outside byte (n + 1) at v a ge)
     | inl la ↦ elim (cases_eq (distance at a) n) [
       | inl e ↦ here (with_number byte n at v) place (v / 256 ^ n % 256) a (at_place a la e)
           ∙ ap (λ k. v / 256 ^ k % 256) (sym e)
@@ -51,7 +52,8 @@ module _ (byte : ℕ → ℕ) (n at v : ℕ) (at_lt : at < 2 ^ 64) (small : n < 
 module _ (old new : BTreeMap ℕ ℕ) (k x : ℕ)
     (has : (q : ℕ) → get nat_cmp new q ≡ cond (is_at (nat_cmp k) q) (Some x) (get nat_cmp old q))
   where
-    over_inserted : (byte : ℕ → ℕ) (a : ℕ) → laid_over new byte a ≡ with_byte (laid_over old byte) k x a
+    over_inserted : (byte : ℕ → ℕ) (a : ℕ)
+        → laid_over new byte a ≡ with_byte (laid_over old byte) k x a
     over_inserted byte a = elim (cases_eq a k) [
       | inl e ↦ ap (λ o. byte_or o (byte a)) (at_key old new k x has a e)
           ∙ sym (here (laid_over old byte) k x a e)

@@ -39,6 +39,7 @@ module _ (image : Image) (bytes : BTreeMap ℕ ℕ)
   executed a s is e =
       ap (λ b. cond b (Some ((code_of image).byte a)) None)
       (ap (λ o. (mode_in o a).execute) is ∙ e)
-      ∙ ap (λ (n : ℕ). Some n) (sym (ap (λ f. f a) (bound (stored_byte (record image { base = 0 }))))
+      ∙ ap (λ (n : ℕ). Some n)
+      (sym (ap (λ f. f a) (bound (stored_byte (record image { base = 0 }))))
       ∙ ap (λ o. byte_or (get nat_cmp bytes a) (byte_in 0 o a)) is
       ∙ ap (λ n. byte_or (get nat_cmp bytes a) (get_or s.raw (a - n) 0)) (from_base s.address))

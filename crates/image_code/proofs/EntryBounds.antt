@@ -128,11 +128,13 @@ module _ (file : List ℕ) (image : Image) (read : IsImage file image) (octets :
       let three = given (unless (d.size % RUNTIME_FUNCTION_SIZE == 0) (refusals.Truncated d.rva)) _
       rs two.then in
       let all = stored_are_octets file image d.rva d.size two.value read octets
-      (is_some (stored image.sections d.rva d.size) (refusals.Truncated d.rva) two.value two.first) in
+      (is_some (stored image.sections d.rva d.size) (refusals.Truncated d.rva) two.value
+      two.first) in
       same (ranges_in two.value) three.then (ranges_low (length two.value / RUNTIME_FUNCTION_SIZE)
       two.value all)
     where
-      same : (qs : List RuntimeFunction) → (let t : Table (List RuntimeFunction) = Ok qs in t) ≡ Ok rs
+      same : (qs : List RuntimeFunction)
+          → (let t : Table (List RuntimeFunction) = Ok qs in t) ≡ Ok rs
           → AllByRecursion (λ r. r.end < 2 ^ 32) qs → AllByRecursion (λ r. r.end < 2 ^ 32) rs
       same qs h low = let g : qs ≡ rs = cc in
           subst (AllByRecursion (λ (r : RuntimeFunction). r.end < 2 ^ 32)) g low

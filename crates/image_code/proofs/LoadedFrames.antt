@@ -21,4 +21,5 @@ yes_finds_callers bytes probe t n entry e s d is verdict code covers away rip st
       code = λ at lt. code (t.image.base + at)
           ∙ loaded_code bytes t.image 15 at is.read is.place (omega (arith, end, lt));
     } in
-    rules_find_callers t (checked_code t.image probe) n entry e s d verdict covers away placed rip state
+    rules_find_callers t (checked_code t.image probe) n entry e s d verdict covers away placed rip
+    state

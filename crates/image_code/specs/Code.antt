@@ -1,5 +1,5 @@
--- The code of an image at addresses relative to its base, and what it has to do with the image as it
--- is loaded.
+-- The code of an image at addresses relative to its base, and what it has to do with the image as
+-- it is loaded.
 use Rattle.std.specs.Prelude.{ℕ, ◌≡◌, ◌+◌, ◌≤◌, ◌^◌, true, List, Option, Some, None, if◌then◌else◌}
 use Rattle.std.specs.Ordering.{nat_cmp}
 use Rattle.std.specs.BTreeMap.{BTreeMap, get}
@@ -28,8 +28,9 @@ laid_over bytes byte a = byte_or (get nat_cmp bytes a) (byte a)
 
 -- ---- the loaded image
 
--- an image that has a place has the same executable bytes at its base, at the same distances from it
+-- an image that has a place has the same executable bytes at its base, as far from it
 abbrev pub LoadedCodeIsCode : Type 0
 LoadedCodeIsCode =
     (bytes : List ℕ) (image : Image) (n at : ℕ) → IsImage bytes image → has_place image ≡ true
-    → at + n ≤ 2 ^ 63 → executable (mapped image) n (image.base + at) ≡ executable (code_of image) n at
+    → at + n ≤ 2 ^ 63
+    → executable (mapped image) n (image.base + at) ≡ executable (code_of image) n at
