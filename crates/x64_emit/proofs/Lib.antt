@@ -1,3 +1,4 @@
 mod Lemmas
 pub mod Rooms
 pub mod Nearby
+pub mod CheckStack

@@ -15,24 +15,35 @@ ghost use Rattle.template_code.specs.Slots as places;
 ghost use Rattle.template_code.specs.Bytes.{spelled, thunk};
 ghost use Rattle.x64_emit.specs.Appending.{Appended};
 ghost use Rattle.template_code.specs.Probing.{check_stack};
+ghost use Rattle.x64_emit.specs.declared.entry.TheConstants.{CHECK_STACK};
 
 use crate::calls::distance;
-use crate::put::{above, arithmetic, copy, load, put, store};
+use crate::put::{copy, load, put, store};
 use crate::slots::put_keep;
 use frame_layout::{FrameLayout, prologue};
 use linear_code::slot::Slot;
 use seh_num::width::Width;
 use std::alloc::AllocError;
 use template_code::layout::Layout;
-use x64_instr::instruction::{Instr, Operation, Target};
-use x64_instr::operand::{Base, MemRef, Operand, RegisterOrMemory};
+use x64_instr::instruction::{Instr, Target};
+use x64_instr::operand::{Base, MemRef, RegisterOrMemory};
 use x64_instr::register::Reg;
 
 /// The bytes of the thunk of a service.
 pub const THUNK_SIZE: u32 = 6;
 
-/// The bytes of `__chkstk`.
+/// How many bytes `__chkstk` has.
 pub const CHECK_STACK_SIZE: u32 = 21;
+
+/// `__chkstk` (Microsoft x64 ABI, "Prolog and epilog"), which every program has once: it touches
+/// the two pages that a frame of at most 8,192 bytes can reach into, whose size is in RAX.
+pub const CHECK_STACK: [u8; CHECK_STACK_SIZE as usize] = [
+    0x40, 0x84, 0x84, 0x24, 0x08, 0xF0, 0xFF, 0xFF, // test [rsp-4088],al
+    0x4C, 0x8D, 0x5C, 0x24, 0x08, // lea r11,[rsp+8]
+    0x49, 0x29, 0xC3, // sub r11,rax
+    0x41, 0x84, 0x43, 0x00, // test [r11],al
+    0xC3, // ret
+];
 
 /// How far after a prologue's first byte the call of `__chkstk` ends, where there is one.
 const PROBE_END: u64 = 10;
@@ -54,36 +65,18 @@ pub fn put_thunk(code: &mut Vec<u8>, at: u64, slot: u64) -> Result<(), AllocErro
     )
 }
 
-/// TEST of the byte at an address, which touches its page.
-fn touch(at: MemRef) -> Instr
-    ensures { result ≡ Instr.Test Width.W8 (RegisterOrMemory.Memory at) (Operand.Register Reg.Rax) }
-{
-    Instr::Test {
-        width: Width::W8,
-        first: RegisterOrMemory::Memory(at),
-        second: Operand::Register(Reg::Rax),
-    }
-}
-
 /// Adds `__chkstk`, which touches each page of a frame of at most 8,192 bytes, whose size is in
 /// RAX.
 pub fn put_check_stack(code: &mut Vec<u8>) -> Result<(), AllocError>
     ensures { OnOk result (code.new.items ≡ code.old.items ++ spelled check_stack) }
 {
-    put(code, &touch(above(Reg::Rsp, 0_u64.wrapping_sub(4088))))?;
-    let caller = Instr::LoadAddress {
-        width: Width::W64,
-        to: Reg::R11,
-        from: above(Reg::Rsp, 8),
-    };
-    put(code, &caller)?;
-    put(
-        code,
-        &arithmetic(Operation::Sub, Width::W64, Reg::R11, Reg::Rax),
-    )?;
-    put(code, &touch(above(Reg::R11, 0)))?;
-    put(code, &Instr::Return)
+    code.extend_from_slice(&CHECK_STACK)
 }
+
+/// The constant is the code of `__chkstk`.
+pub fn check_stack_is_spelled()
+    ensures { CHECK_STACK ≡ spelled check_stack }
+{}
 
 /// Adds the bytes of instructions.
 fn put_all(code: &mut Vec<u8>, instrs: &[Instr]) -> Result<(), AllocError>

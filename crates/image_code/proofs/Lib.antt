@@ -1,0 +1,9 @@
+pub mod Sections
+pub mod BoundBytes
+pub mod CodeBytes
+pub mod Fetching
+pub mod ImageBounds
+pub mod LoadedCode
+pub mod Octets
+pub mod EntryBounds
+pub mod LoadedFrames

@@ -1,0 +1,23 @@
+use Rattle.std.proofs.Common.{List, sym, ap, subst, ◌∙◌}
+use Rattle.seh_num.specs.Answers.{◌>>=◌}
+use Rattle.pe_image.specs.Image.{Image}
+use Rattle.eh_tables.specs.declared.range.RuntimeFunction.{RuntimeFunction}
+use Rattle.eh_tables.specs.Answer.{Table}
+use Rattle.eh_tables.specs.Tables.{entries, entries_of}
+use Rattle.unwind_check.specs.Verdicts.{IsVerdict}
+use Rattle.image_code.specs.Verdicts.{checked_code}
+use Rattle.image_code.proofs.validation.validate_image.Goals as goal
+
+pub returns-in-Ok-validate-clause-verdict : goal.returns-in-Ok-validate-clause-verdict
+returns-in-Ok-validate-clause-verdict c =
+    let image = c.args.image.now in
+    let t = c.in-Ok.tables in
+    record {
+      entries = entries_of t;
+      read = ap (λ (r : Table (List RuntimeFunction)). r >>= λ rs. entries image 0 0 rs)
+          c.in-Ok.ensures.read.0
+          ∙ ap (λ (i : Image). entries i 0 0 t.ranges) (sym c.in-Ok.ensures.read.1)
+          ∙ c.in-Ok.ensures.whole.whole;
+      is = subst (λ i. IsVerdict (checked_code i c.args.probe.now) (entries_of t)
+          c.in-Ok-validate.verdict) c.in-Ok-of.ensures c.in-Ok-validate.ensures;
+    }

@@ -1,0 +1,24 @@
+-- The verdict on an image, by its code and its function table.
+use Rattle.std.specs.Prelude.{◌≡◌, ℕ, List, Ok, Err}
+use Rattle.pe_image.specs.Image.{Image}
+use Rattle.eh_tables.specs.Tables.{Entry, tables}
+use Rattle.unwind_check.specs.declared.rule.Verdict.{Verdict}
+use Rattle.unwind_check.specs.Verdicts.{ImageCode, IsVerdict}
+use Rattle.image_code.specs.declared.refusal.ValidationErr.{ValidationErr}
+use Rattle.image_code.specs.declared.refusal.ValidationErr.TheVariants as refusals
+use Rattle.image_code.specs.Code.{code_of}
+
+-- with the bytes of the stack probe, `__chkstk`
+abbrev pub checked_code : Image → List ℕ → ImageCode
+checked_code image probe = record { memory = code_of image; probe = probe }
+
+-- the function table is read whole, and this is the verdict on its entries
+pub record IsImageVerdict (image : Image) (probe : List ℕ) (v : Verdict) : Type 0 where
+  pub entries : List Entry
+  pub read : tables image ≡ Ok entries
+  pub is : IsVerdict (checked_code image probe) entries v
+
+-- there is no verdict for this reason; a want of memory says nothing of the image
+abbrev pub IsValidationRefusal : Image → ValidationErr → Type 0
+IsValidationRefusal image refusals.Memory = Unit {0}
+IsValidationRefusal image (refusals.Table e) = tables image ≡ Err e

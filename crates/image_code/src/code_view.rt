@@ -1,0 +1,134 @@
+//! The code of an image, fetched from its file.
+
+ghost use Rattle.std.specs.Prelude.{◌≡◌, ◌≤◌, ◌<◌, ℕ, IfOk, option_map, ◌-◌, length, slice_index, slice_index_or};
+ghost use Rattle.pe_image.specs.Image.{Section, AreAscending};
+ghost use Rattle.host_model.specs.Loading.{pages, section_of, covers};
+ghost use Rattle.image_code.specs.Code.{code_of, executable_byte};
+
+use crate::slots::bound_bytes;
+use host_layout::range::pages;
+use pe_image::{ImageView, SectionView};
+use seh_num::size::LONGEST_INSTRUCTION;
+use std::alloc::{AllocError, Global};
+use std::collections::BTreeMap;
+use std::marker::Model;
+use x64_memory::space::CodeSpace;
+
+/// The executable bytes of an image, at addresses relative to its base: what the file stores of the
+/// section that covers an address, zeros from there to the end of the section's last page, and over
+/// both the addresses of the services that slots of imports are bound to. The image needs no place
+/// in memory. A clause sees it as the image.
+#[derive(Drop)]
+pub struct CodeView<'image, 'bytes> {
+    image: &'image ImageView<'bytes>,
+    bound: BTreeMap<u64, u8>,
+}
+
+impl<'image, 'bytes> Model for CodeView<'image, 'bytes> {
+    ghost use Rattle.std.specs.Prelude.{◌≡◌, ℕ};
+    ghost use Rattle.host_model.specs.Loading.{with_slots};
+    ghost use Rattle.pe_image.specs.Image.{Image};
+    ghost use Rattle.pe_image.specs.Imports.{imports_of};
+    ghost use Rattle.image_code.specs.Code.{laid_over};
+
+    ghost Value = { Image };
+
+    ghost view = { λ v. v.image.now };
+
+    ghost invariant = { λ v. (byte : ℕ → ℕ)
+        → laid_over v.bound byte ≡ with_slots 0 byte (imports_of v.image.now) };
+}
+
+/// Whether an address lies in the pages of a section.
+fn is_within(section: &SectionView<'_>, rva: u64) -> bool
+    ensures { result ≡ covers 0 rva section.now }
+{
+    section.address() <= rva && rva < section.address() + pages(section.size())
+}
+
+/// How many of ascending sections begin at or below an address.
+fn count_begun(sections: &[SectionView<'_>], rva: u64) -> usize
+    requires { AreAscending 0 sections.now }
+    ensures within { result ≤ length sections.now }
+    ensures begun { (k : ℕ) (d : Section) → k < result
+        → (slice_index_or sections.now k d).address ≤ rva }
+    ensures later { (k : ℕ) (d : Section) → result ≤ k → k < length sections.now
+        → rva < (slice_index_or sections.now k d).address }
+{
+    sections.partition_point(|s| s.address() <= rva)
+}
+
+/// The section whose pages hold an address.
+fn section_at<'a, 'b>(sections: &'a [SectionView<'b>], rva: u64) -> Option<&'a SectionView<'b>>
+    requires { AreAscending 0 sections.now }
+    ensures { option_map (λ s. s.now) result ≡ section_of 0 rva sections.now }
+{
+    let begun = count_begun(sections, rva);
+    if begun == 0 {
+        return None;
+    }
+    let section = &sections[begun - 1];
+    if is_within(section, rva) {
+        Some(section)
+    } else {
+        None
+    }
+}
+
+/// What the file stores of a section at an address, and zeros after it.
+fn stored_byte(section: &SectionView<'_>, rva: u64) -> u8
+    ensures { result ≡ slice_index section.now.raw (rva - section.now.address) }
+{
+    match section
+        .raw()
+        .get(rva.saturating_sub(section.address()) as usize)
+    {
+        Some(byte) => *byte,
+        None => 0,
+    }
+}
+
+impl<'image, 'bytes> CodeView<'image, 'bytes> {
+    /// The code of an image. Refused for want of memory alone, which the slots of its imports take.
+    pub fn of(
+        alloc: Global,
+        image: &'image ImageView<'bytes>,
+    ) -> Result<CodeView<'image, 'bytes>, AllocError>
+        ensures { IfOk result (λ v. v ≡ image.now) }
+    {
+        let bound = bound_bytes(alloc, image)?;
+        Ok(CodeView { image, bound })
+    }
+
+    /// The byte at an address, where it may be executed.
+    fn byte(&self, rva: u64) -> Option<u8>
+        ensures { result ≡ executable_byte (code_of self.now) rva }
+    {
+        let Some(section) = section_at(self.image.sections(), rva) else {
+            return None;
+        };
+        if !section.is_executable() {
+            return None;
+        }
+        match self.bound.get(&rva) {
+            Some(byte) => Some(*byte),
+            None => Some(stored_byte(section, rva)),
+        }
+    }
+}
+
+impl<'image, 'bytes> CodeSpace for CodeView<'image, 'bytes> {
+    ghost memory = { λ v. code_of v };
+
+    fn fetch(&self, at: u64, into: &mut [u8; LONGEST_INSTRUCTION]) -> usize {
+        let mut next = at;
+        for n in 0..LONGEST_INSTRUCTION {
+            let Some(byte) = self.byte(next) else {
+                return n;
+            };
+            into[n] = byte;
+            next = next.wrapping_add(1);
+        }
+        LONGEST_INSTRUCTION
+    }
+}
