@@ -8,7 +8,7 @@ use crate::refusal::ValidationErr;
 use eh_tables::Tables;
 use pe_image::ImageView;
 use std::alloc::Global;
-use unwind_check::rule::Verdict;
+use unwind_check::Verdict;
 use unwind_check::validation::validate;
 
 /// Whether no rule fails in any entry of an image's function table, or the first entry in which one
