@@ -18,13 +18,13 @@ not_refused :
     (r : Result Image ImageErr) (image : Image) (e : ImageErr) → r ≡ Ok image → r ≡ Err e → ⊥
 not_refused r image e is refused = let q : Ok image ≡ Err e = sym is ∙ refused in cc
 
-one_image :
+pub one_image :
     (r : Result Image ImageErr) (image other : Image)
     → r ≡ Ok image → r ≡ Ok other → image ≡ other
 one_image r image other is also = let q : Ok image ≡ Ok other = sym is ∙ also in cc
 
 -- an image is refused for want of memory alone
-image_refused :
+pub image_refused :
     (bytes : List ℕ) (image : Image) (e : ImageErr)
     → IsImage bytes image → ImageIsRefused bytes e → e ≡ images.Memory
 image_refused bytes image images.Memory is refused = refl
@@ -34,7 +34,7 @@ no_reason : (o : Option LoadErr) (e : LoadErr) → o ≡ None → o ≡ Some e �
 no_reason o e none some = let q : None ≡ Some e = sym none ∙ some in cc
 
 -- and so is the load of one that loads
-load_refused :
+pub load_refused :
     (bytes : List ℕ) (image : Image) (e : LoadErr)
     → IsImage bytes image → load_refusal image ≡ None → IsRefusedLoad bytes e → e ≡ loads.Memory
 load_refused bytes image loads.Memory is ok refused = refl

@@ -6,3 +6,5 @@ pub mod Headline
 pub mod Meanings
 pub mod Completeness
 pub mod TamePrograms
+pub mod Calls
+pub mod MeantCalls

@@ -8,3 +8,4 @@ pub mod Meanings
 pub mod Commands
 pub mod Completeness
 pub mod TamePrograms
+pub mod Calls

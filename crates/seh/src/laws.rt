@@ -1,5 +1,6 @@
 //! What the commands come to together.
 
+ghost use Rattle.seh.specs.Calls.{CompileIsComplete, RunIsComplete, MeaningIsComplete, ShowIsComplete, ExecIsComplete, TextsHaveOneImage, LastLinesAgree, CompiledIsMeant, RunIsMeant};
 ghost use Rattle.seh.specs.Completeness.{AcceptedTextsCompile, CompiledImagesRun};
 ghost use Rattle.seh.specs.Headline.{Headline, NothingMore, Walks};
 ghost use Rattle.seh.specs.TamePrograms.{TameProgramsWalk, TameProgramsEnd};
@@ -41,4 +42,27 @@ pub fn walks()
 pub fn tame_programs()
     ensures walk { TameProgramsWalk }
     ensures end { TameProgramsEnd }
+{}
+
+/// Whole calls of the program, where no source and no sink has a fault and memory isn't wanting. An
+/// accepted text gives an image under `compile`, the text of its run under `run`, and the text of
+/// its meaning under `meaning`. An image gives its view under `show`, and one that loads the text
+/// of its run under `exec`. Each has the status of its end, and writes nothing to `err`.
+pub fn calls()
+    ensures compile { CompileIsComplete }
+    ensures run { RunIsComplete }
+    ensures meaning { MeaningIsComplete }
+    ensures show { ShowIsComplete }
+    ensures exec { ExecIsComplete }
+{}
+
+/// From a text to what is written, in two calls or in one. Where the program ends within n steps by
+/// a return of `main` or an unhandled exception, `compile` and then `exec` of what it wrote, with at
+/// least `256 * n + 256` turns, write the text of the meaning and have its status; so does `run`. A
+/// text has one image at most, and the last lines of a run and of a meaning that end alike are one.
+pub fn meant_calls()
+    ensures one_image { TextsHaveOneImage }
+    ensures last_line { LastLinesAgree }
+    ensures compiled { CompiledIsMeant }
+    ensures run { RunIsMeant }
 {}

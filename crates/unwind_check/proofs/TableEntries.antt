@@ -1,0 +1,239 @@
+-- The entries of a table that was read whole, one by one.
+use Rattle.std.proofs.Common.{◌≡◌, ℕ, zero, suc, ◌+◌, ◌^◌, ◌<◌, ◌≤◌, Bool, true, false, Option, Ok, Err, List, [], ◌∷◌, ◌++◌, length, take, drop, get_or, refl, sym, ap, subst, ◌∙◌, arith}
+use Rattle.std.specs.Prelude.{nat_le, nat_lt}
+use Rattle.std.proofs.lemmas.Bool.{ltb-true}
+use Rattle.std.proofs.lemmas.List.Elements.{All-append, All-nil, All-cons}
+use Rattle.eh_tables.specs.declared.range.RuntimeFunction.{RuntimeFunction}
+use Rattle.eh_tables.specs.Infos.{Info, info}
+use Rattle.eh_tables.specs.declared.layout.TheConstants.{MOST_PARENTS}
+use Rattle.eh_tables.specs.declared.refusal.TableErr.TheVariants as refusals
+use Rattle.eh_tables.specs.declared.refusal.TableErr.{TableErr}
+use Rattle.seh_num.specs.Answers.{◌>>=◌, unless, prepend}
+use Rattle.eh_tables.specs.Answer.{Table}
+use Rattle.eh_tables.specs.Tables.{Entry, Tables, entry, entry_at, parents, no_range, end_before, entries, entries_of, TablesAreWhole}
+use Rattle.unwind_check.specs.declared.rule.Fault.{Fault}
+use Rattle.unwind_check.specs.Faults.{entry_fault}
+use Rattle.unwind_check.specs.FailingRules.{AreFaults}
+use Rattle.unwind_check.specs.Verdicts.{ImageCode, entry_in, IsKept, AllAreKept}
+use Rattle.unwind_check.proofs.FirstFaults.{faults_are_first}
+
+record Split (ts : Tables) (index last : ℕ) (r : RuntimeFunction) (rs : List RuntimeFunction)
+    (es : List Entry) : Type 0 where
+  head : Entry
+  rest : List Entry
+  is : entry ts.image index last r ≡ Ok head
+  others : entries ts.image (index + 1) r.end rs ≡ Ok rest
+  all : es ≡ head ∷ rest
+
+split : (ts : Tables) (index last : ℕ) (r : RuntimeFunction) (rs : List RuntimeFunction)
+    (es : List Entry) → entries ts.image index last (r ∷ rs) ≡ Ok es → Split ts index last r rs es
+split ts index last r rs es h = first (entry ts.image index last r) refl h
+  where
+    second : (e : Entry) (t : Table (List Entry)) → entry ts.image index last r ≡ Ok e
+        → entries ts.image (index + 1) r.end rs ≡ t → prepend e t ≡ Ok es
+        → Split ts index last r rs es
+    second e (Ok rest) is others h = record {
+      head = e;
+      rest = rest;
+      is = is;
+      others = others;
+      all = cc;
+    }
+    second e (Err x) is others h = cc
+
+    first : (t : Table Entry) → entry ts.image index last r ≡ t
+        → (t >>= λ e. prepend e (entries ts.image (index + 1) r.end rs)) ≡ Ok es
+        → Split ts index last r rs es
+    first (Ok e) is h = second e (entries ts.image (index + 1) r.end rs) is refl h
+    first (Err x) is h = cc
+
+abbrev end_from : ℕ → List RuntimeFunction → ℕ → ℕ
+end_from last rs zero = last
+end_from last rs (suc k) = (get_or rs k no_range).end
+
+end_of_rest : (last : ℕ) (r : RuntimeFunction) (rs : List RuntimeFunction) (k : ℕ)
+    → end_from r.end rs k ≡ end_from last (r ∷ rs) (suc k)
+end_of_rest last r rs zero = refl
+end_of_rest last r rs (suc k) = refl
+
+record IsEntryAt (es : List Entry) (k : ℕ) (t : Table Entry) : Type 0 where
+  entry : Entry
+  is : t ≡ Ok entry
+  all : drop k es ≡ entry ∷ drop (suc k) es
+
+entry_is_at : (ts : Tables) (index last : ℕ) (rs : List RuntimeFunction) (es : List Entry)
+    (k j : ℕ) → entries ts.image index last rs ≡ Ok es → k < length rs → j ≡ index + k
+    → IsEntryAt es k (entry ts.image j (end_from last rs k) (get_or rs k no_range))
+entry_is_at ts index last [] es k j h lt e = absurd (omega arith)
+entry_is_at ts index last (r ∷ rs) es zero j h lt e =
+    let s = split ts index last r rs es h in
+    let f : j ≡ index = omega arith in
+    record {
+      entry = s.head;
+      is = ap (λ n. entry ts.image n last r) f ∙ s.is;
+      all = s.all
+          ∙ ap (λ (t : List Entry). s.head ∷ t) (sym (ap (drop 1) s.all));
+    }
+entry_is_at ts index last (r ∷ rs) es (suc k) j h lt e =
+    let s = split ts index last r rs es h in
+    let rest = entry_is_at ts (index + 1) r.end rs s.rest k j s.others (omega arith)
+    (omega arith) in
+    record {
+      entry = rest.entry;
+      is = ap (λ n. entry ts.image j n (get_or rs k no_range)) (sym (end_of_rest last r rs k))
+          ∙ rest.is;
+      all = ap (drop (suc k)) s.all ∙ rest.all
+          ∙ ap (λ (t : List Entry). rest.entry ∷ t) (sym (ap (drop (suc (suc k))) s.all));
+    }
+
+first_end : (t : Tables) (k : ℕ) → end_from 0 t.ranges k ≡ end_before t.ranges k
+first_end t zero = refl
+first_end t (suc k) = refl
+
+at : (t : Tables) (k : ℕ) → TablesAreWhole t → k < length t.ranges
+    → IsEntryAt (entries_of t) k (entry_at t k)
+at t k w lt =
+    let s = entry_is_at t 0 0 t.ranges (entries_of t) k k w.whole lt (omega arith) in
+    record {
+      entry = s.entry;
+      is = ap (λ n. entry t.image k n (get_or t.ranges k no_range))
+          (sym (first_end t k)) ∙ s.is;
+      all = s.all;
+    }
+
+-- ---- what an entry that is read says
+
+record Given {A B : Type 0} (t : Table A) (f : A → Table B) (y : B) : Type 0 where
+  value : A
+  first : t ≡ Ok value
+  then : f value ≡ Ok y
+
+given : {A B : Type 0} (t : Table A) (f : A → Table B) (y : B) → t >>= f ≡ Ok y → Given t f y
+given (Ok x) f y h = record { value = x; first = refl; then = h }
+given (Err e) f y h = cc
+
+holds_then : (b : Bool) (e : TableErr) (u : Unit {0}) → unless b e ≡ Ok u → b ≡ true
+holds_then true e u h = refl
+holds_then false e u h = cc
+
+-- its range isn't empty
+some_bytes : (ts : Tables) (index last : ℕ) (r : RuntimeFunction) (e : Entry)
+    → entry ts.image index last r ≡ Ok e → r.begin < r.end
+unfolding entry
+some_bytes ts index last r e h =
+    let one = given (unless (nat_lt r.begin r.end) (refusals.EmptyRange index)) _ e h in
+    ltb-true r.begin r.end (holds_then (nat_lt r.begin r.end) (refusals.EmptyRange index) one.value
+    one.first)
+
+range_of : (ts : Tables) (index last : ℕ) (r : RuntimeFunction) (e : Entry)
+    → entry ts.image index last r ≡ Ok e → e.range ≡ r
+unfolding entry
+range_of ts index last r e h =
+    let one = given (unless (nat_lt r.begin r.end) (refusals.EmptyRange index)) _ e h in
+    let two = given (unless (nat_le last r.begin) (refusals.Unsorted index)) _ e one.then in
+    let three = given (info ts.image index r.unwind_info) _ e two.then in
+    let four = given (parents MOST_PARENTS ts.image index three.value.parent) _ e three.then in
+    same (record { range = r; info = three.value; parents = four.value }) e four.then
+  where
+    same : (d e : Entry) → (let t : Table Entry = Ok d in t) ≡ Ok e → e.range ≡ d.range
+    same d e h = let g : d ≡ e = cc in ap (λ (x : Entry). x.range) (sym g)
+
+-- ---- the rules, entry by entry
+
+-- what is said of the entry of an index
+pub says_of : (c : ImageCode) (t : Tables) (k : ℕ) (e : Entry) (r : RuntimeFunction) (i : Info)
+    (ps : List Info) (o : Option Fault) → Ok e ≡ entry_at t k → r ≡ e.range → i ≡ e.info
+    → ps ≡ e.parents → r.end < 2 ^ 63 → o ≡ entry_fault c.memory c.probe r.begin r.end i ps
+    → AreFaults (entry_in c e) o
+says_of c t k e r i ps o is range info parents low f =
+    let q = get_or t.ranges k no_range in
+    let some = some_bytes t k (end_before t.ranges k) q e (sym is) in
+    let same = range_of t k (end_before t.ranges k) q e (sym is) in
+    let rise : e.range.begin < e.range.end = subst (λ (p : RuntimeFunction). p.begin < p.end)
+    (sym same)
+    some in
+    let here : entry_fault c.memory c.probe e.range.begin e.range.end e.info e.parents ≡ o =
+    ap (λ (r : RuntimeFunction). entry_fault c.memory c.probe r.begin r.end e.info e.parents)
+    (sym range)
+    ∙ ap (λ (i : Info). entry_fault c.memory c.probe r.begin r.end i e.parents) (sym info)
+    ∙ ap (λ (ps : List Info). entry_fault c.memory c.probe r.begin r.end i ps) (sym parents)
+    ∙ sym f in
+    subst (AreFaults (entry_in c e)) here (faults_are_first (entry_in c e) rise
+    (subst (λ (p : RuntimeFunction). p.end < 2 ^ 63) range low))
+
+-- the entry of an index in the list of all
+pub record IsEntryOf (es : List Entry) (k : ℕ) (e : Entry) : Type 0 where
+  pub parts : es ≡ take k es ++ (e ∷ drop (suc k) es)
+  pub next : take (suc k) es ≡ take k es ++ (e ∷ [])
+  pub count : length (take k es) ≡ k
+
+entry_of : (es : List Entry) (k : ℕ) (e : Entry) → drop k es ≡ e ∷ drop (suc k) es
+    → IsEntryOf es k e
+entry_of [] zero e h = cc
+entry_of [] (suc k) e h = cc
+entry_of (x ∷ es) zero e h =
+    let same : x ≡ e = cc in
+    record {
+      parts = ap (λ (y : Entry). y ∷ es) same;
+      next = ap (λ (y : Entry). y ∷ []) same;
+      count = refl;
+    }
+entry_of (x ∷ es) (suc k) e h =
+    let r = entry_of es k e h in
+    let n = r.count in
+    record {
+      parts = ap (λ (ys : List Entry). x ∷ ys) r.parts;
+      next = ap (λ (ys : List Entry). x ∷ ys) r.next;
+      count = omega (arith, n);
+    }
+
+pub is_entry_of : (t : Tables) (k : ℕ) (e : Entry) → TablesAreWhole t → k < length t.ranges
+    → Ok e ≡ entry_at t k → IsEntryOf (entries_of t) k e
+is_entry_of t k e w lt is =
+    let s = at t k w lt in
+    let same : s.entry ≡ e = one (sym s.is ∙ sym is) in
+    entry_of (entries_of t) k e
+    (s.all ∙ ap (λ (x : Entry). x ∷ drop (suc k) (entries_of t)) same)
+  where
+    one : {x y : Entry} → (let t : Table Entry = Ok x in t) ≡ Ok y → x ≡ y
+    one e = cc
+
+-- one more that keeps the rules
+pub one_more : (c : ImageCode) (es : List Entry) (k : ℕ) (e : Entry) → IsEntryOf es k e
+    → AllAreKept c (take k es) → IsKept c e → AllAreKept c (take (k + 1) es)
+one_more c es k e is all keeps =
+    let n : suc k ≡ k + 1 = omega arith in
+    subst (AllAreKept c) (sym is.next ∙ ap (λ j. take j es) n)
+    (All-append (IsKept c) (take k es) (e ∷ []) all
+    (All-cons (IsKept c) e [] keeps (All-nil (IsKept c))))
+
+pub entry_refused : (t : Tables) (k : ℕ) (x : TableErr) → TablesAreWhole t → k < length t.ranges
+    → Err x ≡ entry_at t k → ⊥
+entry_refused t k x w lt is = let s = at t k w lt in never (sym s.is ∙ sym is)
+  where
+    never : {e : Entry} → (let t : Table Entry = Ok e in t) ≡ Err x → ⊥
+    never h = cc
+
+-- past the last
+all_taken : (es : List Entry) (k : ℕ) → length es ≤ k → take k es ≡ es
+all_taken [] zero le = refl
+all_taken [] (suc k) le = refl
+all_taken (x ∷ es) zero le = absurd (omega (arith, le))
+all_taken (x ∷ es) (suc k) le =
+    ap (λ (ys : List Entry). x ∷ ys) (all_taken es k (omega (arith, le)))
+
+as_many : (ts : Tables) (index last : ℕ) (rs : List RuntimeFunction) (es : List Entry)
+    → entries ts.image index last rs ≡ Ok es → length es ≡ length rs
+as_many ts index last [] es h = let e : es ≡ [] = cc in ap length e
+as_many ts index last (r ∷ rs) es h =
+    let s = split ts index last r rs es h in
+    ap length s.all ∙ ap (λ k. suc k) (as_many ts (index + 1) r.end rs s.rest s.others)
+
+pub all_keep : (c : ImageCode) (t : Tables) (k : ℕ) → TablesAreWhole t → length t.ranges ≤ k
+    → AllAreKept c (take k (entries_of t))
+    → AllAreKept c (entries_of t) × (length (entries_of t) ≡ length t.ranges)
+all_keep c t k w le all =
+    let n = as_many t 0 0 t.ranges (entries_of t) w.whole in (
+      subst (AllAreKept c) (all_taken (entries_of t) k (omega (arith, n, le))) all,
+      n,
+    )

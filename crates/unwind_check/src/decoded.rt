@@ -1,0 +1,99 @@
+//! The instructions of a part of an entry, from one address up to another.
+
+ghost use Rattle.std.specs.Prelude.{◌≡◌, ◌≤◌, ◌<◌, ◌^◌, IfOk};
+ghost use Rattle.frame_rules.specs.Prologue.{bytes};
+ghost use Rattle.unwind_check.specs.Boundaries as spec;
+ghost use Rattle.unwind_check.specs.Codes as rules;
+
+use crate::fetched::{FetchedInstr, fetched_at};
+use std::alloc::{AllocError, Global};
+use std::marker::Model;
+use x64_memory::space::CodeSpace;
+
+/// Instructions one after another, and whether they end where they are to end.
+#[derive(Drop)]
+pub struct DecodedInstrs {
+    items: Vec<FetchedInstr>,
+    is_whole: bool,
+}
+
+impl Model for DecodedInstrs {
+    ghost use Rattle.unwind_check.specs.Boundaries.{Decoded};
+
+    ghost Value = { Decoded };
+
+    ghost view = { λ p. record { items = p.items.items; is_whole = p.is_whole } };
+}
+
+impl DecodedInstrs {
+    /// The instructions.
+    pub fn items(&self) -> &[FetchedInstr]
+        ensures { result.now ≡ self.now.items }
+    {
+        &self.items
+    }
+
+    /// Whether they end where they are to end: no instruction is missing there, or passes the end.
+    pub fn is_whole(&self) -> bool
+        ensures { result ≡ self.now.is_whole }
+    {
+        self.is_whole
+    }
+}
+
+/// The instructions from an address up to another one. One that passes the end isn't counted.
+/// Refused for want of memory alone.
+pub fn decoded_between<S: CodeSpace>(
+    alloc: Global,
+    space: &S,
+    begin: u64,
+    end: u64,
+) -> Result<DecodedInstrs, AllocError>
+    requires { begin ≤ end }
+    ensures { IfOk result (λ p. p ≡ spec.between (S.memory space.now) begin end) }
+{
+    let mut items = Vec::new(alloc);
+    let mut at = begin;
+    while at < end {
+        match fetched_at(space, at) {
+            None => {
+                return Ok(DecodedInstrs {
+                    items,
+                    is_whole: false,
+                });
+            }
+            Some(item) => {
+                let size = item.size();
+                if size == 0 || end - at < size {
+                    return Ok(DecodedInstrs {
+                        items,
+                        is_whole: false,
+                    });
+                }
+                items.push(item)?;
+                at += size;
+            }
+        }
+    }
+    Ok(DecodedInstrs {
+        items,
+        is_whole: true,
+    })
+}
+
+/// Where each instruction of a prologue ends, from the prologue's first byte. Refused for want of
+/// memory alone.
+pub fn ends(alloc: Global, items: &[FetchedInstr]) -> Result<Vec<u64>, AllocError>
+    requires { bytes items.now < 2 ^ 63 }
+    ensures { IfOk result (λ v. v.items ≡ rules.ends 0 items.now) }
+{
+    let mut ends = Vec::new(alloc);
+    let mut at = 0;
+    let mut rest = items;
+    while let [item, more @ ..] = rest {
+        at += item.size();
+        ends.push(at)?;
+        rest = more;
+    }
+    Ok(ends)
+}

@@ -1,0 +1,172 @@
+//! All rules on an entry of a function table.
+
+ghost use Rattle.std.specs.Prelude.{◌≡◌, ◌≤◌, ◌<◌, ◌^◌, [], IfOk, IfNone};
+ghost use Rattle.frame_rules.specs.Validated.{turned};
+ghost use Rattle.unwind_check.specs.Faults as spec;
+
+use crate::body::body_fault;
+use crate::code_order::is_ordered;
+use crate::codes::keep_codes;
+use crate::decoded::{DecodedInstrs, decoded_between, ends};
+use crate::prologue::prologue_fault;
+use crate::rule::{Fault, Rule};
+use eh_tables::{Info, UnwindCode};
+use std::alloc::{AllocError, Global};
+use x64_memory::space::CodeSpace;
+
+/// The codes of an info, in their order, and in the order of execution.
+#[derive(Drop)]
+struct OrderedCodes {
+    codes: Vec<UnwindCode>,
+    steps: Vec<UnwindCode>,
+}
+
+fn ordered_codes(alloc: Global, info: &Info) -> Result<OrderedCodes, AllocError>
+    ensures codes { IfOk result (λ g. g.codes.items ≡ info.now.codes) }
+    ensures steps { IfOk result (λ g. g.steps.items ≡ turned [] info.now.codes) }
+{
+    let mut codes = Vec::new(alloc);
+    let mut steps = Vec::new(alloc);
+    for code in info.codes() {
+        codes.push(code)?;
+        steps.insert(0, code)?;
+    }
+    Ok(OrderedCodes { codes, steps })
+}
+
+/// The first fault of the prologue and of what follows it, from `middle` on.
+fn parts_fault<S: CodeSpace>(
+    alloc: Global,
+    space: &S,
+    probe: &[u8],
+    begin: u64,
+    middle: u64,
+    end: u64,
+    info: &Info,
+    codes: &OrderedCodes,
+    prologue: &DecodedInstrs,
+    body: &DecodedInstrs,
+) -> Result<Option<Fault>, AllocError>
+    requires codes { codes.now.codes.items ≡ info.now.codes }
+    requires steps { codes.now.steps.items ≡ turned [] info.now.codes }
+    requires order { begin ≤ middle }
+    requires order_2 { middle ≤ end }
+    requires low { end < 2 ^ 63 }
+    requires middle { middle ≡ spec.prologue_end begin end info.now }
+    requires prologue { prologue.now ≡ spec.prologue_of (S.memory space.now) begin end info.now }
+    requires body { body.now ≡ spec.body_of (S.memory space.now) begin end info.now }
+    ensures fault { IfOk result (λ o. o
+        ≡ spec.parts_fault (S.memory space.now) probe.now begin end info.now) }
+    ensures near { info.now.frame_offset < 2 ^ 8 }
+{
+    let frame = info.frame_register();
+    let offset = info.frame_offset() as u64;
+    let first = prologue.items();
+    let second = body.items();
+    let whole = prologue.is_whole();
+    match prologue_fault(
+        space,
+        probe,
+        begin,
+        frame,
+        offset,
+        whole,
+        0,
+        &codes.steps,
+        first,
+    ) {
+        Some(fault) => Ok(Some(fault)),
+        None => body_fault(
+            alloc,
+            space,
+            info,
+            &codes.codes,
+            body.is_whole(),
+            middle,
+            second,
+        ),
+    }
+}
+
+fn codes_fault<S: CodeSpace>(
+    alloc: Global,
+    space: &S,
+    probe: &[u8],
+    begin: u64,
+    middle: u64,
+    end: u64,
+    info: &Info,
+    prologue: &DecodedInstrs,
+    body: &DecodedInstrs,
+) -> Result<Option<Fault>, AllocError>
+    requires order { begin ≤ middle }
+    requires order_2 { middle ≤ end }
+    requires low { end < 2 ^ 63 }
+    requires middle { middle ≡ spec.prologue_end begin end info.now }
+    requires prologue { prologue.now ≡ spec.prologue_of (S.memory space.now) begin end info.now }
+    requires body { body.now ≡ spec.body_of (S.memory space.now) begin end info.now }
+    ensures fault { IfOk result (λ o. o
+        ≡ spec.codes_fault (S.memory space.now) probe.now begin end info.now) }
+    ensures near { IfOk result (λ o. IfNone o (info.now.frame_offset < 2 ^ 8)) }
+{
+    let all = ordered_codes(alloc, info)?;
+    let first = prologue.items();
+    let ends = ends(alloc, first)?;
+    let rule = if !keep_codes(info, &all.codes, &ends) {
+        Rule::Codes
+    } else if !is_ordered(&all.codes) {
+        Rule::Prologue
+    } else {
+        return parts_fault(
+            alloc, space, probe, begin, middle, end, info, &all, prologue, body,
+        );
+    };
+    Ok(Some(Fault { at: begin, rule }))
+}
+
+/// The first fault of an entry: at its first boundary at which a rule fails, the first rule that
+/// does. The entry's code is from `begin` to `end`, `info` is its unwind info and `parents` those
+/// that it is chained to, and `probe` has the bytes of the stack probe. Refused for want of memory
+/// alone.
+#[tactic(auto, unfolding(crate::specs::Faults::entry_fault))]
+pub fn entry_fault<S: CodeSpace>(
+    alloc: Global,
+    space: &S,
+    probe: &[u8],
+    begin: u64,
+    end: u64,
+    info: &Info,
+    parents: &[Info],
+) -> Result<Option<Fault>, AllocError>
+    requires begin { begin < 2 ^ 63 }
+    requires low { end < 2 ^ 63 }
+    ensures fault { IfOk result (λ o. o
+        ≡ spec.entry_fault (S.memory space.now) probe.now begin end info.now parents.now) }
+    ensures near { IfOk result (λ o. IfNone o (info.now.frame_offset < 2 ^ 8)) }
+{
+    let size = info.prologue_size() as u64;
+    let middle = begin + size;
+    if end < middle {
+        return Ok(Some(Fault {
+            at: begin,
+            rule: Rule::Decode,
+        }));
+    }
+    let prologue = decoded_between(alloc, space, begin, middle)?;
+    let body = decoded_between(alloc, space, middle, end)?;
+    if prologue.items().is_empty() && (size != 0 || body.items().is_empty()) {
+        return Ok(Some(Fault {
+            at: begin,
+            rule: Rule::Decode,
+        }));
+    }
+    match parents {
+        [] => codes_fault(
+            alloc, space, probe, begin, middle, end, info, &prologue, &body,
+        ),
+        _ => Ok(Some(Fault {
+            at: begin,
+            rule: Rule::Chain,
+        })),
+    }
+}

@@ -1,0 +1,52 @@
+//! The entries of a function table, one after another.
+
+ghost use Rattle.std.specs.Prelude.{◌≡◌, IfOk};
+ghost use Rattle.eh_tables.specs.Tables.{TablesAreWhole, entries_of};
+ghost use Rattle.unwind_check.specs.Verdicts.{IsVerdict};
+
+use crate::entry::entry_fault;
+use crate::rule::Verdict;
+use eh_tables::Tables;
+use std::alloc::{AllocError, Global};
+use x64_memory::space::CodeSpace;
+
+/// Whether no rule fails in any entry of an image's function table, or the first entry in which one
+/// does, with its first fault. `space` is the image's own memory, from the image's first byte at
+/// address 0 on, so that its addresses are RVAs: the image needs no place. `probe` has the bytes
+/// of the stack probe, `__chkstk`. Refused for want of memory alone.
+pub fn validate<S: CodeSpace>(
+    alloc: Global,
+    space: &S,
+    probe: &[u8],
+    tables: &Tables,
+) -> Result<Verdict, AllocError>
+    requires { TablesAreWhole tables.now }
+    ensures { IfOk result (λ v. IsVerdict (record {
+      memory = S.memory space.now;
+      probe = probe.now;
+    }) (entries_of tables.now) v) }
+{
+    for index in 0..tables.len() {
+        let Ok(entry) = tables.entry(index) else {
+            continue;
+        };
+        let range = entry.range();
+        let begin = range.begin as u64;
+        let end = range.end as u64;
+        match entry_fault(
+            alloc,
+            space,
+            probe,
+            begin,
+            end,
+            entry.info(),
+            entry.parents(),
+        )? {
+            Some(fault) => return Ok(Verdict::No { index, fault }),
+            None => {}
+        }
+    }
+    Ok(Verdict::Yes {
+        entries: tables.len(),
+    })
+}
