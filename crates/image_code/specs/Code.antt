@@ -1,0 +1,35 @@
+-- The code of an image at addresses relative to its base, and what it has to do with the image as it
+-- is loaded.
+use Rattle.std.specs.Prelude.{ℕ, ◌≡◌, ◌+◌, ◌≤◌, ◌^◌, true, List, Option, Some, None, if◌then◌else◌}
+use Rattle.std.specs.Ordering.{nat_cmp}
+use Rattle.std.specs.BTreeMap.{BTreeMap, get}
+use Rattle.flat_memory.specs.Memory.{Memory, executable}
+use Rattle.pe_image.specs.Image.{Image}
+use Rattle.pe_image.specs.Reading.{IsImage}
+use Rattle.host_model.specs.Loading.{mapped, has_place}
+
+-- the image as it is loaded, its imports bound, were its base 0
+abbrev pub code_of : Image → Memory
+code_of image = mapped (record image { base = 0 })
+
+-- the byte at an address, where it may be executed
+abbrev pub executable_byte : Memory → ℕ → Option ℕ
+executable_byte m a = if (m.protection a).execute then Some (m.byte a) else None
+
+-- ---- bytes by their addresses
+
+abbrev pub byte_or : Option ℕ → ℕ → ℕ
+byte_or (Some b) other = b
+byte_or None other = other
+
+-- over other bytes
+abbrev pub over : BTreeMap ℕ ℕ → (ℕ → ℕ) → ℕ → ℕ
+over bytes byte a = byte_or (get nat_cmp bytes a) (byte a)
+
+-- ---- the loaded image
+
+-- an image that has a place has the same executable bytes at its base, at the same distances from it
+abbrev pub LoadedCodeIsCode : Type 0
+LoadedCodeIsCode =
+    (bytes : List ℕ) (image : Image) (n at : ℕ) → IsImage bytes image → has_place image ≡ true
+    → at + n ≤ 2 ^ 63 → executable (mapped image) n (image.base + at) ≡ executable (code_of image) n at

@@ -1,0 +1,5 @@
+//! A stub.
+#![tactic(auto)]
+
+pub mod code_view;
+pub mod probe;
