@@ -2,8 +2,8 @@
 
 ghost use Rattle.command_line.specs.Worked.{CompileAlone, ShowAlone, CheckAlone, ExecAlone, ExecWithAll, RunWithTurns, MeaningWithTrace};
 
-/// `compile`; `show`; `check`; `exec`, with 10,000,000 turns, the argument 0 and no trace; `exec` with all
-/// options; `run` for 7 turns; `meaning` with a trace.
+/// `compile`; `show`; `check`; `exec`, with 10,000,000 turns, the argument 0 and no trace; `exec`
+/// with all options; `run` for 7 turns; `meaning` with a trace.
 pub fn worked_lines()
     ensures compile { CompileAlone }
     ensures show { ShowAlone }
