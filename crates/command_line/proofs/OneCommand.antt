@@ -1,8 +1,8 @@
 -- A line of words means one command.
-use Rattle.std.proofs.Common.{◌≡◌, ◌<◌, ◌^◌, ℕ, List, [], ◌∷◌, pos, Option, Some, None, refl, sym, ap, subst, ◌∙◌, arith}
+use Rattle.std.proofs.Common.{◌≡◌, ℕ, ◌+◌, ◌*◌, List, ◌∷◌, pos, Option, Some, None, refl, sym, ap, subst, ◌∙◌, arith}
 use Rattle.clap.specs.Words.{Row, Text}
 use Rattle.command_line.specs.declared.command.Command.{Command}
-use Rattle.command_line.specs.declared.command.Command.TheVariants.{Compile, Exec, Run, Meaning, Show}
+use Rattle.command_line.specs.declared.command.Command.TheVariants.{Compile, Exec, Run, Meaning, Show, Check}
 use Rattle.command_line.specs.declared.command.RunOptions.{RunOptions}
 use Rattle.command_line.specs.Lines.{IsNumber, HasOptions, IsNamedBy, IsLine}
 use Rattle.command_line.proofs.Numbers.{is_read}
@@ -23,75 +23,107 @@ options_once a b rows x y =
     let trace : a.trace ≡ b.trace = x.trace ∙ sym y.trace in
     λ j. record { turns = turns j; argument = argument j; trace = trace j }
 
-abbrev first : List ℕ → ℕ
-first [] = 0
-first (x ∷ xs) = x
+-- a name by its first two letters
+abbrev letters : List ℕ → ℕ
+letters (x ∷ y ∷ xs) = 256 * x + y
+letters xs = 0
 
--- no two commands have names that begin with one letter
+-- no two commands have names that begin with the same two letters
 named_once : (a b : Command) (x : Text × List Row) → IsNamedBy a x → IsNamedBy b x → a ≡ b
 named_once Compile Compile x h g = refl
 named_once Compile Show x h g =
-    let q : 99 ≡ 115 = ap first (sym h ∙ g) in
+    let q : 25455 ≡ 29544 = ap letters (sym h ∙ g) in
+    absurd (omega (arith, q))
+named_once Compile Check x h g =
+    let q : 25455 ≡ 25448 = ap letters (sym h ∙ g) in
     absurd (omega (arith, q))
 named_once Compile (Exec o') x h g =
-    let q : 99 ≡ 101 = ap first (sym h ∙ g.0) in
+    let q : 25455 ≡ 25976 = ap letters (sym h ∙ g.0) in
     absurd (omega (arith, q))
 named_once Compile (Run o') x h g =
-    let q : 99 ≡ 114 = ap first (sym h ∙ g.0) in
+    let q : 25455 ≡ 29301 = ap letters (sym h ∙ g.0) in
     absurd (omega (arith, q))
 named_once Compile (Meaning o') x h g =
-    let q : 99 ≡ 109 = ap first (sym h ∙ g.0) in
+    let q : 25455 ≡ 28005 = ap letters (sym h ∙ g.0) in
     absurd (omega (arith, q))
 named_once Show Compile x h g =
-    let q : 115 ≡ 99 = ap first (sym h ∙ g) in
+    let q : 29544 ≡ 25455 = ap letters (sym h ∙ g) in
     absurd (omega (arith, q))
 named_once Show Show x h g = refl
+named_once Show Check x h g =
+    let q : 29544 ≡ 25448 = ap letters (sym h ∙ g) in
+    absurd (omega (arith, q))
 named_once Show (Exec o') x h g =
-    let q : 115 ≡ 101 = ap first (sym h ∙ g.0) in
+    let q : 29544 ≡ 25976 = ap letters (sym h ∙ g.0) in
     absurd (omega (arith, q))
 named_once Show (Run o') x h g =
-    let q : 115 ≡ 114 = ap first (sym h ∙ g.0) in
+    let q : 29544 ≡ 29301 = ap letters (sym h ∙ g.0) in
     absurd (omega (arith, q))
 named_once Show (Meaning o') x h g =
-    let q : 115 ≡ 109 = ap first (sym h ∙ g.0) in
+    let q : 29544 ≡ 28005 = ap letters (sym h ∙ g.0) in
+    absurd (omega (arith, q))
+named_once Check Compile x h g =
+    let q : 25448 ≡ 25455 = ap letters (sym h ∙ g) in
+    absurd (omega (arith, q))
+named_once Check Show x h g =
+    let q : 25448 ≡ 29544 = ap letters (sym h ∙ g) in
+    absurd (omega (arith, q))
+named_once Check Check x h g = refl
+named_once Check (Exec o') x h g =
+    let q : 25448 ≡ 25976 = ap letters (sym h ∙ g.0) in
+    absurd (omega (arith, q))
+named_once Check (Run o') x h g =
+    let q : 25448 ≡ 29301 = ap letters (sym h ∙ g.0) in
+    absurd (omega (arith, q))
+named_once Check (Meaning o') x h g =
+    let q : 25448 ≡ 28005 = ap letters (sym h ∙ g.0) in
     absurd (omega (arith, q))
 named_once (Exec o) Compile x h g =
-    let q : 101 ≡ 99 = ap first (sym h.0 ∙ g) in
+    let q : 25976 ≡ 25455 = ap letters (sym h.0 ∙ g) in
     absurd (omega (arith, q))
 named_once (Exec o) Show x h g =
-    let q : 101 ≡ 115 = ap first (sym h.0 ∙ g) in
+    let q : 25976 ≡ 29544 = ap letters (sym h.0 ∙ g) in
+    absurd (omega (arith, q))
+named_once (Exec o) Check x h g =
+    let q : 25976 ≡ 25448 = ap letters (sym h.0 ∙ g) in
     absurd (omega (arith, q))
 named_once (Exec o) (Exec o') x h g = ap Exec (options_once o o' x.1 h.1 g.1)
 named_once (Exec o) (Run o') x h g =
-    let q : 101 ≡ 114 = ap first (sym h.0 ∙ g.0) in
+    let q : 25976 ≡ 29301 = ap letters (sym h.0 ∙ g.0) in
     absurd (omega (arith, q))
 named_once (Exec o) (Meaning o') x h g =
-    let q : 101 ≡ 109 = ap first (sym h.0 ∙ g.0) in
+    let q : 25976 ≡ 28005 = ap letters (sym h.0 ∙ g.0) in
     absurd (omega (arith, q))
 named_once (Run o) Compile x h g =
-    let q : 114 ≡ 99 = ap first (sym h.0 ∙ g) in
+    let q : 29301 ≡ 25455 = ap letters (sym h.0 ∙ g) in
     absurd (omega (arith, q))
 named_once (Run o) Show x h g =
-    let q : 114 ≡ 115 = ap first (sym h.0 ∙ g) in
+    let q : 29301 ≡ 29544 = ap letters (sym h.0 ∙ g) in
+    absurd (omega (arith, q))
+named_once (Run o) Check x h g =
+    let q : 29301 ≡ 25448 = ap letters (sym h.0 ∙ g) in
     absurd (omega (arith, q))
 named_once (Run o) (Exec o') x h g =
-    let q : 114 ≡ 101 = ap first (sym h.0 ∙ g.0) in
+    let q : 29301 ≡ 25976 = ap letters (sym h.0 ∙ g.0) in
     absurd (omega (arith, q))
 named_once (Run o) (Run o') x h g = ap Run (options_once o o' x.1 h.1 g.1)
 named_once (Run o) (Meaning o') x h g =
-    let q : 114 ≡ 109 = ap first (sym h.0 ∙ g.0) in
+    let q : 29301 ≡ 28005 = ap letters (sym h.0 ∙ g.0) in
     absurd (omega (arith, q))
 named_once (Meaning o) Compile x h g =
-    let q : 109 ≡ 99 = ap first (sym h.0 ∙ g) in
+    let q : 28005 ≡ 25455 = ap letters (sym h.0 ∙ g) in
     absurd (omega (arith, q))
 named_once (Meaning o) Show x h g =
-    let q : 109 ≡ 115 = ap first (sym h.0 ∙ g) in
+    let q : 28005 ≡ 29544 = ap letters (sym h.0 ∙ g) in
+    absurd (omega (arith, q))
+named_once (Meaning o) Check x h g =
+    let q : 28005 ≡ 25448 = ap letters (sym h.0 ∙ g) in
     absurd (omega (arith, q))
 named_once (Meaning o) (Exec o') x h g =
-    let q : 109 ≡ 101 = ap first (sym h.0 ∙ g.0) in
+    let q : 28005 ≡ 25976 = ap letters (sym h.0 ∙ g.0) in
     absurd (omega (arith, q))
 named_once (Meaning o) (Run o') x h g =
-    let q : 109 ≡ 114 = ap first (sym h.0 ∙ g.0) in
+    let q : 28005 ≡ 29301 = ap letters (sym h.0 ∙ g.0) in
     absurd (omega (arith, q))
 named_once (Meaning o) (Meaning o') x h g = ap Meaning (options_once o o' x.1 h.1 g.1)
 

@@ -7,13 +7,13 @@ use Rattle.clap.specs.Words.{App, Row, Rule, Text, fault_of, first_of, new_app, 
 use Rattle.clap.specs.Simple.{on_top}
 use Rattle.clap.specs.declared.builder.action.ArgAction.TheVariants.{Set, SetTrue}
 use Rattle.command_line.specs.declared.command.Command.{Command}
-use Rattle.command_line.specs.declared.command.Command.TheVariants.{Compile, Exec, Run, Meaning, Show}
+use Rattle.command_line.specs.declared.command.Command.TheVariants.{Compile, Exec, Run, Meaning, Show, Check}
 use Rattle.command_line.specs.declared.command.RunOptions.{RunOptions}
 use Rattle.command_line.specs.declared.reading.TheConstants.{DEFAULT_TURNS}
 
 -- ---- the commands as `clap` reads them
 
--- `compile` and `show`; and `exec`, `run` and `meaning` with `--turns N`, `--arg N` and `--trace`,
+-- `compile`, `show` and `check`; and `exec`, `run` and `meaning` with `--turns N`, `--arg N` and `--trace`,
 -- each at most once and in any order
 
 abbrev pub number_option : Text → Rule
@@ -27,6 +27,9 @@ compile_app = new_app (codes "compile")
 
 abbrev pub show_app : App
 show_app = new_app (codes "show")
+
+abbrev pub check_app : App
+check_app = new_app (codes "check")
 
 -- a command that takes the options of a run
 abbrev pub run_app_named : Text → App
@@ -58,8 +61,8 @@ bare_app =
 abbrev pub seh_app : App
 seh_app =
     with_subcommand (with_subcommand (with_subcommand (with_subcommand
-    (with_subcommand bare_app compile_app.top) show_app.top) exec_app.top) run_app.top)
-    meaning_app.top
+    (with_subcommand (with_subcommand bare_app compile_app.top) show_app.top) check_app.top)
+    exec_app.top) run_app.top) meaning_app.top
 
 -- ---- what a line means
 
@@ -78,6 +81,7 @@ pub record HasOptions (options : RunOptions) (rows : List Row) : Type 0 where
 abbrev pub IsNamedBy : Command → Text × List Row → Type 0
 IsNamedBy Compile x = x.0 ≡ codes "compile"
 IsNamedBy Show x = x.0 ≡ codes "show"
+IsNamedBy Check x = x.0 ≡ codes "check"
 IsNamedBy (Exec options) x = (x.0 ≡ codes "exec") × HasOptions options x.1
 IsNamedBy (Run options) x = (x.0 ≡ codes "run") × HasOptions options x.1
 IsNamedBy (Meaning options) x = (x.0 ≡ codes "meaning") × HasOptions options x.1

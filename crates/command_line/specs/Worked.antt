@@ -1,6 +1,6 @@
 -- Lines that are written out.
 use Rattle.std.specs.Prelude.{true, false, [], ◌∷◌, pos, codes}
-use Rattle.command_line.specs.declared.command.Command.TheVariants.{Compile, Exec, Run, Meaning, Show}
+use Rattle.command_line.specs.declared.command.Command.TheVariants.{Compile, Exec, Run, Meaning, Show, Check}
 use Rattle.command_line.specs.Lines.{IsLine}
 
 abbrev pub CompileAlone : Type 0
@@ -8,6 +8,9 @@ CompileAlone = IsLine (codes "compile" ∷ []) Compile
 
 abbrev pub ShowAlone : Type 0
 ShowAlone = IsLine (codes "show" ∷ []) Show
+
+abbrev pub CheckAlone : Type 0
+CheckAlone = IsLine (codes "check" ∷ []) Check
 
 abbrev pub ExecAlone : Type 0
 ExecAlone =

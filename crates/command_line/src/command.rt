@@ -22,4 +22,6 @@ pub enum Command {
     Meaning(RunOptions),
     /// Shows the function table of an image.
     Show,
+    /// Checks the code of an image against its function table.
+    Check,
 }

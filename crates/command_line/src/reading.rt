@@ -102,7 +102,8 @@ fn program<'a>(alloc: Global) -> Result<clap::Command<'a>, AllocError>
 {
     let compiling = bare(alloc).subcommand(clap::Command::new(alloc, "compile"))?;
     let showing = compiling.subcommand(clap::Command::new(alloc, "show"))?;
-    let executing = with_run(alloc, showing, "exec")?;
+    let checking = showing.subcommand(clap::Command::new(alloc, "check"))?;
+    let executing = with_run(alloc, checking, "exec")?;
     let running = with_run(alloc, executing, "run")?;
     with_run(alloc, running, "meaning")
 }
@@ -176,6 +177,7 @@ fn command_named(name: &str, matches: &ArgMatches<'_>) -> Result<Command, WordsE
     match name {
         "compile" => Ok(Command::Compile),
         "show" => Ok(Command::Show),
+        "check" => Ok(Command::Check),
         "exec" => match options_of(matches) {
             Ok(options) => Ok(Command::Exec(options)),
             Err(error) => Err(error),

@@ -1,19 +1,46 @@
 -- Without faults, what a call gives is what its command gives.
 use Rattle.std.proofs.Common.{◌≡◌, ◌⊎◌, inl, inr, ℕ, ◌<◌, ◌≤◌, List, length, Option, Some, Result, Ok, Err, refl, sym, ap, subst, ◌∙◌, arith}
 use Rattle.std.specs.Option.{ForSome}
-use Rattle.seh.specs.Words.{Rose, Grew, ExternalDeclaration, Program, resolve, IsAccepted, TextIsRefused, Image, IsImage, ImageIsRefused, reading, ImageErr, lowered, linked, RunOptions, CommandOutcome, Compiled, Ran, Meant, Viewed, Refusal, text_limit, image_limit, Judged, FromInput, Loads, IsInputAnswer, IsCompileAnswer, IsRunAnswer, IsTextRunAnswer, IsShowAnswer, end_by, text_by, Call, HadNoFault, Asks, Gave, WantedMemory, CompileIsComplete, RunIsComplete, MeaningIsComplete, ShowIsComplete, ExecIsComplete, TextsHaveOneImage, IsCompiled, IsProgramOf, IsMeaningAnswer, IsMeaningInputAnswer, shown_of, text_of, Reported, refusal_status, status_of, meaning_status, Stream}
+use Rattle.seh_io.specs.Streams.{Rose, Grew}
+use Rattle.c_syntax.specs.Program.{ExternalDeclaration}
+use Rattle.c_checked.specs.Program.{Program}
+use Rattle.c_resolved.specs.Program.{resolve}
 use Rattle.c_meaning.specs.Texts as meanings
 use Rattle.c_text.specs.declared.accepting.TextErr.{TextErr}
-use Rattle.seh.proofs.Lemmas.{accepted_is_not_refused, accepted_is_one}
+use Rattle.c_text.specs.Texts.{IsAccepted, TextIsRefused}
+use Rattle.c_text.proofs.NotRefused.{accepted_is_not_refused, accepted_is_one}
+use Rattle.pe_image.specs.Image.{Image}
+use Rattle.pe_image.specs.Reading.{IsImage, ImageIsRefused, reading}
+use Rattle.pe_image.specs.declared.refusal.ImageErr.{ImageErr}
 use Rattle.pe_write.specs.Program.{parts_of}
 use Rattle.pe_write.specs.Written.{written}
 use Rattle.table_view.specs.View.{view}
+use Rattle.eh_tables.specs.declared.refusal.TableErr.{TableErr}
+use Rattle.eh_tables.specs.Answer.{Table}
+use Rattle.eh_tables.specs.Tables.{Entry, tables}
+use Rattle.host_model.specs.declared.refusal.LoadErr.TheVariants as loads
+use Rattle.unwind_check.specs.declared.rule.Verdict.{Verdict}
+use Rattle.unwind_check.specs.Verdicts.{IsVerdict}
+use Rattle.seh_ir.specs.Lowered.{lowered}
+use Rattle.image_link.specs.Linked.{linked}
 use Rattle.command_line.specs.declared.command.Command.{Command}
-use Rattle.command_line.specs.declared.command.Command.TheVariants.{Compile, Exec, Run, Meaning, Show}
+use Rattle.command_line.specs.declared.command.Command.TheVariants.{Compile, Exec, Run, Meaning, Show, Check}
+use Rattle.command_line.specs.declared.command.RunOptions.{RunOptions}
 use Rattle.command_line.proofs.OneCommand.{line_once}
+use Rattle.seh.specs.declared.outcome.CommandOutcome.{CommandOutcome}
+use Rattle.seh.specs.declared.outcome.CommandOutcome.TheVariants.{Compiled, Ran, Meant, Viewed, Checked}
+use Rattle.seh.specs.declared.refusal.Refusal.{Refusal}
 use Rattle.seh.specs.declared.refusal.Refusal.TheVariants as refusals
 use Rattle.seh.specs.declared.status.Status.TheVariants as statuses
+use Rattle.seh.specs.Answers.{text_limit, image_limit, Judged, FromInput, Loads, IsInputAnswer, IsCompileAnswer, IsRunAnswer, IsTextRunAnswer, IsShowAnswer, end_by, text_by}
+use Rattle.seh.specs.Checks.{IsCheckAnswer, image_code, verdict_line}
+use Rattle.seh.specs.Calls.{Call, HadNoFault, Asks, Gave, WantedMemory, CompileIsComplete, RunIsComplete, MeaningIsComplete, ShowIsComplete, CheckIsComplete, ExecIsComplete, TextsHaveOneImage}
 use Rattle.seh.specs.Commands.{IsAnswer, IsCommandAnswer}
+use Rattle.seh.specs.Images.{IsCompiled}
+use Rattle.seh.specs.Meanings.{IsProgramOf, IsMeaningAnswer, IsMeaningInputAnswer, shown_of, text_of}
+use Rattle.seh.specs.Refusals.{Reported, refusal_status}
+use Rattle.seh.specs.Statuses.{status_of, meaning_status, verdict_status}
+use Rattle.seh.specs.Streams.{Stream}
 use Rattle.seh.proofs.Completeness.{one_image, image_refused, load_refused}
 
 -- ---- texts, programs and images
@@ -37,6 +64,13 @@ texts_have_one_image source a b x y =
 pub image_loads : (text image : List ℕ) → IsCompiled text image → Loads image
 image_loads text image is =
     record { image = is.realises.image; is = is.realises.is; loads = is.realises.loads }
+
+-- a function table is read as one list of entries
+one_table : (t : Table (List Entry)) (xs ys : List Entry) → t ≡ Ok xs → t ≡ Ok ys → xs ≡ ys
+one_table t xs ys is also = let q : Ok xs ≡ Ok ys = sym is ∙ also in cc
+
+table_read : (t : Table (List Entry)) (es : List Entry) (e : TableErr) → t ≡ Ok es → t ≡ Err e → ⊥
+table_read t es e is refused = let q : Ok es ≡ Err e = sym is ∙ refused in cc
 
 -- ---- faults
 
@@ -221,6 +255,39 @@ module _ (call : Call) (out : HadNoFault call.out call.out_after)
   shown bytes image is (Err refusals.WriteFault) told (also, reads, rose, part) = cut rose
   shown bytes image is (Err r) told h = absurd h
 
+  abbrev CheckedAs : Image → List Entry → Type 0
+  CheckedAs image entries =
+      (verdict : Verdict) × IsVerdict (image_code image) entries verdict
+      × Gave (verdict_status verdict) (verdict_line verdict) call
+
+  checked : (bytes : List ℕ) (image : Image) (entries : List Entry) → IsImage bytes image
+      → tables image ≡ Ok entries → (answer : Result CommandOutcome Refusal) → Tells answer
+      → IsCheckAnswer bytes call.out call.out_after answer
+      → WantedMemory call ⊎ CheckedAs image entries
+  checked bytes image entries is whole (Ok (Checked verdict)) told (found, grew) =
+      let same = one_image (reading bytes) found.image image found.is is in
+      let read : tables image ≡ Ok found.entries =
+      subst (λ (i : Image). tables i ≡ Ok found.entries) same found.whole in
+      let listed = one_table (tables image) found.entries entries read whole in
+      let of_image : IsVerdict (image_code image) found.entries verdict =
+      subst (λ (i : Image). IsVerdict (image_code i) found.entries verdict) same found.comes in
+      let comes : IsVerdict (image_code image) entries verdict =
+      subst (λ (es : List Entry). IsVerdict (image_code image) es verdict) listed of_image in
+      inr (verdict, comes, record { ended = told.0; wrote = grew; silent = told.1 })
+  checked bytes image entries is whole (Ok done) told h = absurd h
+  checked bytes image entries is whole (Err (refusals.Image e)) told (refused, kept) =
+      inl (image_wanted bytes image e is refused told)
+  checked bytes image entries is whole (Err (refusals.Load (loads.Table e))) told (found, kept) =
+      let same = one_image (reading bytes) found.image image found.is is in
+      let refused : tables image ≡ Err e =
+      subst (λ (i : Image). tables i ≡ Err e) same found.refused in
+      absurd (table_read (tables image) entries e whole refused)
+  checked bytes image entries is whole (Err (refusals.Load e)) told h = absurd h.0
+  checked bytes image entries is whole (Err refusals.WriteFault) told (v, found, rose, part) =
+      cut rose
+  checked bytes image entries is whole (Err refusals.NoMemory) told h = inl (wanted _ refl told)
+  checked bytes image entries is whole (Err r) told h = absurd h.0
+
   abbrev MeantBy : RunOptions → Program → Type 0
   MeantBy options p =
       Gave (meaning_status (meanings.ended_within options.turns (shown_of options p).end))
@@ -294,6 +361,16 @@ exec_is_complete bytes options call short loads asks = by (came (Exec options) b
     by (inr c) = judged_by image_limit (IsRunAnswer options) bytes call asks.source asks.err
         asks.holds short c.answer c.reported c.is
         (ran call asks.out asks.err options bytes loads c.answer c.reported)
+
+pub check_is_complete : CheckIsComplete
+check_is_complete bytes image entries call short is whole asks = by (came Check bytes call asks)
+  where
+    by : WantedMemory call ⊎ Came Check call
+        → WantedMemory call ⊎ CheckedAs call asks.out asks.err image entries
+    by (inl w) = inl w
+    by (inr c) = judged_by image_limit IsCheckAnswer bytes call asks.source asks.err asks.holds
+        short c.answer c.reported c.is
+        (checked call asks.out asks.err bytes image entries is whole c.answer c.reported)
 
 pub show_is_complete : ShowIsComplete
 show_is_complete bytes image call short is asks = by (came Show bytes call asks)

@@ -3,6 +3,7 @@ use Rattle.std.proofs.Common.{◌≡◌, ◌<◌, ℕ, min, List, [], length, ap
 use Rattle.std.proofs.lemmas.List.{take-append-drop, length-take-le}
 use Rattle.seh.specs.Words.{Grew, last_count, TookPart, CommandOutcome, Refusal, Stream, RunOptions, IsMeaningAnswer, IsMeaningInputAnswer, text_limit, image_limit, Judged, IsRunAnswer, IsShowAnswer, IsInput, LostFew, IsCompileAnswer, IsTextRunAnswer, IsInputRefusal, IsInputAnswer}
 use Rattle.seh.specs.declared.refusal.Refusal.TheVariants as refusals
+use Rattle.seh.specs.Checks.{IsCheckAnswer}
 
 -- what was read whole was lost from the front
 lost_all : (limit : ℕ) (source source' : Stream) (bytes : List ℕ)
@@ -97,6 +98,23 @@ from_shown bytes source source' out out' (Err (refusals.Image e)) input h =
 from_shown bytes source source' out out' (Err refusals.WriteFault) input h =
     record { bytes = bytes; input = input; comes = h }
 from_shown bytes source source' out out' (Err r) input h = absurd h
+
+-- of an image whose function table was checked
+pub from_checked : (bytes : List ℕ) (source source' out out' : Stream)
+    (answer : Result CommandOutcome Refusal) → IsInput image_limit source source' bytes
+    → IsCheckAnswer bytes out out' answer
+    → IsInputAnswer image_limit IsCheckAnswer source source' out out' answer
+from_checked bytes source source' out out' (Ok done) input h =
+    record { bytes = bytes; input = input; comes = h }
+from_checked bytes source source' out out' (Err refusals.WriteFault) input h =
+    record { bytes = bytes; input = input; comes = h }
+from_checked bytes source source' out out' (Err (refusals.Image e)) input h =
+    record { bytes = bytes; input = input; comes = h }
+from_checked bytes source source' out out' (Err (refusals.Load e)) input h =
+    record { bytes = bytes; input = input; comes = h }
+from_checked bytes source source' out out' (Err refusals.NoMemory) input h =
+    (lost_all image_limit source source' bytes input, h.1)
+from_checked bytes source source' out out' (Err r) input h = absurd h.0
 
 -- what wasn't read is the answer
 pub refused_input : (limit : ℕ) (judged : Judged) (source source' out : Stream) (e : Refusal)

@@ -1,6 +1,6 @@
 -- Whole calls of the program in which no stream has a fault: what each command gives, and that
 -- compiling and then running gives what the text means.
-use Rattle.std.specs.Prelude.{◌≡◌, ◌⊎◌, ℕ, ◌+◌, ◌*◌, ◌^◌, ◌<◌, ◌≤◌, List, ◌++◌, length, pos, Some}
+use Rattle.std.specs.Prelude.{◌≡◌, ◌⊎◌, ℕ, ◌+◌, ◌*◌, ◌^◌, ◌<◌, ◌≤◌, List, ◌++◌, length, pos, Some, Ok}
 use Rattle.seh_num.specs.declared.end.RunEnd.{RunEnd}
 use Rattle.seh_io.specs.Streams.{Grew, last_count}
 use Rattle.seh_io.specs.Text.{end_line}
@@ -13,19 +13,23 @@ use Rattle.c_text.specs.Texts.{IsAccepted}
 use Rattle.pe_image.specs.Image.{Image}
 use Rattle.pe_image.specs.Reading.{IsImage}
 use Rattle.table_view.specs.View.{view}
+use Rattle.eh_tables.specs.Tables.{Entry, tables}
+use Rattle.unwind_check.specs.declared.rule.Verdict.{Verdict}
+use Rattle.unwind_check.specs.Verdicts.{IsVerdict}
 use Rattle.match_runs.specs.Ends.{run_end}
 use Rattle.command_line.specs.declared.command.Command.{Command}
-use Rattle.command_line.specs.declared.command.Command.TheVariants.{Compile, Exec, Run, Meaning, Show}
+use Rattle.command_line.specs.declared.command.Command.TheVariants.{Compile, Exec, Run, Meaning, Show, Check}
 use Rattle.command_line.specs.declared.command.RunOptions.{RunOptions}
 use Rattle.command_line.specs.Lines.{IsLine}
 use Rattle.seh.specs.declared.status.Status.{Status}
 use Rattle.seh.specs.declared.status.Status.TheVariants as statuses
 use Rattle.seh.specs.Answers.{text_limit, image_limit, Loads, end_by, text_by}
+use Rattle.seh.specs.Checks.{image_code, verdict_line}
 use Rattle.seh.specs.Commands.{Answers}
 use Rattle.seh.specs.Headline.{AreEnough}
 use Rattle.seh.specs.Images.{IsCompiled}
 use Rattle.seh.specs.Meanings.{IsProgramOf, shown_of, text_of}
-use Rattle.seh.specs.Statuses.{status_of, meaning_status}
+use Rattle.seh.specs.Statuses.{status_of, meaning_status, verdict_status}
 use Rattle.seh.specs.Streams.{Stream}
 
 -- ---- calls
@@ -99,6 +103,17 @@ ShowIsComplete =
     (bytes : List ℕ) (image : Image) (call : Call)
     → length bytes ≤ image_limit → IsImage bytes image → Asks Show bytes call
     → WantedMemory call ⊎ Gave statuses.Done (view image) call
+
+-- an image whose function table is read whole: the line of the verdict on it, and the verdict's
+-- status
+abbrev pub CheckIsComplete : Type 0
+CheckIsComplete =
+    (bytes : List ℕ) (image : Image) (entries : List Entry) (call : Call)
+    → length bytes ≤ image_limit → IsImage bytes image → tables image ≡ Ok entries
+    → Asks Check bytes call
+    → WantedMemory call
+    ⊎ ((verdict : Verdict) × IsVerdict (image_code image) entries verdict
+    × Gave (verdict_status verdict) (verdict_line verdict) call)
 
 -- an image that loads: the whole text of its run, and the status of the run's end
 abbrev pub ExecIsComplete : Type 0

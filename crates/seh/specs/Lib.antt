@@ -3,6 +3,7 @@ pub mod Streams
 pub mod Refusals
 pub mod Images
 pub mod Answers
+pub mod Checks
 pub mod Headline
 pub mod Meanings
 pub mod Commands

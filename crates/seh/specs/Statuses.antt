@@ -4,8 +4,10 @@ use Rattle.seh_num.specs.declared.end.RunEnd.{RunEnd}
 use Rattle.seh_num.specs.declared.end.RunEnd.TheVariants as ends
 use Rattle.source_meaning.specs.declared.ended.Ended.{Ended}
 use Rattle.source_meaning.specs.declared.ended.Ended.TheVariants as meant
+use Rattle.unwind_check.specs.declared.rule.Verdict.{Verdict}
+use Rattle.unwind_check.specs.declared.rule.Verdict.TheVariants as verdicts
 use Rattle.seh.specs.declared.outcome.CommandOutcome.{CommandOutcome}
-use Rattle.seh.specs.declared.outcome.CommandOutcome.TheVariants.{Compiled, Ran, Meant, Viewed}
+use Rattle.seh.specs.declared.outcome.CommandOutcome.TheVariants.{Compiled, Ran, Meant, Viewed, Checked}
 use Rattle.seh.specs.declared.status.Status.{Status}
 use Rattle.seh.specs.declared.status.Status.TheVariants as statuses
 
@@ -24,6 +26,7 @@ code_of statuses.OutOfTurns = 12
 code_of statuses.Stopped = 13
 code_of statuses.Undefined = 14
 code_of statuses.Deep = 15
+code_of statuses.No = 16
 
 abbrev pub status_of : RunEnd → Status
 status_of (ends.Exit v) = statuses.Done
@@ -40,8 +43,14 @@ meaning_status (meant.OutOfSteps n) = statuses.OutOfTurns
 meaning_status (meant.Undefined a) = statuses.Undefined
 meaning_status (meant.Deep d) = statuses.Deep
 
+-- of a verdict on a function table
+abbrev pub verdict_status : Verdict → Status
+verdict_status (verdicts.Yes n) = statuses.Done
+verdict_status (verdicts.No k fault) = statuses.No
+
 abbrev pub outcome_status : CommandOutcome → Status
 outcome_status Compiled = statuses.Done
 outcome_status Viewed = statuses.Done
 outcome_status (Ran end) = status_of end
 outcome_status (Meant ended) = meaning_status ended
+outcome_status (Checked verdict) = verdict_status verdict

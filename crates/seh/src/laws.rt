@@ -1,6 +1,6 @@
 //! What the commands come to together.
 
-ghost use Rattle.seh.specs.Calls.{CompileIsComplete, RunIsComplete, MeaningIsComplete, ShowIsComplete, ExecIsComplete, TextsHaveOneImage, LastLinesAgree, CompiledIsMeant, RunIsMeant};
+ghost use Rattle.seh.specs.Calls.{CompileIsComplete, RunIsComplete, MeaningIsComplete, ShowIsComplete, CheckIsComplete, ExecIsComplete, TextsHaveOneImage, LastLinesAgree, CompiledIsMeant, RunIsMeant};
 ghost use Rattle.seh.specs.Completeness.{AcceptedTextsCompile, CompiledImagesRun};
 ghost use Rattle.seh.specs.Headline.{Headline, NothingMore, Walks};
 ghost use Rattle.seh.specs.TamePrograms.{TameProgramsWalk, TameProgramsEnd};
@@ -53,6 +53,7 @@ pub fn calls()
     ensures run { RunIsComplete }
     ensures meaning { MeaningIsComplete }
     ensures show { ShowIsComplete }
+    ensures check { CheckIsComplete }
     ensures exec { ExecIsComplete }
 {}
 

@@ -5,6 +5,7 @@
 //! first. Begin with `specs/Headline.antt`, then `specs/Images.antt`, then `top`.
 #![tactic(auto)]
 
+pub mod check;
 pub mod compile;
 pub mod exec;
 pub mod image;
@@ -17,3 +18,4 @@ pub mod run;
 pub mod show;
 pub mod status;
 pub mod top;
+pub mod verdict;

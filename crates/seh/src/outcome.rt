@@ -6,6 +6,7 @@ ghost use Rattle.seh.specs.Statuses.{outcome_status};
 use crate::status::Status;
 use seh_num::end::RunEnd;
 use source_meaning::ended::Ended;
+use unwind_check::Verdict;
 
 /// What a command that was carried out came to.
 #[derive(Clone, Copy, Debug, PartialEq, Eq)]
@@ -18,6 +19,8 @@ pub enum CommandOutcome {
     Meant(Ended),
     /// The function table of an image was shown.
     Viewed,
+    /// The function table of an image was checked, with this verdict.
+    Checked(Verdict),
 }
 
 impl CommandOutcome {
@@ -29,6 +32,7 @@ impl CommandOutcome {
             CommandOutcome::Compiled | CommandOutcome::Viewed => Status::Done,
             CommandOutcome::Ran(end) => Status::of(end),
             CommandOutcome::Meant(ended) => Status::of_meaning(ended),
+            CommandOutcome::Checked(verdict) => Status::of_verdict(verdict),
         }
     }
 }

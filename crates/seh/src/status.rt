@@ -1,8 +1,9 @@
 ghost use Rattle.std.specs.Prelude.{◌≡◌};
-ghost use Rattle.seh.specs.Statuses.{code_of, status_of, meaning_status};
+ghost use Rattle.seh.specs.Statuses.{code_of, status_of, meaning_status, verdict_status};
 
 use seh_num::end::RunEnd;
 use source_meaning::ended::Ended;
+use unwind_check::Verdict;
 
 /// What the program ended with.
 #[derive(Clone, Copy, Debug, PartialEq, Eq)]
@@ -35,6 +36,8 @@ pub enum Status {
     Undefined,
     /// The depth of the meaning would have risen above 1,000.
     Deep,
+    /// A rule on unwind tables fails in an image.
+    No,
 }
 
 impl Status {
@@ -57,6 +60,7 @@ impl Status {
             Status::Stopped => 13,
             Status::Undefined => 14,
             Status::Deep => 15,
+            Status::No => 16,
         }
     }
 
@@ -83,6 +87,16 @@ impl Status {
             Ended::OutOfSteps { .. } => Status::OutOfTurns,
             Ended::Undefined { .. } => Status::Undefined,
             Ended::Deep { .. } => Status::Deep,
+        }
+    }
+
+    /// The status of a verdict on a function table.
+    pub fn of_verdict(verdict: &Verdict) -> Status
+        ensures { result ≡ verdict_status verdict.now }
+    {
+        match verdict {
+            Verdict::Yes { .. } => Status::Done,
+            Verdict::No { .. } => Status::No,
         }
     }
 }

@@ -5,6 +5,7 @@ ghost use Rattle.std.specs.String.{string_bytes};
 ghost use Rattle.seh.specs.Commands.{Answers, IsAnswer};
 ghost use Rattle.seh.specs.Streams.{stream};
 
+use crate::check::check;
 use crate::compile::compile;
 use crate::exec::exec;
 use crate::meaning::meaning;
@@ -33,6 +34,7 @@ fn answer<S: Source, O: Sink>(
     match command_of(alloc, words) {
         Ok(Command::Compile) => compile(alloc, src, out),
         Ok(Command::Show) => show(alloc, src, out),
+        Ok(Command::Check) => check(alloc, src, out),
         Ok(Command::Exec(options)) => exec(alloc, options, src, out),
         Ok(Command::Run(options)) => run(alloc, options, src, out),
         Ok(Command::Meaning(options)) => meaning(alloc, options, src, out),
@@ -55,6 +57,11 @@ fn answer<S: Source, O: Sink>(
 /// `--turns` steps; after `no memory` `out` may have taken a part of the text from the front.
 ///
 /// `show` reads an image and writes the view of its function table.
+///
+/// `check` reads an image and judges its code by its function table, by the rules of crate
+/// `unwind_check`: it writes `yes` with the number of entries; or `no` with the index of the first
+/// entry in which a rule fails, the address of the first boundary at which one does, and the rule,
+/// and has the status `No`. The image need not load.
 ///
 /// A refusal writes one line to `err` and nothing to `out`, but for a write fault, and for `no
 /// memory` of `meaning`, after which `out` has taken a part of the text from the front. Where the

@@ -8,6 +8,7 @@ const LINES: &str = r"
 exce
 exec exec
 compile x
+check x
 run --turns
 run --arg 01
 exec --turns
@@ -40,7 +41,7 @@ fn words_are_no_command(rt: HostRuntime) {
 }
 
 /// All statuses.
-const STATUSES: [Status; 14] = [
+const STATUSES: [Status; 15] = [
     Status::Done,
     Status::Usage,
     Status::Refused,
@@ -55,11 +56,12 @@ const STATUSES: [Status; 14] = [
     Status::Stopped,
     Status::Undefined,
     Status::Deep,
+    Status::No,
 ];
 
 #[test]
 fn statuses_have_codes(rt: HostRuntime) {
     let codes = STATUSES.map(|status| status.code());
-    let wanted = [0, 1, 2, 3, 4, 5, 6, 7, 10, 11, 12, 13, 14, 15];
+    let wanted = [0, 1, 2, 3, 4, 5, 6, 7, 10, 11, 12, 13, 14, 15, 16];
     assert!(rt; codes == wanted);
 }

@@ -91,6 +91,11 @@ meaning 3 0 0 16 | text int main(void){ put(2+3*4); return 7; } | 4 ! read fault
 show 1 0 0 4096 | fourteen | 4 ! read fault
 show 2 0 0 4096 | fourteen | 4 ! read fault
 show 3 0 0 16 | fourteen | 4 ! read fault
+check 1 0 0 4096 | fourteen | 4 ! read fault
+check 3 0 0 16 | fourteen | 4 ! read fault
+check 0 0 0 1 | framed | 16 no 0 00002005 Unsaved
+check 0 2 0 2 | framed | 5 no~ ! write fault
+check 0 1 2 5 | framed | 5 ! write~
 meaning 0 0 0 1 | text int main(void){ put(2+3*4); return 7; } | 0 14 / exit 7
 meaning 0 2 0 2 | text int main(void){ put(2+3*4); return 7; } | 5 14~ ! write fault
 meaning 0 1 2 5 | text int main(void){ put(2+3*4); return 7; } | 5 ! write~

@@ -33,6 +33,21 @@ const TABLES: &str = r"
 40 20 00 00 5F 20 00 00 10 30 00 00
 ";
 
+/// An image of one function, at 0x2000, whose code is at 312 of the file; of its unwind info, at
+/// 325, which tells of its first two instructions; and of a function table with its entry, at 333.
+const FRAMED: &str = r"
+'MZ 58*00 40 00 00 00 'PE 00 00
+64 86 02 00 12*00 90 00 23 00 // Machine, NumberOfSections, SizeOfOptionalHeader
+0B 02 22*00 00 00 00 40 01 00 00 00 24*00 00 40 00 00 48*00 // Magic, ImageBase, SizeOfImage
+04 00 00 00 24*00 08 30 00 00 0C 00 00 00 // NumberOfRvaAndSizes, the exception directory
+'.text 00 00 00 0D 00 00 00 00 20 00 00 0D 00 00 00 38 01 00 00 12*00 20 00 00 60
+'.xdata 00 00 14 00 00 00 00 30 00 00 14 00 00 00 45 01 00 00 12*00 40 00 00 40
+53 48 83 EC 20 31 F6 // push rbx; sub rsp, 32; xor esi, esi
+48 83 C4 20 5B C3 // add rsp, 32; pop rbx; ret
+01 05 02 00 05 32 01 30 // at 5 an allocation of 32 bytes, at 1 a push of RBX
+00 20 00 00 0D 20 00 00 00 30 00 00
+";
+
 /// An image of one library and five imports: the descriptors are at 0x1000, the lookup table at
 /// 0x1040, the slots at 0x1080, the names at 0x10B0 and the code at 0x1128, which puts what is in
 /// each of the five slots by a call through the last one, and returns 7.
@@ -125,6 +140,7 @@ fn unchanged(rt: &impl Abort, alloc: Global, input: &str) -> Vec<u8> {
         "compiled" => compiled(rt, alloc, rest),
         "bytes" => spelled(rt, alloc, rest),
         "tables" => spelled(rt, alloc, TABLES),
+        "framed" => spelled(rt, alloc, FRAMED),
         "importing" => spelled(rt, alloc, IMPORTING),
         "code" => image(alloc, PLAIN, &spelled(rt, alloc, rest)).expect(rt, "memory"),
         _ => named(alloc, kind).expect(rt, "memory"),

@@ -9,6 +9,7 @@ use std::test::Fail;
 const LINES: &str = r"
 compile | Ok(Compile)
 show | Ok(Show)
+check | Ok(Check)
 exec | Ok(Exec(RunOptions { turns: 10000000, argument: 0, trace: false }))
 exec --turns 7 | Ok(Exec(RunOptions { turns: 7, argument: 0, trace: false }))
 exec --arg 9223372036854775807 | Ok(Exec(RunOptions { turns: 10000000, argument: 9223372036854775807, trace: false }))
@@ -18,6 +19,7 @@ exec --arg 9223372036854775808 | Err(Usage)
 exec --turns 07 | Err(Usage)
 exec --turns | Err(Usage)
 exec --help | Err(Usage)
+check --trace | Err(Usage)
 help | Err(Usage)
 ";
 

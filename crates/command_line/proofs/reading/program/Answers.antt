@@ -10,8 +10,10 @@ returns c =
     ∙ ap₂ with_subcommand c.bare.ensures (ap (λ (a : App). a.top) c.new.ensures.app) in
     let second = c.in_ok-showing.ensures.shape c.new-2.ensures.local
     ∙ ap₂ with_subcommand first (ap (λ (a : App). a.top) c.new-2.ensures.app) in
-    let third = c.in_ok-executing.ensures ∙ ap (λ (a : App). with_subcommand a exec_app.top)
-    second in
-    let fourth = c.in_ok-running.ensures ∙ ap (λ (a : App). with_subcommand a run_app.top) third in
+    let third = c.in_ok-checking.ensures.shape c.new-3.ensures.local
+    ∙ ap₂ with_subcommand second (ap (λ (a : App). a.top) c.new-3.ensures.app) in
+    let fourth = c.in_ok-executing.ensures ∙ ap (λ (a : App). with_subcommand a exec_app.top)
+    third in
+    let fifth = c.in_ok-running.ensures ∙ ap (λ (a : App). with_subcommand a run_app.top) fourth in
     IfOk-weaker c.with_run-3.result _ _ (λ r h. h
-    ∙ ap (λ (a : App). with_subcommand a meaning_app.top) fourth) c.with_run-3.ensures
+    ∙ ap (λ (a : App). with_subcommand a meaning_app.top) fifth) c.with_run-3.ensures

@@ -1,7 +1,7 @@
 use Rattle.std.proofs.Common.{refl, arith}
 use Rattle.std.specs.Fmt.{digits}
 use Rattle.clap.proofs.OnLiterals.{clap_on_literals}
-use Rattle.command_line.specs.Worked.{CompileAlone, ShowAlone, ExecAlone, ExecWithAll, RunWithTurns, MeaningWithTrace}
+use Rattle.command_line.specs.Worked.{CompileAlone, ShowAlone, CheckAlone, ExecAlone, ExecWithAll, RunWithTurns, MeaningWithTrace}
 use Rattle.command_line.proofs.worked.worked_lines.Goals as goal
 
 compile_alone : CompileAlone
@@ -11,6 +11,10 @@ compile_alone = (refl, (_, refl, refl))
 show_alone : ShowAlone
 unfolding clap_on_literals digits
 show_alone = (refl, (_, refl, refl))
+
+check_alone : CheckAlone
+unfolding clap_on_literals digits
+check_alone = (refl, (_, refl, refl))
 
 exec_alone : ExecAlone
 unfolding clap_on_literals digits
@@ -88,6 +92,7 @@ pub returns : goal.returns
 returns c = record {
   compile = compile_alone;
   show = show_alone;
+  check = check_alone;
   exec = exec_alone;
   options = exec_with_all;
   run = run_with_turns;

@@ -1,0 +1,56 @@
+-- A yes of `check`, and the frames of the image as it is loaded.
+use Rattle.std.proofs.Common.{◌≡◌, ℕ, List, Result, Ok, Err, Some, refl, sym, ap, subst, ◌∙◌}
+use Rattle.seh_num.specs.Answers.{◌>>=◌}
+use Rattle.x64_machine.specs.Contexts.{context_of}
+use Rattle.pe_image.specs.Image.{Image}
+use Rattle.eh_tables.specs.declared.range.RuntimeFunction.{RuntimeFunction}
+use Rattle.eh_tables.specs.Answer.{Table}
+use Rattle.eh_tables.specs.Tables.{Entry, Tables, directory, entries, tables, or_none, entries_of, holding}
+use Rattle.virtual_unwind.specs.CallerOf.{distance, caller_in, caller_of}
+use Rattle.frame_rules.specs.Frame.{left_to}
+use Rattle.frame_rules.specs.States.{registers, return_address}
+use Rattle.frame_rules.specs.Rules.{IsFound}
+use Rattle.unwind_check.specs.declared.rule.Verdict.TheVariants.{Yes}
+use Rattle.unwind_check.specs.Verdicts.{IsVerdict}
+use Rattle.image_code.specs.Frames.{IsTableOf, checked_code, YesFindsCallers}
+use Rattle.image_code.specs.declared.probe.TheConstants.{CHECK_STACK}
+use Rattle.seh.specs.Checks.{image_code}
+use Rattle.seh.specs.CheckedFrames.{CheckedCallersAreFound}
+
+-- the function table that entries are read of
+record HasRanges (image : Image) (es : List Entry) : Type 0 where
+  ranges : List RuntimeFunction
+  is_directory : directory image ≡ Ok ranges
+  whole : entries image 0 0 ranges ≡ Ok es
+
+has_ranges : (image : Image) (es : List Entry) → tables image ≡ Ok es → HasRanges image es
+has_ranges image es h = by (directory image) refl h
+  where
+    by : (d : Table (List RuntimeFunction)) → directory image ≡ d
+        → d >>= (λ rs. entries image 0 0 rs) ≡ Ok es → HasRanges image es
+    by (Ok rs) is h = record { ranges = rs; is_directory = is; whole = h }
+    by (Err e) is h = cc
+
+pub checked_callers : YesFindsCallers → CheckedCallersAreFound
+unfolding caller_of
+checked_callers frames bytes n checked entry e s d octets place code held at rip inside =
+    let image = checked.image in
+    let has = has_ranges image checked.entries checked.whole in
+    let t : Tables = record { image = image; ranges = has.ranges } in
+    let listed : entries_of t ≡ checked.entries = ap or_none has.whole in
+    let same : or_none (tables image) ≡ entries_of t = ap or_none checked.whole ∙ sym listed in
+    let verdict : IsVerdict (checked_code t CHECK_STACK) (entries_of t) (Yes n) =
+    subst (λ (es : List Entry). IsVerdict (image_code image) es (Yes n)) (sym listed)
+    checked.comes in
+    let table : IsTableOf bytes t = record {
+      octets = octets;
+      read = checked.is;
+      place = place;
+      ranges = has.is_directory;
+      whole = record { whole = has.whole ∙ ap Ok (sym listed) };
+    } in
+    let holds = subst (λ (es : List Entry). holding (distance image.base s.cpu.rip) es ≡ Some entry)
+    same held in
+    let found = frames bytes CHECK_STACK t n entry e s d table verdict code holds at rip inside in
+    subst (λ (es : List Entry). IsFound (caller_in (record { base = image.base; entries = es })
+    s.memory (context_of s.cpu)) (left_to (registers e) (return_address e))) (sym same) found

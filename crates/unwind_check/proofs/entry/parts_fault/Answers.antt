@@ -1,0 +1,31 @@
+use Rattle.std.proofs.Common.{ap, arith}
+use Rattle.unwind_check.specs.Boundaries.{Decoded}
+use Rattle.unwind_check.specs.Faults.{prologue_end}
+use Rattle.frame_rules.specs.Prologue.{bytes}
+use Rattle.unwind_check.proofs.Fitting.{part_fits}
+use Rattle.unwind_check.proofs.entry.parts_fault.Goals as goal
+
+pub prologue_fault-requires : goal.prologue_fault-requires
+prologue_fault-requires g c =
+    let m = g.S.CodeSpace.memory c.args.space.now in
+    let middle = c.requires.middle in
+    let order = c.requires.order in
+    let order_2 = c.requires.order_2 in
+    let low = c.requires.low in
+    let f = part_fits m c.args.begin (prologue_end c.args.begin c.args.end c.args.info.now)
+    (omega (arith, middle, order)) in
+    let e = ap (λ (d : Decoded). bytes d.items) c.requires.prologue in
+    let b = ap bytes c.items-first.ensures in
+    omega (arith, middle, order_2, low, f, e, b)
+
+pub body_fault-requires-clause-low : goal.body_fault-requires-clause-low
+body_fault-requires-clause-low g c =
+    let m = g.S.CodeSpace.memory c.args.space.now in
+    let middle = c.requires.middle in
+    let order_2 = c.requires.order_2 in
+    let low = c.requires.low in
+    let f = part_fits m (prologue_end c.args.begin c.args.end c.args.info.now) c.args.end
+    (omega (arith, middle, order_2)) in
+    let e = ap (λ (d : Decoded). bytes d.items) c.requires.body in
+    let b = ap bytes c.items-second.ensures in
+    omega (arith, middle, low, f, e, b)
