@@ -12,8 +12,9 @@ use Rattle.frame_rules.specs.States.{registers, return_address}
 use Rattle.frame_rules.specs.Rules.{IsFound}
 use Rattle.unwind_check.specs.declared.rule.Verdict.TheVariants.{Yes}
 use Rattle.unwind_check.specs.Verdicts.{IsVerdict}
-use Rattle.image_code.specs.Frames.{IsTableOf, checked_code, YesFindsCallers}
-use Rattle.image_code.specs.declared.probe.TheConstants.{CHECK_STACK}
+use Rattle.image_code.specs.Verdicts.{checked_code}
+use Rattle.image_code.specs.Frames.{IsTableOf, YesFindsCallers}
+use Rattle.x64_emit.specs.declared.entry.TheConstants.{CHECK_STACK}
 use Rattle.seh.specs.Checks.{image_code}
 use Rattle.seh.specs.CheckedFrames.{CheckedCallersAreFound}
 
@@ -39,7 +40,7 @@ checked_callers frames bytes n checked entry e s d octets place code held at rip
     let t : Tables = record { image = image; ranges = has.ranges } in
     let listed : entries_of t ≡ checked.entries = ap or_none has.whole in
     let same : or_none (tables image) ≡ entries_of t = ap or_none checked.whole ∙ sym listed in
-    let verdict : IsVerdict (checked_code t CHECK_STACK) (entries_of t) (Yes n) =
+    let verdict : IsVerdict (checked_code image CHECK_STACK) (entries_of t) (Yes n) =
     subst (λ (es : List Entry). IsVerdict (image_code image) es (Yes n)) (sym listed)
     checked.comes in
     let table : IsTableOf bytes t = record {

@@ -9,3 +9,4 @@ pub mod Completeness
 pub mod TamePrograms
 pub mod Calls
 pub mod MeantCalls
+pub mod CheckedFrames

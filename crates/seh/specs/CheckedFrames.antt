@@ -1,5 +1,5 @@
 -- What a yes of `check` says: no rule fails, and the frames of the image as it is loaded.
-use Rattle.std.specs.Prelude.{◌≡◌, ℕ, ◌+◌, ◌<◌, ◌≤◌, true, List, length, Some}
+use Rattle.std.specs.Prelude.{◌≡◌, ℕ, ◌+◌, ◌<◌, true, List, Some}
 use Rattle.std.specs.List.{AllByRecursion}
 use Rattle.x64_machine.specs.Contexts.{context_of}
 use Rattle.x64_machine.specs.Effect.{State}
@@ -14,18 +14,7 @@ use Rattle.host_model.specs.Loading.{has_place}
 use Rattle.host_model.specs.Machine.{functions_in}
 use Rattle.image_code.specs.Code.{code_of}
 use Rattle.image_code.specs.Frames.{HasCodeOf}
-use Rattle.command_line.specs.declared.command.Command.TheVariants.{Check}
-use Rattle.seh.specs.declared.status.Status.TheVariants as statuses
-use Rattle.seh.specs.Answers.{image_limit}
-use Rattle.seh.specs.Calls.{Call, Asks}
 use Rattle.seh.specs.Checks.{IsChecked}
-
--- a call of `check` that ends with status 0: the verdict on its image is yes
-abbrev pub DoneIsYes : Type 0
-DoneIsYes =
-    (bytes : List ℕ) (call : Call)
-    → length bytes ≤ image_limit → Asks Check bytes call → call.status ≡ statuses.Done
-    → (n : ℕ) × IsChecked bytes (Yes n)
 
 -- where the verdict is yes and the image has a place, the walk over the loaded image finds the
 -- caller in every state of each entry, as it was at the entry's first byte (in state e)

@@ -9,7 +9,7 @@ use Rattle.eh_tables.specs.declared.refusal.TableErr.{TableErr}
 use Rattle.eh_tables.specs.Tables.{Entry, tables}
 use Rattle.host_model.specs.declared.refusal.LoadErr.TheVariants as loads
 use Rattle.image_code.specs.Code.{code_of}
-use Rattle.image_code.specs.declared.probe.TheConstants.{CHECK_STACK}
+use Rattle.x64_emit.specs.declared.entry.TheConstants.{CHECK_STACK}
 use Rattle.unwind_check.specs.declared.rule.Rule.{Rule}
 use Rattle.unwind_check.specs.declared.rule.Rule.TheVariants as rules
 use Rattle.unwind_check.specs.declared.rule.Verdict.{Verdict}

@@ -11,8 +11,7 @@ use crate::refusal::Refusal;
 use crate::verdict::verdict_line;
 use eh_tables::Tables;
 use host_layout::limit::MOST_IMAGE;
-use image_code::code_view::CodeView;
-use image_code::probe::CHECK_STACK;
+use image_code::CodeView;
 use pe_image::ImageView;
 use seh_host::LoadErr;
 use seh_io::sink::Sink;
@@ -21,6 +20,7 @@ use seh_io::writing::put_all;
 use std::alloc::Global;
 use unwind_check::Verdict;
 use unwind_check::validation::validate;
+use x64_emit::entry::CHECK_STACK;
 
 /// The verdict on an image's function table, which is read whole; or why there is none.
 fn verdict_of(alloc: Global, bytes: &[u8]) -> Result<Verdict, Refusal>

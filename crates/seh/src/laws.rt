@@ -1,6 +1,7 @@
 //! What the commands come to together.
 
 ghost use Rattle.seh.specs.Calls.{CompileIsComplete, RunIsComplete, MeaningIsComplete, ShowIsComplete, CheckIsComplete, ExecIsComplete, TextsHaveOneImage, LastLinesAgree, CompiledIsMeant, RunIsMeant};
+ghost use Rattle.seh.specs.CheckedFrames.{CheckedCallersAreFound};
 ghost use Rattle.seh.specs.Completeness.{AcceptedTextsCompile, CompiledImagesRun};
 ghost use Rattle.seh.specs.Headline.{Headline, NothingMore, Walks};
 ghost use Rattle.seh.specs.TamePrograms.{TameProgramsWalk, TameProgramsEnd};
@@ -66,4 +67,12 @@ pub fn meant_calls()
     ensures last_line { LastLinesAgree }
     ensures compiled { CompiledIsMeant }
     ensures run { RunIsMeant }
+{}
+
+/// The validator is sound. Where the verdict of `check` on an image is yes, and the image has a
+/// place in memory, the caller of every frame of its entries is found as the image is loaded: the
+/// return address, the stack pointer above it, and the nonvolatile registers as they were at the
+/// entry.
+pub fn checked()
+    ensures { CheckedCallersAreFound }
 {}
