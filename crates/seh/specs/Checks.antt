@@ -45,12 +45,6 @@ verdict_line verdict = ended (verdict_text verdict)
 
 -- ---- the verdict
 
--- a function table has one verdict
-abbrev pub VerdictsAreOne : Type 0
-VerdictsAreOne =
-    (code : ImageCode) (entries : List Entry) (a b : Verdict)
-    → IsVerdict code entries a → IsVerdict code entries b → a ≡ b
-
 -- the code of an image as its file has it, at addresses relative to its base, with the bytes of the
 -- stack probe: so that an image need not have a place in memory
 abbrev pub image_code : Image → ImageCode
