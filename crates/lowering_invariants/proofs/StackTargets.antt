@@ -5,7 +5,7 @@ use Rattle.std.specs.List.{AllByRecursion}
 use Rattle.std.specs.Prelude.{Bool, true, false, cond, slice_get, take, Option, Some, None}
 use Rattle.lowering_invariants.specs.Words.{Region, RegionKind, LinearProgram, LinearBody, BodyName, FunctionBody, FuncletBody, body_of, Frame, Handler, Target, Item, Waits, Searches, Unwinds, last_temporaries, holds, regions_at, regions_left, handlers, regions_of, handlers_of, handlers_in, target_past, target_of, IsLanding, IsKindOf, IsRegionOf, AreBodies, Handles, IsHandler, LandsAt, IsTarget, AreHandlers, AreWaiting, AreLeft}
 use Rattle.linear_code.specs.declared.program.RegionKind.TheVariants as kinds
-use Rattle.lowering_invariants.proofs.PlainExpressions.{all_append}
+use Rattle.lowering_invariants.proofs.Lemmas.{all_append}
 use Rattle.lowering_invariants.proofs.Ready.{last_are}
 
 -- ---- lists

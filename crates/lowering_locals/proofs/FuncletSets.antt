@@ -8,7 +8,7 @@ use Rattle.lowering_locals.specs.Words.{Expression, funclets_in, funclets, filte
 use Rattle.linear_code.specs.declared.instruction.Instruction.TheVariants as instructions
 use Rattle.linear_code.specs.declared.program.RegionKind.TheVariants as kinds
 use Rattle.lowering_locals.proofs.Lemmas.{Range, part_of, both_parts, no_part, one_part, expression_length, statements_length, filter_count, statements_count, IsSegmentAt, front, back, whole_is_at, same_it, both_left, both_right, sees_own, itself, within, part_with, counted}
-use Rattle.lowering_invariants.proofs.PlainExpressions.{all_append}
+use Rattle.lowering_locals.proofs.Lemmas.{all_append}
 use Rattle.seh_ir.specs.Funclets as funclets_of
 use Rattle.lowering_locals.proofs.StraightCode.{is_same, head_recorded, past_end, even_list, Fine, both_lead, straight}
 use Rattle.lowering_locals.proofs.ExpressionSets.{IsAround, expression_fine}
