@@ -29,8 +29,8 @@ Shifts d P F =
     × F w a c (unsigned_in w t to) s.cpu.flags t.cpu.flags)
 
 -- CF, of a count below the number of the width's bits, is the last bit moved out, and OF, of a
--- count of 1, is o; ZF and SF are set by the result n. A count of 0 changes no flag, and one above 1
--- doesn't change OF
+-- count of 1, is o; ZF and SF are set by the result n. A count of 0 changes no flag, and one above
+-- 1 doesn't change OF
 pub record ShiftFlags (w : Width) (c out : ℕ) (o : Bool) (n : ℕ) (f g : Flags) : Type 0 where
   pub unmoved : c ≡ 0 → g ≡ f
   pub carry : 0 < c → c < 8 * bytes_of w → g.carry ≡ nat_eq out 1
