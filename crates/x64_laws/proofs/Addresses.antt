@@ -1,17 +1,16 @@
 -- Addresses of operands in memory, and of jumps.
-use Rattle.std.proofs.Common.{◌≡◌, ℕ, ◌+◌, ◌-◌, ◌*◌, ◌%◌, ◌^◌, ◌<◌, ℤ, pos, ◌+ℤ◌, ◌-ℤ◌, refl, sym, ap, subst, ◌∙◌, arith, set}
+use Rattle.std.proofs.Common.{◌≡◌, ℕ, ◌+◌, ◌*◌, ◌%◌, ◌^◌, ◌<◌, ℤ, pos, ◌+ℤ◌, ◌-ℤ◌, refl, sym, ap, subst, ◌∙◌, arith, set}
 use Rattle.std.proofs.lemmas.Int.{ints}
 use Rattle.x64_instr.specs.declared.operand.Scale.{Scale}
 use Rattle.x64_instr.specs.declared.operand.Scale.TheVariants as scales
 use Rattle.x64_laws.specs.Words.{Width, W8, W16, W32, W64, limit, low, signed, wrapped, Reg, number, merged}
-use Rattle.x64_machine.specs.declared.cpu.Flags.{Flags}
 use Rattle.x64_machine.specs.Effect.{State, register, factor, address_of, with_rip}
-use Rattle.x64_laws.specs.Destinations.{HasRegisters, unsigned_in, Puts}
+use Rattle.x64_laws.specs.Destinations.{Puts}
 use Rattle.x64_laws.specs.Addressing.{exponent, AddressesAreSums, LeaPutsAddress, RipIsOfNext, JmpGoesFromNext}
-use Rattle.x64_laws.proofs.Lemmas.{low_below, signed_twice, wrapped_below}
+use Rattle.x64_laws.proofs.Lemmas.{low_below, signed_twice}
 use Rattle.x64_laws.proofs.Numbers.{wrapped_from}
 use Rattle.x64_laws.proofs.Results.{bits}
-use Rattle.x64_laws.proofs.Effects.{puts, read_back, merged_low}
+use Rattle.x64_laws.proofs.Effects.{puts}
 
 from_sum : (n l m : ℕ) (z : ℤ) → z ≡ pos l -ℤ pos m → pos n +ℤ z ≡ pos (n + l) -ℤ pos m
 from_sum n l m z e = omega (arith, ints)

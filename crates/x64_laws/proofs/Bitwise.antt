@@ -1,13 +1,13 @@
 -- What operations on bits leave.
-use Rattle.std.proofs.Common.{◌≡◌, ℕ, ◌+◌, ◌-◌, ◌^◌, ◌<◌, min, max, Bool, true, false, ltb, leb, ℤ, pos, refl, sym, ap, ◌∙◌, arith, inl, inr}
+use Rattle.std.proofs.Common.{◌≡◌, ℕ, ◌+◌, ◌-◌, ◌<◌, min, max, Bool, true, false, leb, ℤ, pos, refl, sym, ap, ◌∙◌, arith, inl, inr}
 use Rattle.std.specs.Prelude.{int_lt, nat_eq, bit_and, bit_or, bit_xor}
 use Rattle.std.specs.Int.Bits.{and_lt, xor_self}
 use Rattle.std.proofs.lemmas.Nat.{or_lt, xor_lt}
 use Rattle.std.proofs.lemmas.Nat.Bits.{bit_at_and, bit_at_or, bit_at_xor}
 use Rattle.std.proofs.lemmas.Bool.{cases_lt, le-ltb, le-leb, lt-leb}
-use Rattle.x64_laws.specs.Words.{Width, W8, W16, W32, W64, limit, half, low, signed, Reg, flags_of}
+use Rattle.x64_laws.specs.Words.{Width, W8, W16, W32, W64, limit, half, signed, Reg, flags_of}
 use Rattle.x64_laws.specs.Logic.{IsBitwise, exclusive, logical_flags, AndIsBitwise, OrIsBitwise, XorIsBitwise, XorClears, TestIsBitwise, NotIsComplement}
-use Rattle.x64_laws.proofs.Lemmas.{limits, low_below, signed_low, signed_high}
+use Rattle.x64_laws.proofs.Lemmas.{low_below, signed_low, signed_high}
 use Rattle.x64_machine.specs.declared.cpu.Flags.{Flags}
 use Rattle.x64_machine.specs.Effect.{State, register}
 use Rattle.x64_laws.specs.Destinations.{HasRegisters, unsigned_in, Puts}

@@ -1,12 +1,11 @@
 -- What SETcc leaves after CMP.
-use Rattle.std.proofs.Common.{◌≡◌, ℕ, ◌<◌, Bool, true, false, cond, refl, ap, ◌∙◌, arith}
+use Rattle.std.proofs.Common.{◌≡◌, ◌<◌, Bool, true, false, cond, refl, ap, ◌∙◌, arith}
 use Rattle.seh_num.specs.Widths.{if_set}
-use Rattle.x64_instr.specs.declared.instruction.Condition.{Condition}
 use Rattle.x64_machine.specs.Conditions.{holds}
-use Rattle.x64_machine.specs.Effect.{State, register, with_flags}
-use Rattle.x64_laws.specs.Words.{Width, W8, Reg, subtracted, compares}
+use Rattle.x64_machine.specs.Effect.{register, with_flags}
+use Rattle.x64_laws.specs.Words.{W8, subtracted, compares}
 use Rattle.x64_laws.specs.Comparing.{SetTellsComparison}
-use Rattle.x64_laws.specs.Destinations.{HasRegisters, unsigned_in}
+use Rattle.x64_laws.specs.Destinations.{unsigned_in}
 use Rattle.x64_laws.proofs.Lemmas.{low_below}
 use Rattle.x64_laws.proofs.AfterCompare.{difference_decides}
 use Rattle.x64_laws.proofs.Effects.{puts}

@@ -1,6 +1,6 @@
 -- What DIV, IDIV, CDQ and CQO leave.
 use Rattle.std.proofs.Common.{◌≡◌, ◌≢◌, ℕ, zero, suc, ◌+◌, ◌-◌, ◌*◌, ◌/◌, ◌%◌, ◌<◌, ◌≤◌, Bool, true, false, cond, ltb, ℤ, pos, negsuc, ◌+ℤ◌, ◌-ℤ◌, ◌*ℤ◌, Ok, Err, refl, sym, ap, subst, ◌∙◌, arith, inl, inr}
-use Rattle.std.specs.Prelude.{Result, IsOkAnd, unsigned_abs, nat_eq, int_div, int_rem}
+use Rattle.std.specs.Prelude.{Result, IsOkAnd, unsigned_abs, nat_eq, int_rem}
 use Rattle.std.proofs.lemmas.List.{length-set}
 use Rattle.std.proofs.lemmas.Bool.{cases_lt, lt-ltb, le-ltb, ne_eqb, eq-eqb}
 use Rattle.std.proofs.lemmas.Int.{ints}
@@ -10,7 +10,7 @@ use Rattle.seh_num.specs.declared.division.DivFault.{DivFault}
 use Rattle.seh_num.specs.declared.division.DivFault.TheVariants as faults
 use Rattle.seh_num.specs.Division.{IsSignedDivision, IsUnsignedDivision, divided_signed, divided_unsigned}
 use Rattle.seh_num.proofs.Quotients.{divided}
-use Rattle.x64_laws.specs.Words.{Width, W8, W16, W32, W64, limit, half, low, signed, wrapped, is_signed, Reg, merged, number}
+use Rattle.x64_laws.specs.Words.{Width, W8, W16, W32, W64, limit, half, low, signed, wrapped, is_signed, merged, number}
 use Rattle.x64_instr.specs.declared.register.Reg.TheVariants.{Rax, Rdx}
 use Rattle.x64_instr.specs.declared.instruction.Division.TheVariants.{Unsigned, Signed}
 use Rattle.x64_machine.specs.Dividing.{joined, signed_double, wrapped_both}

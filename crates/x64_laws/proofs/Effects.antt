@@ -32,8 +32,8 @@ merged_low W64 old v lt = omega arith
 pub read_back : (xs : List ℕ) (k v : ℕ) → length xs ≡ 16 → k < 16 → get_or (set xs k v) k 0 ≡ v
 read_back xs k v n lt = get_or-set_same xs k v 0 (omega arith)
 
-pub puts : (s : State) (w : Width) (to : Reg) (v : ℕ) (P : ℕ → Type 0) (f g : Flags) → HasRegisters s
-    → v < limit w → P v → g ≡ f → Puts s w to P f (after s w to v g)
+pub puts : (s : State) (w : Width) (to : Reg) (v : ℕ) (P : ℕ → Type 0) (f g : Flags)
+    → HasRegisters s → v < limit w → P v → g ≡ f → Puts s w to P f (after s w to v g)
 puts s w to v P f g h lt is e =
     let xs = s.cpu.registers in
     let old = register s.cpu to in

@@ -1,8 +1,8 @@
 -- What the spellings that are only read are read as.
-use Rattle.std.proofs.Common.{◌≡◌, ◌≢◌, ℕ, ◌+◌, ◌-◌, ◌*◌, ◌%◌, ◌<◌, Bool, true, false, true≢false, cond, eqb, List, [], ◌∷◌, ◌++◌, Some, refl, sym, ap, ◌∙◌, arith, inl, inr, append-nil, append_assoc}
+use Rattle.std.proofs.Common.{◌≡◌, ◌≢◌, ℕ, ◌+◌, ◌-◌, ◌*◌, ◌%◌, ◌<◌, Bool, true, false, true≢false, cond, eqb, List, [], ◌∷◌, ◌++◌, Some, refl, sym, ap, ◌∙◌, arith, inl, inr, append-nil}
 use Rattle.std.proofs.lemmas.Bool.{cases_lt, lt-ltb, le-ltb, eq-eqb}
 use Rattle.std.specs.Prelude.{◌&&◌}
-use Rattle.x64_laws.specs.Words.{Width, W8, W64, limit, signed, wrapped, extended, Reg, RegisterOrMemory, Read, ◌>>=◌, number, given, operation, direction, group_1, load, immediate_of, instr, after_size, after_prefixes, row, plain_row, two_byte_row, place, is_place, is_immediate}
+use Rattle.x64_laws.specs.Words.{Width, W8, W64, limit, signed, wrapped, extended, RegisterOrMemory, Read, ◌>>=◌, number, given, operation, group_1, load, immediate_of, instr, after_size, after_prefixes, row, plain_row, two_byte_row, place}
 use Rattle.x64_instr.specs.Reading as reading
 use Rattle.x64_instr.specs.declared.operand.RegisterOrMemory.TheVariants as places
 use Rattle.x64_instr.specs.declared.operand.Operand.TheVariants as operands
@@ -14,10 +14,10 @@ use Rattle.x64_instr.specs.declared.instruction.Target.TheVariants.{Relative}
 use Rattle.x64_instr.specs.declared.instruction.Instr.{Instr}
 use Rattle.x64_instr.specs.declared.instruction.Instr.TheVariants as instrs
 use Rattle.x64_encode.specs.declared.writing.Opcode.TheVariants as opcodes
-use Rattle.x64_encode.specs.Chosen.{modrm, opcode_register, sized_opcode, opcode_extension, condition_number, immediate_bytes, chosen}
+use Rattle.x64_encode.specs.Chosen.{modrm, opcode_register, sized_opcode, opcode_extension, condition_number, immediate_bytes}
 use Rattle.x64_encode.proofs.OpcodesAgain.{IsOpcode, r_rm_again, rm_digit_again, row_arithmetic_load, row_load, row_arithmetic_number, from_memory}
 use Rattle.x64_encode.proofs.ArithmeticWritten.{is_arithmetic, is_8A, move_place, immediate_read}
-use Rattle.x64_laws.specs.ReadOnly.{IsOnlyRead, RowsOnlyRead, ArithmeticReadsRegisters, MovReadsRegisters, MovReadsImmediate, ArithmeticReadsImmediate, JmpReadsByte, JccReadsByte}
+use Rattle.x64_laws.specs.ReadOnly.{RowsOnlyRead, ArithmeticReadsRegisters, MovReadsRegisters, MovReadsImmediate, ArithmeticReadsImmediate, JmpReadsByte, JccReadsByte}
 use Rattle.x64_laws.proofs.Lemmas.{signed_low, signed_high, low_is}
 
 -- ---- registers where a place in memory might be
@@ -132,7 +132,8 @@ differs : (xs ys : List ℕ) → is_same xs ys ≡ false → xs ≢ ys
 differs xs ys other e = true≢false (sym (same xs) ∙ ap (is_same xs) e ∙ other)
 
 pub rows_only_read : RowsOnlyRead
-unfolding is_same instr after_size after_prefixes row plain_row two_byte_row place modrm opcode_register
+unfolding is_same instr after_size after_prefixes row plain_row two_byte_row place modrm
+    opcode_register
 rows_only_read = record {
   mod_00 = record { is = refl; other = differs _ _ refl };
   mod_00_sib = record { is = refl; other = differs _ _ refl };

@@ -1,19 +1,18 @@
 -- What SHL, SHR and SAR leave.
-use Rattle.std.proofs.Common.{◌≡◌, ℕ, zero, suc, ◌+◌, ◌-◌, ◌*◌, ◌/◌, ◌%◌, ◌^◌, ◌<◌, ◌≤◌, Bool, true, false, cond, ltb, leb, eqb, ℤ, pos, negsuc, ◌-ℤ◌, ◌*ℤ◌, refl, sym, ap, subst, ◌∙◌, arith, inl, inr}
+use Rattle.std.proofs.Common.{◌≡◌, ℕ, suc, ◌+◌, ◌-◌, ◌*◌, ◌/◌, ◌%◌, ◌^◌, ◌<◌, Bool, true, false, cond, ltb, leb, ℤ, pos, ◌-ℤ◌, ◌*ℤ◌, refl, sym, ap, ◌∙◌, arith, inl, inr}
 use Rattle.std.specs.Prelude.{not, int_lt, nat_eq}
 use Rattle.std.specs.Int.{bit_at}
 use Rattle.std.proofs.lemmas.Bool.{cases_lt, lt-ltb, le-ltb, le-leb, lt-leb, ne_eqb, eq-eqb}
 use Rattle.std.proofs.Math.IntN.{neg_ℤ}
 use Rattle.std.proofs.Math.Nat.{mul_assoc, div-le_self, mul-div-mul_right}
-use Rattle.x64_instr.specs.declared.instruction.Count.{Count}
 use Rattle.x64_instr.specs.declared.instruction.Direction.{Direction}
 use Rattle.x64_instr.specs.declared.instruction.Direction.TheVariants.{Left, Right}
-use Rattle.x64_laws.specs.Words.{Width, bytes_of, limit, half, low, signed, wrapped, is_signed, Reg, ArithmeticRight, differ, count_of, shifted, shift_flags, IsOf, IsFloor}
+use Rattle.x64_laws.specs.Words.{Width, bytes_of, limit, half, low, signed, wrapped, is_signed, Reg, ArithmeticRight, differ, count_of, shifted, shift_flags, IsFloor}
 use Rattle.x64_laws.specs.Shifting.{ShiftFlags, IsShiftedProduct, ShlIsProduct, ShrIsQuotient, SarSetsFlags}
 use Rattle.x64_machine.specs.declared.cpu.Flags.{Flags}
 use Rattle.x64_machine.specs.Shifts.{last_out, overflow_of}
 use Rattle.x64_machine.specs.Effect.{State, register, amount}
-use Rattle.x64_laws.specs.Destinations.{HasRegisters, unsigned_in, Puts}
+use Rattle.x64_laws.specs.Destinations.{HasRegisters, unsigned_in}
 use Rattle.x64_laws.proofs.Lemmas.{limits, low_is, low_below, signed_low, signed_high}
 use Rattle.x64_machine.proofs.Numbers.{low_over}
 use Rattle.x64_laws.proofs.Numbers.{wrapped_from}

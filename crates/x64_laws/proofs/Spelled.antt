@@ -2,7 +2,7 @@
 use Rattle.std.proofs.Common.{◌≡◌, ℕ, ◌+◌, ◌-◌, ◌/◌, ◌%◌, ◌^◌, ◌<◌, ◌≤◌, Bool, true, false, cond, eqb, ltb, leb, List, [], Option, Some, refl, sym, ap, subst, ◌∙◌, arith, inl, inr}
 use Rattle.std.specs.Prelude.{not, ◌&&◌, ◌||◌, ◌⊎◌}
 use Rattle.std.proofs.lemmas.Bool.{eqb-true, and_parts, lt-ltb, ltb-true, true≢false}
-use Rattle.x64_laws.specs.Words.{Width, W8, W16, W32, W64, bytes_of, limit, half, Reg, RegisterOrMemory, Prefixes, Instr, number, Read, ◌>>=◌, byte, bit, width_of, sized, sized_narrow, immediate_of, register_of_low_bits, rm_and_register, rm_and_opcode_extension, source, given, operation, direction, condition, group_1, group_11, test_immediate, group_3, group_2_immediate, group_2_cl, group_5, move_immediate, sign_extend, extend, load, multiply_by, address_to, load_address, jump_if, set_if, jump, call, no_operation, arithmetic_form, arithmetic_row, plain_row, row, extend_row, two_byte_row, after_prefixes, after_size, instr, is_place, is_wide, is_immediate, SpelledIsEncodable, SpelledIsShort}
+use Rattle.x64_laws.specs.Words.{Width, W8, W16, W32, W64, bytes_of, limit, half, Reg, RegisterOrMemory, Prefixes, Instr, Read, ◌>>=◌, byte, bit, width_of, sized, sized_narrow, immediate_of, register_of_low_bits, rm_and_register, rm_and_opcode_extension, source, given, operation, direction, condition, group_1, group_11, test_immediate, group_3, group_2_immediate, group_2_cl, group_5, move_immediate, sign_extend, extend, load, multiply_by, address_to, load_address, jump_if, set_if, jump, call, no_operation, arithmetic_form, arithmetic_row, plain_row, row, extend_row, two_byte_row, after_prefixes, after_size, instr, is_place, is_wide, is_immediate, SpelledIsEncodable, SpelledIsShort}
 use Rattle.x64_instr.specs.declared.operand.RegisterOrMemory.TheVariants as places
 use Rattle.x64_instr.specs.declared.operand.Operand.TheVariants as operands
 use Rattle.x64_instr.specs.declared.instruction.Operation.{Operation}

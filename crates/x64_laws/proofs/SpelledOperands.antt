@@ -1,5 +1,5 @@
 -- Operands that the table spells can be encoded, and are short.
-use Rattle.std.proofs.Common.{◌≡◌, ℕ, ◌+◌, ◌-◌, ◌*◌, ◌/◌, ◌%◌, ◌<◌, Bool, true, cond, eqb, List, Option, Some, None, refl, ap, ◌∙◌, arith, inl, inr}
+use Rattle.std.proofs.Common.{◌≡◌, ℕ, ◌+◌, ◌*◌, ◌/◌, ◌%◌, ◌<◌, Bool, true, cond, eqb, List, Option, Some, None, refl, ap, ◌∙◌, arith, inl, inr}
 use Rattle.std.specs.Prelude.{not, ◌&&◌}
 use Rattle.std.proofs.lemmas.Bool.{cases_eq, eq-eqb, ne_eqb}
 use Rattle.x64_laws.specs.Words.{Width, W8, W32, W64, Reg, RegisterOrMemory, Prefixes, Instr, register, Read, ◌>>=◌, byte, bit, register_of_reg_field, register_of_low_bits, scale, index_of_sib, memory, displaced, sib_operand, memory_operand, place, modrm_with_register, modrm_with_opcode_extension, is_listed, rm_and_register, rm_and_opcode_extension, rm_r, r_rm, rm_extension, is_index, is_place, is_encodable}

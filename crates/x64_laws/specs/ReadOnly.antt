@@ -1,5 +1,5 @@
--- Spellings that are read as the instruction that the manual gives them, and that the encoder doesn't
--- choose (Intel manual, volume 2, each instruction's page; "Instruction Format").
+-- Spellings that are read as the instruction that the manual gives them, and that the encoder
+-- doesn't choose (Intel manual, volume 2, each instruction's page; "Instruction Format").
 use Rattle.std.specs.Prelude.{◌≡◌, ◌≢◌, ℕ, ◌+◌, ◌*◌, ◌<◌, true, List, [], ◌∷◌, ◌++◌, None}
 use Rattle.seh_num.specs.declared.width.Width.{Width}
 use Rattle.seh_num.specs.declared.width.Width.TheVariants.{W8, W32, W64}
@@ -66,7 +66,8 @@ JmpReadsByte =
 abbrev pub JccReadsByte : Type 0
 JccReadsByte =
     (c : Condition) (b : ℕ) → b < 256
-    → IsOnlyRead (instrs.JumpIf c (wrapped W64 (signed W8 b))) ((0x70 + condition_number c) ∷ b ∷ [])
+    → IsOnlyRead (instrs.JumpIf c (wrapped W64 (signed W8 b)))
+    ((0x70 + condition_number c) ∷ b ∷ [])
 
 abbrev pub at : Reg → ℕ → Operand
 at r d = operands.Memory (record { base = bases.Register r; index = None; displacement = d })

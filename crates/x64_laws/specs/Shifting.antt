@@ -1,6 +1,6 @@
 -- What SHL and SHR leave as products and quotients by powers of two, and what the three shifts make
 -- of the flags (Intel manual, volume 2, SAL/SAR/SHL/SHR).
-use Rattle.std.specs.Prelude.{◌≡◌, ℕ, ◌-◌, ◌*◌, ◌^◌, ◌<◌, Bool, false, not, nat_eq, int_lt, ℤ, pos, ◌*ℤ◌, IsOkAnd}
+use Rattle.std.specs.Prelude.{◌≡◌, ℕ, ◌-◌, ◌*◌, ◌^◌, ◌<◌, Bool, false, not, nat_eq, int_lt, pos, ◌*ℤ◌, IsOkAnd}
 use Rattle.std.specs.Int.{bit_at}
 use Rattle.seh_num.specs.declared.width.Width.{Width}
 use Rattle.seh_num.specs.Widths.{bytes_of, limit, signed}
@@ -25,12 +25,13 @@ Shifts d P F =
     → let c = count_of w (amount s.cpu by) in
     let a = unsigned_in w s to in
     IsOkAnd (effect s (instrs.Shift d w (places.Register to) by))
-    (λ t. Puts s w to (P w a c) t.cpu.flags t × F w a c (unsigned_in w t to) s.cpu.flags t.cpu.flags)
+    (λ t. Puts s w to (P w a c) t.cpu.flags t
+    × F w a c (unsigned_in w t to) s.cpu.flags t.cpu.flags)
 
--- CF, of a count below the number of the width's bits, is the last bit moved out, and OF, of a count
--- of 1, is o; ZF and SF are set by the result n. A count of 0 changes no flag, and one above 1
--- doesn't change OF
-pub record ShiftFlags (w : Width) (c : ℕ) (out : ℕ) (o : Bool) (n : ℕ) (f g : Flags) : Type 0 where
+-- CF, of a count below the number of the width's bits, is the last bit moved out, and OF, of a
+-- count of 1, is o; ZF and SF are set by the result n. A count of 0 changes no flag, and one above
+-- 1 doesn't change OF
+pub record ShiftFlags (w : Width) (c out : ℕ) (o : Bool) (n : ℕ) (f g : Flags) : Type 0 where
   pub unmoved : c ≡ 0 → g ≡ f
   pub carry : 0 < c → c < 8 * bytes_of w → g.carry ≡ nat_eq out 1
   pub zero : 0 < c → g.zero ≡ nat_eq n 0
@@ -43,8 +44,8 @@ pub record IsShiftedProduct (w : Width) (a c n : ℕ) : Type 0 where
   pub of_unsigned : a * 2 ^ c < limit w → n ≡ a * 2 ^ c
   pub of_signed : IsOf w (signed w a *ℤ pos (2 ^ c)) n
 
--- SHL moves out the bit that is c places below the end; OF says that twice the signed number doesn't
--- fit
+-- SHL moves out the bit that is c places below the end; OF says that twice the signed number
+-- doesn't fit
 abbrev pub ShlIsProduct : Type 0
 ShlIsProduct =
     Shifts Left IsShiftedProduct (λ w a c. ShiftFlags w c (bit_at a (8 * bytes_of w - c))

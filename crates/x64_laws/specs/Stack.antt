@@ -31,8 +31,8 @@ move_below_top r =
       displacement = 2 ^ 64 - 8;
     })) (operands.Register r)
 
--- PUSH stores the number 8 bytes below the top, as MOV does, and lowers RSP by 8; it is refused where
--- MOV is
+-- PUSH stores the number 8 bytes below the top, as MOV does, and lowers RSP by 8; it is refused
+-- where MOV is
 abbrev pub PushStoresBelowTop : Type 0
 PushStoresBelowTop =
     (s : State) (from : Reg) → register s.cpu from < 2 ^ 64
