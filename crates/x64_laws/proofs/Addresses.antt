@@ -78,7 +78,7 @@ lea_puts_address s w to m h =
 
 -- ---- from the next instruction
 
-next_is : (rip length d : ℕ)
+pub next_is : (rip length d : ℕ)
     → ((rip + length) % 2 ^ 64 + d) % 2 ^ 64 ≡ wrapped W64 (pos (rip + length) +ℤ signed W64 d)
 next_is rip length d =
     let n : ℕ = rip + length in

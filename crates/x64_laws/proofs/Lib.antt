@@ -15,3 +15,4 @@ pub mod Shifted
 pub mod Addresses
 pub mod StackTop
 pub mod ReadOnlySpellings
+pub mod PushedNumbers

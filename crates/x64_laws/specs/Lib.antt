@@ -9,3 +9,4 @@ pub mod Words
 pub mod Addressing
 pub mod Stack
 pub mod ReadOnly
+pub mod PushedNumbers
