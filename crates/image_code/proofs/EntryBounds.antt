@@ -1,27 +1,23 @@
--- The entries of a table that was read from octets end below 4 GiB, and their frame registers are
--- near.
-use Rattle.std.proofs.Common.{◌≡◌, ℕ, zero, suc, ◌+◌, ◌/◌, ◌%◌, ◌^◌, ◌<◌, Bool, true, false, ◌==◌, List, [], ◌∷◌, length, drop, Option, Some, None, Ok, Err, refl, subst, arith}
+-- The entries of a table that was read from octets end below 4 GiB.
+use Rattle.std.proofs.Common.{◌≡◌, ℕ, zero, suc, ◌+◌, ◌/◌, ◌%◌, ◌^◌, ◌<◌, Bool, true, false, ◌==◌, List, [], ◌∷◌, length, drop, Option, Some, None, Ok, Err, refl, subst}
 use Rattle.std.specs.Prelude.{nat_lt, nat_le}
 use Rattle.std.specs.List.{AllByRecursion}
 use Rattle.seh_num.specs.Answers.{unless, or_refused, prepend, ◌>>=◌}
 use Rattle.pe_image.specs.declared.directory.DataDirectory.{DataDirectory}
 use Rattle.pe_image.specs.Image.{Image, stored}
 use Rattle.pe_image.specs.Reading.{IsImage}
-use Rattle.eh_tables.specs.declared.layout.TheConstants.{MOST_PARENTS, RUNTIME_FUNCTION_SIZE, UNWIND_CODES, UNWIND_VERSION}
+use Rattle.eh_tables.specs.declared.layout.TheConstants.{MOST_PARENTS, RUNTIME_FUNCTION_SIZE}
 use Rattle.eh_tables.specs.declared.range.RuntimeFunction.{RuntimeFunction}
 use Rattle.eh_tables.specs.declared.refusal.TableErr.{TableErr}
 use Rattle.eh_tables.specs.declared.refusal.TableErr.TheVariants as refusals
 use Rattle.eh_tables.specs.Answer.{Table}
-use Rattle.eh_tables.specs.Codes as slots
-use Rattle.eh_tables.specs.Scopes as scopes
-use Rattle.eh_tables.specs.Infos.{Info, info, info_of, stored_info, stored_scope_records, version, are_flags, flags, slots_end, trailer_size, is_framed, slots_of, is_c, frame_offset}
+use Rattle.eh_tables.specs.Infos.{info}
 use Rattle.eh_tables.specs.Tables.{Entry, Tables, entry, parents, ranges, ranges_in, stored_ranges, unless_none, directory, entries, entries_of, covers_address, entry_or, holding}
 use Rattle.image_code.specs.Frames.{IsTableOf}
-use Rattle.image_code.proofs.Octets.{AreOctets, dropped, octet, number_below, stored_are_octets}
+use Rattle.image_code.proofs.Octets.{AreOctets, dropped, number_below, stored_are_octets}
 
 pub record IsBoundedEntry (e : Entry) : Type 0 where
   pub end : e.range.end < 2 ^ 32
-  pub offset : e.info.frame_offset < 2 ^ 16
 
 -- ---- answers
 
@@ -39,41 +35,6 @@ is_some None e x h = absurd cc
 is_some (Some y) e x h = cc
 
 module _ (file : List ℕ) (image : Image) (read : IsImage file image) (octets : AreOctets file) where
-  -- ---- an info
-
-  info_octets : (index rva : ℕ) (bytes : List ℕ) → stored_info image index rva ≡ Ok bytes
-      → AreOctets bytes
-  unfolding stored_info
-  info_octets index rva bytes h =
-      let one = given (unless (rva % 4 == 0) (refusals.Misaligned rva)) _ bytes h in
-      let two = given (or_refused (stored image.sections rva UNWIND_CODES)
-      (refusals.Truncated rva)) _ bytes one.then in
-      let three = given (unless (version two.value == UNWIND_VERSION)
-      (refusals.Version index (version two.value))) _ bytes two.then in
-      let four = given (unless (are_flags (flags two.value)) (refusals.Flags index)) _ bytes
-      three.then in
-      stored_are_octets file image rva (slots_end two.value + trailer_size two.value) bytes read
-      octets (is_some (stored image.sections rva (slots_end two.value + trailer_size two.value))
-      (refusals.Truncated rva) bytes four.then)
-
-  offset_near : (index rva : ℕ) (i : Info) → info image index rva ≡ Ok i
-      → i.frame_offset < 2 ^ 16
-  unfolding info
-  offset_near index rva i h =
-      let one = given (stored_info image index rva) _ i h in
-      let two = given (stored_scope_records image rva one.value) _ i one.then in
-      let three = given (slots.checked index (is_framed one.value) 0 255 0 (slots_of one.value)) _
-      i two.then in
-      let four = given (scopes.checked index image.size 0 (scopes.scope_records_in two.value)) _
-      i three.then in
-      let small = octet one.value 3 (info_octets index rva one.value one.first) in
-      let near : frame_offset one.value < 2 ^ 16 = omega (arith, small) in
-      same (info_of one.value (is_c image one.value) two.value) four.then near
-    where
-      same : (j : Info) → (let t : Table Info = Ok j in t) ≡ Ok i → j.frame_offset < 2 ^ 16
-          → i.frame_offset < 2 ^ 16
-      same j h near = let g : j ≡ i = cc in subst (λ (k : Info). k.frame_offset < 2 ^ 16) g near
-
   -- ---- an entry
 
   entry_bounded : (index last : ℕ) (r : RuntimeFunction) (e : Entry) → r.end < 2 ^ 32
@@ -85,7 +46,7 @@ module _ (file : List ℕ) (image : Image) (read : IsImage file image) (octets :
       let three = given (info image index r.unwind_info) _ e two.then in
       let four = given (parents MOST_PARENTS image index three.value.parent) _ e three.then in
       same (record { range = r; info = three.value; parents = four.value }) four.then
-      (record { end = low; offset = offset_near index r.unwind_info three.value three.first })
+      (record { end = low })
     where
       same : (d : Entry) → (let t : Table Entry = Ok d in t) ≡ Ok e → IsBoundedEntry d
           → IsBoundedEntry e

@@ -16,7 +16,6 @@ yes_finds_callers bytes probe t n entry e s d is verdict code covers away rip st
     let base = (bounded bytes t.image is.read is.place).base in
     let end = b.end in
     let placed : IsPlaced (code_of t.image) entry t.image.base s.memory = record {
-      offset = b.offset;
       low = omega (arith, base, end);
       code = λ at lt. code (t.image.base + at)
           ∙ loaded_code bytes t.image 15 at is.read is.place (omega (arith, end, lt));

@@ -6,12 +6,16 @@ use Rattle.c_syntax.specs.Program.{ExternalDeclaration}
 use Rattle.c_checked.specs.Program.{Program}
 use Rattle.c_resolved.specs.Program.{resolve}
 use Rattle.c_meaning.specs.Texts as meanings
+use Rattle.c_lex.specs.declared.lexing.LexErr.TheVariants as lexes
+use Rattle.c_parse_expr.specs.declared.refusal.ParseErr.TheVariants as parses
 use Rattle.c_text.specs.declared.accepting.TextErr.{TextErr}
+use Rattle.c_text.specs.declared.accepting.TextErr.TheVariants as texts
 use Rattle.c_text.specs.Texts.{IsAccepted, TextIsRefused}
 use Rattle.c_text.proofs.NotRefused.{accepted_is_not_refused, accepted_is_one}
 use Rattle.pe_image.specs.Image.{Image}
 use Rattle.pe_image.specs.Reading.{IsImage, ImageIsRefused, reading}
 use Rattle.pe_image.specs.declared.refusal.ImageErr.{ImageErr}
+use Rattle.pe_image.specs.declared.refusal.ImageErr.TheVariants as images
 use Rattle.pe_write.specs.Program.{parts_of}
 use Rattle.pe_write.specs.Written.{written}
 use Rattle.table_view.specs.View.{view}
@@ -20,7 +24,9 @@ use Rattle.eh_tables.specs.Answer.{Table}
 use Rattle.eh_tables.specs.Tables.{Entry, tables}
 use Rattle.host_model.specs.declared.refusal.LoadErr.TheVariants as loads
 use Rattle.unwind_check.specs.declared.rule.Verdict.{Verdict}
-use Rattle.unwind_check.specs.Verdicts.{IsVerdict}
+use Rattle.unwind_check.specs.declared.rule.Verdict.TheVariants.{Yes, No}
+use Rattle.image_code.specs.Verdicts.{IsImageVerdict}
+use Rattle.x64_emit.specs.declared.entry.TheConstants.{CHECK_STACK}
 use Rattle.seh_ir.specs.Lowered.{lowered}
 use Rattle.image_link.specs.Linked.{linked}
 use Rattle.command_line.specs.declared.command.Command.{Command}
@@ -33,7 +39,8 @@ use Rattle.seh.specs.declared.refusal.Refusal.{Refusal}
 use Rattle.seh.specs.declared.refusal.Refusal.TheVariants as refusals
 use Rattle.seh.specs.declared.status.Status.TheVariants as statuses
 use Rattle.seh.specs.Answers.{text_limit, image_limit, Judged, FromInput, Loads, IsInputAnswer, IsCompileAnswer, IsRunAnswer, IsTextRunAnswer, IsShowAnswer, end_by, text_by}
-use Rattle.seh.specs.Checks.{IsCheckAnswer, image_code, verdict_line}
+use Rattle.seh.specs.Checks.{IsChecked, IsCheckAnswer, verdict_line}
+use Rattle.seh.specs.CheckLaws.{DoneIsYes}
 use Rattle.seh.specs.Calls.{Call, HadNoFault, Asks, Gave, WantedMemory, CompileIsComplete, RunIsComplete, MeaningIsComplete, ShowIsComplete, CheckIsComplete, ExecIsComplete, TextsHaveOneImage}
 use Rattle.seh.specs.Commands.{IsAnswer, IsCommandAnswer}
 use Rattle.seh.specs.Images.{IsCompiled}
@@ -65,10 +72,7 @@ pub image_loads : (text image : List ℕ) → IsCompiled text image → Loads im
 image_loads text image is =
     record { image = is.realises.image; is = is.realises.is; loads = is.realises.loads }
 
--- a function table is read as one list of entries
-one_table : (t : Table (List Entry)) (xs ys : List Entry) → t ≡ Ok xs → t ≡ Ok ys → xs ≡ ys
-one_table t xs ys is also = let q : Ok xs ≡ Ok ys = sym is ∙ also in cc
-
+-- a function table that is read isn't refused
 table_read : (t : Table (List Entry)) (es : List Entry) (e : TableErr) → t ≡ Ok es → t ≡ Err e → ⊥
 table_read t es e is refused = let q : Ok es ≡ Err e = sym is ∙ refused in cc
 
@@ -86,6 +90,24 @@ of_refusal : (r : Refusal) (call : Call) → HadNoFault call.err call.err_after
     → Reported (Err r) call.err call.err_after call.status → call.status ≡ refusal_status r
 of_refusal r call h (inl x) = x.0
 of_refusal r call h (inr y) = absurd (no_fault call.err call.err_after h y.1)
+
+-- no refusal has the status of what was carried out
+never_done : (r : Refusal) → refusal_status r ≡ statuses.Done → ⊥
+never_done refusals.Usage e = cc
+never_done refusals.ReadFault e = cc
+never_done (refusals.TooLong limit) e = cc
+never_done (refusals.Text (texts.Lex lexes.Memory)) e = cc
+never_done (refusals.Text (texts.Lex x)) e = cc
+never_done (refusals.Text (texts.Parse parses.Memory)) e = cc
+never_done (refusals.Text (texts.Parse x)) e = cc
+never_done (refusals.Text (texts.Check at fault)) e = cc
+never_done (refusals.Text texts.Memory) e = cc
+never_done (refusals.Image images.Memory) e = cc
+never_done (refusals.Image x) e = cc
+never_done (refusals.Load loads.Memory) e = cc
+never_done (refusals.Load x) e = cc
+never_done refusals.WriteFault e = cc
+never_done refusals.NoMemory e = cc
 
 -- what a command came to, and that it was reported; or memory was wanting
 pub record Came (command : Command) (call : Call) : Type 0 where
@@ -255,24 +277,19 @@ module _ (call : Call) (out : HadNoFault call.out call.out_after)
   shown bytes image is (Err refusals.WriteFault) told (also, reads, rose, part) = cut rose
   shown bytes image is (Err r) told h = absurd h
 
-  abbrev CheckedAs : Image → List Entry → Type 0
-  CheckedAs image entries =
-      (verdict : Verdict) × IsVerdict (image_code image) entries verdict
+  abbrev CheckedAs : Image → Type 0
+  CheckedAs image =
+      (verdict : Verdict) × IsImageVerdict image CHECK_STACK verdict
       × Gave (verdict_status verdict) (verdict_line verdict) call
 
   checked : (bytes : List ℕ) (image : Image) (entries : List Entry) → IsImage bytes image
       → tables image ≡ Ok entries → (answer : Result CommandOutcome Refusal) → Tells answer
       → IsCheckAnswer bytes call.out call.out_after answer
-      → WantedMemory call ⊎ CheckedAs image entries
+      → WantedMemory call ⊎ CheckedAs image
   checked bytes image entries is whole (Ok (Checked verdict)) told (found, grew) =
       let same = one_image (reading bytes) found.image image found.is is in
-      let read : tables image ≡ Ok found.entries =
-      subst (λ (i : Image). tables i ≡ Ok found.entries) same found.whole in
-      let listed = one_table (tables image) found.entries entries read whole in
-      let of_image : IsVerdict (image_code image) found.entries verdict =
-      subst (λ (i : Image). IsVerdict (image_code i) found.entries verdict) same found.comes in
-      let comes : IsVerdict (image_code image) entries verdict =
-      subst (λ (es : List Entry). IsVerdict (image_code image) es verdict) listed of_image in
+      let comes : IsImageVerdict image CHECK_STACK verdict =
+      subst (λ (i : Image). IsImageVerdict i CHECK_STACK verdict) same found.comes in
       inr (verdict, comes, record { ended = told.0; wrote = grew; silent = told.1 })
   checked bytes image entries is whole (Ok done) told h = absurd h
   checked bytes image entries is whole (Err (refusals.Image e)) told (refused, kept) =
@@ -287,6 +304,17 @@ module _ (call : Call) (out : HadNoFault call.out call.out_after)
       cut rose
   checked bytes image entries is whole (Err refusals.NoMemory) told h = inl (wanted _ refl told)
   checked bytes image entries is whole (Err r) told h = absurd h.0
+
+  said_yes : (bytes : List ℕ) → call.status ≡ statuses.Done
+      → (answer : Result CommandOutcome Refusal) → Tells answer
+      → IsCheckAnswer bytes call.out call.out_after answer
+      → WantedMemory call ⊎ ((n : ℕ) × IsChecked bytes (Yes n))
+  said_yes bytes done (Ok (Checked (Yes n))) told (found, grew) = inr (n, found)
+  said_yes bytes done (Ok (Checked (No k f))) told h =
+      let q : statuses.Done ≡ statuses.No = sym done ∙ told.0 in cc
+  said_yes bytes done (Ok other) told h = absurd h
+  said_yes bytes done (Err r) told h =
+      absurd (never_done r (sym (of_refusal r call err told) ∙ done))
 
   abbrev MeantBy : RunOptions → Program → Type 0
   MeantBy options p =
@@ -366,11 +394,25 @@ pub check_is_complete : CheckIsComplete
 check_is_complete bytes image entries call short is whole asks = by (came Check bytes call asks)
   where
     by : WantedMemory call ⊎ Came Check call
-        → WantedMemory call ⊎ CheckedAs call asks.out asks.err image entries
+        → WantedMemory call ⊎ CheckedAs call asks.out asks.err image
     by (inl w) = inl w
     by (inr c) = judged_by image_limit IsCheckAnswer bytes call asks.source asks.err asks.holds
         short c.answer c.reported c.is
         (checked call asks.out asks.err bytes image entries is whole c.answer c.reported)
+
+pub done_is_yes : DoneIsYes
+done_is_yes bytes call short asks done = by (came Check bytes call asks)
+  where
+    sure : WantedMemory call ⊎ ((n : ℕ) × IsChecked bytes (Yes n))
+        → (n : ℕ) × IsChecked bytes (Yes n)
+    sure (inl w) = let q : statuses.Done ≡ statuses.NoMemory = sym done ∙ w in cc
+    sure (inr found) = found
+
+    by : WantedMemory call ⊎ Came Check call → (n : ℕ) × IsChecked bytes (Yes n)
+    by (inl w) = sure (inl w)
+    by (inr c) = sure (judged_by image_limit IsCheckAnswer bytes call asks.source asks.err
+        asks.holds short c.answer c.reported c.is
+        (said_yes call asks.out asks.err bytes done c.answer c.reported))
 
 pub show_is_complete : ShowIsComplete
 show_is_complete bytes image call short is asks = by (came Show bytes call asks)

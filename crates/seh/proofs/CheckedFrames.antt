@@ -1,5 +1,5 @@
 -- A yes of `check`, and the frames of the image as it is loaded.
-use Rattle.std.proofs.Common.{◌≡◌, ℕ, List, Result, Ok, Err, Some, refl, sym, ap, subst, ◌∙◌}
+use Rattle.std.proofs.Common.{◌≡◌, ℕ, List, Some, Ok, Err, refl, sym, ap, subst, ◌∙◌}
 use Rattle.seh_num.specs.Answers.{◌>>=◌}
 use Rattle.x64_machine.specs.Contexts.{context_of}
 use Rattle.pe_image.specs.Image.{Image}
@@ -13,10 +13,10 @@ use Rattle.frame_rules.specs.Rules.{IsFound}
 use Rattle.unwind_check.specs.declared.rule.Verdict.TheVariants.{Yes}
 use Rattle.unwind_check.specs.Verdicts.{IsVerdict}
 use Rattle.image_code.specs.Verdicts.{checked_code}
-use Rattle.image_code.specs.Frames.{IsTableOf, YesFindsCallers}
+use Rattle.image_code.specs.Frames.{IsTableOf}
+use Rattle.image_code.proofs.LoadedFrames.{yes_finds_callers}
 use Rattle.x64_emit.specs.declared.entry.TheConstants.{CHECK_STACK}
-use Rattle.seh.specs.Checks.{image_code}
-use Rattle.seh.specs.CheckedFrames.{CheckedCallersAreFound}
+use Rattle.seh.specs.CheckLaws.{CheckedCallersAreFound}
 
 -- the function table that entries are read of
 record HasRanges (image : Image) (es : List Entry) : Type 0 where
@@ -32,17 +32,18 @@ has_ranges image es h = by (directory image) refl h
     by (Ok rs) is h = record { ranges = rs; is_directory = is; whole = h }
     by (Err e) is h = cc
 
-pub checked_callers : YesFindsCallers → CheckedCallersAreFound
+pub checked_callers_are_found : CheckedCallersAreFound
 unfolding caller_of
-checked_callers frames bytes n checked entry e s d octets place code held at rip inside =
+checked_callers_are_found bytes n checked entry e s d octets place code held at rip inside =
     let image = checked.image in
-    let has = has_ranges image checked.entries checked.whole in
+    let given = checked.comes in
+    let has = has_ranges image given.entries given.read in
     let t : Tables = record { image = image; ranges = has.ranges } in
-    let listed : entries_of t ≡ checked.entries = ap or_none has.whole in
-    let same : or_none (tables image) ≡ entries_of t = ap or_none checked.whole ∙ sym listed in
+    let listed : entries_of t ≡ given.entries = ap or_none has.whole in
+    let same : or_none (tables image) ≡ entries_of t = ap or_none given.read ∙ sym listed in
     let verdict : IsVerdict (checked_code image CHECK_STACK) (entries_of t) (Yes n) =
-    subst (λ (es : List Entry). IsVerdict (image_code image) es (Yes n)) (sym listed)
-    checked.comes in
+    subst (λ (es : List Entry). IsVerdict (checked_code image CHECK_STACK) es (Yes n)) (sym listed)
+    given.is in
     let table : IsTableOf bytes t = record {
       octets = octets;
       read = checked.is;
@@ -52,6 +53,7 @@ checked_callers frames bytes n checked entry e s d octets place code held at rip
     } in
     let holds = subst (λ (es : List Entry). holding (distance image.base s.cpu.rip) es ≡ Some entry)
     same held in
-    let found = frames bytes CHECK_STACK t n entry e s d table verdict code holds at rip inside in
+    let found = yes_finds_callers bytes CHECK_STACK t n entry e s d table verdict code holds at rip
+    inside in
     subst (λ (es : List Entry). IsFound (caller_in (record { base = image.base; entries = es })
     s.memory (context_of s.cpu)) (left_to (registers e) (return_address e))) (sym same) found

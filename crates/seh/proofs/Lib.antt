@@ -10,3 +10,4 @@ pub mod TamePrograms
 pub mod Calls
 pub mod MeantCalls
 pub mod CheckedFrames
+pub mod OneVerdict

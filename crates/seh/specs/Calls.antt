@@ -15,7 +15,8 @@ use Rattle.pe_image.specs.Reading.{IsImage}
 use Rattle.table_view.specs.View.{view}
 use Rattle.eh_tables.specs.Tables.{Entry, tables}
 use Rattle.unwind_check.specs.declared.rule.Verdict.{Verdict}
-use Rattle.unwind_check.specs.Verdicts.{IsVerdict}
+use Rattle.image_code.specs.Verdicts.{IsImageVerdict}
+use Rattle.x64_emit.specs.declared.entry.TheConstants.{CHECK_STACK}
 use Rattle.match_runs.specs.Ends.{run_end}
 use Rattle.command_line.specs.declared.command.Command.{Command}
 use Rattle.command_line.specs.declared.command.Command.TheVariants.{Compile, Exec, Run, Meaning, Show, Check}
@@ -24,7 +25,7 @@ use Rattle.command_line.specs.Lines.{IsLine}
 use Rattle.seh.specs.declared.status.Status.{Status}
 use Rattle.seh.specs.declared.status.Status.TheVariants as statuses
 use Rattle.seh.specs.Answers.{text_limit, image_limit, Loads, end_by, text_by}
-use Rattle.seh.specs.Checks.{image_code, verdict_line}
+use Rattle.seh.specs.Checks.{verdict_line}
 use Rattle.seh.specs.Commands.{Answers}
 use Rattle.seh.specs.Headline.{AreEnough}
 use Rattle.seh.specs.Images.{IsCompiled}
@@ -112,7 +113,7 @@ CheckIsComplete =
     → length bytes ≤ image_limit → IsImage bytes image → tables image ≡ Ok entries
     → Asks Check bytes call
     → WantedMemory call
-    ⊎ ((verdict : Verdict) × IsVerdict (image_code image) entries verdict
+    ⊎ ((verdict : Verdict) × IsImageVerdict image CHECK_STACK verdict
     × Gave (verdict_status verdict) (verdict_line verdict) call)
 
 -- an image that loads: the whole text of its run, and the status of the run's end

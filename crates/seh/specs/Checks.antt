@@ -6,15 +6,14 @@ use Rattle.seh_io.specs.Text.{hexadecimal, ended}
 use Rattle.pe_image.specs.Image.{Image}
 use Rattle.pe_image.specs.Reading.{IsImage, ImageIsRefused}
 use Rattle.eh_tables.specs.declared.refusal.TableErr.{TableErr}
-use Rattle.eh_tables.specs.Tables.{Entry, tables}
+use Rattle.eh_tables.specs.Tables.{tables}
 use Rattle.host_model.specs.declared.refusal.LoadErr.TheVariants as loads
-use Rattle.image_code.specs.Code.{code_of}
-use Rattle.x64_emit.specs.declared.entry.TheConstants.{CHECK_STACK}
+use Rattle.image_code.specs.Verdicts.{IsImageVerdict}
 use Rattle.unwind_check.specs.declared.rule.Rule.{Rule}
 use Rattle.unwind_check.specs.declared.rule.Rule.TheVariants as rules
 use Rattle.unwind_check.specs.declared.rule.Verdict.{Verdict}
 use Rattle.unwind_check.specs.declared.rule.Verdict.TheVariants.{Yes, No}
-use Rattle.unwind_check.specs.Verdicts.{ImageCode, IsVerdict}
+use Rattle.x64_emit.specs.declared.entry.TheConstants.{CHECK_STACK}
 use Rattle.seh.specs.declared.outcome.CommandOutcome.TheVariants.{Checked}
 use Rattle.seh.specs.declared.refusal.Refusal.{Refusal}
 use Rattle.seh.specs.declared.refusal.Refusal.TheVariants as refusals
@@ -45,18 +44,12 @@ verdict_line verdict = ended (verdict_text verdict)
 
 -- ---- the verdict
 
--- the code of an image as its file has it, at addresses relative to its base, with the bytes of the
--- stack probe: so that an image need not have a place in memory
-abbrev pub image_code : Image → ImageCode
-image_code image = record { memory = code_of image; probe = CHECK_STACK }
-
--- the bytes are an image whose function table is read whole, and this is the verdict on it
+-- the bytes are an image whose function table is read whole, and this is the verdict on it; its
+-- code is taken as its file has it, so that it need not have a place in memory
 pub record IsChecked (bytes : List ℕ) (verdict : Verdict) : Type 0 where
   pub image : Image
   pub is : IsImage bytes image
-  pub entries : List Entry
-  pub whole : tables image ≡ Ok entries
-  pub comes : IsVerdict (image_code image) entries verdict
+  pub comes : IsImageVerdict image CHECK_STACK verdict
 
 -- the bytes are an image whose function table is refused
 pub record IsRefusedTable (bytes : List ℕ) (e : TableErr) : Type 0 where

@@ -11,4 +11,4 @@ pub mod Completeness
 pub mod TamePrograms
 pub mod Calls
 pub mod Words
-pub mod CheckedFrames
+pub mod CheckLaws

@@ -9,9 +9,8 @@ use crate::input::read_input;
 use crate::outcome::CommandOutcome;
 use crate::refusal::Refusal;
 use crate::verdict::verdict_line;
-use eh_tables::Tables;
 use host_layout::limit::MOST_IMAGE;
-use image_code::CodeView;
+use image_code::{ValidationErr, validate_image};
 use pe_image::ImageView;
 use seh_host::LoadErr;
 use seh_io::sink::Sink;
@@ -19,7 +18,6 @@ use seh_io::source::Source;
 use seh_io::writing::put_all;
 use std::alloc::Global;
 use unwind_check::Verdict;
-use unwind_check::validation::validate;
 use x64_emit::entry::CHECK_STACK;
 
 /// The verdict on an image's function table, which is read whole; or why there is none.
@@ -31,16 +29,10 @@ fn verdict_of(alloc: Global, bytes: &[u8]) -> Result<Verdict, Refusal>
         Ok(image) => image,
         Err(error) => return Err(Refusal::Image(error)),
     };
-    let tables = match Tables::read(&image) {
-        Ok(tables) => tables,
-        Err(error) => return Err(Refusal::Load(LoadErr::Table(error))),
-    };
-    let Ok(code) = CodeView::of(alloc, &image) else {
-        return Err(Refusal::NoMemory);
-    };
-    match validate(alloc, &code, &CHECK_STACK, &tables) {
+    match validate_image(alloc, &image, &CHECK_STACK) {
         Ok(verdict) => Ok(verdict),
-        Err(_) => Err(Refusal::NoMemory),
+        Err(ValidationErr::Table(error)) => Err(Refusal::Load(LoadErr::Table(error))),
+        Err(ValidationErr::Memory) => Err(Refusal::NoMemory),
     }
 }
 

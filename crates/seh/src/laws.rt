@@ -1,7 +1,7 @@
 //! What the commands come to together.
 
 ghost use Rattle.seh.specs.Calls.{CompileIsComplete, RunIsComplete, MeaningIsComplete, ShowIsComplete, CheckIsComplete, ExecIsComplete, TextsHaveOneImage, LastLinesAgree, CompiledIsMeant, RunIsMeant};
-ghost use Rattle.seh.specs.CheckedFrames.{CheckedCallersAreFound};
+ghost use Rattle.seh.specs.CheckLaws.{ImagesHaveOneVerdict, DoneIsYes, CheckedCallersAreFound};
 ghost use Rattle.seh.specs.Completeness.{AcceptedTextsCompile, CompiledImagesRun};
 ghost use Rattle.seh.specs.Headline.{Headline, NothingMore, Walks};
 ghost use Rattle.seh.specs.TamePrograms.{TameProgramsWalk, TameProgramsEnd};
@@ -47,8 +47,9 @@ pub fn tame_programs()
 
 /// Whole calls of the program, where no source and no sink has a fault and memory isn't wanting. An
 /// accepted text gives an image under `compile`, the text of its run under `run`, and the text of
-/// its meaning under `meaning`. An image gives its view under `show`, and one that loads the text
-/// of its run under `exec`. Each has the status of its end, and writes nothing to `err`.
+/// its meaning under `meaning`. An image gives its view under `show`, one whose function table is
+/// read whole the line of its verdict under `check`, and one that loads the text of its run under
+/// `exec`. Each has the status of its end, and writes nothing to `err`.
 pub fn calls()
     ensures compile { CompileIsComplete }
     ensures run { RunIsComplete }
@@ -69,10 +70,12 @@ pub fn meant_calls()
     ensures run { RunIsMeant }
 {}
 
-/// The validator is sound. Where the verdict of `check` on an image is yes, and the image has a
-/// place in memory, the caller of every frame of its entries is found as the image is loaded: the
-/// return address, the stack pointer above it, and the nonvolatile registers as they were at the
-/// entry.
-pub fn checked()
-    ensures { CheckedCallersAreFound }
+/// What `check` says of an image. An image has one verdict. Where no stream has a fault and a call
+/// ends with status 0, it is yes. Then, where the image has a place in memory, the walk over the
+/// loaded image finds the caller in every state of each entry of its function table: in the
+/// prologue, the body and the epilogues.
+pub fn checked_images()
+    ensures one_verdict { ImagesHaveOneVerdict }
+    ensures done { DoneIsYes }
+    ensures callers { CheckedCallersAreFound }
 {}

@@ -16,8 +16,7 @@ fn images_keep_the_rules(rt: HostRuntime) {
 /// A byte or two of the code, which begins at 312 of the file, or of the unwind info, which begins
 /// at 325, are changed. RSI isn't saved; RAX is volatile; an epilogue gives back 40 bytes and pops
 /// nothing; 06 is no instruction of 64-bit code; RSP is cleared; the info tells of a push of RCX,
-/// which is volatile, and of an allocation of 40 bytes; the prologue ends inside an instruction, its
-/// codes at the ends of others.
+/// which is volatile, and of an allocation of 40 bytes; the prologue ends inside an instruction.
 const RULES: &str = r"
 check | framed | 16 no 0 00002005 Unsaved
 check | framed @ file+317 31 C0 | 0 yes 1

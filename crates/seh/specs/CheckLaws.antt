@@ -1,5 +1,5 @@
--- What a yes of `check` says: no rule fails, and the frames of the image as it is loaded.
-use Rattle.std.specs.Prelude.{◌≡◌, ℕ, ◌+◌, ◌<◌, true, List, Some}
+-- What `check` says: an image has one verdict; where it is yes, the caller of every frame is found.
+use Rattle.std.specs.Prelude.{◌≡◌, ℕ, ◌+◌, ◌<◌, ◌≤◌, true, List, length, Some}
 use Rattle.std.specs.List.{AllByRecursion}
 use Rattle.x64_machine.specs.Contexts.{context_of}
 use Rattle.x64_machine.specs.Effect.{State}
@@ -8,13 +8,29 @@ use Rattle.virtual_unwind.specs.CallerOf.{distance, entry_of, caller_in}
 use Rattle.frame_rules.specs.Frame.{left_to}
 use Rattle.frame_rules.specs.States.{registers, return_address}
 use Rattle.frame_rules.specs.Rules.{IsFound}
+use Rattle.unwind_check.specs.declared.rule.Verdict.{Verdict}
 use Rattle.unwind_check.specs.declared.rule.Verdict.TheVariants.{Yes}
 use Rattle.unwind_check.specs.Laws.{IsInEntry}
 use Rattle.host_model.specs.Loading.{has_place}
 use Rattle.host_model.specs.Machine.{functions_in}
 use Rattle.image_code.specs.Code.{code_of}
 use Rattle.image_code.specs.Frames.{HasCodeOf}
+use Rattle.command_line.specs.declared.command.Command.TheVariants.{Check}
+use Rattle.seh.specs.declared.status.Status.TheVariants as statuses
+use Rattle.seh.specs.Answers.{image_limit}
+use Rattle.seh.specs.Calls.{Call, Asks}
 use Rattle.seh.specs.Checks.{IsChecked}
+
+abbrev pub ImagesHaveOneVerdict : Type 0
+ImagesHaveOneVerdict =
+    (bytes : List ℕ) (a b : Verdict) → IsChecked bytes a → IsChecked bytes b → a ≡ b
+
+-- a call of `check` that ends with status 0: the verdict on its image is yes
+abbrev pub DoneIsYes : Type 0
+DoneIsYes =
+    (bytes : List ℕ) (call : Call)
+    → length bytes ≤ image_limit → Asks Check bytes call → call.status ≡ statuses.Done
+    → (n : ℕ) × IsChecked bytes (Yes n)
 
 -- where the verdict is yes and the image has a place, the walk over the loaded image finds the
 -- caller in every state of each entry, as it was at the entry's first byte (in state e)
