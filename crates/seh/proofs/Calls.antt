@@ -1,6 +1,5 @@
 -- Without faults, what a call gives is what its command gives.
 use Rattle.std.proofs.Common.{◌≡◌, ◌⊎◌, inl, inr, ℕ, ◌<◌, ◌≤◌, List, length, Option, Some, Result, Ok, Err, refl, sym, ap, subst, ◌∙◌, arith}
-use Rattle.std.specs.Option.{ForSome}
 use Rattle.seh_io.specs.Streams.{Rose, Grew}
 use Rattle.c_syntax.specs.Program.{ExternalDeclaration}
 use Rattle.c_checked.specs.Program.{Program}
@@ -123,13 +122,13 @@ came command held call asks = by asks.answers.answer asks.answers.reported asks.
         → Reported answer call.err call.err_after call.status
         → IsAnswer call.words call.source call.source_after call.out call.out_after answer
         → WantedMemory call ⊎ Came command call
-    by answer reported (inl no) = absurd (no.1 command asks.line)
-    by answer reported (inr (inl yes)) =
-        let same = line_once call.words yes.0 command yes.1 asks.line in
+    by answer reported (inl usage) = absurd (usage.1 command asks.line)
+    by answer reported (inr (inl line)) =
+        let same = line_once call.words line.0 command line.1 asks.line in
         inr (record {
           answer = answer;
           is = subst (λ c. IsCommandAnswer c call.source call.source_after call.out
-              call.out_after answer) same yes.2;
+              call.out_after answer) same line.2;
           reported = reported;
         })
     by answer reported (inr (inr none)) =
@@ -142,9 +141,8 @@ read_by : (limit : ℕ) (judged : Judged) (held : List ℕ) (a b out out' : Stre
     (answer : Result CommandOutcome Refusal) → a.bytes ≡ Some held
     → FromInput limit judged a b out out' answer → judged held out out' answer
 read_by limit judged held a b out out' answer is from =
-    let all : ForSome a.bytes (λ held. from.bytes ≡ held) = from.input.all in
-    let same : from.bytes ≡ held = subst (λ o. ForSome o (λ held. from.bytes ≡ held)) is all in
-    subst (λ bytes. judged bytes out out' answer) same from.comes
+    let same : from.bytes ≡ held = from.input.all held is in
+    subst (λ (bytes : List ℕ). judged bytes out out' answer) same from.comes
 
 -- what came of the bytes that the source held; or memory was wanting
 read : (limit : ℕ) (judged : Judged) (held : List ℕ) (a b out out' : Stream)
@@ -157,7 +155,7 @@ read limit judged held a b out out' (Err refusals.Usage) short is h i = absurd i
 read limit judged held a b out out' (Err refusals.ReadFault) short is h i =
     absurd (no_fault a b h i.0.0)
 read limit judged held a b out out' (Err (refusals.TooLong most)) short is h i =
-    let long : limit < length held = subst (λ o. ForSome o (λ all. limit < length all)) is i.0.1 in
+    let long : limit < length held = i.0.1 held is in
     absurd (omega (arith, long, short))
 read limit judged held a b out out' (Err refusals.NoMemory) short is h i = inl refl
 read limit judged held a b out out' (Err (refusals.Text e)) short is h i =
@@ -207,7 +205,7 @@ module _ (call : Call) (out : HadNoFault call.out call.out_after)
   compiled text whole accepted (Ok done) told h = absurd h
   compiled text whole accepted (Err (refusals.Text e)) told (refused, kept) =
       inl (text_wanted text whole e accepted refused told)
-  compiled text whole accepted (Err refusals.WriteFault) told (image, is, rose, part) = cut rose
+  compiled text whole accepted (Err refusals.WriteFault) told (image, is, off) = cut off.0
   compiled text whole accepted (Err refusals.NoMemory) told h = inl (wanted _ refl told)
   compiled text whole accepted (Err r) told h = absurd h
 
@@ -224,7 +222,7 @@ module _ (call : Call) (out : HadNoFault call.out call.out_after)
       inl (of_refusal (refusals.Load e) call err told
       ∙ ap (λ x. refusal_status (refusals.Load x))
       (load_refused bytes loads.image e loads.is loads.loads refused))
-  ran options bytes loads (Err refusals.WriteFault) told (also, rose, part) = cut rose
+  ran options bytes loads (Err refusals.WriteFault) told (also, off) = cut off.0
   ran options bytes loads (Err r) told h = absurd h
 
   abbrev RanText : RunOptions → List ℕ → Type 0
@@ -274,7 +272,7 @@ module _ (call : Call) (out : HadNoFault call.out call.out_after)
   shown bytes image is (Ok done) told h = absurd h
   shown bytes image is (Err (refusals.Image e)) told (refused, kept) =
       inl (image_wanted bytes image e is refused told)
-  shown bytes image is (Err refusals.WriteFault) told (also, reads, rose, part) = cut rose
+  shown bytes image is (Err refusals.WriteFault) told (also, reads, off) = cut off.0
   shown bytes image is (Err r) told h = absurd h
 
   abbrev CheckedAs : Image → Type 0
@@ -300,8 +298,8 @@ module _ (call : Call) (out : HadNoFault call.out call.out_after)
       subst (λ (i : Image). tables i ≡ Err e) same found.refused in
       absurd (table_read (tables image) entries e whole refused)
   checked bytes image entries is whole (Err (refusals.Load e)) told h = absurd h.0
-  checked bytes image entries is whole (Err refusals.WriteFault) told (v, found, rose, part) =
-      cut rose
+  checked bytes image entries is whole (Err refusals.WriteFault) told (v, found, off) =
+      cut off.0
   checked bytes image entries is whole (Err refusals.NoMemory) told h = inl (wanted _ refl told)
   checked bytes image entries is whole (Err r) told h = absurd h.0
 
@@ -335,7 +333,7 @@ module _ (call : Call) (out : HadNoFault call.out call.out_after)
   meant options text p is (Ok done) told h = absurd h
   meant options text p is (Err (refusals.Text e)) told (refused, kept) =
       inl (text_wanted text is.declarations e is.checked.accepted refused told)
-  meant options text p is (Err refusals.WriteFault) told (also, reads, rose, part) = cut rose
+  meant options text p is (Err refusals.WriteFault) told (also, reads, off) = cut off.0
   meant options text p is (Err refusals.NoMemory) told h = inl (wanted _ refl told)
   meant options text p is (Err r) told h = absurd h
 
@@ -349,7 +347,7 @@ judged_by : {X : Type 0} (limit : ℕ) (judged : Judged) (held : List ℕ) (call
     → Reported answer call.err call.err_after call.status
     → IsInputAnswer limit judged call.source call.source_after call.out call.out_after answer
     → (judged held call.out call.out_after answer → WantedMemory call ⊎ X) → WantedMemory call ⊎ X
-judged_by limit judged held call source err holds short answer told is next =
+judged_by {X = X} limit judged held call source err holds short answer told is next =
     by (read limit judged held call.source call.source_after call.out call.out_after answer short
     holds source is)
   where

@@ -1,7 +1,7 @@
 -- What is compiled and run is what the text means, call by call.
 use Rattle.std.proofs.Common.{◌≡◌, ◌⊎◌, inl, inr, ℕ, pos, List, [], ◌∷◌, ◌++◌, Bool, Option, Some, None, refl, sym, ap, subst, ◌∙◌}
 use Rattle.seh.specs.Words.{Shown, RunEnd, Grew, text, lines, end_line, Program, resolve, meaning, Ended, run_end, run_end_of, RunOptions, end_by, text_by, Call, Gave, WantedMemory, EndsWithin, GaveMeaning, LastLinesAgree, CompiledIsMeant, RunIsMeant, AreEnough, ShowsMeaning, IsCompiled, IsProgramOf, status_of, meaning_status}
-use Rattle.seh_num.specs.declared.end.RunEnd.TheVariants as ends
+use Rattle.seh_num.specs.declared.end.RunEnd.TheVariants as run_ends
 use Rattle.c_meaning.specs.Texts as meanings
 use Rattle.source_meaning.specs.declared.ended.Ended.TheVariants as meant
 use Rattle.seh.specs.declared.status.Status.TheVariants as statuses
@@ -9,8 +9,8 @@ use Rattle.seh.proofs.Calls.{program_once, image_loads, compile_is_complete, run
 use Rattle.seh.proofs.Headline.{headline}
 
 pub last_lines_agree : LastLinesAgree
-last_lines_agree (meant.Exit v) e h = let same : ends.Exit v ≡ e = cc in ap end_line same
-last_lines_agree (meant.Unhandled c) e h = let same : ends.Unhandled c ≡ e = cc in ap end_line same
+last_lines_agree (meant.Exit v) e h = let same : run_ends.Exit v ≡ e = cc in ap end_line same
+last_lines_agree (meant.Unhandled c) e h = let same : run_ends.Unhandled c ≡ e = cc in ap end_line same
 last_lines_agree (meant.Undefined a) e h = let q : None ≡ Some e = h in absurd cc
 last_lines_agree (meant.Deep d) e h = let q : None ≡ Some e = h in absurd cc
 last_lines_agree (meant.OutOfSteps n) e h = let q : None ≡ Some e = h in absurd cc
@@ -89,7 +89,7 @@ compiled_is_meant source image p options arg n first second short is asks done t
     by (inl w) = let q : statuses.NoMemory ≡ statuses.Done = sym w ∙ done in absurd cc
     by (inr (other, compiled, gave)) =
         let grew : first.out_after.bytes ≡ Some (took.before ++ other) =
-        subst (λ o. Grew o other first.out_after.bytes) took.first gave.wrote in
+        gave.wrote took.before took.first in
         let same = same_rest took.before other image
         (the_same _ _ (sym grew ∙ took.last)) in
         ran (subst (IsCompiled source) same compiled)
