@@ -254,9 +254,11 @@ module _ (call : Call) (out : HadNoFault call.out call.out_after)
       ran_image options text (Err (refusals.Image e)) told h.0 h.1 h.2
   ran_text options text whole accepted (Err (refusals.Load e)) told h =
       ran_image options text (Err (refusals.Load e)) told h.0 h.1 h.2
-  ran_text options text whole accepted (Err refusals.WriteFault) told (image, is, h) =
-      ran_image options text (Err refusals.WriteFault) told image is h
-  ran_text options text whole accepted (Err r) told (image, is, h) = absurd h
+  ran_text options text whole accepted (Err refusals.WriteFault) told h =
+      ran_image options text (Err refusals.WriteFault) told h.0 h.1 h.2
+  ran_text options text whole accepted (Err refusals.Usage) told h = absurd h.2
+  ran_text options text whole accepted (Err refusals.ReadFault) told h = absurd h.2
+  ran_text options text whole accepted (Err (refusals.TooLong most)) told h = absurd h.2
 
   shown : (bytes : List ℕ) (image : Image) → IsImage bytes image
       → (answer : Result CommandOutcome Refusal) → Tells answer
