@@ -33,6 +33,27 @@ fn each_rule_fails(rt: HostRuntime) {
     all_answer(&rt, rt.alloc(), RULES);
 }
 
+/// Code of another compiler, and a frame register, a saved register and an epilogue of `lea`: right
+/// as they stand. Then one byte or two of it: an epilogue gives back 32 of 40 bytes; pops are in
+/// the wrong order; R15 is told of where R14 is pushed; a register is loaded from another place
+/// than it is saved at; `lea` gives back 8 bytes too many; the saved place is above the allocation;
+/// the frame register isn't pushed by the codes.
+const FOREIGN: &str = r"
+check | foreign | 0 yes 4
+check | foreign @ file+341 20 | 16 no 0 0000201A Epilogue
+check | foreign @ file+426 5F 5B | 16 no 1 0000206E Epilogue
+check | foreign @ file+606 F0 | 16 no 2 00002080 Prologue
+check | foreign @ file+556 10 | 16 no 3 000020F5 Epilogue
+check | foreign @ file+560 28 | 16 no 3 000020F5 Epilogue
+check | foreign @ file+613 08 | 16 no 3 000020E0 Codes
+check | foreign @ file+620 30 | 16 no 3 000020E0 Codes
+";
+
+#[test]
+fn foreign_code_keeps_the_rules(rt: HostRuntime) {
+    all_answer(&rt, rt.alloc(), FOREIGN);
+}
+
 /// What is no image, and what has no function table that is read whole; and images that don't load,
 /// for their entry point and for their base, but are checked.
 const REFUSED: &str = r"

@@ -48,6 +48,42 @@ const FRAMED: &str = r"
 00 20 00 00 0D 20 00 00 00 30 00 00
 ";
 
+/// An image of four functions, from 312 of the file on: three as clang 14 wrote them for 64-bit
+/// Windows at -O1, and one with a frame register, a register that `mov` saves and an epilogue of
+/// `lea`, after the example in the ABI ("Prolog code"). Their unwind infos are at 563, the table
+/// behind them.
+const FOREIGN: &str = r"
+'MZ 58*00 40 00 00 00 'PE 00 00
+64 86 02 00 12*00 90 00 23 00 // Machine, NumberOfSections, SizeOfOptionalHeader
+0B 02 22*00 00 00 00 40 01 00 00 00 24*00 00 40 00 00 48*00 // Magic, ImageBase, SizeOfImage
+04 00 00 00 24*00 3C 30 00 00 30 00 00 00 // NumberOfRvaAndSizes, the exception directory
+'.text 00 00 00 FB 00 00 00 00 20 00 00 FB 00 00 00 38 01 00 00 12*00 20 00 00 60
+'.xdata 00 00 6C 00 00 00 00 30 00 00 6C 00 00 00 33 02 00 00 12*00 40 00 00 40
+56 57 48 83 EC 28 // push rsi; push rdi; sub rsp, 40
+89 CE E8 00 00 00 00 89 C7 89 F1 E8 00 00 00 00 01 F7 01 F8 // two calls
+48 83 C4 28 5F 5E C3 15*CC // add rsp, 40; pop rdi; pop rsi; ret
+41 56 56 57 53 48 83 EC 28 // push r14, rsi, rdi, rbx; sub rsp, 40
+85 D2 74 29 89 D6 48 63 C2 4C 8D 34 C1 F7 DE BF 01 00 00 00 31 DB 90 // jz over the loop
+49 0F AF 3C DE 89 F9 E8 00 00 00 00 48 83 C3 FF 39 DE 75 EC EB 05 // the loop
+BF 01 00 00 00 48 89 F8
+48 83 C4 28 5B 5F 5E 41 5E C3 8*CC // add rsp, 40; pop rbx, rdi, rsi, r14; ret
+41 56 56 57 55 53 48 83 EC 20 // push r14, rsi, rdi, rbp, rbx; sub rsp, 32
+44 89 CE 44 89 C7 89 D3 44 8B 74 24 70 // the fifth argument, above the frame
+E8 00 00 00 00 89 C5 89 D9 E8 00 00 00 00 89 C3 01 EB 89 F9 E8 00 00 00 00 89 C7 01 DF 89 F1
+E8 00 00 00 00 89 C6 01 FE 44 89 F1 E8 00 00 00 00 01 F0
+48 83 C4 20 5B 5D 5F 5E 41 5E C3 12*CC // add rsp, 32; pop rbx, rbp, rdi, rsi, r14; ret
+55 48 83 EC 40 48 8D 6C 24 20 48 89 74 24 38 // push rbp; sub rsp, 64; lea rbp, [rsp + 32]; save
+31 F6 48 8B 75 18 48 8D 65 20 5D C3 // xor esi, esi; load; lea rsp, [rbp + 32]; pop rbp; ret
+01 06 03 00 06 42 02 70 01 60 00 00
+01 09 05 00 09 42 05 30 04 70 03 60 02 E0 00 00
+01 0A 06 00 0A 32 06 30 05 50 04 70 03 60 02 E0
+01 0F 05 25 0F 64 07 00 0A 03 05 72 01 50 00 00
+00 20 00 00 21 20 00 00 00 30 00 00
+30 20 00 00 78 20 00 00 0C 30 00 00
+80 20 00 00 D4 20 00 00 1C 30 00 00
+E0 20 00 00 FB 20 00 00 2C 30 00 00
+";
+
 /// An image of one library and five imports: the descriptors are at 0x1000, the lookup table at
 /// 0x1040, the slots at 0x1080, the names at 0x10B0 and the code at 0x1128, which puts what is in
 /// each of the five slots by a call through the last one, and returns 7.
@@ -141,6 +177,7 @@ fn unchanged(rt: &impl Abort, alloc: Global, input: &str) -> Vec<u8> {
         "bytes" => spelled(rt, alloc, rest),
         "tables" => spelled(rt, alloc, TABLES),
         "framed" => spelled(rt, alloc, FRAMED),
+        "foreign" => spelled(rt, alloc, FOREIGN),
         "importing" => spelled(rt, alloc, IMPORTING),
         "code" => image(alloc, PLAIN, &spelled(rt, alloc, rest)).expect(rt, "memory"),
         _ => named(alloc, kind).expect(rt, "memory"),
