@@ -39,6 +39,7 @@ impl InstructionCache {
 
     /// The instruction that is kept of an address: the one that is read there in each memory that
     /// the cache agrees with.
+    #[inline(always)]
     pub fn kept(&self, at: u64) -> Option<&DecodedInstruction>
         ensures { IfSome result (λ e. (m : Memory) → IsCoherent m self.now
             → leading (executable m LONGEST_INSTRUCTION at) ≡ Some (e.now.instr, e.now.len)) }
@@ -51,6 +52,7 @@ impl InstructionCache {
 
     /// The instruction that is read at an address, with its length. It is kept, in place of an
     /// earlier one at its index, where no run of a program can change it.
+    #[inline(never)]
     pub fn read<S: AddressSpace>(&mut self, space: &S, at: u64) -> Option<(Instr, usize)>
         requires { IsCoherent (S.memory space.now) self.old }
         ensures instruction { result

@@ -9,12 +9,12 @@ use crate::cache::InstructionCache;
 use host_layout::range::{HOST_PAGE_END, HOST_PAGE_START};
 use x64_instr::instruction::Instr;
 use x64_machine::cpu::Cpu;
-use x64_machine::running::execute;
+use x64_machine::running::run;
 use x64_memory::space::AddressSpace;
 
-/// Whether an instruction of so many bytes at RIP could be run. Else registers and memory are as
-/// before.
-fn run<S: AddressSpace>(cpu: &mut Cpu, space: &mut S, instr: &Instr, len: usize) -> bool
+/// Runs an instruction of so many bytes at RIP, and answers whether it could be run. Else registers
+/// and memory are as before.
+fn runs<S: AddressSpace>(cpu: &mut Cpu, space: &mut S, instr: &Instr, len: usize) -> bool
     ensures answer { result ≡ is_ok
         (spec.execute (spec.state cpu.old (S.memory space.old)) (Some (instr.now, len))) }
     ensures cpu { cpu.new ≡ spec.cpu_after cpu.old
@@ -22,11 +22,8 @@ fn run<S: AddressSpace>(cpu: &mut Cpu, space: &mut S, instr: &Instr, len: usize)
     ensures memory { LeavesMemory (S.memory space.old) (S.memory space.new)
         (spec.execute (spec.state cpu.old (S.memory space.old)) (Some (instr.now, len))) }
 {
-    match execute(*cpu, space, instr, len) {
-        Ok(after) => {
-            *cpu = after;
-            true
-        }
+    match run(cpu, space, instr, len) {
+        Ok(()) => true,
         Err(_) => false,
     }
 }
@@ -51,10 +48,10 @@ pub fn step<S: AddressSpace>(cpu: &mut Cpu, space: &mut S, cache: &mut Instructi
         return false;
     }
     if let Some(entry) = cache.kept(at) {
-        return run(cpu, space, &entry.instr, entry.len);
+        return runs(cpu, space, &entry.instr, entry.len);
     }
     match cache.read(space, at) {
-        Some((instr, len)) => run(cpu, space, &instr, len),
+        Some((instr, len)) => runs(cpu, space, &instr, len),
         None => false,
     }
 }

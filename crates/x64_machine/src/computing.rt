@@ -3,6 +3,7 @@
 ghost use Rattle.std.specs.Prelude.{◌≡◌, ◌<◌};
 ghost use Rattle.seh_num.specs.Widths.{limit};
 ghost use Rattle.x64_instr.specs.Families.{IsComputation};
+ghost use Rattle.x64_instr.specs.declared.operand.RegisterOrMemory.TheVariants as places;
 ghost use Rattle.x64_machine.specs.Effect as spec;
 ghost use Rattle.x64_machine.specs.Effect.{LeavesMemory, cpu_after, done_of};
 
@@ -19,6 +20,7 @@ use x64_instr::operand::{Operand, RegisterOrMemory};
 use x64_instr::register::Reg;
 use x64_memory::space::AddressSpace;
 
+#[inline(always)]
 fn computed(operation: Operation, width: Width, first: u64, second: u64) -> (u64, Flags)
     requires { second < limit width }
     ensures { result ≡ spec.computed operation width first second }
@@ -32,7 +34,33 @@ fn computed(operation: Operation, width: Width, first: u64, second: u64) -> (u64
     }
 }
 
-fn change<S: AddressSpace>(
+/// A register takes the result.
+#[inline(always)]
+fn change_register<S: AddressSpace>(
+    cpu: &mut Cpu,
+    space: &S,
+    operation: Operation,
+    width: Width,
+    to: Reg,
+    from: &Operand,
+) -> Result<(), Stop>
+    ensures answer { result ≡ done_of (spec.change
+        (spec.state cpu.old (S.memory space.now)) operation width (places.Register to) from.now) }
+    ensures cpu { cpu.new ≡ cpu_after cpu.old (spec.change
+        (spec.state cpu.old (S.memory space.now)) operation width (places.Register to) from.now) }
+    ensures memory { LeavesMemory (S.memory space.now) (S.memory space.now) (spec.change
+        (spec.state cpu.old (S.memory space.now)) operation width (places.Register to) from.now) }
+{
+    let second = operand(cpu, space, width, from)?;
+    let first = zero_extend(width, cpu.register(to));
+    let (value, flags) = computed(operation, width, first, second);
+    cpu.set_register(width, to, value);
+    cpu.flags = flags;
+    Ok(())
+}
+
+/// A place in memory takes the result.
+fn change_memory<S: AddressSpace>(
     cpu: &mut Cpu,
     space: &mut S,
     operation: Operation,
@@ -54,7 +82,31 @@ fn change<S: AddressSpace>(
     write_both(cpu, space, width, to, value, flags)
 }
 
+fn change<S: AddressSpace>(
+    cpu: &mut Cpu,
+    space: &mut S,
+    operation: Operation,
+    width: Width,
+    to: &RegisterOrMemory,
+    from: &Operand,
+) -> Result<(), Stop>
+    ensures answer { result ≡ done_of
+        (spec.change (spec.state cpu.old (S.memory space.old)) operation width to.now from.now) }
+    ensures cpu { cpu.new ≡ cpu_after cpu.old
+        (spec.change (spec.state cpu.old (S.memory space.old)) operation width to.now from.now) }
+    ensures memory { LeavesMemory (S.memory space.old) (S.memory space.new)
+        (spec.change (spec.state cpu.old (S.memory space.old)) operation width to.now from.now) }
+{
+    match to {
+        RegisterOrMemory::Register(register) => {
+            change_register(cpu, space, operation, width, *register, from)
+        }
+        RegisterOrMemory::Memory(_) => change_memory(cpu, space, operation, width, to, from),
+    }
+}
+
 /// The flags alone.
+#[inline(always)]
 fn compare<S: AddressSpace>(
     cpu: &mut Cpu,
     space: &S,
@@ -89,7 +141,8 @@ fn is_compare(operation: Operation) -> bool
     }
 }
 
-fn arithmetic<S: AddressSpace>(
+#[inline(always)]
+pub(crate) fn arithmetic<S: AddressSpace>(
     cpu: &mut Cpu,
     space: &mut S,
     operation: Operation,

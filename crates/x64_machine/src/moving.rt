@@ -2,6 +2,7 @@
 
 ghost use Rattle.std.specs.Prelude.{◌≡◌};
 ghost use Rattle.x64_instr.specs.Families.{IsMove};
+ghost use Rattle.x64_instr.specs.declared.instruction.Instr.TheVariants as instrs;
 ghost use Rattle.x64_machine.specs.Effect as spec;
 ghost use Rattle.x64_machine.specs.Effect.{LeavesMemory, cpu_after, done_of};
 
@@ -12,6 +13,7 @@ use crate::outcome::Stop;
 use seh_num::extension::{sign_extend, wrap, zero_extend};
 use seh_num::width::Width;
 use x64_instr::instruction::{Extension, Instr};
+use x64_instr::operand::{Operand, RegisterOrMemory};
 use x64_instr::register::Reg;
 use x64_memory::space::AddressSpace;
 
@@ -36,6 +38,26 @@ fn widened(extension: Extension, width: Width, narrow: Width, value: u64) -> u64
     }
 }
 
+/// MOV.
+#[inline(always)]
+pub(crate) fn move_operand<S: AddressSpace>(
+    cpu: &mut Cpu,
+    space: &mut S,
+    width: Width,
+    to: &RegisterOrMemory,
+    from: &Operand,
+) -> Result<(), Stop>
+    ensures answer { result ≡ done_of
+        (spec.effect (spec.state cpu.old (S.memory space.old)) (instrs.Move width to.now from.now)) }
+    ensures cpu { cpu.new ≡ cpu_after cpu.old
+        (spec.effect (spec.state cpu.old (S.memory space.old)) (instrs.Move width to.now from.now)) }
+    ensures memory { LeavesMemory (S.memory space.old) (S.memory space.new)
+        (spec.effect (spec.state cpu.old (S.memory space.old)) (instrs.Move width to.now from.now)) }
+{
+    let value = operand(cpu, space, width, from)?;
+    write(cpu, space, width, to, value)
+}
+
 /// What an instruction does that puts a value into a place.
 pub(crate) fn move_effect<S: AddressSpace>(
     cpu: &mut Cpu,
@@ -51,10 +73,7 @@ pub(crate) fn move_effect<S: AddressSpace>(
         (spec.effect (spec.state cpu.old (S.memory space.old)) instr.now) }
 {
     match instr {
-        Instr::Move { width, to, from } => {
-            let value = operand(cpu, space, *width, from)?;
-            write(cpu, space, *width, to, value)
-        }
+        Instr::Move { width, to, from } => move_operand(cpu, space, *width, to, from),
         Instr::Extend {
             extension,
             width,

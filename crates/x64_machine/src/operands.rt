@@ -74,6 +74,7 @@ pub(crate) fn refusal(access: RefusedAccess) -> Stop
     }
 }
 
+#[inline(always)]
 pub(crate) fn load<S: AddressSpace>(space: &S, at: u64, width: Width) -> Result<u64, Stop>
     ensures value { result ≡ spec.load (S.memory space.now) at width }
     ensures fits { IfOk result (λ v. v < limit width) }
@@ -84,6 +85,7 @@ pub(crate) fn load<S: AddressSpace>(space: &S, at: u64, width: Width) -> Result<
     }
 }
 
+#[inline(always)]
 pub(crate) fn store<S: AddressSpace>(
     space: &mut S,
     at: u64,
@@ -99,6 +101,7 @@ pub(crate) fn store<S: AddressSpace>(
     }
 }
 
+#[inline(always)]
 pub(crate) fn read<S: AddressSpace>(
     cpu: &Cpu,
     space: &S,
@@ -114,6 +117,7 @@ pub(crate) fn read<S: AddressSpace>(
     }
 }
 
+#[inline(always)]
 pub(crate) fn operand<S: AddressSpace>(
     cpu: &Cpu,
     space: &S,
@@ -131,6 +135,7 @@ pub(crate) fn operand<S: AddressSpace>(
 }
 
 #[tactic(auto, using(crate::proofs::Storing::storing))]
+#[inline(always)]
 pub(crate) fn write<S: AddressSpace>(
     cpu: &mut Cpu,
     space: &mut S,
@@ -158,6 +163,8 @@ pub(crate) fn write<S: AddressSpace>(
 }
 
 /// A result and its flags; neither where the place can't be written.
+#[inline(always)]
+#[tactic(auto, using(crate::proofs::Storing::storing))]
 pub(crate) fn write_both<S: AddressSpace>(
     cpu: &mut Cpu,
     space: &mut S,
@@ -173,17 +180,18 @@ pub(crate) fn write_both<S: AddressSpace>(
     ensures memory { LeavesMemory (S.memory space.old) (S.memory space.new) (spec.write
         (spec.with_flags (spec.state cpu.old (S.memory space.old)) flags) width to.now value) }
 {
-    let before = cpu.flags;
-    cpu.flags = flags;
-    match write(cpu, space, width, to, value) {
-        Ok(()) => Ok(()),
-        Err(stop) => {
-            cpu.flags = before;
-            Err(stop)
+    match to {
+        RegisterOrMemory::Register(register) => cpu.set_register(width, *register, value),
+        RegisterOrMemory::Memory(place) => {
+            let at = cpu.address(place);
+            store(space, at, width, value)?;
         }
     }
+    cpu.flags = flags;
+    Ok(())
 }
 
+#[inline(always)]
 pub(crate) fn may_change<S: AddressSpace>(
     cpu: &Cpu,
     space: &S,

@@ -1,6 +1,6 @@
 ghost use Rattle.std.specs.Prelude.{◌≡◌, Some};
 ghost use Rattle.x64_machine.specs.Effect as spec;
-ghost use Rattle.x64_machine.specs.Effect.{IsCpuOf, LeavesMemory};
+ghost use Rattle.x64_machine.specs.Effect.{IsCpuOf, LeavesMemory, cpu_after, done_of};
 ghost use Rattle.host_layout.specs.Services.{service_at};
 
 use crate::cpu::Cpu;
@@ -33,8 +33,33 @@ fn hosted(address: u64) -> Stop
     }
 }
 
-/// What an instruction of so many bytes does at RIP. INT3 and UD2 can't be run. After a stop the
-/// memory is as before.
+/// Runs an instruction of so many bytes at RIP. INT3 and UD2 can't be run. After a stop registers
+/// and memory are as before.
+pub fn run<S: AddressSpace>(
+    cpu: &mut Cpu,
+    space: &mut S,
+    instr: &Instr,
+    len: usize,
+) -> Result<(), Stop>
+    ensures answer { result ≡ done_of
+        (spec.execute (spec.state cpu.old (S.memory space.old)) (Some (instr.now, len))) }
+    ensures cpu { cpu.new ≡ cpu_after cpu.old
+        (spec.execute (spec.state cpu.old (S.memory space.old)) (Some (instr.now, len))) }
+    ensures memory { LeavesMemory (S.memory space.old) (S.memory space.new)
+        (spec.execute (spec.state cpu.old (S.memory space.old)) (Some (instr.now, len))) }
+{
+    let at = cpu.rip;
+    cpu.rip = at.wrapping_add(len as u64);
+    match effect(cpu, space, instr) {
+        Ok(()) => Ok(()),
+        Err(stop) => {
+            cpu.rip = at;
+            Err(stop)
+        }
+    }
+}
+
+/// The registers after an instruction of so many bytes at RIP, as `run` leaves them.
 pub fn execute<S: AddressSpace>(
     cpu: Cpu,
     space: &mut S,
@@ -47,8 +72,7 @@ pub fn execute<S: AddressSpace>(
         (spec.execute (spec.state cpu (S.memory space.old)) (Some (instr.now, len))) }
 {
     let mut next = cpu;
-    next.rip = cpu.rip.wrapping_add(len as u64);
-    match effect(&mut next, space, instr) {
+    match run(&mut next, space, instr, len) {
         Ok(()) => Ok(next),
         Err(stop) => Err(stop),
     }
@@ -74,13 +98,8 @@ pub fn step<S: AddressSpace>(cpu: &mut Cpu, space: &mut S) -> StepOutcome
     let Some((instr, len)) = decode(&bytes[..count]) else {
         return StepOutcome::Illegal;
     };
-    let at = cpu.rip;
-    cpu.rip = at.wrapping_add(len as u64);
-    match effect(cpu, space, &instr) {
+    match run(cpu, space, &instr, len) {
         Ok(()) => StepOutcome::Next,
-        Err(stop) => {
-            cpu.rip = at;
-            refused(stop)
-        }
+        Err(stop) => refused(stop),
     }
 }

@@ -40,9 +40,10 @@ fn product_fits(width: Width, first: i64, second: i64) -> bool
     is_signed(width, i128::from(first) * i128::from(second))
 }
 
-/// A sum (Intel manual, volume 2, ADD).
+/// A sum, where the width is known.
+#[inline(always)]
 #[tactic(auto, unfolding(crate::specs::Words::added))]
-pub fn add(width: Width, first: u64, second: u64) -> (u64, Flags)
+fn sum_of(width: Width, first: u64, second: u64) -> (u64, Flags)
     ensures { result ≡ spec.added width first second }
 {
     let whole = u128::from(first) + u128::from(second);
@@ -52,9 +53,22 @@ pub fn add(width: Width, first: u64, second: u64) -> (u64, Flags)
     (sum, flags)
 }
 
-/// A difference (Intel manual, volume 2, SUB).
+/// A sum (Intel manual, volume 2, ADD). Each width has code of its own.
+pub fn add(width: Width, first: u64, second: u64) -> (u64, Flags)
+    ensures { result ≡ spec.added width first second }
+{
+    match width {
+        Width::W8 => sum_of(Width::W8, first, second),
+        Width::W16 => sum_of(Width::W16, first, second),
+        Width::W32 => sum_of(Width::W32, first, second),
+        Width::W64 => sum_of(Width::W64, first, second),
+    }
+}
+
+/// A difference, where the width is known.
+#[inline(always)]
 #[tactic(auto, unfolding(crate::specs::Words::subtracted))]
-pub fn subtract(width: Width, first: u64, second: u64) -> (u64, Flags)
+fn difference_of(width: Width, first: u64, second: u64) -> (u64, Flags)
     requires { second < limit width }
     ensures { result ≡ spec.subtracted width first second }
 {
@@ -63,6 +77,19 @@ pub fn subtract(width: Width, first: u64, second: u64) -> (u64, Flags)
     let fits = difference_fits(width, sign_extend(width, first), sign_extend(width, second));
     let flags = flags_of(width, difference, first < second, !fits);
     (difference, flags)
+}
+
+/// A difference (Intel manual, volume 2, SUB). Each width has code of its own.
+pub fn subtract(width: Width, first: u64, second: u64) -> (u64, Flags)
+    requires { second < limit width }
+    ensures { result ≡ spec.subtracted width first second }
+{
+    match width {
+        Width::W8 => difference_of(Width::W8, first, second),
+        Width::W16 => difference_of(Width::W16, first, second),
+        Width::W32 => difference_of(Width::W32, first, second),
+        Width::W64 => difference_of(Width::W64, first, second),
+    }
 }
 
 /// A signed product's low half; CF and OF say that the product doesn't fit, ZF and SF stay (Intel

@@ -29,8 +29,9 @@ pub struct PageMap {
     ghost arena: { HasArena (page_numbered stretches.items pages.items) },
 }
 
-/// Writes the low bytes of a number into a page, the lowest first.
-fn put_number(bytes: &mut [u8], from: usize, count: usize, value: u64)
+/// Writes so many low bytes of a number into a page, the lowest first.
+#[inline(always)]
+fn put_bytes(bytes: &mut [u8], from: usize, count: usize, value: u64)
     requires few { count ≤ 8 }
     requires within { from + count ≤ length bytes.old }
     ensures { (i : ℕ) → slice_index bytes.new i ≡ page_with_number bytes.old from count value i }
@@ -39,6 +40,22 @@ fn put_number(bytes: &mut [u8], from: usize, count: usize, value: u64)
     for i in 0..count {
         bytes[from + i] = (rest % 256) as u8;
         rest /= 256;
+    }
+}
+
+/// Writes the low bytes of a number into a page. Where the count is known, one store is made of
+/// them.
+#[inline(always)]
+fn put_number(bytes: &mut [u8], from: usize, width: Width, value: u64)
+    requires { from + bytes_of width ≤ length bytes.old }
+    ensures { (i : ℕ) → slice_index bytes.new i
+        ≡ page_with_number bytes.old from (bytes_of width) value i }
+{
+    match width {
+        Width::W8 => put_bytes(bytes, from, 1, value),
+        Width::W16 => put_bytes(bytes, from, 2, value),
+        Width::W32 => put_bytes(bytes, from, 4, value),
+        Width::W64 => put_bytes(bytes, from, 8, value),
     }
 }
 
@@ -131,6 +148,7 @@ impl PageMap {
     }
 
     /// Where the page of an address is kept.
+    #[inline(always)]
     fn index(&self, at: u64) -> Option<usize>
         ensures value { result ≡ index_of self.now.stretches.items (at / PAGE) }
         ensures within { IfSome result (λ i. i < length self.now.pages.items) }
@@ -175,6 +193,7 @@ impl PageMap {
 impl Paged for PageMap {
     ghost memory = { λ s. paged (page_numbered s.stretches.items s.pages.items) };
 
+    #[inline(always)]
     fn rest_of_page(&self, at: u64) -> (Protection, &[u8]) {
         match self.index(at) {
             None => (UNMAPPED, &[]),
@@ -188,15 +207,11 @@ impl Paged for PageMap {
     fn put(&mut self, at: u64, width: Width, value: u64) {
         if let Some(index) = self.index(at) {
             let page = &mut self.pages[index];
-            put_number(
-                &mut page.bytes,
-                (at % PAGE) as usize,
-                width.bytes() as usize,
-                value,
-            );
+            put_number(&mut page.bytes, (at % PAGE) as usize, width, value);
         }
     }
 
+    #[inline(always)]
     fn put_if(&mut self, at: u64, width: Width, value: u64) -> bool {
         match self.index(at) {
             None => false,
@@ -210,7 +225,7 @@ impl Paged for PageMap {
                     return false;
                 }
                 let page = &mut self.pages[index];
-                put_number(&mut page.bytes, from, count, value);
+                put_number(&mut page.bytes, from, width, value);
                 true
             }
         }
@@ -226,16 +241,19 @@ impl CodeSpace for PageMap {
 }
 
 impl ReadSpace for PageMap {
+    #[inline(always)]
     fn load(&self, at: u64, width: Width) -> Result<u64, RefusedAccess> {
         paged::load(self, at, width)
     }
 }
 
 impl AddressSpace for PageMap {
+    #[inline(always)]
     fn may_store(&self, at: u64, width: Width) -> Result<(), RefusedAccess> {
         paged::may_store(self, at, width)
     }
 
+    #[inline(always)]
     fn store(&mut self, at: u64, width: Width, value: u64) -> Result<(), RefusedAccess> {
         paged::store(self, at, width, value)
     }

@@ -50,6 +50,7 @@ fn refusal(write: bool, address: u64) -> RefusedAccess
 }
 
 /// The number in the first bytes.
+#[inline(always)]
 fn little_number(bytes: &[u8], width: Width) -> u64
     requires { bytes_of width ≤ length bytes.now }
     ensures { result ≡ little_number (bytes_of width) bytes.now }
@@ -78,6 +79,8 @@ fn byte<P: Paged>(space: &P, at: u64) -> Option<u8>
 
 /// The number at an address, or the first address that can't be read; byte by byte, over the ends
 /// of pages.
+#[cold]
+#[inline(never)]
 fn spread_number<P: Paged>(space: &P, at: u64, count: u64) -> Result<u64, u64>
     requires { count ≤ 8 }
     ensures value { result ≡ number_or_refused (P.memory space.now) count at }
@@ -96,6 +99,7 @@ fn spread_number<P: Paged>(space: &P, at: u64, count: u64) -> Result<u64, u64>
 }
 
 /// The number at an address.
+#[inline(always)]
 pub fn load<P: Paged>(space: &P, at: u64, width: Width) -> Result<u64, RefusedAccess>
     ensures value { result ≡ loaded (P.memory space.now) at width }
     ensures fits { IfOk result (λ v. v < limit width) }
@@ -122,6 +126,8 @@ fn is_writable<P: Paged>(space: &P, at: u64) -> bool
 }
 
 #[tactic(auto, using(crate::proofs::Steps::refused_steps))]
+#[cold]
+#[inline(never)]
 /// The first of some addresses that can't be written.
 fn first_unwritable<P: Paged>(space: &P, at: u64, count: u64) -> Option<u64>
     ensures { result ≡ first_refused (may_write (P.memory space.now)) count at }
@@ -137,6 +143,7 @@ fn first_unwritable<P: Paged>(space: &P, at: u64, count: u64) -> Option<u64>
 }
 
 /// Whether a number may be put at an address.
+#[inline(always)]
 pub fn may_store<P: Paged>(space: &P, at: u64, width: Width) -> Result<(), RefusedAccess>
     ensures { result ≡ stored (P.memory space.now) at width }
 {
@@ -167,7 +174,25 @@ fn spread_store<P: Paged>(space: &mut P, at: u64, count: u64, value: u64)
     }
 }
 
+/// Puts the low bytes of a number at an address, byte by byte.
+#[cold]
+#[inline(never)]
+fn store_apart<P: Paged>(
+    space: &mut P,
+    at: u64,
+    width: Width,
+    value: u64,
+) -> Result<(), RefusedAccess>
+    ensures answer { result ≡ stored (P.memory space.old) at width }
+    ensures after { P.memory space.new ≡ after_store (P.memory space.old) at width value }
+{
+    may_store(space, at, width)?;
+    spread_store(space, at, width.bytes(), value);
+    Ok(())
+}
+
 /// Puts the low bytes of a number at an address.
+#[inline(always)]
 pub fn store<P: Paged>(
     space: &mut P,
     at: u64,
@@ -180,9 +205,7 @@ pub fn store<P: Paged>(
     if space.put_if(at, width, value) {
         return Ok(());
     }
-    may_store(space, at, width)?;
-    spread_store(space, at, width.bytes(), value);
-    Ok(())
+    store_apart(space, at, width, value)
 }
 
 /// The executable bytes from an address on, as many as there are of the longest instruction.

@@ -31,6 +31,7 @@ fn count_ended(stretches: &[Stretch], number: u64) -> usize
 
 /// Where the page of a number is kept; none where no stretch has it. The stretches are searched by
 /// halves.
+#[inline(never)]
 pub fn index_of(stretches: &[Stretch], number: u64) -> Option<usize>
     requires ordered { AreOrdered 0 0 stretches.now }
     requires room { count_from 0 stretches.now < 2 ^ 64 }
@@ -50,6 +51,7 @@ pub fn index_of(stretches: &[Stretch], number: u64) -> Option<usize>
 
 /// Where the page of a number is kept, as `index_of` says; the stretch that likely has it is asked
 /// first.
+#[inline(always)]
 pub fn likely_index_of(stretches: &[Stretch], likely: usize, number: u64) -> Option<usize>
     requires ordered { AreOrdered 0 0 stretches.now }
     requires room { count_from 0 stretches.now < 2 ^ 64 }

@@ -14,10 +14,8 @@ returns-in-Some c =
     let at = sym c.in-Some.ensures.value in
     let had = page_kept s.stretches.items s.pages.items (c.args.at / 4096) i p at
     c.in-Some.ensures.within c.index_mut-page.ensures.value in
-    let count : c.bytes.result ≡ n = c.bytes.ensures.value in
     number_put (page_numbered s.stretches.items s.pages.items) p q n c.args.at c.args.value had
-    (omega arith) (omega arith) (λ j. c.put_number.ensures j
-    ∙ ap (λ m. page_with_number p.bytes (c.args.at % 4096) m c.args.value j) count) refl _
+    (omega arith) (omega arith) c.put_number.ensures refl _
     (page_set s.stretches.items s.pages.items (c.args.at / 4096) i q s.ordered s.count at)
 
 pub returns-in_default : goal.returns-in_default

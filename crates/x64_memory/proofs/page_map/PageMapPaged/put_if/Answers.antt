@@ -37,8 +37,7 @@ returns-else-rest-count-clause-put c t =
     let none = may_store_is m c.args.at c.args.width
     (sym (returns-else-rest-count-clause-granted c t)) in
     number_put pages p q n c.args.at c.args.value had (omega arith) (omega arith)
-    (λ j. c.put_number.ensures j
-    ∙ ap (λ k. page_with_number p.bytes (c.args.at % 4096) k c.args.value j) count) refl _
+    c.put_number.ensures refl _
     (page_set s.stretches.items s.pages.items (c.args.at / 4096) i q s.ordered s.count at)
     ∙ sym (ap (λ o. unless_refused o (with_bytes m (with_number m.byte n c.args.at c.args.value)) m)
     none)

@@ -1,6 +1,6 @@
 use Rattle.std.proofs.Common.{◌/◌, ap, ◌∙◌, arith}
 use Rattle.x64_memory.proofs.Paging.{put_step, digit_later}
-use Rattle.x64_memory.proofs.page_map.put_number.Goals as goal
+use Rattle.x64_memory.proofs.page_map.put_bytes.Goals as goal
 
 pub loop-i-preserved : goal.loop-i-preserved
 loop-i-preserved c = record {

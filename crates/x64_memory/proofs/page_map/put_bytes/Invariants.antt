@@ -1,6 +1,6 @@
 use Rattle.std.proofs.Common.{◌≡◌, ◌/◌, ◌^◌, ℕ, get_or}
 use Rattle.x64_memory.specs.Words.{page_with_number}
-use Rattle.x64_memory.proofs.page_map.put_number.Given as goal
+use Rattle.x64_memory.proofs.page_map.put_bytes.Given as goal
 
 abbrev pub invariant-loop-i : goal.invariant-loop-i
 invariant-loop-i l = record {
