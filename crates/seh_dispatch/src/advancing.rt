@@ -70,6 +70,8 @@ fn arrive<V: Events>(
 }
 
 /// One turn from a state that hasn't ended, whatever it comes to.
+#[cold]
+#[inline(never)]
 fn dispatch<S: AddressSpace, V: Events>(
     tables: &Tables,
     filter: &FuncletFilter,

@@ -39,8 +39,28 @@ fn count_below(funclets: &[Funclet], rva: u64) -> usize
     funclets.partition_point(|f| (f.address as u64) < rva)
 }
 
-/// The event where RIP is a funclet's first byte. The funclets are searched by halves, where the
-/// filter lets the address pass.
+/// The event where RIP is a funclet's first byte. The funclets are searched by halves.
+#[inline(never)]
+fn begun(funclets: &[Funclet], base: u64, cpu: &Cpu) -> Option<Event>
+    requires few { length funclets.now < 2 ^ 32 - 1 }
+    requires ascending { AreAscending 0 funclets.now }
+    ensures { listed result ≡ spec.arrivals cpu.now (distance base cpu.now.rip) 1 funclets.now }
+{
+    let rva = cpu.rip.wrapping_sub(base);
+    let index = count_below(funclets, rva);
+    if index >= funclets.len() {
+        return None;
+    }
+    let funclet = funclets[index];
+    if rva != funclet.address as u64 {
+        return None;
+    }
+    Some(by_kind(cpu, index as u32 + 1, funclet.is_finally))
+}
+
+/// The event where RIP is a funclet's first byte. One is looked for where the filter lets the
+/// address pass.
+#[inline(always)]
 pub fn arrival(filter: &FuncletFilter, funclets: &[Funclet], base: u64, cpu: &Cpu) -> Option<Event>
     requires admitted { Admits filter.now funclets.now }
     requires few { length funclets.now < 2 ^ 32 - 1 }
@@ -51,13 +71,5 @@ pub fn arrival(filter: &FuncletFilter, funclets: &[Funclet], base: u64, cpu: &Cp
     if !filter.may_begin(rva) {
         return None;
     }
-    let index = count_below(funclets, rva);
-    if index >= funclets.len() {
-        return None;
-    }
-    let funclet = funclets[index];
-    if rva != funclet.address as u64 {
-        return None;
-    }
-    Some(by_kind(cpu, index as u32 + 1, funclet.is_finally))
+    begun(funclets, base, cpu)
 }
