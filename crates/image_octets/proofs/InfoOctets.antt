@@ -1,7 +1,7 @@
 -- The unwind info of a frame is written as octets.
-use Rattle.std.proofs.Common.{◌≡◌, ℕ, zero, suc, ◌+◌, ◌-◌, ◌*◌, ◌/◌, ◌%◌, ◌<◌, ◌≤◌, ◌⊎◌, inl, inr, Bool, true, false, cond, leb, List, [], ◌∷◌, ◌++◌, length, length-append, replicate, refl, arith}
+use Rattle.std.proofs.Common.{◌≡◌, ℕ, zero, suc, ◌-◌, ◌/◌, ◌%◌, ◌<◌, ◌≤◌, inl, inr, Bool, true, false, cond, List, [], ◌++◌, length, length-append, replicate, refl, arith}
 use Rattle.std.specs.Prelude.{◌&&◌, ◌==◌, nat_lt, nat_le}
-use Rattle.std.proofs.lemmas.Bool.{cases_lt, leb-true, and_parts, cases_Bool}
+use Rattle.std.proofs.lemmas.Bool.{cases_lt, leb-true, and_parts}
 use Rattle.seh_num.specs.Widths.{if_set}
 use Rattle.pe_image.specs.Numbers.{u16, u32}
 use Rattle.eh_tables.specs.Written.{slot, is_short, is_small, codes_bytes, header, padded, trailer_bytes, trailer_flags, unwind_bytes}

@@ -3,7 +3,6 @@ use Rattle.std.proofs.Common.{ℕ, zero, suc, ◌+◌, ◌*◌, ◌/◌, ◌%◌
 use Rattle.std.specs.Prelude.{◌==◌}
 use Rattle.x64_encode.specs.Words.{Width, W8, W16, W32, W64, bytes_of, low, Reg, Base, Index, RegisterOrMemory, Operation, Condition, Count, Relative, Indirect, Instr, immediate_of, little, is_signed, wide, has_rex, prefixes, opcode_bytes, mode, displacement, sib, at_register, memory_bytes, place_bytes, modrm_bits, modrm, opcode_register, sized_opcode, opcode_extension, unary_opcode_extension, division_opcode_extension, direction_opcode_extension, condition_number, extend_opcode, extend_width, immediate_bytes, arithmetic_bytes, move_bytes, count_bytes, plain_bytes, high_bits, base_number, index_number, scale_number, chosen}
 use Rattle.x64_instr.proofs.RegisterNumbers.{number_small}
-use Rattle.x64_encode.specs.Chosen.{size_prefix, rex, multiply_bytes}
 use Rattle.x64_encode.specs.declared.writing.Opcode.{Opcode}
 use Rattle.x64_encode.specs.declared.writing.Opcode.TheVariants as opcodes
 use Rattle.x64_instr.specs.Registers.{number}

@@ -1,5 +1,5 @@
 -- The bytes of the image of a linked program are octets, where its globals are.
-use Rattle.std.proofs.Common.{ℕ, ◌+◌, List, [], ◌∷◌, ◌++◌, length, Option, Some, None}
+use Rattle.std.proofs.Common.{ℕ, ◌+◌, List, [], ◌∷◌, length, Option, Some, None}
 use Rattle.host_layout.specs.declared.imported.ImportedService.TheVariants.{CSpecificHandler}
 use Rattle.linear_code.specs.declared.program.Region.{Region}
 use Rattle.eh_tables.specs.Written.{unwind_bytes}
@@ -7,8 +7,8 @@ use Rattle.frame_layout.specs.declared.frame.FrameLayout.{FrameLayout}
 use Rattle.frame_layout.specs.Layout.{info_of}
 use Rattle.template_code.specs.Bytes.{spelled}
 use Rattle.image_link.specs.Routines.{RoutineView, routines}
-use Rattle.image_link.specs.Text.{SiteView, own_addresses, routine_size, front_code, first_routine_at, routine_code, routine_bytes, routines_bytes, text_bytes, thunk_at, check_stack_at}
-use Rattle.image_link.specs.Tables.{trailer, scope_records, scope_table, info_bytes_of, info_if, info_bytes, infos, ranges}
+use Rattle.image_link.specs.Text.{SiteView, own_addresses, routine_size, front_code, first_routine_at, routine_code, routine_bytes, routines_bytes, text_bytes, thunk_at}
+use Rattle.image_link.specs.Tables.{trailer, scope_records, scope_table, info_if, info_bytes, infos, ranges}
 use Rattle.image_link.specs.Linked.{first, site, xdata_begin, linked}
 use Rattle.image_octets.specs.OctetLaws.{AreOctets, LinkedAreOctets}
 use Rattle.image_octets.proofs.Octets.{joined}

@@ -1,5 +1,5 @@
 -- The bytes of the image of a program are octets, where those of its parts are.
-use Rattle.std.proofs.Common.{◌≡◌, ℕ, ◌+◌, ◌%◌, ◌<◌, Bool, true, ltb, List, [], ◌∷◌, ◌++◌, length, refl}
+use Rattle.std.proofs.Common.{◌≡◌, ℕ, ◌+◌, ◌%◌, Bool, true, ltb, List, [], ◌∷◌, ◌++◌, length, refl}
 use Rattle.std.specs.Prelude.{◌&&◌}
 use Rattle.std.specs.List.{flat_map}
 use Rattle.std.proofs.lemmas.Bool.{ltb-true, and_parts}
@@ -15,7 +15,7 @@ use Rattle.pe_write.specs.Program.{ImageContents, sizes_of, rdata_at, parts_of}
 use Rattle.pe_write.specs.Written.{written}
 use Rattle.image_octets.specs.OctetLaws.{AreOctets}
 use Rattle.image_octets.proofs.Octets.{joined, mapped, four_bytes, eight_bytes, zero_bytes}
-use Rattle.image_octets.proofs.WrittenOctets.{HasOctets, written_octets}
+use Rattle.image_octets.proofs.WrittenOctets.{written_octets}
 
 -- ---- constants
 

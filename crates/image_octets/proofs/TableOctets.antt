@@ -1,14 +1,13 @@
 -- Unwind infos, scope tables and function tables are written as octets.
-use Rattle.std.proofs.Common.{ℕ, zero, suc, ◌+◌, ◌-◌, ◌*◌, ◌/◌, ◌%◌, ◌<◌, ◌≤◌, Bool, true, false, List, [], ◌∷◌, ◌++◌, length, replicate, arith}
+use Rattle.std.proofs.Common.{List, ◌++◌, length}
 use Rattle.std.specs.List.{flat_map}
-use Rattle.seh_num.specs.Widths.{if_set}
 use Rattle.eh_tables.specs.Written.{u32, range_bytes, table_bytes, scope_record_bytes, scope_bytes, trailer_bytes}
 use Rattle.eh_tables.specs.declared.range.RuntimeFunction.{RuntimeFunction}
 use Rattle.eh_tables.specs.declared.scope.ScopeRecord.{ScopeRecord}
 use Rattle.eh_tables.specs.declared.unwind_info.Trailer.{Trailer}
 use Rattle.eh_tables.specs.declared.unwind_info.Trailer.TheVariants.{Nothing, Handler, Parent}
 use Rattle.image_octets.specs.OctetLaws.{AreOctets}
-use Rattle.image_octets.proofs.Octets.{joined, mapped, repeated, two_bytes, four_bytes}
+use Rattle.image_octets.proofs.Octets.{joined, mapped, four_bytes}
 
 range_octets : (r : RuntimeFunction) → AreOctets (range_bytes r)
 range_octets r = joined (u32 r.begin ++ u32 r.end) (u32 r.unwind_info)
