@@ -1,6 +1,6 @@
 -- What the machine of a program comes to is what the program means.
 use Rattle.std.proofs.Common.{◌≡◌, ℕ, List, refl, sym, ap, ◌∙◌, subst}
-use Rattle.std.specs.Prelude.{ℤ, Option, slice_get, false}
+use Rattle.std.specs.Prelude.{ℤ, Option, slice_get, false, []}
 use Rattle.seh_num.specs.declared.event.Event.{Event}
 use Rattle.c_checked.specs.Program.{Program}
 use Rattle.source_meaning.specs.declared.ended.Ended.{Ended}
@@ -12,6 +12,10 @@ use Rattle.source_machine.specs.Frames as frames
 use Rattle.source_machine.specs.Machine.{Machine}
 use Rattle.source_machine.specs.FrameMeanings.{comes_to}
 use Rattle.source_machine.specs.Runs.{beginning}
+use Rattle.seh_io.specs.Writer.{TookEvents}
+use Rattle.seh_io.specs.Successive.{took_none}
+use Rattle.seh_io.specs.declared.receiver.Lines.{Lines}
+use Rattle.seh_num.specs.Shown.{Shown}
 use Rattle.c_meaning.specs.Runs.{Ran, ShownPart, Means, MeansPart, end_of}
 
 -- what a program does first: it calls `main`
@@ -45,6 +49,12 @@ shows_end : (o : Outcome) → (shows o).end ≡ end_of (how_of o)
 shows_end (Gives (Value v) st) = refl
 shows_end (Gives (End e) st) = refl
 shows_end (Gives how st) = refl
+
+-- nothing is the front of what a program shows
+pub nothing_shown : {X : Type 0} (taken : X → Option (List ℕ)) (faults : X → ℕ) (x : Lines X)
+    (meant : Shown Ended) → MeansPart (TookEvents taken faults) meant x x
+nothing_shown taken faults x meant =
+    record { shown = []; took_shown = took_none taken faults x; front = (meant.events, refl) }
 
 module _ {X : Type 0} (took : X → List Event → X → Type 0) (p : Program) (arg : ℤ) (n : ℕ)
     (m : Machine) (is : comes_to p (does p) m ≡ ran p arg n) (x y : X) where

@@ -1,23 +1,28 @@
 -- Where a run has come, and what it has shown.
-use Rattle.std.proofs.Common.{◌≡◌, ℕ, ◌<◌, List, [], ◌++◌, refl, sym, ap, ◌∙◌, subst}
-use Rattle.std.specs.Prelude.{false, Option, Some, None, MatchOption, OnErr, Result as Result', Ok}
+use Rattle.std.proofs.Common.{◌≡◌, ℕ, zero, suc, ◌<◌, List, [], ◌++◌, refl, sym, ap, ◌∙◌, subst}
+use Rattle.std.specs.Prelude.{true, false, Option, Some, None, MatchOption, OnErr, Result as Result', Ok}
 use Rattle.std.specs.Prelude.{Err}
 use Rattle.std.proofs.lemmas.List.{append-nil}
 use Rattle.seh_num.specs.declared.event.Event.{Event}
 use Rattle.c_checked.specs.Program.{Program}
-use Rattle.source_meaning.specs.State.{Result, Outcome, state_of}
+use Rattle.source_meaning.specs.State.{Outcome, state_of}
 use Rattle.source_meaning.specs.Meaning.{does}
 use Rattle.source_meaning.specs.Laws.{IsPrefixOf}
 use Rattle.source_machine.specs.Frames.{Next}
-use Rattle.source_machine.specs.Machine.{Machine}
+use Rattle.source_machine.specs.Machine.{Machine, step}
 use Rattle.source_machine.specs.FrameMeanings.{comes_to}
+use Rattle.source_machine.specs.Runs.{after}
 use Rattle.source_machine.specs.StepLaws.{is_over, distance}
 use Rattle.source_machine.proofs.StepKeeping.{keeps_meaning}
 use Rattle.source_machine.proofs.StepDistance.{decreases}
 use Rattle.source_machine.proofs.WholeRuns.{shows_before}
 use Rattle.source_steps.specs.declared.machine.Machine.{Machine as Machine'}
 use Rattle.source_steps.specs.Machines.{machine_of}
-use Rattle.c_meaning.specs.Runs.{Turned, ShownPart}
+use Rattle.seh_io.specs.Writer.{TookEvents}
+use Rattle.seh_io.specs.declared.receiver.Lines.{Lines}
+use Rattle.c_meaning.specs.declared.run.RunErr.{RunErr}
+use Rattle.c_meaning.specs.declared.run.RunErr.TheVariants.{Write, Memory}
+use Rattle.c_meaning.specs.Runs.{Turned, ShownPart, Stopped, HasStopped, HasFailed}
 
 -- a fact holds where there is an error
 pub on_err : {A E P : Type 0} (r : Result' A E) → P → OnErr r P
@@ -30,6 +35,12 @@ pub not_over : {T P : Type 0} (Q : T → Type 0) (o : Option T) → MatchOption 
 not_over Q None m n = m
 not_over Q (Some x) m n = absurd (n x refl)
 
+-- a step after some is one more
+after_more : (program : Program) (k : ℕ) (m : Machine)
+    → step program (after program k m) ≡ after program (suc k) m
+after_more program zero m = refl
+after_more program (suc k) m = after_more program k (step program m)
+
 module _ {X : Type 0} (took : X → List Event → X → Type 0) (program : Program) where
   abbrev comes : Machine → Outcome
   comes m = comes_to program (does program) m
@@ -38,11 +49,14 @@ module _ {X : Type 0} (took : X → List Event → X → Type 0) (program : Prog
   pub record Reached (from : Machine) (x : X) (m : Machine') (next : Next) (y : X) : Type 0 where
     pub shown : List Event
     pub took_shown : took x shown y
+    pub steps : ℕ
+    pub is : machine_of m next shown ≡ after program steps from
     pub comes_same : comes (machine_of m next shown) ≡ comes from
 
   pub at_first : (m : Machine') (next : Next) (x : X) → took x [] x
       → Reached (machine_of m next []) x m next x
-  at_first m next x none = record { shown = []; took_shown = none; comes_same = refl }
+  at_first m next x none =
+      record { shown = []; took_shown = none; steps = 0; is = refl; comes_same = refl }
 
   pub one_more : ((x y z : X) (es fs : List Event) → took x es y → took y fs z
       → took x (es ++ fs) z)
@@ -53,6 +67,10 @@ module _ {X : Type 0} (took : X → List Event → X → Type 0) (program : Prog
   one_more more from x m next y m' next' y' r t = record {
     shown = r.shown ++ t.shown;
     took_shown = more x y y' r.shown t.shown r.took_shown t.took_shown;
+    steps = suc r.steps;
+    is =
+        sym (t.stepped r.shown) ∙ ap (step program) r.is
+        ∙ after_more program r.steps from;
     comes_same =
         ap comes (sym (t.stepped r.shown)) ∙ keeps_meaning program (machine_of m next r.shown)
         ∙ r.comes_same;
@@ -64,6 +82,17 @@ module _ {X : Type 0} (took : X → List Event → X → Type 0) (program : Prog
   nearer m next y m' next' y' going t =
       subst (λ (n : ℕ). n < distance (machine_of m next [])) (ap distance (t.stepped []))
       (decreases program (machine_of m next []) going)
+
+  -- what was taken is the front of what is shown
+  pub so_far : (from : Machine) (x : X) (m : Machine') (next : Next) (y : X)
+      → Reached from x m next y → ShownPart took program from x y
+  so_far from x m next y r = record {
+    shown = r.shown;
+    took_shown = r.took_shown;
+    front =
+        subst (λ o. IsPrefixOf r.shown (state_of o).events) r.comes_same
+        (shows_before program (machine_of m next r.shown));
+  }
 
   pub at_most : ((x y z : X) (es fs : List Event) → took x es y → took y fs z → took x (es ++ fs) z)
       → (from : Machine) (x : X) (m : Machine') (next : Next) (y y' : X) → Reached from x m next y
@@ -81,3 +110,33 @@ module _ {X : Type 0} (took : X → List Event → X → Type 0) (program : Prog
       with_nil p =
           subst (λ es. IsPrefixOf es (state_of (comes (machine_of m next r.shown))).events)
           (sym (append-nil r.shown)) p
+
+-- a step whose line failed, after steps whose lines were written
+pub stops : {X : Type 0} (taken : X → Option (List ℕ)) (faults : X → ℕ) (program : Program)
+    (from : Machine) (x : Lines X) (m : Machine') (next : Next) (y : Lines X) (m' : Machine')
+    (next' : Next) (y' : Lines X)
+    → Reached (TookEvents taken faults) program from x m next y
+    → Turned (TookEvents taken faults) program m next y m' next' y'
+    → y.failed ≡ false → y'.failed ≡ true → Stopped taken faults program from x m' y'
+stops taken faults program from x m next y m' next' y' r t is was =
+    let events = ap (λ (k : Machine). k.state.events) r.is in
+    record {
+      steps = r.steps;
+      before = y;
+      took_before = subst (λ es. TookEvents taken faults x es y) events r.took_shown;
+      written = is;
+      next = next';
+      shown = t.shown;
+      took_last = t.took_shown;
+      failed = was;
+      last =
+          sym (after_more program r.steps from) ∙ ap (step program) (sym r.is)
+          ∙ t.stepped r.shown ∙ ap (λ es. machine_of m' next' (es ++ t.shown)) events;
+    }
+
+-- a line has failed where the run was stopped by one
+pub has_failed : {X : Type 0} (taken : X → Option (List ℕ)) (faults : X → ℕ) (program : Program)
+    (from : Machine) (x : Lines X) (m' : Machine') (x' : Lines X) (e : RunErr)
+    → HasStopped e taken faults program from x m' x' → HasFailed e x'.failed
+has_failed taken faults program from x m' x' Write h = h.failed
+has_failed taken faults program from x m' x' Memory h = tt

@@ -1,11 +1,12 @@
 -- Parts of the text of a meaning.
-use Rattle.std.proofs.Common.{◌≡◌, ℕ, List, ◌++◌, refl, sym, ap, ◌∙◌, append_assoc, Option, Some}
+use Rattle.std.proofs.Common.{◌≡◌, ℕ, List, ◌++◌, arith, refl, sym, ap, ◌∙◌, append_assoc, Option, Some}
 use Rattle.std.proofs.Common.{None}
 use Rattle.std.specs.Prelude.{Bool, unwrap_or}
 use Rattle.seh_num.specs.declared.event.Event.{Event}
 use Rattle.seh_num.specs.Shown.{Shown}
 use Rattle.seh_io.specs.Text.{lines}
 use Rattle.seh_io.specs.Successive.{lines_append}
+use Rattle.seh_io.specs.Writer.{Writer, Wrote, TookPart}
 use Rattle.source_meaning.specs.declared.ended.Ended.{Ended}
 use Rattle.source_meaning.specs.declared.ended.Ended.TheVariants.{OutOfSteps}
 use Rattle.c_meaning.specs.Texts.{ended_within, ended_line, text}
@@ -33,3 +34,21 @@ front_of_text trace shown rest events end part others b f =
     ∙ append_assoc (lines trace shown) (lines trace rest) end
     ∙ ap (λ t. t ++ (lines trace rest ++ end)) b
     ∙ append_assoc part others (lines trace rest ++ end)
+
+-- a fresh writer that was given the front of the events has written the front of the text
+pub front_written : (x y : Writer) (trace traced : Bool) (n : ℕ) (meant : Shown Ended)
+    (shown rest : List Event) → traced ≡ trace → shown ++ rest ≡ meant.events
+    → Wrote x (lines traced shown) y → x.count ≡ 0
+    → TookPart x.taken (text trace n meant) y.taken y.count
+front_written x y trace traced n meant shown rest same f w fresh =
+    let end = ended_line (ended_within n meant.end) in
+    record {
+      part = w.part;
+      begins = (
+        w.begins.0 ++ (lines trace rest ++ end),
+        front_of_text trace shown rest meant.events end w.part w.begins.0
+            (ap (λ b. lines b shown) (sym same) ∙ w.begins.1) f,
+      );
+      grew = w.grew;
+      counted = let counted = w.counted in omega arith;
+    }

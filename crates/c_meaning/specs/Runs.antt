@@ -1,9 +1,11 @@
 -- What runs of the machine show, and how they end.
-use Rattle.std.specs.Prelude.{◌≡◌, List, ◌++◌, Option, Some, None}
+use Rattle.std.specs.Prelude.{◌≡◌, ℕ, suc, Bool, true, false, List, ◌++◌, Option, Some, None}
 use Rattle.seh_num.specs.declared.width.Width.TheVariants.{W32}
 use Rattle.seh_num.specs.declared.event.Event.{Event}
 use Rattle.seh_num.specs.Widths.{signed}
 use Rattle.seh_num.specs.Shown.{Shown}
+use Rattle.seh_io.specs.Writer.{TookEvents}
+use Rattle.seh_io.specs.declared.receiver.Lines.{Lines}
 use Rattle.c_checked.specs.Program.{Program}
 use Rattle.source_meaning.specs.declared.ended.Ended.{Ended}
 use Rattle.source_meaning.specs.declared.ended.Ended.TheVariants.{Exit}
@@ -13,8 +15,11 @@ use Rattle.source_meaning.specs.Laws.{IsPrefixOf}
 use Rattle.source_machine.specs.Frames.{Next}
 use Rattle.source_machine.specs.Machine.{Machine, step}
 use Rattle.source_machine.specs.FrameMeanings.{comes_to}
+use Rattle.source_machine.specs.Runs.{after}
 use Rattle.source_steps.specs.declared.machine.Machine.{Machine as Machine'}
 use Rattle.source_steps.specs.Machines.{machine_of}
+use Rattle.c_meaning.specs.declared.run.RunErr.{RunErr}
+use Rattle.c_meaning.specs.declared.run.RunErr.TheVariants.{Write, Memory}
 
 -- a step was made, and the receiver took what it shows
 pub record Turned {X : Type 0} (took : X → List Event → X → Type 0) (program : Program)
@@ -38,6 +43,31 @@ pub record ShownPart {X : Type 0} (took : X → List Event → X → Type 0) (pr
   pub shown : List Event
   pub took_shown : took x shown x'
   pub front : IsPrefixOf shown (state_of (comes_to program (does program) m)).events
+
+-- a line couldn't be written: the lines of all that so many steps show were, and no step was made
+-- after the next one, which shows it
+pub record Stopped {X : Type 0} (taken : X → Option (List ℕ)) (faults : X → ℕ) (program : Program)
+    (m : Machine) (x : Lines X) (m' : Machine') (x' : Lines X) : Type 0 where
+  pub steps : ℕ
+  pub before : Lines X
+  pub took_before : TookEvents taken faults x (after program steps m).state.events before
+  pub written : before.failed ≡ false
+  pub next : Next
+  pub shown : List Event
+  pub took_last : TookEvents taken faults before shown x'
+  pub failed : x'.failed ≡ true
+  pub last : after program (suc steps) m
+      ≡ machine_of m' next ((after program steps m).state.events ++ shown)
+
+abbrev pub HasStopped : {X : Type 0} → RunErr → (X → Option (List ℕ)) → (X → ℕ) → Program
+    → Machine → Lines X → Machine' → Lines X → Type 0
+HasStopped Write taken faults program m x m' x' = Stopped taken faults program m x m' x'
+HasStopped Memory taken faults program m x m' x' = Unit {0}
+
+-- whether a line has failed, after a run that was stopped; want of memory says nothing
+abbrev pub HasFailed : RunErr → Bool → Type 0
+HasFailed Write failed = failed ≡ true
+HasFailed Memory failed = Unit {0}
 
 -- how a program ended, by what its `main` came to
 abbrev pub end_of : Result → Option Ended

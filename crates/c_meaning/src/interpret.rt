@@ -6,7 +6,7 @@ ghost use Rattle.c_checked.specs.Whole as whole;
 ghost use Rattle.source_meaning.specs.Meaning as meaning;
 ghost use Rattle.c_meaning.specs.Texts as texts;
 
-use crate::run::run_program;
+use crate::run::{RunErr, run_program};
 use c_checked::checked::Checked;
 use seh_io::line::{ADDRESS_DIGITS, CODE_DIGITS, Line};
 use seh_io::receiver::Lines;
@@ -58,7 +58,8 @@ fn ended_line(ended: &Ended) -> Line
 /// its end, and answers its end.
 ///
 /// With `trace` each event has its line, else what is put alone. A program that hasn't ended within
-/// the steps is out of steps. After an error the sink has taken a part of the text from the front.
+/// the steps is out of steps. After an error the sink has taken a part of the text from the front;
+/// the run ends at the first line that can't be written.
 pub fn interpret<O: Sink>(
     alloc: Global,
     program: &Checked,
@@ -79,8 +80,12 @@ pub fn interpret<O: Sink>(
     ensures faults { O.faults sink.old ≤ O.faults sink.new }
 {
     let mut lines = Lines::new(sink, trace);
-    let Ok(end) = run_program(alloc, program, arg, budget, &mut lines) else {
-        return Err(MeanErr::Memory);
+    let end = match run_program(alloc, program, arg, budget, &mut lines) {
+        Ok(end) => end,
+        Err(RunErr::Write) => {
+            return Err(MeanErr::Write { taken: lines.taken });
+        }
+        Err(RunErr::Memory) => return Err(MeanErr::Memory),
     };
     let ended = end.unwrap_or(Ended::OutOfSteps { steps: budget });
     lines.put(ended_line(&ended).as_bytes());

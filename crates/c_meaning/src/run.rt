@@ -1,7 +1,8 @@
 //! Whole runs.
 
-ghost use Rattle.std.specs.Prelude.{◌≡◌, ◌≤◌, ◌++◌, [], List, false, IfOk, OnErr, MatchOption, length, Some, option_map, slice_get};
+ghost use Rattle.std.specs.Prelude.{◌≡◌, ◌≤◌, ◌++◌, [], List, false, IfOk, IfErr, OnOk, OnErr, MatchOption, length, Some, option_map, slice_get};
 ghost use Rattle.seh_num.specs.declared.event.Event.{Event as Event'};
+ghost use Rattle.seh_io.specs.Writer.{TookEvents};
 ghost use Rattle.c_checked.specs.Whole as whole;
 ghost use Rattle.source_meaning.specs.Source.{data_end as model_data_end};
 ghost use Rattle.source_meaning.specs.Meaning as meaning;
@@ -11,10 +12,11 @@ ghost use Rattle.source_plans.specs.Views as views;
 ghost use Rattle.source_steps.specs.Machines.{machine_of, state_of};
 ghost use Rattle.source_machine.specs.Runs as model_runs;
 ghost use Rattle.c_meaning.specs.Runs as runs;
-ghost use Rattle.c_meaning.specs.Runs.{Turned, Ran, ShownPart, Means, MeansPart};
+ghost use Rattle.c_meaning.specs.Runs.{Turned, Ran, ShownPart, HasStopped, HasFailed, Means, MeansPart};
 
 use c_checked::checked::Checked;
-use seh_io::receiver::Events;
+use seh_io::receiver::{Events, Lines};
+use seh_io::sink::Sink;
 use seh_num::extension::wrap;
 use seh_num::width::Width;
 use source_meaning::ended::Ended;
@@ -25,6 +27,15 @@ use source_steps::activations::Activations;
 use source_steps::calls::low_signed;
 use source_steps::machine::{Machine, MachineStep};
 use std::alloc::{AllocError, Global};
+
+/// Why a run ended before its end.
+#[derive(Clone, Copy)]
+pub enum RunErr {
+    /// The line of an event couldn't be written.
+    Write,
+    /// The system had no memory left.
+    Memory,
+}
 
 /// How the run ended, if it is over.
 fn finish_of(next: &Next<'_>) -> Option<Finish>
@@ -61,28 +72,42 @@ fn turn<'p, V: Events>(
     }
 }
 
-/// Runs the machine until its run is over; the receiver takes what is shown.
-fn run<'p, V: Events>(
+/// Runs the machine until its run is over, and writes the line of each event. It stops at the
+/// first line that can't be written, and makes no step after the one that shows it.
+fn run<'p, O: Sink>(
     alloc: Global,
     program: &'p Checked,
     data_end: u64,
     machine: &mut Machine<'p>,
     first: Next<'p>,
-    to: &mut V,
-) -> Result<Finish, AllocError>
-    requires { data_end ≡ model_data_end program.now.globals.items }
-    ensures ran { IfOk result (λ how. Ran V.took (whole.program program.now)
-        (machine_of machine.old (views.next_of first.entry) [])
-        (views.finish_of how) to.old to.new) }
-    ensures part { OnErr result (ShownPart V.took (whole.program program.now)
-        (machine_of machine.old (views.next_of first.entry) []) to.old to.new) }
+    lines: &mut Lines<'_, O>,
+) -> Result<Finish, RunErr>
+    requires data { data_end ≡ model_data_end program.now.globals.items }
+    requires fresh { lines.old.failed ≡ false }
+    ensures same_reference { lines.new.sink.ghost_name ≡ lines.old.sink.ghost_name }
+    ensures ran { IfOk result (λ how. Ran (TookEvents O.taken O.faults)
+        (whole.program program.now) (machine_of machine.old (views.next_of first.entry) [])
+        (views.finish_of how) lines.old lines.new) }
+    ensures written { OnOk result (lines.new.failed ≡ false) }
+    ensures part { OnErr result (ShownPart (TookEvents O.taken O.faults)
+        (whole.program program.now) (machine_of machine.old (views.next_of first.entry) [])
+        lines.old lines.new) }
+    ensures stopped { IfErr result (λ e. HasStopped e O.taken O.faults
+        (whole.program program.now) (machine_of machine.old (views.next_of first.entry) [])
+        lines.old machine.new lines.new) }
 {
     let mut next = first;
     loop {
         if let Some(how) = finish_of(&next) {
             return Ok(how);
         }
-        next = turn(alloc, program, data_end, machine, next, to)?;
+        let Ok(after) = turn(alloc, program, data_end, machine, next, lines) else {
+            return Err(RunErr::Memory);
+        };
+        if lines.failed {
+            return Err(RunErr::Write);
+        }
+        next = after;
     }
 }
 
@@ -131,29 +156,41 @@ fn end_of(finish: Finish) -> Option<Ended>
     }
 }
 
-/// Runs a program within some steps; the receiver takes what it shows. No end is the end within
-/// them.
-pub fn run_program<V: Events>(
+/// Runs a program within some steps, and writes the lines of what it shows. No end is the end
+/// within them.
+///
+/// After `Write` no step was made but those up to the one whose line failed.
+pub fn run_program<O: Sink>(
     alloc: Global,
     program: &Checked,
     arg: i64,
     budget: u64,
-    to: &mut V,
-) -> Result<Option<Ended>, AllocError>
-    ensures means { IfOk result (λ end. Means V.took (meaning.meaning
-        (whole.program program.now) arg budget) end to.old to.new) }
-    ensures part { OnErr result (MeansPart V.took (meaning.meaning
-        (whole.program program.now) arg budget) to.old to.new) }
+    lines: &mut Lines<'_, O>,
+) -> Result<Option<Ended>, RunErr>
+    requires { lines.old.failed ≡ false }
+    ensures same_reference { lines.new.sink.ghost_name ≡ lines.old.sink.ghost_name }
+    ensures means { IfOk result (λ end. Means (TookEvents O.taken O.faults) (meaning.meaning
+        (whole.program program.now) arg budget) end lines.old lines.new) }
+    ensures written { OnOk result (lines.new.failed ≡ false) }
+    ensures part { OnErr result (MeansPart (TookEvents O.taken O.faults) (meaning.meaning
+        (whole.program program.now) arg budget) lines.old lines.new) }
+    ensures failed { IfErr result (λ e. HasFailed e lines.new.failed) }
 {
     let place = Place {
         activation: 0,
         exception: NO_EXCEPTION,
         abnormal: false,
     };
-    let arguments = main_arguments(alloc, program, arg)?;
-    let mut machine = first_machine(alloc, program, budget)?;
+    let Ok(arguments) = main_arguments(alloc, program, arg) else {
+        return Err(RunErr::Memory);
+    };
+    let Ok(mut machine) = first_machine(alloc, program, budget) else {
+        return Err(RunErr::Memory);
+    };
     let first = Next::Call(Callee::Defined(program.main), arguments, place);
     let end = data_end(&program.globals);
-    let finish = run(alloc, program, end, &mut machine, first, to)?;
-    Ok(end_of(finish))
+    match run(alloc, program, end, &mut machine, first, lines) {
+        Ok(finish) => Ok(end_of(finish)),
+        Err(error) => Err(error),
+    }
 }

@@ -11,3 +11,4 @@ pub mod Calls
 pub mod MeantCalls
 pub mod CheckedFrames
 pub mod OneVerdict
+pub mod Existence

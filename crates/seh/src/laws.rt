@@ -3,6 +3,7 @@
 ghost use Rattle.seh.specs.Calls.{CompileIsComplete, RunIsComplete, MeaningIsComplete, ShowIsComplete, CheckIsComplete, ExecIsComplete, TextsHaveOneImage, LastLinesAgree, CompiledIsMeant, RunIsMeant};
 ghost use Rattle.seh.specs.CheckLaws.{ImagesHaveOneVerdict, DoneIsYes, CheckedCallersAreFound};
 ghost use Rattle.seh.specs.Completeness.{AcceptedTextsCompile, CompiledImagesRun};
+ghost use Rattle.seh.specs.Existence.{ImagesExist};
 ghost use Rattle.seh.specs.Headline.{Headline, NothingMore, Walks};
 ghost use Rattle.seh.specs.TamePrograms.{TameProgramsWalk, TameProgramsEnd};
 
@@ -26,6 +27,13 @@ pub fn headline()
 pub fn completeness()
     ensures compiles { AcceptedTextsCompile }
     ensures runs { CompiledImagesRun }
+{}
+
+/// Each accepted text of at most 1 MiB has an image: the bytes that its program's linear code is
+/// linked to. That is said of the definitions alone, whatever memory there is. By `meant_calls` it
+/// has no other.
+pub fn images_exist()
+    ensures { ImagesExist }
 {}
 
 /// At every turn of a run of the image, up to its end, the walk over the stack gives exactly the

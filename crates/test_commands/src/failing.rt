@@ -155,3 +155,18 @@ fn each_call_fails(rt: HostRuntime) {
         refuses_at_each(&rt, alloc, command, b"", b"refused NoMain 0\n");
     }
 }
+
+/// A run without an end is over at the first line that isn't taken.
+#[test]
+fn endless_runs_end_at_a_fault(rt: HostRuntime) {
+    let alloc = rt.alloc();
+    let again = b"int main(void){ while (1) put(1); return 0; }";
+    let once = b"int main(void){ put(1); while (1) ; return 0; }";
+    for command in [
+        "run --turns 9000000000000000000",
+        "meaning --turns 9000000000000000000",
+    ] {
+        fails_at_each(&rt, alloc, command, again, b"1\n1\n1\n");
+        fails_at_each(&rt, alloc, command, once, b"1\n");
+    }
+}

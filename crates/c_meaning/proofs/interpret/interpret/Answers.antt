@@ -5,17 +5,17 @@ use Rattle.seh_io.proofs.Writers.{ran_whole, ran_part, same_grew, same_part}
 use Rattle.c_checked.specs.Whole as whole
 use Rattle.source_meaning.specs.Meaning as meaning
 use Rattle.c_meaning.specs.Texts as texts
-use Rattle.c_meaning.proofs.TextLemmas.{whole_text, front_of_text}
+use Rattle.c_meaning.proofs.TextLemmas.{whole_text, front_of_text, front_written}
 use Rattle.c_meaning.proofs.interpret.interpret.Goals as goal
 
-pub returns-in_default-clause-part : goal.returns-in_default-clause-part
-returns-in_default-clause-part g c =
+pub returns-in-Err-Memory-clause-part : goal.returns-in-Err-Memory-clause-part
+returns-in-Err-Memory-clause-part g c =
     let again = to_z w64 (of_z w64 c.args.arg) in
     let shown = meaning.meaning (whole.program c.args.program.now) again c.args.budget in
     let text_is = ap (λ a. texts.text c.args.trace c.args.budget
     (meaning.meaning (whole.program c.args.program.now) a c.args.budget))
     (to_z-of_z w64 c.args.arg c.ranges.arg) in
-    let q = c.in_default.ensures.part in
+    let q = c.in-Err-Memory.ensures.part in
     let w = q.took_shown.wrote in
     let end = texts.ended_line (texts.ended_within c.args.budget shown.end) in (
       w.part,
@@ -26,9 +26,23 @@ returns-in_default-clause-part g c =
             q.front.1,
       ),
       same_grew (g.O.Sink.taken c.new-lines.result.sink.now) (g.O.Sink.taken c.args.sink.now)
-          (g.O.Sink.taken c.run_program.new.to.sink.now) _ w.part w.part
+          (g.O.Sink.taken c.run_program.new.lines.sink.now) _ w.part w.part
           (ap g.O.Sink.taken c.new-lines.ensures.sink) refl (search rules) w.grew,
     )
+
+pub returns-in-Err-Write-clause-part : goal.returns-in-Err-Write-clause-part
+returns-in-Err-Write-clause-part g c =
+    let again = to_z w64 (of_z w64 c.args.arg) in
+    let shown = meaning.meaning (whole.program c.args.program.now) again c.args.budget in
+    let text_is = ap (λ a. texts.text c.args.trace c.args.budget
+    (meaning.meaning (whole.program c.args.program.now) a c.args.budget))
+    (to_z-of_z w64 c.args.arg c.ranges.arg) in
+    let q = c.in-Err-Write.ensures.part in
+    same_part (g.O.Sink.taken c.new-lines.result.sink.now) (g.O.Sink.taken c.args.sink.now)
+    (g.O.Sink.taken c.run_program.new.lines.sink.now) _ _ _ c.run_program.new.lines.taken
+    (ap g.O.Sink.taken c.new-lines.ensures.sink) text_is (search rules)
+    (front_written _ _ c.args.trace c.new-lines.result.trace c.args.budget shown q.shown q.front.0
+    c.new-lines.ensures.trace q.front.1 q.took_shown.wrote c.new-lines.ensures.taken)
 
 pub returns-in-Ok-outcome-clause-text : goal.returns-in-Ok-outcome-clause-text
 returns-in-Ok-outcome-clause-text g c =

@@ -1,4 +1,5 @@
-use Rattle.std.proofs.Common.{[]}
+use Rattle.std.proofs.Common.{◌≡◌, false, []}
+use Rattle.seh_io.specs.Writer.{TookEvents}
 use Rattle.c_checked.specs.Whole as whole
 use Rattle.source_machine.specs.StepLaws.{distance}
 use Rattle.source_plans.specs.Views.{next_of}
@@ -8,9 +9,10 @@ use Rattle.c_meaning.proofs.run.run.Given as goal
 
 abbrev pub invariant-loop-how : goal.invariant-loop-how
 invariant-loop-how g l =
-    Reached g.V.Events.took (whole.program l.program)
-    (machine_of l.initial.machine (next_of l.initial.next) []) l.initial.to l.machine
-    (next_of l.next) l.to
+    Reached (TookEvents g.O.Sink.taken g.O.Sink.faults) (whole.program l.program)
+    (machine_of l.initial.machine (next_of l.initial.next) []) l.initial.lines l.machine
+    (next_of l.next) l.lines
+    × (l.lines.failed ≡ false)
 
 abbrev pub decreases-loop-how : goal.decreases-loop-how
 decreases-loop-how g l = distance (machine_of l.machine (next_of l.next) [])

@@ -1,0 +1,72 @@
+-- The bytes of the image of a linked program are octets, where its globals are.
+use Rattle.std.proofs.Common.{ℕ, ◌+◌, List, [], ◌∷◌, length, Option, Some, None}
+use Rattle.host_layout.specs.declared.imported.ImportedService.TheVariants.{CSpecificHandler}
+use Rattle.linear_code.specs.declared.program.Region.{Region}
+use Rattle.eh_tables.specs.Written.{unwind_bytes}
+use Rattle.frame_layout.specs.declared.frame.FrameLayout.{FrameLayout}
+use Rattle.frame_layout.specs.Layout.{info_of}
+use Rattle.template_code.specs.Bytes.{spelled}
+use Rattle.image_link.specs.Routines.{RoutineView, routines}
+use Rattle.image_link.specs.Text.{SiteView, own_addresses, routine_size, front_code, first_routine_at, routine_code, routine_bytes, routines_bytes, text_bytes, thunk_at}
+use Rattle.image_link.specs.Tables.{trailer, scope_records, scope_table, info_if, info_bytes, infos, ranges}
+use Rattle.image_link.specs.Linked.{first, site, xdata_begin, linked}
+use Rattle.image_octets.specs.OctetLaws.{AreOctets, LinkedAreOctets}
+use Rattle.image_octets.proofs.Octets.{joined}
+use Rattle.image_octets.proofs.InstructionOctets.{spelled_octets}
+use Rattle.image_octets.proofs.TableOctets.{table_octets, scope_octets}
+use Rattle.image_octets.proofs.InfoOctets.{info_octets}
+use Rattle.image_octets.proofs.ProgramOctets.{program_octets}
+
+-- ---- code
+
+routine_octets : (s : SiteView) (at : ℕ) (r : RoutineView) → AreOctets (routine_bytes s at r)
+unfolding routine_bytes
+routine_octets s at r = spelled_octets (routine_code s at r)
+
+routines_octets : (s : SiteView) (at : ℕ) (rs : List RoutineView)
+    → AreOctets (routines_bytes s at rs)
+routines_octets s at [] = tt
+routines_octets s at (r ∷ rs) =
+    joined (routine_bytes s at r) (routines_bytes s (at + routine_size r) rs)
+    (routine_octets s at r) (routines_octets s (at + routine_size r) rs)
+
+text_octets : (s : SiteView) (rs : List RoutineView) → AreOctets (text_bytes s rs)
+text_octets s rs =
+    joined (spelled (front_code s.text s.rdata)) (routines_bytes s (first_routine_at s.text) rs)
+    (spelled_octets (front_code s.text s.rdata)) (routines_octets s (first_routine_at s.text) rs)
+
+-- ---- unwind infos and scope tables
+
+rows_octets : (funclets labels : List ℕ) (end : ℕ) (rs : List Region)
+    → AreOctets (scope_table funclets labels end rs)
+rows_octets funclets labels end [] = tt
+rows_octets funclets labels end (r ∷ rs) =
+    scope_octets (scope_records funclets labels end (r ∷ rs))
+
+framed_octets : (s : SiteView) (labels : List ℕ) (end : ℕ) (r : RoutineView)
+    (frame : Option FrameLayout) → AreOctets (info_if s labels end r frame)
+framed_octets s labels end r None = tt
+framed_octets s labels end r (Some f) =
+    let t = trailer (thunk_at s.text CSpecificHandler) r.body.regions in
+    joined (unwind_bytes (info_of f t)) (scope_table s.funclets labels end r.body.regions)
+    (info_octets f t) (rows_octets s.funclets labels end r.body.regions)
+
+one_octets : (s : SiteView) (at : ℕ) (r : RoutineView) → AreOctets (info_bytes s at r)
+unfolding info_bytes
+one_octets s at r =
+    framed_octets s (own_addresses at r).labels (own_addresses at r).end r r.frame
+
+infos_octets : (s : SiteView) (at : ℕ) (rs : List RoutineView) → AreOctets (infos s at rs)
+infos_octets s at [] = tt
+infos_octets s at (r ∷ rs) =
+    joined (info_bytes s at r) (infos s (at + routine_size r) rs)
+    (one_octets s at r) (infos_octets s (at + routine_size r) rs)
+
+-- ---- the image
+
+pub linked_are_octets : LinkedAreOctets
+linked_are_octets p globals =
+    let rs = routines p in
+    let s = site p.globals rs (length p.functions) in
+    program_octets (linked p) globals (text_octets s rs) (infos_octets s (first p.globals) rs)
+    (table_octets (ranges s (xdata_begin p.globals rs) (first p.globals) rs))

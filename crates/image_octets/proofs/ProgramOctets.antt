@@ -1,0 +1,103 @@
+-- The bytes of the image of a program are octets, where those of its parts are.
+use Rattle.std.proofs.Common.{◌≡◌, ℕ, ◌+◌, ◌%◌, Bool, true, ltb, List, [], ◌∷◌, ◌++◌, length, refl}
+use Rattle.std.specs.Prelude.{◌&&◌}
+use Rattle.std.specs.List.{flat_map}
+use Rattle.std.proofs.lemmas.Bool.{ltb-true, and_parts}
+use Rattle.host_layout.specs.declared.imported.ImportedService.{ImportedService}
+use Rattle.host_layout.specs.declared.imported.ImportedService.TheVariants.{RaiseException, CSpecificHandler, LocalUnwind, Protect, Put}
+use Rattle.host_layout.specs.declared.name.TheConstants.{LIBRARY}
+use Rattle.pe_image.specs.Numbers.{u32, u64, zeros}
+use Rattle.pe_image.specs.declared.layout.TheConstants.{DESCRIPTOR_SIZE, HINT_SIZE}
+use Rattle.pe_write.specs.declared.header.TheConstants.{DATA_NAME, TEXT_NAME, RDATA_NAME, XDATA_NAME, PDATA_NAME}
+use Rattle.pe_write.specs.declared.import_tables.TheConstants.{UNREAD_FIELDS_SIZE}
+use Rattle.pe_write.specs.ImportTables.{name_of, services, lookups_at, slots_at, names_at, library_at, hint_name, hint_name_size, addresses, descriptor, import_tables}
+use Rattle.pe_write.specs.Program.{ImageContents, sizes_of, rdata_at, parts_of}
+use Rattle.pe_write.specs.Written.{written}
+use Rattle.image_octets.specs.OctetLaws.{AreOctets}
+use Rattle.image_octets.proofs.Octets.{joined, mapped, four_bytes, eight_bytes, zero_bytes}
+use Rattle.image_octets.proofs.WrittenOctets.{written_octets}
+
+-- ---- constants
+
+all_below : List ℕ → Bool
+all_below [] = true
+all_below (b ∷ bytes) = ltb b 256 && all_below bytes
+
+by_test : (bytes : List ℕ) → all_below bytes ≡ true → AreOctets bytes
+unfolding all_below
+by_test [] h = tt
+by_test (b ∷ bytes) h =
+    let both = and_parts (ltb b 256) (all_below bytes) h in
+    (ltb-true b 256 both.0, by_test bytes both.1)
+
+name_octets : (s : ImportedService) → AreOctets (name_of s)
+unfolding all_below
+name_octets RaiseException = by_test (name_of RaiseException) refl
+name_octets CSpecificHandler = by_test (name_of CSpecificHandler) refl
+name_octets LocalUnwind = by_test (name_of LocalUnwind) refl
+name_octets Protect = by_test (name_of Protect) refl
+name_octets Put = by_test (name_of Put) refl
+
+-- ---- the import tables
+
+hint_octets : (s : ImportedService) → AreOctets (hint_name s)
+unfolding hint_name
+hint_octets s =
+    joined (zeros HINT_SIZE ++ name_of s) (zeros (1 + (length (name_of s) + 1) % 2))
+    (joined (zeros HINT_SIZE) (name_of s)
+    (zero_bytes HINT_SIZE)
+    (name_octets s))
+    (zero_bytes (1 + (length (name_of s) + 1) % 2))
+
+descriptor_octets : (at : ℕ) → AreOctets (descriptor at)
+unfolding descriptor
+descriptor_octets at =
+    joined (u32 (lookups_at at) ++ zeros UNREAD_FIELDS_SIZE ++ u32 (library_at at)) (u32 (slots_at at))
+    (joined (u32 (lookups_at at) ++ zeros UNREAD_FIELDS_SIZE) (u32 (library_at at))
+    (joined (u32 (lookups_at at)) (zeros UNREAD_FIELDS_SIZE)
+    (four_bytes (lookups_at at))
+    (zero_bytes UNREAD_FIELDS_SIZE))
+    (four_bytes (library_at at)))
+    (four_bytes (slots_at at))
+
+addresses_octets : (at : ℕ) (ss : List ImportedService) → AreOctets (addresses at ss)
+addresses_octets at [] = eight_bytes 0
+addresses_octets at (s ∷ ss) = joined (u64 at) (addresses (at + hint_name_size s) ss)
+    (eight_bytes at) (addresses_octets (at + hint_name_size s) ss)
+
+imports_octets : (at : ℕ) → AreOctets (import_tables at)
+unfolding import_tables all_below
+imports_octets at =
+    joined (descriptor at ++ zeros DESCRIPTOR_SIZE ++ addresses (names_at at) services ++ addresses (names_at at) services ++ flat_map hint_name services ++ LIBRARY.now) (zeros 1)
+    (joined (descriptor at ++ zeros DESCRIPTOR_SIZE ++ addresses (names_at at) services ++ addresses (names_at at) services ++ flat_map hint_name services) (LIBRARY.now)
+    (joined (descriptor at ++ zeros DESCRIPTOR_SIZE ++ addresses (names_at at) services ++ addresses (names_at at) services) (flat_map hint_name services)
+    (joined (descriptor at ++ zeros DESCRIPTOR_SIZE ++ addresses (names_at at) services) (addresses (names_at at) services)
+    (joined (descriptor at ++ zeros DESCRIPTOR_SIZE) (addresses (names_at at) services)
+    (joined (descriptor at) (zeros DESCRIPTOR_SIZE)
+    (descriptor_octets at)
+    (zero_bytes DESCRIPTOR_SIZE))
+    (addresses_octets (names_at at) services))
+    (addresses_octets (names_at at) services))
+    (mapped hint_name services hint_octets))
+    (by_test LIBRARY.now refl))
+    (zero_bytes 1)
+
+-- ---- the image
+
+pub program_octets : (p : ImageContents) → AreOctets p.data_bytes → AreOctets p.text
+    → AreOctets p.xdata → AreOctets p.pdata → AreOctets (written (parts_of p))
+unfolding all_below
+program_octets p globals text xdata pdata =
+    written_octets (parts_of p) (
+      record { name = by_test DATA_NAME refl; bytes = globals },
+      (
+        record { name = by_test TEXT_NAME refl; bytes = text },
+        (
+          record { name = by_test RDATA_NAME refl; bytes = imports_octets (rdata_at (sizes_of p)) },
+          (
+            record { name = by_test XDATA_NAME refl; bytes = xdata },
+            (record { name = by_test PDATA_NAME refl; bytes = pdata }, tt),
+          ),
+        ),
+      ),
+    )

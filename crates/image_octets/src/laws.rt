@@ -1,0 +1,10 @@
+//! Laws of the bytes of written images.
+
+ghost use Rattle.image_octets.specs.OctetLaws.{LinkedAreOctets, ResolvedAreOctets};
+
+/// The image of a linked program is written as octets, where its globals are octets; and those of a
+/// program that a text is resolved to are.
+pub fn laws()
+    ensures linked { LinkedAreOctets }
+    ensures resolved { ResolvedAreOctets }
+{}
