@@ -3,13 +3,14 @@ use Rattle.std.proofs.Common.{◌≡◌, ℕ, ◌+◌, ◌-◌, Bool, true, fals
 use Rattle.std.specs.Prelude.{◌⊎◌, nat_lt, replicate, if◌then◌else◌}
 use Rattle.std.proofs.lemmas.Bool.{eq-eqb}
 use Rattle.std.proofs.lemmas.List.{append-nil}
-use Rattle.image_runs.specs.Words.{State, Functions, Funclet, Instruction, LinearProgram, LinearFunction, Waits, Configuration, Seen, Running, Finished, Next, pick, last_temporaries, act, begin_function, waiting, instruction_at, ImagePlan, Moves, Fails, IsMatched, AgreeOnSet, StepsAgree, Sites, turns_left, turns_per_step, RepresentsWhereSet, called_with, CallBegins}
+use Rattle.image_runs.specs.Words.{State, Functions, Funclet, Instruction, LinearProgram, LinearFunction, Waits, Frame, Configuration, Seen, Running, Finished, Next, pick, last_temporaries, act, begin_function, waiting, instruction_at, ImagePlan, Moves, Fails, IsMatched, AgreeOnSet, StepsAgree, Sites, turns_left, in_hand, turns_in_hand, turns_per_step, RepresentsWhereSet, called_with, CallBegins}
 use Rattle.source_meaning.specs.declared.ended.Ended.TheVariants.{Deep}
 use Rattle.linear_code.specs.declared.instruction.Instruction.TheVariants as instructions
 use Rattle.lowering_invariants.proofs.Same.{alike_is_same}
 use Rattle.image_runs.proofs.Lemmas.{agreement_at_call}
 use Rattle.match_turns.proofs.CallActs.{call_acts}
 use Rattle.image_runs.proofs.AgreementSteps.{same_left, carried}
+use Rattle.image_runs.proofs.TurnsInHand.{with_hand}
 
 -- ---- lists with the same end
 
@@ -45,7 +46,8 @@ held_arguments ts first count e = ap (λ (b : Bool). if b then Some (drop first 
 module _ (t : Functions) (fs : List Funclet) (program : LinearProgram) (p : ImagePlan) (q : Sites)
     (c d : Configuration) (agreement : AgreeOnSet program c d) (s : State) (f first count : ℕ)
     (at : instruction_at program d ≡ Some (instructions.Call f first count))
-    (held : length d.frame.temporaries ≡ first + count) where
+    (held : length d.frame.temporaries ≡ first + count)
+    (full : in_hand c.frame.body c.frame.next ≡ 6) where
   abbrev i : Instruction
   i = instructions.Call f first count
 
@@ -91,7 +93,7 @@ module _ (t : Functions) (fs : List Funclet) (program : LinearProgram) (p : Imag
         ∙ ap (λ (x : Configuration). the_last x.store.activations) same
         ∙ last_is d.store.activations (last ++ zeros))
 
-    moves : deep ≡ false → Moves t fs program turns_per_step turns_left
+    moves : deep ≡ false → Moves t fs program turns_per_step turns_in_hand
         (RepresentsWhereSet t fs program p q) s c i
     moves e =
         let taken : last_temporaries d.frame.temporaries first count
@@ -103,6 +105,8 @@ module _ (t : Functions) (fs : List Funclet) (program : LinearProgram) (p : Imag
         let on = called_with c d f first v.function v.arguments v.others in
         let few = v.few in
         let left = same_left g.agreement.marks g.on on g.agreement.alike in
+        let none : in_hand g.on.frame.body g.on.frame.next ≡ 0 = sym
+        (ap (λ (x : Frame). in_hand x.body x.next) g.agreement.alike.frame) in
         let same = same_left agreement.marks c d agreement.alike in
         record {
           turns = v.turns;
@@ -117,17 +121,21 @@ module _ (t : Functions) (fs : List Funclet) (program : LinearProgram) (p : Imag
           is_there = record { actual = on; agreement = g.agreement; is_there = inl v.begins };
         }
 
-    begins : IsMatched t fs program turns_per_step turns_left (RepresentsWhereSet t fs program p q)
-        s c i
+    begins : IsMatched t fs program turns_per_step turns_in_hand
+        (RepresentsWhereSet t fs program p q) s c i
     begins = by deep refl
       where
-        by : (b : Bool) → deep ≡ b → IsMatched t fs program turns_per_step turns_left
+        by : (b : Bool) → deep ≡ b → IsMatched t fs program turns_per_step turns_in_hand
             (RepresentsWhereSet t fs program p q) s c i
         by true e = absurd (shallow e)
         by false e = inl (moves e)
 
   pub called : StepsAgree program i c d → CallBegins t fs program p q s d f first count
       ⊎ Fails t fs program turns_per_step turns_left s d i
-      → IsMatched t fs program turns_per_step turns_left (RepresentsWhereSet t fs program p q) s c i
+      → IsMatched t fs program turns_per_step turns_in_hand (RepresentsWhereSet t fs program p q) s
+      c i
   called go (inl v) = begins v
-  called go (inr v) = carried t fs program p q c d agreement s i go (inr (inr (inr v)))
+  called go (inr v) =
+      with_hand t fs program turns_per_step turns_per_step (RepresentsWhereSet t fs program p q) s c
+      i (omega arith)
+      (carried t fs program p q c d agreement s i go turns_per_step (inr (inr (inr v))))

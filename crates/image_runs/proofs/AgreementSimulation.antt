@@ -1,10 +1,10 @@
 -- The machine keeps representing where linear code is, in all locals that have been set.
-use Rattle.std.proofs.Common.{◌≡◌, ℕ, zero, ◌+◌, length, Some, refl, inl, inr, sym, ap, subst, ◌∙◌}
+use Rattle.std.proofs.Common.{◌≡◌, ◌≤◌, ℕ, zero, ◌+◌, false, length, Some, refl, inl, inr, sym, ap, subst, ◌∙◌, arith}
 use Rattle.std.specs.Prelude.{List}
-use Rattle.image_runs.specs.Words.{State, Functions, Funclet, Program, IsSound, Slot, Instruction, LinearProgram, BodyName, FunctionBody, Frame, Configuration, body_of, FuncletBody, act, instruction_in, instruction_at, exec, ImagePlan, lowered, HasRule, IsMatched, StepIsMatched, IsReady, CanContinue, ReadsNoUnset, AgreeOnSet, StepsAgree, Sites, turns_left, RepresentsAt, IsKnown, KnownNext, turns_per_step, IsWithinBody, Represents, IsSoundImage, RepresentsWhereSet, AgreementSimulates}
+use Rattle.image_runs.specs.Words.{State, Functions, Funclet, Program, IsSound, Slot, Temporary, Instruction, LinearProgram, BodyName, FunctionBody, Frame, Configuration, body_of, FuncletBody, act, instruction_in, instruction_at, exec, ImagePlan, lowered, HasRule, IsMatched, StepIsMatched, IsReady, CanContinue, ReadsNoUnset, AgreeOnSet, StepsAgree, Sites, turns_left, in_hand, turns_in_hand, RepresentsAt, IsKnown, KnownNext, turns_per_step, IsWithinBody, Represents, WorksOn, IsSoundImage, RepresentsWhereSet, AgreementSimulates}
 use Rattle.linear_code.specs.declared.instruction.Instruction.TheVariants as instructions
 use Rattle.image_runs.proofs.Lemmas.{agreement_continues}
-use Rattle.match_bodies.proofs.BodySteps.{within_body}
+use Rattle.match_bodies.proofs.BodySteps.{within_body, separators_are_matched}
 use Rattle.match_turns.proofs.CallSteps.{returns_are_matched, calls_begin}
 use Rattle.match_turns.proofs.FuncletReturnSteps.{funclet_returns_are_matched}
 use Rattle.match_turns.proofs.FinallyCallSteps.{block_calls_are_matched}
@@ -19,6 +19,7 @@ use Rattle.c_operations.specs.declared.built_in.BuiltIn.TheVariants.{Put, Protec
 use Rattle.image_runs.specs.StepMatches.{StepMatches}
 use Rattle.image_runs.proofs.AgreementFacts.{known, known_next}
 use Rattle.image_runs.proofs.AgreementSteps.{carried}
+use Rattle.image_runs.proofs.TurnsInHand.{is_separator, past_first, with_hand}
 use Rattle.image_runs.proofs.AgreementCalls.{called}
 use Rattle.image_runs.proofs.LiveStates.{live}
 
@@ -92,8 +93,8 @@ module _ (program : Program) (sound : IsSound program) (reads : ReadsNoUnset (lo
   linear = lowered program
 
   abbrev Goal : Instruction → Type 0
-  Goal i = IsMatched t fs linear turns_per_step turns_left (RepresentsWhereSet t fs linear p q) s c
-      i
+  Goal i = IsMatched t fs linear turns_per_step turns_in_hand (RepresentsWhereSet t fs linear p q) s
+      c i
 
   actual : IsKnown linear d
   actual = known program sound reads c d agreement
@@ -107,52 +108,72 @@ module _ (program : Program) (sound : IsSound program) (reads : ReadsNoUnset (lo
   on_actual : (i : Instruction) → instruction_at linear d ≡ Some i → StepsAgree linear i c d
   on_actual i at = agreement_continues linear reads c d agreement i at
 
-  back : (i : Instruction) → instruction_at linear d ≡ Some i
+  -- at an instruction that is no separator six turns are in hand
+  full : (i : Instruction) → is_separator i ≡ false → instruction_at linear d ≡ Some i
+      → in_hand c.frame.body c.frame.next ≡ 6
+  full i plain at =
+      sym (ap (λ (f : Frame). in_hand f.body f.next) agreement.alike.frame)
+      ∙ past_first program d.frame.body d.frame.next i at plain
+
+  handed : (few : ℕ) (i : Instruction) → instruction_at linear d ≡ Some i
+      → few + 6 ≤ turns_per_step + in_hand c.frame.body c.frame.next
+      → IsMatched t fs linear few turns_left (Represents t fs linear p q) s d i → Goal i
+  handed few i at enough m =
+      with_hand t fs linear few turns_per_step (RepresentsWhereSet t fs linear p q) s c i enough
+      (carried t fs linear p q c d agreement s i (on_actual i at) few m)
+
+  back : (i : Instruction) → is_separator i ≡ false → instruction_at linear d ≡ Some i
       → StepMatches t fs linear p q s d i → Goal i
-  back i at m = carried t fs linear p q c d agreement s i (on_actual i at) m
+  back i plain at m = let hand = full i plain at in handed turns_per_step i at (omega arith) m
+
+  separated : RepresentsAt t fs linear p q s d
+      → instruction_at linear d ≡ Some instructions.Separator → Goal instructions.Separator
+  separated b at = handed 1 instructions.Separator at (omega arith)
+      (matched_there t fs linear p q 1 s d instructions.Separator
+      (inl (separators_are_matched t fs linear p q image.image image.made s d b actual at)))
 
   -- at the beginning of an instruction
   begun : RepresentsAt t fs linear p q s d → (i : Instruction) → instruction_at linear d ≡ Some i
       → HasRule (act linear i (exec linear zero) d) → KnownNext linear d i → Goal i
   begun b (instructions.Compute to o first second) at rule next =
-      back (instructions.Compute to o first second) at
+      back (instructions.Compute to o first second) refl at
       (operations t fs linear p q image.image image.made image.flags s d to o first second (inl b)
       actual at rule next)
   begun b (instructions.Information to field) at rule next =
-      back (instructions.Information to field) at
+      back (instructions.Information to field) refl at
       (to_next t fs linear p q image s d b actual (instructions.Information to field)
       (inl (information_is_matched t fs linear p q image.image image.made image.informs s d to field
       b actual at)))
-  begun b (instructions.Jump label) at rule next = back (instructions.Jump label) at
+  begun b (instructions.Jump label) at rule next = back (instructions.Jump label) refl at
       (plainly t fs linear p q image s d b actual (instructions.Jump label) at rule tt)
   begun b (instructions.JumpIfZero slot label) at rule next =
-      back (instructions.JumpIfZero slot label) at
+      back (instructions.JumpIfZero slot label) refl at
       (plainly t fs linear p q image s d b actual (instructions.JumpIfZero slot label) at rule tt)
   begun b (instructions.Call f first count) at rule next =
       called t fs linear p q c d agreement s f first count at
       (arguments_held t fs linear p q image s d b actual f first count at)
+      (full (instructions.Call f first count) refl at)
       (on_actual (instructions.Call f first count) at)
       (calls_begin t fs linear p q image.image image.made image.apart s d f first count b actual at)
   begun b (instructions.CallBuiltIn f first) at rule next =
-      back (instructions.CallBuiltIn f first) at
+      back (instructions.CallBuiltIn f first) refl at
       (called_built_in t fs linear p q image s d b actual f first at rule next)
   begun b (instructions.CallFinally k) at rule next =
-      back (instructions.CallFinally k) at
+      back (instructions.CallFinally k) refl at
       (to_next t fs linear p q image s d b actual (instructions.CallFinally k)
       (block_calls_are_matched t fs linear p q image.image image.made image.flags image.separators
       s d k b actual at next))
   begun b (instructions.LocalUnwind label) at rule next =
-      back (instructions.LocalUnwind label) at
+      back (instructions.LocalUnwind label) refl at
       (local_unwinds_are_matched t fs linear p q image.image image.made image.followed image.inside
       image.flags s d label b actual at rule next)
-  begun b (instructions.Landing to) at rule next = back (instructions.Landing to) at
+  begun b (instructions.Landing to) at rule next = back (instructions.Landing to) refl at
       (plainly t fs linear p q image s d b actual (instructions.Landing to) at rule tt)
-  begun b instructions.Separator at rule next = back instructions.Separator at
-      (plainly t fs linear p q image s d b actual instructions.Separator at rule tt)
-  begun b (instructions.Return from) at rule next = back (instructions.Return from) at
+  begun b instructions.Separator at rule next = separated b at
+  begun b (instructions.Return from) at rule next = back (instructions.Return from) refl at
       (returned t fs linear p q image s d b actual from at rule next)
 
-  step : Represents t fs linear p q s d → StepIsMatched t fs linear turns_per_step turns_left
+  step : Represents t fs linear p q s d → StepIsMatched t fs linear turns_per_step turns_in_hand
       (RepresentsWhereSet t fs linear p q) s c
   step r i at rule = by r
     where
@@ -162,9 +183,15 @@ module _ (program : Program) (sound : IsSound program) (reads : ReadsNoUnset (lo
       ruled : HasRule (act linear i (exec linear zero) d)
       ruled = subst HasRule (sym (on_actual i there).seen) rule
 
+      -- what is made again is an operation
+      worked : WorksOn t fs linear p q s d → is_separator i ≡ false
+      worked w = ap is_separator (same_instruction i (instructions.Compute w.again.to
+          w.again.operation (Temporary w.again.first) (Temporary w.again.second))
+          (sym there ∙ w.again.works))
+
       by : Represents t fs linear p q s d → Goal i
       by (inl b) = begun b i there ruled (known_next program sound reads c d agreement i there)
-      by (inr w) = back i there
+      by (inr w) = back i (worked w) there
           (retries t fs linear p q image.image image.made image.flags s d i w actual there ruled
           (known_next program sound reads c d agreement i there))
 

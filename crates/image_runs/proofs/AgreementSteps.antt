@@ -1,6 +1,6 @@
 -- A step that is matched from the actual configuration is matched.
-use Rattle.std.proofs.Common.{◌≡◌, ◌+◌, ◌*◌, List, length, sym, ap, arith}
-use Rattle.image_runs.specs.Words.{State, Functions, Funclet, Instruction, LinearProgram, Configuration, ImagePlan, IsMatched, Marks, AreAlike, AgreeOnSet, StepsAgree, Sites, turns_left, held_below, turns_per_step, Represents, RepresentsWhereSet}
+use Rattle.std.proofs.Common.{◌≡◌, ℕ, ◌+◌, ◌*◌, List, length, sym, ap, arith}
+use Rattle.image_runs.specs.Words.{State, Functions, Funclet, Instruction, LinearProgram, Configuration, ImagePlan, IsMatched, Marks, AreAlike, AgreeOnSet, StepsAgree, Sites, turns_left, held_below, Represents, RepresentsWhereSet}
 use Rattle.match_runs.proofs.Turns.{comes_nowhere}
 use Rattle.match_runs.proofs.Matches.{StepCarries, matched_by}
 
@@ -27,10 +27,11 @@ module _ (t : Functions) (fs : List Funclet) (program : LinearProgram) (p : Imag
     });
   }
 
-  pub carried : IsMatched t fs program turns_per_step turns_left (Represents t fs program p q) s d i
-      → IsMatched t fs program turns_per_step turns_left (RepresentsWhereSet t fs program p q) s c i
-  carried m =
+  pub carried : (most : ℕ)
+      → IsMatched t fs program most turns_left (Represents t fs program p q) s d i
+      → IsMatched t fs program most turns_left (RepresentsWhereSet t fs program p q) s c i
+  carried most m =
       let same = same_left agreement.marks c d agreement.alike in
-      matched_by t fs program turns_left 0 turns_per_step turns_per_step
+      matched_by t fs program turns_left 0 most most
       (Represents t fs program p q) (RepresentsWhereSet t fs program p q) s s c d i
       (comes_nowhere t fs s) (omega arith) carries m

@@ -118,13 +118,13 @@ module _ (all : List LinearFunction) where
 
   own : (fn : Function) (number : ℕ) → slice_get all number ≡ Some (lowered_function fn)
       → AllByRecursion (IsOwned all) (lowered_funclets number fn)
-  own fn number there = by (length (statements_regions fn.body 0)) refl
+  own fn number there = by (length (statements_regions fn.body 1)) refl
     where
-      by : (n : ℕ) → length (statements_regions fn.body 0) ≡ n
+      by : (n : ℕ) → length (statements_regions fn.body 1) ≡ n
           → AllByRecursion (IsOwned all) (lowered_funclets number fn)
       by zero e = nothing_owned (lowered_funclets number fn)
           (none_of fn.body (record { function = number; locals = all_locals fn; parent = None })
-          (scope_of fn).names 0 e)
+          (scope_of fn).names 1 e)
       by (suc n) e =
           each_owned number (lowered_function fn) there (omega arith) (lowered_funclets number fn)
           (funclets_known (IsOf number (all_locals fn)) (Owns number (all_locals fn))

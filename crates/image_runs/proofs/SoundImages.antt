@@ -52,7 +52,7 @@ module _ (program : Program) (l : IsLinkable program) where
       (instructions.Return (Temporary 0) ∷ []) in omega arith))
       (λ owner names last. (let n = length-append (statements_code (finally_scope names) last 0)
       (instructions.Return (Local names.free) ∷ []) in omega arith))
-      (λ f. (let n = length-append (statements_code (scope_of f) f.body 0)
+      (λ f. (let n = length-append (statements_code (scope_of f) f.body 1)
       (constant 0 0 ∷ instructions.Return (Temporary 0) ∷ []) in omega arith))
       program (FunctionBody k) b e
 

@@ -16,7 +16,7 @@ use Rattle.image_runs.specs.MatchLaws.{most_before_main}
 use Rattle.seh_ir.specs.Lowered.{lowered}
 use Rattle.match_stack.specs.ImagePlan.{ImagePlan}
 use Rattle.lowering_locals.specs.Agreement.{AgreeOnSet}
-use Rattle.match_bodies.specs.Bodies.{turns_left}
+use Rattle.match_bodies.specs.Bodies.{turns_in_hand}
 use Rattle.match_bodies.specs.StepLaws.{turns_per_step}
 use Rattle.image_link.specs.Linked.{linked}
 use Rattle.image_states.specs.Plans.{functions_of, funclets_of, plan_of}
@@ -47,7 +47,7 @@ pub record PassesTheFrames (program : Program) (arg : ℤ) (n : ℕ) : Type 0 wh
   pub comes : Comes (functions_of (lowered program)) (funclets_of (lowered program)) turns
       (images.start (image_of (linked (lowered program))) arg) [] state
   pub passes : Passes (functions_of (lowered program)) (funclets_of (lowered program))
-      (lowered program) turns_per_step turns_left (ShowsFramesOf program) n state
+      (lowered program) turns_per_step turns_in_hand (ShowsFramesOf program) n state
       (start (lowered program) arg main)
 
 -- a return of `main`, or an exception that nobody handles: not the stack's limit, and no stop

@@ -8,6 +8,7 @@ pub mod Prologues
 pub mod Table
 pub mod Lookups
 pub mod RegionRanges
+pub mod RegionStarts
 pub mod RegionSums
 pub mod FuncletNumbers
 pub mod TryRows

@@ -31,10 +31,14 @@ entry_by : (r : RoutineView) (f : FrameLayout) (o : Option FrameLayout) → o �
 entry_by r f o e some = ap (λ (x : Option FrameLayout). sizes (frame_code 0 0 x)) e
     ∙ prologue_sizes f _ some
 
--- that of a routine with a frame is first
-pub entry_least : (r : RoutineView) (f : FrameLayout) → IsRoutineNear r → r.frame ≡ Some f
-    → 0 < f.size → taking_size f.size ≤ entry_size r
-entry_least r f near e some =
+-- that of a routine with a frame is first, and what takes its arguments is after it
+pub entry_is : (r : RoutineView) (f : FrameLayout) → IsRoutineNear r → r.frame ≡ Some f
+    → 0 < f.size → entry_size r ≡ taking_size f.size + sizes (argument_code r.layout r.entry)
+entry_is r f near e some =
     let h = entry_by r f r.frame e some in
     let s = entry_sizes 0 0 r near in
     omega (arith, sizes_append (frame_code 0 0 r.frame) (argument_code r.layout r.entry))
+
+pub entry_least : (r : RoutineView) (f : FrameLayout) → IsRoutineNear r → r.frame ≡ Some f
+    → 0 < f.size → taking_size f.size ≤ entry_size r
+entry_least r f near e some = let is = entry_is r f near e some in omega arith

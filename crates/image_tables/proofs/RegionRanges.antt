@@ -53,14 +53,14 @@ module _ (n : ℕ) where
     of_return = λ names m e exit at k h w c. tt;
   }
 
-  statements_range : (ss : Statements) (scope : LoweringContext)
+  statements_range : (ss : Statements) (scope : LoweringContext) (at : ℕ)
       → WaysHave (λ label. label ≤ n) (λ label. Unit {0}) scope
-      → IsBefore 0 (statements_code scope ss 0)
-      → AllByRecursion (IsRange n) (statements_regions ss 0)
-  statements_range ss scope w c =
+      → IsBefore at (statements_code scope ss at)
+      → AllByRecursion (IsRange n) (statements_regions ss at)
+  statements_range ss scope at w c =
       statements_every (λ at xs rs. AllByRecursion (IsRange n) rs) IsBefore (λ xs. Unit {0})
       (λ label. label ≤ n) (λ label. Unit {0}) (λ names m. Unit {0}) (λ e. Unit {0}) (λ e. Unit {0})
-      (λ x. Unit {0}) any_neutral places_before (λ names m k le h. tt) pieces_range ss scope 0
+      (λ x. Unit {0}) any_neutral places_before (λ names m k le h. tt) pieces_range ss scope at
       (statements_notes ss) (omega arith) tt w (statements_have (λ e. Unit {0}) (λ e. Unit {0})
       (λ x. Unit {0}) (λ e. tt) (λ e. tt) (λ x. tt) ss) c
 
@@ -68,10 +68,10 @@ module _ (n : ℕ) where
 
 function_ranges : (f : Function) → HasRanges (lowered_function f).body
 function_ranges f =
-    let code = statements_code (scope_of f) f.body 0 in
+    let code = statements_code (scope_of f) f.body 1 in
     let last = constant 0 0 ∷ instructions.Return (Temporary 0) ∷ [] in
     let l = length-append code last in
-    statements_range (length (code ++ last)) f.body (scope_of f)
+    statements_range (length (lowered_function f).body.code) f.body (scope_of f) 1
     (record { exit = tt; loop_end = tt; loop_next = tt; leave = tt }) (omega arith)
 
 finally_ranges : (owner : Owner) (names : Names) (last : Statements)
@@ -80,7 +80,7 @@ finally_ranges owner names last =
     let code = statements_code (finally_scope names) last 0 in
     let end = instructions.Return (Local names.free) ∷ [] in
     let l = length-append code end in
-    statements_range (length (code ++ end)) last (finally_scope names)
+    statements_range (length (code ++ end)) last (finally_scope names) 0
     (record { exit = tt; loop_end = tt; loop_next = tt; leave = tt }) (omega arith)
 
 -- ---- programs

@@ -137,11 +137,11 @@ module _ (finally filter : ℕ → ℕ) (always : ℕ) where
   functions_total number [] = refl
   functions_total number (f ∷ fs) =
       let owner : Owner = record { function = number; locals = all_locals f; parent = None } in
-      let x = statements_total owner (scope_of f).names f.body 0 in
+      let x = statements_total owner (scope_of f).names f.body 1 in
       let y = functions_total (number + 1) fs in
       omega (
         arith,
-        total_both (statements_regions f.body 0)
+        total_both (statements_regions f.body 1)
             (regions_in (function_bodies (map lowered_function fs))),
         funclets_both (statements_funclets owner (scope_of f).names f.body)
             (all_funclets (number + 1) fs),

@@ -1,6 +1,8 @@
 -- What the linear code of every checked program is like, and so the function table of its image.
-use Rattle.std.specs.Prelude.{◌≡◌, length}
-use Rattle.std.specs.List.{count_by}
+use Rattle.std.specs.Prelude.{◌≡◌, ◌+◌, ◌<◌, length}
+use Rattle.std.specs.List.{AllByRecursion, count_by}
+use Rattle.eh_tables.specs.declared.scope.ScopeRecord.{ScopeRecord}
+use Rattle.eh_tables.specs.Tables.{Entry}
 use Rattle.c_checked.specs.Program.{Program}
 use Rattle.c_checked.specs.Sound.{IsSound}
 use Rattle.seh_ir.specs.Lowered.{lowered}
@@ -14,6 +16,18 @@ use Rattle.image_tables.specs.Tries.{all_tries, finishes, accepts}
 -- each region is a range of its body's instructions
 abbrev pub LoweredHasRegions : Type 0
 LoweredHasRegions = (p : Program) → HasRegions (lowered p)
+
+-- the scope records of an entry begin past the end of its prologue
+abbrev pub BeginsPastPrologue : Entry → Type 0
+BeginsPastPrologue e =
+    AllByRecursion (λ (row : ScopeRecord). e.range.begin + e.info.prologue_size < row.begin)
+    e.info.scopes
+
+-- no region of a function or of a funclet begins where its prologue ends
+abbrev pub LoweredBeginsPastPrologues : Type 0
+LoweredBeginsPastPrologues =
+    (p : Program) → FitsProgram (lowered p)
+    → AllByRecursion BeginsPastPrologue (entries (lowered p))
 
 -- each filter and `__finally` block of a sound program is named by one region
 abbrev pub LoweredNamesFunclets : Type 0

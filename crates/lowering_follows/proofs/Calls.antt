@@ -138,7 +138,7 @@ module _ (program : Program) (linear : LinearProgram) (rate body : ℕ)
         (λ next. deeper 1 site.held store st.events
         (next (begin_function f lf.0 vs site.held
         (Waits (frame_of context site pc temps) ∷ site.below) store st.events))) st st
-        (price 2 0 body body) (price 13 x o o)
+        (price 3 0 body body) (price 13 x o o)
         (Wv program linear rate body same_globals roomy n ih names info z shapes context site base
         around (pushed context site (pc + 1) temps))
         (enter (within program n) (Some fn) vs context st) (omega arith, omega arith, omega arith)

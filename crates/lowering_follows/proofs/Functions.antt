@@ -6,10 +6,9 @@ use Rattle.std.specs.Prelude.{◌-◌, Bool, false, take, replicate, get_or, sli
 use Rattle.lowering_follows.specs.Words.{Filter, Always, Funclet, Program, Function, State, Value, Normal, Returned, Target, Outcome, Gives, Context, Handler, no_exception, all, ended_call, enter, within, Temporary, LinearProgram, LinearFunction, FunctionBody, Item, Waits, Store, with_some, deeper, regions_at, handlers_in, handlers, target_past, unwind, target_of, begin_function, exec, Names, LoweringContext, Nowhere, Jumps, statements_size, statements_notes, constant, own_locals, scope_of, statements_weight, HasAt, FunctionPlaced}
 use Rattle.linear_code.specs.declared.instruction.Instruction.TheVariants as instructions
 use Rattle.linear_machine.specs.Frames as machine
-use Rattle.lowering_follows.proofs.Lemmas.{Part, at, Site, frame_of, conf, Picked, Ways, price, found, Reaches, Claim, value_ways, more, attains_out, reaches_after, reaches_more, stepped, fetch, sooner, deep_claim, prefix_self, handlers_below, leaves}
+use Rattle.lowering_follows.proofs.Lemmas.{Part, at, Site, frame_of, conf, Picked, Ways, price, found, Reaches, Claim, value_ways, more, attains_out, reaches_after, reaches_more, stepped, first, fetch, sooner, deep_claim, prefix_self, handlers_below, leaves}
 use Rattle.linear_machine.proofs.Stretch.{Kept}
 use Rattle.lowering_follows.proofs.Stores.{at_push_old, Shape, FrameAlike, Places, NotesKept, everywhere, below_slot, kept_itself, kept_through, get_push_new, get_pushed, push_alike, take_alike, call_kept}
-use Rattle.lowering_follows.proofs.Places.{has_at}
 use Rattle.lowering_follows.proofs.Turns.{constant_turn}
 use Rattle.lowering_follows.proofs.Environments.{FlagBound, HowFits, Match, match_kept}
 use Rattle.lowering_follows.proofs.TaskClaims.{pushed, Within, Around}
@@ -287,7 +286,7 @@ module _ (program : Program) (linear : LinearProgram) (rate body : ℕ) where
       → Claim linear rate (λ next. deeper 1 site.held store st.events
       (next (begin_function k lf vs site.held
       (Waits (frame_of context site pc temps) ∷ site.below) store st.events))) st
-      (price 2 0 body body)
+      (price 3 0 body body)
       (value_ways (pushed context site (pc + 1) temps) (Within program linear rate body shapes base)
       context site) (enter (within program n) (Some fn) vs context st)
   call_runs n bih k fn lf vs names info z shapes context site base pc temps st store f steps len
@@ -364,7 +363,7 @@ module _ (program : Program) (linear : LinearProgram) (rate body : ℕ) where
         room = omega (arith, f.locals);
         plain = λ e. absurd (cc);
       } in
-      deep_claim linear rate 1 site.held store (at begins) st (price 2 0 body body) w
+      deep_claim linear rate 1 site.held store (at begins) st (price 3 0 body body) w
       (λ st. ended_call (length st.frames) (all (within program n) fn.body
       (record {
         handlers = context.handlers;
@@ -374,26 +373,30 @@ module _ (program : Program) (linear : LinearProgram) (rate body : ℕ) where
       })
       (record st { frames = st.frames ++ (vs ++ replicate (length fn.locals) 0) ∷ [] }))) deep
       held
-      (subst (λ c. Claim linear rate (at c) st (price 2 0 body body) w
+      (subst (λ c. Claim linear rate (at c) st (price 3 0 body body) w
       (ended_call m (all (within program n) fn.body inner st'))) here
       (let light = f.light in
       let quick = f.quick in
-      more linear rate (at (conf inner csite 0 [] st' store')) st (price 2 0 x x)
-      (price 2 0 body body) w (ended_call m (all (within program n) fn.body inner st'))
+      more linear rate (at (conf inner csite 0 [] st' store')) st (price 3 0 x x)
+      (price 3 0 body body) w (ended_call m (all (within program n) fn.body inner st'))
       (omega arith, omega arith, omega arith)
-      (sooner linear rate (at (conf inner csite 0 [] st' store')) st st' (price 2 0 x x) w
+      (sooner linear rate (at (conf inner csite 0 [] st' store')) st st' (price 3 0 x x) w
       (ended_call m (all (within program n) fn.body inner st')) refl
       (prefix_self st.events)
+      (first linear rate (conf inner csite 0 [] st' store')
+      (at (conf inner csite 1 [] st' store')) st' st' (price 2 0 x x) (price 3 0 x x) w
+      (ended_call m (all (within program n) fn.body inner st'))
+      (omega arith, omega arith, omega arith) refl refl (prefix_self st.events)
+      (λ j. fetch linear rate (conf inner csite 0 [] st' store') instructions.Separator j
+      f.starts.0)
       (function_ends k lf scope new shapes context site base pc temps m store locals kept.0.count
-      kept.0.activations walked kept.1 (at (conf inner csite 0 [] st' store')) st' x
-      (0 + statements_size fn.body) (all (within program n) fn.body inner st') refl
-      (has_at linear (FunctionBody k) [] (statements_size fn.body) (0 + statements_size fn.body)
-      (constant 0 0 ∷ instructions.Return (Temporary 0) ∷ []) (omega arith) f.ends) refl refl refl
-      (statements_size fn.body + 1) refl
-      (all_runs program linear rate body n bih scope new shapes' inner csite store' fn.body 0 st'
+      kept.0.activations walked kept.1 (at (conf inner csite 1 [] st' store')) st' x
+      (1 + statements_size fn.body) (all (within program n) fn.body inner st') refl
+      f.ends refl refl refl (1 + statements_size fn.body + 1) refl
+      (all_runs program linear rate body n bih scope new shapes' inner csite store' fn.body 1 st'
       store' steps quick f.placed
       (record { around = tt; exit = (omega arith, tt, f.ends.2.0); loop_end = tt; loop_next = tt })
       standing (
         push_alike shapes st.memory st.frames store new given locals alike kept.0,
         kept_itself (below_slot m (own_locals fn)) shapes' store',
-      ) held)))))
+      ) held))))))

@@ -1,5 +1,5 @@
 -- The linear code of a sound program is linked, and follows the program.
-use Rattle.std.proofs.Common.{◌≡◌, ℕ, inr, zero, suc, ◌+◌, ◌≤◌, List, [], ◌∷◌, length, refl, ap, subst, ◌∙◌, arith, length-append}
+use Rattle.std.proofs.Common.{◌≡◌, ℕ, inl, inr, zero, suc, ◌+◌, ◌≤◌, List, [], ◌∷◌, length, refl, ap, subst, ◌∙◌, arith, length-append}
 use Rattle.std.proofs.lemmas.Option.{slice_get-map}
 use Rattle.std.specs.Prelude.{true, ◌||◌, slice_get, option_map, Option, Some, None}
 use Rattle.lowering_follows.specs.Words.{Size, Int, Long, Program, Function, are_sizes, funclets, count_up, function_sound, some_sizes, functions_sound, main_sound, Temporary, FunctionBody, body_of, function_body, Owner, statements_size, constant, statements_code, statements_regions, statements_funclets, own_locals, scope_of, all_locals, lowered_function, lowered_funclets, all_funclets, lowered, FunctionPlaced, statements_weight}
@@ -98,9 +98,9 @@ module _ (program : Program) where
       let quick : most + most + 4 ≤ rate = omega arith in
       let lb = (lowered_function fn).body in
       let home : body_of linear (FunctionBody k) ≡ Some lb = ap function_body there in
-      let code = statements_code (scope_of fn) fn.body 0 in
+      let code = statements_code (scope_of fn) fn.body 1 in
       let ends = constant 0 0 ∷ instructions.Return (Temporary 0) ∷ [] in
-      let l = statements_length (scope_of fn) fn.body 0 in
+      let l = statements_length (scope_of fn) fn.body 1 in
       let wide = length-append code ends in
       let whole = whole_is_at lb.code in
       let cover = whole_cover program linear rate most (own_locals fn) (FunctionBody k) lb home 0
@@ -108,16 +108,21 @@ module _ (program : Program) where
       record {
         parameters = refl;
         locals = refl;
-        placed = place_all program linear rate most (own_locals fn) quick fn.body (FunctionBody k)
-            lb home (inside_function program fn) (scope_of fn) (whole_alike fn) g.owner [] 0 g.begin
-            (both_left _ _ (both_left _ _ g.sound)) light
-            (front lb.code 0 code ends whole) (λ q lo hi. cover q lo (omega arith)) g.is_there
-            g.numbered;
-        ends = code_is_at program linear rate most (own_locals fn) (FunctionBody k) lb home []
-            (statements_size fn.body) ends (back lb.code 0 (statements_size fn.body) code ends
-            (omega arith) whole)
+        starts = code_is_at program linear rate most (own_locals fn) (FunctionBody k) lb home [] 0
+            (instructions.Separator ∷ []) (whole.0, tt)
             (λ q lo hi. bare program linear rate most (own_locals fn) (FunctionBody k) []
-            (statements_regions fn.body 0) q (all_outside fn.body 0 q (inr (omega arith)))
+            (statements_regions fn.body 1) q (all_outside fn.body 1 q (inl (omega arith)))
+            (cover q lo (omega arith)));
+        placed = place_all program linear rate most (own_locals fn) quick fn.body (FunctionBody k)
+            lb home (inside_function program fn) (scope_of fn) (whole_alike fn) g.owner [] 1 g.begin
+            (both_left _ _ (both_left _ _ g.sound)) light
+            (front lb.code 1 code ends whole.1) (λ q lo hi. cover q (omega arith) (omega arith))
+            g.is_there g.numbered;
+        ends = code_is_at program linear rate most (own_locals fn) (FunctionBody k) lb home []
+            (1 + statements_size fn.body) ends (back lb.code 1 (1 + statements_size fn.body) code
+            ends (omega arith) whole.1)
+            (λ q lo hi. bare program linear rate most (own_locals fn) (FunctionBody k) []
+            (statements_regions fn.body 1) q (all_outside fn.body 1 q (inr (omega arith)))
             (cover q (omega arith) (omega arith)));
         light = light;
         quick = omega arith;

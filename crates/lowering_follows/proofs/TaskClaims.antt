@@ -125,7 +125,7 @@ module _ (program : Program) (linear : LinearProgram) (rate body : ℕ) where
         → Claim linear rate (λ next. deeper 1 site.held store st.events
         (next (begin_function k lf vs site.held
         (Waits (frame_of context site pc temps) ∷ site.below) store st.events))) st
-        (price 2 0 body body)
+        (price 3 0 body body)
         (value_ways (pushed context site (pc + 1) temps) (Within shapes base) context site)
         (enter (within program n) (Some fn) vs context st)
 

@@ -11,12 +11,11 @@ use Rattle.source_meaning.specs.State.{deeper}
 use Rattle.source_meaning.specs.Meaning as source
 use Rattle.source_meaning.proofs.RemainingSteps.{enters_within}
 use Rattle.linear_code.specs.declared.instruction.Instruction.TheVariants as instructions
-use Rattle.lowering_follows.proofs.Lemmas.{events_of, More, longer, prefix_same, prefix_then, Part, at, Site, conf, price, Claim, Stops, fetch}
+use Rattle.lowering_follows.proofs.Lemmas.{events_of, More, longer, prefix_same, prefix_then, Part, at, Site, conf, price, Claim, Stops, first, fetch, prefix_self}
 use Rattle.linear_machine.proofs.MoreTurns.{front}
 use Rattle.linear_machine.proofs.Stretch.{Kept}
 use Rattle.lowering_follows.specs.FollowLaws.{Follows, NoMore, LinkedFollows}
 use Rattle.lowering_follows.proofs.Stores.{Shape, FrameAlike, Alike, below_slot, kept_itself, push_alike}
-use Rattle.lowering_follows.proofs.Places.{has_at}
 use Rattle.lowering_follows.proofs.Turns.{constant_turn}
 use Rattle.lowering_follows.proofs.BodyClaims.{statement_ways, Stays, Surroundings}
 use Rattle.lowering_follows.proofs.BodySequences.{all_runs}
@@ -145,11 +144,11 @@ module _ (program : Program) (linear : LinearProgram) (rate body : ℕ)
     x = statements_weight fn.body
 
     abbrev Done : Part → State → Outcome → Type 0
-    Done s from (Gives (Value v) st) = (j : ℕ) × (j ≤ 16 * from.steps_left + 2)
+    Done s from (Gives (Value v) st) = (j : ℕ) × (j ≤ 16 * from.steps_left + 3)
         × (s (exec linear j) ≡ Finished (Exit (signed W32 v)) st.events)
-    Done s from (Gives (End (Some e)) st) = (j : ℕ) × (j ≤ 16 * from.steps_left + 2)
+    Done s from (Gives (End (Some e)) st) = (j : ℕ) × (j ≤ 16 * from.steps_left + 3)
         × (s (exec linear j) ≡ Finished e st.events)
-    Done s from (Gives (End None) st) = Stops linear rate s from st 0 0 x
+    Done s from (Gives (End None) st) = Stops linear rate s from st 1 0 x
     Done s from (Gives r st) = ⊥
 
     return_turn : (v done k : ℕ) (mid : State) (after : Store)
@@ -163,7 +162,7 @@ module _ (program : Program) (linear : LinearProgram) (rate body : ℕ)
     main_ends : (s : Part) (from : State) (kept : Kept) (done : ℕ) (o : Outcome)
         → HasAt linear (FunctionBody program.main) [] done
         (constant 0 0 ∷ instructions.Return (Temporary 0) ∷ [])
-        → Claim linear rate s from (price 0 0 x x)
+        → Claim linear rate s from (price 1 0 x x)
         (statement_ways program linear rate body (scope_of fn) inner csite kept done) o
         → Done s from (ended_call 0 o)
     unfolding ended_call
@@ -216,14 +215,17 @@ module _ (program : Program) (linear : LinearProgram) (rate body : ℕ)
           room = omega (arith, f.locals);
           plain = λ e. absurd (cc);
         } in
-        let whole = has_at linear (FunctionBody program.main) [] (statements_size fn.body)
-        (0 + statements_size fn.body) (constant 0 0 ∷ instructions.Return (Temporary 0) ∷ [])
-        (omega arith) f.ends in
+        let end = 1 + statements_size fn.body in
         main_ends (at c0) (begun n) (Stays program linear rate body (scope_of fn).names (new ∷ [])
-        inner store') (0 + statements_size fn.body)
-        (all (within program n) fn.body inner (begun n)) whole
+        inner store') end (all (within program n) fn.body inner (begun n)) f.ends
+        (first linear rate c0 (at (conf inner csite 1 [] (begun n) store')) (begun n) (begun n)
+        (price 0 0 x x) (price 1 0 x x) (statement_ways program linear rate body (scope_of fn)
+        inner csite
+        (Stays program linear rate body (scope_of fn).names (new ∷ []) inner store') end)
+        (all (within program n) fn.body inner (begun n)) (omega arith, omega arith, omega arith)
+        refl refl (prefix_self (begun n).events) (λ j. fetch linear rate c0 instructions.Separator j f.starts.0)
         (all_runs program linear rate body n bodies (scope_of fn) new (new ∷ []) inner csite store'
-        fn.body 0 (begun n) store' (omega arith) f.quick f.placed
+        fn.body 1 (begun n) store' (omega arith) f.quick f.placed
         (record {
           around = tt;
           exit = (omega arith, tt, f.ends.2.0);
@@ -233,7 +235,7 @@ module _ (program : Program) (linear : LinearProgram) (rate body : ℕ)
           push_alike [] (first_memory program.globals) [] first_store new given locals alike
               nothing,
           kept_itself (below_slot 0 (own_locals fn)) (new ∷ []) store',
-        ) refl)
+        ) refl))
 
     enters : (n : ℕ) → enter (within program n) (Some fn) vs outside (source.start program n)
         ≡ ended_call 0 (all (within program n) fn.body inner (begun n))
@@ -269,7 +271,7 @@ module _ (program : Program) (linear : LinearProgram) (rate body : ℕ)
         subst (λ k. More (exec linear j c0) (exec linear k c0)) e (longer linear j (b - j) c0)
 
     -- at least so much
-    follows_by : (b : ℕ) (from : State) (o : Outcome) → 16 * from.steps_left + 2 ≤ b
+    follows_by : (b : ℕ) (from : State) (o : Outcome) → 16 * from.steps_left + 3 ≤ b
         → Done (at c0) from o
         → IsPrefixOf (shows o).events (shown (exec linear b c0)).events
         × ((e : Ended) → (shows o).end ≡ Some e → shown (exec linear b c0) ≡ shows o)

@@ -249,9 +249,10 @@ module _ (program : Program) (linear : LinearProgram) (steps_per_turn body : ℕ
   pub record FunctionPlaced (k : ℕ) (fn : Function) (lf : LinearFunction) : Type 0 where
     pub parameters : lf.parameters ≡ length fn.parameters
     pub locals : lf.body.locals ≡ all_locals fn
+    pub starts : HasAt linear (FunctionBody k) [] 0 (Separator ∷ [])
     pub placed : AllPlaced program linear steps_per_turn body (own_locals fn) (FunctionBody k)
-        (scope_of fn) fn.body [] 0
-    pub ends : HasAt linear (FunctionBody k) [] (statements_size fn.body)
+        (scope_of fn) fn.body [] 1
+    pub ends : HasAt linear (FunctionBody k) [] (1 + statements_size fn.body)
         (constant 0 0 ∷ instructions.Return (Temporary 0) ∷ [])
     pub light : statements_weight fn.body ≤ body
     pub quick : statements_weight fn.body + body + 4 ≤ steps_per_turn

@@ -44,11 +44,12 @@ module _ (program : Program) (own : ℕ) where
     of_finally = λ k. tt;
   }
 
-  statements_blind : (ss : Statements) (scope : LoweringContext) → IsOutside scope.names.exception
-      → StatementsFit program own ss → AllBlind (statements_code scope ss 0)
-  statements_blind ss scope o h = statements_all IsBlind Outside (ExpressionFits program own false)
+  statements_blind : (ss : Statements) (scope : LoweringContext) (at : ℕ)
+      → IsOutside scope.names.exception → StatementsFit program own ss
+      → AllBlind (statements_code scope ss at)
+  statements_blind ss scope at o h = statements_all IsBlind Outside (ExpressionFits program own false)
       (ExpressionFits program own true) (λ x. x < own) (λ names m k le o. tt) instructions_blind ss
-      scope 0 (statements_notes ss) (omega arith) o h
+      scope at (statements_notes ss) (omega arith) o h
 
   funclets_fine : HoldsOfFunclets IsFine (λ owner. Unit {0}) (λ k. Unit {0}) Outside
       (ExpressionFits program own false) (ExpressionFits program own true) (λ x. x < own)
@@ -59,7 +60,7 @@ module _ (program : Program) (own : ℕ) where
     of_filter = λ owner names m e o n f. tt;
     of_block = λ owner names m last o le n h. all_append IsBlind
         (statements_code (finally_scope names) last 0) (instructions.Return (Local names.free) ∷ [])
-        (statements_blind last (finally_scope names) n h) (tt, tt);
+        (statements_blind last (finally_scope names) 0 n h) (tt, tt);
   }
 
 -- ---- programs
@@ -69,10 +70,13 @@ module _ (program : Program) where
       → AllByRecursion (λ (f : LinearFunction). AllBlind f.body.code) (map lowered_function fs)
   functions_blind [] ok = tt
   functions_blind (f ∷ fs) ok = (
-    all_append IsBlind (statements_code (scope_of f) f.body 0)
-        (constant 0 0 ∷ instructions.Return (Temporary 0) ∷ [])
-        (statements_blind program (own_locals f) f.body (scope_of f) tt
-        (function_fits program f (both_left _ _ ok))) (tt, (tt, tt)),
+    (
+      tt,
+      all_append IsBlind (statements_code (scope_of f) f.body 1)
+          (constant 0 0 ∷ instructions.Return (Temporary 0) ∷ [])
+          (statements_blind program (own_locals f) f.body (scope_of f) 1 tt
+          (function_fits program f (both_left _ _ ok))) (tt, (tt, tt)),
+    ),
     functions_blind fs (both_right _ _ ok),
   )
 

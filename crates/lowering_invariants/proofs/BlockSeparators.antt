@@ -107,10 +107,12 @@ block_followed owner names last label i =
 
 function_followed : (f : Function) → IsFollowed (lowered_function f).body
 function_followed f label i =
-    next_there (lowered_function f).body.code label i
-    (append (statements_code (scope_of f) f.body 0)
-    (constant 0 0 ∷ instructions.Return (Temporary 0) ∷ [])
-    (statements_follow f.body (scope_of f) 0) ((λ x. no x), ((λ x. no x), tt)))
+    next_there (lowered_function f).body.code label i (
+      (λ x. no x),
+      append (statements_code (scope_of f) f.body 1)
+          (constant 0 0 ∷ instructions.Return (Temporary 0) ∷ [])
+          (statements_follow f.body (scope_of f) 1) ((λ x. no x), ((λ x. no x), tt)),
+    )
 
 pub lowered_is_followed : LoweredIsFollowed
 lowered_is_followed = every_body IsFollowed filter_followed block_followed function_followed

@@ -1,6 +1,6 @@
 -- No temporary is held between statements, and their jumps lead to places that hold as many as they
 -- leave.
-use Rattle.std.proofs.Common.{◌≡◌, ℕ, List, [], ◌∷◌, ◌++◌, refl, arith}
+use Rattle.std.proofs.Common.{◌≡◌, ℕ, ◌+◌, List, [], ◌∷◌, ◌++◌, refl, arith}
 use Rattle.std.specs.Prelude.{Option, Some, None}
 use Rattle.lowering_invariants.specs.Words.{Expression, Program, Function, Statements, Local, Temporary, Instruction, JumpIfZero, Separator, LinearBody, BodyName, body_of, statements_size, statements_notes, Owner, Names, Way, Nowhere, Jumps, LoweringContext, finally_scope, constant, copy, expression_code, return_code, returned_code, repeated, statements_code, finally_funclet, scope_of, lowered_function, lowered, depth_at, filter_funclet}
 use Rattle.linear_code.specs.declared.instruction.Instruction.TheVariants as instructions
@@ -117,14 +117,14 @@ module _ (depth : ℕ → ℕ) where
     ends = λ at to xs e m c. scan_end depth at to 0 0 xs e m c;
   }
 
-  statements_lead : (ss : Statements) (scope : LoweringContext)
+  statements_lead : (ss : Statements) (scope : LoweringContext) (at : ℕ)
       → WaysHave (λ label. depth label ≡ 0) (λ label. depth label ≡ 1) scope
-      → At 0 0 (statements_code scope ss 0) → All 0 (statements_code scope ss 0)
-  statements_lead ss scope w h = (statements_every (λ at xs rs. Led xs) (λ at xs. At at 0 xs)
+      → At at 0 (statements_code scope ss at) → All 0 (statements_code scope ss at)
+  statements_lead ss scope at w h = (statements_every (λ at xs rs. Led xs) (λ at xs. At at 0 xs)
       (λ xs. past xs 0 ≡ 0)
       (λ label. depth label ≡ 0) (λ label. depth label ≡ 1) (λ names m. Unit {0}) (λ e. Unit {0})
       (λ e. Unit {0}) (λ x. Unit {0}) (neutral_of (λ xs. past xs 0 ≡ 0) pieces_past) places_scanned
-      (λ names m k le n. tt) pieces_led ss scope 0 (statements_notes ss) (omega arith) tt w
+      (λ names m k le n. tt) pieces_led ss scope at (statements_notes ss) (omega arith) tt w
       (statements_have (λ e. Unit {0}) (λ e. Unit {0}) (λ x. Unit {0}) (λ e. tt) (λ e. tt)
       (λ x. tt) ss) h).1
 
@@ -149,24 +149,27 @@ block_leads owner names last =
     let all = code ++ ends in
     let depth = depth_at all in
     lead_both depth code ends 0 0 (statements_past last scope 0)
-    (statements_lead depth last scope (record
+    (statements_lead depth last scope 0 (record
     { exit = tt; loop_end = tt; loop_next = tt; leave = tt })
     (scan_front depth 0 0 code ends (scanned all))) (tt, tt)
 
 function_leads : (f : Function) → BodyLeads (lowered_function f).body
 function_leads f =
     let scope = scope_of f in
-    let code = statements_code scope f.body 0 in
+    let code = statements_code scope f.body 1 in
     let ends = constant 0 0 ∷ instructions.Return (Temporary 0) ∷ [] in
-    let all = code ++ ends in
+    let all = Separator ∷ (code ++ ends) in
     let depth = depth_at all in
-    let l = statements_length scope f.body 0 in
-    let h1 = scan_back depth 0 (statements_size f.body) 0 0 code ends (omega arith)
-    (statements_past f.body scope 0) (scanned all) in
-    lead_both depth code ends 0 0 (statements_past f.body scope 0)
-    (statements_lead depth f.body scope (record
-    { exit = h1.1.0; loop_end = tt; loop_next = tt; leave = tt })
-    (scan_front depth 0 0 code ends (scanned all))) (tt, (tt, tt))
+    let l = statements_length scope f.body 1 in
+    let whole = scanned all in
+    let h1 = scan_back depth 1 (1 + statements_size f.body) 0 0 code ends (omega arith)
+    (statements_past f.body scope 1) whole.1 in (
+      tt,
+      lead_both depth code ends 0 0 (statements_past f.body scope 1)
+          (statements_lead depth f.body scope 1 (record
+          { exit = h1.1.0; loop_end = tt; loop_next = tt; leave = tt })
+          (scan_front depth 1 0 code ends whole.1)) (tt, (tt, tt)),
+    )
 
 pub bodies_lead : (program : Program) (name : BodyName) (b : LinearBody)
     → body_of (lowered program) name ≡ Some b → BodyLeads b

@@ -40,19 +40,21 @@ module _ (program : Program) where
       let linear = lowered program in
       let body = (lowered_function fn).body in
       let owner : Owner = record { function = number; locals = all_locals fn; parent = None } in
-      let code = statements_code (scope_of fn) fn.body 0 in
+      let code = statements_code (scope_of fn) fn.body 1 in
       let ends = constant 0 0 ∷ instructions.Return (Temporary 0) ∷ [] in
       let there' = ap function_body there in
       let fits = function_fits program fn ok in
       let x = statements_have program linear callee (own_locals fn) fn.body (FunctionBody number)
-      owner (record { parent = refl; function = refl }) (scope_of fn).names 0 fits j f c in
+      owner (record { parent = refl; function = refl }) (scope_of fn).names 1 fits j f c in
       let y = typed program linear callee (own_locals fn) (FunctionBody number) body there' fn.body
-      (scope_of fn) 0 fits x.named (front body.code 0 code ends (whole_is_at body.code)) in
+      (scope_of fn) 1 fits x.named (front body.code 1 code ends (whole_is_at body.code).1) in
       let whole : IsBodyOf linear (FunctionBody number)
       body = record {
         regions = y.1;
-        code = append program linear callee
-            (FunctionBody number) code ends y.0 (tt, (tt, tt));
+        code = (
+          tt,
+          append program linear callee (FunctionBody number) code ends y.0 (tt, (tt, tt)),
+        );
       } in (
         (λ b e. subst (IsBodyOf linear (FunctionBody number))
             (same_it body b (sym (ap function_body there) ∙ e)) whole),

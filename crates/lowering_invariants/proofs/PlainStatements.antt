@@ -174,14 +174,14 @@ module _ (program : Program) (most n own : ℕ) (wide : own ≤ n) (least : 8 �
     of_finally = λ k. (omega arith, omega arith, tt);
   }
 
-  pub statements_good : (ss : Statements) (scope : LoweringContext) (m : ℕ)
+  pub statements_good : (ss : Statements) (scope : LoweringContext) (at m : ℕ)
       → statements_notes ss ≤ m → Named n scope.names m
       → StatementsHave (Value program most own false) (Value program most own true) (λ x. x < own)
       ss
-      → AllGood most n (statements_code scope ss 0)
-  statements_good ss scope m le k h = statements_all (Good most n) (Named n)
+      → AllGood most n (statements_code scope ss at)
+  statements_good ss scope at m le k h = statements_all (Good most n) (Named n)
       (Value program most own false) (Value program most own true)
-      (λ x. x < own) (except_named n) instructions_good ss scope 0 m le k h
+      (λ x. x < own) (except_named n) instructions_good ss scope at m le k h
 
   -- ---- filters and `__finally` blocks
 
@@ -225,7 +225,7 @@ module _ (program : Program) (most n own : ℕ) (wide : own ≤ n) (least : 8 �
           parent = fitting.parent;
           body = owned_body owner fitting (code ++ ends)
               (finally_funclet owner names last).body.regions
-              (append most n code ends (statements_good last (finally_scope names)
+              (append most n code ends (statements_good last (finally_scope names) 0
               (statements_notes last) (omega arith)
               (finally_named n names m (statements_notes last) le k) h)
               ((omega arith, omega arith, lt), tt));

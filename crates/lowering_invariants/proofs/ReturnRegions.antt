@@ -123,14 +123,14 @@ module _ (code : List Instruction) where
     of_return = λ names m e exit at n h w c. tt;
   }
 
-  statements_cut : (ss : Statements) (scope : LoweringContext)
+  statements_cut : (ss : Statements) (scope : LoweringContext) (at : ℕ)
       → WaysHave Cut (λ label. Unit {0}) scope
-      → Placed 0 (statements_code scope ss 0) → AllByRecursion IsCut (statements_regions ss 0)
-  statements_cut ss scope w c =
+      → Placed at (statements_code scope ss at) → AllByRecursion IsCut (statements_regions ss at)
+  statements_cut ss scope at w c =
       statements_every (λ at xs rs. AllByRecursion IsCut rs) Placed EndsPlain Cut
       (λ label. Unit {0})
       (λ names m. Unit {0}) (λ e. Unit {0}) (λ e. Unit {0}) (λ x. Unit {0})
-      (neutral_of EndsPlain pieces_end) places_cut (λ names m k le n. tt) regions_cut ss scope 0
+      (neutral_of EndsPlain pieces_end) places_cut (λ names m k le n. tt) regions_cut ss scope at
       (statements_notes ss) (omega arith) tt w (statements_have (λ e. Unit {0}) (λ e. Unit {0})
       (λ x. Unit {0}) (λ e. tt) (λ e. tt) (λ x. tt) ss) c
 
@@ -168,18 +168,16 @@ filter_stays owner names e =
       hold = λ label i g c. tt;
     }
 
--- the code of statements, and an end with no call
-statements_stay : (ss : Statements) (scope : LoweringContext) (b : LinearBody) (i : Instruction)
-    (is : List Instruction) → b.code ≡ statements_code scope ss 0 ++ i ∷ is
-    → b.regions ≡ statements_regions ss 0 → EndsPlain (i ∷ is)
+-- the code of statements from a place on, and an end with no call
+statements_stay : (ss : Statements) (scope : LoweringContext) (b : LinearBody) (at : ℕ)
+    (i : Instruction) (is : List Instruction) → EndsPlain b.code → Cut b.code at
+    → IsSegmentAt b.code at (statements_code scope ss at ++ i ∷ is)
+    → b.regions ≡ statements_regions ss at
     → WaysHave (Cut b.code) (λ label. Unit {0}) scope → CallsStay b
-statements_stay ss scope b i is same regions plain w =
-    let code = statements_code scope ss 0 in
-    let whole = subst (λ (xs : List Instruction). IsSegmentAt b.code 0 xs) same
-    (whole_is_at b.code) in
-    let ends = subst EndsPlain (sym same) (ends_after code i is plain) in
-    let cut = statements_cut b.code ss scope w
-    ((λ q j n g. absurd (omega arith)), front b.code 0 code (i ∷ is) whole) in
+statements_stay ss scope b at i is ends begins whole regions w =
+    let code = statements_code scope ss at in
+    let cut = statements_cut b.code ss scope at w
+    (begins, front b.code at code (i ∷ is) whole) in
     let all = subst (λ (rs : List Region). AllByRecursion (IsCut b.code) rs) (sym regions) cut in
     record {
       within = λ label j g c. call_within b.code label j ends g c;
@@ -188,13 +186,23 @@ statements_stay ss scope b i is same regions plain w =
 
 block_stays : (owner : Owner) (names : Names) (last : Statements)
     → CallsStay (finally_funclet owner names last).body
-block_stays owner names last = statements_stay last (finally_scope names)
-    (finally_funclet owner names last).body (Return (Local names.free)) [] refl refl refl
+block_stays owner names last =
+    let b = (finally_funclet owner names last).body in
+    let returns = Return (Local names.free) in
+    statements_stay last (finally_scope names) b 0 returns []
+    (ends_after (statements_code (finally_scope names) last 0) returns [] refl)
+    (λ q j n g. absurd (omega arith)) (whole_is_at b.code) refl
     (record { exit = tt; loop_end = tt; loop_next = tt; leave = tt })
 
 function_stays : (f : Function) → CallsStay (lowered_function f).body
-function_stays f = statements_stay f.body (scope_of f) (lowered_function f).body (constant 0 0)
-    (Return (Temporary 0) ∷ []) refl refl refl
+function_stays f =
+    let b = (lowered_function f).body in
+    let code = statements_code (scope_of f) f.body 1 in
+    let returns = Return (Temporary 0) ∷ [] in
+    let whole = whole_is_at b.code in
+    statements_stay f.body (scope_of f) b 1 (constant 0 0) returns
+    (ends_after (Separator ∷ code) (constant 0 0) returns refl)
+    (cut_last b.code 0 1 Separator [] refl refl (whole.0, tt)) whole.1 refl
     (record { exit = tt; loop_end = tt; loop_next = tt; leave = tt })
 
 pub calls_stay : (program : Program) (name : BodyName) (b : LinearBody)

@@ -76,16 +76,16 @@ module _ (program : Program) (h : functions_sound program.functions program.func
       let n = all_locals fn in
       let own = own_locals fn in
       let w = narrow fn ok shallow in
-      let code = statements_code (scope_of fn) fn.body 0 in
+      let code = statements_code (scope_of fn) fn.body 1 in
       let ends = constant 0 0 ∷ instructions.Return (Temporary 0) ∷ [] in
       let good = append 456 n code ends (statements_good program 456 n own w.wide (omega arith) few
-      fn.body (scope_of fn) (statements_notes fn.body) (omega arith) (w.named, w.free)
+      fn.body (scope_of fn) 1 (statements_notes fn.body) (omega arith) (w.named, w.free)
       (values_fit fn ok shallow))
       (constant_good 456 n 0 0 (omega arith), ((omega arith, omega arith, tt), tt)) in
       record {
         parameters = w.parameters;
-        body = small_body 456 n (omega arith) w.room (code ++ ends) (statements_regions fn.body 0)
-            good;
+        body = small_body 456 n (omega arith) w.room (instructions.Separator ∷ (code ++ ends))
+            (statements_regions fn.body 1) ((omega arith, omega arith, tt), good);
       }
 
   functions_small : (fs : List Function) → functions_sound program.functions fs ≡ true

@@ -71,15 +71,15 @@ module _ (n : ℕ) where
     of_finally = λ k. tt;
   }
 
-  statements_go_in : (ss : Statements) (scope : LoweringContext)
+  statements_go_in : (ss : Statements) (scope : LoweringContext) (at : ℕ)
       → WaysHave (λ label. label < n) (λ label. label < n) scope
-      → IsBefore 0 (statements_code scope ss 0) → AllGoIn (statements_code scope ss 0)
-  statements_go_in ss scope w c =
+      → IsBefore at (statements_code scope ss at) → AllGoIn (statements_code scope ss at)
+  statements_go_in ss scope at w c =
       statements_every (λ at xs rs. AllGoIn xs) IsBefore (λ xs. Unit {0}) (λ label. label < n)
       (λ label. label < n) (λ names m. Unit {0}) (λ e. Unit {0}) (λ e. Unit {0}) (λ x. Unit {0})
       any_neutral places_before (λ names m k le h. tt)
       (all_pieces GoesIn IsBefore (λ label. label < n) (λ label. label < n) (λ names m. Unit {0})
-      (λ e. Unit {0}) (λ x. Unit {0}) instructions_go_in) ss scope 0 (statements_notes ss)
+      (λ e. Unit {0}) (λ x. Unit {0}) instructions_go_in) ss scope at (statements_notes ss)
       (omega arith) tt w (statements_have (λ e. Unit {0}) (λ e. Unit {0}) (λ x. Unit {0}) (λ e. tt)
       (λ e. tt) (λ x. tt) ss) c
 
@@ -105,7 +105,7 @@ block_stays owner names last =
     let ends = instructions.Return (Local names.free) ∷ [] in
     let n = length-append (statements_code scope last 0) ends in
     stays code (append (length code) (statements_code scope last 0) ends
-    (statements_go_in (length code) last scope
+    (statements_go_in (length code) last scope 0
     (record { exit = tt; loop_end = tt; loop_next = tt; leave = tt }) (omega arith)) (tt, tt))
 
 function_stays : (f : Function) → StaysInside (lowered_function f).body
@@ -113,16 +113,19 @@ function_stays f =
     let code = (lowered_function f).body.code in
     let scope = scope_of f in
     let ends = constant 0 0 ∷ instructions.Return (Temporary 0) ∷ [] in
-    let n = length-append (statements_code scope f.body 0) ends in
-    let l = statements_length scope f.body 0 in
-    stays code (append (length code) (statements_code scope f.body 0) ends
-    (statements_go_in (length code) f.body scope
-    (record {
-      exit = (let z : statements_size f.body + 1 < length code = omega arith in z);
-      loop_end = tt;
-      loop_next = tt;
-      leave = tt;
-    }) (omega arith)) (tt, (tt, tt)))
+    let n = length-append (statements_code scope f.body 1) ends in
+    let l = statements_length scope f.body 1 in
+    stays code (
+      tt,
+      append (length code) (statements_code scope f.body 1) ends
+          (statements_go_in (length code) f.body scope 1
+          (record {
+            exit = (let z : 1 + statements_size f.body + 1 < length code = omega arith in z);
+            loop_end = tt;
+            loop_next = tt;
+            leave = tt;
+          }) (omega arith)) (tt, (tt, tt)),
+    )
 
 pub lowered_stays_inside : LoweredStaysInside
 lowered_stays_inside = every_body StaysInside filter_stays block_stays function_stays

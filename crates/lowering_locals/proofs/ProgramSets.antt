@@ -81,17 +81,18 @@ module _ (program : Program) where
       let ll = statements_sets own seen fn.body in
       let list = function_sets fn in
       let long = statements_long fn.body own seen in
-      let lc = statements_length scope fn.body 0 in
+      let lc = statements_length scope fn.body 1 in
       let ls = length-append fn.parameters fn.locals in
-      let same : size ≡ 0 + size = omega arith in
+      let end = 1 + size in
       let whole : IsSegmentAt (lists name) 0 list = subst
       (λ (l : List SeenNames). IsSegmentAt l 0 list) (sym recorded) (whole_is_at list) in
-      let tail = back (lists name) 0 size ll (replicate 2 seen) (omega arith) whole in
-      let here = head_recorded (lists name) size seen (seen ∷ []) tail in
-      let here_exit = head_recorded (lists name) (size + 1) seen [] tail.1 in
-      let front_part = front (lists name) 0 ll (replicate 2 seen) whole in
-      let recorded_end = is_same (sets name size) seen here in
-      let start = begins (lists name) 0 size ll seen seen front_part
+      let here_first = head_recorded (lists name) 0 seen (ll ++ replicate 2 seen) whole in
+      let tail = back (lists name) 1 end ll (replicate 2 seen) (omega arith) whole.1 in
+      let here = head_recorded (lists name) end seen (seen ∷ []) tail in
+      let here_exit = head_recorded (lists name) (end + 1) seen [] tail.1 in
+      let front_part = front (lists name) 1 ll (replicate 2 seen) whole.1 in
+      let recorded_end = is_same (sets name end) seen here in
+      let start = begins (lists name) 1 end ll seen seen front_part
       (statements_first fn.body own seen seen (itself seen)) (omega arith) recorded_end in
       let few : length fn.parameters ≤ all_locals fn = omega arith in
       let place : IsPlace with_sets name (owner number fn) scope seen
@@ -104,27 +105,29 @@ module _ (program : Program) where
           code = tt;
           flag = tt;
         };
-        exit = is_same (sets name (size + 1)) seen here_exit;
+        exit = is_same (sets name (end + 1)) seen here_exit;
         loop_end = tt;
         loop_next = tt;
         leave = tt;
       } in
       let x = statements_are_set with_sets fn.body name (owner number fn)
-      (inside_function program fn) scope seen seen 0 j place (omega arith) (omega arith)
-      (both_left _ _ (both_left _ _ ok)) w front_part
-      (subst (λ n. IsPart (sets name n) seen) same recorded_end) f in
-      let next = within (sets name (size + 1)) seen (sets name size)
-      (is_same (sets name (size + 1)) seen here_exit) (is_same_back (sets name size) seen here) in
-      let leads = both_lead linear sets name 0 size (statements_code scope fn.body 0)
+      (inside_function program fn) scope seen seen 1 j place (omega arith) (omega arith)
+      (both_left _ _ (both_left _ _ ok)) w front_part recorded_end f in
+      let begun = within (sets name 1) seen (sets name 0) start
+      (is_same_back (sets name 0) seen here_first) in
+      let next = within (sets name (end + 1)) seen (sets name end)
+      (is_same (sets name (end + 1)) seen here_exit) (is_same_back (sets name end) seen here) in
+      let leads = both_lead linear sets name 1 end (statements_code scope fn.body 1)
       (constant 0 0 ∷ instructions.Return (Temporary 0) ∷ []) (omega arith) x.leads
       ((tt, tt, next), (tt, tt)) in
       let set : IsSetBody linear sets name body = whole_body with_sets name
-      body leads x.regions in (
+      body (begun, leads) x.regions in (
         record {
           body = λ b e. subst (IsSetBody linear sets name)
               (same_it body b (sym (ap function_body there) ∙ e)) set;
           begun = λ g e. subst (λ (h : LinearFunction). IsPart (sets name 0)
-              (first_seen h.parameters)) (same_it (lowered_function fn) g (sym there ∙ e)) start;
+              (first_seen h.parameters)) (same_it (lowered_function fn) g (sym there ∙ e))
+              (is_same (sets name 0) seen here_first);
         },
         x.funclets,
       )

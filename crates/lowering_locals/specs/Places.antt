@@ -102,10 +102,11 @@ abbrev mutual
 abbrev pub parameters_seen : Function → SeenNames
 parameters_seen f = first_seen (length f.parameters)
 
--- at a function's end its parameters are seen
+-- where a function begins and at its end its parameters are seen
 abbrev pub function_sets : Function → List SeenNames
 function_sets f =
-    statements_sets (own_locals f) (parameters_seen f) f.body ++ replicate 2 (parameters_seen f)
+    parameters_seen f ∷ statements_sets (own_locals f) (parameters_seen f) f.body
+    ++ replicate 2 (parameters_seen f)
 
 abbrev pub all_funclet_sets : List Function → List (List SeenNames)
 all_funclet_sets [] = []

@@ -4,7 +4,7 @@ use Rattle.match_bodies.specs.Words.{State, Operation, Gives, performed, is_rese
 use Rattle.linear_code.specs.declared.instruction.Instruction.TheVariants as instructions
 use Rattle.lowering_invariants.specs.Ready as ready
 use Rattle.lowering_invariants.specs.SmallNumbers.{IsSmallCode}
-use Rattle.match_bodies.specs.StepLaws.{turns_per_step, Completes, IsWithinBody, StepsWithinBodiesAreMatched}
+use Rattle.match_bodies.specs.StepLaws.{turns_per_step, Completes, IsWithinBody, StepsWithinBodiesAreMatched, SeparatorsAreMatched}
 use Rattle.match_bodies.proofs.TemplateRuns.{code, slots, has_slots}
 use Rattle.match_bodies.proofs.PlainSteps.{is_read, jump_step, separator_step, jump_if_zero_step}
 use Rattle.match_bodies.proofs.ComputeStep.{same_constant, outcome_here, compute_step}
@@ -85,6 +85,14 @@ module _ (setting : Setting) (made : IsWellMade setting.program setting.plan) (s
   small_code None value e h = cc
   small_code (Some x) value e h = let n = some_number x value e in omega arith
 
+  separator : instruction_at program c ≡ Some instructions.Separator
+      → Moves t fs program 1 turns_left (RepresentsAt setting) s c instructions.Separator
+  separator e =
+      separator_step setting made.room s c b (counted_here setting made c known)
+      (around_here setting made s c b known) (free instructions.Separator e refl)
+      (code_at setting made s c b known instructions.Separator e) (held_here setting made s c b
+      known) (goes_inside setting made s c b known instructions.Separator e)
+
   step : (i : Instruction) → instruction_at program c ≡ Some i → IsWithinBody program c i
       → HasRule (act program i (exec program zero) c)
       → Moves t fs program turns_per_step turns_left (RepresentsAt setting) s c i
@@ -121,13 +129,27 @@ module _ (setting : Setting) (made : IsWellMade setting.program setting.plan) (s
       (held_here setting made s c b known) r.1
       (goes_inside setting made s c b known (instructions.Landing to) e)
   step instructions.Separator e h rule =
-      separator_step setting made.room s c b (counted_here setting made c known)
-      (around_here setting made s c b known) (free instructions.Separator e refl)
-      (code_at setting made s c b known instructions.Separator e) (held_here setting made s c b
-      known) (goes_inside setting made s c b known instructions.Separator e)
+      let m = separator e in
+      let few = m.few in
+      record {
+        turns = m.turns;
+        some = m.some;
+        configuration = m.configuration;
+        few = omega arith;
+        state = m.state;
+        events = m.events;
+        comes = m.comes;
+        acts = m.acts;
+        shown = m.shown;
+        is_there = m.is_there;
+      }
   step i e h rule = absurd h
 
 pub within_body : StepsWithinBodiesAreMatched
 within_body t fs program p q image made s c i b known e h rule = step (setting_of t fs program p q
     image) made s
     c b known i e h rule
+
+pub separators_are_matched : SeparatorsAreMatched
+separators_are_matched t fs program p q image made s c b known e = separator (setting_of t fs
+    program p q image) made s c b known e

@@ -65,16 +65,16 @@ module _ (setting : Setting) (roomy : HaveRoom setting.program) where
         omega arith
 
     -- a turn of linear code that is a run of a template to an instruction of the body
-    pub moves_to : (i : Instruction) (n label rip : ℕ) (d : BodyState) (values ts : List ℕ)
-        (landed : Option ℕ)
+    moves_within : (most : ℕ) (i : Instruction) (n label rip : ℕ) (d : BodyState)
+        (values ts : List ℕ) (landed : Option ℕ)
         → ReachesBody (frame setting roomy s c b counted) n s rip
         (v setting roomy s c b counted).rest d → rip ≡ p.address c.frame.body label
         → label < length body.code → rip < 2 ^ 64 → Leaves body d values ts → landed ≡ None
         → RunsKeep setting s c b counted n s → ((next : Next) → act program i next c ≡ next
         (at_other c label values ts landed d.memory c.events)) → 1 ≤ n
-        → n + 3 * length ts ≤ 16 + 3 * length c.frame.temporaries
-        → Moves t fs program 16 turns_left (RepresentsAt setting) s c i
-    moves_to i n label rip d values ts landed r at lt small leaves free keep acts some few =
+        → n + 3 * length ts ≤ most + 3 * length c.frame.temporaries
+        → Moves t fs program most turns_left (RepresentsAt setting) s c i
+    moves_within most i n label rip d values ts landed r at lt small leaves free keep acts some few =
         let m = to_label setting roomy s c b counted around n label rip d values ts
         landed c.events r at lt small leaves free keep in
         let store : locals_of (with_values b.body.acts c.frame.activation values)
@@ -98,6 +98,17 @@ module _ (setting : Setting) (roomy : HaveRoom setting.program) where
             events = c.events;
           } in RepresentsAt setting m.0 o) store m.2;
         }
+
+    pub moves_to : (i : Instruction) (n label rip : ℕ) (d : BodyState) (values ts : List ℕ)
+        (landed : Option ℕ)
+        → ReachesBody (frame setting roomy s c b counted) n s rip
+        (v setting roomy s c b counted).rest d → rip ≡ p.address c.frame.body label
+        → label < length body.code → rip < 2 ^ 64 → Leaves body d values ts → landed ≡ None
+        → RunsKeep setting s c b counted n s → ((next : Next) → act program i next c ≡ next
+        (at_other c label values ts landed d.memory c.events)) → 1 ≤ n
+        → n + 3 * length ts ≤ 16 + 3 * length c.frame.temporaries
+        → Moves t fs program 16 turns_left (RepresentsAt setting) s c i
+    moves_to = moves_within 16
 
     -- the same numbers in the locals
     pub same_store : slice_set c.store.activations c.frame.activation values_here
@@ -214,14 +225,14 @@ module _ (setting : Setting) (roomy : HaveRoom setting.program) where
     pub separator_step : c.frame.landed ≡ None
         → slice_get body.code c.frame.next ≡ Some instructions.Separator
         → length c.frame.temporaries ≤ body.temporaries → GoesInside instructions.Separator
-        → Moves t fs program 16 turns_left (RepresentsAt setting) s c instructions.Separator
+        → Moves t fs program 1 turns_left (RepresentsAt setting) s c instructions.Separator
     separator_step free e held inside =
         let r = done setting roomy s c b counted instructions.Separator e in
         let most = r.most in
         let lt = inside (forth (with_last [] c)) (λ next. refl) body b.body.slots.body in
         let at = next_address setting roomy s c b counted instructions.Separator e in
         let small = label_small (c.frame.next + 1) lt in
-        moves_to instructions.Separator 1 (c.frame.next + 1)
+        moves_within 1 instructions.Separator 1 (c.frame.next + 1)
         (s.cpu.rip + template_size (p.layout c.frame.body) instructions.Separator) slots_now
         values_here [] c.frame.landed
         (from_here 1 (s.cpu.rip + template_size (p.layout c.frame.body) instructions.Separator)

@@ -57,3 +57,13 @@ StepsWithinBodiesAreMatched =
     → IsWithinBody program c i
     → HasRule (act program i (exec program zero) c)
     → Moves t fs program turns_per_step turns_left (RepresentsAt t fs program p q) s c i
+
+-- a separator takes one turn
+abbrev pub SeparatorsAreMatched : Type 0
+SeparatorsAreMatched =
+    (t : Functions) (fs : List Funclet) (program : LinearProgram) (p : ImagePlan) (q : Sites)
+    → IsProgramImage t fs program p q → IsWellMade program p
+    → (s : State) (c : Configuration)
+    → RepresentsAt t fs program p q s c → IsKnown program c
+    → instruction_at program c ≡ Some instructions.Separator
+    → Moves t fs program 1 turns_left (RepresentsAt t fs program p q) s c instructions.Separator

@@ -212,7 +212,7 @@ module _ (setting : Setting) (made : IsWellMade setting.program setting.plan) wh
           small = called.small_others at_call;
           turns = called.turns at_call;
           some = called.some_turns at_call;
-          few = called.soon at_call;
+          few = (let soon = called.soon at_call in omega arith);
           state = called.after at_call;
           comes = called.comes at_call;
           acts = goes;

@@ -15,7 +15,11 @@ use Rattle.match_runs.specs.Comes.{Comes}
 use Rattle.lowering_invariants.specs.SmallNumbers.{AreSmall}
 use Rattle.match_bodies.specs.CodeSites.{Sites}
 use Rattle.match_bodies.specs.Bodies.{turns_left, RepresentsAt}
-use Rattle.match_bodies.specs.StepLaws.{turns_per_step}
+
+-- turns that a call takes at most, with what earlier steps left: those of a step, and six that its
+-- body has in hand
+abbrev pub turns_per_call : ℕ
+turns_per_call = 22
 
 -- linear code where a function begins, with these numbers in its locals
 abbrev pub begun : (f : ℕ) (values : List ℕ) (held : ℕ) (below : List Item) (source : Memory)
@@ -58,7 +62,7 @@ module _ (t : Functions) (fs : List Funclet) (program : LinearProgram) (p : Imag
     pub some : 1 ≤ turns
     pub few : turns + turns_left (begun f (arguments ++ others) c.frame.held
         (Waits (waiting c first).frame ∷ c.below) c.store.memory c.store.activations c.events)
-        ≤ turns_per_step + turns_left c
+        ≤ turns_per_call + turns_left c
     pub state : State
     pub comes : Comes t fs turns s [] state
     pub acts : (next : Next) → act program (instructions.Call f first count) next c

@@ -2,7 +2,7 @@
 use Rattle.std.specs.Prelude.{ℕ, ◌+◌, List, [], ◌∷◌, ◌++◌, length, map, None}
 use Rattle.c_checked.specs.Program.{Program, Function}
 use Rattle.linear_code.specs.declared.slot.Slot.TheVariants.{Temporary}
-use Rattle.linear_code.specs.declared.instruction.Instruction.TheVariants.{Return}
+use Rattle.linear_code.specs.declared.instruction.Instruction.TheVariants.{Separator, Return}
 use Rattle.linear_code.specs.Program.{LinearFunction, LinearFunclet, LinearProgram}
 use Rattle.lowering_expressions.specs.declared.scope.LoweringContext.{LoweringContext}
 use Rattle.lowering_expressions.specs.Scope.{function_scope}
@@ -20,16 +20,17 @@ own_locals f = length f.parameters + length f.locals
 abbrev pub all_locals : Function → ℕ
 all_locals f = own_locals f + statements_notes f.body
 
--- a function returns 0 at its end, and what its first temporary holds at its exit
+-- a function begins with a separator, so that no region of it begins where its prologue ends; it
+-- returns 0 at its end, and what its first temporary holds at its exit
 abbrev pub scope_of : Function → LoweringContext
-scope_of f = function_scope (own_locals f) (statements_size f.body + 1)
+scope_of f = function_scope (own_locals f) (1 + statements_size f.body + 1)
 
 abbrev pub lowered_function : Function → LinearFunction
 lowered_function f = record {
   parameters = length f.parameters;
   body =
-      body_with (all_locals f) (statements_code (scope_of f) f.body 0 ++ constant 0 0
-      ∷ Return (Temporary 0) ∷ []) (statements_regions f.body 0);
+      body_with (all_locals f) (Separator ∷ statements_code (scope_of f) f.body 1 ++ constant 0 0
+      ∷ Return (Temporary 0) ∷ []) (statements_regions f.body 1);
 }
 
 -- the funclets of a function of this number

@@ -38,7 +38,7 @@ fn scope_of(f: &Function) -> Result<LoweringContext, AllocError>
     ensures { IfOk result (λ s. s ≡ spec.scope_of (programs.function f.now)) }
 {
     let free = own_locals(f)?;
-    let exit = sum(statements_size(&f.body)?, 1)?;
+    let exit = sum(statements_size(&f.body)?, 2)?;
     Ok(LoweringContext {
         names: Names {
             exception: ExceptionSource::NoException,
@@ -59,13 +59,14 @@ fn lower_function(alloc: Global, f: &Function) -> Result<IrFunction, AllocError>
     let scope = scope_of(f)?;
     let locals = all_locals(f)?;
     let mut code = Vec::new(alloc);
+    put_all(&mut code, &[Instruction::Separator])?;
     statements(&mut code, &scope, &f.body)?;
     let returns = Instruction::Return {
         from: Slot::Temporary(0),
     };
     put_all(&mut code, &[constant(0, 0), returns])?;
     let mut regions = Vec::new(alloc);
-    statements_regions(&mut regions, &f.body, 0)?;
+    statements_regions(&mut regions, &f.body, 1)?;
     let body = body_with(locals, code, regions)?;
     Ok(IrFunction {
         parameters: f.parameters.len() as u64,

@@ -26,11 +26,11 @@ functions_bound number (f ∷ fs) =
     let own = lowered_funclets number f in
     let more = all_funclets (number + 1) fs in
     let r = functions_bound (number + 1) fs in
-    let b = statements_bound (scope_of f) 0 0 owner names f.body in
+    let b = statements_bound (scope_of f) 1 1 owner names f.body in
     let c = statements_count owner names f.body in
     omega (
       arith,
-      room_append (statements_code (scope_of f) f.body 0)
+      room_append (statements_code (scope_of f) f.body 1)
           (constant 0 0 ∷ Return (Temporary 0) ∷ []),
       funclets_append own more,
       length-append own more,

@@ -137,7 +137,7 @@ abbrev mutual
 
 -- ---- functions
 
--- each returns 0 at its end
+-- each begins with a separator, and returns 0 at its end
 abbrev pub functions_room : List Function → ℕ
 functions_room [] = 0
-functions_room (f ∷ fs) = statements_room f.body + 51 + functions_room fs
+functions_room (f ∷ fs) = statements_room f.body + 52 + functions_room fs

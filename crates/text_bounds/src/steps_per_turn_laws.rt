@@ -7,7 +7,7 @@ pub fn steps_per_turn_are_bounded()
     ensures bounded { StepsPerTurnAreBounded }
 {}
 
-/// From 16 n + 2 turns on the linear code of an accepted text has shown the events of n steps, and
+/// From 16 n + 3 turns on the linear code of an accepted text has shown the events of n steps, and
 /// has ended as they end.
 pub fn accepted_follows()
     ensures follows { AcceptedFollows }
