@@ -28,8 +28,7 @@ module _ (image : Image) (b : IsBounded image) where
   items_there at [] to low h = omega (arith, h)
   items_there at (x ∷ xs) to low h =
       let rest = items_rise (mapped image) (image.base + at + x.size) xs (image.base + to) h.2 in
-      let on : image.base + at + x.size ≡ image.base + (at + x.size) = omega arith in
-      (
+      let on : image.base + at + x.size ≡ image.base + (at + x.size) = omega arith in (
         sym (fetched_there at (omega arith)) ∙ h.0,
         h.1,
         items_there (at + x.size) xs to low
