@@ -2,6 +2,7 @@ mod Lemmas
 pub mod Shown
 pub mod Inputs
 pub mod Images
+pub mod CompiledEntries
 pub mod Compiled
 pub mod Headline
 pub mod Meanings
@@ -11,3 +12,4 @@ pub mod Calls
 pub mod MeantCalls
 pub mod CheckedFrames
 pub mod OneVerdict
+pub mod CompiledChecks

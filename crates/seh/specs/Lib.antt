@@ -12,3 +12,4 @@ pub mod TamePrograms
 pub mod Calls
 pub mod Words
 pub mod CheckLaws
+pub mod CompiledChecks
