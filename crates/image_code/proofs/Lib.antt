@@ -4,6 +4,7 @@ pub mod CodeBytes
 pub mod Fetching
 pub mod ImageBounds
 pub mod LoadedCode
+pub mod LoadedItems
 pub mod Octets
 pub mod EntryBounds
 pub mod LoadedFrames

@@ -97,19 +97,19 @@ module _ (base : ℕ) (low : base ≤ 2 ^ 47) where
 -- ---- what is executed
 
 module _ (image : Image) (b : IsBounded image) where
-  execute_at : (a : ℕ) → ((mapped image).protection (image.base + a)).execute
+  pub execute_at : (a : ℕ) → ((mapped image).protection (image.base + a)).execute
       ≡ ((code_of image).protection a).execute
   unfolding mapped
   execute_at a =
       ap (λ o. (mode_in o (image.base + a)).execute) (section_shifted image.base a image.sections)
       ∙ execute_shifted (image.base + a) a (section_of 0 a image.sections)
 
-  byte_at : (a : ℕ) → a < 2 ^ 63 → (mapped image).byte (image.base + a) ≡ (code_of image).byte a
+  pub byte_at : (a : ℕ) → a < 2 ^ 63 → (mapped image).byte (image.base + a) ≡ (code_of image).byte a
   unfolding mapped
   byte_at a small = slots_shifted image.base b.base (imports_of image) (stored_byte image)
       (stored_byte (record image { base = 0 })) b.slots (λ a small. stored_shifted image a) a small
 
-  code_at : (n a : ℕ) → a + n ≤ 2 ^ 63
+  pub code_at : (n a : ℕ) → a + n ≤ 2 ^ 63
       → executable (mapped image) n (image.base + a) ≡ executable (code_of image) n a
   unfolding executable
   code_at zero a le = refl

@@ -1,5 +1,5 @@
 -- The image of a text, by the program that the text is.
-use Rattle.std.proofs.Common.{◌≤◌, ℕ, List, length, sym, subst, arith}
+use Rattle.std.proofs.Common.{◌≡◌, ◌≤◌, ℕ, true, false, Bool, List, [], ◌∷◌, length, Option, Some, None, refl, sym, subst, arith}
 use Rattle.image_runs.proofs.TextImages.{realise, nothing_more}
 use Rattle.image_runs.proofs.FrameCallers.{lowered_finds_callers}
 use Rattle.image_runs.proofs.ShadowWalks.{accepted_walk_the_shadow}
@@ -14,8 +14,45 @@ use Rattle.image_tables.proofs.RegionRanges.{lowered_has_regions}
 use Rattle.image_tables.proofs.TryRows.{lowered_is_shaped}
 use Rattle.image_link.specs.Fits.{FitsProgram}
 use Rattle.image_tables.proofs.Table.{tables_are_read}
+use Rattle.pe_image.specs.Image.{Image}
+use Rattle.pe_image.specs.Reading.{reading}
+use Rattle.pe_write.specs.Program.{image_of}
+use Rattle.host_model.specs.declared.refusal.LoadErr.{LoadErr}
+use Rattle.host_model.specs.declared.refusal.LoadErr.TheVariants as loads
+use Rattle.host_model.specs.Loading.{reason_unless, first_of, table_refusal, has_place, place_refusal, import_refusal, entry_refusal, load_refusal}
+use Rattle.image_code.proofs.ImageBounds.{bounded}
+use Rattle.image_runs.specs.ImageMeaning.{Realises}
+use Rattle.seh.specs.Images.{IsKeptByCode}
+use Rattle.seh.proofs.CompiledEntries.{verdict_is_yes}
+use Rattle.seh.proofs.Completeness.{one_image}
 
 -- ---- by linear code
+
+-- an image that loads has a place
+second_none : (t p : Option LoadErr) (os : List (Option LoadErr)) → first_of (t ∷ p ∷ os) ≡ None
+    → p ≡ None
+second_none None None os h = refl
+second_none None (Some e) os h = h
+second_none (Some e) p os h = absurd cc
+
+no_reason : (b : Bool) (e : LoadErr) → reason_unless b e ≡ None → b ≡ true
+no_reason true e h = refl
+no_reason false e h = absurd cc
+
+placed : (image : Image) → load_refusal image ≡ None → has_place image ≡ true
+placed image h = no_reason (has_place image) (loads.Place image.base)
+    (second_none (table_refusal image) (place_refusal image)
+    (import_refusal image ∷ entry_refusal image ∷ []) h)
+
+-- each entry of the image is kept
+kept_by_code : (bytes : List ℕ) (p : Program) → FitsProgram (lowered p) → IsImageOf bytes p
+    → Realises bytes p → IsKeptByCode p
+kept_by_code bytes p fits link real =
+    let image = image_of (linked (lowered p)) in
+    let same = one_image (reading bytes) real.image image real.is link.read in
+    let loaded = subst (λ (i : Image). load_refusal i ≡ None) same real.loads in
+    verdict_is_yes (lowered p) fits (lowered_has_regions p)
+    (bounded bytes image link.read (placed image loaded))
 
 -- ---- of accepted texts
 
@@ -44,6 +81,7 @@ of_checked text image whole p short checked link =
     let fits = texts_fit text a.read.tokens whole a.read.lexed a.read.derives a.read.within a.rules
     short in
     let sound = accepted_is_sound text whole a.read.within a.rules in
+    let real = realise text whole image a.read.within a.rules fits w in
     record {
       whole = whole;
       accepted = a;
@@ -53,7 +91,8 @@ of_checked text image whole p short checked link =
             (lowered_has_regions (resolve text whole).program);
         shape = lowered_is_shaped (resolve text whole).program sound fits;
       };
-      realises = realise text whole image a.read.within a.rules fits w;
+      kept = kept_by_code image (resolve text whole).program fits w real;
+      realises = real;
       no_more = nothing_more text whole image a.read.within a.rules fits w (length text)
           (few text whole a);
       frames = lowered_finds_callers (resolve text whole).program fits;

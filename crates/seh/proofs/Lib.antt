@@ -2,6 +2,7 @@ mod Lemmas
 pub mod Shown
 pub mod Inputs
 pub mod Images
+pub mod CompiledEntries
 pub mod Compiled
 pub mod Headline
 pub mod Meanings
@@ -12,3 +13,4 @@ pub mod MeantCalls
 pub mod CheckedFrames
 pub mod OneVerdict
 pub mod Existence
+pub mod CompiledChecks

@@ -1,9 +1,11 @@
 -- What is compiled and run is what the text means, call by call.
-use Rattle.std.proofs.Common.{◌≡◌, ◌⊎◌, inl, inr, ℕ, pos, List, [], ◌∷◌, ◌++◌, Bool, Option, Some, None, refl, sym, ap, subst, ◌∙◌}
-use Rattle.seh.specs.Words.{Shown, RunEnd, Grew, text, lines, end_line, Program, resolve, meaning, Ended, run_end, run_end_of, RunOptions, end_by, text_by, Call, Gave, WantedMemory, EndsWithin, GaveMeaning, LastLinesAgree, CompiledIsMeant, RunIsMeant, AreEnough, ShowsMeaning, IsCompiled, IsProgramOf, status_of, meaning_status}
+use Rattle.std.proofs.Common.{◌≡◌, ◌⊎◌, inl, inr, ◌≤◌, ℕ, pos, length, List, [], ◌∷◌, ◌++◌, Bool, Option, Some, None, refl, sym, ap, subst, ◌∙◌}
+use Rattle.seh.specs.Words.{text_limit, Shown, RunEnd, Grew, text, lines, end_line, Program, resolve, meaning, Ended, run_end, run_end_of, RunOptions, end_by, text_by, Call, Asks, Gave, WantedMemory, EndsWithin, GaveMeaning, LastLinesAgree, CompiledIsMeant, RunIsMeant, AreEnough, ShowsMeaning, IsCompiled, IsProgramOf, status_of, meaning_status}
 use Rattle.seh_num.specs.declared.end.RunEnd.TheVariants as run_ends
 use Rattle.c_meaning.specs.Texts as meanings
 use Rattle.source_meaning.specs.declared.ended.Ended.TheVariants as meant
+use Rattle.command_line.specs.declared.command.Command.TheVariants.{Compile}
+use Rattle.seh.specs.Calls.{Took}
 use Rattle.seh.specs.declared.status.Status.TheVariants as statuses
 use Rattle.seh.proofs.Calls.{program_once, image_loads, compile_is_complete, run_is_complete, exec_is_complete}
 use Rattle.seh.proofs.Headline.{headline}
@@ -66,30 +68,39 @@ same_rest [] a b e = e
 same_rest (x ∷ front) a b e =
     let rest : front ++ a ≡ front ++ b = cc in same_rest front a b rest
 
-pub compiled_is_meant : CompiledIsMeant
-compiled_is_meant source image p options arg n first second short is asks done took runs enough
-    ends =
-    by (compile_is_complete source is.declarations first short is.checked.accepted asks)
+-- what `compile` wrote of an accepted text is an image of it
+pub took_its_image : (source image : List ℕ) (p : Program) (call : Call)
+    → length source ≤ text_limit → IsProgramOf source p → Asks Compile source call
+    → call.status ≡ statuses.Done → Took image call → IsCompiled source image
+took_its_image source image p call short is asks done took =
+    by (compile_is_complete source is.declarations call short is.checked.accepted asks)
   where
-    ran : IsCompiled source image → WantedMemory second ⊎ GaveMeaning p arg n ends options second
-    ran compiled = told (exec_is_complete image options second compiled.realises.fits
-        (image_loads source image compiled) runs)
-      where
-        told : WantedMemory second
-            ⊎ Gave (status_of (end_by options image)) (text_by options image) second → WantedMemory second ⊎ GaveMeaning p arg n ends options second
-        told (inl w) = inl w
-        told (inr gave) =
-            inr (meant_by source image p options arg n second is compiled enough ends gave)
-
     the_same : (x y : List ℕ) → Some x ≡ Some y → x ≡ y
     the_same x y e = cc
 
-    by : WantedMemory first
-        ⊎ ((image : List ℕ) × IsCompiled source image × Gave statuses.Done image first) → WantedMemory second ⊎ GaveMeaning p arg n ends options second
+    by : WantedMemory call
+        ⊎ ((image : List ℕ) × IsCompiled source image × Gave statuses.Done image call)
+        → IsCompiled source image
     by (inl w) = let q : statuses.NoMemory ≡ statuses.Done = sym w ∙ done in absurd cc
     by (inr (other, compiled, gave)) =
-        let grew : first.out_after.bytes ≡ Some (took.before ++ other) =
+        let grew : call.out_after.bytes ≡ Some (took.before ++ other) =
         gave.wrote took.before took.first in
         let same = same_rest took.before other image
         (the_same _ _ (sym grew ∙ took.last)) in
-        ran (subst (IsCompiled source) same compiled)
+        subst (IsCompiled source) same compiled
+
+pub compiled_is_meant : CompiledIsMeant
+compiled_is_meant source image p options arg n first second short is asks done took runs enough
+    ends =
+    told (exec_is_complete image options second compiled.realises.fits
+    (image_loads source image compiled) runs)
+  where
+    compiled : IsCompiled source image
+    compiled = took_its_image source image p first short is asks done took
+
+    told : WantedMemory second
+        ⊎ Gave (status_of (end_by options image)) (text_by options image) second
+        → WantedMemory second ⊎ GaveMeaning p arg n ends options second
+    told (inl w) = inl w
+    told (inr gave) =
+        inr (meant_by source image p options arg n second is compiled enough ends gave)

@@ -1,5 +1,5 @@
 -- The image of a text.
-use Rattle.std.specs.Prelude.{◌≡◌, ℕ, ◌+◌, ◌*◌, ◌^◌, ◌<◌, ◌≤◌, true, List, length, pos, None, Ok}
+use Rattle.std.specs.Prelude.{◌≡◌, ℕ, ◌+◌, ◌*◌, ◌^◌, ◌<◌, ◌≤◌, true, List, length, count_by, pos, is_some, None, Ok}
 use Rattle.c_checked.specs.Program.{Program}
 use Rattle.source_meaning.specs.Meaning.{meaning, Calm}
 use Rattle.c_resolved.specs.Program.{resolve}
@@ -9,7 +9,9 @@ use Rattle.eh_tables.specs.Tables.{tables}
 use Rattle.host_model.specs.Machine.{machine}
 use Rattle.image_tables.specs.RegionLaws.{IsShaped}
 use Rattle.pe_write.specs.Program.{image_of}
+use Rattle.image_code.specs.Verdicts.{IsImageVerdict}
 use Rattle.image_link.specs.Linked.{linked}
+use Rattle.image_link.specs.Routines.{routines}
 use Rattle.image_tables.specs.Entries.{entries}
 use Rattle.seh_ir.specs.Lowered.{lowered}
 use Rattle.text_bounds.specs.StepsPerTurnLaws.{steps_per_turn_in}
@@ -19,6 +21,8 @@ use Rattle.image_runs.specs.ShadowWalks.{WalksTheShadow}
 use Rattle.seh.specs.declared.refusal.Refusal.{Refusal}
 use Rattle.seh.specs.declared.refusal.Refusal.TheVariants as refusals
 use Rattle.match_runs.specs.Laws.{ShowsNoMore}
+use Rattle.unwind_check.specs.declared.rule.Verdict.TheVariants.{Yes}
+use Rattle.x64_emit.specs.declared.entry.TheConstants.{CHECK_STACK}
 
 -- how many steps of a text's program one turn of its image may take, by the text's length
 abbrev pub steps_per_turn : List ℕ → ℕ
@@ -46,14 +50,24 @@ pub record HasTable (program : Program) : Type 0 where
   pub read : tables (image_of (linked (lowered program))) ≡ Ok (entries (lowered program))
   pub shape : IsShaped program
 
+-- how many routines of a program, functions and funclets, have a frame
+abbrev pub framed_count : Program → ℕ
+framed_count program = count_by (λ r. is_some r.frame) (routines (lowered program))
+
+-- the verdict on a program's image is yes: so many entries, and each is kept by its code
+abbrev pub IsKeptByCode : Program → Type 0
+IsKeptByCode program =
+    IsImageVerdict (image_of (linked (lowered program))) CHECK_STACK (Yes (framed_count program))
+
 -- the image of an accepted text is the one that its program's linear code is linked to, with its
--- function table; it does what the program means, and nothing more; the walk finds the caller at
--- every instruction of it, and gives the frames of its runs
+-- function table, which its code keeps; it does what the program means, and nothing more; the walk
+-- finds the caller at every instruction of it, and gives the frames of its runs
 pub record IsCompiled (text image : List ℕ) : Type 0 where
   pub whole : List ExternalDeclaration
   pub accepted : IsAccepted text whole
   pub linked : IsImageOf image (resolve text whole).program
   pub table : HasTable (resolve text whole).program
+  pub kept : IsKeptByCode (resolve text whole).program
   pub realises : Realises image (resolve text whole).program
   pub no_more : ShowsNoMoreByLength text image (resolve text whole).program
   pub frames : FindsCallers (lowered (resolve text whole).program)

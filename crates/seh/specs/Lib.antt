@@ -13,3 +13,4 @@ pub mod Calls
 pub mod Words
 pub mod CheckLaws
 pub mod Existence
+pub mod CompiledChecks

@@ -2,6 +2,7 @@
 
 ghost use Rattle.seh.specs.Calls.{CompileIsComplete, RunIsComplete, MeaningIsComplete, ShowIsComplete, CheckIsComplete, ExecIsComplete, TextsHaveOneImage, LastLinesAgree, CompiledIsMeant, RunIsMeant};
 ghost use Rattle.seh.specs.CheckLaws.{ImagesHaveOneVerdict, DoneIsYes, CheckedCallersAreFound};
+ghost use Rattle.seh.specs.CompiledChecks.{CompiledImagesAreKept, CompiledVerdictsAreYes, CompiledIsKept};
 ghost use Rattle.seh.specs.Completeness.{AcceptedTextsCompile, CompiledImagesRun};
 ghost use Rattle.seh.specs.Existence.{ImagesExist};
 ghost use Rattle.seh.specs.Headline.{Headline, NothingMore, Walks};
@@ -86,4 +87,15 @@ pub fn checked_images()
     ensures one_verdict { ImagesHaveOneVerdict }
     ensures done { DoneIsYes }
     ensures callers { CheckedCallersAreFound }
+{}
+
+/// `check` says yes to every image that `compile` writes. On the image of an accepted text the
+/// verdict is yes and no other: its function table has an entry for each function and funclet with
+/// a frame, and no rule fails in any of them. Where no stream has a fault and memory isn't wanting,
+/// `check` of the bytes that `compile` wrote writes `yes N`, with N the number of these routines,
+/// and ends with status 0.
+pub fn compiled_images()
+    ensures kept { CompiledImagesAreKept }
+    ensures one_verdict { CompiledVerdictsAreYes }
+    ensures calls { CompiledIsKept }
 {}

@@ -1,0 +1,226 @@
+-- Each entry of a linked program's image is a function of the right form, in the code of the
+-- image's file.
+use Rattle.std.proofs.Common.{◌≡◌, ℕ, suc, ◌+◌, ◌%◌, ◌^◌, ◌<◌, Bool, true, false, cond, leb, List, [], ◌∷◌, ◌++◌, length, Option, Some, None, refl, sym, ap, subst, ◌∙◌, arith}
+use Rattle.std.specs.Prelude.{slice_get, is_some, count_by}
+use Rattle.std.proofs.lemmas.Bool.{false≢true}
+use Rattle.std.proofs.lemmas.List.Elements.{All-nil, All-cons, All-append}
+use Rattle.std.proofs.lemmas.List.Sums.{sum_by-cons}
+use Rattle.flat_memory.specs.Memory.{Memory}
+use Rattle.x64_instr.specs.declared.instruction.Instr.{Instr}
+use Rattle.x64_encode.specs.Chosen.{modrm, opcode_register}
+use Rattle.eh_tables.specs.declared.code.UnwindOperation.{UnwindOperation}
+use Rattle.eh_tables.specs.Tables.{Entry}
+use Rattle.linear_code.specs.Program.{LinearProgram}
+use Rattle.template_code.specs.Bytes.{spelled, size, sizes}
+use Rattle.template_code.specs.Jumps.{distance}
+use Rattle.template_code.specs.Probing.{check_stack}
+use Rattle.frame_rules.specs.Prologue.{items}
+use Rattle.frame_rules.specs.Plan.{allocating, spelled_by, steps_of, turned}
+use Rattle.frame_rules.specs.Bytes.{spell, IsExecutableAt}
+use Rattle.frame_layout.specs.declared.frame.FrameLayout.{FrameLayout}
+use Rattle.unwind_check.specs.Prologues.{has_bytes}
+use Rattle.unwind_check.specs.declared.rule.Verdict.TheVariants.{Yes}
+use Rattle.unwind_check.specs.Verdicts.{ImageCode, entry_in, IsKept, AllAreKept}
+use Rattle.unwind_check.specs.RightFunctions.{CallsProbe, IsRightEntry}
+use Rattle.unwind_check.proofs.RightEntries.{right_functions_keep_rules}
+use Rattle.pe_image.specs.Image.{Image}
+use Rattle.pe_write.specs.Program.{image_of}
+use Rattle.host_layout.specs.declared.imported.ImportedService.TheVariants.{RaiseException, CSpecificHandler, LocalUnwind, Protect, Put}
+use Rattle.host_model.specs.Loading.{mapped}
+use Rattle.image_code.specs.Code.{code_of}
+use Rattle.image_code.specs.Verdicts.{checked_code, IsImageVerdict}
+use Rattle.image_code.proofs.ImageBounds.{IsBounded}
+use Rattle.image_code.proofs.LoadedItems.{items_there, bytes_there}
+use Rattle.x64_emit.specs.declared.entry.TheConstants.{CHECK_STACK}
+use Rattle.x64_emit.proofs.CheckStack.{check_stack_spelled}
+use Rattle.image_link.specs.Fits.{FitsProgram}
+use Rattle.image_link.specs.Near.{IsSiteNear}
+use Rattle.image_link.specs.Routines.{RoutineView, routines}
+use Rattle.image_link.specs.Tables.{info_bytes}
+use Rattle.image_link.specs.Text.{SiteView, routine_size, service_thunk, check_stack_at, front_code, first_routine_at, routines_bytes}
+use Rattle.image_link.specs.Linked.{text_begin, first, linked}
+use Rattle.image_link.proofs.Entries.{routine_small}
+use Rattle.image_link.proofs.Images.{site_near, has_places}
+use Rattle.image_link.proofs.Nearness.{routines_near}
+use Rattle.image_tables.specs.CodeInMemory.{image_base, HasText}
+use Rattle.image_tables.specs.Entries.{entry_of, entry_if, entries_of, entries}
+use Rattle.image_tables.specs.FrameLaws.{IsFramed}
+use Rattle.image_tables.specs.Functions.{plan, function_of}
+use Rattle.image_tables.specs.RoutinePlaces.{Placed, end_of, site_of, placed_from, infos_begin, placed}
+use Rattle.image_tables.specs.RegionRanges.{HasRegions}
+use Rattle.image_tables.proofs.CodeInMemory.{executable_split, code_split, there}
+use Rattle.image_tables.proofs.FrameRules.{one_code, sizes as frame_sizes, right, is_there}
+use Rattle.image_tables.proofs.ImageText.{images_have_text}
+use Rattle.image_tables.proofs.Infos.{taking_few}
+use Rattle.image_tables.proofs.Prologues.{entry_least}
+use Rattle.image_tables.proofs.Table.{tables_are_read}
+
+-- ---- the stack probe, after the thunks in the front of the text
+
+abbrev thunks : ℕ → ℕ → List Instr
+thunks text rdata =
+    service_thunk text rdata RaiseException
+    ∷ service_thunk text rdata CSpecificHandler
+    ∷ service_thunk text rdata LocalUnwind
+    ∷ service_thunk text rdata Protect
+    ∷ service_thunk text rdata Put
+    ∷ []
+
+thunks_size : (text rdata : ℕ) → sizes (thunks text rdata) ≡ 30
+unfolding size modrm
+thunks_size text rdata = refl
+
+probe_is_at : (p : LinearProgram) (m : Memory) → HasText m p
+    → IsExecutableAt m (image_base + check_stack_at (site_of p).text) (spelled check_stack)
+probe_is_at p m text =
+    let s = site_of p in
+    let begin = image_base + text_begin p.globals in
+    let front = executable_split m begin (spelled (front_code s.text s.rdata))
+    (routines_bytes s (first_routine_at s.text) (routines p)) text in
+    let last = code_split m begin (thunks s.text s.rdata) check_stack front.0 in
+    let size = thunks_size s.text s.rdata in
+    let at : begin + sizes (thunks s.text s.rdata) ≡ image_base + check_stack_at s.text =
+    omega arith in
+    subst (λ (n : ℕ). IsExecutableAt m n (spelled check_stack)) at last.1
+
+module _ (p : LinearProgram) (fits : FitsProgram p) (b : IsBounded (image_of (linked p))) where
+  abbrev image : Image
+  image = image_of (linked p)
+
+  abbrev checked : ImageCode
+  checked = checked_code image CHECK_STACK
+
+  text : HasText (mapped image) p
+  text = images_have_text p fits
+
+  near : IsSiteNear (site_of p)
+  near = site_near p.globals (routines p) (length p.functions) p.main fits.globals
+      (routines_near p fits) (has_places p fits)
+
+  probe_there : has_bytes (code_of image) (check_stack_at (site_of p).text) CHECK_STACK ≡ true
+  probe_there =
+      let at = check_stack_at (site_of p).text in
+      let few = near.text in
+      let long : length CHECK_STACK ≡ 21 = refl in
+      bytes_there image b at CHECK_STACK (omega arith)
+      (subst (IsExecutableAt (mapped image) (image_base + at)) (sym check_stack_spelled)
+      (probe_is_at p (mapped image) text))
+
+  -- ---- one entry
+
+  module _ (index : ℕ) (x : Placed) (f : FrameLayout) (framed : IsFramed p index x f) where
+    abbrev away : ℕ
+    away = distance (x.begin + 10) (check_stack_at (site_of p).text)
+
+    end_low : end_of x < 2 ^ 32
+    end_low =
+        let h = there p index x fits framed.there in
+        let room = h.room in
+        let small = routine_small x.routine h.near in
+        omega arith
+
+    call_there : has_bytes (code_of image) ((x.begin + 5 + 5 + away) % 2 ^ 64) CHECK_STACK ≡ true
+    call_there =
+        let few = near.text in
+        let end = end_low in
+        let to : (x.begin + 5 + 5 + away) % 2 ^ 64 ≡ check_stack_at (site_of p).text =
+        omega arith in
+        ap (λ (n : ℕ). has_bytes (code_of image) n CHECK_STACK) to ∙ probe_there
+
+    calls_by : (small : Bool)
+        → CallsProbe (code_of image) CHECK_STACK x.begin
+        (spelled_by spell (allocating away f.size small) ++ [])
+    unfolding modrm opcode_register
+    calls_by true = (λ c. absurd (false≢true c), tt)
+    calls_by false =
+        (λ c. absurd (false≢true c), (λ c. call_there, (λ c. absurd (false≢true c), tt)))
+
+    calls : CallsProbe (code_of image) CHECK_STACK x.begin (items (function_of p x f).steps)
+    calls =
+        subst (λ (os : List UnwindOperation). CallsProbe (code_of image) CHECK_STACK x.begin
+        (items (steps_of spell (plan p x f) 0 (turned [] os))))
+        (sym (one_code f away (frame_sizes p index x f framed).0)) (calls_by (leb f.size 4096))
+
+    is_right : IsRightEntry (entry_in checked (entry_of (site_of p) x f)) (function_of p x f)
+    is_right =
+        let h = there p index x fits framed.there in
+        let some = frame_sizes p index x f framed in
+        let most = some.1 in
+        let few = taking_few f.size some.0 (omega arith) in
+        let least = few.0 in
+        let entry = entry_least x.routine f h.near framed.framed some.0 in
+        let low = end_low in
+        record {
+          info = refl;
+          right = right p index x f framed;
+          there = items_there image b x.begin
+              (items (function_of p x f).steps ++ (function_of p x f).rest) (end_of x)
+              (omega arith) (is_there p index x f framed (mapped image) text);
+          probes = calls;
+          alone = refl;
+          some = omega arith;
+          low = omega arith;
+        }
+
+    kept : IsKept checked (entry_of (site_of p) x f)
+    kept = record {
+      rules = right_functions_keep_rules (entry_in checked (entry_of (site_of p) x f))
+          (function_of p x f) is_right;
+      near = omega arith;
+    }
+
+  -- ---- all
+
+  all_from : (xs : List Placed)
+      → ((index : ℕ) (x : Placed) (f : FrameLayout) → slice_get xs index ≡ Some x
+      → x.routine.frame ≡ Some f → IsKept checked (entry_of (site_of p) x f))
+      → AllAreKept checked (entries_of (site_of p) xs)
+  all_from [] each = All-nil (IsKept checked)
+  all_from (x ∷ xs) each =
+      All-append (IsKept checked) (entry_if (site_of p) x x.routine.frame)
+      (entries_of (site_of p) xs) (its_own x.routine.frame refl)
+      (all_from xs (λ index. each (suc index)))
+    where
+      its_own : (o : Option FrameLayout) → x.routine.frame ≡ o
+          → AllAreKept checked (entry_if (site_of p) x o)
+      its_own None e = All-nil (IsKept checked)
+      its_own (Some f) e = All-cons (IsKept checked) (entry_of (site_of p) x f) []
+          (each 0 x f refl e) (All-nil (IsKept checked))
+
+  all_kept : AllAreKept checked (entries p)
+  all_kept = all_from (placed p) (λ index x f at has. kept index x f
+      (record { fits = fits; there = at; framed = has }))
+
+-- ---- how many there are
+
+-- one of a routine, where it has a frame
+one_more : (s : SiteView) (x : Placed) (o : Option FrameLayout) (es : List Entry) (n : ℕ)
+    → length es ≡ n → length (entry_if s x o ++ es) ≡ cond (is_some o) 1 0 + n
+one_more s x None es n e = omega arith
+one_more s x (Some f) es n e = omega arith
+
+entries_count : (s : SiteView) (info at : ℕ) (rs : List RoutineView)
+    → length (entries_of s (placed_from s info at rs)) ≡ count_by (λ r. is_some r.frame) rs
+entries_count s info at [] = refl
+entries_count s info at (r ∷ rs) =
+    let next = info + length (info_bytes s at r) in
+    let end = at + routine_size r in
+    one_more s (record { routine = r; begin = at; info = info }) r.frame
+    (entries_of s (placed_from s next end rs)) (count_by (λ (q : RoutineView). is_some q.frame) rs)
+    (entries_count s next end rs)
+    ∙ sym (sum_by-cons (λ (q : RoutineView). cond (is_some q.frame) 1 0) r rs)
+
+-- ---- the verdict
+
+pub verdict_is_yes : (p : LinearProgram) → FitsProgram p → HasRegions p
+    → IsBounded (image_of (linked p))
+    → IsImageVerdict (image_of (linked p)) CHECK_STACK
+    (Yes (count_by (λ r. is_some r.frame) (routines p)))
+verdict_is_yes p fits regions bounded = record {
+  entries = entries p;
+  read = tables_are_read p fits regions;
+  is = (
+    all_kept p fits bounded,
+    entries_count (site_of p) (infos_begin p) (first p.globals) (routines p),
+  );
+}
