@@ -6,16 +6,16 @@ use std::alloc::Global;
 use std::process::Abort;
 
 /// The infos of the first rows are of a prologue that pushes RBX and takes 32 bytes of stack; of one
-/// whose allocation has no room for its operand; and one of version 2. In the last row `main` has 39
+/// whose allocation has no room for its operand; and one of version 2. In the last row `main` has 40
 /// bytes, after five thunks of 6 and the 21 of `__chkstk`. Its prologue is `sub rsp, 40`, of 4 bytes:
-/// home space and a temporary (UWOP_ALLOC_SMALL with 40 / 8 - 1).
+/// home space and a temporary (UWOP_ALLOC_SMALL with 40 / 8 - 1). A `nop` of one byte is after it.
 const VIEWS: &str = r"
 show | tables @ optional+140 24 @ file+272 01 05 02 00 05 32 01 30 01 07 01 00 07 01 00 00 02 7*00 | 0 entry 0 00002000 0000201F 00003000 /  bytes 0105020005320130 /  info prolog 5 flags 0 frame - 0 /  code 5 alloc 32 /  code 1 push rbx / refused 1 Op 0 / refused 2 Version 2 / entries 3
 show | tables @ optional+140 00 @ file+272 01 05 02 00 05 32 01 30 01 07 01 00 07 01 00 00 02 7*00 | 0 entries 0
 show | fourteen | 0 entries 0
 show | bytes 64*00 | 3 ! image NotPe 0
 show | bytes | 3 ! image Truncated 0
-show | compiled int main(void){} | 0 entry 0 00002033 0000205A 00004000 /  bytes 0104010004420000 /  info prolog 4 flags 0 frame - 0 /  code 4 alloc 40 / entries 1
+show | compiled int main(void){} | 0 entry 0 00002033 0000205B 00004000 /  bytes 0104010004420000 /  info prolog 4 flags 0 frame - 0 /  code 4 alloc 40 / entries 1
 ";
 
 /// How many bytes a compiled image has: the headers, and a block of 512 for each section but
@@ -60,6 +60,18 @@ fn scope_records(rt: HostRuntime) {
     let shown = str::from_utf8(&view).unwrap_or("");
     assert!(rt; has_both_scopes(shown), "{shown}");
     assert!(rt; shown.ends_with("\nentries 3\n"), "{shown}");
+}
+
+/// Where a `__try` is the first statement, its range begins after the `nop`, one byte past the end
+/// of the prologue, whose 4 bytes are from 2033 to 2036.
+#[test]
+fn ranges_begin_past_the_prologue(rt: HostRuntime) {
+    let text = "int main(void){ __try{ *(int*)0 = 1; } __except(1){ put(1); } return 0; }";
+    let view = view_of(&rt, rt.alloc(), text);
+    let shown = str::from_utf8(&view).unwrap_or("");
+    assert!(rt; shown.starts_with("entry 0 00002033 "), "{shown}");
+    assert!(rt; shown.contains("\n info prolog 4 "), "{shown}");
+    assert!(rt; shown.contains("\n scope 0 00002038 "), "{shown}");
 }
 
 /// A leaf function has no entry in the function table: `main` alone has one.

@@ -36,7 +36,7 @@ left_activations n =
     (with_number 1 499 ∷ []) ∷ answer (lit 0) ∷ [])
 
 abbrev pub BothShow : Program → ℕ → List Event → Ended → Type 0
-BothShow p n es e = Shows p n es e × (linear_meaning (lowered p) (pos 0) (3 * n + 2) ≡ ended es e)
+BothShow p n es e = Shows p n es e × (linear_meaning (lowered p) (pos 0) (3 * n + 3) ≡ ended es e)
 
 -- 498 activations of `down` are left, which with `main`'s and the block's 2 make 501: 499 more make
 -- 1,000, and 500 are too many, but not after the landing

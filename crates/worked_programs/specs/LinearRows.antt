@@ -7,9 +7,9 @@ use Rattle.source_meaning.specs.MoreRows.{filter_asked_once, collided_twice, tar
 use Rattle.linear_machine.specs.Run.{linear_meaning}
 use Rattle.seh_ir.specs.Lowered.{lowered}
 
--- the events of so many steps and the end, in three turns a step and two more
+-- the events of so many steps and the end, in three turns a step and three more
 abbrev pub Agrees : Program → ℕ → ℕ → Type 0
-Agrees p arg n = linear_meaning (lowered p) (pos arg) (3 * n + 2) ≡ meaning p (pos arg) n
+Agrees p arg n = linear_meaning (lowered p) (pos arg) (3 * n + 3) ≡ meaning p (pos arg) n
 
 abbrev pub SumAndReturn : Type 0
 SumAndReturn = Agrees sum_and_return 0 50
