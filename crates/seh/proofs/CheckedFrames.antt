@@ -19,12 +19,12 @@ use Rattle.x64_emit.specs.declared.entry.TheConstants.{CHECK_STACK}
 use Rattle.seh.specs.CheckLaws.{CheckedCallersAreFound}
 
 -- the function table that entries are read of
-record HasRanges (image : Image) (es : List Entry) : Type 0 where
-  ranges : List RuntimeFunction
-  is_directory : directory image ≡ Ok ranges
-  whole : entries image 0 0 ranges ≡ Ok es
+pub record HasRanges (image : Image) (es : List Entry) : Type 0 where
+  pub ranges : List RuntimeFunction
+  pub is_directory : directory image ≡ Ok ranges
+  pub whole : entries image 0 0 ranges ≡ Ok es
 
-has_ranges : (image : Image) (es : List Entry) → tables image ≡ Ok es → HasRanges image es
+pub has_ranges : (image : Image) (es : List Entry) → tables image ≡ Ok es → HasRanges image es
 has_ranges image es h = by (directory image) refl h
   where
     by : (d : Table (List RuntimeFunction)) → directory image ≡ d

@@ -39,7 +39,7 @@ no_reason : (b : Bool) (e : LoadErr) → reason_unless b e ≡ None → b ≡ tr
 no_reason true e h = refl
 no_reason false e h = absurd cc
 
-placed : (image : Image) → load_refusal image ≡ None → has_place image ≡ true
+pub placed : (image : Image) → load_refusal image ≡ None → has_place image ≡ true
 placed image h = no_reason (has_place image) (loads.Place image.base)
     (second_none (table_refusal image) (place_refusal image)
     (import_refusal image ∷ entry_refusal image ∷ []) h)

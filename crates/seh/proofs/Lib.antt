@@ -14,3 +14,4 @@ pub mod CheckedFrames
 pub mod OneVerdict
 pub mod Existence
 pub mod CompiledChecks
+pub mod CompiledFrames

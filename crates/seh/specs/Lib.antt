@@ -14,3 +14,4 @@ pub mod Words
 pub mod CheckLaws
 pub mod Existence
 pub mod CompiledChecks
+pub mod CompiledFrames

@@ -3,6 +3,7 @@
 ghost use Rattle.seh.specs.Calls.{CompileIsComplete, RunIsComplete, MeaningIsComplete, ShowIsComplete, CheckIsComplete, ExecIsComplete, TextsHaveOneImage, LastLinesAgree, CompiledIsMeant, RunIsMeant};
 ghost use Rattle.seh.specs.CheckLaws.{ImagesHaveOneVerdict, DoneIsYes, CheckedCallersAreFound};
 ghost use Rattle.seh.specs.CompiledChecks.{CompiledImagesAreKept, CompiledVerdictsAreYes, CompiledIsKept};
+ghost use Rattle.seh.specs.CompiledFrames.{CompiledEntriesAreFound, CompiledLeavesAreFound};
 ghost use Rattle.seh.specs.Completeness.{AcceptedTextsCompile, CompiledImagesRun};
 ghost use Rattle.seh.specs.Existence.{ImagesExist};
 ghost use Rattle.seh.specs.Headline.{Headline, NothingMore, Walks};
@@ -98,4 +99,14 @@ pub fn compiled_images()
     ensures kept { CompiledImagesAreKept }
     ensures one_verdict { CompiledVerdictsAreYes }
     ensures calls { CompiledIsKept }
+{}
+
+/// The frames of an image that `compile` wrote, said of its bytes: of the ranges and the unwind
+/// infos that its function table is read as, and of the instructions that its code is decoded to.
+/// At each of these, in the prologue, the body or an epilogue, the walk over the loaded image finds
+/// the caller. Where no entry covers RIP it finds the caller of each state that has RSP, the return
+/// address and the nonvolatile registers of the routine's first byte.
+pub fn compiled_frames()
+    ensures entries { CompiledEntriesAreFound }
+    ensures leaves { CompiledLeavesAreFound }
 {}

@@ -1,0 +1,51 @@
+-- The frames of a compiled image, by its bytes and its function table.
+use Rattle.std.specs.Prelude.{◌≡◌, ℕ, ◌+◌, true, List, [], Some, None}
+use Rattle.x64_machine.specs.Contexts.{context_of}
+use Rattle.x64_machine.specs.Effect.{State}
+use Rattle.eh_tables.specs.Tables.{Entry}
+use Rattle.virtual_unwind.specs.Tail.{FetchedInstr}
+use Rattle.virtual_unwind.specs.CallerOf.{distance, entry_of, caller_in}
+use Rattle.frame_rules.specs.Body.{Body, following, is_body}
+use Rattle.frame_rules.specs.Frame.{left_to}
+use Rattle.frame_rules.specs.States.{registers, return_address, IsEntry, InBody}
+use Rattle.frame_rules.specs.Rules.{IsFound}
+use Rattle.pe_image.specs.Image.{Image}
+use Rattle.pe_write.specs.Program.{image_of}
+use Rattle.image_link.specs.Linked.{linked}
+use Rattle.seh_ir.specs.Lowered.{lowered}
+use Rattle.c_resolved.specs.Program.{resolve}
+use Rattle.unwind_check.specs.Laws.{IsInEntry}
+use Rattle.host_model.specs.Machine.{functions_in}
+use Rattle.image_code.specs.Code.{code_of}
+use Rattle.image_code.specs.Frames.{HasCodeOf}
+use Rattle.seh.specs.Images.{IsCompiled}
+
+-- the image that the bytes of a text's image are read as
+abbrev pub image_read : (text image : List ℕ) → IsCompiled text image → Image
+image_read text image compiled = image_of (linked (lowered (resolve text compiled.whole).program))
+
+-- in every state of each entry of its function table, which spellings in its code tell, the walk
+-- over the loaded image finds the caller, as it was at the entry's first byte (in state e)
+abbrev pub CompiledEntriesAreFound : Type 0
+CompiledEntriesAreFound =
+    (text image : List ℕ) (compiled : IsCompiled text image) (entry : Entry) (e s : State) (d : ℕ)
+    → let loaded = image_read text image compiled in
+    let functions = functions_in loaded in
+    HasCodeOf s.memory loaded → entry_of functions s.cpu.rip ≡ Some entry
+    → distance functions.base s.cpu.rip ≡ entry.range.begin + d
+    → s.cpu.rip ≡ functions.base + entry.range.begin + d
+    → IsInEntry (code_of loaded) entry.range.begin entry.range.end entry.info e s d
+    → IsFound (caller_in functions s.memory (context_of s.cpu))
+    (left_to (registers e) (return_address e))
+
+-- where no entry covers RIP, as in a leaf function, a thunk or `__chkstk`, it finds the caller in
+-- every state that has RSP, the return address and the nonvolatile registers of its first byte
+abbrev pub CompiledLeavesAreFound : Type 0
+CompiledLeavesAreFound =
+    (text image : List ℕ) (compiled : IsCompiled text image) (rest : List FetchedInstr)
+    (e s : State)
+    → let functions = functions_in (image_read text image compiled) in
+    entry_of functions s.cpu.rip ≡ None
+    → is_body (following 0 0 [] rest (Body [])) ≡ true → IsEntry 0 e → InBody 0 [] rest e e s
+    → IsFound (caller_in functions s.memory (context_of s.cpu))
+    (left_to (registers e) (return_address e))
