@@ -15,7 +15,6 @@ use Rattle.seh.specs.Images.{framed_count}
 use Rattle.seh.specs.CompiledFrames.{image_read, CompiledEntriesAreFound, CompiledLeavesAreFound}
 use Rattle.seh.proofs.CheckedFrames.{has_ranges, checked_callers_are_found}
 use Rattle.seh.proofs.Compiled.{placed}
-use Rattle.seh.proofs.CompiledChecks.{compiled_images_are_kept}
 use Rattle.seh.proofs.Completeness.{one_image}
 
 has_a_place : (text image : List ℕ) (compiled : IsCompiled text image)
@@ -29,8 +28,11 @@ has_a_place text image compiled =
 pub compiled_entries_are_found : CompiledEntriesAreFound
 compiled_entries_are_found text image compiled entry e s d code held at rip inside =
     checked_callers_are_found image (framed_count (resolve text compiled.whole).program)
-    (compiled_images_are_kept text image compiled) entry e s d compiled.linked.octets
-    (has_a_place text image compiled) code held at rip inside
+    (record {
+      image = image_read text image compiled;
+      is = compiled.linked.read;
+      comes = compiled.kept;
+    }) entry e s d compiled.linked.octets (has_a_place text image compiled) code held at rip inside
 
 pub compiled_leaves_are_found : CompiledLeavesAreFound
 unfolding caller_of
