@@ -13,7 +13,7 @@ ghost use Rattle.seh_dispatch.specs.Filters.{Admits};
 ghost use Rattle.seh_dispatch.specs.TurnEnds.{left};
 ghost use Rattle.seh_dispatch.specs.TurnEnds.{over_cpu};
 
-use crate::arrival::arrival;
+use crate::arrival::{arrival, may_arrive};
 use crate::filter::FuncletFilter;
 use crate::outcome::TurnOutcome;
 use crate::serving::make;
@@ -65,7 +65,10 @@ fn arrive<V: Events>(
     ensures shown { V.took to.old
         (arrivals cpu.now (distance tables.now.image.base cpu.now.rip) 1 funclets.now) to.new }
 {
-    tell(to, arrival(filter, funclets, tables.base(), cpu));
+    if !may_arrive(filter, tables.base(), cpu) {
+        return over(cpu);
+    }
+    tell(to, arrival(funclets, tables.base(), cpu));
     over(cpu)
 }
 

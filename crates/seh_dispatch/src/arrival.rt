@@ -1,6 +1,6 @@
 //! The events where RIP arrives at a funclet.
 
-ghost use Rattle.std.specs.Prelude.{◌≡◌, ◌-◌, ◌≤◌, ◌<◌, ◌^◌, ℕ, length, slice_index_or};
+ghost use Rattle.std.specs.Prelude.{◌≡◌, ◌-◌, ◌≤◌, ◌<◌, ◌^◌, ℕ, false, List, [], length, slice_index_or};
 ghost use Rattle.virtual_unwind.specs.CallerOf.{distance};
 ghost use Rattle.host_model.specs.Funclets as spec;
 ghost use Rattle.host_model.specs.declared.funclet.Funclet.{Funclet};
@@ -39,9 +39,19 @@ fn count_below(funclets: &[Funclet], rva: u64) -> usize
     funclets.partition_point(|f| (f.address as u64) < rva)
 }
 
+/// Whether RIP may be the first byte of one of the funclets that a filter admits. False says that
+/// it is none's.
+#[inline(always)]
+pub fn may_arrive(filter: &FuncletFilter, base: u64, cpu: &Cpu) -> bool
+    ensures { (fs : List Funclet) → Admits filter.now fs → result ≡ false
+        → spec.arrivals cpu.now (distance base cpu.now.rip) 1 fs ≡ [] }
+{
+    filter.may_begin(cpu.rip.wrapping_sub(base))
+}
+
 /// The event where RIP is a funclet's first byte. The funclets are searched by halves.
 #[inline(never)]
-fn begun(funclets: &[Funclet], base: u64, cpu: &Cpu) -> Option<Event>
+pub fn arrival(funclets: &[Funclet], base: u64, cpu: &Cpu) -> Option<Event>
     requires few { length funclets.now < 2 ^ 32 - 1 }
     requires ascending { AreAscending 0 funclets.now }
     ensures { listed result ≡ spec.arrivals cpu.now (distance base cpu.now.rip) 1 funclets.now }
@@ -56,20 +66,4 @@ fn begun(funclets: &[Funclet], base: u64, cpu: &Cpu) -> Option<Event>
         return None;
     }
     Some(by_kind(cpu, index as u32 + 1, funclet.is_finally))
-}
-
-/// The event where RIP is a funclet's first byte. One is looked for where the filter lets the
-/// address pass.
-#[inline(always)]
-pub fn arrival(filter: &FuncletFilter, funclets: &[Funclet], base: u64, cpu: &Cpu) -> Option<Event>
-    requires admitted { Admits filter.now funclets.now }
-    requires few { length funclets.now < 2 ^ 32 - 1 }
-    requires ascending { AreAscending 0 funclets.now }
-    ensures { listed result ≡ spec.arrivals cpu.now (distance base cpu.now.rip) 1 funclets.now }
-{
-    let rva = cpu.rip.wrapping_sub(base);
-    if !filter.may_begin(rva) {
-        return None;
-    }
-    begun(funclets, base, cpu)
 }
