@@ -14,6 +14,7 @@ use x64_memory::space::AddressSpace;
 
 /// Runs an instruction of so many bytes at RIP, and answers whether it could be run. Else registers
 /// and memory are as before.
+#[inline(never)]
 fn runs<S: AddressSpace>(cpu: &mut Cpu, space: &mut S, instr: &Instr, len: usize) -> bool
     ensures answer { result ≡ is_ok
         (spec.execute (spec.state cpu.old (S.memory space.old)) (Some (instr.now, len))) }

@@ -13,6 +13,7 @@ use x64_instr::instruction::Instr;
 use x64_memory::space::AddressSpace;
 
 /// What an instruction does, where RIP is that of the next one. INT3 and UD2 can't be run.
+#[inline(always)]
 pub(crate) fn effect<S: AddressSpace>(
     cpu: &mut Cpu,
     space: &mut S,

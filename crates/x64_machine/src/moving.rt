@@ -47,12 +47,12 @@ pub(crate) fn move_operand<S: AddressSpace>(
     to: &RegisterOrMemory,
     from: &Operand,
 ) -> Result<(), Stop>
-    ensures answer { result ≡ done_of
-        (spec.effect (spec.state cpu.old (S.memory space.old)) (instrs.Move width to.now from.now)) }
-    ensures cpu { cpu.new ≡ cpu_after cpu.old
-        (spec.effect (spec.state cpu.old (S.memory space.old)) (instrs.Move width to.now from.now)) }
-    ensures memory { LeavesMemory (S.memory space.old) (S.memory space.new)
-        (spec.effect (spec.state cpu.old (S.memory space.old)) (instrs.Move width to.now from.now)) }
+    ensures answer { result ≡ done_of (spec.effect
+        (spec.state cpu.old (S.memory space.old)) (instrs.Move width to.now from.now)) }
+    ensures cpu { cpu.new ≡ cpu_after cpu.old (spec.effect
+        (spec.state cpu.old (S.memory space.old)) (instrs.Move width to.now from.now)) }
+    ensures memory { LeavesMemory (S.memory space.old) (S.memory space.new) (spec.effect
+        (spec.state cpu.old (S.memory space.old)) (instrs.Move width to.now from.now)) }
 {
     let value = operand(cpu, space, width, from)?;
     write(cpu, space, width, to, value)

@@ -33,6 +33,7 @@ impl Cpu {
         self.registers[register.number() as usize] = merge(width, old, value);
     }
 
+    #[inline(always)]
     pub(crate) fn address(&self, place: &MemRef) -> u64
         ensures { result ≡ spec.address_of self.now place.now }
     {

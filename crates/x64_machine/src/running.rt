@@ -35,6 +35,7 @@ fn hosted(address: u64) -> Stop
 
 /// Runs an instruction of so many bytes at RIP. INT3 and UD2 can't be run. After a stop registers
 /// and memory are as before.
+#[inline(always)]
 pub fn run<S: AddressSpace>(
     cpu: &mut Cpu,
     space: &mut S,

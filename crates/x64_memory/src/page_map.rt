@@ -43,8 +43,17 @@ fn put_bytes(bytes: &mut [u8], from: usize, count: usize, value: u64)
     }
 }
 
+/// Writes the low 16 bits of a number into a page.
+#[inline(never)]
+fn put_word(bytes: &mut [u8], from: usize, value: u64)
+    requires { from + 2 ≤ length bytes.old }
+    ensures { (i : ℕ) → slice_index bytes.new i ≡ page_with_number bytes.old from 2 value i }
+{
+    put_bytes(bytes, from, 2, value);
+}
+
 /// Writes the low bytes of a number into a page. Where the count is known, one store is made of
-/// them.
+/// them, as long as not all widths begin alike: words, the rarest, go by a call.
 #[inline(always)]
 fn put_number(bytes: &mut [u8], from: usize, width: Width, value: u64)
     requires { from + bytes_of width ≤ length bytes.old }
@@ -53,7 +62,7 @@ fn put_number(bytes: &mut [u8], from: usize, width: Width, value: u64)
 {
     match width {
         Width::W8 => put_bytes(bytes, from, 1, value),
-        Width::W16 => put_bytes(bytes, from, 2, value),
+        Width::W16 => put_word(bytes, from, value),
         Width::W32 => put_bytes(bytes, from, 4, value),
         Width::W64 => put_bytes(bytes, from, 8, value),
     }
