@@ -11,3 +11,5 @@ pub mod Calls
 pub mod MeantCalls
 pub mod CheckedFrames
 pub mod OneVerdict
+pub mod EntryCalls
+pub mod OneTextOfEntries

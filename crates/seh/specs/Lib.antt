@@ -4,6 +4,7 @@ pub mod Refusals
 pub mod Images
 pub mod Answers
 pub mod Checks
+pub mod EntryChecks
 pub mod Headline
 pub mod Meanings
 pub mod Commands
@@ -12,3 +13,4 @@ pub mod TamePrograms
 pub mod Calls
 pub mod Words
 pub mod CheckLaws
+pub mod EntryCheckLaws

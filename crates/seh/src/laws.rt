@@ -2,6 +2,7 @@
 
 ghost use Rattle.seh.specs.Calls.{CompileIsComplete, RunIsComplete, MeaningIsComplete, ShowIsComplete, CheckIsComplete, ExecIsComplete, TextsHaveOneImage, LastLinesAgree, CompiledIsMeant, RunIsMeant};
 ghost use Rattle.seh.specs.CheckLaws.{ImagesHaveOneVerdict, DoneIsYes, CheckedCallersAreFound};
+ghost use Rattle.seh.specs.EntryCheckLaws.{EntryCheckIsComplete, EntriesHaveOneVerdictEach};
 ghost use Rattle.seh.specs.Completeness.{AcceptedTextsCompile, CompiledImagesRun};
 ghost use Rattle.seh.specs.Headline.{Headline, NothingMore, Walks};
 ghost use Rattle.seh.specs.TamePrograms.{TameProgramsWalk, TameProgramsEnd};
@@ -48,14 +49,16 @@ pub fn tame_programs()
 /// Whole calls of the program, where no source and no sink has a fault and memory isn't wanting. An
 /// accepted text gives an image under `compile`, the text of its run under `run`, and the text of
 /// its meaning under `meaning`. An image gives its view under `show`, one whose function table is
-/// read whole the line of its verdict under `check`, and one that loads the text of its run under
-/// `exec`. Each has the status of its end, and writes nothing to `err`.
+/// read whole the line of its verdict under `check` and the text of its entries' verdicts under
+/// `check --each`, and one that loads the text of its run under `exec`. Each has the status of its
+/// end, and writes nothing to `err`.
 pub fn calls()
     ensures compile { CompileIsComplete }
     ensures run { RunIsComplete }
     ensures meaning { MeaningIsComplete }
     ensures show { ShowIsComplete }
     ensures check { CheckIsComplete }
+    ensures check_entries { EntryCheckIsComplete }
     ensures exec { ExecIsComplete }
 {}
 
@@ -78,4 +81,10 @@ pub fn checked_images()
     ensures one_verdict { ImagesHaveOneVerdict }
     ensures done { DoneIsYes }
     ensures callers { CheckedCallersAreFound }
+{}
+
+/// What `check --each` says of an image: each entry of an image has one verdict, and so the image
+/// has one text.
+pub fn checked_entries()
+    ensures { EntriesHaveOneVerdictEach }
 {}
