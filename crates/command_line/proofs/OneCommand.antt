@@ -1,10 +1,12 @@
 -- A line of words means one command.
-use Rattle.std.proofs.Common.{◌≡◌, ℕ, ◌+◌, ◌*◌, List, ◌∷◌, pos, Option, Some, None, refl, sym, ap, subst, ◌∙◌, arith}
+use Rattle.std.proofs.Common.{◌≡◌, ℕ, ◌+◌, ◌*◌, true, false, List, ◌∷◌, pos, Option, Some, None, refl, sym, ap, subst, ◌∙◌, arith}
 use Rattle.clap.specs.Words.{Row, Text}
 use Rattle.command_line.specs.declared.command.Command.{Command}
 use Rattle.command_line.specs.declared.command.Command.TheVariants.{Compile, Exec, Run, Meaning, Show, Check}
+use Rattle.command_line.specs.declared.command.CheckReport.{CheckReport}
+use Rattle.command_line.specs.declared.command.CheckReport.TheVariants.{Whole, Each}
 use Rattle.command_line.specs.declared.command.RunOptions.{RunOptions}
-use Rattle.command_line.specs.Lines.{IsNumber, HasOptions, IsNamedBy, IsLine}
+use Rattle.command_line.specs.Lines.{IsNumber, is_set, HasOptions, HasReport, IsNamedBy, IsLine}
 use Rattle.command_line.proofs.Numbers.{is_read}
 
 -- a text is one number in decimal
@@ -23,6 +25,12 @@ options_once a b rows x y =
     let trace : a.trace ≡ b.trace = x.trace ∙ sym y.trace in
     λ j. record { turns = turns j; argument = argument j; trace = trace j }
 
+report_once : (a b : CheckReport) (rows : List Row) → HasReport a rows → HasReport b rows → a ≡ b
+report_once Whole Whole rows h g = refl
+report_once Whole Each rows h g = let q : false ≡ true = sym h ∙ g in cc
+report_once Each Whole rows h g = let q : true ≡ false = sym h ∙ g in cc
+report_once Each Each rows h g = refl
+
 -- a name by its first two letters
 abbrev letters : List ℕ → ℕ
 letters (x ∷ y ∷ xs) = 256 * x + y
@@ -34,8 +42,8 @@ named_once Compile Compile x h g = refl
 named_once Compile Show x h g =
     let q : 25455 ≡ 29544 = ap letters (sym h ∙ g) in
     absurd (omega (arith, q))
-named_once Compile Check x h g =
-    let q : 25455 ≡ 25448 = ap letters (sym h ∙ g) in
+named_once Compile (Check r') x h g =
+    let q : 25455 ≡ 25448 = ap letters (sym h ∙ g.0) in
     absurd (omega (arith, q))
 named_once Compile (Exec o') x h g =
     let q : 25455 ≡ 25976 = ap letters (sym h ∙ g.0) in
@@ -50,8 +58,8 @@ named_once Show Compile x h g =
     let q : 29544 ≡ 25455 = ap letters (sym h ∙ g) in
     absurd (omega (arith, q))
 named_once Show Show x h g = refl
-named_once Show Check x h g =
-    let q : 29544 ≡ 25448 = ap letters (sym h ∙ g) in
+named_once Show (Check r') x h g =
+    let q : 29544 ≡ 25448 = ap letters (sym h ∙ g.0) in
     absurd (omega (arith, q))
 named_once Show (Exec o') x h g =
     let q : 29544 ≡ 25976 = ap letters (sym h ∙ g.0) in
@@ -62,21 +70,21 @@ named_once Show (Run o') x h g =
 named_once Show (Meaning o') x h g =
     let q : 29544 ≡ 28005 = ap letters (sym h ∙ g.0) in
     absurd (omega (arith, q))
-named_once Check Compile x h g =
-    let q : 25448 ≡ 25455 = ap letters (sym h ∙ g) in
+named_once (Check r) Compile x h g =
+    let q : 25448 ≡ 25455 = ap letters (sym h.0 ∙ g) in
     absurd (omega (arith, q))
-named_once Check Show x h g =
-    let q : 25448 ≡ 29544 = ap letters (sym h ∙ g) in
+named_once (Check r) Show x h g =
+    let q : 25448 ≡ 29544 = ap letters (sym h.0 ∙ g) in
     absurd (omega (arith, q))
-named_once Check Check x h g = refl
-named_once Check (Exec o') x h g =
-    let q : 25448 ≡ 25976 = ap letters (sym h ∙ g.0) in
+named_once (Check r) (Check r') x h g = ap Check (report_once r r' x.1 h.1 g.1)
+named_once (Check r) (Exec o') x h g =
+    let q : 25448 ≡ 25976 = ap letters (sym h.0 ∙ g.0) in
     absurd (omega (arith, q))
-named_once Check (Run o') x h g =
-    let q : 25448 ≡ 29301 = ap letters (sym h ∙ g.0) in
+named_once (Check r) (Run o') x h g =
+    let q : 25448 ≡ 29301 = ap letters (sym h.0 ∙ g.0) in
     absurd (omega (arith, q))
-named_once Check (Meaning o') x h g =
-    let q : 25448 ≡ 28005 = ap letters (sym h ∙ g.0) in
+named_once (Check r) (Meaning o') x h g =
+    let q : 25448 ≡ 28005 = ap letters (sym h.0 ∙ g.0) in
     absurd (omega (arith, q))
 named_once (Exec o) Compile x h g =
     let q : 25976 ≡ 25455 = ap letters (sym h.0 ∙ g) in
@@ -84,8 +92,8 @@ named_once (Exec o) Compile x h g =
 named_once (Exec o) Show x h g =
     let q : 25976 ≡ 29544 = ap letters (sym h.0 ∙ g) in
     absurd (omega (arith, q))
-named_once (Exec o) Check x h g =
-    let q : 25976 ≡ 25448 = ap letters (sym h.0 ∙ g) in
+named_once (Exec o) (Check r') x h g =
+    let q : 25976 ≡ 25448 = ap letters (sym h.0 ∙ g.0) in
     absurd (omega (arith, q))
 named_once (Exec o) (Exec o') x h g = ap Exec (options_once o o' x.1 h.1 g.1)
 named_once (Exec o) (Run o') x h g =
@@ -100,8 +108,8 @@ named_once (Run o) Compile x h g =
 named_once (Run o) Show x h g =
     let q : 29301 ≡ 29544 = ap letters (sym h.0 ∙ g) in
     absurd (omega (arith, q))
-named_once (Run o) Check x h g =
-    let q : 29301 ≡ 25448 = ap letters (sym h.0 ∙ g) in
+named_once (Run o) (Check r') x h g =
+    let q : 29301 ≡ 25448 = ap letters (sym h.0 ∙ g.0) in
     absurd (omega (arith, q))
 named_once (Run o) (Exec o') x h g =
     let q : 29301 ≡ 25976 = ap letters (sym h.0 ∙ g.0) in
@@ -116,8 +124,8 @@ named_once (Meaning o) Compile x h g =
 named_once (Meaning o) Show x h g =
     let q : 28005 ≡ 29544 = ap letters (sym h.0 ∙ g) in
     absurd (omega (arith, q))
-named_once (Meaning o) Check x h g =
-    let q : 28005 ≡ 25448 = ap letters (sym h.0 ∙ g) in
+named_once (Meaning o) (Check r') x h g =
+    let q : 28005 ≡ 25448 = ap letters (sym h.0 ∙ g.0) in
     absurd (omega (arith, q))
 named_once (Meaning o) (Exec o') x h g =
     let q : 28005 ≡ 25976 = ap letters (sym h.0 ∙ g.0) in

@@ -1,5 +1,5 @@
 -- The lines of the command set, and what each means.
-use Rattle.std.specs.Prelude.{◌≡◌, ℕ, ◌^◌, ◌<◌, true, false, List, [], pos, Option, Some, None, codes}
+use Rattle.std.specs.Prelude.{◌≡◌, ℕ, ◌^◌, ◌<◌, Bool, true, false, List, [], pos, Option, Some, None, codes}
 use Rattle.std.specs.Fmt.{decimal}
 use Rattle.std.specs.Option.{option_map_or}
 use Rattle.std.specs.Str.{bytes_eq}
@@ -8,13 +8,15 @@ use Rattle.clap.specs.Simple.{on_top}
 use Rattle.clap.specs.declared.builder.action.ArgAction.TheVariants.{Set, SetTrue}
 use Rattle.command_line.specs.declared.command.Command.{Command}
 use Rattle.command_line.specs.declared.command.Command.TheVariants.{Compile, Exec, Run, Meaning, Show, Check}
+use Rattle.command_line.specs.declared.command.CheckReport.{CheckReport}
+use Rattle.command_line.specs.declared.command.CheckReport.TheVariants.{Whole, Each}
 use Rattle.command_line.specs.declared.command.RunOptions.{RunOptions}
 use Rattle.command_line.specs.declared.reading.TheConstants.{DEFAULT_TURNS}
 
 -- ---- the commands as `clap` reads them
 
--- `compile`, `show` and `check`; and `exec`, `run` and `meaning` with `--turns N`, `--arg N` and `--trace`,
--- each at most once and in any order
+-- `compile` and `show`; `check` with `--each`; and `exec`, `run` and `meaning` with `--turns N`,
+-- `--arg N` and `--trace`; each option at most once and in any order
 
 abbrev pub number_option : Text → Rule
 number_option name = record (new_rule name) { long = Some name; action = Some Set }
@@ -29,7 +31,7 @@ abbrev pub show_app : App
 show_app = new_app (codes "show")
 
 abbrev pub check_app : App
-check_app = new_app (codes "check")
+check_app = with_rule (new_app (codes "check")) (flag (codes "each"))
 
 -- a command that takes the options of a run
 abbrev pub run_app_named : Text → App
@@ -72,16 +74,24 @@ abbrev pub IsNumber : ℕ → Option Text → ℕ → Type 0
 IsNumber other None n = n ≡ other
 IsNumber other (Some text) n = (text ≡ decimal n) × (n < 2 ^ 63)
 
+-- an option without a value is there
+abbrev pub is_set : Text → List Row → Bool
+is_set name rows = option_map_or (λ t. bytes_eq t (codes "true")) (first_of name rows) false
+
 pub record HasOptions (options : RunOptions) (rows : List Row) : Type 0 where
   pub turns : IsNumber DEFAULT_TURNS (first_of (codes "turns") rows) options.turns
   pub argument : (n : ℕ) × IsNumber 0 (first_of (codes "arg") rows) n × (options.argument ≡ pos n)
-  pub trace : options.trace ≡ option_map_or (λ t. bytes_eq t (codes "true"))
-      (first_of (codes "trace") rows) false
+  pub trace : options.trace ≡ is_set (codes "trace") rows
+
+-- a line for each entry is asked for by `--each`
+abbrev pub HasReport : CheckReport → List Row → Type 0
+HasReport Whole rows = is_set (codes "each") rows ≡ false
+HasReport Each rows = is_set (codes "each") rows ≡ true
 
 abbrev pub IsNamedBy : Command → Text × List Row → Type 0
 IsNamedBy Compile x = x.0 ≡ codes "compile"
 IsNamedBy Show x = x.0 ≡ codes "show"
-IsNamedBy Check x = x.0 ≡ codes "check"
+IsNamedBy (Check report) x = (x.0 ≡ codes "check") × HasReport report x.1
 IsNamedBy (Exec options) x = (x.0 ≡ codes "exec") × HasOptions options x.1
 IsNamedBy (Run options) x = (x.0 ≡ codes "run") × HasOptions options x.1
 IsNamedBy (Meaning options) x = (x.0 ≡ codes "meaning") × HasOptions options x.1

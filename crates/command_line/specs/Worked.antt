@@ -1,7 +1,8 @@
 -- Lines that are written out.
 use Rattle.std.specs.Prelude.{true, false, [], ◌∷◌, pos, codes}
 use Rattle.command_line.specs.declared.command.Command.TheVariants.{Compile, Exec, Run, Meaning, Show, Check}
-use Rattle.command_line.specs.Lines.{IsLine}
+use Rattle.command_line.specs.declared.command.CheckReport.TheVariants.{Whole, Each}
+use Rattle.command_line.specs.Lines.{IsLine, IsNoLine}
 
 abbrev pub CompileAlone : Type 0
 CompileAlone = IsLine (codes "compile" ∷ []) Compile
@@ -10,7 +11,13 @@ abbrev pub ShowAlone : Type 0
 ShowAlone = IsLine (codes "show" ∷ []) Show
 
 abbrev pub CheckAlone : Type 0
-CheckAlone = IsLine (codes "check" ∷ []) Check
+CheckAlone = IsLine (codes "check" ∷ []) (Check Whole)
+
+abbrev pub CheckOfEach : Type 0
+CheckOfEach = IsLine (codes "check" ∷ codes "--each" ∷ []) (Check Each)
+
+abbrev pub EachTwice : Type 0
+EachTwice = IsNoLine (codes "check" ∷ codes "--each" ∷ codes "--each" ∷ [])
 
 abbrev pub ExecAlone : Type 0
 ExecAlone =

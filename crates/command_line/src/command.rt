@@ -9,6 +9,15 @@ pub struct RunOptions {
     pub trace: bool,
 }
 
+/// What `check` writes of a function table.
+#[derive(Clone, Copy, Debug, PartialEq, Eq)]
+pub enum CheckReport {
+    /// One verdict on the whole table.
+    Whole,
+    /// A line for each entry, and how many are without a fault.
+    Each,
+}
+
 /// What the program does.
 #[derive(Clone, Copy, Debug, PartialEq, Eq)]
 pub enum Command {
@@ -23,5 +32,5 @@ pub enum Command {
     /// Shows the function table of an image.
     Show,
     /// Checks the code of an image against its function table.
-    Check,
+    Check(CheckReport),
 }

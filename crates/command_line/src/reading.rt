@@ -7,9 +7,9 @@ ghost use Rattle.clap.specs.Words.{app_of, with_subcommand, fault_of, found_of, 
 ghost use Rattle.clap.specs.declared.builder.command.Command.TheViews.{out-Command};
 ghost use Rattle.command_line.specs.declared.command.Command.{Command};
 ghost use Rattle.command_line.specs.declared.command.RunOptions.{RunOptions};
-ghost use Rattle.command_line.specs.Lines.{bare_app, seh_app, run_app_named, HasOptions, IsLine, IsNoLine, IsNumber, IsNamedBy};
+ghost use Rattle.command_line.specs.Lines.{bare_app, seh_app, check_app, run_app_named, is_set, HasOptions, HasReport, IsLine, IsNoLine, IsNumber, IsNamedBy};
 
-use crate::command::{Command, RunOptions};
+use crate::command::{CheckReport, Command, RunOptions};
 use clap::error::ErrorKind;
 use clap::{Arg, ArgAction, ArgMatches};
 use seh_io::line::Line;
@@ -44,6 +44,34 @@ fn number_of(text: &str) -> Option<u64>
         Some(number)
     } else {
         None
+    }
+}
+
+/// The command `check`, which takes `--each`.
+fn check_command<'a>(alloc: Global) -> Result<clap::Command<'a>, AllocError>
+    ensures app { IfOk result (λ c. app_of c ≡ check_app) }
+    ensures local { IfOk result (λ c. (out-Command c).has_globals ≡ false) }
+{
+    clap::Command::new(alloc, "check").arg(
+        Arg::new(alloc, "each")
+            .long("each")
+            .action(ArgAction::SetTrue),
+    )
+}
+
+/// A command with `check` below it too.
+fn with_check<'a>(
+    alloc: Global,
+    command: clap::Command<'a>,
+) -> Result<clap::Command<'a>, AllocError>
+    ensures { IfOk result (λ c. app_of c ≡ with_subcommand (app_of command.entry) check_app.top) }
+{
+    match check_command(alloc) {
+        Ok(check) => command.subcommand(check),
+        Err(failed) => {
+            drop(command);
+            Err(failed)
+        }
     }
 }
 
@@ -102,7 +130,7 @@ fn program<'a>(alloc: Global) -> Result<clap::Command<'a>, AllocError>
 {
     let compiling = bare(alloc).subcommand(clap::Command::new(alloc, "compile"))?;
     let showing = compiling.subcommand(clap::Command::new(alloc, "show"))?;
-    let checking = showing.subcommand(clap::Command::new(alloc, "check"))?;
+    let checking = with_check(alloc, showing)?;
     let executing = with_run(alloc, checking, "exec")?;
     let running = with_run(alloc, executing, "run")?;
     with_run(alloc, running, "meaning")
@@ -143,6 +171,27 @@ fn number_or(text: Option<&str>, other: u64) -> Result<u64, WordsErr>
     }
 }
 
+/// Whether an option without a value is among the words.
+fn is_set(matches: &ArgMatches<'_>, name: &str) -> bool
+    ensures { result ≡ is_set name.now (rows_of (found_of matches.now)) }
+{
+    match matches.get_str(name) {
+        Some(text) => text == "true",
+        None => false,
+    }
+}
+
+/// What `check` writes.
+fn report_of(matches: &ArgMatches<'_>) -> CheckReport
+    ensures { HasReport result (rows_of (found_of matches.now)) }
+{
+    if is_set(matches, "each") {
+        CheckReport::Each
+    } else {
+        CheckReport::Whole
+    }
+}
+
 /// The options of a run.
 fn options_of(matches: &ArgMatches<'_>) -> Result<RunOptions, WordsErr>
     ensures found { IfOk result (λ o. HasOptions o (rows_of (found_of matches.now))) }
@@ -157,10 +206,7 @@ fn options_of(matches: &ArgMatches<'_>) -> Result<RunOptions, WordsErr>
         Ok(argument) => argument as i64,
         Err(error) => return Err(error),
     };
-    let trace = match matches.get_str("trace") {
-        Some(text) => text == "true",
-        None => false,
-    };
+    let trace = is_set(matches, "trace");
     Ok(RunOptions {
         turns,
         argument,
@@ -177,7 +223,7 @@ fn command_named(name: &str, matches: &ArgMatches<'_>) -> Result<Command, WordsE
     match name {
         "compile" => Ok(Command::Compile),
         "show" => Ok(Command::Show),
-        "check" => Ok(Command::Check),
+        "check" => Ok(Command::Check(report_of(matches))),
         "exec" => match options_of(matches) {
             Ok(options) => Ok(Command::Exec(options)),
             Err(error) => Err(error),
@@ -196,9 +242,10 @@ fn command_named(name: &str, matches: &ArgMatches<'_>) -> Result<Command, WordsE
 
 /// The command that the words after the program's name are.
 ///
-/// `exec`, `run` and `meaning` take `--turns N`, `--arg N` and `--trace`, each at most once and in
-/// any order; a number is written in decimal digits with no sign and no leading zero, and is at
-/// most 2^63 - 1. Words that ask for help or a version are no line of the command set.
+/// `exec`, `run` and `meaning` take `--turns N`, `--arg N` and `--trace`, and `check` takes
+/// `--each`, each at most once and in any order; a number is written in decimal digits with no sign
+/// and no leading zero, and is at most 2^63 - 1. Words that ask for help or a version are no line
+/// of the command set.
 pub fn command_of(alloc: Global, words: &[String]) -> Result<Command, WordsErr>
     ensures found { IfOk result (IsLine (map string_bytes words.now)) }
     ensures usage { result ≡ Err WordsErr.Usage → IsNoLine (map string_bytes words.now) }

@@ -2,7 +2,9 @@
 use Rattle.std.specs.Prelude.{◌≡◌, ℕ, List, Ok, Err}
 use Rattle.pe_image.specs.Image.{Image}
 use Rattle.eh_tables.specs.Tables.{Entry, tables}
+use Rattle.unwind_check.specs.declared.rule.EntryVerdict.{EntryVerdict}
 use Rattle.unwind_check.specs.declared.rule.Verdict.{Verdict}
+use Rattle.unwind_check.specs.EntryVerdicts.{AreEntryVerdicts}
 use Rattle.unwind_check.specs.Verdicts.{ImageCode, IsVerdict}
 use Rattle.image_code.specs.declared.refusal.ValidationErr.{ValidationErr}
 use Rattle.image_code.specs.declared.refusal.ValidationErr.TheVariants as refusals
@@ -17,6 +19,12 @@ pub record IsImageVerdict (image : Image) (probe : List ℕ) (v : Verdict) : Typ
   pub entries : List Entry
   pub read : tables image ≡ Ok entries
   pub is : IsVerdict (checked_code image probe) entries v
+
+-- the function table is read whole, and these are the verdicts on its entries, one by one
+pub record AreImageVerdicts (image : Image) (probe : List ℕ) (vs : List EntryVerdict) : Type 0 where
+  pub entries : List Entry
+  pub read : tables image ≡ Ok entries
+  pub are : AreEntryVerdicts (checked_code image probe) entries vs
 
 -- there is no verdict for this reason; a want of memory says nothing of the image
 abbrev pub IsValidationRefusal : Image → ValidationErr → Type 0

@@ -4,8 +4,9 @@
 //!
 //! Proved: what [`CodeView`] fetches is what the image has in memory, with its imports bound, were
 //! its base 0, and the image has the same where it is loaded; [`validate_image`] gives the verdict
-//! of crate unwind_check on that code; and where it is yes, the caller of every frame of each entry
-//! is found in the loaded image. Begin with `specs/Code.antt`.
+//! of crate unwind_check on that code, and [`validate_image_entries`] that on each entry; and where
+//! it is yes, the caller of every frame of each entry is found in the loaded image. Begin with
+//! `specs/Code.antt`.
 #![tactic(auto)]
 
 mod code_view;
@@ -16,4 +17,4 @@ mod validation;
 
 pub use code_view::CodeView;
 pub use refusal::ValidationErr;
-pub use validation::validate_image;
+pub use validation::{validate_image, validate_image_entries};

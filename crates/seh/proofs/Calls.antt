@@ -28,6 +28,7 @@ use Rattle.image_code.specs.Verdicts.{IsImageVerdict}
 use Rattle.x64_emit.specs.declared.entry.TheConstants.{CHECK_STACK}
 use Rattle.seh_ir.specs.Lowered.{lowered}
 use Rattle.image_link.specs.Linked.{linked}
+use Rattle.command_line.specs.declared.command.CheckReport.TheVariants.{Whole}
 use Rattle.command_line.specs.declared.command.Command.{Command}
 use Rattle.command_line.specs.declared.command.Command.TheVariants.{Compile, Exec, Run, Meaning, Show, Check}
 use Rattle.command_line.specs.declared.command.RunOptions.{RunOptions}
@@ -72,7 +73,7 @@ image_loads text image is =
     record { image = is.realises.image; is = is.realises.is; loads = is.realises.loads }
 
 -- a function table that is read isn't refused
-table_read : (t : Table (List Entry)) (es : List Entry) (e : TableErr) → t ≡ Ok es → t ≡ Err e → ⊥
+pub table_read : (t : Table (List Entry)) (es : List Entry) (e : TableErr) → t ≡ Ok es → t ≡ Err e → ⊥
 table_read t es e is refused = let q : Ok es ≡ Err e = sym is ∙ refused in cc
 
 -- ---- faults
@@ -85,7 +86,7 @@ no_fault a b h rose =
 
 -- ---- what is reported
 
-of_refusal : (r : Refusal) (call : Call) → HadNoFault call.err call.err_after
+pub of_refusal : (r : Refusal) (call : Call) → HadNoFault call.err call.err_after
     → Reported (Err r) call.err call.err_after call.status → call.status ≡ refusal_status r
 of_refusal r call h (inl x) = x.0
 of_refusal r call h (inr y) = absurd (no_fault call.err call.err_after h y.1)
@@ -114,7 +115,7 @@ pub record Came (command : Command) (call : Call) : Type 0 where
   pub is : IsCommandAnswer command call.source call.source_after call.out call.out_after answer
   pub reported : Reported answer call.err call.err_after call.status
 
-came : (command : Command) (held : List ℕ) (call : Call) → Asks command held call
+pub came : (command : Command) (held : List ℕ) (call : Call) → Asks command held call
     → WantedMemory call ⊎ Came command call
 came command held call asks = by asks.answers.answer asks.answers.reported asks.answers.cause
   where
@@ -171,10 +172,10 @@ read limit judged held a b out out' (Err refusals.WriteFault) short is h i =
 
 module _ (call : Call) (out : HadNoFault call.out call.out_after)
     (err : HadNoFault call.err call.err_after) where
-  abbrev Tells : Result CommandOutcome Refusal → Type 0
+  abbrev pub Tells : Result CommandOutcome Refusal → Type 0
   Tells answer = Reported answer call.err call.err_after call.status
 
-  wanted : (answer : Result CommandOutcome Refusal) → answer ≡ Err refusals.NoMemory → Tells answer
+  pub wanted : (answer : Result CommandOutcome Refusal) → answer ≡ Err refusals.NoMemory → Tells answer
       → WantedMemory call
   wanted answer none told = of_refusal refusals.NoMemory call err (subst Tells none told)
 
@@ -186,13 +187,13 @@ module _ (call : Call) (out : HadNoFault call.out call.out_after)
       of_refusal (refusals.Text e) call err told
       ∙ ap (λ x. refusal_status (refusals.Text x)) memory
 
-  image_wanted : (bytes : List ℕ) (image : Image) (e : ImageErr) → IsImage bytes image
+  pub image_wanted : (bytes : List ℕ) (image : Image) (e : ImageErr) → IsImage bytes image
       → ImageIsRefused bytes e → Tells (Err (refusals.Image e)) → WantedMemory call
   image_wanted bytes image e is refused told =
       of_refusal (refusals.Image e) call err told
       ∙ ap (λ x. refusal_status (refusals.Image x)) (image_refused bytes image e is refused)
 
-  cut : {X : Type 0} → Rose call.out.faults call.out_after.faults → X
+  pub cut : {X : Type 0} → Rose call.out.faults call.out_after.faults → X
   cut rose = absurd (no_fault call.out call.out_after out rose)
 
   compiled : (text : List ℕ) (whole : List ExternalDeclaration) → IsAccepted text whole
@@ -342,7 +343,7 @@ module _ (call : Call) (out : HadNoFault call.out call.out_after)
 -- ---- completeness
 
 -- a command that reads its input and judges it: what came of what the source held
-judged_by : {X : Type 0} (limit : ℕ) (judged : Judged) (held : List ℕ) (call : Call)
+pub judged_by : {X : Type 0} (limit : ℕ) (judged : Judged) (held : List ℕ) (call : Call)
     → HadNoFault call.source call.source_after → HadNoFault call.err call.err_after
     → call.source.bytes ≡ Some held → length held ≤ limit
     → (answer : Result CommandOutcome Refusal)
@@ -391,9 +392,10 @@ exec_is_complete bytes options call short loads asks = by (came (Exec options) b
         (ran call asks.out asks.err options bytes loads c.answer c.reported)
 
 pub check_is_complete : CheckIsComplete
-check_is_complete bytes image entries call short is whole asks = by (came Check bytes call asks)
+check_is_complete bytes image entries call short is whole asks =
+    by (came (Check Whole) bytes call asks)
   where
-    by : WantedMemory call ⊎ Came Check call
+    by : WantedMemory call ⊎ Came (Check Whole) call
         → WantedMemory call ⊎ CheckedAs call asks.out asks.err image
     by (inl w) = inl w
     by (inr c) = judged_by image_limit IsCheckAnswer bytes call asks.source asks.err asks.holds
@@ -401,14 +403,14 @@ check_is_complete bytes image entries call short is whole asks = by (came Check 
         (checked call asks.out asks.err bytes image entries is whole c.answer c.reported)
 
 pub done_is_yes : DoneIsYes
-done_is_yes bytes call short asks done = by (came Check bytes call asks)
+done_is_yes bytes call short asks done = by (came (Check Whole) bytes call asks)
   where
     sure : WantedMemory call ⊎ ((n : ℕ) × IsChecked bytes (Yes n))
         → (n : ℕ) × IsChecked bytes (Yes n)
     sure (inl w) = let q : statuses.Done ≡ statuses.NoMemory = sym done ∙ w in cc
     sure (inr found) = found
 
-    by : WantedMemory call ⊎ Came Check call → (n : ℕ) × IsChecked bytes (Yes n)
+    by : WantedMemory call ⊎ Came (Check Whole) call → (n : ℕ) × IsChecked bytes (Yes n)
     by (inl w) = sure (inl w)
     by (inr c) = sure (judged_by image_limit IsCheckAnswer bytes call asks.source asks.err
         asks.holds short c.answer c.reported c.is

@@ -4,6 +4,7 @@ use Rattle.std.proofs.lemmas.List.{take-append-drop, length-take-le}
 use Rattle.seh.specs.Words.{Grew, last_count, TookPart, CommandOutcome, Refusal, Stream, RunOptions, IsMeaningAnswer, IsMeaningInputAnswer, text_limit, image_limit, Judged, IsRunAnswer, IsShowAnswer, IsInput, LostFew, IsCompileAnswer, IsTextRunAnswer, IsInputRefusal, IsInputAnswer}
 use Rattle.seh.specs.declared.refusal.Refusal.TheVariants as refusals
 use Rattle.seh.specs.Checks.{IsCheckAnswer}
+use Rattle.seh.specs.EntryChecks.{IsEntriesAnswer}
 
 -- what was read whole was lost from the front
 lost_all : (limit : ℕ) (source source' : Stream) (bytes : List ℕ)
@@ -115,6 +116,23 @@ from_checked bytes source source' out out' (Err (refusals.Load e)) input h =
 from_checked bytes source source' out out' (Err refusals.NoMemory) input h =
     (lost_all image_limit source source' bytes input, h.1)
 from_checked bytes source source' out out' (Err r) input h = absurd h.0
+
+-- of an image whose entries were checked
+pub from_entries : (bytes : List ℕ) (source source' out out' : Stream)
+    (answer : Result CommandOutcome Refusal) → IsInput image_limit source source' bytes
+    → IsEntriesAnswer bytes out out' answer
+    → IsInputAnswer image_limit IsEntriesAnswer source source' out out' answer
+from_entries bytes source source' out out' (Ok done) input h =
+    record { bytes = bytes; input = input; comes = h }
+from_entries bytes source source' out out' (Err refusals.WriteFault) input h =
+    record { bytes = bytes; input = input; comes = h }
+from_entries bytes source source' out out' (Err (refusals.Image e)) input h =
+    record { bytes = bytes; input = input; comes = h }
+from_entries bytes source source' out out' (Err (refusals.Load e)) input h =
+    record { bytes = bytes; input = input; comes = h }
+from_entries bytes source source' out out' (Err refusals.NoMemory) input h =
+    (lost_all image_limit source source' bytes input, h.1)
+from_entries bytes source source' out out' (Err r) input h = absurd h.0
 
 -- what wasn't read is the answer
 pub refused_input : (limit : ℕ) (judged : Judged) (source source' out : Stream) (e : Refusal)

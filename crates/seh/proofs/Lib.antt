@@ -15,3 +15,5 @@ pub mod OneVerdict
 pub mod Existence
 pub mod CompiledChecks
 pub mod CompiledFrames
+pub mod EntryCalls
+pub mod OneTextOfEntries

@@ -117,7 +117,7 @@ verdict_once c es (No k f) (No j g) h i = first_once c es k j f g h i
 -- ---- one image
 
 -- a function table is read as one list of entries
-one_table : (t : Table (List Entry)) (xs ys : List Entry) → t ≡ Ok xs → t ≡ Ok ys → xs ≡ ys
+pub one_table : (t : Table (List Entry)) (xs ys : List Entry) → t ≡ Ok xs → t ≡ Ok ys → xs ≡ ys
 one_table t xs ys is also = let q : Ok xs ≡ Ok ys = sym is ∙ also in cc
 
 pub images_have_one_verdict : ImagesHaveOneVerdict

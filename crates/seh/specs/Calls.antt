@@ -19,6 +19,7 @@ use Rattle.image_code.specs.Verdicts.{IsImageVerdict}
 use Rattle.x64_emit.specs.declared.entry.TheConstants.{CHECK_STACK}
 use Rattle.match_runs.specs.Ends.{run_end}
 use Rattle.command_line.specs.declared.command.Command.{Command}
+use Rattle.command_line.specs.declared.command.CheckReport.TheVariants.{Whole}
 use Rattle.command_line.specs.declared.command.Command.TheVariants.{Compile, Exec, Run, Meaning, Show, Check}
 use Rattle.command_line.specs.declared.command.RunOptions.{RunOptions}
 use Rattle.command_line.specs.Lines.{IsLine}
@@ -111,7 +112,7 @@ abbrev pub CheckIsComplete : Type 0
 CheckIsComplete =
     (bytes : List ℕ) (image : Image) (entries : List Entry) (call : Call)
     → length bytes ≤ image_limit → IsImage bytes image → tables image ≡ Ok entries
-    → Asks Check bytes call
+    → Asks (Check Whole) bytes call
     → WantedMemory call
     ⊎ ((verdict : Verdict) × IsImageVerdict image CHECK_STACK verdict
     × Gave (verdict_status verdict) (verdict_line verdict) call)

@@ -15,6 +15,7 @@ use Rattle.host_model.specs.Loading.{has_place}
 use Rattle.host_model.specs.Machine.{functions_in}
 use Rattle.image_code.specs.Code.{code_of}
 use Rattle.image_code.specs.Frames.{HasCodeOf}
+use Rattle.command_line.specs.declared.command.CheckReport.TheVariants.{Whole}
 use Rattle.command_line.specs.declared.command.Command.TheVariants.{Check}
 use Rattle.seh.specs.declared.status.Status.TheVariants as statuses
 use Rattle.seh.specs.Answers.{image_limit}
@@ -29,7 +30,7 @@ ImagesHaveOneVerdict =
 abbrev pub DoneIsYes : Type 0
 DoneIsYes =
     (bytes : List ℕ) (call : Call)
-    → length bytes ≤ image_limit → Asks Check bytes call → call.status ≡ statuses.Done
+    → length bytes ≤ image_limit → Asks (Check Whole) bytes call → call.status ≡ statuses.Done
     → (n : ℕ) × IsChecked bytes (Yes n)
 
 -- where the verdict is yes and the image has a place, the walk over the loaded image finds the

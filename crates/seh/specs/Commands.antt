@@ -1,6 +1,7 @@
 -- Which answer a call of the program has, and by what cause.
 use Rattle.std.specs.Prelude.{◌≡◌, ◌⊎◌, ℕ, List, Result, Err}
 use Rattle.command_line.specs.declared.command.Command.{Command}
+use Rattle.command_line.specs.declared.command.CheckReport.TheVariants.{Whole, Each}
 use Rattle.command_line.specs.declared.command.Command.TheVariants.{Compile, Exec, Run, Meaning, Show, Check}
 use Rattle.command_line.specs.Lines.{IsLine, IsNoLine}
 use Rattle.seh.specs.declared.outcome.CommandOutcome.{CommandOutcome}
@@ -9,6 +10,7 @@ use Rattle.seh.specs.declared.refusal.Refusal.{Refusal}
 use Rattle.seh.specs.declared.refusal.Refusal.TheVariants as refusals
 use Rattle.seh.specs.Answers.{text_limit, image_limit, Unwritten, IsInputAnswer, IsRunAnswer, IsShowAnswer, IsCompileAnswer, IsTextRunAnswer}
 use Rattle.seh.specs.Checks.{IsCheckAnswer}
+use Rattle.seh.specs.EntryChecks.{IsEntriesAnswer}
 use Rattle.seh.specs.Meanings.{IsMeaningInputAnswer}
 use Rattle.seh.specs.Refusals.{Reported}
 use Rattle.seh.specs.Streams.{Stream}
@@ -20,8 +22,10 @@ IsCommandAnswer Compile source source' out out' answer =
     IsInputAnswer text_limit IsCompileAnswer source source' out out' answer
 IsCommandAnswer Show source source' out out' answer =
     IsInputAnswer image_limit IsShowAnswer source source' out out' answer
-IsCommandAnswer Check source source' out out' answer =
+IsCommandAnswer (Check Whole) source source' out out' answer =
     IsInputAnswer image_limit IsCheckAnswer source source' out out' answer
+IsCommandAnswer (Check Each) source source' out out' answer =
+    IsInputAnswer image_limit IsEntriesAnswer source source' out out' answer
 IsCommandAnswer (Exec options) source source' out out' answer =
     IsInputAnswer image_limit (IsRunAnswer options) source source' out out' answer
 IsCommandAnswer (Run options) source source' out out' answer =

@@ -4,6 +4,7 @@ use Rattle.c_checked.specs.Program.{Program}
 use Rattle.c_resolved.specs.Program.{resolve}
 use Rattle.unwind_check.specs.declared.rule.Verdict.{Verdict}
 use Rattle.unwind_check.specs.declared.rule.Verdict.TheVariants.{Yes}
+use Rattle.command_line.specs.declared.command.CheckReport.TheVariants.{Whole}
 use Rattle.command_line.specs.declared.command.Command.TheVariants.{Compile, Check}
 use Rattle.seh.specs.declared.status.Status.TheVariants as statuses
 use Rattle.seh.specs.Answers.{text_limit}
@@ -32,6 +33,6 @@ abbrev pub CompiledIsKept : Type 0
 CompiledIsKept =
     (source image : List ℕ) (p : Program) (first second : Call)
     → length source ≤ text_limit → IsProgramOf source p → Asks Compile source first
-    → first.status ≡ statuses.Done → Took image first → Asks Check image second
+    → first.status ≡ statuses.Done → Took image first → Asks (Check Whole) image second
     → WantedMemory second
     ⊎ Gave statuses.Done (verdict_line (Yes (framed_count p))) second

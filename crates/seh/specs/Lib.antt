@@ -4,6 +4,7 @@ pub mod Refusals
 pub mod Images
 pub mod Answers
 pub mod Checks
+pub mod EntryChecks
 pub mod Headline
 pub mod Meanings
 pub mod Commands
@@ -15,3 +16,4 @@ pub mod CheckLaws
 pub mod Existence
 pub mod CompiledChecks
 pub mod CompiledFrames
+pub mod EntryCheckLaws

@@ -1,5 +1,5 @@
 -- The numbers that the program ends with.
-use Rattle.std.specs.Prelude.{ℕ}
+use Rattle.std.specs.Prelude.{ℕ, ◌==◌, if◌then◌else◌}
 use Rattle.seh_num.specs.declared.end.RunEnd.{RunEnd}
 use Rattle.seh_num.specs.declared.end.RunEnd.TheVariants as ends
 use Rattle.source_meaning.specs.declared.ended.Ended.{Ended}
@@ -7,7 +7,7 @@ use Rattle.source_meaning.specs.declared.ended.Ended.TheVariants as meant
 use Rattle.unwind_check.specs.declared.rule.Verdict.{Verdict}
 use Rattle.unwind_check.specs.declared.rule.Verdict.TheVariants as verdicts
 use Rattle.seh.specs.declared.outcome.CommandOutcome.{CommandOutcome}
-use Rattle.seh.specs.declared.outcome.CommandOutcome.TheVariants.{Compiled, Ran, Meant, Viewed, Checked}
+use Rattle.seh.specs.declared.outcome.CommandOutcome.TheVariants.{Compiled, Ran, Meant, Viewed, Checked, CheckedEntries}
 use Rattle.seh.specs.declared.status.Status.{Status}
 use Rattle.seh.specs.declared.status.Status.TheVariants as statuses
 
@@ -48,9 +48,14 @@ abbrev pub verdict_status : Verdict → Status
 verdict_status (verdicts.Yes n) = statuses.Done
 verdict_status (verdicts.No k fault) = statuses.No
 
+-- of the entries of a function table, so many of which are without a fault
+abbrev pub entries_status : ℕ → ℕ → Status
+entries_status kept all = if kept == all then statuses.Done else statuses.No
+
 abbrev pub outcome_status : CommandOutcome → Status
 outcome_status Compiled = statuses.Done
 outcome_status Viewed = statuses.Done
 outcome_status (Ran end) = status_of end
 outcome_status (Meant ended) = meaning_status ended
 outcome_status (Checked verdict) = verdict_status verdict
+outcome_status (CheckedEntries kept all) = entries_status kept all

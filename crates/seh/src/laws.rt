@@ -4,6 +4,7 @@ ghost use Rattle.seh.specs.Calls.{CompileIsComplete, RunIsComplete, MeaningIsCom
 ghost use Rattle.seh.specs.CheckLaws.{ImagesHaveOneVerdict, DoneIsYes, CheckedCallersAreFound};
 ghost use Rattle.seh.specs.CompiledChecks.{CompiledImagesAreKept, CompiledVerdictsAreYes, CompiledIsKept};
 ghost use Rattle.seh.specs.CompiledFrames.{CompiledEntriesAreFound, CompiledLeavesAreFound};
+ghost use Rattle.seh.specs.EntryCheckLaws.{EntryCheckIsComplete, EntriesHaveOneVerdictEach};
 ghost use Rattle.seh.specs.Completeness.{AcceptedTextsCompile, CompiledImagesRun};
 ghost use Rattle.seh.specs.Existence.{ImagesExist};
 ghost use Rattle.seh.specs.Headline.{Headline, NothingMore, Walks};
@@ -58,14 +59,16 @@ pub fn tame_programs()
 /// Whole calls of the program, where no source and no sink has a fault and memory isn't wanting. An
 /// accepted text gives an image under `compile`, the text of its run under `run`, and the text of
 /// its meaning under `meaning`. An image gives its view under `show`, one whose function table is
-/// read whole the line of its verdict under `check`, and one that loads the text of its run under
-/// `exec`. Each has the status of its end, and writes nothing to `err`.
+/// read whole the line of its verdict under `check` and the text of its entries' verdicts under
+/// `check --each`, and one that loads the text of its run under `exec`. Each has the status of its
+/// end, and writes nothing to `err`.
 pub fn calls()
     ensures compile { CompileIsComplete }
     ensures run { RunIsComplete }
     ensures meaning { MeaningIsComplete }
     ensures show { ShowIsComplete }
     ensures check { CheckIsComplete }
+    ensures check_entries { EntryCheckIsComplete }
     ensures exec { ExecIsComplete }
 {}
 
@@ -109,4 +112,10 @@ pub fn compiled_images()
 pub fn compiled_frames()
     ensures entries { CompiledEntriesAreFound }
     ensures leaves { CompiledLeavesAreFound }
+{}
+
+/// What `check --each` says of an image: each entry of an image has one verdict, and so the image
+/// has one text.
+pub fn checked_entries()
+    ensures { EntriesHaveOneVerdictEach }
 {}

@@ -6,7 +6,9 @@
 #![tactic(auto)]
 
 pub mod check;
+pub mod check_entries;
 pub mod compile;
+pub mod entry_lines;
 pub mod exec;
 pub mod image;
 pub mod input;

@@ -21,6 +21,13 @@ pub enum CommandOutcome {
     Viewed,
     /// The function table of an image was checked, with this verdict.
     Checked(Verdict),
+    /// The entries of the function table of an image were checked, one by one.
+    CheckedEntries {
+        /// How many are without a fault.
+        kept: u64,
+        /// How many there are.
+        entries: u64,
+    },
 }
 
 impl CommandOutcome {
@@ -33,6 +40,9 @@ impl CommandOutcome {
             CommandOutcome::Ran(end) => Status::of(end),
             CommandOutcome::Meant(ended) => Status::of_meaning(ended),
             CommandOutcome::Checked(verdict) => Status::of_verdict(verdict),
+            CommandOutcome::CheckedEntries { kept, entries } => {
+                Status::of_entries(*kept, *entries)
+            }
         }
     }
 }

@@ -1,5 +1,5 @@
 ghost use Rattle.std.specs.Prelude.{◌≡◌};
-ghost use Rattle.seh.specs.Statuses.{code_of, status_of, meaning_status, verdict_status};
+ghost use Rattle.seh.specs.Statuses.{code_of, status_of, meaning_status, verdict_status, entries_status};
 
 use seh_num::end::RunEnd;
 use source_meaning::ended::Ended;
@@ -97,6 +97,17 @@ impl Status {
         match verdict {
             Verdict::Yes { .. } => Status::Done,
             Verdict::No { .. } => Status::No,
+        }
+    }
+
+    /// The status of the entries of a function table, so many of which are without a fault.
+    pub fn of_entries(kept: u64, entries: u64) -> Status
+        ensures { result ≡ entries_status kept entries }
+    {
+        if kept == entries {
+            Status::Done
+        } else {
+            Status::No
         }
     }
 }

@@ -6,6 +6,7 @@ ghost use Rattle.seh.specs.Commands.{Answers, IsAnswer};
 ghost use Rattle.seh.specs.Streams.{stream};
 
 use crate::check::check;
+use crate::check_entries::check_entries;
 use crate::compile::compile;
 use crate::exec::exec;
 use crate::meaning::meaning;
@@ -14,7 +15,7 @@ use crate::refusal::{Refusal, report};
 use crate::run::run;
 use crate::show::show;
 use crate::status::Status;
-use command_line::command::Command;
+use command_line::command::{CheckReport, Command};
 use command_line::reading::{WordsErr, command_of};
 use seh_io::sink::Sink;
 use seh_io::source::Source;
@@ -34,7 +35,8 @@ fn answer<S: Source, O: Sink>(
     match command_of(alloc, words) {
         Ok(Command::Compile) => compile(alloc, src, out),
         Ok(Command::Show) => show(alloc, src, out),
-        Ok(Command::Check) => check(alloc, src, out),
+        Ok(Command::Check(CheckReport::Whole)) => check(alloc, src, out),
+        Ok(Command::Check(CheckReport::Each)) => check_entries(alloc, src, out),
         Ok(Command::Exec(options)) => exec(alloc, options, src, out),
         Ok(Command::Run(options)) => run(alloc, options, src, out),
         Ok(Command::Meaning(options)) => meaning(alloc, options, src, out),
@@ -61,7 +63,10 @@ fn answer<S: Source, O: Sink>(
 /// `check` reads an image and judges its code by its function table, by the rules of crate
 /// `unwind_check`: it writes `yes` with the number of entries; or `no` with the index of the first
 /// entry in which a rule fails, the address of the first boundary at which one does, and the rule,
-/// and has the status `No`. The image need not load.
+/// and has the status `No`. The image need not load. With `--each` it writes a line for each
+/// entry: `yes` with the entry's index and the address of its first byte where no rule fails in
+/// it, else `no` as for the first; and last how many entries are without a fault of how many, with
+/// the status `Done` where all are, else `No`.
 ///
 /// A refusal writes one line to `err` and nothing to `out`, but for a write fault, and for `no
 /// memory` of `meaning`, after which `out` has taken a part of the text from the front. Where the

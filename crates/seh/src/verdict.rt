@@ -26,7 +26,7 @@ fn unwind_rule_name(rule: Rule) -> &'static [u8]
 }
 
 /// The text of a verdict.
-fn verdict_text(verdict: &Verdict) -> Line
+pub fn verdict_text(verdict: &Verdict) -> Line
     ensures value { result ≡ verdict_text verdict.now }
     ensures len { length result ≤ 63 }
 {

@@ -1,6 +1,8 @@
 //! What `check` answers.
 
+use crate::calls::{answer, answers, compiled, words_of};
 use crate::inputs::all_answer;
+use std::alloc::{AllocError, Global};
 
 /// The image of a text, which has one entry, and an image without a function table.
 const YES: &str = r"
@@ -72,4 +74,62 @@ check | framed @ file+317 31 C0 @ optional+24 00 10 00 00 00 | 0 yes 1
 #[test]
 fn images_need_not_load(rt: HostRuntime) {
     all_answer(&rt, rt.alloc(), REFUSED);
+}
+
+/// A line for each entry: one is right and one isn't, more than one isn't, and there is none. An
+/// image has the same refusals as without `--each`.
+const EACH: &str = r"
+check --each | foreign | 0 yes 0 00002000 / yes 1 00002030 / yes 2 00002080 / yes 3 000020E0 / yes 4 of 4
+check --each | foreign @ file+341 20 | 16 no 0 0000201A Epilogue / yes 1 00002030 / yes 2 00002080 / yes 3 000020E0 / yes 3 of 4
+check --each | foreign @ file+426 5F 5B @ file+613 08 | 16 yes 0 00002000 / no 1 0000206E Epilogue / yes 2 00002080 / no 3 000020E0 Codes / yes 2 of 4
+check --each | framed | 16 no 0 00002005 Unsaved / yes 0 of 1
+check --each | framed @ file+317 31 C0 | 0 yes 0 00002000 / yes 1 of 1
+check --each | fourteen | 0 yes 0 of 0
+check --each | compiled int main(void){} | 0 yes 0 00002033 / yes 1 of 1
+check --each | bytes 64*00 | 3 ! image NotPe 0
+check --each | tables @ file+308 00 | 3 ! table Unsorted 1
+";
+
+#[test]
+fn each_entry_is_answered(rt: HostRuntime) {
+    all_answer(&rt, rt.alloc(), EACH);
+}
+
+/// Four functions, two filters and a `__finally` block.
+const FUNCLETS: &str = r"
+int f(int n) { put(n); return n; }
+int g(int n) { __try { __try { f(n); } __finally { put(1); } } __except (n) { put(2); } return n; }
+int h(int n) { int i; for (i = 0; i < n; i = i + 1) { g(i); } return i; }
+int main(void) { __try { h(3); RaiseException(5, 0, 0, 0); } __except (GetExceptionCode() == 5) { put(3); } return 0; }
+";
+
+/// The lines that `check --each` answers where each entry of a view is right.
+fn all_right(alloc: Global, view: &str) -> Result<String, AllocError> {
+    let mut lines = String::from_str(alloc, "0 ")?;
+    for line in view.lines() {
+        let mut words = line.split(' ');
+        let kind = words.next().unwrap_or("");
+        let index = words.next().unwrap_or("");
+        if kind == "entry" {
+            let begin = words.next().unwrap_or("");
+            let text = format!(in alloc; "yes {index} {begin} / ")?;
+            lines.push_str(text.as_str())?;
+        } else if kind == "entries" {
+            let text = format!(in alloc; "yes {index} of {index}")?;
+            lines.push_str(text.as_str())?;
+        }
+    }
+    Ok(lines)
+}
+
+/// In an image of functions and funclets each entry is right, and begins where `show` has it.
+#[test]
+fn each_entry_is_right(rt: HostRuntime) {
+    let alloc = rt.alloc();
+    let image = compiled(&rt, alloc, FUNCLETS);
+    let view = answer(alloc, &words_of(&rt, alloc, &["show"]), &image);
+    let text = str::from_utf8(&view.out).unwrap_or("");
+    assert!(rt; text.ends_with("entries 7\n"), "{text}");
+    let wanted = all_right(alloc, text).expect(&rt, "memory");
+    answers(&rt, alloc, "check --each", &image, wanted.as_str());
 }

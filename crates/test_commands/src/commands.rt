@@ -9,6 +9,9 @@ exce
 exec exec
 compile x
 check x
+check --each --each
+check --each x
+show --each
 run --turns
 run --arg 01
 exec --turns

@@ -19,10 +19,16 @@ struct Calls {
     most: usize,
 }
 
+/// A command of two words.
+const EACH: &str = "check --each";
+
 /// The command and the calls that a row names.
 fn calls_of(column: &str) -> Option<(&str, Calls)> {
-    let mut words = column.split_ascii_whitespace();
-    let command = words.next()?;
+    let (command, numbers) = match column.strip_prefix(EACH) {
+        Some(numbers) => (EACH, numbers),
+        None => column.split_once(' ')?,
+    };
+    let mut words = numbers.split_ascii_whitespace();
     let calls = Calls {
         read: words.next()?.parse().ok()?,
         write: words.next()?.parse().ok()?,
@@ -96,6 +102,11 @@ check 3 0 0 16 | fourteen | 4 ! read fault
 check 0 0 0 1 | framed | 16 no 0 00002005 Unsaved
 check 0 2 0 2 | framed | 5 no~ ! write fault
 check 0 1 2 5 | framed | 5 ! write~
+check --each 0 0 0 1 | framed | 16 no 0 00002005 Unsaved / yes 0 of 1
+check --each 1 0 0 4096 | framed | 4 ! read fault
+check --each 0 2 0 4 | framed | 5 no 0~ ! write fault
+check --each 0 6 0 5 | framed | 5 no 0 00002005 Unsaved / yes~ ! write fault
+check --each 0 1 2 5 | framed | 5 ! write~
 meaning 0 0 0 1 | text int main(void){ put(2+3*4); return 7; } | 0 14 / exit 7
 meaning 0 2 0 2 | text int main(void){ put(2+3*4); return 7; } | 5 14~ ! write fault
 meaning 0 1 2 5 | text int main(void){ put(2+3*4); return 7; } | 5 ! write~

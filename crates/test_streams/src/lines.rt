@@ -9,7 +9,8 @@ use std::test::Fail;
 const LINES: &str = r"
 compile | Ok(Compile)
 show | Ok(Show)
-check | Ok(Check)
+check | Ok(Check(Whole))
+check --each | Ok(Check(Each))
 exec | Ok(Exec(RunOptions { turns: 10000000, argument: 0, trace: false }))
 exec --turns 7 | Ok(Exec(RunOptions { turns: 7, argument: 0, trace: false }))
 exec --arg 9223372036854775807 | Ok(Exec(RunOptions { turns: 10000000, argument: 9223372036854775807, trace: false }))
@@ -20,6 +21,10 @@ exec --turns 07 | Err(Usage)
 exec --turns | Err(Usage)
 exec --help | Err(Usage)
 check --trace | Err(Usage)
+check --each --each | Err(Usage)
+check --each=1 | Err(Usage)
+show --each | Err(Usage)
+exec --each | Err(Usage)
 help | Err(Usage)
 ";
 

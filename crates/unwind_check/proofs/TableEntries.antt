@@ -15,6 +15,8 @@ use Rattle.unwind_check.specs.declared.rule.Fault.{Fault}
 use Rattle.unwind_check.specs.Faults.{entry_fault}
 use Rattle.unwind_check.specs.FailingRules.{AreFaults}
 use Rattle.unwind_check.specs.Verdicts.{ImageCode, entry_in, IsKept, AllAreKept}
+use Rattle.unwind_check.specs.declared.rule.EntryVerdict.{EntryVerdict}
+use Rattle.unwind_check.specs.EntryVerdicts.{IsEntryVerdict, AreEntryVerdicts}
 use Rattle.unwind_check.proofs.FirstFaults.{faults_are_first}
 
 record Split (ts : Tables) (index last : ℕ) (r : RuntimeFunction) (rs : List RuntimeFunction)
@@ -140,18 +142,21 @@ range_of ts index last r e h =
 
 -- ---- the rules, entry by entry
 
--- what is said of the entry of an index
-pub says_of : (c : ImageCode) (t : Tables) (k : ℕ) (e : Entry) (r : RuntimeFunction) (i : Info)
-    (ps : List Info) (o : Option Fault) → Ok e ≡ entry_at t k → r ≡ e.range → i ≡ e.info
-    → ps ≡ e.parents → r.end < 2 ^ 63 → o ≡ entry_fault c.memory c.probe r.begin r.end i ps
-    → AreFaults (entry_in c e) o
-says_of c t k e r i ps o is range info parents low f =
+-- the range of the entry of an index isn't empty
+pub has_bytes : (t : Tables) (k : ℕ) (e : Entry) → Ok e ≡ entry_at t k
+    → e.range.begin < e.range.end
+has_bytes t k e is =
     let q = get_or t.ranges k no_range in
     let some = some_bytes t k (end_before t.ranges k) q e (sym is) in
     let same = range_of t k (end_before t.ranges k) q e (sym is) in
-    let rise : e.range.begin < e.range.end = subst (λ (p : RuntimeFunction). p.begin < p.end)
-    (sym same)
-    some in
+    subst (λ (p : RuntimeFunction). p.begin < p.end) (sym same) some
+
+-- what is said of an entry by what is read of it
+pub says_of : (c : ImageCode) (e : Entry) (r : RuntimeFunction) (i : Info) (ps : List Info)
+    (o : Option Fault) → e.range.begin < e.range.end → r ≡ e.range → i ≡ e.info
+    → ps ≡ e.parents → r.end < 2 ^ 63 → o ≡ entry_fault c.memory c.probe r.begin r.end i ps
+    → AreFaults (entry_in c e) o
+says_of c e r i ps o rise range info parents low f =
     let here : entry_fault c.memory c.probe e.range.begin e.range.end e.info e.parents ≡ o =
     ap (λ (r : RuntimeFunction). entry_fault c.memory c.probe r.begin r.end e.info e.parents)
     (sym range)
@@ -237,3 +242,31 @@ all_keep c t k w le all =
       subst (AllAreKept c) (all_taken (entries_of t) k (omega (arith, n, le))) all,
       n,
     )
+
+-- ---- the verdicts on entries, one by one
+
+-- one more entry and the verdict on it
+joined : (c : ImageCode) (es : List Entry) (vs : List EntryVerdict) (e : Entry) (v : EntryVerdict)
+    → AreEntryVerdicts c es vs → IsEntryVerdict c e v
+    → AreEntryVerdicts c (es ++ (e ∷ [])) (vs ++ (v ∷ []))
+joined c [] [] e v all is = (is, tt)
+joined c (d ∷ es) (w ∷ vs) e v all is = (all.0, joined c es vs e v all.1 is)
+joined c [] (w ∷ vs) e v all is = absurd all
+joined c (d ∷ es) [] e v all is = absurd all
+
+pub one_more_verdict : (c : ImageCode) (es : List Entry) (k : ℕ) (e : Entry)
+    (vs : List EntryVerdict) (v : EntryVerdict) → IsEntryOf es k e
+    → AreEntryVerdicts c (take k es) vs → IsEntryVerdict c e v
+    → AreEntryVerdicts c (take (k + 1) es) (vs ++ (v ∷ []))
+one_more_verdict c es k e vs v is all says =
+    let n : suc k ≡ k + 1 = omega arith in
+    subst (λ (xs : List Entry). AreEntryVerdicts c xs (vs ++ (v ∷ [])))
+    (sym is.next ∙ ap (λ j. take j es) n) (joined c (take k es) vs e v all says)
+
+pub all_judged : (c : ImageCode) (t : Tables) (k : ℕ) (vs : List EntryVerdict) → TablesAreWhole t
+    → length t.ranges ≤ k → AreEntryVerdicts c (take k (entries_of t)) vs
+    → AreEntryVerdicts c (entries_of t) vs
+all_judged c t k vs w le all =
+    let n = as_many t 0 0 t.ranges (entries_of t) w.whole in
+    subst (λ (xs : List Entry). AreEntryVerdicts c xs vs)
+    (all_taken (entries_of t) k (omega (arith, n, le))) all

@@ -39,7 +39,7 @@ same_fault f g a r =
     ap (λ k. let x : Fault = record { at = k; rule = f.rule } in x) a
     ∙ ap (λ (q : Rule). let x : Fault = record { at = g.at; rule = q } in x) r
 
-one_least : (e : CodeEntry) (f g : Fault) → IsLeastFault e f → IsLeastFault e g → f ≡ g
+pub one_least : (e : CodeEntry) (f g : Fault) → IsLeastFault e f → IsLeastFault e g → f ≡ g
 one_least e f g h k = elim (h.first g.at g.rule k.boundary k.fails) [
   | inl below ↦ elim (k.first f.at f.rule h.boundary h.fails) [
     | inl above ↦ absurd (omega (arith, below, above))

@@ -1,7 +1,7 @@
 use Rattle.std.proofs.Common.{◌∙◌, ap, ap₂}
 use Rattle.std.proofs.lemmas.Result.{IfOk-weaker}
 use Rattle.clap.specs.Words.{App, with_subcommand}
-use Rattle.command_line.specs.Lines.{exec_app, run_app, meaning_app}
+use Rattle.command_line.specs.Lines.{check_app, exec_app, run_app, meaning_app}
 use Rattle.command_line.proofs.reading.program.Goals as goal
 
 pub returns : goal.returns
@@ -10,8 +10,8 @@ returns c =
     ∙ ap₂ with_subcommand c.bare.ensures (ap (λ (a : App). a.top) c.new.ensures.app) in
     let second = c.in_ok-showing.ensures.shape c.new-2.ensures.local
     ∙ ap₂ with_subcommand first (ap (λ (a : App). a.top) c.new-2.ensures.app) in
-    let third = c.in_ok-checking.ensures.shape c.new-3.ensures.local
-    ∙ ap₂ with_subcommand second (ap (λ (a : App). a.top) c.new-3.ensures.app) in
+    let third = c.in_ok-checking.ensures ∙ ap (λ (a : App). with_subcommand a check_app.top)
+    second in
     let fourth = c.in_ok-executing.ensures ∙ ap (λ (a : App). with_subcommand a exec_app.top)
     third in
     let fifth = c.in_ok-running.ensures ∙ ap (λ (a : App). with_subcommand a run_app.top) fourth in

@@ -1,7 +1,7 @@
 use Rattle.std.proofs.Common.{refl, arith}
 use Rattle.std.specs.Fmt.{digits}
 use Rattle.clap.proofs.OnLiterals.{clap_on_literals}
-use Rattle.command_line.specs.Worked.{CompileAlone, ShowAlone, CheckAlone, ExecAlone, ExecWithAll, RunWithTurns, MeaningWithTrace}
+use Rattle.command_line.specs.Worked.{CompileAlone, ShowAlone, CheckAlone, CheckOfEach, EachTwice, ExecAlone, ExecWithAll, RunWithTurns, MeaningWithTrace}
 use Rattle.command_line.proofs.worked.worked_lines.Goals as goal
 
 compile_alone : CompileAlone
@@ -14,7 +14,15 @@ show_alone = (refl, (_, refl, refl))
 
 check_alone : CheckAlone
 unfolding clap_on_literals digits
-check_alone = (refl, (_, refl, refl))
+check_alone = (refl, (_, refl, (refl, refl)))
+
+check_of_each : CheckOfEach
+unfolding clap_on_literals digits
+check_of_each = (refl, (_, refl, (refl, refl)))
+
+each_twice : EachTwice
+unfolding clap_on_literals digits
+each_twice command h = let q = h.0 in cc
 
 exec_alone : ExecAlone
 unfolding clap_on_literals digits
@@ -93,6 +101,8 @@ returns c = record {
   compile = compile_alone;
   show = show_alone;
   check = check_alone;
+  each = check_of_each;
+  twice = each_twice;
   exec = exec_alone;
   options = exec_with_all;
   run = run_with_turns;

@@ -1,4 +1,5 @@
 use Rattle.seh.proofs.Calls.{compile_is_complete, run_is_complete, meaning_is_complete, show_is_complete, check_is_complete, exec_is_complete}
+use Rattle.seh.proofs.EntryCalls.{entry_check_is_complete}
 use Rattle.seh.proofs.laws.calls.Goals as goal
 
 pub returns : goal.returns
@@ -8,5 +9,6 @@ returns c = record {
   meaning = meaning_is_complete;
   show = show_is_complete;
   check = check_is_complete;
+  check_entries = entry_check_is_complete;
   exec = exec_is_complete;
 }

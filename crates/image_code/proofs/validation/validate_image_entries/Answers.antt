@@ -1,0 +1,24 @@
+use Rattle.std.proofs.Common.{List, sym, ap, subst, ◌∙◌}
+use Rattle.seh_num.specs.Answers.{◌>>=◌}
+use Rattle.pe_image.specs.Image.{Image}
+use Rattle.eh_tables.specs.declared.range.RuntimeFunction.{RuntimeFunction}
+use Rattle.eh_tables.specs.Answer.{Table}
+use Rattle.eh_tables.specs.Tables.{entries, entries_of}
+use Rattle.unwind_check.specs.EntryVerdicts.{AreEntryVerdicts}
+use Rattle.image_code.specs.Verdicts.{checked_code}
+use Rattle.image_code.proofs.validation.validate_image_entries.Goals as goal
+
+pub returns-in-Ok-validate_entries-clause-verdicts : goal.returns-in-Ok-validate_entries-clause-verdicts
+returns-in-Ok-validate_entries-clause-verdicts c =
+    let image = c.args.image.now in
+    let t = c.in-Ok.tables in
+    record {
+      entries = entries_of t;
+      read = ap (λ (r : Table (List RuntimeFunction)). r >>= λ rs. entries image 0 0 rs)
+          c.in-Ok.ensures.read.0
+          ∙ ap (λ (i : Image). entries i 0 0 t.ranges) (sym c.in-Ok.ensures.read.1)
+          ∙ c.in-Ok.ensures.whole.whole;
+      are = subst (λ i. AreEntryVerdicts (checked_code i c.args.probe.now) (entries_of t)
+          c.in-Ok-validate_entries.verdicts.items) c.in-Ok-of.ensures
+          c.in-Ok-validate_entries.ensures;
+    }

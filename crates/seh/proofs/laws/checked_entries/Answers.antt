@@ -1,0 +1,5 @@
+use Rattle.seh.proofs.OneTextOfEntries.{entries_have_one_verdict_each}
+use Rattle.seh.proofs.laws.checked_entries.Goals as goal
+
+pub returns : goal.returns
+returns c = entries_have_one_verdict_each

@@ -1,0 +1,12 @@
+use Rattle.std.proofs.Common.{◌≤◌, length, take}
+use Rattle.eh_tables.specs.Tables.{entries_of}
+use Rattle.unwind_check.specs.EntryVerdicts.{AreEntryVerdicts}
+use Rattle.unwind_check.proofs.validation.validate_entries.Given as goal
+
+abbrev pub invariant-loop-index : goal.invariant-loop-index
+invariant-loop-index g l = record {
+  most : l.index ≤ length l.tables.ranges;
+  are : AreEntryVerdicts
+      (record { memory = g.S.CodeSpace.memory l.space; probe = l.probe })
+      (take l.index (entries_of l.tables)) l.verdicts.items;
+}
