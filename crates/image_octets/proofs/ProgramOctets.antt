@@ -52,7 +52,8 @@ hint_octets s =
 descriptor_octets : (at : ℕ) → AreOctets (descriptor at)
 unfolding descriptor
 descriptor_octets at =
-    joined (u32 (lookups_at at) ++ zeros UNREAD_FIELDS_SIZE ++ u32 (library_at at)) (u32 (slots_at at))
+    joined (u32 (lookups_at at) ++ zeros UNREAD_FIELDS_SIZE ++ u32 (library_at at))
+    (u32 (slots_at at))
     (joined (u32 (lookups_at at) ++ zeros UNREAD_FIELDS_SIZE) (u32 (library_at at))
     (joined (u32 (lookups_at at)) (zeros UNREAD_FIELDS_SIZE)
     (four_bytes (lookups_at at))
@@ -68,10 +69,14 @@ addresses_octets at (s ∷ ss) = joined (u64 at) (addresses (at + hint_name_size
 imports_octets : (at : ℕ) → AreOctets (import_tables at)
 unfolding import_tables all_below
 imports_octets at =
-    joined (descriptor at ++ zeros DESCRIPTOR_SIZE ++ addresses (names_at at) services ++ addresses (names_at at) services ++ flat_map hint_name services ++ LIBRARY.now) (zeros 1)
-    (joined (descriptor at ++ zeros DESCRIPTOR_SIZE ++ addresses (names_at at) services ++ addresses (names_at at) services ++ flat_map hint_name services) (LIBRARY.now)
-    (joined (descriptor at ++ zeros DESCRIPTOR_SIZE ++ addresses (names_at at) services ++ addresses (names_at at) services) (flat_map hint_name services)
-    (joined (descriptor at ++ zeros DESCRIPTOR_SIZE ++ addresses (names_at at) services) (addresses (names_at at) services)
+    joined (descriptor at ++ zeros DESCRIPTOR_SIZE ++ addresses (names_at at) services
+    ++ addresses (names_at at) services ++ flat_map hint_name services ++ LIBRARY.now) (zeros 1)
+    (joined (descriptor at ++ zeros DESCRIPTOR_SIZE ++ addresses (names_at at) services
+    ++ addresses (names_at at) services ++ flat_map hint_name services) (LIBRARY.now)
+    (joined (descriptor at ++ zeros DESCRIPTOR_SIZE ++ addresses (names_at at) services
+    ++ addresses (names_at at) services) (flat_map hint_name services)
+    (joined (descriptor at ++ zeros DESCRIPTOR_SIZE ++ addresses (names_at at) services)
+    (addresses (names_at at) services)
     (joined (descriptor at ++ zeros DESCRIPTOR_SIZE) (addresses (names_at at) services)
     (joined (descriptor at) (zeros DESCRIPTOR_SIZE)
     (descriptor_octets at)

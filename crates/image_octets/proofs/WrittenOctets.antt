@@ -24,9 +24,12 @@ dos_octets =
 file_header_octets : (image : ImageParts) → AreOctets (file_header image)
 unfolding file_header
 file_header_octets image =
-    joined (u32 IMAGE_NT_SIGNATURE ++ u16 IMAGE_FILE_MACHINE_AMD64 ++ u16 (length image.sections) ++ zeros SYMBOL_FIELDS_SIZE ++ u16 OPTIONAL_HEADER_SIZE) (u16 characteristics)
-    (joined (u32 IMAGE_NT_SIGNATURE ++ u16 IMAGE_FILE_MACHINE_AMD64 ++ u16 (length image.sections) ++ zeros SYMBOL_FIELDS_SIZE) (u16 OPTIONAL_HEADER_SIZE)
-    (joined (u32 IMAGE_NT_SIGNATURE ++ u16 IMAGE_FILE_MACHINE_AMD64 ++ u16 (length image.sections)) (zeros SYMBOL_FIELDS_SIZE)
+    joined (u32 IMAGE_NT_SIGNATURE ++ u16 IMAGE_FILE_MACHINE_AMD64 ++ u16 (length image.sections)
+    ++ zeros SYMBOL_FIELDS_SIZE ++ u16 OPTIONAL_HEADER_SIZE) (u16 characteristics)
+    (joined (u32 IMAGE_NT_SIGNATURE ++ u16 IMAGE_FILE_MACHINE_AMD64 ++ u16 (length image.sections)
+    ++ zeros SYMBOL_FIELDS_SIZE) (u16 OPTIONAL_HEADER_SIZE)
+    (joined (u32 IMAGE_NT_SIGNATURE ++ u16 IMAGE_FILE_MACHINE_AMD64 ++ u16 (length image.sections))
+    (zeros SYMBOL_FIELDS_SIZE)
     (joined (u32 IMAGE_NT_SIGNATURE ++ u16 IMAGE_FILE_MACHINE_AMD64) (u16 (length image.sections))
     (joined (u32 IMAGE_NT_SIGNATURE) (u16 IMAGE_FILE_MACHINE_AMD64)
     (four_bytes IMAGE_NT_SIGNATURE)
@@ -39,10 +42,15 @@ file_header_octets image =
 standard_octets : (image : ImageParts) → AreOctets (standard_fields image)
 unfolding standard_fields
 standard_octets image =
-    joined (u16 IMAGE_NT_OPTIONAL_HDR64_MAGIC ++ u16 0 ++ u32 (code_size image.sections) ++ u32 (data_size image.sections) ++ u32 0 ++ u32 image.entry) (u32 (code_base PAGE image.sections))
-    (joined (u16 IMAGE_NT_OPTIONAL_HDR64_MAGIC ++ u16 0 ++ u32 (code_size image.sections) ++ u32 (data_size image.sections) ++ u32 0) (u32 image.entry)
-    (joined (u16 IMAGE_NT_OPTIONAL_HDR64_MAGIC ++ u16 0 ++ u32 (code_size image.sections) ++ u32 (data_size image.sections)) (u32 0)
-    (joined (u16 IMAGE_NT_OPTIONAL_HDR64_MAGIC ++ u16 0 ++ u32 (code_size image.sections)) (u32 (data_size image.sections))
+    joined (u16 IMAGE_NT_OPTIONAL_HDR64_MAGIC ++ u16 0 ++ u32 (code_size image.sections)
+    ++ u32 (data_size image.sections) ++ u32 0 ++ u32 image.entry)
+    (u32 (code_base PAGE image.sections))
+    (joined (u16 IMAGE_NT_OPTIONAL_HDR64_MAGIC ++ u16 0 ++ u32 (code_size image.sections)
+    ++ u32 (data_size image.sections) ++ u32 0) (u32 image.entry)
+    (joined (u16 IMAGE_NT_OPTIONAL_HDR64_MAGIC ++ u16 0 ++ u32 (code_size image.sections)
+    ++ u32 (data_size image.sections)) (u32 0)
+    (joined (u16 IMAGE_NT_OPTIONAL_HDR64_MAGIC ++ u16 0 ++ u32 (code_size image.sections))
+    (u32 (data_size image.sections))
     (joined (u16 IMAGE_NT_OPTIONAL_HDR64_MAGIC ++ u16 0) (u32 (code_size image.sections))
     (joined (u16 IMAGE_NT_OPTIONAL_HDR64_MAGIC) (u16 0)
     (two_bytes IMAGE_NT_OPTIONAL_HDR64_MAGIC)
@@ -56,12 +64,22 @@ standard_octets image =
 windows_octets : (image : ImageParts) → AreOctets (windows_fields image)
 unfolding windows_fields
 windows_octets image =
-    joined (u64 IMAGE_BASE ++ u32 PAGE ++ u32 FILE_ALIGNMENT ++ zeros VERSION_FIELDS_SIZE ++ u32 (end_of image.sections) ++ u32 SIZE_OF_HEADERS ++ u32 0 ++ u16 IMAGE_SUBSYSTEM_WINDOWS_CUI ++ zeros STACK_FIELDS_SIZE) (u32 IMAGE_NUMBEROF_DIRECTORY_ENTRIES)
-    (joined (u64 IMAGE_BASE ++ u32 PAGE ++ u32 FILE_ALIGNMENT ++ zeros VERSION_FIELDS_SIZE ++ u32 (end_of image.sections) ++ u32 SIZE_OF_HEADERS ++ u32 0 ++ u16 IMAGE_SUBSYSTEM_WINDOWS_CUI) (zeros STACK_FIELDS_SIZE)
-    (joined (u64 IMAGE_BASE ++ u32 PAGE ++ u32 FILE_ALIGNMENT ++ zeros VERSION_FIELDS_SIZE ++ u32 (end_of image.sections) ++ u32 SIZE_OF_HEADERS ++ u32 0) (u16 IMAGE_SUBSYSTEM_WINDOWS_CUI)
-    (joined (u64 IMAGE_BASE ++ u32 PAGE ++ u32 FILE_ALIGNMENT ++ zeros VERSION_FIELDS_SIZE ++ u32 (end_of image.sections) ++ u32 SIZE_OF_HEADERS) (u32 0)
-    (joined (u64 IMAGE_BASE ++ u32 PAGE ++ u32 FILE_ALIGNMENT ++ zeros VERSION_FIELDS_SIZE ++ u32 (end_of image.sections)) (u32 SIZE_OF_HEADERS)
-    (joined (u64 IMAGE_BASE ++ u32 PAGE ++ u32 FILE_ALIGNMENT ++ zeros VERSION_FIELDS_SIZE) (u32 (end_of image.sections))
+    joined (u64 IMAGE_BASE ++ u32 PAGE ++ u32 FILE_ALIGNMENT ++ zeros VERSION_FIELDS_SIZE
+    ++ u32 (end_of image.sections) ++ u32 SIZE_OF_HEADERS ++ u32 0
+    ++ u16 IMAGE_SUBSYSTEM_WINDOWS_CUI ++ zeros STACK_FIELDS_SIZE)
+    (u32 IMAGE_NUMBEROF_DIRECTORY_ENTRIES)
+    (joined (u64 IMAGE_BASE ++ u32 PAGE ++ u32 FILE_ALIGNMENT ++ zeros VERSION_FIELDS_SIZE
+    ++ u32 (end_of image.sections) ++ u32 SIZE_OF_HEADERS ++ u32 0
+    ++ u16 IMAGE_SUBSYSTEM_WINDOWS_CUI) (zeros STACK_FIELDS_SIZE)
+    (joined (u64 IMAGE_BASE ++ u32 PAGE ++ u32 FILE_ALIGNMENT ++ zeros VERSION_FIELDS_SIZE
+    ++ u32 (end_of image.sections) ++ u32 SIZE_OF_HEADERS ++ u32 0)
+    (u16 IMAGE_SUBSYSTEM_WINDOWS_CUI)
+    (joined (u64 IMAGE_BASE ++ u32 PAGE ++ u32 FILE_ALIGNMENT ++ zeros VERSION_FIELDS_SIZE
+    ++ u32 (end_of image.sections) ++ u32 SIZE_OF_HEADERS) (u32 0)
+    (joined (u64 IMAGE_BASE ++ u32 PAGE ++ u32 FILE_ALIGNMENT ++ zeros VERSION_FIELDS_SIZE
+    ++ u32 (end_of image.sections)) (u32 SIZE_OF_HEADERS)
+    (joined (u64 IMAGE_BASE ++ u32 PAGE ++ u32 FILE_ALIGNMENT ++ zeros VERSION_FIELDS_SIZE)
+    (u32 (end_of image.sections))
     (joined (u64 IMAGE_BASE ++ u32 PAGE ++ u32 FILE_ALIGNMENT) (zeros VERSION_FIELDS_SIZE)
     (joined (u64 IMAGE_BASE ++ u32 PAGE) (u32 FILE_ALIGNMENT)
     (joined (u64 IMAGE_BASE) (u32 PAGE)
@@ -86,11 +104,26 @@ entry_octets d =
 directories_octets : (image : ImageParts) → AreOctets (directories image)
 unfolding directories
 directories_octets image =
-    joined (empty_directories IMAGE_DIRECTORY_ENTRY_IMPORT ++ directory_entry image.imports ++ empty_directories (IMAGE_DIRECTORY_ENTRY_EXCEPTION - IMAGE_DIRECTORY_ENTRY_IMPORT - 1) ++ directory_entry image.exceptions ++ empty_directories (IMAGE_DIRECTORY_ENTRY_IAT - IMAGE_DIRECTORY_ENTRY_EXCEPTION - 1) ++ directory_entry image.import_addresses) (empty_directories (IMAGE_NUMBEROF_DIRECTORY_ENTRIES - IMAGE_DIRECTORY_ENTRY_IAT - 1))
-    (joined (empty_directories IMAGE_DIRECTORY_ENTRY_IMPORT ++ directory_entry image.imports ++ empty_directories (IMAGE_DIRECTORY_ENTRY_EXCEPTION - IMAGE_DIRECTORY_ENTRY_IMPORT - 1) ++ directory_entry image.exceptions ++ empty_directories (IMAGE_DIRECTORY_ENTRY_IAT - IMAGE_DIRECTORY_ENTRY_EXCEPTION - 1)) (directory_entry image.import_addresses)
-    (joined (empty_directories IMAGE_DIRECTORY_ENTRY_IMPORT ++ directory_entry image.imports ++ empty_directories (IMAGE_DIRECTORY_ENTRY_EXCEPTION - IMAGE_DIRECTORY_ENTRY_IMPORT - 1) ++ directory_entry image.exceptions) (empty_directories (IMAGE_DIRECTORY_ENTRY_IAT - IMAGE_DIRECTORY_ENTRY_EXCEPTION - 1))
-    (joined (empty_directories IMAGE_DIRECTORY_ENTRY_IMPORT ++ directory_entry image.imports ++ empty_directories (IMAGE_DIRECTORY_ENTRY_EXCEPTION - IMAGE_DIRECTORY_ENTRY_IMPORT - 1)) (directory_entry image.exceptions)
-    (joined (empty_directories IMAGE_DIRECTORY_ENTRY_IMPORT ++ directory_entry image.imports) (empty_directories (IMAGE_DIRECTORY_ENTRY_EXCEPTION - IMAGE_DIRECTORY_ENTRY_IMPORT - 1))
+    joined (empty_directories IMAGE_DIRECTORY_ENTRY_IMPORT ++ directory_entry image.imports
+    ++ empty_directories (IMAGE_DIRECTORY_ENTRY_EXCEPTION - IMAGE_DIRECTORY_ENTRY_IMPORT - 1)
+    ++ directory_entry image.exceptions
+    ++ empty_directories (IMAGE_DIRECTORY_ENTRY_IAT - IMAGE_DIRECTORY_ENTRY_EXCEPTION - 1)
+    ++ directory_entry image.import_addresses)
+    (empty_directories (IMAGE_NUMBEROF_DIRECTORY_ENTRIES - IMAGE_DIRECTORY_ENTRY_IAT - 1))
+    (joined (empty_directories IMAGE_DIRECTORY_ENTRY_IMPORT ++ directory_entry image.imports
+    ++ empty_directories (IMAGE_DIRECTORY_ENTRY_EXCEPTION - IMAGE_DIRECTORY_ENTRY_IMPORT - 1)
+    ++ directory_entry image.exceptions
+    ++ empty_directories (IMAGE_DIRECTORY_ENTRY_IAT - IMAGE_DIRECTORY_ENTRY_EXCEPTION - 1))
+    (directory_entry image.import_addresses)
+    (joined (empty_directories IMAGE_DIRECTORY_ENTRY_IMPORT ++ directory_entry image.imports
+    ++ empty_directories (IMAGE_DIRECTORY_ENTRY_EXCEPTION - IMAGE_DIRECTORY_ENTRY_IMPORT - 1)
+    ++ directory_entry image.exceptions)
+    (empty_directories (IMAGE_DIRECTORY_ENTRY_IAT - IMAGE_DIRECTORY_ENTRY_EXCEPTION - 1))
+    (joined (empty_directories IMAGE_DIRECTORY_ENTRY_IMPORT ++ directory_entry image.imports
+    ++ empty_directories (IMAGE_DIRECTORY_ENTRY_EXCEPTION - IMAGE_DIRECTORY_ENTRY_IMPORT - 1))
+    (directory_entry image.exceptions)
+    (joined (empty_directories IMAGE_DIRECTORY_ENTRY_IMPORT ++ directory_entry image.imports)
+    (empty_directories (IMAGE_DIRECTORY_ENTRY_EXCEPTION - IMAGE_DIRECTORY_ENTRY_IMPORT - 1))
     (joined (empty_directories IMAGE_DIRECTORY_ENTRY_IMPORT) (directory_entry image.imports)
     (zero_bytes (DIRECTORY_SIZE * IMAGE_DIRECTORY_ENTRY_IMPORT))
     (entry_octets image.imports))
@@ -103,8 +136,10 @@ directories_octets image =
 fields_octets : (s : PlacedSection) → AreOctets (section_fields s)
 unfolding section_fields
 fields_octets s =
-    joined (u32 s.parts.size ++ u32 s.address ++ u32 (raw_size s.parts) ++ u32 s.raw_at ++ zeros RELOCATION_FIELDS_SIZE) (u32 s.parts.flags)
-    (joined (u32 s.parts.size ++ u32 s.address ++ u32 (raw_size s.parts) ++ u32 s.raw_at) (zeros RELOCATION_FIELDS_SIZE)
+    joined (u32 s.parts.size ++ u32 s.address ++ u32 (raw_size s.parts) ++ u32 s.raw_at
+    ++ zeros RELOCATION_FIELDS_SIZE) (u32 s.parts.flags)
+    (joined (u32 s.parts.size ++ u32 s.address ++ u32 (raw_size s.parts) ++ u32 s.raw_at)
+    (zeros RELOCATION_FIELDS_SIZE)
     (joined (u32 s.parts.size ++ u32 s.address ++ u32 (raw_size s.parts)) (u32 s.raw_at)
     (joined (u32 s.parts.size ++ u32 s.address) (u32 (raw_size s.parts))
     (joined (u32 s.parts.size) (u32 s.address)
@@ -146,9 +181,12 @@ pub written_octets : (image : ImageParts) → AllByRecursion HasOctets image.sec
     → AreOctets (written image)
 unfolding written
 written_octets image all =
-    joined (dos_header ++ file_header image ++ standard_fields image ++ windows_fields image ++ directories image ++ table_of image) (flat_map raw_data image.sections)
-    (joined (dos_header ++ file_header image ++ standard_fields image ++ windows_fields image ++ directories image) (table_of image)
-    (joined (dos_header ++ file_header image ++ standard_fields image ++ windows_fields image) (directories image)
+    joined (dos_header ++ file_header image ++ standard_fields image ++ windows_fields image
+    ++ directories image ++ table_of image) (flat_map raw_data image.sections)
+    (joined (dos_header ++ file_header image ++ standard_fields image ++ windows_fields image
+    ++ directories image) (table_of image)
+    (joined (dos_header ++ file_header image ++ standard_fields image ++ windows_fields image)
+    (directories image)
     (joined (dos_header ++ file_header image ++ standard_fields image) (windows_fields image)
     (joined (dos_header ++ file_header image) (standard_fields image)
     (joined dos_header (file_header image)
