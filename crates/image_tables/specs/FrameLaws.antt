@@ -14,12 +14,13 @@ use Rattle.frame_rules.specs.Frame.{left_to}
 use Rattle.frame_rules.specs.Prologue.{items}
 use Rattle.frame_rules.specs.Rules.{IsRight, IsInFunction, IsFound}
 use Rattle.frame_rules.specs.States.{registers, return_address, IsEntry, InBody, HasItems}
+use Rattle.seh_records.specs.Laws.{AllSmall}
 use Rattle.match_stack.specs.Stack.{StackFrame, FrameIsAt, LeafIsAt}
+use Rattle.match_stack.specs.AllocatedFrames.{allocated_frame}
 use Rattle.host_layout.specs.declared.imported.ImportedService.{ImportedService}
 use Rattle.pe_write.specs.Program.{image_of}
 use Rattle.linear_code.specs.Program.{LinearProgram}
 use Rattle.frame_layout.specs.declared.frame.FrameLayout.{FrameLayout}
-use Rattle.frame_layout.specs.Layout.{taking_size}
 use Rattle.image_link.specs.Fits.{FitsProgram}
 use Rattle.image_link.specs.Text.{thunk_at, check_stack_at}
 use Rattle.image_link.specs.Linked.{text_begin, linked}
@@ -43,15 +44,9 @@ TextsAreFixed =
 
 -- ---- bodies that wait
 
--- the frame of a routine's body, with its return address
-abbrev pub stack_frame : LinearProgram → Placed → FrameLayout → ℕ → StackFrame
-stack_frame p x f back =
-    record {
-      entry = entry_of (site_of p) x f;
-      size = f.size;
-      offset = taking_size f.size;
-      return_address = back;
-    }
+-- the frame of a routine's body, with its return address, and its caller's registers
+abbrev pub stack_frame : LinearProgram → Placed → FrameLayout → ℕ → Context → StackFrame
+stack_frame p x f back c = allocated_frame (entry_of (site_of p) x f) f.size back c
 
 -- what a state must have: the address in the body, room up to the return address, and that address
 pub record IsWaiting (p : LinearProgram) (m : Memory) (x : Placed) (f : FrameLayout) (c : Context)
@@ -60,6 +55,7 @@ pub record IsWaiting (p : LinearProgram) (m : Memory) (x : Placed) (f : FrameLay
   pub body : IsInBody p x rva
   pub here : c.rip ≡ image_base + rva
   pub kept : length c.kept ≡ 9
+  pub small : AllSmall c.kept
   pub room : rsp c + f.size + 8 < 2 ^ 64
   pub returns : word m (rsp c + f.size) ≡ Ok back
 
@@ -71,7 +67,7 @@ BodiesHaveFrames =
     (rva back : ℕ)
     → FitsProgram p → HasRegions p → slice_get (placed p) index ≡ Some x → x.routine.frame ≡ Some f
     → IsWaiting p m x f c rva back
-    → FrameIsAt (functions_in (image_of (linked p))) m c (stack_frame p x f back)
+    → FrameIsAt (functions_in (image_of (linked p))) m c (stack_frame p x f back c)
 
 -- the same of a leaf function, which has neither
 pub record IsLeafWaiting (p : LinearProgram) (m : Memory) (x : Placed) (c : Context)

@@ -203,8 +203,9 @@ module _ (t : Functions) (fs : List Funclet) (program : LinearProgram) (p : Imag
           };
           funclet = x.funclet;
           named = x.named;
-          reaches = body_reaches t fs program p m b.body (rsp c) f.size b.activation acts
-              is_there.room body.waits.activation;
+          reaches = body_reaches t fs program p m b.body (rsp c) f.slots b.activation acts
+              (let e = is_there.slots in let o = is_there.room in omega arith)
+              body.waits.activation;
           above = omega arith;
           kept = record {
             frame_small = omega arith;

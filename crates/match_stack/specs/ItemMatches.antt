@@ -209,7 +209,7 @@ module _ (t : Functions) (fs : List Funclet) (program : LinearProgram) (p : Imag
       (acts : List Activation) : Type 0 where
     pub framed : p.leaf b.body ≡ false
     pub entry : f.entry ≡ p.entry b.body
-    pub waits : BodyWaits m c f.size (temporaries_end (p.layout b.body) b.body f.size) b acts
+    pub waits : BodyWaits m c f.slots (temporaries_end (p.layout b.body) b.body f.slots) b acts
     pub pointers : HasPointers m (p.layout b.body) (rsp c) f.size below
     pub returns : ReturnsTo below f.return_address
 
