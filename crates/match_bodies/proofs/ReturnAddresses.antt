@@ -1,12 +1,13 @@
 -- Where an image's code is, a walk finds the return address of its routine.
-use Rattle.std.proofs.Common.{◌≡◌, ℕ, ◌+◌, ◌<◌, ◌≤◌, Bool, true, false, Some, List, [], ◌∷◌, ◌++◌, length, get_or, refl, sym, ap, subst, ◌∙◌, arith, inl, inr}
+use Rattle.std.proofs.Common.{◌≡◌, ℕ, ◌+◌, ◌<◌, ◌≤◌, Bool, true, false, Some, List, [], ◌∷◌, ◌++◌, length, drop, get_or, refl, sym, ap, subst, ◌∙◌, arith, inl, inr}
 use Rattle.std.specs.Prelude.{slice_get, slice_set}
 use Rattle.std.proofs.lemmas.Option.{slice_get_cases, slice_get_within, get_or_from_slice_get}
 use Rattle.std.proofs.lemmas.List.{append-nil}
-use Rattle.match_bodies.specs.Words.{Memory, Rax, Instr, Context, rsp, word, Instruction, LinearBody, BodyName, body_of, sizes, fetch, template, offset_of, code_from, IsReturn, HasCode, after_leaf, links_of, begin_of, making_size, frame_code, arguments_code, entry_code, frame_with, caller_above, HasCaller, FindsReturn, Setting, IsResumed}
+use Rattle.match_bodies.specs.Words.{Memory, Rax, Instr, Context, rsp, word, Instruction, LinearBody, BodyName, body_of, sizes, fetch, template, offset_of, code_from, IsReturn, HasCode, after_frame, after_leaf, links_of, begin_of, making_size, frame_code, arguments_code, entry_code, frame_of, caller_above, HasCaller, FindsReturn, Setting, IsResumed}
 use Rattle.linear_code.specs.declared.instruction.Instruction.TheVariants as instructions
 use Rattle.match_bodies.proofs.Lemmas.{sizes_append, template_sizes, code_split, template_placed, frame_is_visited, leaf_is_visited}
 use Rattle.match_bodies.proofs.StackTop.{leaf_layout}
+use Rattle.match_bodies.proofs.BodyFrames.{framed_by_return, first_set}
 use Rattle.match_bodies.proofs.TemplateSizes.{template_some}
 use Rattle.match_bodies.specs.Setting.{HasProgram}
 
@@ -47,13 +48,16 @@ module _ (setting : Setting) where
         by : (leaf : Bool) → p.leaf name ≡ leaf
             → HasCaller t m c (caller_above c (p.layout name).frame back)
         by false e =
-            let f = image.frames m name b label c back is e has here nine room w in
-            record {
+            let others = drop 1 c.kept in
+            let f = image.frames m name b label c back others is e has here
+            (framed_by_return setting name b is m c back e nine room w) in
+            let k : HasCaller t m c (after_frame c (frame_of p name back others)) = record {
               frame = _;
-              visits = frame_is_visited t m c 0
-                  (frame_with (p.entry name) (p.layout name).frame f.offset back) f.is_there;
+              visits = frame_is_visited t m c 0 (frame_of p name back others) f;
               context = refl;
-            }
+            } in
+            subst (λ (ks : List ℕ). let x : Context = record { rip = back; kept = ks } in
+            HasCaller t m c x) (first_set c.kept (rsp c + (p.layout name).frame + 8) nine) k
         by true e =
             let none = leaf_layout t fs program p q name b e (image.laid_out name b is) in
             let zero_frame = none.frame in

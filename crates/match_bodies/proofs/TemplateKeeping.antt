@@ -158,16 +158,15 @@ module _ (setting : Setting) (roomy : HaveRoom setting.program) (s : State)
       past_work : Past (ops ++ work o) mid
       past_work =
           let e = past.rip in
-          let sp : register mid.cpu Rsp ≡ register s.cpu Rsp = ap
-          (λ (xs : List ℕ). slice_index xs 1) rest ∙ dropped s.cpu.registers in
+          let registers = kept_by_rest view.rest s.cpu.registers rest in
           let kept = keeps_then s x mid keeps (reaches_keeps (length (work o)) x mid comes) in
           let ran = ran_same setting s c b counted mid source kept
           (λ a h. worked.result.own a h ∙ ap (λ (k : Memory). k.byte a) same)
           (λ h. worked.result.bytes (subst (λ (k : Memory). (a : ℕ) → k.byte a < 256) (sym same) h))
-          worked.result.agrees sp in
+          worked.result.agrees registers in
           record {
             rip = omega (arith, sizes_append ops (work o));
-            registers = kept_by_rest view.rest s.cpu.registers rest;
+            registers = registers;
             is_there = is_after setting s c b counted mid _ _ [] ran around.caller around.owner;
           }
 

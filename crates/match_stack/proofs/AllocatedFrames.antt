@@ -14,7 +14,9 @@ use Rattle.frame_rules.specs.Codes.{are_allowed}
 use Rattle.frame_rules.specs.Frame as rules
 use Rattle.frame_rules.specs.Frame.{IsWord}
 use Rattle.match_stack.specs.Stack.{StackFrame, IsAsTold, AreAbove, told, at_entry}
-use Rattle.match_stack.specs.AllocatedFrames.{allocated_frame, AllocationsAreTold}
+use Rattle.match_stack.specs.AllocatedFrames.{allocated_frame, AllocationsAreTold, ToldAllocations}
+use Rattle.match_stack.proofs.Lemmas.{word-is}
+use Rattle.match_stack.proofs.FrameWords.{eight_numbers}
 
 -- a word that is read may be read
 pub is_word : (m : Memory) (at v : ℕ) → at + 8 ≤ 2 ^ 64 → word m at ≡ Ok v → IsWord m at v
@@ -60,4 +62,31 @@ allocations_are_told m c entry offset size back codes none small nine room retur
           (sym tells) tt;
       others = λ r nv ne z. others_same c back (rsp c + size) r (omega arith) nv ne;
       above = subst (AreAbove (rsp c + size) (rsp c) (rsp c)) (sym tells) (omega arith);
+    }
+
+-- nine numbers after their first
+rest_numbers : (ks : List ℕ) → length ks ≡ 9
+    → drop 1 ks ≡ get_or ks 1 0 ∷ get_or ks 2 0 ∷ get_or ks 3 0 ∷ get_or ks 4 0 ∷ get_or ks 5 0
+    ∷ get_or ks 6 0 ∷ get_or ks 7 0 ∷ get_or ks 8 0 ∷ []
+rest_numbers [] n = absurd (omega arith)
+rest_numbers (k ∷ ks) n = sym (eight_numbers ks (omega arith))
+
+pub told_allocations : ToldAllocations
+told_allocations m c f offset codes kept eight h =
+    let old = at_entry c f in
+    let tells : told f ≡ Allocate f.size ∷ [] = ap operations codes in
+    let s = subst (rules.Stack m old f.return_address (rsp c) (rsp c)) tells h.stack in
+    let o = subst (rules.Others old (get c)) tells h.others in
+    record {
+      returns = word-is m (rsp c + f.size) f.return_address s.1;
+      others = rest_numbers c.kept kept
+          ∙ (λ i. o 3 refl (λ e. absurd (omega arith)) refl i
+          ∷ o 5 refl (λ e. absurd (omega arith)) refl i
+          ∷ o 6 refl (λ e. absurd (omega arith)) refl i
+          ∷ o 7 refl (λ e. absurd (omega arith)) refl i
+          ∷ o 12 refl (λ e. absurd (omega arith)) refl i
+          ∷ o 13 refl (λ e. absurd (omega arith)) refl i
+          ∷ o 14 refl (λ e. absurd (omega arith)) refl i
+          ∷ o 15 refl (λ e. absurd (omega arith)) refl i ∷ [])
+          ∙ eight_numbers f.others eight;
     }

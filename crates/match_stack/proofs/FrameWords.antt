@@ -16,7 +16,7 @@ use Rattle.match_stack.specs.Stack.{StackFrame, IsBetween, IsAsTold, AreAbove, I
 -- ---- the caller's registers
 
 -- eight numbers are what is at their places
-eight_numbers : (os : List ℕ) → length os ≡ 8
+pub eight_numbers : (os : List ℕ) → length os ≡ 8
     → slice_index os 0 ∷ slice_index os 1 ∷ slice_index os 2 ∷ slice_index os 3 ∷ slice_index os 4
     ∷ slice_index os 5 ∷ slice_index os 6 ∷ slice_index os 7 ∷ [] ≡ os
 eight_numbers [] n = absurd (omega arith)

@@ -98,6 +98,8 @@ module _ (m m' : Memory) (top : ℕ) where
         record {
           framed = h.framed;
           entry = h.entry;
+          slots = h.slots;
+          small = h.small;
           waits = body_kept c f.slots (temporaries_end y b.body f.slots) b acts r (omega arith)
               (omega arith) h.waits;
           pointers = pointers_kept y (rsp c) f.size below r fits h.pointers;
@@ -144,7 +146,6 @@ module _ (m m' : Memory) (top : ℕ) where
       no_parents = s.no_parents;
       kept = s.kept;
       eight = s.eight;
-      small = s.small;
       slots = s.slots;
       room = s.room;
       is_told = told_above m m' low top c f r.saved le fits s.is_told;

@@ -50,7 +50,6 @@ item_is_same t m byte c (Framed f) code same s =
       no_parents = s.no_parents;
       kept = s.kept;
       eight = s.eight;
-      small = s.small;
       slots = s.slots;
       room = s.room;
       is_told = told_same m byte c f same s.is_told;

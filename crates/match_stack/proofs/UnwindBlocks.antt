@@ -321,7 +321,7 @@ module _ (t : Functions) (fs : List Funclet) (program : LinearProgram) (p : Imag
       in_a_frame held c f is b below acts row left s.0 s.1 h.0 h.1 h.2 wide at e a
       (unwound_plainly (held_past b.body held) (activations_below b.body acts) is below
       (after_frame c f) 0 None s.1 h.2 (at_first_row t fs program p below)
-      (wide_after t m c f s.0 wide) a
+      (wide_after t m c f s.0 h.0.small) a
       (counted_past m (p.layout b.body) (rsp c) f.slots b.activation acts b.body held
       h.0.waits.activation ∙ e))
   unwound_plainly held acts (Leaf back ∷ is) (Waits b ∷ below) c row left s h at wide a e =

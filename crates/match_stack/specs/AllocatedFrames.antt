@@ -27,3 +27,14 @@ AllocationsAreTold =
     → entry.info.frame_register ≡ 0 → entry.info.frame_offset < 2 ^ 16 → length c.kept ≡ 9
     → rsp c + size + 8 < 2 ^ 64 → word m (rsp c + size) ≡ Ok back
     → IsAsTold m c (allocated_frame entry size back c)
+
+-- and nothing else is: the return address is there, and the registers are the caller's
+pub record IsAllocated (m : Memory) (c : Context) (f : StackFrame) : Type 0 where
+  pub returns : word m (rsp c + f.size) ≡ Ok f.return_address
+  pub others : drop 1 c.kept ≡ f.others
+
+abbrev pub ToldAllocations : Type 0
+ToldAllocations =
+    (m : Memory) (c : Context) (f : StackFrame) (offset : ℕ)
+    → f.entry.info.codes ≡ record { offset = offset; operation = Allocate f.size } ∷ []
+    → length c.kept ≡ 9 → length f.others ≡ 8 → IsAsTold m c f → IsAllocated m c f

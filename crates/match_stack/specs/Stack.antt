@@ -13,7 +13,6 @@ use Rattle.virtual_unwind.specs.Tail.{tail_at}
 use Rattle.virtual_unwind.specs.CallerOf.{Functions, CallerFrame, distance, entry_of, base_if, has_frame}
 use Rattle.frame_rules.specs.Codes.{are_allowed}
 use Rattle.frame_rules.specs.Frame as rules
-use Rattle.seh_records.specs.Laws.{AllSmall}
 use Rattle.seh_records.specs.declared.dispatch.DispatchRecord.{DispatchRecord}
 use Rattle.seh_records.specs.Record.{fetched}
 use Rattle.seh_records.specs.declared.layout.TheConstants.{RECORD_SIZE, POINTERS_AT}
@@ -105,7 +104,6 @@ pub record FrameIsAt (t : Functions) (m : Memory) (c : Context) (f : StackFrame)
   pub no_parents : f.entry.parents ≡ []
   pub kept : length c.kept ≡ 9
   pub eight : length f.others ≡ 8
-  pub small : AllSmall f.others
   pub slots : f.slots ≤ f.size
   pub room : rsp c + f.size + 8 < 2 ^ 64
   pub is_told : IsAsTold m c f

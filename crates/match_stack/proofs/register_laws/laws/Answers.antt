@@ -1,5 +1,5 @@
 use Rattle.match_stack.proofs.HostRegisters.{landing_has_registers, restored_has_registers, records_rest_on_stack}
-use Rattle.match_stack.proofs.AllocatedFrames.{allocations_are_told}
+use Rattle.match_stack.proofs.AllocatedFrames.{allocations_are_told, told_allocations}
 use Rattle.match_stack.proofs.register_laws.laws.Goals as goal
 
 pub returns : goal.returns
@@ -8,4 +8,5 @@ returns c = record {
   restored = restored_has_registers;
   records = records_rest_on_stack;
   allocations = allocations_are_told;
+  allocated = told_allocations;
 }
