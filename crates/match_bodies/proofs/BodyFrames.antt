@@ -1,10 +1,11 @@
 -- The frames of bodies are one allocation each: the return address is above it, and the caller's
 -- registers are those that are there.
 use Rattle.std.proofs.Common.{◌≡◌, ℕ, suc, ◌+◌, ◌^◌, ◌<◌, Bool, true, false, Some, Ok, List, [], ◌∷◌, length, drop, refl, sym, ap, subst, ◌∙◌, arith}
-use Rattle.std.specs.Prelude.{slice_set}
-use Rattle.match_bodies.specs.Words.{Memory, Rsp, Context, context_of, State, register, rsp, word, LinearBody, BodyName, body_of, Configuration, context_below, activations_below, On, frame_of, HasFrame, IsFramed, Setting, IsWellFormed, AllSmall}
+use Rattle.std.specs.Prelude.{slice_index, slice_set}
+use Rattle.match_bodies.specs.Words.{Memory, Rsp, Context, context_of, kept_of, State, register, rsp, word, LinearBody, BodyName, body_of, Configuration, context_below, activations_below, StackFrame, On, frame_of, HasFrame, IsFramed, Setting, IsWellFormed, AllSmall}
 use Rattle.match_bodies.specs.Setting.{InBody}
 use Rattle.match_bodies.proofs.Lemmas.{wide_of}
+use Rattle.x64_machine.specs.declared.cpu.Cpu.{Cpu}
 use Rattle.match_stack.specs.Stack.{IsAsTold}
 use Rattle.match_stack.specs.AllocatedFrames.{IsAllocated}
 use Rattle.match_stack.proofs.AllocatedFrames.{allocations_are_told, told_allocations}
@@ -23,6 +24,31 @@ first_set (k ∷ ks) v n = refl
 pub small_others : (s : State) → IsWellFormed s → AllSmall (others_of s.cpu.registers)
 small_others s w k lt =
     (wide_of s.cpu w.count w.small).each (suc k) (let e : suc k < 9 = omega arith in e)
+
+-- a frame is as told wherever RIP is
+pub told_with : (m : Memory) (c c' : Context) (f : StackFrame) → c'.kept ≡ c.kept → IsAsTold m c f
+    → IsAsTold m c' f
+told_with m c c' f e h = subst (λ (ks : List ℕ). let x : Context = record { rip = c'.rip; kept = ks } in
+    IsAsTold m x f) (sym e) (record {
+  offset = h.offset;
+  allowed = h.allowed;
+  base = h.base;
+  stack = h.stack;
+  framed = h.framed;
+  others = h.others;
+  above = h.above;
+})
+
+-- and so is a body's, where the nonvolatile registers are the same
+pub frame_with : (s : State) (cpu : Cpu) (leaf : Bool) (f : StackFrame)
+    → kept_of cpu.registers ≡ kept_of s.cpu.registers → HasFrame s leaf f
+    → HasFrame (record { cpu = cpu; memory = s.memory }) leaf f
+frame_with s cpu true f e h = record {
+  returns = subst (λ (ks : List ℕ). word s.memory (slice_index ks 0) ≡ Ok f.return_address) (sym e)
+      h.returns;
+  others = ap (λ (ks : List ℕ). drop 1 ks) e ∙ h.others;
+}
+frame_with s cpu false f e h = told_with s.memory (context_of s.cpu) (context_of cpu) f e h
 
 module _ (setting : Setting) where
   open setting use {functions as t, funclets as fs, program, plan as p, sites as q, image}

@@ -6,28 +6,16 @@ use Rattle.match_bodies.specs.Words.{Event, STACK_END, Memory, Rsp, Context, con
 use Rattle.eh_tables.specs.Tables.{Entry}
 use Rattle.virtual_unwind.specs.Undone.{operations}
 use Rattle.frame_rules.specs.Codes.{depth}
+use Rattle.eh_tables.specs.declared.code.UnwindCode.{UnwindCode}
+use Rattle.eh_tables.specs.declared.code.UnwindOperation.TheVariants.{Allocate}
 use Rattle.match_stack.specs.Stack.{IsAsTold}
+use Rattle.match_stack.specs.AllocatedFrames.{IsAllocated}
+use Rattle.match_stack.proofs.AllocatedFrames.{told_allocations}
 use Rattle.match_stack.specs.HostUnwind.{on_top}
 use Rattle.match_bodies.proofs.Lemmas.{told_depth}
 use Rattle.match_bodies.proofs.InstructionEffects.{others_of}
 use Rattle.match_bodies.proofs.StackTop.{leaf_layout}
-use Rattle.match_bodies.proofs.BodyFrames.{small_others}
-
--- a frame is as told wherever RIP is
-pub told_with : (m : Memory) (c c' : Context) (f : StackFrame) → c'.kept ≡ c.kept → IsAsTold m c f
-    → IsAsTold m c' f
-told_with m c c' f e h = subst (λ (ks : List ℕ). let x : Context = record {
-  rip = c'.rip;
-  kept = ks;
-} in IsAsTold m x f) (sym e) (record {
-  offset = h.offset;
-  allowed = h.allowed;
-  base = h.base;
-  stack = h.stack;
-  framed = h.framed;
-  others = h.others;
-  above = h.above;
-})
+use Rattle.match_bodies.proofs.BodyFrames.{small_others, told_with}
 
 all_same : (label : ℕ) (rs : List Region) → AllByRecursion
     (λ (r : Region). holds label r ≡ holds label r) rs
@@ -91,6 +79,21 @@ module _ (t : Functions) (fs : List Funclet) (program : LinearProgram) (p : Imag
           let d = ap depth codes in
           let h = told_depth m c f s.is_told in
           omega arith
+
+      -- nothing else of its caller is in it
+      pub waiting_allocated : (m : Memory) (c : Context) (f : StackFrame) (name : BodyName)
+          (b : LinearBody)
+          → body_of program name ≡ Some b → p.leaf name ≡ false → f.entry ≡ p.entry name
+          → FrameIsAt t m c f → IsAllocated m c f
+      waiting_allocated m c f name b there leaf entry s =
+          let a = image.allocations name b there leaf in
+          let code : ℕ → UnwindCode = λ n. record {
+            offset = a.offset;
+            operation = Allocate n;
+          } in
+          told_allocations m c f a.offset (ap (λ (e : Entry). e.info.codes) entry ∙ a.codes
+          ∙ ap (λ (n : ℕ). code n ∷ []) (sym (frame_size m c f name b there leaf entry s))) s.kept
+          s.eight s.is_told
 
       -- it is the body's
       frame_is : (m : Memory) (c : Context) (f : StackFrame) (name : BodyName) (b : LinearBody)

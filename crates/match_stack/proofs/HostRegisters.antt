@@ -18,7 +18,8 @@ use Rattle.match_stack.specs.ItemMatches.{Activation}
 use Rattle.match_stack.specs.StackRecords.{On}
 use Rattle.match_stack.specs.RegisterLaws.{going_to, LandingHasRegisters, RestoredHasRegisters, RecordsRestOnStack}
 
-nine_numbers : (os : List ℕ) → length os ≡ 9
+-- nine numbers are what is at their places
+pub nine_numbers : (os : List ℕ) → length os ≡ 9
     → slice_index os 0 ∷ slice_index os 1 ∷ slice_index os 2 ∷ slice_index os 3 ∷ slice_index os 4
     ∷ slice_index os 5 ∷ slice_index os 6 ∷ slice_index os 7 ∷ slice_index os 8 ∷ [] ≡ os
 nine_numbers [] n = absurd (omega arith)

@@ -219,6 +219,10 @@ module _ (setting : Setting) (made : IsWellMade setting.program setting.plan) wh
     sp_saved = pushing.sp_saved given sp back low_enough high_enough b.memory.data_alone
         b.memory.stack service run.flags back_small many
 
+    registers_saved : kept_of saved.registers ≡ kept_of s.cpu.registers
+    registers_saved = saved_kept (drop 3 s.cpu.registers) _ _ (sp - 8) _ sp sp_saved
+        (sym (dropped s.cpu.registers)) ∙ kept_by_rest (drop 3 s.cpu.registers) s.cpu.registers refl
+
     pub well_formed_saved : IsWellFormed (record { cpu = saved; memory = state.memory })
     well_formed_saved =
         let raised = (register state.cpu Rsp + 8) % 2 ^ 64 % 2 ^ 64 in
@@ -240,7 +244,8 @@ module _ (setting : Setting) (made : IsWellMade setting.program setting.plan) wh
 
     abbrev at_return : InBody setting (record { cpu = saved; memory = s.memory }) (waiting c first)
     at_return =
-        in_body t fs program p q s c b saved c.frame.next (take first c.frame.temporaries) sp_saved
+        in_body t fs program p q s c b saved c.frame.next (take first c.frame.temporaries)
+        registers_saved
         (record { low = back_inside.0; high = back_inside.1 })
         (same_itself (regions_of (body_of program c.frame.body)) c.frame.next) back_small
         (first_words s.memory c.frame.temporaries first)

@@ -192,6 +192,7 @@ module _ (setting : Setting) where
       distance = subst (λ d. IsActivation acts handler.activation a.reaches.base d)
           (parent_locals setting k f f.parent a.name known.funclet.there parent owner)
           a.reaches.activation;
+      others = ap (λ (ks : List ℕ). drop 1 ks) e.registers;
       rip = rip_here;
       well_formed = well_formed_here;
     }

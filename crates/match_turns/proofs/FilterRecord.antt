@@ -85,7 +85,7 @@ module _ (t : Functions) (fs : List Funclet) (program : LinearProgram) (p : Imag
     size = (p.layout c.frame.body).frame
 
     abbrev above : Context
-    above = context_below b.body.back (sp + size + 8) (replicate 8 0)
+    above = context_below b.body.back (sp + size + 8) b.body.others
 
     abbrev asked_here : IsFilterBody program c.frame.body → IsAsked c.frame.exception c.below
     asked_here f = asked_by c.frame c.below f b.body.above
@@ -94,7 +94,7 @@ module _ (t : Functions) (fs : List Funclet) (program : LinearProgram) (p : Imag
         → HasRecord s.memory above c.frame.exception
     record_here f =
         let a = asked_here f in
-        let on = b.body.below (replicate 8 0) refl in
+        let on = b.body.below in
         subst (HasRecord s.memory above) (sym a.same)
         (record_on_top s.memory above b.body.is (activations_below c.frame.body b.body.acts)
         a.searched a.resumption a.asked a.rest a.below on.is_there.stack

@@ -7,7 +7,7 @@ use Rattle.match_turns.specs.Words.{STACK_START, STACK_END, W32, low, Event, Mem
 use Rattle.match_bodies.specs.CodeSites.{arguments_code}
 use Rattle.linear_code.specs.declared.program.FuncletKind.TheVariants as funclets
 use Rattle.linear_machine.specs.Frames as linear
-use Rattle.match_turns.proofs.Lemmas.{sizes_append, code_split, near, enters_then, flag_run, Within, straight, keep_first, others_of, program_kept, enters_silently, read_here, StepsTo, reaches_steps, enters_steps, keeps_split, Beneath, beneath_by, callers_above, Finds, ran, label_found, argument_found, frame_there, EntryRan, locals_count, activated, reaches_keeps, enters_keeps, stays_well_formed, SlotsPlaced, IsCounted, frame_top, room_here, holds_here, slots_here, locals_here, Leaves, Ran, returns, new_on, represents_next, set_length, local_after, gives_here}
+use Rattle.match_turns.proofs.Lemmas.{sizes_append, code_split, near, enters_then, flag_run, Within, straight, keep_first, others_of, program_kept, enters_silently, read_here, StepsTo, reaches_steps, enters_steps, keeps_split, Beneath, beneath_by, callers_above, Finds, ran, label_found, argument_found, frame_there, EntryRan, locals_count, activated, reaches_keeps, enters_keeps, stays_well_formed, SlotsPlaced, IsCounted, frame_top, room_here, holds_here, slots_here, locals_here, Leaves, Ran, returns, new_on, represents_next, set_length, local_after, gives_here, body_return}
 use Rattle.match_bodies.proofs.RoutineWalks.{Ran as MidRan}
 use Rattle.match_bodies.proofs.BodyViews.{placed, count}
 use Rattle.match_turns.proofs.FuncletPrologue.{LeadsBy}
@@ -102,6 +102,7 @@ module _ (setting : Setting) where
           (sym stack_1) e.number;
       distance = subst (λ d. IsActivation acts activation a.reaches.base d)
           (parent_locals setting k f f.parent a.name known.there parent owner) a.reaches.activation;
+      others = ap (λ (ks : List ℕ). drop 1 ks) e.registers;
       rip = refl;
       well_formed = well_formed_1;
     }
@@ -239,7 +240,7 @@ module _ (setting : Setting) where
                 };
           };
           holds = r.holds;
-          stack = ap (λ (xs : List ℕ). slice_index xs 1) r.rest;
+          kept = ap (λ (xs : List ℕ). kept_of (0 ∷ 0 ∷ 0 ∷ xs)) r.rest;
           leaves = leaves;
         }
 
@@ -424,11 +425,13 @@ module _ (setting : Setting) where
     beneath_u =
         let h = frame_top setting s1 c1 b1 counted in
         let on = new_on setting s1 c1 b1 counted u d values [] ran_here (λ z. let w : true ≡ false =
-        sym z ∙ l.plan.framed in absurd cc) (λ j z. framed_owner) (others_of u.cpu.registers)
-        refl in
+        sym z ∙ l.plan.framed in absurd cc) (λ j z. framed_owner) in
+        let same = sym (body_return setting s1 c1 b1.body).others_are ∙ sym others_there in
         subst (λ o. Beneath t u top1 (top1 + 8) b1.body.back o list1) others_there
         (beneath_by t u top1 b1.body.back list1 well_formed_here.count (returns setting s1 c1 b1
-        counted u d values [] ran_here) on.is_there.stack (omega arith) on.data_alone.no_code)
+        counted u d values [] ran_here)
+        (subst (λ (os : List ℕ). IsStack t u.memory (context_below b1.body.back (top1 + 8) os)
+        list1) same on.is_there.stack) (omega arith) on.data_alone.no_code)
 
     last_step : Steps x u
     last_step = subst (Steps x) run_1.2 run_1.1

@@ -161,15 +161,12 @@ module _ (setting : Setting) (roomy : HaveRoom setting.program) where
       abbrev pub outer : List Activation
       outer = activations_below c.frame.body b.body.acts
 
-      abbrev rest : List ℕ
-      rest = replicate 8 0
-
       abbrev above : Context
-      above = context_below back (sp + layout.frame + 8) rest
+      above = context_below back (sp + layout.frame + 8) b.body.others
 
       on : On t fs program p s.memory above b.body.is (Waits w ∷ items) outer
       on = subst (λ ws. On t fs program p s.memory above b.body.is ws outer) below
-          (b.body.below rest refl)
+          b.body.below
 
       abbrev pub waiting_for_it : Configuration
       waiting_for_it = on_top w items c.store.memory outer c.events
@@ -190,7 +187,7 @@ module _ (setting : Setting) (roomy : HaveRoom setting.program) where
           let some = (leaving.returns_soon layout from).0 in
           let more = length-append w.temporaries (x ∷ []) in
           let z = resumes setting roomy after w items outer c.store.memory c.events
-          above b.body.is on sp_after well_formed_after
+          above b.body.is on registers_after well_formed_after
           (record {
             data_alone = b.memory.data_alone;
             agrees = b.memory.agrees;

@@ -302,6 +302,13 @@ module _ (setting : Setting) (made : IsWellMade setting.program setting.plan)
     sp_saved = pushing.sp_saved given sp back low_enough high_enough b.memory.data_alone
         b.memory.stack service s.cpu.flags back_small many
 
+    sp_there : register state.cpu Rsp ≡ sp - 8
+    sp_there = pushing.sp_there given sp back low_enough high_enough b.memory.data_alone
+        b.memory.stack service s.cpu.flags back_small many
+
+    registers_saved : kept_of saved.registers ≡ kept_of s.cpu.registers
+    registers_saved = kept_back_set s.cpu.registers (sp - 8) _ sp sp_there sp_saved
+
     well_formed_saved : IsWellFormed (record { cpu = saved; memory = state.memory })
     well_formed_saved =
         let raised = (register state.cpu Rsp + 8) % 2 ^ 64 % 2 ^ 64 in
@@ -320,7 +327,8 @@ module _ (setting : Setting) (made : IsWellMade setting.program setting.plan)
         b.memory.stack)
 
     abbrev at_return : InBody setting (record { cpu = saved; memory = s.memory }) c
-    at_return = in_body t fs program p q s c b saved (c.frame.next + 1) c.frame.temporaries sp_saved
+    at_return = in_body t fs program p q s c b saved (c.frame.next + 1) c.frame.temporaries
+        registers_saved
         (record { low = inside.low; high = inside.high }) same_regions back_small
         (all_front s.memory c.frame.temporaries)
 
