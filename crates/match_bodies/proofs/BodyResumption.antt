@@ -96,7 +96,7 @@ module _ (t : Functions) (fs : List Funclet) (program : LinearProgram) (p : Imag
           s.eight s.is_told
 
       -- it is the body's
-      frame_is : (m : Memory) (c : Context) (f : StackFrame) (name : BodyName) (b : LinearBody)
+      pub frame_is : (m : Memory) (c : Context) (f : StackFrame) (name : BodyName) (b : LinearBody)
           → body_of program name ≡ Some b → p.leaf name ≡ false → f.entry ≡ p.entry name
           → f.slots ≡ (p.layout name).frame → FrameIsAt t m c f
           → f ≡ frame_of p name f.return_address f.others

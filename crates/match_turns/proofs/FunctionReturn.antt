@@ -64,10 +64,15 @@ module _ (setting : Setting) (roomy : HaveRoom setting.program) where
         (machine (moved (after_view r) (sp + layout.frame + 8)) back run.flags))
         (leaving.result_is setting roomy s c b counted from at x reads) run.comes)
 
-    pub sp_after : register after.cpu Rsp ≡ sp + layout.frame + 8
+    sp_after : register after.cpu Rsp ≡ sp + layout.frame + 8
     sp_after = sym (index_of (with_sp view.rest (sp + layout.frame + 8)) 1)
         ∙ sp_moved view (sp + layout.frame + 8)
         (length-drop 3 s.cpu.registers ∙ (let k = b.well_formed.count in omega arith))
+
+    registers_after : kept_of after.cpu.registers ≡ (sp + layout.frame + 8) ∷ b.body.others
+    registers_after = kept_moved s.cpu.registers (sp + layout.frame + 8) sp_after
+        ∙ ap (λ (os : List ℕ). (sp + layout.frame + 8) ∷ os)
+        (body_return setting s c b.body).others_are
 
     well_formed_after : IsWellFormed after
     well_formed_after = stays_well_formed s after (reaches_keeps n s after reaches) has_back.small
