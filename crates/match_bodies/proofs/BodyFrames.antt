@@ -12,7 +12,7 @@ use Rattle.match_stack.proofs.AllocatedFrames.{allocations_are_told, told_alloca
 use Rattle.match_bodies.proofs.InstructionEffects.{others_of}
 use Rattle.match_bodies.proofs.StackTop.{leaf_layout}
 
-rest_length : (ks : List ℕ) → length ks ≡ 9 → length (drop 1 ks) ≡ 8
+pub rest_length : (ks : List ℕ) → length ks ≡ 9 → length (drop 1 ks) ≡ 8
 rest_length [] n = absurd (omega arith)
 rest_length (k ∷ ks) n = omega arith
 

@@ -7,6 +7,7 @@ pub mod RoutineWalks
 pub mod ShadowTurns
 pub mod StackTop
 pub mod BodyFrames
+pub mod OwedCallers
 pub mod BodyResumption
 pub mod TemplateSizes
 pub mod ReturnAddresses

@@ -36,7 +36,7 @@ behind (x ∷ xs) sp k lt = refl
 four_is_first : (r : ℕ) → kept_index r ≡ Some 0 → r ≡ 4
 four_is_first r e = grind (arith, e)
 
-others_same : (c : Context) (rip sp r : ℕ) → 0 < length c.kept → is_nonvolatile r ≡ true → r ≢ 4
+pub others_same : (c : Context) (rip sp r : ℕ) → 0 < length c.kept → is_nonvolatile r ≡ true → r ≢ 4
     → get c r ≡ get (record { rip = rip; kept = sp ∷ drop 1 c.kept }) r
 others_same c rip sp r lt nv ne = go (kept_index r) refl
   where
@@ -65,7 +65,7 @@ allocations_are_told m c entry offset size back codes none small nine room retur
     }
 
 -- nine numbers after their first
-rest_numbers : (ks : List ℕ) → length ks ≡ 9
+pub rest_numbers : (ks : List ℕ) → length ks ≡ 9
     → drop 1 ks ≡ get_or ks 1 0 ∷ get_or ks 2 0 ∷ get_or ks 3 0 ∷ get_or ks 4 0 ∷ get_or ks 5 0
     ∷ get_or ks 6 0 ∷ get_or ks 7 0 ∷ get_or ks 8 0 ∷ []
 rest_numbers [] n = absurd (omega arith)

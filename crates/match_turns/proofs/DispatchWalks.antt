@@ -5,7 +5,7 @@ use Rattle.std.specs.Prelude.{Result, slice_get, slice_index, slice_set}
 use Rattle.match_turns.specs.Words.{W64, RefusedAccess, Memory, loaded, Rdx, Rsp, Rbx, Rbp, Rsi, Rdi, R12, R13, R14, R15, Cpu, Context, kept_of, context_of, State, register, rsp, readable, DispatchRecord, filter_return, finally_return, steps, Turn, at_landing, back, Exception, LinearFunclet, BodyName, FuncletBody, funclet_body, Handler, Resumption, Item, Configuration, StackItem, Framed, IsStack, after_frame, context_below, state, parent_body, IsFunclet, Activation, Arrives, FilterBegins, Unwound, BlockBegins, LandsThere, IsUnwinding, drop_below, GivesCallers, WalkGives, caller_at, callers, caller_above, FindsReturn, Setting, IsMachineMemory, WalkContinues}
 use Rattle.virtual_unwind.specs.Undone.{word}
 use Rattle.seh_num.specs.declared.event.Event.TheVariants as events
-use Rattle.match_turns.proofs.Lemmas.{nine_numbers, first_set, waiting_allocated, few_items, none_below, frame_size, on_stack, gives_caller, begin_finds, word_is}
+use Rattle.match_turns.proofs.Lemmas.{finds_return, nine_numbers, first_set, waiting_allocated, few_items, none_below, frame_size, on_stack, gives_caller, begin_finds, word_is}
 use Rattle.match_bodies.proofs.UnwindWalks.{block_callers, landing_callers}
 
 -- the nonvolatile registers, with another stack pointer
@@ -51,7 +51,8 @@ module _ (setting : Setting) where
       let small = a.at_small in
       let here : sp + 0 ≡ sp = omega arith in
       let up : a.at ≡ sp + 0 + 8 = omega arith in
-      let found = funclet_finds u.memory k a.name a.funclet (context_of u.cpu) a.back a.rip refl
+      let found = finds_return t u.memory (p.funclet k) 0
+      (funclet_finds u.memory k a.name a.funclet) (context_of u.cpu) a.back a.rip refl
       (omega arith) (ap (word u.memory) here ∙ a.returns) in
       let below : GivesCallers t u.memory (state (context_below a.back a.at others) 0) cs = subst
       (GivesCallers t u.memory (state (context_below a.back a.at others) 0)) (same others)
@@ -127,10 +128,10 @@ module _ (setting : Setting) where
         waits.waits.code waits.waits.body waits.framed waits.entry is_there in
         let d : Context = record { rip = r.target; kept = l.to.kept } in
         let cs = callers (after_frame l.to f) l.is in
-        let found =
-        begin_finds t fs program p q image s.memory l.body.body waits.waits.code w.target.label
+        let found = finds_return t s.memory (p.address l.body.body w.target.label) y.frame
+        (begin_finds t fs program p q image s.memory l.body.body waits.waits.code w.target.label
         waits.waits.body memory.code (image.landings l.body.body waits.waits.code w.target.label
-        waits.waits.body l.lands)
+        waits.waits.body l.lands))
         d f.return_address l.at_address is_there.kept (omega arith)
         (ap (λ n. word s.memory (rsp l.to + n)) (sym size) ∙ told.returns) in
         let caller : caller_above d y.frame f.return_address
@@ -177,8 +178,8 @@ module _ (setting : Setting) where
       } in x) up in
       let returns : word s.memory (sp + 0) ≡ Ok ret = ap (word s.memory) flat
       ∙ ap (λ (x : Result ℕ RefusedAccess). readable sp x) w in
-      let found = image.callers_outside.services s.memory a low high other another
-      (context_of s.cpu) ret here refl (omega arith) returns in (
+      let found = finds_return t s.memory a 0
+      (image.callers_outside.services s.memory a low high other another) (context_of s.cpu) ret here refl (omega arith) returns in (
         c,
         gives_caller t s.memory (context_of s.cpu) c cs found
             (subst (λ (x : Context). GivesCallers t s.memory (state x 0) cs) same

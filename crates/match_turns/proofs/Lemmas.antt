@@ -41,6 +41,7 @@ pub use Rattle.match_bodies.proofs.EntryKeeping.{arguments_plain, plain_both, pa
 pub use Rattle.match_bodies.proofs.FrameMaking.{frame_there, making_steps}
 pub use Rattle.match_bodies.proofs.InstructionEffects.{others_of}
 pub use Rattle.match_bodies.proofs.NextInstruction.{Ran, represents_next, returns, new_on, further}
+pub use Rattle.match_bodies.proofs.OwedCallers.{finds_return}
 pub use Rattle.match_bodies.proofs.PlainSteps.{GoesInside, from_here, label_small, moves_to, at_other, is_read}
 pub use Rattle.match_bodies.proofs.ProgramKeeping.{program_stays, KeepsImage}
 pub use Rattle.match_bodies.proofs.ReturnAddresses.{label_found, argument_found, template_there}

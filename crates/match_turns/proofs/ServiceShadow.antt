@@ -5,7 +5,7 @@ use Rattle.std.specs.Prelude.{Result, slice_index, slice_set, if◌then◌else�
 use Rattle.match_turns.specs.Words.{W64, RefusedAccess, address_of, service_at, in_host_page, Memory, executable, loaded, Rsp, leading, Context, kept_of, context_of, State, register, hosted, execute, step, rsp, distance, readable, filter_return, finally_return, arrivals, BuiltIn, Put, Protect, RaiseException, Configuration, state, activations_below, KeepsStack, drop_below, started, served, GivesCallers, WalkGives, KeepsShadow, caller_above, service_of, Setting, HasProgram, RepresentsAt}
 use Rattle.virtual_unwind.specs.Undone.{word}
 use Rattle.x64_machine.specs.declared.outcome.Stop.TheVariants as stops
-use Rattle.match_turns.proofs.Lemmas.{body_return, below_here, reads_other, kept_by_other_memories, none_below, one_below, host_keeps, on_stack, gives_caller, IsCounted, sp_low, frame_top, caller_here, Below}
+use Rattle.match_turns.proofs.Lemmas.{finds_return, body_return, below_here, reads_other, kept_by_other_memories, none_below, one_below, host_keeps, on_stack, gives_caller, IsCounted, sp_low, frame_top, caller_here, Below}
 use Rattle.match_turns.proofs.BodyOtherMemory.{higher_stack}
 
 -- at a service of a built-in function the host continues
@@ -93,8 +93,9 @@ module _ (setting : Setting) where
       let flat : register s.cpu Rsp + 0 ≡ register s.cpu Rsp = omega arith in
       let there : word s.memory (register s.cpu Rsp + 0) ≡ Ok back = ap (word s.memory) flat
       ∙ ap (λ (x : Result ℕ RefusedAccess). readable (register s.cpu Rsp) x) returns in
-      let found = image.callers_outside.services s.memory (address_of (service_of f)) at.0 at.1 at.2
-      at.3 (context_of s.cpu) back here refl (omega arith) there in
+      let found = finds_return t s.memory (address_of (service_of f)) 0
+      (image.callers_outside.services s.memory (address_of (service_of f)) at.0 at.1 at.2 at.3)
+      (context_of s.cpu) back here refl (omega arith) there in
       let gives : WalkGives t s (c ∷ d ∷ cs) = gives_caller t s.memory (context_of s.cpu) c (d ∷ cs)
       found (subst (λ (x : Context). GivesCallers t s.memory (state x 0) (d ∷ cs)) same before) in
       host_keeps t fs s u (address_of (service_of f)) [] (c ∷ d ∷ cs) (d ∷ cs) (host_step f s here)
