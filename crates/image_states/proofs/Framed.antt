@@ -110,7 +110,8 @@ module _ (program : LinearProgram) (c : HasWholeImage program) where
       let here' : k.rip ≡ image_base + rva = r.here
       ∙ (let q : image_base + template_at x label + sizes r.done
       ≡ image_base + rva = omega arith in q) in
-      let same : stack_frame program x f.0 back others ≡ frame_of (plan_of program) name back others =
+      let same : stack_frame program x f.0 back others
+      ≡ frame_of (plan_of program) name back others =
       λ i. record {
         entry = tables.entry_of (site_of program) x (or_none (sym f.1 i));
         slots = sym size i;

@@ -28,16 +28,16 @@ small_others s w k lt =
 -- a frame is as told wherever RIP is
 pub told_with : (m : Memory) (c c' : Context) (f : StackFrame) → c'.kept ≡ c.kept → IsAsTold m c f
     → IsAsTold m c' f
-told_with m c c' f e h = subst (λ (ks : List ℕ). let x : Context = record { rip = c'.rip; kept = ks } in
-    IsAsTold m x f) (sym e) (record {
-  offset = h.offset;
-  allowed = h.allowed;
-  base = h.base;
-  stack = h.stack;
-  framed = h.framed;
-  others = h.others;
-  above = h.above;
-})
+told_with m c c' f e h = subst (λ (ks : List ℕ).
+    let x : Context = record { rip = c'.rip; kept = ks } in IsAsTold m x f) (sym e) (record {
+      offset = h.offset;
+      allowed = h.allowed;
+      base = h.base;
+      stack = h.stack;
+      framed = h.framed;
+      others = h.others;
+      above = h.above;
+    })
 
 -- and so is a body's, where the nonvolatile registers are the same
 pub frame_with : (s : State) (cpu : Cpu) (leaf : Bool) (f : StackFrame)

@@ -106,7 +106,8 @@ module _ (m m' : Memory) (t : Functions) (fs : List Funclet) (program : LinearPr
     entry = h.entry;
     slots = h.slots;
     small = h.small;
-    waits = body_passed c f.slots (temporaries_end (p.layout b.body) b.body f.slots) b acts i h.waits;
+    waits = body_passed c f.slots (temporaries_end (p.layout b.body) b.body f.slots) b acts i
+        h.waits;
     pointers = h.pointers;
     returns = h.returns;
   }
@@ -223,7 +224,8 @@ module _ (m m' : Memory) (t : Functions) (fs : List Funclet) (program : LinearPr
         → KeepsStackBut m m' (rsp c) from to → STACK_START ≤ rsp c → FrameIsAt t m c f
         → IsStack t m (after_frame c f) is
         → FrameWaits t fs program p m c f b below (a ∷ outer)
-        → HasActivation m (p.layout b.body) (rsp c) f.slots b.activation (a ∷ outer) (FunctionBody n)
+        → HasActivation m (p.layout b.body) (rsp c) f.slots b.activation (a ∷ outer)
+        (FunctionBody n)
         → IsAbove t fs program p b b.body below
         → Linked t fs program p m (after_frame c f) is below outer
         → Stored c (Framed f ∷ is) (Waits b ∷ below) (a ∷ outer)

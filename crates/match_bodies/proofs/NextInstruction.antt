@@ -448,7 +448,8 @@ module _ (setting : Setting) where
               (sym stack_there) new_temporaries;
           space = subst (λ x. HasSpace x below_end
               (length (with_values b.body.acts c.frame.activation values) + c.frame.held))
-              (sym stack_there) (subst (λ n. HasSpace sp below_end (n + c.frame.held)) (sym same_depth)
+              (sym stack_there) (subst (λ n. HasSpace sp below_end (n + c.frame.held))
+              (sym same_depth)
               b.body.slots.space);
         }
 

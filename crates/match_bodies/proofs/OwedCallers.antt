@@ -27,7 +27,8 @@ not_framed : (now : ℕ → ℕ) (at size : ℕ) → rules.Framed 0 0 now at (al
 not_framed now at zero = tt
 not_framed now at (suc size) = tt
 
-unsaved : (old now : ℕ → ℕ) (size : ℕ) → rules.Others old now [] → rules.Others old now (allocated size)
+unsaved : (old now : ℕ → ℕ) (size : ℕ) → rules.Others old now []
+    → rules.Others old now (allocated size)
 unsaved old now zero h = h
 unsaved old now (suc size) h = λ r nv ne z. h r nv ne refl
 

@@ -40,7 +40,8 @@ module _ (t : Functions) (fs : List Funclet) where
       let caller = context_below next (sp + 8) others in
       let z : register u.cpu Rsp + 0 ≡ sp = omega arith in
       let h = finds_return t u.memory u.cpu.rip 0 finds c next refl refl
-      (let w : register u.cpu Rsp + 0 + 8 < 2 ^ 64 = omega arith in w) (ap (word u.memory) z ∙ pushed) in
+      (let w : register u.cpu Rsp + 0 + 8 < 2 ^ 64 = omega arith in w)
+      (ap (word u.memory) z ∙ pushed) in
       let is : caller_above c 0 next ≡ caller = λ i. context_below next (z i + 8) (same i) in
       let k = subst (HasCaller t u.memory c) is h in
       subst (λ x. GivesCallers t u.memory (state c 0) (x ∷ cs)) k.context

@@ -65,9 +65,9 @@ turns_in_hand c = in_hand c.frame.body c.frame.next + turns_left c
 
 module _ (t : Functions) (fs : List Funclet) (program : LinearProgram) (p : ImagePlan)
     (q : Sites) where
-  -- the body's frame is from RSP up: its slots hold what linear code has in them, above them is what
-  -- its codes tell of and the return address, and from there on is the list, with the registers
-  -- that whoever called it has
+  -- the body's frame is from RSP up: its slots hold what linear code has in them, above them is
+  -- what its codes tell of and the return address, and from there on is the list, with the
+  -- registers that whoever called it has
   pub record InBody (s : State) (c : Configuration) : Type 0 where
     pub acts : List Activation
     pub store : c.store.activations ≡ locals_of acts
@@ -86,7 +86,8 @@ module _ (t : Functions) (fs : List Funclet) (program : LinearProgram) (p : Imag
     pub frame : HasFrame s (p.leaf c.frame.body) (frame_of p c.frame.body back others)
     pub is : List StackItem
     pub below : On t fs program p s.memory (context_below back (register s.cpu Rsp
-        + (p.layout c.frame.body).frame + 8) others) is c.below (activations_below c.frame.body acts)
+        + (p.layout c.frame.body).frame + 8) others) is c.below
+        (activations_below c.frame.body acts)
 
   -- an instruction of linear code begins; where an `__except` block has just taken over, RAX is the
   -- exception's code

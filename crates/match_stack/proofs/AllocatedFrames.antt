@@ -58,8 +58,8 @@ allocations_are_told m c entry offset size back codes none small nine room retur
       allowed = subst (λ ops. are_allowed entry.info.frame_register ops ≡ true) (sym tells) allowed;
       base = ap (λ r. base_if entry.info c (not (eqb r 0))) none;
       stack = subst (rules.Stack m old back (rsp c) (rsp c)) (sym tells) (refl, is);
-      framed = subst (rules.Framed entry.info.frame_register entry.info.frame_offset (get c) (rsp c))
-          (sym tells) tt;
+      framed = subst (rules.Framed entry.info.frame_register entry.info.frame_offset (get c)
+          (rsp c)) (sym tells) tt;
       others = λ r nv ne z. others_same c back (rsp c + size) r (omega arith) nv ne;
       above = subst (AreAbove (rsp c + size) (rsp c) (rsp c)) (sym tells) (omega arith);
     }

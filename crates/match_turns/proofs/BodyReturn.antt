@@ -57,7 +57,8 @@ module _ (setting : Setting) (roomy : HaveRoom setting.program) where
     has_back =
         let low = sp_low setting s c b counted in
         let top = frame_top setting s c b counted in
-        let r = word_is s.memory (sp + layout.frame) back (body_return setting s c b.body).returns in
+        let r = word_is s.memory (sp + layout.frame) back
+        (body_return setting s c b.body).returns in
         let small = number_small s.memory 8 (sp + layout.frame) b.memory.data_alone.bytes in
         record {
           number = r;
@@ -119,7 +120,8 @@ module _ (setting : Setting) (roomy : HaveRoom setting.program) where
     -- the caller has its registers again
     pub registers_after : kept_of after.cpu.registers ≡ (sp + layout.frame + 8) ∷ b.body.others
     registers_after = kept_moved s.cpu.registers (sp + layout.frame + 8) sp_after
-        ∙ ap (λ (os : List ℕ). (sp + layout.frame + 8) ∷ os) (body_return setting s c b.body).others_are
+        ∙ ap (λ (os : List ℕ). (sp + layout.frame + 8) ∷ os)
+        (body_return setting s c b.body).others_are
 
     pub well_formed_after : IsWellFormed after
     well_formed_after = stays_well_formed s after (reaches_keeps n s after reaches) has_back.small

@@ -179,7 +179,8 @@ module _ (setting : Setting) where
       let returns : word s.memory (sp + 0) ≡ Ok ret = ap (word s.memory) flat
       ∙ ap (λ (x : Result ℕ RefusedAccess). readable sp x) w in
       let found = finds_return t s.memory a 0
-      (image.callers_outside.services s.memory a low high other another) (context_of s.cpu) ret here refl (omega arith) returns in (
+      (image.callers_outside.services s.memory a low high other another) (context_of s.cpu)
+      ret here refl (omega arith) returns in (
         c,
         gives_caller t s.memory (context_of s.cpu) c cs found
             (subst (λ (x : Context). GivesCallers t s.memory (state x 0) cs) same
