@@ -198,7 +198,10 @@ module _ (t : Functions) (fs : List Funclet) (program : LinearProgram) (p : Imag
           let up : register u.cpu Rsp + 8 ≡ register u.cpu Rsp + y.frame + 8 = omega arith in
           let others = others_of u.cpu.registers in
           let rest : On t fs program p m (after_leaf c back) is below
-          (activations_below name acts) = record { is_there = record { stack = s.1; linked = l.2 }; data_alone = on.data_alone } in
+          (activations_below name acts) = record {
+            is_there = record { stack = s.1; linked = l.2 };
+            data_alone = on.data_alone;
+          } in
           let slots : BodyWaits t fs program p m (context_of u.cpu) y.temporaries home_end b'
           acts = record {
             code = w.code;
