@@ -2,7 +2,6 @@
 use Rattle.std.proofs.Common.{◌≡◌, ℕ, ◌+◌, ◌<◌, ◌≤◌, Bool, true, false, List, [], ◌∷◌, ◌++◌, refl, ◌∙◌, arith, inl, inr}
 use Rattle.match_stack.specs.Words.{Memory, with_bytes, Context, context_of, rsp, Functions, DispatchRecord, RECORD_SIZE, filter_return, finally_return, StackItem, Framed, Leaf, Searching, Unwinding, RecordIsAt, IsStack, IsBetween, after_frame, ItemIsAt, OwnedBy, context_after, context_at, KeptByOtherStores, NothingBelowIsOwned, SlotsAreFree}
 use Rattle.match_stack.proofs.Lemmas.{fetched_by_its_bytes}
-use Rattle.match_stack.specs.Stack.{told}
 use Rattle.match_stack.proofs.ItemVisits.{set_head}
 use Rattle.match_stack.proofs.FrameWords.{told_same, owned_low as frame_low, owned_high as frame_high}
 use Rattle.match_stack.proofs.MemoryReads.{tail_at_same, word_same}
