@@ -1,7 +1,7 @@
 -- The next instruction of a body begins, in the memory that a template leaves.
 use Rattle.std.proofs.Common.{◌≡◌, ℕ, ◌+◌, ◌*◌, ◌<◌, ◌≤◌, true, Option, Some, None, Ok, List, [], ◌∷◌, length, refl, sym, ap, subst, ◌∙◌, arith, inl, inr}
 use Rattle.std.specs.Prelude.{◌⊎◌, slice_get, slice_index, drop}
-use Rattle.match_bodies.specs.Words.{STACK_START, STACK_END, Event, Memory, Rax, Rsp, kept_of, State, register, word, Local, Temporary, BodyState, LinearBody, LinearFunclet, BodyName, FunctionBody, FuncletBody, body_of, Frame, Item, Waits, Searches, Unwinds, Configuration, Context, Layout, FrameHolds, context_of, holds, regions_of, InCode, context_below, Activation, locals_of, activations_below, HoldsWords, IsActivation, HasActivation, HasPointers, FuncletIsAbove, IsAbove, BodyWaits, HasSpace, below_end, home_end, IsLinkedStack, IsData, On, IsWellFormed, IsFunctionLayout, IsLayoutIf, slots_end, counts_of, frame_at, with_values, KeepsStackBut, OwnerHasFrame, InTemporaries, InLocals, last_temporary, Setting, RepresentsAt}
+use Rattle.match_bodies.specs.Words.{STACK_START, STACK_END, Event, Memory, Rax, Rsp, kept_of, State, register, word, Local, Temporary, BodyState, LinearBody, LinearFunclet, BodyName, FunctionBody, FuncletBody, body_of, Frame, Item, Waits, Searches, Unwinds, Configuration, Context, Layout, FrameHolds, context_of, regions_of, InCode, context_below, Activation, locals_of, activations_below, HoldsWords, IsActivation, HasActivation, HasPointers, FuncletIsAbove, IsAbove, BodyWaits, HasSpace, below_end, home_end, IsLinkedStack, IsData, On, IsWellFormed, IsFunctionLayout, IsLayoutIf, slots_end, counts_of, frame_at, with_values, KeepsStackBut, OwnerHasFrame, InTemporaries, InLocals, last_temporary, Setting, RepresentsAt}
 use Rattle.virtual_unwind.specs.Undone.{Answer}
 use Rattle.match_bodies.proofs.Lemmas.{kept_by_other_memories}
 use Rattle.match_bodies.proofs.BodyFrames.{body_return, has_frame}

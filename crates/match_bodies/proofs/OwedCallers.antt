@@ -1,13 +1,12 @@
 -- Where an allocation alone is still to be undone, or nothing, the walk finds the caller by the
 -- return address above it, with the registers that are there.
-use Rattle.std.proofs.Common.{◌≡◌, ℕ, zero, suc, ◌+◌, ◌^◌, ◌<◌, ◌≤◌, true, Ok, List, [], ◌∷◌, length, drop, refl, sym, ap, subst, ◌∙◌, arith}
-use Rattle.std.specs.Prelude.{slice_set}
+use Rattle.std.proofs.Common.{◌≡◌, ℕ, zero, suc, ◌+◌, ◌^◌, ◌<◌, true, Ok, List, [], ◌∷◌, length, drop, refl, sym, subst, ◌∙◌, arith}
 use Rattle.match_bodies.specs.Words.{Memory, Context, rsp, Functions, word, caller_above, HasCaller, FindsReturn}
 use Rattle.virtual_unwind.specs.Contexts.{get}
 use Rattle.frame_rules.specs.Codes.{are_allowed}
 use Rattle.frame_rules.specs.Frame.{IsWord}
 use Rattle.frame_rules.specs.Frame as rules
-use Rattle.match_bodies.specs.Callers.{caller_owed, caller_left, IsOwed, allocated}
+use Rattle.match_bodies.specs.Callers.{caller_owed, allocated}
 use Rattle.match_bodies.proofs.Lemmas.{word-is, is_word, others_same, rest_numbers, eight_numbers}
 use Rattle.match_bodies.proofs.BodyFrames.{rest_length, first_set}
 

@@ -1,6 +1,6 @@
 -- Each turn of the run of an instruction's template keeps the shadow.
 use Rattle.std.proofs.Common.{◌≡◌, ℕ, ◌+◌, ◌^◌, ◌<◌, ◌≤◌, List, [], ◌++◌, Option, Some, None, length, drop, refl, sym, ap, subst, ◌∙◌, arith, length-append, append_assoc}
-use Rattle.std.specs.Prelude.{slice_get, slice_index}
+use Rattle.std.specs.Prelude.{slice_get}
 use Rattle.match_bodies.specs.Words.{Memory, Rsp, Instr, State, register, Operation, Gives, performed, is_reserved, Slot, Local, Temporary, Instruction, LinearBody, Configuration, Layout, size, sizes, local_at, keep_local, keep, operands_code, finish_code, compute_code, IsNear, template, template_size, MachineView, machine, Reaches, FrameHolds, HasCode, AllKeep, HaveRoom, links_of, counts_of, Setting, RepresentsAt, work, test_code, information_code}
 use Rattle.c_operations.specs.declared.field.Field.{Field}
 use Rattle.linear_code.specs.declared.instruction.Instruction.TheVariants as instructions
@@ -11,7 +11,7 @@ use Rattle.match_bodies.proofs.TemplatePieces.{piece_there}
 use Rattle.match_bodies.proofs.BodyViews.{IsCounted, placed, room_here, holds_here}
 use Rattle.match_bodies.proofs.ChainKeeping.{Keeps, keeps_then, reaches_keeps}
 use Rattle.match_bodies.proofs.TemplateShadows.{kept_by_rest, Below, is_here, is_after, ran_same, RunsKeep, whole, IsPast, past_none, one_piece, piece_to, piece_then, near_here}
-use Rattle.match_bodies.proofs.TemplateRuns.{code, frame, slots, v, same_state, template_here, sp_is, has_slots, dropped, Surroundings}
+use Rattle.match_bodies.proofs.TemplateRuns.{code, frame, slots, v, same_state, template_here, sp_is, has_slots, Surroundings}
 
 jump_size : (y : Layout) (at label : ℕ) → at + template_size y (instructions.Jump label) ≡ at + 5
 unfolding template_size size
