@@ -1,11 +1,12 @@
 -- A body returns: RAX has the number of its slot, and RIP and RSP are those of its return address.
-use Rattle.std.proofs.Common.{◌≡◌, ℕ, zero, suc, ◌+◌, ◌≤◌, true, Option, Some, None, length, refl, sym, subst, ◌∙◌, arith, length-append}
+use Rattle.match_turns.proofs.KeptRegisters.{kept_moved}
+use Rattle.std.proofs.Common.{◌≡◌, ℕ, zero, suc, ◌+◌, ◌≤◌, true, Option, Some, None, List, ◌∷◌, length, refl, sym, ap, subst, ◌∙◌, arith, length-append}
 use Rattle.std.specs.Prelude.{slice_get}
 use Rattle.std.proofs.lemmas.List.{length-drop}
-use Rattle.match_turns.specs.Words.{Rax, Rsp, State, register, Slot, Local, Temporary, IsSlot, Configuration, read, Layout, return_code, epilogue, fetch, local_at, fetch_local, MachineView, machine, HasBack, with_sp, moved, Returned, HaveRoom, IsWellFormed, AllKeep, counts_of, Setting, RepresentsAt}
+use Rattle.match_turns.specs.Words.{kept_of, Rax, Rsp, State, register, Slot, Local, Temporary, IsSlot, Configuration, read, Layout, return_code, epilogue, fetch, local_at, fetch_local, MachineView, machine, HasBack, with_sp, moved, Returned, HaveRoom, IsWellFormed, AllKeep, counts_of, Setting, RepresentsAt}
 use Rattle.x64_templates.specs.Runs.{Reaches}
 use Rattle.linear_code.specs.declared.instruction.Instruction.TheVariants as instructions
-use Rattle.match_turns.proofs.Lemmas.{number_small, fetch_fine, sp_moved, return_run, others_of, reaches_steps, may_read_written, word_is, reaches_keeps, stays_well_formed, IsCounted, sp_low, frame_top, room_here, holds_here, slots_here, v, frame, slots, same_state, template_here, has_slots, sp_is, index_of}
+use Rattle.match_turns.proofs.Lemmas.{body_return, number_small, fetch_fine, sp_moved, return_run, others_of, reaches_steps, may_read_written, word_is, reaches_keeps, stays_well_formed, IsCounted, sp_low, frame_top, room_here, holds_here, slots_here, v, frame, slots, same_state, template_here, has_slots, sp_is, index_of}
 use Rattle.match_bodies.proofs.ReturnKeeping.{fetch_plain, returns_keep}
 use Rattle.match_turns.proofs.ReturnAddressPlace.{top_of, begins_beneath}
 

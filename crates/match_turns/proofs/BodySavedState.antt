@@ -45,7 +45,7 @@ module _ (t : Functions) (fs : List Funclet) (program : LinearProgram) (p : Imag
       abbrev y : Layout
       y = p.layout c.frame.body
 
-      sp : register saved Rsp ≡ register s.cpu Rsp
+      abbrev sp : register saved Rsp ≡ register s.cpu Rsp
       sp = ap (λ (ks : List ℕ). slice_index ks 0) registers
 
       abbrev size : ℕ

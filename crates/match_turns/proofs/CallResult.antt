@@ -4,9 +4,9 @@ use Rattle.std.proofs.Common.{◌≡◌, ℕ, zero, suc, ◌+◌, ◌^◌, ◌<�
 use Rattle.std.specs.Prelude.{◌⊎◌, slice_get, slice_index}
 use Rattle.std.proofs.lemmas.Bool.{eq-eqb, ne_eqb}
 use Rattle.std.proofs.lemmas.Option.{slice_get_within}
-use Rattle.match_turns.specs.Words.{Event, Memory, Rax, Rsp, Instr, Context, State, register, rsp, Functions, distance, Funclet, arrivals, Temporary, Instruction, BodyState, with_slot, LinearProgram, LinearBody, BodyName, FuncletBody, body_of, Frame, Item, Waits, Configuration, Layout, sizes, keep, template, body_size, offset_of, machine, HasCode, ReachesBody, StackItem, ImagePlan, Activation, locals_of, On, on_top, IsWellFormed, AllKeep, HaveRoom, Sites, links_of, seen_by_templates, counts_of, OwnerHasFrame, with_values, Setting, IsMachineMemory}
+use Rattle.match_turns.specs.Words.{kept_of, Event, Memory, Rax, Rsp, Instr, Context, State, register, Functions, distance, Funclet, arrivals, Temporary, Instruction, BodyState, with_slot, LinearProgram, LinearBody, BodyName, FuncletBody, body_of, Frame, Item, Waits, Configuration, Layout, sizes, keep, template, body_size, offset_of, machine, HasCode, ReachesBody, StackItem, ImagePlan, Activation, locals_of, On, on_top, IsWellFormed, AllKeep, HaveRoom, Sites, links_of, seen_by_templates, counts_of, OwnerHasFrame, with_values, Setting, IsMachineMemory}
 use Rattle.x64_templates.specs.Runs.{Reaches}
-use Rattle.match_turns.proofs.Lemmas.{sizes_append, template_sizes, code_split, call_ends, keep_flow, first_in_code, waits_in_body, locals_count, same_activations, Keeps, reaches_keeps, stays_well_formed, IsCounted, is_machine, room_here, holds_here, slots_here, locals_here, Leaves, Ran, represents_next, kept_by_rest, is_here, is_after, ends_at, RunsKeep, one_piece, code, y, v, frame, slots, template_here, next_address, sp_is, silent_at, dropped, Surroundings}
+use Rattle.match_turns.proofs.Lemmas.{sizes_append, template_sizes, code_split, call_ends, keep_flow, first_in_code, waits_in_body, locals_count, same_activations, Keeps, reaches_keeps, stays_well_formed, IsCounted, is_machine, room_here, holds_here, slots_here, locals_here, Leaves, Ran, represents_next, kept_by_rest, is_here, is_after, ends_at, RunsKeep, one_piece, code, y, v, frame, slots, template_here, next_address, sp_is, silent_at, Surroundings}
 use Rattle.x64_templates.specs.Epilogues.{IsReturn}
 use Rattle.match_bodies.specs.Bodies.{RepresentsAt}
 use Rattle.match_bodies.proofs.BodyResumption.{again}

@@ -1,6 +1,6 @@
 -- Where a function was called its caller waits on the list, in the memory that the callee has by
 -- then.
-use Rattle.std.proofs.Common.{◌≡◌, ℕ, zero, suc, ◌+◌, ◌-◌, ◌*◌, ◌^◌, ◌<◌, ◌≤◌, false, Option, Some, List, [], ◌∷◌, ◌++◌, length, refl, sym, subst, ◌∙◌, arith}
+use Rattle.std.proofs.Common.{◌≡◌, ℕ, zero, suc, ◌+◌, ◌-◌, ◌*◌, ◌^◌, ◌<◌, ◌≤◌, false, Option, Some, List, [], ◌∷◌, ◌++◌, refl, sym, subst, ◌∙◌, arith}
 use Rattle.std.specs.Prelude.{slice_get, take}
 use Rattle.std.proofs.lemmas.List.{append_assoc}
 use Rattle.match_turns.specs.Words.{IMAGE_BASE, IMAGE_RANGE_END, Memory, Rsp, Instr, context_of, State, register, Temporary, LinearBody, LinearFunclet, BodyName, FunctionBody, FuncletBody, body_of, Item, Waits, Searches, Unwinds, waiting, regions_of, Layout, sizes, put_back, keep, temporary_at, call, return_at, begin_call, passing_code, template_size, StackItem, context_below, HoldsWords, IsAbove, FuncletIsAbove, IsData, On, KeepsStackBut, Setting, InBody, IsResumed, IsLinkedStack, arguments_code}

@@ -1,7 +1,7 @@
 -- What the walk gives where the host dispatches: at the first byte of a funclet that it starts,
 -- where it lands, and at its services.
 use Rattle.std.proofs.Common.{◌≡◌, ◌≢◌, ℕ, ◌+◌, ◌%◌, ◌^◌, ◌<◌, true, false, Option, Some, None, Ok, List, [], ◌∷◌, length, refl, sym, ap, subst, ◌∙◌, arith}
-use Rattle.std.specs.Prelude.{Result, slice_get, slice_index, slice_set}
+use Rattle.std.specs.Prelude.{Result, slice_get, slice_set}
 use Rattle.match_turns.specs.Words.{W64, RefusedAccess, Memory, loaded, Rdx, Rsp, Rbx, Rbp, Rsi, Rdi, R12, R13, R14, R15, Cpu, Context, kept_of, context_of, State, register, rsp, readable, DispatchRecord, filter_return, finally_return, steps, Turn, at_landing, back, Exception, LinearFunclet, BodyName, FuncletBody, funclet_body, Handler, Resumption, Item, Configuration, StackItem, Framed, IsStack, after_frame, context_below, state, parent_body, IsFunclet, Activation, Arrives, FilterBegins, Unwound, BlockBegins, LandsThere, IsUnwinding, drop_below, GivesCallers, WalkGives, caller_at, callers, caller_above, FindsReturn, Setting, IsMachineMemory, WalkContinues}
 use Rattle.virtual_unwind.specs.Undone.{word}
 use Rattle.seh_num.specs.declared.event.Event.TheVariants as events

@@ -1,6 +1,5 @@
 -- A filter's frame leads to the record of its search, which carries its exception.
 use Rattle.std.proofs.Common.{◌≡◌, ℕ, ◌+◌, ◌^◌, ◌<◌, ◌≤◌, List, ◌∷◌, Some, Ok, refl, sym, subst, ◌∙◌, arith}
-use Rattle.std.specs.Prelude.{replicate}
 use Rattle.match_turns.specs.Words.{STACK_START, STACK_END, bytes_of, Memory, number_at, Rsp, Context, context_of, State, register, rsp, Functions, DispatchRecord, RecordFits, Funclet, Field, ExceptionCode, Exception, field_of, LinearProgram, LinearFunclet, Frame, Handler, Resumption, Item, Waits, Searches, Unwinds, Configuration, field_at, field_width, IsField, MayRead, StackItem, Searching, IsStack, context_below, ImagePlan, Activation, activations_below, HasPointers, FuncletIsAbove, IsAbove, Linked, Sites, IsFilterBody}
 use Rattle.virtual_unwind.specs.Undone.{word}
 use Rattle.seh_records.specs.Record.{fetched}

@@ -1,10 +1,11 @@
 -- A funclet's first turns: its frame is made, and keeps the base of its activation.
-use Rattle.std.proofs.Common.{◌≡◌, ℕ, ◌+◌, ◌-◌, ◌*◌, ◌^◌, ◌<◌, ◌≤◌, Some, None, List, [], ◌∷◌, ◌++◌, length, refl, sym, ap, subst, ◌∙◌, arith}
-use Rattle.std.specs.Prelude.{slice_index, drop, replicate}
+use Rattle.match_turns.proofs.KeptRegisters.{kept_moved}
+use Rattle.std.proofs.Common.{◌≡◌, ℕ, ◌+◌, ◌-◌, ◌*◌, ◌^◌, ◌<◌, ◌≤◌, Some, None, List, [], ◌∷◌, ◌++◌, length, sym, ap, subst, ◌∙◌, arith}
+use Rattle.std.specs.Prelude.{slice_index, drop}
 use Rattle.std.proofs.lemmas.Bool.{le-leb}
-use Rattle.match_turns.specs.Words.{STACK_START, STACK_END, Memory, number_at, Rcx, Rdx, Rsp, Instr, Flags, State, register, distance, arrivals, FuncletBody, body_of, funclet_body, Item, Layout, sizes, enter_code, code_from, MachineView, machine, sp_of, HasCode, Enters, Activation, below_end, record_room, links_of, making, frame_code, parent_base, keep_argument, funclet_arguments, entry_code, seen_by_templates, LARGEST_FRAME, Setting, HasProgram, IsMachineMemory}
+use Rattle.match_turns.specs.Words.{kept_of, STACK_START, STACK_END, Memory, number_at, Rcx, Rdx, Rsp, Instr, Flags, State, register, distance, arrivals, FuncletBody, body_of, funclet_body, Item, Layout, sizes, enter_code, code_from, MachineView, machine, sp_of, HasCode, Enters, Activation, below_end, record_room, links_of, making, frame_code, parent_base, keep_argument, funclet_arguments, entry_code, seen_by_templates, LARGEST_FRAME, Setting, HasProgram, IsMachineMemory}
 use Rattle.match_bodies.specs.CodeSites.{arguments_code}
-use Rattle.match_turns.proofs.Lemmas.{sizes_append, code_split, Within, within_keeps_code, in_stack, activations_are_at, is_machine, index_of, sp_seen}
+use Rattle.match_turns.proofs.Lemmas.{others_of, sizes_append, code_split, Within, within_keeps_code, in_stack, activations_are_at, is_machine, index_of, sp_seen}
 use Rattle.match_bodies.specs.CodeSites as sites
 use Rattle.match_turns.proofs.FuncletPrologue.{LeadsBy, first_code, Made, HasRoom, made}
 use Rattle.match_turns.proofs.FuncletFrame.{ArrivesBelow, IsPlanned}

@@ -1,14 +1,15 @@
 -- A function returns: to the body that waits for it, or out of `main`.
+use Rattle.match_turns.proofs.KeptRegisters.{kept_moved}
 use Rattle.std.proofs.Common.{◌≡◌, ◌≢◌, ℕ, ◌+◌, ◌<◌, Some, None, List, [], ◌∷◌, length, refl, sym, ap, subst, ◌∙◌, arith, length-append}
-use Rattle.std.specs.Prelude.{get_or, slice_get, replicate}
+use Rattle.std.specs.Prelude.{get_or, slice_get}
 use Rattle.std.proofs.lemmas.List.{append-nil, length-drop}
 use Rattle.std.proofs.lemmas.Option.{slice_get-get_or}
-use Rattle.match_turns.specs.Words.{W32, signed, Rsp, Context, State, register, distance, arrivals, Slot, LinearBody, LinearFunclet, FunctionBody, FuncletBody, body_of, funclet_body, Frame, Item, Waits, Store, Configuration, Finished, Next, with_some, read, instruction_in, left_store, end_body, act, return, Layout, return_code, MachineView, machine, HasBack, with_sp, moved, Returned, context_below, Activation, activations_below, return_of, ReturnsTo, On, store_of, on_top, IsWellFormed, AllKeep, Moves, Exits, HaveRoom, held_below, turns_left, slots_end, Setting, RepresentsAt}
+use Rattle.match_turns.specs.Words.{kept_of, W32, signed, Rsp, Context, State, register, distance, arrivals, Slot, LinearBody, LinearFunclet, FunctionBody, FuncletBody, body_of, funclet_body, Frame, Item, Waits, Store, Configuration, Finished, Next, with_some, read, instruction_in, left_store, end_body, act, return, Layout, return_code, MachineView, machine, HasBack, with_sp, moved, Returned, context_below, Activation, activations_below, return_of, ReturnsTo, On, store_of, on_top, IsWellFormed, AllKeep, Moves, Exits, HaveRoom, held_below, turns_left, slots_end, Setting, RepresentsAt}
 use Rattle.x64_templates.specs.Runs.{Reaches}
 use Rattle.linear_code.specs.declared.instruction.Instruction.TheVariants as instructions
 use Rattle.linear_code.specs.declared.program.FuncletKind.TheVariants as kinds
 use Rattle.source_meaning.specs.declared.ended.Ended.TheVariants as ends
-use Rattle.match_turns.proofs.Lemmas.{reaches_then, sp_moved, keep_then, reaches_silently, reaches_keeps, stays_well_formed, IsCounted, v, slots, same_state, index_of}
+use Rattle.match_turns.proofs.Lemmas.{body_return, reaches_then, sp_moved, keep_then, reaches_silently, reaches_keeps, stays_well_formed, IsCounted, v, slots, same_state, index_of}
 use Rattle.match_stack.proofs.UnwindTargets.{left_activations}
 use Rattle.match_turns.proofs.CallResult.{IsSurrounded, answered}
 use Rattle.match_turns.proofs.CallReturn.{returns_at, resumes}

@@ -1,10 +1,10 @@
 -- From where an operation begins to where its operands are in their registers.
 use Rattle.std.proofs.Common.{◌≡◌, ℕ, ◌+◌, ◌^◌, ◌<◌, ◌≤◌, false, Bool, List, [], ◌++◌, length, Some, refl, sym, ap, subst, ◌∙◌, arith, length-append}
-use Rattle.std.specs.Prelude.{slice_get, slice_index}
-use Rattle.match_turns.specs.Words.{Memory, Rax, Rcx, Instr, kept_of, State, register, distance, arrivals, Operation, Slot, Temporary, Instruction, HasSlots, LinearBody, Configuration, is_constant, instruction_at, Layout, sizes, fetch, operands_code, finish_code, machine, InCode, IsWellFormed, AllKeep, Comes, LeadsTo, view_of, WorksAgain, IsWellMade, IsKnown, counts_of, Setting, setting_of, RepresentsAt, WorksOn, before, fetch_turns, OperandsAreFetched}
+use Rattle.std.specs.Prelude.{slice_get}
+use Rattle.match_turns.specs.Words.{Memory, Rax, Rcx, Instr, kept_of, State, distance, arrivals, Operation, Slot, Temporary, Instruction, HasSlots, LinearBody, Configuration, is_constant, instruction_at, Layout, sizes, fetch, operands_code, finish_code, machine, InCode, IsWellFormed, AllKeep, Comes, LeadsTo, view_of, WorksAgain, IsWellMade, IsKnown, counts_of, Setting, setting_of, RepresentsAt, WorksOn, before, fetch_turns, OperandsAreFetched}
 use Rattle.x64_templates.specs.Runs.{Reaches}
 use Rattle.linear_code.specs.declared.instruction.Instruction.TheVariants as instructions
-use Rattle.match_turns.proofs.Lemmas.{before_length, code_split, Begun, operands_run, reaches_silently, IsCounted, room_here, holds_here, kept_by_rest, is_here, operands_keep, code, frame, slots, v, dropped, same_state, template_here, has_slots, next_address, sp_is, Surroundings, reaches_keeps, stays_well_formed, is_read, counted_here, around_here, code_at, ready_here}
+use Rattle.match_turns.proofs.Lemmas.{before_length, code_split, Begun, operands_run, reaches_silently, IsCounted, room_here, holds_here, kept_by_rest, is_here, operands_keep, code, frame, slots, v, same_state, template_here, has_slots, next_address, sp_is, Surroundings, reaches_keeps, stays_well_formed, is_read, counted_here, around_here, code_at, ready_here}
 use Rattle.lowering_invariants.specs.Ready as ready
 use Rattle.match_turns.proofs.OperationCode.{some_finish, whole_size, finish_is_at, silent_within}
 use Rattle.match_turns.proofs.OperationInProgress.{in_body_at, ready_same}

@@ -1,6 +1,6 @@
 -- Where a body begins an instruction, and where a funclet is called, the list is above the return
 -- address.
-use Rattle.std.proofs.Common.{ℕ, ◌+◌, ◌≤◌, List, refl, sym, subst, arith}
+use Rattle.std.proofs.Common.{ℕ, ◌+◌, ◌≤◌, List, sym, subst, arith}
 use Rattle.match_turns.specs.Words.{STACK_END, Rsp, State, register, Item, Configuration, IsStack, context_below, Activation, Setting, RepresentsAt}
 use Rattle.match_turns.proofs.Lemmas.{others_of, body_return, below_here, Beneath, beneath_by, IsCounted, frame_top}
 use Rattle.match_turns.proofs.FuncletFrame.{ArrivesBelow}

@@ -1,13 +1,13 @@
 -- A service returns: its result goes to the temporary of the first argument, and the next
 -- instruction begins.
-use Rattle.std.proofs.Common.{◌≡◌, ℕ, zero, suc, ◌+◌, ◌-◌, ◌%◌, ◌^◌, ◌<◌, ◌≤◌, false, List, [], ◌∷◌, ◌++◌, length, take, drop, get_or, set, Option, Some, None, refl, sym, ap, subst, ◌∙◌, arith, inl, inr}
-use Rattle.std.specs.Prelude.{◌⊎◌, slice_get, slice_index}
+use Rattle.std.proofs.Common.{◌≡◌, ℕ, zero, suc, ◌+◌, ◌-◌, ◌%◌, ◌^◌, ◌<◌, ◌≤◌, false, List, [], ◌∷◌, ◌++◌, length, take, drop, set, Option, Some, None, refl, sym, ap, subst, ◌∙◌, arith}
+use Rattle.std.specs.Prelude.{slice_get}
 use Rattle.std.proofs.lemmas.List.{append-nil, length-set}
 use Rattle.std.proofs.lemmas.Option.{slice_get_within}
 use Rattle.match_turns.specs.Words.{Event, Memory, Rsp, Instr, Context, kept_of, State, register, distance, arrivals, Continues, turn, BuiltIn, Temporary, BodyState, with_slot, LinearBody, Configuration, Next, act, sizes, keep, call, return_at, begin_call, clear_result, MachineView, machine, AreSmall, sp_of, ReachesBody, locals_of, KeepsAbove, KeepsStack, WalkGives, KeepsShadow, AllKeep, Comes, Moves, HaveRoom, turns_left, counts_of, with_values, OwnerHasFrame, Setting, HasProgram, IsMachineMemory, RepresentsAt, arguments_code}
 use Rattle.linear_code.specs.declared.instruction.Instruction.TheVariants as instructions
 use Rattle.linear_machine.specs.Frames as linear
-use Rattle.match_turns.proofs.Lemmas.{sizes_append, call_size, index_other, call_ends, keep_flow, comes_then, silent_here, reaches_silently, program_reaches, locals_count, same_activations, IsCounted, room_here, holds_here, locals_here, Keeps, keeps_then, reaches_keeps, stays_well_formed, Ran, represents_next, kept_by_rest, caller_here, beyond_here, is_here, is_after, ends_at, ends_gives, IsPast, one_piece, past_ends, frame, slots, has_slots, silent_at, dropped, Surroundings, one_more, label_small, leaves_stored}
+use Rattle.match_turns.proofs.Lemmas.{sizes_append, call_size, call_ends, keep_flow, comes_then, silent_here, reaches_silently, program_reaches, locals_count, same_activations, IsCounted, room_here, holds_here, locals_here, Keeps, keeps_then, reaches_keeps, stays_well_formed, Ran, represents_next, kept_by_rest, caller_here, beyond_here, is_here, is_after, ends_at, ends_gives, IsPast, one_piece, past_ends, frame, slots, has_slots, silent_at, dropped, Surroundings, one_more, label_small, leaves_stored}
 use Rattle.match_bodies.proofs.BodyViews.{placed}
 use Rattle.match_turns.proofs.BuiltInRequest.{clear_size}
 use Rattle.match_turns.proofs.ReturnAddressPush.{keeps_above, sp_there as returned_sp, sp_saved}

@@ -1,8 +1,8 @@
 -- A service that has been called returns: its own call is over, and the walk gives the callers of
 -- the body again.
-use Rattle.std.proofs.Common.{◌≡◌, ℕ, ◌+◌, ◌^◌, ◌<◌, ◌≤◌, List, [], ◌∷◌, drop, Ok, Err, refl, ap, subst, ◌∙◌, arith}
-use Rattle.std.specs.Prelude.{Result, slice_index, slice_set, if◌then◌else◌}
-use Rattle.match_turns.specs.Words.{W64, RefusedAccess, address_of, service_at, in_host_page, Memory, executable, loaded, Rsp, leading, Context, kept_of, context_of, State, register, hosted, execute, step, rsp, distance, readable, filter_return, finally_return, arrivals, BuiltIn, Put, Protect, RaiseException, Configuration, state, activations_below, KeepsStack, drop_below, started, served, GivesCallers, WalkGives, KeepsShadow, caller_above, service_of, Setting, HasProgram, RepresentsAt}
+use Rattle.std.proofs.Common.{◌≡◌, ℕ, ◌+◌, ◌^◌, ◌<◌, ◌≤◌, List, [], ◌∷◌, Ok, Err, refl, ap, subst, ◌∙◌, arith}
+use Rattle.std.specs.Prelude.{Result, if◌then◌else◌}
+use Rattle.match_turns.specs.Words.{W64, RefusedAccess, address_of, service_at, in_host_page, Memory, executable, loaded, Rsp, leading, Context, context_of, State, register, hosted, execute, step, rsp, distance, readable, filter_return, finally_return, arrivals, BuiltIn, Put, Protect, RaiseException, Configuration, state, activations_below, KeepsStack, drop_below, started, served, GivesCallers, WalkGives, KeepsShadow, caller_above, service_of, Setting, HasProgram, RepresentsAt}
 use Rattle.virtual_unwind.specs.Undone.{word}
 use Rattle.x64_machine.specs.declared.outcome.Stop.TheVariants as stops
 use Rattle.match_turns.proofs.Lemmas.{finds_return, body_return, below_here, reads_other, kept_by_other_memories, none_below, one_below, host_keeps, on_stack, gives_caller, IsCounted, sp_low, frame_top, caller_here, Below}
