@@ -1,10 +1,8 @@
 -- Within an instruction the walk gives the frames that it gave where the instruction
 -- began.
-use Rattle.std.proofs.Common.{◌≡◌, ℕ, ◌+◌, ◌-◌, ◌^◌, ◌<◌, ◌≤◌, false, Some, None, Ok, List, [], ◌∷◌, length, refl, sym, ap, subst, ◌∙◌, arith}
-use Rattle.std.specs.Prelude.{nat_lt, Option}
+use Rattle.std.proofs.Common.{◌≡◌, ℕ, ◌+◌, ◌^◌, ◌<◌, ◌≤◌, false, Some, List, [], ◌∷◌, length, refl, sym, ap, subst, arith}
 use Rattle.std.specs.List.{AllByRecursion}
-use Rattle.image_runs.specs.Words.{STACK_START, Memory, Instr, Context, context_of, State, Entry, rsp, Functions, distance, word, Funclet, LinearProgram, LinearBody, Frame, body_of, Item, Waits, Configuration, StackItem, Framed, Leaf, FrameIsAt, IsStack, StackFrame, ImagePlan, InCode, Activation, BodyWaits, Linked, HasSpace, below_end, Sites, HasProgram, IsResumed, IsProgramImage, IsWithinInstruction, WalkGives, WalksGiveTheFramesWithin}
-use Rattle.virtual_unwind.specs.Tail.{tail_at}
+use Rattle.image_runs.specs.Words.{STACK_START, Memory, Context, context_of, State, rsp, Functions, Funclet, LinearProgram, LinearBody, Frame, body_of, Item, Waits, Configuration, StackItem, Framed, Leaf, FrameIsAt, IsStack, StackFrame, ImagePlan, InCode, Activation, BodyWaits, Linked, HasSpace, below_end, Sites, HasProgram, IsResumed, IsProgramImage, IsWithinInstruction, WalkGives, WalksGiveTheFramesWithin}
 use Rattle.linear_code.specs.declared.program.Region.{Region}
 use Rattle.linear_machine.specs.Regions.{holds, regions_of}
 use Rattle.match_stack.specs.ListLaws as linked

@@ -1,7 +1,7 @@
 -- In every state that represents a configuration the walk gives the live frames.
 use Rattle.std.proofs.Common.{◌≡◌, ◌⊎◌, inl, inr, ℕ, ◌+◌, ◌^◌, ◌<◌, ◌≤◌, Bool, true, false, Some, List, [], ◌∷◌, ◌++◌, refl, sym, ap, ◌∙◌, arith}
 use Rattle.std.specs.Prelude.{slice_get}
-use Rattle.image_runs.specs.Words.{Rsp, Instr, context_of, State, register, Functions, word, Funclet, Slot, Temporary, Instruction, LinearProgram, Waits, Configuration, instruction_in, instruction_at, sizes, template, IsReturn, context_below, ImagePlan, Activation, activations_below, locals_of, Sites, links_of, HasProgram, IsResumed, IsProgramImage, InBody, RepresentsAt, IsKnown, Represents, WorksOn, IsReturning, ReturnsWait, WalkGives, operands_code, finish_code, WalksGiveTheFrames}
+use Rattle.image_runs.specs.Words.{Rsp, Instr, context_of, State, register, Functions, Funclet, Slot, Temporary, Instruction, LinearProgram, Waits, Configuration, instruction_in, instruction_at, sizes, template, IsReturn, context_below, ImagePlan, Activation, activations_below, locals_of, Sites, links_of, HasProgram, IsResumed, IsProgramImage, InBody, RepresentsAt, IsKnown, Represents, WorksOn, IsReturning, ReturnsWait, WalkGives, operands_code, finish_code, WalksGiveTheFrames}
 use Rattle.linear_code.specs.declared.instruction.Instruction.TheVariants as instructions
 use Rattle.image_runs.proofs.Lemmas.{template_sizes, template_some, OnTop, leaf_frame, framed_here, framed_top, leaf_top, body_on_top, some_finish, is_some}
 use Rattle.match_stack.proofs.ListEnds.{in_stack}
