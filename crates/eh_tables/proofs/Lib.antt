@@ -1,6 +1,8 @@
 pub mod Chains
 pub mod CodesAgain
 pub mod InfosAgain
+pub mod KnownEntries
+pub mod KnownInfos
 pub mod Lookups
 pub mod Ranges
 pub mod Rows

@@ -1,6 +1,6 @@
 -- The entry whose range covers an address, by where the entries end.
 use Rattle.std.proofs.Common.{◌≡◌, ℕ, zero, suc, ◌+◌, ◌-◌, ◌*◌, ◌^◌, ◌≤◌, ◌<◌, Bool, true, false, None, Ok, Err, List, [], ◌∷◌, length, get_or, ltb, leb, refl, sym, ap, ◌∙◌, arith}
-use Rattle.std.specs.Prelude.{nat_le, nat_lt}
+use Rattle.std.specs.Prelude.{nat_le, nat_lt, is_ok, IsOk}
 use Rattle.std.specs.Result.{result_ok}
 use Rattle.std.proofs.lemmas.Bool.{and_from, and_left, and_right, lt-ltb, le-ltb, le-leb, lt-leb, ltb-true, leb-true}
 use Rattle.std.proofs.Math.Nat.{mul-le-mul_left, pow-suc}
@@ -9,21 +9,21 @@ use Rattle.eh_tables.specs.declared.refusal.TableErr.TheVariants as refusals
 
 -- ---- what an answer without a refusal says
 
-record Given {A B : Type 0} (t : Table A) (f : A → Table B) (y : B) : Type 0 where
-  value : A
-  first : t ≡ Ok value
-  then : f value ≡ Ok y
+pub record Given {A B : Type 0} (t : Table A) (f : A → Table B) (y : B) : Type 0 where
+  pub value : A
+  pub first : t ≡ Ok value
+  pub then : f value ≡ Ok y
 
-given : {A B : Type 0} (t : Table A) (f : A → Table B) (y : B) → t >>= f ≡ Ok y → Given t f y
+pub given : {A B : Type 0} (t : Table A) (f : A → Table B) (y : B) → t >>= f ≡ Ok y → Given t f y
 given (Ok x) f y h = record { value = x; first = refl; then = h }
 given (Err e) f y h = cc
 
-record Prepended {A : Type 0} (x : A) (r : Table (List A)) (ys : List A) : Type 0 where
-  rest : List A
-  is : r ≡ Ok rest
-  all : ys ≡ x ∷ rest
+pub record Prepended {A : Type 0} (x : A) (r : Table (List A)) (ys : List A) : Type 0 where
+  pub rest : List A
+  pub is : r ≡ Ok rest
+  pub all : ys ≡ x ∷ rest
 
-prepended : {A : Type 0} (x : A) (r : Table (List A)) (ys : List A) → prepend x r ≡ Ok ys
+pub prepended : {A : Type 0} (x : A) (r : Table (List A)) (ys : List A) → prepend x r ≡ Ok ys
     → Prepended x r ys
 prepended x (Ok xs) ys h = record { rest = xs; is = refl; all = cc }
 prepended x (Err e) ys h = cc
@@ -32,12 +32,12 @@ holds_then : (b : Bool) (e : TableErr) (u : Unit {0}) → unless b e ≡ Ok u �
 holds_then true e u h = refl
 holds_then false e u h = cc
 
-record Read (last : ℕ) (r : RuntimeFunction) (e : Entry) : Type 0 where
-  sorted : last ≤ r.begin
-  some : r.begin < r.end
-  range : e.range ≡ r
+pub record Read (last : ℕ) (r : RuntimeFunction) (e : Entry) : Type 0 where
+  pub sorted : last ≤ r.begin
+  pub some : r.begin < r.end
+  pub range : e.range ≡ r
 
-entry_read : (image : Image) (index last : ℕ) (r : RuntimeFunction) (e : Entry)
+pub entry_read : (image : Image) (index last : ℕ) (r : RuntimeFunction) (e : Entry)
     → entry image index last r ≡ Ok e → Read last r e
 unfolding entry
 entry_read image index last r e h =
@@ -60,16 +60,16 @@ entry_read image index last r e h =
 
 -- ---- one entry and the others
 
-record Split (image : Image) (index last : ℕ) (r : RuntimeFunction) (rs : List RuntimeFunction)
+pub record Split (image : Image) (index last : ℕ) (r : RuntimeFunction) (rs : List RuntimeFunction)
     (es : List Entry) : Type 0 where
-  head : Entry
-  rest : List Entry
-  is : entry image index last r ≡ Ok head
-  others : entries image (index + 1) r.end rs ≡ Ok rest
-  all : es ≡ head ∷ rest
-  read : Read last r head
+  pub head : Entry
+  pub rest : List Entry
+  pub is : entry image index last r ≡ Ok head
+  pub others : entries image (index + 1) r.end rs ≡ Ok rest
+  pub all : es ≡ head ∷ rest
+  pub read : Read last r head
 
-split : (image : Image) (index last : ℕ) (r : RuntimeFunction) (rs : List RuntimeFunction)
+pub split : (image : Image) (index last : ℕ) (r : RuntimeFunction) (rs : List RuntimeFunction)
     (es : List Entry) → entries image index last (r ∷ rs) ≡ Ok es → Split image index last r rs es
 split image index last r rs es h =
     let one = given (entry image index last r) (λ e. prepend e (entries image (index + 1) r.end rs))
@@ -241,6 +241,36 @@ pub ends_below : (t : Tables) → TablesAreWhole t → (j k : ℕ) → j < k →
     → (get_or t.ranges j no_range).end ≤ (get_or t.ranges k no_range).begin
 ends_below t w j k below lt = in_order t.image 0 0 t.ranges (entries_of t) j k w.whole below lt
 
+-- ---- no entry is refused
+
+all_read : (image : Image) (index last : ℕ) (rs : List RuntimeFunction) (es : List Entry) (k : ℕ)
+    → entries image index last rs ≡ Ok es → k < length rs
+    → IsOk (entry image (index + k) (end_from last rs k) (get_or rs k no_range))
+all_read image index last [] es k h lt = absurd (omega arith)
+all_read image index last (r ∷ rs) es zero h lt =
+    let s = split image index last r rs es h in
+    let e : index + 0 ≡ index = omega arith in
+    ap (λ n. is_ok (entry image n last r)) e ∙ ap is_ok s.is
+all_read image index last (r ∷ rs) es (suc k) h lt =
+    let s = split image index last r rs es h in
+    let e : index + suc k ≡ index + 1 + k = omega arith in
+    ap (λ n. is_ok (entry image n (end_from last (r ∷ rs) (suc k)) (get_or rs k no_range))) e
+    ∙ ap (λ n. is_ok (entry image (index + 1 + k) n (get_or rs k no_range)))
+    (sym (end_of_rest last r rs k))
+    ∙ all_read image (index + 1) r.end rs s.rest k s.others (omega arith)
+
+first_end : (t : Tables) (n : ℕ) → end_from 0 t.ranges n ≡ end_before t.ranges n
+first_end t zero = refl
+first_end t (suc n) = refl
+
+pub entry_is_read : (t : Tables) (k : ℕ) → TablesAreWhole t → k < length t.ranges
+    → IsOk (entry_at t k)
+entry_is_read t k w lt =
+    let e : k ≡ 0 + k = omega arith in
+    ap (λ n. is_ok (entry t.image k n (get_or t.ranges k no_range))) (sym (first_end t k))
+    ∙ ap (λ n. is_ok (entry t.image n (end_from 0 t.ranges k) (get_or t.ranges k no_range))) e
+    ∙ all_read t.image 0 0 t.ranges (entries_of t) k w.whole lt
+
 -- ---- a step halves what is left
 
 pub one_step : (steps since : ℕ) → since ≤ steps → 2 ^ (steps + 1 - since) ≡ 2 * 2 ^ (steps - since)
@@ -267,10 +297,6 @@ module _ (t : Tables) (w : TablesAreWhole t) (rva k : ℕ)
   finds_none_between lt under = gap t.image 0 0 t.ranges (entries_of t) rva k w.whole
       (record { passed = below }) lt under
 
-  first_end : (n : ℕ) → end_from 0 t.ranges n ≡ end_before t.ranges n
-  first_end zero = refl
-  first_end (suc n) = refl
-
   pub finds : k < length t.ranges → (get_or t.ranges k no_range).begin ≤ rva
       → rva < (get_or t.ranges k no_range).end
       → holding rva (entries_of t) ≡ result_ok (entry_at t k)
@@ -278,4 +304,4 @@ module _ (t : Tables) (w : TablesAreWhole t) (rva k : ℕ)
       let e : 0 + k ≡ k = omega arith in
       hit t.image 0 0 t.ranges (entries_of t) rva k w.whole (record { passed = below }) lt le under
       ∙ ap (λ n. result_ok (entry t.image n (end_from 0 t.ranges k) (get_or t.ranges k no_range))) e
-      ∙ ap (λ n. result_ok (entry t.image k n (get_or t.ranges k no_range))) (first_end k)
+      ∙ ap (λ n. result_ok (entry t.image k n (get_or t.ranges k no_range))) (first_end t k)

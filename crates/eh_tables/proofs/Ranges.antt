@@ -35,7 +35,7 @@ range_is (suc n) (suc k) xs lt =
 -- ---- one entry more is read
 
 module _ (image : Image) (index : ℕ) (rs : List RuntimeFunction) where
-  here : index < length rs → drop index rs ≡ get_or rs index no_range ∷ drop (index + 1) rs
+  pub here : index < length rs → drop index rs ≡ get_or rs index no_range ∷ drop (index + 1) rs
   here lt = let e : suc index ≡ index + 1 = omega arith in drop-cons rs index no_range lt
       ∙ ap (λ n. get_or rs index no_range ∷ drop n rs) e
 

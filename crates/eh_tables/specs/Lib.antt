@@ -1,7 +1,9 @@
 pub mod Answer
 pub mod Codes
+pub mod Found
 pub mod Handler
 pub mod Infos
+pub mod Known
 pub mod ReadAgain
 pub mod Refusals
 pub mod Scopes

@@ -1,7 +1,8 @@
 //! Entries with their unwind infos.
 
-ghost use Rattle.std.specs.Prelude.{◌≡◌, ◌≤◌, length};
+ghost use Rattle.std.specs.Prelude.{◌≡◌, ◌≤◌, true, length, IsOk};
 ghost use Rattle.arrayvec.specs.ArrayVec.{array_vec_len};
+ghost use Rattle.eh_tables.specs.Known as known;
 ghost use Rattle.eh_tables.specs.Tables as spec;
 
 use crate::codes::Codes;
@@ -67,12 +68,15 @@ impl<'a> Entry<'a> {
     }
 }
 
-/// Reads the infos that one is chained to.
+/// Reads the infos that one is chained to. Where it `is_known` that they can be read, what they say
+/// isn't checked again.
 fn read_parents<'a>(
     image: &ImageView<'a>,
     index: u64,
     first: Option<RuntimeFunction>,
+    is_known: bool,
 ) -> Result<ArrayVec<Info<'a>, MOST_PARENTS>, TableErr>
+    requires { is_known ≡ true → IsOk (spec.parents MOST_PARENTS image.now index first) }
     ensures { spec.listed result ≡ spec.parents MOST_PARENTS image.now index first }
 {
     let mut parents = ArrayVec::new();
@@ -81,22 +85,16 @@ fn read_parents<'a>(
         if parents.is_full() {
             return Err(TableErr::ChainLong { index });
         }
-        let info = read_info(image, index, range.unwind_info)?;
+        let info = read_info(image, index, range.unwind_info, is_known)?;
         parent = info.parent();
         parents.push(info);
     }
     Ok(parents)
 }
 
-/// Reads the entry of that index and range, after one that ends at `last`.
-#[tactic(auto, unfolding(crate::specs::Tables::entry))]
-pub fn read_entry<'a>(
-    image: &ImageView<'a>,
-    index: u64,
-    last: u32,
-    range: RuntimeFunction,
-) -> Result<Entry<'a>, TableErr>
-    ensures { result ≡ spec.entry image.now index last range }
+/// Checks the range of an entry, after one that ends at `last`.
+pub fn check_range(index: u64, last: u32, range: RuntimeFunction) -> Result<(), TableErr>
+    ensures { result ≡ known.range_checked index last range }
 {
     if range.end <= range.begin {
         return Err(TableErr::EmptyRange { index });
@@ -104,8 +102,25 @@ pub fn read_entry<'a>(
     if range.begin < last {
         return Err(TableErr::Unsorted { index });
     }
-    let info = read_info(image, index, range.unwind_info)?;
-    let parents = read_parents(image, index, info.parent())?;
+    Ok(())
+}
+
+/// Reads the entry of that index and range, after one that ends at `last`. Where it `is_known` that
+/// it can be read, what its infos say isn't checked again.
+#[tactic(auto, unfolding(crate::specs::Tables::entry))]
+pub fn read_entry<'a>(
+    image: &ImageView<'a>,
+    index: u64,
+    last: u32,
+    range: RuntimeFunction,
+    is_known: bool,
+) -> Result<Entry<'a>, TableErr>
+    requires { is_known ≡ true → IsOk (spec.entry image.now index last range) }
+    ensures { result ≡ spec.entry image.now index last range }
+{
+    check_range(index, last, range)?;
+    let info = read_info(image, index, range.unwind_info, is_known)?;
+    let parents = read_parents(image, index, info.parent(), is_known)?;
     Ok(Entry {
         range,
         info,

@@ -1,8 +1,9 @@
 //! Unwind infos.
 
-ghost use Rattle.std.specs.Prelude.{◌≡◌, ◌≤◌, ◌+◌, ◌*◌, ◌<◌, ◌^◌, length, take, option_map, IfOk};
+ghost use Rattle.std.specs.Prelude.{◌≡◌, ◌≤◌, ◌+◌, ◌*◌, ◌<◌, ◌^◌, true, length, take, option_map, IfOk, IsOk};
 ghost use Rattle.eh_tables.specs.declared.layout.TheConstants.{UNW_FLAG_CHAININFO};
 ghost use Rattle.eh_tables.specs.Infos as spec;
+ghost use Rattle.eh_tables.specs.Known as known;
 
 use crate::codes::{Codes, check_codes};
 use crate::handler::is_c_handler;
@@ -224,20 +225,46 @@ fn is_c(image: &ImageView<'_>, bytes: &[u8]) -> bool
     0 < flags && flags < UNW_FLAG_CHAININFO && is_c_handler(image, u32_at(bytes, slots_end(bytes)))
 }
 
-/// Reads the unwind info at an address, for the entry of an index.
-#[tactic(auto, unfolding(crate::specs::Infos::info))]
-pub fn read_info<'a>(image: &ImageView<'a>, index: u64, rva: u32) -> Result<Info<'a>, TableErr>
-    ensures { result ≡ spec.info image.now index rva }
+/// Checks the codes and the scope records of an info, unless they are known to pass.
+fn check_info(
+    image: &ImageView<'_>,
+    index: u64,
+    bytes: &[u8],
+    rows: &[u8],
+    is_known: bool,
+) -> Result<(), TableErr>
+    requires parts { spec.HasParts bytes.now }
+    requires known { is_known ≡ true
+        → IsOk (known.contents_checked image.now index bytes.now rows.now) }
+    ensures { result ≡ known.contents_checked image.now index bytes.now rows.now }
 {
-    let bytes = stored_info(image, index, rva)?;
-    let has_c_handler = is_c(image, bytes);
-    let rows = stored_scope_records(image, rva, bytes, has_c_handler)?;
+    if is_known {
+        return Ok(());
+    }
     check_codes(
         index,
         bytes[FRAME_REGISTER_AND_OFFSET] % 16 != 0,
         slots_of(bytes),
     )?;
-    check_scope_records(index, image.size(), rows)?;
+    check_scope_records(index, image.size(), rows)
+}
+
+/// Reads the unwind info at an address, for the entry of an index. Where it `is_known` that it can
+/// be read, its codes and scope records aren't checked again.
+#[tactic(auto, unfolding(crate::specs::Infos::info))]
+pub fn read_info<'a>(
+    image: &ImageView<'a>,
+    index: u64,
+    rva: u32,
+    is_known: bool,
+) -> Result<Info<'a>, TableErr>
+    requires { is_known ≡ true → IsOk (spec.info image.now index rva) }
+    ensures { result ≡ spec.info image.now index rva }
+{
+    let bytes = stored_info(image, index, rva)?;
+    let has_c_handler = is_c(image, bytes);
+    let rows = stored_scope_records(image, rva, bytes, has_c_handler)?;
+    check_info(image, index, bytes, rows, is_known)?;
     Ok(Info {
         bytes,
         rows,

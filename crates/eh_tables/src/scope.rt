@@ -1,6 +1,6 @@
 //! The scope tables of the C handler.
 
-ghost use Rattle.std.specs.Prelude.{◌≡◌, ◌≤◌, ◌+◌, ◌/◌, ◌<◌, ◌^◌, length};
+ghost use Rattle.std.specs.Prelude.{◌≡◌, ◌≤◌, ◌+◌, ◌/◌, ◌<◌, ◌^◌, length, drop};
 ghost use Rattle.eh_tables.specs.Scopes as spec;
 
 use crate::layout::SCOPE_RECORD_SIZE;
@@ -71,6 +71,19 @@ impl<'a> Scopes<'a> {
         ensures fits { length result < 2 ^ 60 }
     {
         Scopes { rows }
+    }
+
+    /// Those from a row on.
+    #[tactic(auto, using(crate::proofs::Rows::rows_from, crate::proofs::Rows::rows_over))]
+    pub fn from_row(self, row: u64) -> Scopes<'a>
+        ensures { result ≡ drop row self.entry }
+    {
+        if (self.rows.len() / SCOPE_RECORD_SIZE) as u64 <= row {
+            return Scopes { rows: &[] };
+        }
+        Scopes {
+            rows: &self.rows[SCOPE_RECORD_SIZE * row as usize..],
+        }
     }
 }
 

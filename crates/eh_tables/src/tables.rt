@@ -1,13 +1,18 @@
 //! The function table of an image.
 
-ghost use Rattle.std.specs.Prelude.{◌≡◌, ◌≤◌, ◌<◌, ◌/◌, ◌*◌, ◌^◌, length, slice_index_or, IfOk, IfErr};
+ghost use Rattle.std.specs.Prelude.{◌≡◌, ◌≤◌, ◌<◌, ◌/◌, ◌*◌, ◌^◌, length, slice_index_or, option_map, IfOk, IfErr};
+ghost use Rattle.std.specs.Result.{result_ok};
 ghost use Rattle.eh_tables.specs.Tables as spec;
 
 use crate::entry::{Entry, read_entry};
+use crate::info::{Info, read_info};
+use crate::known::check_entry;
 use crate::layout::RUNTIME_FUNCTION_SIZE;
 use crate::range::{RuntimeFunction, read_range};
 use crate::refusal::TableErr;
 use pe_image::ImageView;
+use std::alloc::{AllocError, Global};
+use std::collections::BTreeMap;
 use std::marker::Model;
 
 /// The function table of an image: the entries of its exception directory (PE format, "The .pdata
@@ -86,12 +91,48 @@ impl<'image, 'bytes> Tables<'image, 'bytes> {
         requires { index < length self.now.ranges }
         ensures { result ≡ spec.entry_at self.now index }
     {
-        let last = if index == 0 {
+        read_entry(
+            self.image,
+            index,
+            self.end_before(index),
+            self.range(index),
+            false,
+        )
+    }
+
+    /// Where the entry before an index ends.
+    fn end_before(&self, index: u64) -> u32
+        requires { index ≤ length self.now.ranges }
+        ensures { result ≡ spec.end_before self.now.ranges index }
+    {
+        if index == 0 {
             0
         } else {
             self.range(index - 1).end
-        };
-        read_entry(self.image, index, last, self.range(index))
+        }
+    }
+
+    /// The entry of an index, in a table that was read whole: what its infos say isn't checked
+    /// again.
+    #[tactic(auto, using(crate::proofs::KnownEntries::entry_known))]
+    pub fn known_entry(&self, index: u64) -> Option<Entry<'bytes>>
+        requires whole { spec.TablesAreWhole self.now }
+        requires within { index < length self.now.ranges }
+        ensures { result ≡ result_ok (spec.entry_at self.now index) }
+    {
+        let last = self.end_before(index);
+        read_entry(self.image, index, last, self.range(index), true).ok()
+    }
+
+    /// The unwind info of an entry, in a table that was read whole: what it says isn't checked
+    /// again.
+    #[tactic(auto, using(crate::proofs::KnownEntries::info_known, crate::proofs::KnownEntries::info_found))]
+    pub fn info(&self, index: u64) -> Option<Info<'bytes>>
+        requires whole { spec.TablesAreWhole self.now }
+        requires within { index < length self.now.ranges }
+        ensures { result ≡ option_map (λ e. e.info) (result_ok (spec.entry_at self.now index)) }
+    {
+        read_info(self.image, index, self.range(index).unwind_info, true).ok()
     }
 
     /// The table of an image, in which all entries are read. The first refusal by index is
@@ -105,6 +146,44 @@ impl<'image, 'bytes> Tables<'image, 'bytes> {
         let tables = Tables::of(image)?;
         tables.check()?;
         Ok(tables)
+    }
+
+    /// The same, in memory that grows with the table. Unwind infos that entries share are checked
+    /// once, so that it costs no more than the entries and the different infos, with their chains
+    /// and scope tables, and the logarithm of their number.
+    pub fn read_in(
+        alloc: Global,
+        image: &'image ImageView<'bytes>,
+    ) -> Result<Result<Tables<'image, 'bytes>, TableErr>, AllocError>
+        ensures read { IfOk result (λ r. IfOk r
+            (λ t. (spec.directory image.now ≡ Ok t.ranges) × (t.image ≡ image.now))) }
+        ensures whole { IfOk result (λ r. IfOk r (λ t. spec.TablesAreWhole t)) }
+        ensures refusal { IfOk result (λ r. IfErr r (λ e. spec.tables image.now ≡ Err e)) }
+    {
+        let tables = match Tables::of(image) {
+            Ok(tables) => tables,
+            Err(refusal) => return Ok(Err(refusal)),
+        };
+        match tables.check_in(alloc)? {
+            Ok(()) => Ok(Ok(tables)),
+            Err(refusal) => Ok(Err(refusal)),
+        }
+    }
+
+    /// Checks all entries, infos that they share once.
+    #[tactic(auto, using(crate::proofs::KnownInfos::none_known, crate::proofs::KnownEntries::goes_on, crate::proofs::KnownEntries::ends_here))]
+    fn check_in(&self, alloc: Global) -> Result<Result<(), TableErr>, AllocError>
+        ensures { IfOk result (λ r. r ≡ spec.checked self.now) }
+    {
+        let mut known = BTreeMap::new(alloc);
+        for index in 0..self.len() {
+            let last = self.end_before(index);
+            let range = self.range(index);
+            if let Err(refusal) = check_entry(&mut known, self.image, index, last, range)? {
+                return Ok(Err(refusal));
+            }
+        }
+        Ok(Ok(()))
     }
 
     /// Reads all entries.

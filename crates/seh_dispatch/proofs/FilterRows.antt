@@ -1,7 +1,24 @@
 -- The row that a filter was asked for.
 use Rattle.std.proofs.Common.{◌≡◌, ◌≢◌, ℕ, zero, suc, ◌+◌, ◌%◌, ◌^◌, Option, Some, None, List, [], ◌∷◌, drop, refl, sym, ap, ◌∙◌}
 use Rattle.std.proofs.lemmas.Bool.{ne_eqb}
-use Rattle.seh_dispatch.specs.Words.{ScopeRecord, Functions, State, DispatchRecord, row_before, jumping, if_finally, accepted}
+use Rattle.std.specs.Prelude.{option_map}
+use Rattle.eh_tables.specs.Found.{function_entry}
+use Rattle.eh_tables.specs.declared.lookup.FunctionEntry.{FunctionEntry}
+use Rattle.seh_dispatch.specs.Words.{ScopeRecord, Entry, Functions, State, DispatchRecord, rows_of, row_before, jumping, if_finally, accepted}
+
+-- the rows of the entry that a look-up has found
+pub rows_found : (f : FunctionEntry) (o : Option Entry) → Some f ≡ option_map function_entry o
+    → rows_of o ≡ f.info.scopes
+rows_found f None e = absurd cc
+rows_found f (Some x) e = let same : f ≡ function_entry x = one e in
+    sym (ap (λ (g : FunctionEntry). g.info.scopes) same)
+  where
+    one : {a b : FunctionEntry} → Some a ≡ Some b → a ≡ b
+    one e = cc
+
+pub no_rows_found : (o : Option Entry) → None ≡ option_map function_entry o → rows_of o ≡ []
+no_rows_found None e = refl
+no_rows_found (Some x) e = absurd cc
 
 zero_none : (rows : List ScopeRecord) → row_before rows 0 ≡ None
 zero_none [] = refl

@@ -36,15 +36,15 @@ later a e es n = elim (cases_lt a e.0) [
 -- ---- the model's insertion, by the first funclet
 
 module _ (a : ℕ) (b : Bool) (x : Funclet) (xs : List Funclet) where
-  below : a < x.address → inserted a b (x ∷ xs) ≡ record { address = a; is_finally = b } ∷ x ∷ xs
+  pub below : a < x.address → inserted a b (x ∷ xs) ≡ record { address = a; is_finally = b } ∷ x ∷ xs
   below lt = ap (if_below a b x xs (inserted a b xs)) (lt-ltb a x.address lt)
 
-  there : a ≡ x.address → inserted a b (x ∷ xs) ≡ x ∷ xs
+  pub there : a ≡ x.address → inserted a b (x ∷ xs) ≡ x ∷ xs
   there e =
       ap (if_below a b x xs (inserted a b xs)) (le-ltb a x.address (omega arith))
       ∙ ap (if_same a b x xs (inserted a b xs)) (eq-eqb a x.address e)
 
-  above : x.address < a → inserted a b (x ∷ xs) ≡ x ∷ inserted a b xs
+  pub above : x.address < a → inserted a b (x ∷ xs) ≡ x ∷ inserted a b xs
   above lt =
       ap (if_below a b x xs (inserted a b xs)) (le-ltb a x.address (omega arith))
       ∙ ap (if_same a b x xs (inserted a b xs)) (ne_eqb a x.address (λ e. absurd (omega arith)))

@@ -7,5 +7,6 @@ pub mod TurnOutcomes
 pub mod TableEntries
 pub mod FuncletOrder
 pub mod FuncletInsertion
+pub mod SeenInfos
 pub mod QuietTurns
 pub mod FuncletMarks

@@ -3,4 +3,5 @@ pub mod TurnEnds
 pub mod FuncletLists
 pub mod Marks
 pub mod Filters
+pub mod Seen
 pub mod Words

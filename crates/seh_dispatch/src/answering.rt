@@ -83,10 +83,10 @@ fn asked_row(tables: &Tables, dispatch: &DispatchRecord) -> Option<ScopeRecord>
         return None;
     }
     let rva = dispatch.walk.rip.wrapping_sub(tables.base());
-    match tables.lookup(rva) {
+    match tables.find(rva) {
         None => None,
         Some(entry) => {
-            let mut left = skipped(entry.info().scopes(), dispatch.row - 1);
+            let mut left = skipped(entry.info.scopes(), dispatch.row - 1);
             match left.next() {
                 None => None,
                 Some(row) => Some(row),

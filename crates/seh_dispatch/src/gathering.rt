@@ -9,7 +9,7 @@ ghost use Rattle.seh_dispatch.specs.FuncletLists.{AreAscending, funclets_of};
 use eh_tables::{EXCEPTION_EXECUTE_HANDLER, ScopeRecord, Scopes, Tables};
 use host_model::funclet::Funclet;
 use std::alloc::{AllocError, Global};
-use std::collections::BTreeMap;
+use std::collections::{BTreeMap, BTreeSet};
 
 /// Adds a funclet by its address. One of that address that is there already stays.
 #[tactic(auto, using(crate::proofs::FuncletInsertion::inserting))]
@@ -55,18 +55,25 @@ fn add_rows(gathered: &mut BTreeMap<u32, bool>, rows: Scopes) -> Result<(), Allo
     Ok(())
 }
 
-/// The kinds of an image's funclets by their addresses.
-#[tactic(auto, using(crate::proofs::TableEntries::entry_steps, crate::proofs::FuncletOrder::ascending))]
+/// The kinds of an image's funclets by their addresses. The rows of an unwind info that entries
+/// share are gone over once.
+#[tactic(auto, using(crate::proofs::TableEntries::entry_steps, crate::proofs::SeenInfos::nothing_seen, crate::proofs::FuncletOrder::ascending))]
 fn gather(alloc: Global, tables: &Tables) -> Result<BTreeMap<u32, bool>, AllocError>
     requires { TablesAreWhole tables.now }
     ensures { IfOk result (λ m. funclets_of m.entries ≡ spec.funclets (entries_of tables.now)) }
 {
     let mut gathered = BTreeMap::new(alloc);
+    let mut seen = BTreeSet::new(alloc);
     for index in 0..tables.len() {
-        let Ok(entry) = tables.entry(index) else {
+        let range = tables.range(index);
+        if seen.contains(&range.unwind_info) {
+            continue;
+        }
+        let Some(info) = tables.info(index) else {
             continue;
         };
-        add_rows(&mut gathered, entry.scopes())?;
+        add_rows(&mut gathered, info.scopes())?;
+        seen.insert(range.unwind_info)?;
     }
     Ok(gathered)
 }

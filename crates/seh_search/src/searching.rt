@@ -34,6 +34,7 @@ fn chosen(base: u64, frame: u64, context: &Context, k: u64, row: &ScopeRecord) -
 }
 
 /// What one step of the walk decides, or the state that the walk continues from.
+#[tactic(auto, using(seh_walk::proofs::FoundRows::asked_is))]
 fn decide<S: AddressSpace>(
     tables: &Tables,
     space: &S,
@@ -43,13 +44,14 @@ fn decide<S: AddressSpace>(
     ensures { result ≡ spec.decided (functions_of tables.now) at.now
         (walk.visited (functions_of tables.now) (S.memory space.now) at.now) }
 {
-    match visit(tables, space, at) {
+    let visit = visit(tables, space, at);
+    match visit.item {
         WalkItem::Over => Err(SearchResult::Nobody),
         WalkItem::Broken(cause) => Err(SearchResult::Stop(cause)),
         WalkItem::Past(next) => Ok(next),
         WalkItem::Frame(caller, next) => {
             let rva = at.context.rip.wrapping_sub(tables.base());
-            match first_searched(tables, caller.in_body, rva, at.row) {
+            match first_searched(visit.found.as_ref(), caller.in_body, rva, at.row) {
                 Some((k, row)) => { Err(chosen(tables.base(), caller.frame, &at.context, k, &row)) }
                 None => Ok(next),
             }

@@ -38,6 +38,7 @@ fn block(base: u64, frame: u64, context: &Context, k: u64, row: &ScopeRecord) ->
 }
 
 /// What one step of the walk decides, or the state that the walk continues from.
+#[tactic(auto, using(seh_walk::proofs::FoundRows::asked_is))]
 fn decide<S: AddressSpace>(
     tables: &Tables,
     space: &S,
@@ -49,7 +50,8 @@ fn decide<S: AddressSpace>(
     ensures { result ≡ spec.decided (functions_of tables.now) frame target at.now
         (walk.visited (functions_of tables.now) (S.memory space.now) at.now) }
 {
-    match visit(tables, space, at) {
+    let visit = visit(tables, space, at);
+    match visit.item {
         WalkItem::Over => Err(lost(frame)),
         WalkItem::Broken(why) => Err(UnwindResult::Stop(why)),
         WalkItem::Past(next) => Ok(next),
@@ -61,7 +63,8 @@ fn decide<S: AddressSpace>(
             let rva = at.context.rip.wrapping_sub(base);
             let is_last = caller.frame == frame;
             let end = target.wrapping_sub(base);
-            match first_unwound(tables, caller.in_body, rva, at.row, is_last, end) {
+            let found = visit.found.as_ref();
+            match first_unwound(found, caller.in_body, rva, at.row, is_last, end) {
                 Some((k, row)) => Err(block(base, caller.frame, &at.context, k, &row)),
                 None => {
                     if is_last {

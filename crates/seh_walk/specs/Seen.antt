@@ -1,6 +1,8 @@
 -- What the code finds at a state of a walk, as the definitions see it.
-use Rattle.std.specs.Prelude.{ℕ, Bool, true, false, nat_lt, Result, Ok, Err}
+use Rattle.std.specs.Prelude.{ℕ, Bool, true, false, nat_lt, Option, Some, None, Result, Ok, Err}
 use Rattle.seh_num.specs.declared.end.Reason.TheVariants as reasons
+use Rattle.eh_tables.specs.declared.lookup.FunctionEntry.{FunctionEntry}
+use Rattle.eh_tables.specs.Infos.{Info}
 use Rattle.virtual_unwind.specs.declared.frame.Caller.{Caller}
 use Rattle.virtual_unwind.specs.declared.refusal.UnwindErr.{UnwindErr}
 use Rattle.virtual_unwind.specs.Contexts.{rsp}
@@ -25,6 +27,12 @@ seen t w (items.Frame c u) =
       asked = asked_in c.in_body (entry_of t w.context.rip);
     }) u
 seen t w (items.Broken y) = Broken y
+
+-- in the body of an entry that a look-up has found, its info
+abbrev pub asked_found : Bool → Option FunctionEntry → Option Info
+asked_found true (Some e) = Some e.info
+asked_found true None = None
+asked_found false o = None
 
 -- ---- what the code answers
 

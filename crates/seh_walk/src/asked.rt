@@ -1,12 +1,10 @@
 //! The scope records that are asked at a frame.
 
-ghost use Rattle.std.specs.Prelude.{◌≡◌, ◌+◌, ◌^◌, ◌<◌, length, drop, IfSome, Option};
-ghost use Rattle.eh_tables.specs.Tables.{TablesAreWhole};
-ghost use Rattle.virtual_unwind.specs.CallerOf.{functions_of, asked_in};
-ghost use Rattle.eh_tables.specs.Tables.{holding as entry_holding, entries_of};
+ghost use Rattle.std.specs.Prelude.{◌≡◌, ◌+◌, ◌^◌, ◌<◌, length, drop, option_map, IfSome, Option};
 ghost use Rattle.seh_walk.specs.Asked as spec;
+ghost use Rattle.seh_walk.specs.Seen.{asked_found};
 
-use eh_tables::{ScopeRecord, Scopes, Tables};
+use eh_tables::{FunctionEntry, ScopeRecord, Scopes};
 
 fn holds(row: &ScopeRecord, rva: u64) -> bool
     ensures { result ≡ spec.holds row.now rva }
@@ -26,14 +24,7 @@ pub fn skipped<'a>(scopes: Scopes<'a>, from: u64) -> Scopes<'a>
     ensures value { result ≡ drop from scopes.entry }
     ensures fits { from + length result < 2 ^ 64 }
 {
-    let mut left = scopes;
-    for _i in 0..from {
-        match left.next() {
-            None => return left,
-            Some(_) => {}
-        }
-    }
-    left
+    scopes.from_row(from)
 }
 
 /// The first row with a landing that holds an address, of rows that begin with an index.
@@ -82,63 +73,61 @@ fn first_block(
     None
 }
 
-/// The first row, from an index on, that a search asks at a frame: in the body of an entry with
-/// UNW_FLAG_EHANDLER, a row that holds the address and isn't that of a `__finally` block.
+/// The first row, from an index on, that a search asks at a frame whose entry was found: in the body
+/// of an entry with UNW_FLAG_EHANDLER, a row that holds the address and isn't that of a `__finally`
+/// block.
 pub fn first_searched(
-    tables: &Tables,
+    found: Option<&FunctionEntry>,
     in_body: bool,
     rva: u64,
     from: u64,
 ) -> Option<(u64, ScopeRecord)>
-    requires { TablesAreWhole tables.now }
     ensures value { result ≡ spec.first_with_jump_target
-        (spec.searched (asked_in in_body (entry_holding rva (entries_of tables.now))) rva from) }
+        (spec.searched (asked_found in_body (option_map (λ f. f.now) found.entry)) rva from) }
     ensures small { IfSome result (λ x. x.0 + 1 < 2 ^ 64) }
 {
     if !in_body {
         return None;
     }
-    match tables.lookup(rva) {
+    match found {
         None => None,
         Some(entry) => {
-            let info = entry.info();
-            if info.flags() % 2 != 1 {
+            if entry.info.flags() % 2 != 1 {
                 return None;
             }
-            first_jump(rva, from, skipped(info.scopes(), from))
+            first_jump(rva, from, skipped(entry.info.scopes(), from))
         }
     }
 }
 
-/// The first row, from an index on, whose `__finally` block an unwinding runs at a frame: in the
-/// body of an entry with UNW_FLAG_UHANDLER, a row that holds the address and is that of a
-/// `__finally` block. In the target's frame no row is asked from the first on that holds the target
-/// or lands there.
+/// The first row, from an index on, whose `__finally` block an unwinding runs at a frame whose entry
+/// was found: in the body of an entry with UNW_FLAG_UHANDLER, a row that holds the address and is
+/// that of a `__finally` block. In the target's frame no row is asked from the first on that holds
+/// the target or lands there.
 pub fn first_unwound(
-    tables: &Tables,
+    found: Option<&FunctionEntry>,
     in_body: bool,
     rva: u64,
     from: u64,
     is_last: bool,
     target: u64,
 ) -> Option<(u64, ScopeRecord)>
-    requires { TablesAreWhole tables.now }
     ensures value { result ≡ spec.first_finally (spec.unwound
-        (asked_in in_body (entry_holding rva (entries_of tables.now))) rva from is_last target) }
+        (asked_found in_body (option_map (λ f. f.now) found.entry)) rva from is_last target) }
     ensures small { IfSome result (λ x. x.0 + 1 < 2 ^ 64) }
 {
     if !in_body {
         return None;
     }
-    match tables.lookup(rva) {
+    match found {
         None => None,
         Some(entry) => {
-            let info = entry.info();
-            let flags = info.flags();
+            let flags = entry.info.flags();
             if flags < 2 || flags > 3 {
                 return None;
             }
-            first_block(rva, from, skipped(info.scopes(), from), is_last, target)
+            let rows = skipped(entry.info.scopes(), from);
+            first_block(rva, from, rows, is_last, target)
         }
     }
 }

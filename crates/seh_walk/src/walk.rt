@@ -1,21 +1,22 @@
 //! What a walk finds.
 
-ghost use Rattle.std.specs.Prelude.{◌≡◌};
+ghost use Rattle.std.specs.Prelude.{◌≡◌, option_map};
+ghost use Rattle.eh_tables.specs.Found.{function_entry};
 ghost use Rattle.eh_tables.specs.Tables.{TablesAreWhole};
-ghost use Rattle.virtual_unwind.specs.CallerOf.{functions_of};
+ghost use Rattle.virtual_unwind.specs.CallerOf.{functions_of, entry_of};
 ghost use Rattle.seh_records.specs.Record.{fetched, fetch_answer};
 ghost use Rattle.seh_walk.specs.Walk as spec;
 ghost use Rattle.seh_walk.specs.Seen.{seen, item_of, bad_item, above_item, filter_item, finally_item};
 
 use crate::stop_cause::StopCause;
-use eh_tables::Tables;
+use eh_tables::{FunctionEntry, Tables};
 use host_layout::service::{FILTER_RETURN_AT, FINALLY_RETURN_AT};
 use seh_num::end::Reason;
 use seh_records::dispatch::Kind;
 use seh_records::{BadRecord, DispatchRecord, fetch};
 use virtual_unwind::UnwindErr;
 use virtual_unwind::frame::Caller;
-use virtual_unwind::unwinding::caller;
+use virtual_unwind::unwinding::caller_found;
 use x64_machine::context::Context;
 use x64_memory::space::AddressSpace;
 
@@ -121,10 +122,26 @@ fn framed(answer: Result<Caller, UnwindErr>) -> WalkItem
     }
 }
 
-/// What a walk finds at its state.
+/// What a walk finds, and the entry that covers RIP.
+#[derive(Drop)]
+pub struct VisitedState<'a> {
+    /// What the walk finds.
+    pub item: WalkItem,
+    /// The entry whose range covers RIP.
+    pub found: Option<FunctionEntry<'a>>,
+}
+
+/// What a walk finds at its state, where the entry that covers RIP has been looked up.
 #[tactic(auto, using(crate::proofs::SeenItems::items), unfolding(crate::specs::Walk::visited))]
-pub fn visit<S: AddressSpace>(tables: &Tables, space: &S, at: &WalkState) -> WalkItem
-    requires { TablesAreWhole tables.now }
+fn item<S: AddressSpace>(
+    tables: &Tables,
+    found: Option<&FunctionEntry>,
+    space: &S,
+    at: &WalkState,
+) -> WalkItem
+    requires whole { TablesAreWhole tables.now }
+    requires found { option_map (λ f. f.now) found
+        ≡ option_map function_entry (entry_of (functions_of tables.now) at.now.context.rip) }
     ensures { seen (functions_of tables.now) at.now result
         ≡ spec.visited (functions_of tables.now) (S.memory space.now) at.now }
 {
@@ -133,6 +150,23 @@ pub fn visit<S: AddressSpace>(tables: &Tables, space: &S, at: &WalkState) -> Wal
         0 => WalkItem::Over,
         FILTER_RETURN_AT => past_filter(rsp, fetch(space, rsp)),
         FINALLY_RETURN_AT => past_finally(rsp, fetch(space, rsp)),
-        _ => framed(caller(tables, space, &at.context)),
+        _ => framed(caller_found(tables, found, space, &at.context)),
     }
+}
+
+/// What a walk finds at its state.
+pub fn visit<'bytes, S: AddressSpace>(
+    tables: &Tables<'_, 'bytes>,
+    space: &S,
+    at: &WalkState,
+) -> VisitedState<'bytes>
+    requires { TablesAreWhole tables.now }
+    ensures item { seen (functions_of tables.now) at.now result.item
+        ≡ spec.visited (functions_of tables.now) (S.memory space.now) at.now }
+    ensures found { result.found
+        ≡ option_map function_entry (entry_of (functions_of tables.now) at.now.context.rip) }
+{
+    let found = tables.find(at.context.rip.wrapping_sub(tables.base()));
+    let item = item(tables, found.as_ref(), space, at);
+    VisitedState { item, found }
 }

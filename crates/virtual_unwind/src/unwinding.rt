@@ -1,7 +1,8 @@
 //! The caller of a frame.
 
 ghost use Rattle.std.specs.Prelude.{◌≡◌, option_map};
-ghost use Rattle.eh_tables.specs.Tables.{TablesAreWhole, entries_of};
+ghost use Rattle.eh_tables.specs.Found.{function_entry};
+ghost use Rattle.eh_tables.specs.Tables.{TablesAreWhole, entries_of, holding};
 ghost use Rattle.virtual_unwind.specs.CallerOf as spec;
 ghost use Rattle.virtual_unwind.specs.Shown.{shown, raised_caller};
 ghost use Rattle.virtual_unwind.specs.Undone as undone;
@@ -13,7 +14,7 @@ use crate::refusal::UnwindErr;
 use crate::tail::epilogue;
 use crate::undo::{Undo, all_undone, below_frame, sets_frame_by, undone, undone_by};
 use crate::word::pop;
-use eh_tables::{Entry, Info, Tables};
+use eh_tables::{Entry, FunctionEntry, Info, Tables};
 use x64_machine::context::Context;
 use x64_memory::space::ReadSpace;
 
@@ -189,6 +190,36 @@ fn of_entry<S: ReadSpace>(
     }
 }
 
+/// The same of an entry that a look-up has found. Its parents are read where it is chained.
+#[tactic(auto, using(crate::proofs::FoundEntries::finding))]
+fn of_found<S: ReadSpace>(
+    tables: &Tables,
+    space: &S,
+    found: Option<&FunctionEntry>,
+    rva: u64,
+    context: &Context,
+) -> Result<Caller, UnwindErr>
+    requires whole { TablesAreWhole tables.now }
+    requires found { option_map (λ f. f.now) found
+        ≡ option_map function_entry (holding rva (entries_of tables.now)) }
+    ensures { result ≡ shown (spec.of_entry (S.memory space.now) context.now rva
+        (holding rva (entries_of tables.now))) }
+{
+    let Some(found) = found else {
+        return leaf(space, context);
+    };
+    match found.info.parent() {
+        Some(_) => {
+            let entry = tables.lookup(rva);
+            of_entry(space, entry.as_ref(), rva, context)
+        }
+        None => {
+            let distance = rva.saturating_sub(found.range.begin as u64);
+            in_entry(space, &found.info, &[], distance, context)
+        }
+    }
+}
+
 #[tactic(auto, using(crate::proofs::Past::risen_shown))]
 fn rising(context: &Context, answer: Result<Caller, UnwindErr>) -> Result<Caller, UnwindErr>
     ensures { result ≡ raised_caller context.now answer }
@@ -217,8 +248,11 @@ pub fn caller_at<S: ReadSpace>(
         (S.memory space.now) context.now) }
 {
     let rva = context.rip.wrapping_sub(base);
-    let entry = tables.lookup(rva);
-    rising(context, of_entry(space, entry.as_ref(), rva, context))
+    let found = tables.find(rva);
+    rising(
+        context,
+        of_found(tables, space, found.as_ref(), rva, context),
+    )
 }
 
 /// The same, in an image that lies at its own base.
@@ -232,4 +266,21 @@ pub fn caller<S: ReadSpace>(
     ensures { result ≡ shown (spec.caller_of tables.now (S.memory space.now) context.now) }
 {
     caller_at(tables, tables.base(), space, context)
+}
+
+/// The same, where the entry that covers RIP has been looked up already.
+#[tactic(auto, using(crate::proofs::Past::risen_shown), unfolding(crate::specs::CallerOf::caller_of, crate::specs::CallerOf::caller_in))]
+pub fn caller_found<S: ReadSpace>(
+    tables: &Tables,
+    found: Option<&FunctionEntry>,
+    space: &S,
+    context: &Context,
+) -> Result<Caller, UnwindErr>
+    requires whole { TablesAreWhole tables.now }
+    requires found { option_map (λ f. f.now) found
+        ≡ option_map function_entry (spec.entry_of (spec.functions_of tables.now) context.now.rip) }
+    ensures { result ≡ shown (spec.caller_of tables.now (S.memory space.now) context.now) }
+{
+    let rva = context.rip.wrapping_sub(tables.base());
+    rising(context, of_found(tables, space, found, rva, context))
 }
