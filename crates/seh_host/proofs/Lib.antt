@@ -4,3 +4,4 @@ pub mod Runs
 pub mod Slots
 pub mod Loaded
 pub mod Writing
+pub mod Counts

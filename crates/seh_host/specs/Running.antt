@@ -39,6 +39,10 @@ shown_of r = shown_next r.functions r.funclets r.host
 abbrev pub image_of : code.Host → Image
 image_of h = h.tables.image
 
+-- how many events a host has counted
+abbrev pub event_count : code.Host → ℕ
+event_count h = h.events
+
 -- after so many turns, and what they show
 abbrev pub made : ℕ → Running → Running
 made n r = record r { host = after_turns r.functions r.funclets n r.host }

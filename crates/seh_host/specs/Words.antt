@@ -14,5 +14,5 @@ pub use Rattle.host_model.specs.HostStep.{end_of, Host, Live, Ended, host, over}
 pub use Rattle.host_model.specs.Loading.{has_place, pages, begins_at, covers, or_else, section_of, rights_of, section_mode, in_stack, stack_mode, mode_in, byte_in, service_named, with_address, with_slots, first_cpu}
 unfoldable pub use Rattle.host_model.specs.Loading.{start}
 pub use Rattle.seh_host.specs.Mapping.{stack, section_region, regions_of, with_raw, unbound}
-pub use Rattle.seh_host.specs.Running.{Running, made, shown_made, after_turn, shown_of, run_of, running_of, image_of}
+pub use Rattle.seh_host.specs.Running.{Running, made, shown_made, after_turn, shown_of, run_of, running_of, image_of, event_count}
 pub use Rattle.seh_host.specs.Turns.{end_within, answer_of}

@@ -25,11 +25,23 @@ pub struct Host<'image, 'bytes> {
     pub(crate) filter: FuncletFilter,
     pub(crate) funclets: Vec<Funclet>,
     pub(crate) instructions: InstructionCache,
+    pub(crate) events: u64,
     ghost whole: { TablesAreWhole tables },
     ghost few: { length funclets.items < 2 ^ 32 - 1 },
     ghost admitted: { Admits filter funclets.items },
     ghost listed: { funclets.items ≡ spec.funclets (entries_of tables) },
     ghost coherent: { end ≡ None → IsCoherent (memory_of space) instructions },
+}
+
+impl Host<'_, '_> {
+    ghost use Rattle.seh_host.specs.Running.{event_count};
+
+    /// How many events, of all kinds, the host's turns have shown; it stays at 2^64 - 1.
+    pub fn events(&self) -> u64
+        ensures { result ≡ event_count self.now }
+    {
+        self.events
+    }
 }
 
 /// Whether a turn was made.

@@ -6,6 +6,7 @@
 #![tactic(auto)]
 
 mod binding;
+pub mod counting;
 pub mod host;
 pub mod loading;
 pub mod mapping;

@@ -5,7 +5,7 @@ ghost use Rattle.host_model.specs.Loading as model;
 ghost use Rattle.host_model.specs.Loading.{first_cpu, has_place};
 ghost use Rattle.x64_memory.specs.PageMaps.{memory_of};
 ghost use Rattle.seh_host.specs.Hosts.{IsLoadRefusal};
-ghost use Rattle.seh_host.specs.Running.{running_of, first_running, image_of};
+ghost use Rattle.seh_host.specs.Running.{running_of, first_running, image_of, event_count};
 
 use crate::LoadErr;
 use crate::binding::{bind_all, first_unknown};
@@ -93,6 +93,7 @@ pub fn load<'image, 'bytes>(
 ) -> Result<Host<'image, 'bytes>, LoadErr>
     ensures image { IfOk result (λ h. image_of h ≡ image.now) }
     ensures loaded { IfOk result (λ h. running_of h ≡ first_running image.now arg) }
+    ensures fresh { IfOk result (λ h. event_count h ≡ 0) }
     ensures accepted { IfOk result (λ h. model.load_refusal image.now ≡ None) }
     ensures refused { IfErr result (λ e. IsLoadRefusal image.now e) }
 {
@@ -123,5 +124,6 @@ pub fn load<'image, 'bytes>(
         filter,
         funclets,
         instructions,
+        events: 0,
     })
 }

@@ -1,16 +1,18 @@
 //! Turns of a host, and runs.
 
-ghost use Rattle.std.specs.Prelude.{◌≡◌, ◌≤◌, ℕ, List, [], ◌∷◌, false, IfOk, IfErr, OnErr};
+ghost use Rattle.std.specs.Prelude.{◌≡◌, ◌≤◌, ◌+◌, ℕ, List, [], ◌∷◌, false, IfOk, IfErr, OnOk, OnErr, length};
 ghost use Rattle.seh_num.specs.declared.event.Event.{Event as Event'};
-ghost use Rattle.seh_io.specs.Streams.{Rose, Grew};
+ghost use Rattle.seh_io.specs.Streams.{Rose, Grew, HasCount};
 ghost use Rattle.seh_io.specs.Text.{text};
 ghost use Rattle.seh_io.specs.Writer.{TookPart, writer_of};
 ghost use Rattle.host_model.specs.HostStep as model;
-ghost use Rattle.seh_host.specs.Running.{running_of, after_turn, shown_of, run_of, made, image_of};
+ghost use Rattle.seh_host.specs.Running.{running_of, after_turn, shown_of, run_of, made, shown_made, image_of, event_count};
+ghost use Rattle.seh_host.specs.Counts.{CountedTurns};
 ghost use Rattle.seh_host.specs.Writing.{StoppedText, Written, run_text};
 ghost use Rattle.seh_host.specs.Turns.{answer_of, end_within, taken_before};
 
 use crate::RunEnd;
+use crate::counting::Counting;
 use crate::host::{Host, Turn};
 use seh_dispatch::advancing::advance;
 use seh_io::receiver::{Events, Lines};
@@ -18,17 +20,20 @@ use seh_io::sink::Sink;
 
 /// One turn of the host: an instruction, a service, or the dispatch between two funclets. The
 /// receiver takes what the turn shows, in order. A host whose run has ended stays as it is, and
-/// nothing is shown. The host keeps its image.
+/// nothing is shown. The host keeps its image, and counts what is shown.
 #[tactic(auto, using(seh_dispatch::proofs::FuncletOrder::listed_ascend))]
 pub fn turn<V: Events>(host: &mut Host<'_, '_>, to: &mut V) -> Turn
     ensures answer { result ≡ answer_of (running_of host.old).host }
     ensures host { running_of host.new ≡ after_turn (running_of host.old) }
     ensures image { image_of host.new ≡ image_of host.old }
     ensures shown { V.took to.old (shown_of (running_of host.old)) to.new }
+    ensures counted { HasCount (event_count host.old + length (shown_of (running_of host.old)))
+        (event_count host.new) }
 {
     if host.end.is_some() {
         return Turn::Ended;
     }
+    let mut counting = Counting::new(to, host.events);
     host.end = advance(
         &host.tables,
         &host.filter,
@@ -36,8 +41,9 @@ pub fn turn<V: Events>(host: &mut Host<'_, '_>, to: &mut V) -> Turn
         &mut host.instructions,
         &mut host.cpu,
         &mut host.space,
-        to,
+        &mut counting,
     );
+    host.events = counting.count;
     Turn::Made
 }
 
@@ -51,6 +57,11 @@ fn write_turns<O: Sink>(host: &mut Host<'_, '_>, turns: u64, lines: &mut Lines<'
     ensures written { Written turns lines.old.trace
         (running_of host.old) (writer_of O.taken O.faults lines.old)
         (running_of host.new) (writer_of O.taken O.faults lines.new) }
+    ensures counted { CountedTurns turns (running_of host.old) (event_count host.old)
+        (running_of host.new) (event_count host.new) }
+    ensures all_counted { lines.new.failed ≡ false → HasCount
+        (event_count host.old + length (shown_made turns (running_of host.old)))
+        (event_count host.new) }
 {
     for _i in 0..turns {
         match turn(host, lines) {
@@ -77,7 +88,7 @@ pub enum RunErr {
 /// that has ended answers the same end. After `Write` the sink has taken a part of the text from
 /// the front, of `taken` bytes (a count that stays at 2^64 - 1). No turn was made after the one
 /// whose line failed, and no byte was taken of a turn that wasn't made. The host keeps its image in
-/// both.
+/// both, and counts what its turns show, with `trace` or without.
 pub fn run<O: Sink>(
     host: &mut Host<'_, '_>,
     turns: u64,
@@ -95,6 +106,11 @@ pub fn run<O: Sink>(
         (O.taken sink.old) (running_of host.new) (O.taken sink.new)) }
     ensures cause { OnErr result (Rose (O.faults sink.old) (O.faults sink.new)) }
     ensures faults { O.faults sink.old ≤ O.faults sink.new }
+    ensures counted { CountedTurns turns (running_of host.old) (event_count host.old)
+        (running_of host.new) (event_count host.new) }
+    ensures all_counted { OnOk result (HasCount
+        (event_count host.old + length (run_of turns (running_of host.old)).events)
+        (event_count host.new)) }
 {
     let mut lines = Lines::new(sink, trace);
     write_turns(host, turns, &mut lines);

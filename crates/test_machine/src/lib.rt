@@ -9,4 +9,6 @@ mod memory;
 #[cfg(test)]
 mod numbers;
 #[cfg(test)]
+mod replays;
+#[cfg(test)]
 mod rows;

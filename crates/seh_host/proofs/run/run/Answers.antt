@@ -1,8 +1,9 @@
-use Rattle.std.proofs.Common.{◌++◌, ap, ◌∙◌, rules}
-use Rattle.seh_host.specs.Words.{lines, end_line, memory_of, running_of, run_of, end_within}
+use Rattle.std.proofs.Common.{◌++◌, ◌+◌, length, ap, subst, ◌∙◌, rules}
+use Rattle.seh_io.specs.Streams.{HasCount}
+use Rattle.seh_host.specs.Words.{lines, end_line, memory_of, running_of, run_of, end_within, event_count}
 use Rattle.seh_host.proofs.Lemmas.{ran_whole, same_grew, same_part}
 use Rattle.seh_host.proofs.Runs.{within, end_left}
-use Rattle.seh_host.proofs.Writing.{events_of, end_answered, part_of_text, stopped_text, same_stopped}
+use Rattle.seh_host.proofs.Writing.{before_ok, events_of, end_answered, part_of_text, stopped_text, same_stopped}
 use Rattle.seh_host.proofs.run.run.Goals as goal
 
 pub returns-in-Ok-clause-end : goal.returns-in-Ok-clause-end
@@ -61,3 +62,11 @@ returns-clause-stopped g c =
     (c.unwrap_or-end.ensures ∙ within c.args.turns host.end
     ∙ ap (end_within c.args.turns) (end_left host.cpu (memory_of host.space) host.end))
     c.new-lines.ensures.taken (c.in-Err.ensures.outcome).1)
+
+pub returns-in-Ok-clause-all_counted : goal.returns-in-Ok-clause-all_counted
+returns-in-Ok-clause-all_counted g c =
+    let r = running_of c.args.host.now in
+    subst (λ es. HasCount (event_count c.args.host.now + length es)
+    (event_count c.write_turns.new.host)) (events_of c.args.turns r)
+    (c.write_turns.ensures.all_counted
+    (before_ok _ _ _ c.end.ensures.wrote c.in-Ok.ensures.outcome))

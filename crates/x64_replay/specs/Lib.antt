@@ -1,0 +1,3 @@
+pub mod PageTrees
+pub mod MapSpaces
+pub mod Replays
