@@ -2,6 +2,7 @@ pub mod Sections
 pub mod BoundBytes
 pub mod CodeBytes
 pub mod Fetching
+pub mod StoredCode
 pub mod ImageBounds
 pub mod LoadedCode
 pub mod LoadedItems

@@ -1,7 +1,7 @@
 -- Among ascending sections, the last that begins at or below an address is the one whose pages may
 -- hold it.
-use Rattle.std.proofs.Common.{◌≡◌, ◌≢◌, ℕ, zero, suc, ◌+◌, ◌-◌, ◌%◌, ◌<◌, ◌≤◌, false, List, [], ◌∷◌, length, get_or, None, refl, sym, ap, ◌∙◌, arith}
-use Rattle.std.proofs.lemmas.Bool.{le-leb, le-ltb, lt-leb}
+use Rattle.std.proofs.Common.{◌≡◌, ◌≢◌, ℕ, zero, suc, ◌+◌, ◌-◌, ◌%◌, ◌<◌, ◌≤◌, Bool, true, false, List, [], ◌∷◌, length, get_or, None, Some, leb, ltb, refl, sym, ap, subst, ◌∙◌, arith}
+use Rattle.std.proofs.lemmas.Bool.{le-leb, le-ltb, lt-leb, lt-ltb, leb-true, ltb-true, and_from, and_parts}
 use Rattle.pe_image.specs.Image.{Section, AreAscending}
 use Rattle.host_model.specs.Loading.{pages, begins_at, covers, or_else, section_of}
 
@@ -66,3 +66,63 @@ pub none_begun : (rva n : ℕ) (ss : List Section) → n ≡ 0
     → ((k : ℕ) (d : Section) → n ≤ k → k < length ss → rva < (get_or ss k d).address)
     → section_of 0 rva ss ≡ None
 none_begun rva n ss none later = none_above rva ss (λ k d lt. later k d (omega arith) lt)
+
+-- ---- a section that covers an address
+
+-- of sections at or above an end: where it lies, that what is stored of it fits, and that it covers
+-- each address of its pages
+pub record IsCovering (end a : ℕ) (s : Section) (ss : List Section) : Type 0 where
+  pub above : end ≤ s.address
+  pub aligned : s.address % 4096 ≡ 0
+  pub stored : length s.raw ≤ s.size
+  pub begins : s.address ≤ a
+  pub ends : a < s.address + pages s.size
+  pub stays : (b : ℕ) → s.address ≤ b → b < s.address + pages s.size
+      → section_of 0 b ss ≡ Some s
+
+holds_at : (rva : ℕ) (s : Section) → s.address ≤ rva → rva < s.address + pages s.size
+    → covers 0 rva s ≡ true
+holds_at rva s le lt = and_from (leb (begins_at 0 s) rva) (ltb rva (begins_at 0 s + pages s.size))
+    (le-leb (begins_at 0 s) rva (omega arith))
+    (lt-ltb rva (begins_at 0 s + pages s.size) (omega arith))
+
+lies_in : (rva : ℕ) (s : Section) → covers 0 rva s ≡ true
+    → (s.address ≤ rva) × (rva < s.address + pages s.size)
+lies_in rva s e =
+    let both = and_parts (leb (begins_at 0 s) rva) (ltb rva (begins_at 0 s + pages s.size)) e in
+    let first = leb-true (begins_at 0 s) rva both.0 in
+    let second = ltb-true rva (begins_at 0 s + pages s.size) both.1 in
+    (omega arith, omega arith)
+
+pub covering : (end a : ℕ) (s : Section) (ss : List Section) → AreAscending end ss
+    → section_of 0 a ss ≡ Some s → IsCovering end a s ss
+covering end a s [] up is = absurd cc
+covering end a s (t ∷ ss) up is = go (covers 0 a t) refl is
+    (covering (t.address + t.size) a s ss up.1)
+  where
+    go : (b : Bool) → covers 0 a t ≡ b → or_else (section_of 0 a ss) t b ≡ Some s
+        → (section_of 0 a ss ≡ Some s → IsCovering (t.address + t.size) a s ss)
+        → IsCovering end a s (t ∷ ss)
+    go true e is more =
+        let same : t ≡ s = cc in
+        let at = lies_in a t e in
+        subst (λ u. IsCovering end a u (t ∷ ss)) same (record {
+          above = up.0.above;
+          aligned = up.0.aligned;
+          stored = up.0.stored;
+          begins = at.0;
+          ends = at.1;
+          stays = λ b le lt. ap (or_else (section_of 0 b ss) t) (holds_at b t le lt);
+        })
+    go false e is more =
+        let rest = more is in
+        let past = in_pages t.address t.size s.address up.0.aligned rest.aligned rest.above in
+        record {
+          above = (let first = up.0.above in let others = rest.above in omega arith);
+          aligned = rest.aligned;
+          stored = rest.stored;
+          begins = rest.begins;
+          ends = rest.ends;
+          stays = λ b le lt. ap (or_else (section_of 0 b ss) t)
+              (after b t (omega arith) (omega arith)) ∙ rest.stays b le lt;
+        }

@@ -1,6 +1,9 @@
 //! The code of an image, fetched from its file.
 
-ghost use Rattle.std.specs.Prelude.{◌≡◌, ◌≤◌, ◌<◌, ℕ, IfOk, option_map, ◌-◌, length, slice_index, slice_index_or};
+ghost use Rattle.std.specs.Prelude.{◌≡◌, ◌≤◌, ◌<◌, ℕ, true, None, IfOk, IfSome, option_map, ◌+◌, ◌-◌, ◌^◌, length, take, drop, slice_index, slice_index_or};
+ghost use Rattle.std.specs.Ordering.{nat_cmp};
+ghost use Rattle.std.specs.BTreeMap.{get};
+ghost use Rattle.flat_memory.specs.Memory.{executable};
 ghost use Rattle.pe_image.specs.Image.{Section, AreAscending};
 ghost use Rattle.host_model.specs.Loading.{pages, section_of, covers};
 ghost use Rattle.image_code.specs.Code.{code_of, executable_byte};
@@ -88,6 +91,34 @@ fn stored_byte(section: &SectionView<'_>, rva: u64) -> u8
     }
 }
 
+/// The fifteen bytes of a section from an address on, where the file stores them all.
+fn stored_bytes<'a>(section: &SectionView<'a>, rva: u64) -> Option<&'a [u8]>
+    ensures bytes { IfSome result (λ bytes. bytes.now
+        ≡ take LONGEST_INSTRUCTION (drop (rva - section.now.address) section.now.raw)) }
+    ensures stored { IfSome result (λ _.
+        rva - section.now.address + LONGEST_INSTRUCTION ≤ length section.now.raw) }
+    ensures fits { IfSome result (λ _. rva + LONGEST_INSTRUCTION < 2 ^ 64) }
+{
+    let raw = section.raw();
+    let from = rva.saturating_sub(section.address()) as usize;
+    if raw.len() < LONGEST_INSTRUCTION || raw.len() - LONGEST_INSTRUCTION < from {
+        None
+    } else {
+        Some(&raw[from..from + LONGEST_INSTRUCTION])
+    }
+}
+
+/// Whether no byte of a slot is among the fifteen from an address on.
+fn are_unbound(bound: &BTreeMap<u64, u8>, rva: u64) -> bool
+    ensures { result ≡ true
+        → (n : ℕ) → n < LONGEST_INSTRUCTION → get nat_cmp bound.now (rva + n) ≡ None }
+{
+    match bound.range(rva..).next() {
+        None => true,
+        Some((first, _)) => LONGEST_INSTRUCTION as u64 <= first.saturating_sub(rva),
+    }
+}
+
 impl<'image, 'bytes> CodeView<'image, 'bytes> {
     /// The code of an image. Refused for want of memory alone, which the slots of its imports take.
     pub fn of(
@@ -115,12 +146,31 @@ impl<'image, 'bytes> CodeView<'image, 'bytes> {
             None => Some(stored_byte(section, rva)),
         }
     }
-}
 
-impl<'image, 'bytes> CodeSpace for CodeView<'image, 'bytes> {
-    ghost memory = { λ v. code_of v };
+    /// The section that covers an address, where its bytes may be executed and no slot has one of the
+    /// fifteen from there on: what the file stores of it from there is code as it stands.
+    fn plain_section(&self, at: u64) -> Option<&SectionView<'bytes>>
+        ensures { IfSome result (λ s. (n : ℕ) → n ≤ LONGEST_INSTRUCTION
+            → at - s.now.address + n ≤ length s.now.raw → at + n < 2 ^ 64
+            → executable (code_of self.now) n at ≡ take n (drop (at - s.now.address) s.now.raw)) }
+    {
+        let Some(section) = section_at(self.image.sections(), at) else {
+            return None;
+        };
+        if section.is_executable() {
+            if are_unbound(&self.bound, at) {
+                return Some(section);
+            }
+        }
+        None
+    }
 
-    fn fetch(&self, at: u64, into: &mut [u8; LONGEST_INSTRUCTION]) -> usize {
+    /// The executable bytes from an address on, one after another, as many as there are of fifteen.
+    fn fetch_each(&self, at: u64, into: &mut [u8; LONGEST_INSTRUCTION]) -> usize
+        ensures count { result ≤ LONGEST_INSTRUCTION }
+        ensures bytes { take result into.new
+            ≡ executable (code_of self.now) LONGEST_INSTRUCTION at }
+    {
         let mut next = at;
         for n in 0..LONGEST_INSTRUCTION {
             let Some(byte) = self.byte(next) else {
@@ -130,5 +180,19 @@ impl<'image, 'bytes> CodeSpace for CodeView<'image, 'bytes> {
             next = next.wrapping_add(1);
         }
         LONGEST_INSTRUCTION
+    }
+}
+
+impl<'image, 'bytes> CodeSpace for CodeView<'image, 'bytes> {
+    ghost memory = { λ v. code_of v };
+
+    fn fetch(&self, at: u64, into: &mut [u8; LONGEST_INSTRUCTION]) -> usize {
+        if let Some(section) = self.plain_section(at) {
+            if let Some(bytes) = stored_bytes(section, at) {
+                into.copy_from_slice(bytes);
+                return LONGEST_INSTRUCTION;
+            }
+        }
+        self.fetch_each(at, into)
     }
 }

@@ -2,6 +2,7 @@
 
 ghost use Rattle.std.specs.Prelude.{◌≡◌, ◌≤◌, ◌+◌, ◌<◌, ◌^◌, [], IfOk, IfNone};
 ghost use Rattle.frame_rules.specs.Prologue.{bytes};
+ghost use Rattle.frame_rules.specs.States.{HasItems};
 ghost use Rattle.frame_rules.specs.Validated.{turned};
 ghost use Rattle.unwind_check.specs.Faults as spec;
 
@@ -50,6 +51,8 @@ fn parts_fault<S: CodeSpace>(
     requires codes { codes.now.codes.items ≡ info.now.codes }
     requires steps { codes.now.steps.items ≡ turned [] info.now.codes }
     requires prologue_low { begin + bytes prologue.now.items < 2 ^ 63 }
+    requires body_there { HasItems (S.memory space.now) middle body.now.items
+        (middle + bytes body.now.items) }
     requires body_low { middle + bytes body.now.items < 2 ^ 63 }
     ensures fault { IfOk result (λ o. o ≡ spec.fault_of_parts (S.memory space.now) probe.now begin
         middle info.now prologue.now body.now) }

@@ -2,10 +2,11 @@
 
 ghost use Rattle.std.specs.Prelude.{◌≡◌};
 ghost use Rattle.virtual_unwind.specs.Tail as spec;
+ghost use Rattle.unwind_check.specs.Steps.{is_last};
 
 use seh_num::size::LONGEST_INSTRUCTION;
 use std::marker::Model;
-use virtual_unwind::tail::is_plain;
+use virtual_unwind::tail::{Role, is_plain, role_of};
 use x64_instr::decoding::decode;
 use x64_instr::instruction::Instr;
 use x64_memory::space::CodeSpace;
@@ -40,6 +41,20 @@ impl FetchedInstr {
         ensures { result ≡ self.now.size }
     {
         self.size
+    }
+
+    /// Whether it ends an epilogue, of which it is the `first` instruction or a later one; none
+    /// where it can't be that (Microsoft x64 ABI, "Prolog and epilog"). `register` is the number of
+    /// the frame register, 0 where there is none.
+    pub fn is_last(&self, register: u8, first: bool) -> Option<bool>
+        ensures { result ≡ is_last register first self.now }
+    {
+        match role_of(register, self.plain, &self.instr) {
+            Role::Opens => { if first { Some(false) } else { None } }
+            Role::Restores => Some(false),
+            Role::Ends => Some(true),
+            Role::Other => None,
+        }
     }
 }
 

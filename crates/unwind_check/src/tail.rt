@@ -1,41 +1,66 @@
-//! The trailing part of a legal epilogue at an address, as the processor fetches it.
+//! The trailing part of a legal epilogue, by the instructions that were decoded, and past them as the
+//! processor fetches it (Microsoft x64 ABI, "Epilog code").
 
-ghost use Rattle.std.specs.Prelude.{◌≡◌, IfOk, option_map};
+ghost use Rattle.std.specs.Prelude.{◌≡◌, ◌+◌, ◌-◌, ◌<◌, ◌^◌, ◌==◌};
 ghost use Rattle.virtual_unwind.specs.Tail as spec;
+ghost use Rattle.frame_rules.specs.Prologue.{bytes};
+ghost use Rattle.frame_rules.specs.States.{HasItems};
+ghost use Rattle.unwind_check.specs.Steps.{counted};
 
-use std::alloc::{AllocError, Global};
-use virtual_unwind::tail::part;
-use x64_instr::instruction::Instr;
+use crate::fetched::{FetchedInstr, fetched_at};
 use x64_memory::space::CodeSpace;
 
-/// The instructions of the trailing part of a legal epilogue, where one begins at an address
-/// (Microsoft x64 ABI, "Epilog code"). `register` is the number of the frame register, 0 where
-/// there is none. Refused for want of memory alone.
-#[tactic(auto, unfolding(virtual_unwind::specs::Tail::tail_at))]
-pub fn tail_at<S: CodeSpace>(
-    alloc: Global,
+/// How many instructions the part has in all, where it goes on at an address past so many of them.
+fn fetched_length<S: CodeSpace>(space: &S, register: u8, at: u64, count: u64) -> Option<u64>
+    ensures { result ≡ counted count (spec.tail (0xFFFF_FFFF_FFFF_FFFF - count) (count == 0)
+        register (S.memory space.now) at) }
+{
+    let mut here = at;
+    for n in count..0xFFFF_FFFF_FFFF_FFFFu64 {
+        match fetched_at(space, here) {
+            None => return None,
+            Some(item) => match item.is_last(register, n == 0) {
+                None => return None,
+                Some(last) => {
+                    if last {
+                        return Some(n + 1);
+                    }
+                    here = here.wrapping_add(item.size());
+                }
+            },
+        }
+    }
+    None
+}
+
+/// How many instructions the trailing part of a legal epilogue has, where one begins at an address.
+/// `items` are instructions that stand from there on, and `register` is the number of the frame
+/// register, 0 where there is none.
+pub fn tail_length<S: CodeSpace>(
     space: &S,
     register: u8,
     at: u64,
-) -> Result<Option<Vec<Instr>>, AllocError>
-    ensures { IfOk result (λ o. option_map (λ v. v.items) o
-        ≡ spec.tail_at register (S.memory space.now) at) }
+    items: &[FetchedInstr],
+) -> Option<u64>
+    requires there { HasItems (S.memory space.now) at items.now (at + bytes items.now) }
+    requires low { at + bytes items.now < 2 ^ 63 }
+    ensures { result ≡ counted 0 (spec.tail_at register (S.memory space.now) at) }
 {
-    let mut instrs = Vec::new(alloc);
     let mut here = at;
-    let mut first = true;
-    for _i in 0..0xFFFF_FFFF_FFFF_FFFFu64 {
-        match part(space, register, first, here) {
-            None => return Ok(None),
-            Some((instr, len, is_last)) => {
-                instrs.push(instr)?;
-                if is_last {
-                    return Ok(Some(instrs));
+    let mut count = 0;
+    let mut rest = items;
+    while let [item, more @ ..] = rest {
+        match item.is_last(register, count == 0) {
+            None => return None,
+            Some(last) => {
+                if last {
+                    return Some(count + 1);
                 }
-                first = false;
-                here = here.wrapping_add(len as u64);
+                here += item.size();
+                count += 1;
+                rest = more;
             }
         }
     }
-    Ok(None)
+    fetched_length(space, register, here, count)
 }

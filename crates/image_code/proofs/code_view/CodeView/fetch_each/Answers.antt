@@ -3,7 +3,7 @@ use Rattle.std.proofs.lemmas.List.{append-nil, take_more_set}
 use Rattle.flat_memory.specs.Memory.{executable}
 use Rattle.image_code.specs.Code.{code_of}
 use Rattle.image_code.proofs.Fetching.{executable_more, executable_none, executable_zero}
-use Rattle.image_code.proofs.code_view.CodeViewCodeSpace.fetch.Goals as goal
+use Rattle.image_code.proofs.code_view.CodeView.fetch_each.Goals as goal
 
 pub returns-in_default-clause-bytes : goal.returns-in_default-clause-bytes
 returns-in_default-clause-bytes c =
