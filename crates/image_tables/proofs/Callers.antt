@@ -145,12 +145,12 @@ leaves_are_found' p index x e s fits regions at none h =
     (leaves_are_held_by_none p index x h.rva fits at none h.low h.high) (ap is_body leads.1)
     h.entry h.body
 
-thunk_ok : (p : LinearProgram) (service : ImportedService)
+pub thunk_ok : (p : LinearProgram) (service : ImportedService)
     → is_body (following 0 0 [] (thunk_of p service) (Body [])) ≡ true
 unfolding modrm
 thunk_ok p service = refl
 
-probe_ok : is_body (following 0 0 [] probe (Body [])) ≡ true
+pub probe_ok : is_body (following 0 0 [] probe (Body [])) ≡ true
 unfolding modrm
 probe_ok = refl
 

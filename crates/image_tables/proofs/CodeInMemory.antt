@@ -87,7 +87,7 @@ module _ (s : SiteView) (text : List ℕ) (begin : ℕ) where
       (append_assoc before bytes (routines_bytes s (at + routine_size r) rs)))
       (omega (arith, length-append before bytes))
 
-front_size : (text rdata : ℕ) → sizes (front_code text rdata) ≡ 51
+pub front_size : (text rdata : ℕ) → sizes (front_code text rdata) ≡ 51
 unfolding size modrm
 front_size text rdata = refl
 

@@ -20,10 +20,11 @@ use Rattle.pe_write.specs.Program.{image_of}
 use Rattle.host_model.specs.declared.refusal.LoadErr.{LoadErr}
 use Rattle.host_model.specs.declared.refusal.LoadErr.TheVariants as loads
 use Rattle.host_model.specs.Loading.{reason_unless, first_of, table_refusal, has_place, place_refusal, import_refusal, entry_refusal, load_refusal}
-use Rattle.image_code.proofs.ImageBounds.{bounded}
+use Rattle.image_code.proofs.ImageBounds.{IsBounded, bounded}
 use Rattle.image_runs.specs.ImageMeaning.{Realises}
 use Rattle.seh.specs.Images.{IsKeptByCode}
 use Rattle.seh.proofs.CompiledEntries.{verdict_is_yes}
+use Rattle.seh.proofs.UncoveredRoutines.{uncovered_code_is_routines}
 use Rattle.seh.proofs.Completeness.{one_image}
 
 -- ---- by linear code
@@ -44,15 +45,20 @@ placed image h = no_reason (has_place image) (loads.Place image.base)
     (second_none (table_refusal image) (place_refusal image)
     (import_refusal image ∷ entry_refusal image ∷ []) h)
 
+-- an image that is loaded is within bounds
+image_bounded : (bytes : List ℕ) (p : Program) → IsImageOf bytes p → Realises bytes p
+    → IsBounded (image_of (linked (lowered p)))
+image_bounded bytes p link real =
+    let image = image_of (linked (lowered p)) in
+    let same = one_image (reading bytes) real.image image real.is link.read in
+    let loaded = subst (λ (i : Image). load_refusal i ≡ None) same real.loads in
+    bounded bytes image link.read (placed image loaded)
+
 -- each entry of the image is kept
 kept_by_code : (bytes : List ℕ) (p : Program) → FitsProgram (lowered p) → IsImageOf bytes p
     → Realises bytes p → IsKeptByCode p
 kept_by_code bytes p fits link real =
-    let image = image_of (linked (lowered p)) in
-    let same = one_image (reading bytes) real.image image real.is link.read in
-    let loaded = subst (λ (i : Image). load_refusal i ≡ None) same real.loads in
-    verdict_is_yes (lowered p) fits (lowered_has_regions p)
-    (bounded bytes image link.read (placed image loaded))
+    verdict_is_yes (lowered p) fits (lowered_has_regions p) (image_bounded bytes p link real)
 
 -- ---- of accepted texts
 
@@ -92,6 +98,8 @@ of_checked text image whole p short checked link =
         shape = lowered_is_shaped (resolve text whole).program sound fits;
       };
       kept = kept_by_code image (resolve text whole).program fits w real;
+      outside = uncovered_code_is_routines (lowered (resolve text whole).program) fits
+          (image_bounded image (resolve text whole).program w real);
       realises = real;
       no_more = nothing_more text whole image a.read.within a.rules fits w (length text)
           (few text whole a);

@@ -11,8 +11,9 @@ use Rattle.frame_rules.specs.Rules.{IsFound}
 use Rattle.frame_rules.proofs.Callers.{leaves_are_found}
 use Rattle.host_model.specs.Loading.{load_refusal, has_place}
 use Rattle.seh.specs.Words.{resolve, IsCompiled}
+use Rattle.seh.specs.UncoveredCode.{UncoveredCodeIsRoutines}
 use Rattle.seh.specs.Images.{framed_count}
-use Rattle.seh.specs.CompiledFrames.{image_read, CompiledEntriesAreFound, CompiledLeavesAreFound}
+use Rattle.seh.specs.CompiledFrames.{image_read, CompiledEntriesAreFound, CompiledLeavesAreFound, CompiledCodeIsCovered}
 use Rattle.seh.proofs.CheckedFrames.{has_ranges, checked_callers_are_found}
 use Rattle.seh.proofs.Compiled.{placed}
 use Rattle.seh.proofs.Completeness.{one_image}
@@ -48,3 +49,9 @@ compiled_leaves_are_found text image compiled rest e s held body first in_body =
     subst (λ (es : List Entry). IsFound (caller_in (record { base = read.base; entries = es })
     s.memory (context_of s.cpu)) (left_to (registers e) (return_address e))) (sym same)
     (leaves_are_found t rest e s holds body first in_body)
+
+pub compiled_code_is_covered : CompiledCodeIsCovered
+compiled_code_is_covered text image compiled =
+    let read = image_read text image compiled in
+    let table = ap or_none compiled.table.read in
+    subst (λ (es : List Entry). UncoveredCodeIsRoutines read es) (sym table) compiled.outside

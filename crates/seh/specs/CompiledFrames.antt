@@ -18,6 +18,7 @@ use Rattle.unwind_check.specs.Laws.{IsInEntry}
 use Rattle.host_model.specs.Machine.{functions_in}
 use Rattle.image_code.specs.Code.{code_of}
 use Rattle.image_code.specs.Frames.{HasCodeOf}
+use Rattle.seh.specs.UncoveredCode.{UncoveredCodeIsRoutines}
 use Rattle.seh.specs.Images.{IsCompiled}
 
 -- the image that the bytes of a text's image are read as
@@ -49,3 +50,10 @@ CompiledLeavesAreFound =
     → is_body (following 0 0 [] rest (Body [])) ≡ true → IsEntry 0 e → InBody 0 [] rest e e s
     → IsFound (caller_in functions s.memory (context_of s.cpu))
     (left_to (registers e) (return_address e))
+
+-- and every byte of an executable section that no entry covers is in such a routine
+abbrev pub CompiledCodeIsCovered : Type 0
+CompiledCodeIsCovered =
+    (text image : List ℕ) (compiled : IsCompiled text image)
+    → UncoveredCodeIsRoutines (image_read text image compiled)
+    (functions_in (image_read text image compiled)).entries

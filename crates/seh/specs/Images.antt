@@ -18,6 +18,7 @@ use Rattle.text_bounds.specs.StepsPerTurnLaws.{steps_per_turn_in}
 use Rattle.image_runs.specs.ImageMeaning.{Realises, IsImageOf}
 use Rattle.image_runs.specs.FrameCallers.{FindsCallers}
 use Rattle.image_runs.specs.ShadowWalks.{WalksTheShadow}
+use Rattle.seh.specs.UncoveredCode.{UncoveredCodeIsRoutines}
 use Rattle.seh.specs.declared.refusal.Refusal.{Refusal}
 use Rattle.seh.specs.declared.refusal.Refusal.TheVariants as refusals
 use Rattle.match_runs.specs.Laws.{ShowsNoMore}
@@ -59,15 +60,22 @@ abbrev pub IsKeptByCode : Program → Type 0
 IsKeptByCode program =
     IsImageVerdict (image_of (linked (lowered program))) CHECK_STACK (Yes (framed_count program))
 
+-- the code of a program's image that no entry covers is routines that need none
+abbrev pub HasRoutinesOutside : Program → Type 0
+HasRoutinesOutside program =
+    UncoveredCodeIsRoutines (image_of (linked (lowered program))) (entries (lowered program))
+
 -- the image of an accepted text is the one that its program's linear code is linked to, with its
--- function table, which its code keeps; it does what the program means, and nothing more; the walk
--- finds the caller at every instruction of it, and gives the frames of its runs
+-- function table, which its code keeps, and outside which are routines that need no entry; it does
+-- what the program means, and nothing more; the walk finds the caller at every instruction of it,
+-- and gives the frames of its runs
 pub record IsCompiled (text image : List ℕ) : Type 0 where
   pub whole : List ExternalDeclaration
   pub accepted : IsAccepted text whole
   pub linked : IsImageOf image (resolve text whole).program
   pub table : HasTable (resolve text whole).program
   pub kept : IsKeptByCode (resolve text whole).program
+  pub outside : HasRoutinesOutside (resolve text whole).program
   pub realises : Realises image (resolve text whole).program
   pub no_more : ShowsNoMoreByLength text image (resolve text whole).program
   pub frames : FindsCallers (lowered (resolve text whole).program)

@@ -1,6 +1,7 @@
 pub mod Statuses
 pub mod Streams
 pub mod Refusals
+pub mod UncoveredCode
 pub mod Images
 pub mod Answers
 pub mod Checks

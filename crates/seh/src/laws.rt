@@ -3,7 +3,7 @@
 ghost use Rattle.seh.specs.Calls.{CompileIsComplete, RunIsComplete, MeaningIsComplete, ShowIsComplete, CheckIsComplete, ExecIsComplete, TextsHaveOneImage, LastLinesAgree, CompiledIsMeant, RunIsMeant};
 ghost use Rattle.seh.specs.CheckLaws.{ImagesHaveOneVerdict, DoneIsYes, CheckedCallersAreFound};
 ghost use Rattle.seh.specs.CompiledChecks.{CompiledImagesAreKept, CompiledVerdictsAreYes, CompiledIsKept};
-ghost use Rattle.seh.specs.CompiledFrames.{CompiledEntriesAreFound, CompiledLeavesAreFound};
+ghost use Rattle.seh.specs.CompiledFrames.{CompiledEntriesAreFound, CompiledLeavesAreFound, CompiledCodeIsCovered};
 ghost use Rattle.seh.specs.EntryCheckLaws.{EntryCheckIsComplete, EntriesHaveOneVerdictEach};
 ghost use Rattle.seh.specs.Completeness.{AcceptedTextsCompile, CompiledImagesRun};
 ghost use Rattle.seh.specs.Existence.{ImagesExist};
@@ -108,10 +108,13 @@ pub fn compiled_images()
 /// infos that its function table is read as, and of the instructions that its code is decoded to.
 /// At each of these, in the prologue, the body or an epilogue, the walk over the loaded image finds
 /// the caller. Where no entry covers RIP it finds the caller of each state that has RSP, the return
-/// address and the nonvolatile registers of the routine's first byte.
+/// address and the nonvolatile registers of the routine's first byte. And each byte of code that no
+/// entry covers is in a routine of which that holds: a leaf function, a thunk or `__chkstk`, whose
+/// instructions are decoded one after another from its first byte to its end, outside all entries.
 pub fn compiled_frames()
     ensures entries { CompiledEntriesAreFound }
     ensures leaves { CompiledLeavesAreFound }
+    ensures outside { CompiledCodeIsCovered }
 {}
 
 /// What `check --each` says of an image: each entry of an image has one verdict, and so the image

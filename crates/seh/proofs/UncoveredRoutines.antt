@@ -1,0 +1,345 @@
+-- Each byte of a linked program's text that no entry covers is in a leaf function, in the thunk of
+-- a service, or in `__chkstk`.
+use Rattle.std.proofs.Common.{◌≡◌, ◌⊎◌, inl, inr, ℕ, zero, suc, ◌+◌, ◌^◌, ◌<◌, ◌≤◌, Bool, true, false, List, [], ◌∷◌, ◌++◌, length, Option, Some, None, refl, sym, ap, subst, ◌∙◌, arith}
+use Rattle.std.specs.Prelude.{slice_get}
+use Rattle.std.proofs.lemmas.Bool.{cases_lt, and_from, false≢true}
+use Rattle.flat_memory.specs.Memory.{Memory}
+use Rattle.x64_instr.specs.declared.instruction.Instr.{Instr}
+use Rattle.x64_encode.specs.Chosen.{chosen, is_encodable, modrm}
+use Rattle.eh_tables.specs.Tables.{Entry, holding}
+use Rattle.virtual_unwind.specs.Tail.{FetchedInstr}
+use Rattle.frame_rules.specs.Body.{Body, following, is_body}
+use Rattle.frame_rules.specs.Plan.{spelled_by, all_encodable}
+use Rattle.frame_rules.specs.Bytes.{spell, IsExecutableAt}
+use Rattle.frame_rules.specs.States.{HasItems}
+use Rattle.frame_rules.proofs.Bytes.{items_are_at}
+use Rattle.host_layout.specs.declared.imported.ImportedService.{ImportedService}
+use Rattle.host_layout.specs.declared.imported.ImportedService.TheVariants.{RaiseException, CSpecificHandler, LocalUnwind, Protect, Put}
+use Rattle.linear_code.specs.Program.{LinearProgram}
+use Rattle.template_code.specs.Bytes.{spelled, sizes}
+use Rattle.template_code.specs.Jumps.{distance}
+use Rattle.template_code.specs.Probing.{check_stack}
+use Rattle.template_code.specs.Template.{code_from}
+use Rattle.frame_layout.specs.declared.frame.FrameLayout.{FrameLayout}
+use Rattle.pe_write.specs.ImportTables.{slot_of}
+use Rattle.x64_emit.specs.declared.entry.TheConstants.{THUNK_SIZE}
+use Rattle.x64_emit.specs.Near.{near_end}
+use Rattle.x64_emit.proofs.Nearby.{near_signed}
+use Rattle.image_link.specs.Fits.{FitsProgram}
+use Rattle.image_link.specs.Near.{IsSiteNear}
+use Rattle.image_link.specs.Routines.{RoutineView, routines}
+use Rattle.image_link.specs.Tables.{info_bytes}
+use Rattle.image_link.specs.Text.{SiteView, routine_size, frame_code, argument_code, service_thunk, thunk_at, check_stack_at, front_code, first_routine_at, routine_code, routines_bytes}
+use Rattle.image_link.specs.Linked.{text_begin, first, linked, total}
+use Rattle.image_link.proofs.Bounds.{text_length}
+use Rattle.image_link.proofs.Entries.{routine_small}
+use Rattle.image_link.proofs.Images.{site_near, has_places}
+use Rattle.image_link.proofs.Nearness.{routines_near}
+use Rattle.pe_image.specs.Image.{Image, Section, is_executable}
+use Rattle.pe_write.specs.Program.{image_of}
+use Rattle.host_model.specs.Loading.{mapped}
+use Rattle.image_code.proofs.ImageBounds.{IsBounded}
+use Rattle.image_code.proofs.LoadedItems.{items_there}
+use Rattle.image_tables.specs.CodeInMemory.{image_base, HasText, links}
+use Rattle.image_tables.specs.Entries.{entries, entry_of}
+use Rattle.image_tables.specs.Functions.{leaf, thunk_of, probe, rest_of}
+use Rattle.image_tables.specs.RoutinePlaces.{Placed, placed, placed_from, body_begin, end_of, site_of, infos_begin}
+use Rattle.image_tables.proofs.Callers.{thunk_ok, probe_ok}
+use Rattle.image_tables.proofs.CodeInMemory.{executable_split, code_length, front_size, routine_is_at, there}
+use Rattle.template_code.proofs.Sizes.{sizes_spelled}
+use Rattle.image_tables.proofs.FrameRules.{plan_near, rest_fine}
+use Rattle.image_tables.proofs.Handlers.{thunk_bytes}
+use Rattle.image_tables.proofs.ImageText.{images_have_text}
+use Rattle.image_tables.proofs.Layouts.{size_of}
+use Rattle.image_tables.proofs.Lookups.{entries_are_held, leaves_are_held_by_none, thunks_are_held_by_none, some_same, none_some}
+use Rattle.seh.specs.UncoveredCode.{IsInRoutine, UncoveredCodeIsRoutines}
+
+-- ---- the routine around an address
+
+pub record IsAround (s : SiteView) (info at : ℕ) (rs : List RoutineView) (rva : ℕ) : Type 0 where
+  pub index : ℕ
+  pub routine : Placed
+  pub is : slice_get (placed_from s info at rs) index ≡ Some routine
+  pub low : routine.begin ≤ rva
+  pub high : rva < end_of routine
+
+around : (s : SiteView) (info at : ℕ) (rs : List RoutineView) (rva : ℕ) → at ≤ rva
+    → rva < at + total rs → IsAround s info at rs rva
+around s info at [] rva le lt = absurd (omega arith)
+around s info at (r ∷ rs) rva le lt = elim (cases_lt rva (at + routine_size r)) [
+  | inl here ↦ record {
+      index = 0;
+      routine = record { routine = r; begin = at; info = info };
+      is = refl;
+      low = le;
+      high = here;
+    }
+  | inr past ↦
+      let more = around s (info + length (info_bytes s at r)) (at + routine_size r) rs rva past
+      (omega arith) in
+      record {
+        index = suc more.index;
+        routine = more.routine;
+        is = more.is;
+        low = more.low;
+        high = more.high;
+      }
+]
+
+-- ---- instructions in memory
+
+stack_encodable : all_encodable check_stack ≡ true
+stack_encodable = refl
+
+module _ (p : LinearProgram) (fits : FitsProgram p) (m : Memory) (text : HasText m p) where
+  abbrev s : SiteView
+  s = site_of p
+
+  near : IsSiteNear s
+  near = site_near p.globals (routines p) (length p.functions) p.main fits.globals
+      (routines_near p fits) (has_places p fits)
+
+  -- a leaf function's, and that they don't write RSP
+  leaf_there : (index : ℕ) (x : Placed) → slice_get (placed p) index ≡ Some x
+      → x.routine.frame ≡ None
+      → HasItems m (image_base + x.begin) (leaf p x) (image_base + end_of x)
+      × (is_body (following 0 0 [] (leaf p x) (Body [])) ≡ true)
+  leaf_there index x at none =
+      let h = there p index x fits at in
+      let room = h.room in
+      let small = routine_small x.routine h.near in
+      let fine = rest_fine p index x 0 (distance 0 0)
+      (plan_near (record { kept = 0; temporaries = 0; locals = 0; size = 0 }) 0 0 (omega arith)
+      (omega arith) (omega arith)) (ap size_of none) fits at h in
+      let a = argument_code x.routine.layout x.routine.entry in
+      let b = code_from (links p x) x.routine.layout (body_begin x) x.routine.body.code in
+      let parts : routine_code s x.begin x.routine ≡ rest_of p x =
+      ap (λ (o : Option FrameLayout). (frame_code x.begin (check_stack_at s.text) o ++ a) ++ b)
+      none in
+      let code = rest_of p x in
+      let begin = image_base + x.begin in
+      let long : length (spelled code) ≡ routine_size x.routine =
+      ap (λ (is : List Instr). length (spelled is)) (sym parts)
+      ∙ code_length s x.begin x.routine h.near in
+      let has = items_are_at m begin code fine.encodable (omega arith)
+      (subst (λ (is : List Instr). IsExecutableAt m begin (spelled is)) parts
+      (routine_is_at p m x text h)) in
+      let end : begin + length (spelled code) ≡ image_base + end_of x = omega arith in
+      let leads = fine.leads [] in (
+        subst (λ (n : ℕ). HasItems m begin (leaf p x) n) end has,
+        ap is_body leads.1,
+      )
+
+  -- the front: thunks of six bytes each, then `__chkstk` of twenty-one
+  thunk_near : (v : ImportedService) → thunk_at s.text v + THUNK_SIZE < 2 ^ 31
+      → s.rdata + slot_of v < near_end
+      → is_encodable (service_thunk s.text s.rdata v) ≡ true
+  thunk_near v next to = near_signed (thunk_at s.text v + THUNK_SIZE) (s.rdata + slot_of v) next to
+
+  thunk_encodable : (v : ImportedService) → is_encodable (service_thunk s.text s.rdata v) ≡ true
+  thunk_encodable RaiseException =
+      let n = near.text in let r = near.rdata in
+      thunk_near RaiseException (omega arith) (omega arith)
+  thunk_encodable CSpecificHandler =
+      let n = near.text in let r = near.rdata in
+      thunk_near CSpecificHandler (omega arith) (omega arith)
+  thunk_encodable LocalUnwind =
+      let n = near.text in let r = near.rdata in
+      thunk_near LocalUnwind (omega arith) (omega arith)
+  thunk_encodable Protect =
+      let n = near.text in let r = near.rdata in
+      thunk_near Protect (omega arith) (omega arith)
+  thunk_encodable Put =
+      let n = near.text in let r = near.rdata in thunk_near Put (omega arith) (omega arith)
+
+  front_encodable : all_encodable (front_code s.text s.rdata) ≡ true
+  front_encodable =
+      and_from _ _ (thunk_encodable RaiseException)
+      (and_from _ _ (thunk_encodable CSpecificHandler)
+      (and_from _ _ (thunk_encodable LocalUnwind)
+      (and_from _ _ (thunk_encodable Protect)
+      (and_from _ _ (thunk_encodable Put) stack_encodable))))
+
+  front_there : HasItems m (image_base + s.text) (spelled_by spell (front_code s.text s.rdata))
+      (image_base + s.text + 51)
+  front_there =
+      let begin = image_base + text_begin p.globals in
+      let is = front_code s.text s.rdata in
+      let low = near.text in
+      let long : length (spelled is) ≡ 51 = sym (sizes_spelled is) ∙ front_size s.text s.rdata in
+      let own = executable_split m begin (spelled is)
+      (routines_bytes s (first_routine_at s.text) (routines p)) text in
+      let end : begin + length (spelled is) ≡ image_base + s.text + 51 = omega arith in
+      subst (λ (n : ℕ). HasItems m begin (spelled_by spell is) n) end
+      (items_are_at m begin is front_encodable (omega arith) own.0)
+
+  -- the first of them, and what comes after it
+  one : (at : ℕ) (v : ImportedService) (xs : List FetchedInstr) (to : ℕ)
+      → HasItems m at (spell (service_thunk s.text s.rdata v) ∷ xs) to
+      → HasItems m at (thunk_of p v) (at + 6) × HasItems m (at + 6) xs to
+  one at v xs to h =
+      let n : (spell (service_thunk s.text s.rdata v)).size ≡ 6 = ap length (thunk_bytes _) in
+      let end : at + (spell (service_thunk s.text s.rdata v)).size ≡ at + 6 = omega arith in
+      ((h.0, h.1, end), subst (λ (k : ℕ). HasItems m k xs to) end h.2)
+
+  -- ---- around an address
+
+  record IsPiece (rva : ℕ) : Type 0 where
+    begin : ℕ
+    end : ℕ
+    rest : List FetchedInstr
+    low : begin ≤ rva
+    high : rva < end
+    small : end < 2 ^ 32
+    alone : (at : ℕ) → begin ≤ at → at < end → holding at (entries p) ≡ None
+    there : HasItems m (image_base + begin) rest (image_base + end)
+    right : is_body (following 0 0 [] rest (Body [])) ≡ true
+
+  in_front : (rva begin end : ℕ) (rest : List FetchedInstr) → begin ≤ rva → rva < end
+      → end ≤ first p.globals → HasItems m (image_base + begin) rest (image_base + end)
+      → is_body (following 0 0 [] rest (Body [])) ≡ true → IsPiece rva
+  in_front rva begin end rest low high inside there right =
+      let text' = near.text in
+      record {
+        begin = begin;
+        end = end;
+        rest = rest;
+        low = low;
+        high = high;
+        small = omega arith;
+        alone = λ at le lt. thunks_are_held_by_none p at fits (omega arith);
+        there = there;
+        right = right;
+      }
+
+  -- the same instructions at an address in other words
+  moved : (at to : ℕ) (xs : List FetchedInstr) → at ≡ to → HasItems m at xs (at + 6)
+      → HasItems m to xs (to + 6)
+  moved at to xs e h = subst (λ (k : ℕ). HasItems m k xs (k + 6)) e h
+
+  thunk_piece : (rva n : ℕ) (v : ImportedService) → s.text + n ≤ rva → rva < s.text + n + 6
+      → n ≤ 24
+      → HasItems m (image_base + s.text + n) (thunk_of p v) (image_base + s.text + n + 6)
+      → IsPiece rva
+  thunk_piece rva n v low high few there =
+      let begin : image_base + s.text + n ≡ image_base + (s.text + n) = omega arith in
+      let end : image_base + s.text + n + 6 ≡ image_base + (s.text + n + 6) = omega arith in
+      in_front rva (s.text + n) (s.text + n + 6) (thunk_of p v) low high (omega arith)
+      (subst (λ (k : ℕ). HasItems m k (thunk_of p v) (image_base + (s.text + n + 6))) begin
+      (subst (λ (k : ℕ). HasItems m (image_base + s.text + n) (thunk_of p v) k) end there))
+      (thunk_ok p v)
+
+  front_piece : (rva : ℕ) → s.text ≤ rva → rva < first p.globals → IsPiece rva
+  front_piece rva low high =
+      let begin = image_base + s.text in
+      let z : begin ≡ begin + 0 = omega arith in
+      let a = one begin RaiseException _ _ front_there in
+      let b = one (begin + 6) CSpecificHandler _ _ a.1 in
+      let c = one (begin + 6 + 6) LocalUnwind _ _ b.1 in
+      let d = one (begin + 6 + 6 + 6) Protect _ _ c.1 in
+      let e = one (begin + 6 + 6 + 6 + 6) Put _ _ d.1 in
+      elim (cases_lt rva (s.text + 6)) [
+        | inl before ↦ thunk_piece rva 0 RaiseException (omega arith) (omega arith) (omega arith)
+            (moved begin (begin + 0) (thunk_of p RaiseException) (omega arith) a.0)
+        | inr past ↦ elim (cases_lt rva (s.text + 12)) [
+          | inl before ↦ thunk_piece rva 6 CSpecificHandler (omega arith) (omega arith)
+              (omega arith) (moved (begin + 6) (begin + 6) (thunk_of p CSpecificHandler) refl b.0)
+          | inr past ↦ elim (cases_lt rva (s.text + 18)) [
+            | inl before ↦ thunk_piece rva 12 LocalUnwind (omega arith) (omega arith) (omega arith)
+                (moved (begin + 6 + 6) (begin + 12) (thunk_of p LocalUnwind) (omega arith) c.0)
+            | inr past ↦ elim (cases_lt rva (s.text + 24)) [
+              | inl before ↦ thunk_piece rva 18 Protect (omega arith) (omega arith) (omega arith)
+                  (moved (begin + 6 + 6 + 6) (begin + 18) (thunk_of p Protect) (omega arith) d.0)
+              | inr past ↦ elim (cases_lt rva (s.text + 30)) [
+                | inl before ↦ thunk_piece rva 24 Put (omega arith) (omega arith) (omega arith)
+                    (moved (begin + 6 + 6 + 6 + 6) (begin + 24) (thunk_of p Put) (omega arith)
+                    e.0)
+                | inr past ↦
+                    let at : begin + 6 + 6 + 6 + 6 + 6 ≡ image_base + (s.text + 30) =
+                    omega arith in
+                    let to : begin + 51 ≡ image_base + (s.text + 51) = omega arith in
+                    in_front rva (s.text + 30) (s.text + 51) probe past high (omega arith)
+                    (subst (λ (k : ℕ). HasItems m k probe (image_base + (s.text + 51))) at
+                    (subst (λ (k : ℕ). HasItems m (begin + 6 + 6 + 6 + 6 + 6) probe k) to e.1))
+                    probe_ok
+              ]
+            ]
+          ]
+        ]
+      ]
+
+  leaf_piece : (index : ℕ) (x : Placed) (rva : ℕ) → slice_get (placed p) index ≡ Some x
+      → x.routine.frame ≡ None → x.begin ≤ rva → rva < end_of x → IsPiece rva
+  leaf_piece index x rva is none low high =
+      let h = there p index x fits is in
+      let room = h.room in
+      let size = routine_small x.routine h.near in
+      let own = leaf_there index x is none in
+      record {
+        begin = x.begin;
+        end = end_of x;
+        rest = leaf p x;
+        low = low;
+        high = high;
+        small = omega arith;
+        alone = λ at le lt. leaves_are_held_by_none p index x at fits is none le lt;
+        there = own.0;
+        right = own.1;
+      }
+
+  routine_piece : (index : ℕ) (x : Placed) (rva : ℕ) (o : Option FrameLayout)
+      → x.routine.frame ≡ o → slice_get (placed p) index ≡ Some x → x.begin ≤ rva
+      → rva < end_of x → holding rva (entries p) ≡ None → IsPiece rva
+  routine_piece index x rva None e is low high none = leaf_piece index x rva is e low high
+  routine_piece index x rva (Some f) e is low high none =
+      absurd (none_some (sym none ∙ entries_are_held p index x f rva fits is e low high))
+
+  piece : (rva : ℕ) → s.text ≤ rva → rva < first p.globals + total (routines p)
+      → holding rva (entries p) ≡ None → IsPiece rva
+  piece rva low high none = elim (cases_lt rva (first p.globals)) [
+    | inl before ↦ front_piece rva low before
+    | inr past ↦
+        let x = around s (infos_begin p) (first p.globals) (routines p) rva past high in
+        routine_piece x.index x.routine rva x.routine.routine.frame refl x.is x.low x.high none
+  ]
+
+-- ---- in an image
+
+module _ (p : LinearProgram) (fits : FitsProgram p) (b : IsBounded (image_of (linked p))) where
+  abbrev image : Image
+  image = image_of (linked p)
+
+  in_text : (rva : ℕ) → text_begin p.globals ≤ rva
+      → rva < text_begin p.globals + length (linked p).text → holding rva (entries p) ≡ None
+      → IsInRoutine image (entries p) rva
+  in_text rva low high none =
+      let long = text_length (site_of p) (routines p) (routines_near p fits) in
+      let own = piece p fits (mapped image) (images_have_text p fits) rva low (omega arith) none in
+      let few = own.small in
+      record {
+        begin = own.begin;
+        end = own.end;
+        rest = own.rest;
+        low = own.low;
+        high = own.high;
+        alone = own.alone;
+        there = items_there image b own.begin own.rest own.end (omega arith) own.there;
+        right = own.right;
+      }
+
+  -- the text is the one section that may be executed
+  pub uncovered_code_is_routines : UncoveredCodeIsRoutines image (entries p)
+  uncovered_code_is_routines zero section rva is runs low high none =
+      absurd (false≢true (ap is_executable (some_same is) ∙ runs))
+  uncovered_code_is_routines (suc zero) section rva is runs low high none =
+      let at = ap (λ (q : Section). q.address) (some_same is) in
+      let size = ap (λ (q : Section). q.size) (some_same is) in
+      in_text rva (omega arith) (omega arith) none
+  uncovered_code_is_routines (suc (suc zero)) section rva is runs low high none =
+      absurd (false≢true (ap is_executable (some_same is) ∙ runs))
+  uncovered_code_is_routines (suc (suc (suc zero))) section rva is runs low high none =
+      absurd (false≢true (ap is_executable (some_same is) ∙ runs))
+  uncovered_code_is_routines (suc (suc (suc (suc zero)))) section rva is runs low high none =
+      absurd (false≢true (ap is_executable (some_same is) ∙ runs))
+  uncovered_code_is_routines (suc (suc (suc (suc (suc n))))) section rva is runs low high none =
+      absurd (none_some is)
