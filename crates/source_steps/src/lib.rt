@@ -10,6 +10,7 @@
 
 pub mod activations;
 pub mod calls;
+pub mod directly;
 pub mod giving;
 pub mod machine;
 pub mod places;
