@@ -6,3 +6,4 @@ pub mod Operating
 pub mod Deep
 pub mod Unshown
 pub mod Leading
+pub mod AtOnce

@@ -47,7 +47,10 @@ impl Activations {
         ensures { elim result [ Some locals ↦ locals.now.items | None ↦ [] ]
             ≡ frame_in (frames_of self.now) activation }
     {
-        self.frames.get(activation)
+        match self.frames.get(activation) {
+            None => None,
+            Some(locals) => Some(locals),
+        }
     }
 
     /// A local's value; 0 where there is none.

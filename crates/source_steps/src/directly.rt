@@ -1,6 +1,6 @@
 //! Tasks that are done at once, with no frame that waits.
 
-ghost use Rattle.std.specs.Prelude.{◌≡◌, List, MatchOption};
+ghost use Rattle.std.specs.Prelude.{◌≡◌, List, option_map};
 ghost use Rattle.c_checked.specs.Expression as tree;
 ghost use Rattle.c_checked.specs.Statement as trees;
 ghost use Rattle.c_checked.specs.Whole as whole;
@@ -8,19 +8,21 @@ ghost use Rattle.c_operations.specs.Performed.{performed};
 ghost use Rattle.c_operations.specs.declared.operation.Operation.TheVariants.{Store};
 ghost use Rattle.seh_num.specs.declared.event.Event.{Event as Event'};
 ghost use Rattle.source_meaning.specs.Source.{data_end as model_data_end};
+ghost use Rattle.source_meaning.specs.Expressions as model;
 ghost use Rattle.source_meaning.specs.Tasks as tasks;
 ghost use Rattle.source_machine.specs.Frames as frames;
 ghost use Rattle.source_operations.specs.Reserved.{reserved_below};
 ghost use Rattle.source_plans.specs.Views as views;
+ghost use Rattle.source_plans.specs.declared.frame.Completion.TheVariants as completions;
 ghost use Rattle.source_plans.specs.Views.{place_of};
 ghost use Rattle.source_values.specs.Direct as spec;
 ghost use Rattle.source_values.specs.Surrounding.{around, surroundings_of};
 ghost use Rattle.source_steps.specs.Machines.{state_of};
-ghost use Rattle.source_steps.specs.Directly.{Evaluated, DoneAtOnce, Hastened, WrittenTo};
+ghost use Rattle.source_steps.specs.Directly.{Evaluated, DoneAtOnce, Hastened, WrittenTo, Made};
 
 use crate::machine::Machine;
 use c_checked::checked::Checked;
-use c_checked::expression::{Expr, Lvalue, Node};
+use c_checked::expression::{Conversion, Expr, Lvalue, Node};
 use c_checked::statement::Stmt;
 use c_operations::operation::Operation;
 use seh_num::width::Width;
@@ -29,9 +31,29 @@ use source_plans::frame::{Action, Completion, Next, Phase};
 use source_plans::place::Place;
 use source_plans::task::Task;
 use source_plans::values::converted;
-use source_values::changes::change;
+use source_values::changes::{Change, pending_change};
 use source_values::surroundings::Surroundings;
 use source_values::values::value;
+
+/// What a statement comes to whose expression has a value.
+fn normally(value: Option<u64>) -> Option<Completion>
+    ensures { result ≡ option_map (λ v. completions.Normal) value }
+{
+    match value {
+        None => None,
+        Some(_) => Some(Completion::Normal),
+    }
+}
+
+/// What an expression comes to that has a value.
+fn valued(value: Option<u64>) -> Option<Completion>
+    ensures { result ≡ option_map completions.Value value }
+{
+    match value {
+        None => None,
+        Some(value) => Some(Completion::Value(value)),
+    }
+}
 
 impl<'p> Machine<'p> {
     /// What an expression is evaluated in at a place.
@@ -61,9 +83,14 @@ impl<'p> Machine<'p> {
         ensures { Evaluated (whole.program _program.now) self.old left
             (tree.expression expr.now) (place_of place) self.new result }
     {
-        let (value, left) = value(&self.surroundings(data_end, place), expr, left)?;
-        self.steps_left = left;
-        Some(value)
+        let around = self.surroundings(data_end, place);
+        match value(&around, expr, left) {
+            None => None,
+            Some((found, rest)) => {
+                self.steps_left = rest;
+                Some(found)
+            }
+        }
     }
 
     /// A number is stored. False, and nothing changed, where that isn't done without a fault.
@@ -105,6 +132,25 @@ impl<'p> Machine<'p> {
         }
     }
 
+    /// A change is made. None, and nothing changed, where that isn't done without a fault.
+    fn make_change(
+        &mut self,
+        data_end: u64,
+        change: Change<'p>,
+        conversion: Conversion,
+        place: Place,
+    ) -> Option<u64>
+        ensures { Made self.old (λ st. spec.written (reserved_below data_end) st (place_of place)
+            (tree.lvalue change.target.now) change.address change.written) self.new change.left
+            (model.converted conversion change.value) result }
+    {
+        if !self.write(data_end, change.target, change.address, change.written, place) {
+            return None;
+        }
+        self.steps_left = change.left;
+        Some(converted(conversion, change.value))
+    }
+
     /// The value of an expression that changes one place at its end, with so many steps left before
     /// it.
     fn change_place(
@@ -122,12 +168,11 @@ impl<'p> Machine<'p> {
         if left == 0 {
             return None;
         }
-        let change = change(&self.surroundings(data_end, place), &expr.node, left - 1)?;
-        if !self.write(data_end, change.target, change.address, change.written, place) {
-            return None;
+        let around = self.surroundings(data_end, place);
+        match pending_change(&around, &expr.node, left - 1) {
+            None => None,
+            Some(change) => self.make_change(data_end, change, expr.conversion, place),
         }
-        self.steps_left = change.left;
-        Some(converted(expr.conversion, change.value))
     }
 
     /// An expression's value, with so many steps left before it. None, and nothing changed, where
@@ -152,8 +197,31 @@ impl<'p> Machine<'p> {
         }
     }
 
-    /// A statement that evaluates an expression is run at once. False, and nothing changed, where it
-    /// is another or has to wait.
+    /// A statement of an expression is run at once. None, and nothing changed, where there is none
+    /// or it has to wait.
+    fn run_expression(
+        &mut self,
+        program: &'p Checked,
+        data_end: u64,
+        expr: &'p Option<Expr>,
+        place: Place,
+    ) -> Option<Completion>
+        requires { data_end ≡ model_data_end program.now.globals.items }
+        ensures { DoneAtOnce (whole.program program.now) self.old (tasks.Run
+            (trees.Evaluate (option_map tree.expression expr.now))) (place_of place) self.new
+            result }
+    {
+        if self.steps_left == 0 {
+            return None;
+        }
+        let left = self.steps_left - 1;
+        match expr {
+            None => None,
+            Some(expr) => normally(self.evaluate(program, data_end, expr, place, left)),
+        }
+    }
+
+    /// A statement is run at once. None, and nothing changed, where it has to wait.
     fn run_directly(
         &mut self,
         program: &'p Checked,
@@ -165,18 +233,30 @@ impl<'p> Machine<'p> {
         ensures { DoneAtOnce (whole.program program.now) self.old (tasks.Run
             (trees.statement stmt.now)) (place_of place) self.new result }
     {
-        if self.steps_left == 0 {
-            return None;
-        }
         match stmt {
-            Stmt::Evaluate(Some(expr)) => {
-                match self.evaluate(program, data_end, expr, place, self.steps_left - 1) {
-                    None => None,
-                    Some(_) => Some(Completion::Normal),
-                }
-            }
+            Stmt::Evaluate(expr) => self.run_expression(program, data_end, expr, place),
             _ => None,
         }
+    }
+
+    /// A statement of a list is run at once. None, and nothing changed, where there is none, or where
+    /// it has to wait.
+    fn run_listed(
+        &mut self,
+        program: &'p Checked,
+        data_end: u64,
+        stmts: &'p Vec<Stmt>,
+        index: usize,
+        place: Place,
+    ) -> Option<Completion>
+        requires { data_end ≡ model_data_end program.now.globals.items }
+        ensures { DoneAtOnce (whole.program program.now) self.old (tasks.Run
+            (views.statement_at stmts.now.items index)) (place_of place) self.new result }
+    {
+        if index >= stmts.len() {
+            return None;
+        }
+        self.run_directly(program, data_end, &stmts[index], place)
     }
 
     /// A task is done at once. None, and nothing changed, where a part of it has to wait.
@@ -193,15 +273,12 @@ impl<'p> Machine<'p> {
     {
         match task {
             Task::Eval(expr) => {
-                match self.evaluate(program, data_end, expr, place, self.steps_left) {
-                    None => None,
-                    Some(value) => Some(Completion::Value(value)),
-                }
+                let left = self.steps_left;
+                valued(self.evaluate(program, data_end, expr, place, left))
             }
-            Task::RunListed(stmts, index) => match stmts.get(index) {
-                None => None,
-                Some(stmt) => self.run_directly(program, data_end, stmt, place),
-            },
+            Task::RunListed(stmts, index) => {
+                self.run_listed(program, data_end, stmts, index, place)
+            }
             Task::RunBoxed(stmt) => self.run_directly(program, data_end, stmt, place),
             _ => None,
         }

@@ -1,3 +1,3 @@
 pub mod Steps
-pub mod Values
-pub mod Changes
+pub mod ValueSteps
+pub mod ChangeSteps

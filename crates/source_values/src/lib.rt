@@ -5,7 +5,7 @@
 //! step is left.
 //!
 //! Proved: the value, and the steps that are left, are those of the definition in
-//! `specs/Direct.antt`; and there the steps of `source_machine` lead (`proofs/Values.antt`).
+//! `specs/Direct.antt`; and there the steps of `source_machine` lead (`proofs/ValueSteps.antt`).
 #![tactic(auto)]
 
 pub mod changes;

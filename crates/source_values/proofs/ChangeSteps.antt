@@ -28,9 +28,8 @@ use Rattle.source_values.specs.Direct as spec
 use Rattle.source_values.specs.Direct.{counted, then_with, with_left, Change}
 use Rattle.source_values.specs.Surrounding.{around}
 use Rattle.source_values.proofs.Steps.{leads_on, leads_then}
-use Rattle.source_values.proofs.Values as values
-use Rattle.source_values.proofs.Values.{counted_from, then_from, left_from, at, here, value_leads}
-use Rattle.source_values.proofs.Values.{address_leads, read_leads, computed_leads}
+use Rattle.source_values.proofs.ValueSteps.{counted_from, then_from, left_from, at, here, value_leads}
+use Rattle.source_values.proofs.ValueSteps.{address_leads, read_leads, computed_leads}
 
 old_from : (a : ℕ) (o : Option ℕ) (n : ℕ) (r : (ℕ × ℕ) × ℕ) → spec.with_old a o n ≡ Some r
     → (x : ℕ) × (o ≡ Some x) × (((a, x), n) ≡ r)
