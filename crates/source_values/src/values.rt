@@ -1,7 +1,8 @@
 //! Values of expressions.
 
-ghost use Rattle.std.specs.Prelude.{◌≡◌, slice_index};
+ghost use Rattle.std.specs.Prelude.{◌≡◌, nat_eq, slice_index, Some};
 ghost use Rattle.c_checked.specs.Expression as tree;
+ghost use Rattle.source_meaning.specs.Expressions as model;
 ghost use Rattle.source_values.specs.Direct as spec;
 ghost use Rattle.source_values.specs.Surrounding.{surroundings_of};
 
@@ -113,34 +114,37 @@ fn unary_value(
     Some((result_of(operation, value, 0), left))
 }
 
+/// What follows the left operand of a binary operator.
 #[cycle(values)]
 fn binary_value(
     around: &Surroundings<'_>,
     operation: Operation,
-    operands: (&Expr, &Expr),
-    left: u64,
+    first: Option<(u64, u64)>,
+    second: &Expr,
 ) -> Option<(u64, u64)>
-    ensures { result ≡ spec.node_value (surroundings_of around.now) (tree.Binary operation
-        (tree.expression operands.0.now) (tree.expression operands.1.now)) left }
+    ensures { result ≡ spec.then_with first (λ x left. spec.operated (surroundings_of around.now)
+        operation (spec.value (surroundings_of around.now) (tree.expression second.now) left) x) }
 {
-    let (first, left) = value(around, operands.0, left)?;
-    let (second, left) = value(around, operands.1, left)?;
+    let (first, left) = first?;
+    let (second, left) = value(around, second, left)?;
     let value = compute(around.memory, around.data_end, operation, first, second)?;
     Some((value, left))
 }
 
+/// What follows the left operand of a difference of pointers.
 #[cycle(values)]
 fn difference_value(
     around: &Surroundings<'_>,
     size: u64,
-    operands: (&Expr, &Expr),
-    left: u64,
+    first: Option<(u64, u64)>,
+    second: &Expr,
 ) -> Option<(u64, u64)>
-    ensures { result ≡ spec.node_value (surroundings_of around.now) (tree.PointerDifference size
-        (tree.expression operands.0.now) (tree.expression operands.1.now)) left }
+    ensures { result ≡ spec.then_with first (λ x left. spec.then_with
+        (spec.value (surroundings_of around.now) (tree.expression second.now) left)
+        (λ y left. Some (model.apart size x y, left))) }
 {
-    let (first, left) = value(around, operands.0, left)?;
-    let (second, left) = value(around, operands.1, left)?;
+    let (first, left) = first?;
+    let (second, left) = value(around, second, left)?;
     Some((apart(size, first, second), left))
 }
 
@@ -163,59 +167,53 @@ fn tested(around: &Surroundings<'_>, expr: &Expr, left: u64) -> Option<(u64, u64
     Some((of_test(value != 0), left))
 }
 
+/// What follows the left operand of `&&`.
 #[cycle(values)]
-fn and_value(around: &Surroundings<'_>, first: &Expr, second: &Expr, left: u64) -> Option<(u64, u64)>
-    ensures { result ≡ spec.node_value (surroundings_of around.now) (tree.And
-        (tree.expression first.now) (tree.expression second.now)) left }
+fn and_value(
+    around: &Surroundings<'_>,
+    first: Option<(u64, u64)>,
+    second: &Expr,
+) -> Option<(u64, u64)>
+    ensures { result ≡ spec.then_with first (λ x left. spec.either (nat_eq x 0) (Some (0, left))
+        (spec.tested (spec.value (surroundings_of around.now) (tree.expression second.now)
+        left))) }
 {
-    let (value, left) = value(around, first, left)?;
+    let (value, left) = first?;
     if value == 0 {
         return Some((0, left));
     }
     tested(around, second, left)
 }
 
+/// What follows the left operand of `||`.
 #[cycle(values)]
-fn or_value(around: &Surroundings<'_>, first: &Expr, second: &Expr, left: u64) -> Option<(u64, u64)>
-    ensures { result ≡ spec.node_value (surroundings_of around.now) (tree.Or
-        (tree.expression first.now) (tree.expression second.now)) left }
+fn or_value(
+    around: &Surroundings<'_>,
+    first: Option<(u64, u64)>,
+    second: &Expr,
+) -> Option<(u64, u64)>
+    ensures { result ≡ spec.then_with first (λ x left. spec.either (nat_eq x 0)
+        (spec.tested (spec.value (surroundings_of around.now) (tree.expression second.now) left))
+        (Some (1, left))) }
 {
-    let (value, left) = value(around, first, left)?;
+    let (value, left) = first?;
     if value == 0 {
         return tested(around, second, left);
     }
     Some((1, left))
 }
 
-#[cycle(values)]
-fn conditional_value(
-    around: &Surroundings<'_>,
-    condition: &Expr,
-    choices: (&Expr, &Expr),
-    left: u64,
-) -> Option<(u64, u64)>
-    ensures { result ≡ spec.node_value (surroundings_of around.now) (tree.Conditional
-        (tree.expression condition.now) (tree.expression choices.0.now)
-        (tree.expression choices.1.now)) left }
-{
-    let (holds, left) = value(around, condition, left)?;
-    if holds == 0 {
-        return value(around, choices.1, left);
-    }
-    value(around, choices.0, left)
-}
-
+/// What follows the left operand of a comma.
 #[cycle(values)]
 fn comma_value(
     around: &Surroundings<'_>,
-    first: &Expr,
+    first: Option<(u64, u64)>,
     second: &Expr,
-    left: u64,
 ) -> Option<(u64, u64)>
-    ensures { result ≡ spec.node_value (surroundings_of around.now) (tree.Comma
-        (tree.expression first.now) (tree.expression second.now)) left }
+    ensures { result ≡ spec.then_with first (λ x left. spec.value (surroundings_of around.now)
+        (tree.expression second.now) left) }
 {
-    let (_, left) = value(around, first, left)?;
+    let (_, left) = first?;
     value(around, second, left)
 }
 
@@ -233,18 +231,23 @@ fn node_value(around: &Surroundings<'_>, node: &Node, left: u64) -> Option<(u64,
         Node::Increment { .. } => None,
         Node::Unary { operation, operand } => unary_value(around, *operation, operand, left),
         Node::Binary { operation, left: first, right } => {
-            binary_value(around, *operation, (first, right), left)
+            binary_value(around, *operation, value(around, first, left), right)
         }
         Node::PointerDifference { size, left: first, right } => {
-            difference_value(around, *size, (first, right), left)
+            difference_value(around, *size, value(around, first, left), right)
         }
         Node::Not(operand) => not_value(around, operand, left),
-        Node::And(first, second) => and_value(around, first, second, left),
-        Node::Or(first, second) => or_value(around, first, second, left),
+        Node::And(first, second) => and_value(around, value(around, first, left), second),
+        Node::Or(first, second) => or_value(around, value(around, first, left), second),
         Node::Conditional { condition, yes, no } => {
-            conditional_value(around, condition, (yes, no), left)
+            let (holds, left) = value(around, condition, left)?;
+            if holds == 0 {
+                value(around, no, left)
+            } else {
+                value(around, yes, left)
+            }
         }
-        Node::Comma(first, second) => comma_value(around, first, second, left),
+        Node::Comma(first, second) => comma_value(around, value(around, first, left), second),
         Node::Call { .. } => None,
         Node::CallBuiltIn { .. } => None,
         Node::ExceptionCode => Some((u64::from(around.exception.code), left)),
