@@ -141,8 +141,8 @@ impl<'p> Machine<'p> {
         place: Place,
     ) -> Option<u64>
         ensures { Made self.old (λ st. spec.written (reserved_below data_end) st (place_of place)
-            (tree.lvalue change.target.now) change.address change.written) self.new change.left
-            (model.converted conversion change.value) result }
+            (tree.lvalue change.entry.target.now) change.entry.address change.entry.written)
+            self.new change.entry.left (model.converted conversion change.entry.value) result }
     {
         if !self.write(data_end, change.target, change.address, change.written, place) {
             return None;

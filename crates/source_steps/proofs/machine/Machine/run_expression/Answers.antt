@@ -17,6 +17,6 @@ returns-in-Some c =
     let left : m.steps_left ≡ suc (m.steps_left - 1) = omega arith in
     subst (λ o. DoneAtOnce program m (tasks.Run (trees.Evaluate (option_map tree.expression o))) p
     c.evaluate.new.self c.normally.result) (sym c.in-Some.is)
-    (ran_at_once program m c.evaluate.new.self p (tree.expression c.in-Some.expr.now)
+    (ran_at_once program m c.evaluate.new.self p (tree.expression c.in-Some.expr)
     (m.steps_left - 1) c.evaluate.result c.normally.result c.normally.ensures left
     c.evaluate.ensures)
