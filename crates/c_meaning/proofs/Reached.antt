@@ -1,5 +1,6 @@
 -- Where a run has come, and what it has shown.
-use Rattle.std.proofs.Common.{◌≡◌, ℕ, zero, suc, ◌<◌, List, [], ◌++◌, refl, sym, ap, ◌∙◌, subst}
+use Rattle.std.proofs.Common.{◌≡◌, ℕ, zero, suc, ◌+◌, ◌<◌, ◌≤◌, List, [], ◌++◌, refl, sym, ap}
+use Rattle.std.proofs.Common.{◌∙◌, subst, arith}
 use Rattle.std.specs.Prelude.{true, false, Option, Some, None, MatchOption, OnErr, Result as Result', Ok}
 use Rattle.std.specs.Prelude.{Err}
 use Rattle.std.proofs.lemmas.List.{append-nil}
@@ -8,14 +9,14 @@ use Rattle.c_checked.specs.Program.{Program}
 use Rattle.source_meaning.specs.State.{Outcome, state_of}
 use Rattle.source_meaning.specs.Meaning.{does}
 use Rattle.source_meaning.specs.Laws.{IsPrefixOf}
-use Rattle.source_machine.specs.Frames.{Next}
-use Rattle.source_machine.specs.Machine.{Machine, step}
+use Rattle.source_machine.specs.Frames.{Next, Over}
+use Rattle.source_machine.specs.Machine.{Machine, step, done}
 use Rattle.source_machine.specs.FrameMeanings.{comes_to}
 use Rattle.source_machine.specs.Runs.{after}
 use Rattle.source_machine.specs.StepLaws.{is_over, distance}
-use Rattle.source_machine.proofs.StepKeeping.{keeps_meaning}
 use Rattle.source_machine.proofs.StepDistance.{decreases}
-use Rattle.source_machine.proofs.WholeRuns.{shows_before}
+use Rattle.source_machine.proofs.WholeRuns.{shows_before, all_keep}
+use Rattle.source_values.proofs.Steps.{after_sum, after_more}
 use Rattle.source_steps.specs.declared.machine.Machine.{Machine as Machine'}
 use Rattle.source_steps.specs.Machines.{machine_of}
 use Rattle.seh_io.specs.Writer.{TookEvents}
@@ -35,11 +36,27 @@ pub not_over : {T P : Type 0} (Q : T → Type 0) (o : Option T) → MatchOption 
 not_over Q None m n = m
 not_over Q (Some x) m n = absurd (n x refl)
 
--- a step after some is one more
-after_more : (program : Program) (k : ℕ) (m : Machine)
-    → step program (after program k m) ≡ after program (suc k) m
-after_more program zero m = refl
-after_more program (suc k) m = after_more program k (step program m)
+-- a step brings no machine farther from its end, and neither do many
+step_no_farther : (program : Program) (m : Machine) (next : Next) → m.next ≡ next
+    → distance (step program m) ≤ distance m
+step_no_farther program m (Over how) at =
+    let same : step program m ≡ record m { next = Over how } = ap (done program m) at in
+    let back : record m { next = Over how } ≡ m = ap (λ next. record m { next = next }) (sym at) in
+    let e : distance (step program m) ≡ distance m = ap distance (same ∙ back) in
+    omega (arith, e)
+step_no_farther program m next at =
+    let going : is_over m.next ≡ false = ap is_over at in
+    let less : distance (step program m) < distance m = decreases program m going in
+    omega (arith, less)
+
+no_farther : (program : Program) (k : ℕ) (m : Machine)
+    → distance (after program k m) ≤ distance m
+no_farther program zero m = omega arith
+no_farther program (suc k) m =
+    let one : distance (step program m) ≤ distance m = step_no_farther program m m.next refl in
+    let rest : distance (after program k (step program m)) ≤ distance (step program m) =
+    no_farther program k (step program m) in
+    omega (arith, one, rest)
 
 module _ {X : Type 0} (took : X → List Event → X → Type 0) (program : Program) where
   abbrev comes : Machine → Outcome
@@ -64,24 +81,32 @@ module _ {X : Type 0} (took : X → List Event → X → Type 0) (program : Prog
       (y' : X)
       → Reached from x m next y → Turned took program m next y m' next' y'
       → Reached from x m' next' y'
-  one_more more from x m next y m' next' y' r t = record {
-    shown = r.shown ++ t.shown;
-    took_shown = more x y y' r.shown t.shown r.took_shown t.took_shown;
-    steps = suc r.steps;
-    is =
-        sym (t.stepped r.shown) ∙ ap (step program) r.is
-        ∙ after_more program r.steps from;
-    comes_same =
-        ap comes (sym (t.stepped r.shown)) ∙ keeps_meaning program (machine_of m next r.shown)
-        ∙ r.comes_same;
-  }
+  one_more more from x m next y m' next' y' r t =
+      let led = t.stepped r.shown in
+      record {
+        shown = r.shown ++ t.shown;
+        took_shown = more x y y' r.shown t.shown r.took_shown t.took_shown;
+        steps = r.steps + suc led.before;
+        is =
+            sym led.is ∙ ap (after program (suc led.before)) r.is
+            ∙ sym (after_sum program r.steps (suc led.before) from);
+        comes_same =
+            ap comes (sym led.is)
+            ∙ all_keep program (suc led.before) (machine_of m next r.shown) ∙ r.comes_same;
+      }
 
   pub nearer : (m : Machine') (next : Next) (y : X) (m' : Machine') (next' : Next) (y' : X)
       → is_over next ≡ false → Turned took program m next y m' next' y'
       → distance (machine_of m' next' []) < distance (machine_of m next [])
   nearer m next y m' next' y' going t =
-      subst (λ (n : ℕ). n < distance (machine_of m next [])) (ap distance (t.stepped []))
-      (decreases program (machine_of m next []) going)
+      let led = t.stepped [] in
+      let from = machine_of m next [] in
+      let first : distance (step program from) < distance from = decreases program from going in
+      let rest : distance (after program (suc led.before) from) ≤ distance (step program from) =
+      no_farther program led.before (step program from) in
+      let same : distance (after program (suc led.before) from)
+      ≡ distance (machine_of m' next' []) = ap distance led.is in
+      omega (arith, first, rest, same)
 
   -- what was taken is the front of what is shown
   pub so_far : (from : Machine) (x : X) (m : Machine') (next : Next) (y : X)
@@ -119,9 +144,15 @@ pub stops : {X : Type 0} (taken : X → Option (List ℕ)) (faults : X → ℕ) 
     → Turned (TookEvents taken faults) program m next y m' next' y'
     → y.failed ≡ false → y'.failed ≡ true → Stopped taken faults program from x m' y'
 stops taken faults program from x m next y m' next' y' r t is was =
-    let events = ap (λ (k : Machine). k.state.events) r.is in
+    let led = t.stepped r.shown in
+    let sum = after_sum program r.steps led.before from in
+    let there : after program (r.steps + led.before) from
+    ≡ after program led.before (machine_of m next r.shown) =
+    sum ∙ ap (after program led.before) (sym r.is) in
+    let events : r.shown ≡ (after program (r.steps + led.before) from).state.events =
+    sym (ap (λ (k : Machine). k.state.events) there ∙ led.silent) in
     record {
-      steps = r.steps;
+      steps = r.steps + led.before;
       before = y;
       took_before = subst (λ es. TookEvents taken faults x es y) events r.took_shown;
       written = is;
@@ -130,8 +161,9 @@ stops taken faults program from x m next y m' next' y' r t is was =
       took_last = t.took_shown;
       failed = was;
       last =
-          sym (after_more program r.steps from) ∙ ap (step program) (sym r.is)
-          ∙ t.stepped r.shown ∙ ap (λ es. machine_of m' next' (es ++ t.shown)) events;
+          sym (after_more program (r.steps + led.before) from) ∙ ap (step program) there
+          ∙ after_more program led.before (machine_of m next r.shown)
+          ∙ led.is ∙ ap (λ es. machine_of m' next' (es ++ t.shown)) events;
     }
 
 -- a line has failed where the run was stopped by one

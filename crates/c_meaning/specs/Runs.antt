@@ -13,21 +13,22 @@ use Rattle.source_meaning.specs.State.{Result, Value, End, how_of, state_of}
 use Rattle.source_meaning.specs.Meaning.{does}
 use Rattle.source_meaning.specs.Laws.{IsPrefixOf}
 use Rattle.source_machine.specs.Frames.{Next}
-use Rattle.source_machine.specs.Machine.{Machine, step}
+use Rattle.source_machine.specs.Machine.{Machine}
 use Rattle.source_machine.specs.FrameMeanings.{comes_to}
 use Rattle.source_machine.specs.Runs.{after}
 use Rattle.source_steps.specs.declared.machine.Machine.{Machine as Machine'}
 use Rattle.source_steps.specs.Machines.{machine_of}
+use Rattle.source_steps.specs.Directly.{Led}
 use Rattle.c_meaning.specs.declared.run.RunErr.{RunErr}
 use Rattle.c_meaning.specs.declared.run.RunErr.TheVariants.{Write, Memory}
 
--- a step was made, and the receiver took what it shows
+-- some steps that show nothing were made, and one more, of which the receiver took what it shows
 pub record Turned {X : Type 0} (took : X → List Event → X → Type 0) (program : Program)
     (m : Machine') (next : Next) (x : X) (m' : Machine') (next' : Next) (x' : X) : Type 0 where
   pub shown : List Event
   pub took_shown : took x shown x'
-  pub stepped : (es : List Event) → step program (machine_of m next es)
-      ≡ machine_of m' next' (es ++ shown)
+  pub stepped : (es : List Event) → Led program (machine_of m next es)
+      (machine_of m' next' (es ++ shown))
 
 -- the receiver took all that the machine shows, and this is what the machine comes to
 pub record Ran {X : Type 0} (took : X → List Event → X → Type 0) (program : Program) (m : Machine)

@@ -163,3 +163,38 @@ pub fn perform<S: AddressSpace>(
         Operation::Store(width) => store(space, data_end, width, first, second),
     }
 }
+
+fn number_of(outcome: Performed) -> Option<u64>
+    ensures { (m : Memory) → result ≡ outcomes.number_of (outcome_of outcome m) }
+{
+    match outcome {
+        Performed::Gives(number) => Some(number),
+        Performed::Raises { .. } => None,
+        Performed::Undefined(_) => None,
+    }
+}
+
+/// The number that an operation on two operands gives, in a memory whose globals' pages end at an
+/// address. None where it faults, where the language says nothing of it, and of a store.
+pub fn compute<S: AddressSpace>(
+    space: &S,
+    data_end: u64,
+    operation: Operation,
+    first: u64,
+    second: u64,
+) -> Option<u64>
+    ensures { result ≡ outcomes.computed (reserved_below data_end) operation first second
+        (S.memory space.now) }
+{
+    match operation {
+        Operation::Pure(operation) => Some(result_of(operation, first, second)),
+        Operation::Divide(signedness, size) => {
+            number_of(quotient(signedness, width(size), first, second))
+        }
+        Operation::Remainder(signedness, size) => {
+            number_of(remainder(signedness, width(size), first, second))
+        }
+        Operation::Load(width) => number_of(load(space, data_end, width, first)),
+        Operation::Store(_) => None,
+    }
+}

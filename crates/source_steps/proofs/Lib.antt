@@ -5,3 +5,5 @@ pub mod Finishing
 pub mod Operating
 pub mod Deep
 pub mod Unshown
+pub mod Leading
+pub mod AtOnce

@@ -42,6 +42,17 @@ impl Activations {
         self.frames.len()
     }
 
+    /// The locals of one, or None where there is none.
+    pub fn locals(&self, activation: usize) -> Option<&Vec<u64>>
+        ensures { elim result [ Some locals ↦ locals.now.items | None ↦ [] ]
+            ≡ frame_in (frames_of self.now) activation }
+    {
+        match self.frames.get(activation) {
+            None => None,
+            Some(locals) => Some(locals),
+        }
+    }
+
     /// A local's value; 0 where there is none.
     pub fn local(&self, activation: usize, local: u64) -> u64
         ensures { result ≡ slice_index (frame_in (frames_of self.now) activation) local }

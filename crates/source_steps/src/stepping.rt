@@ -12,6 +12,7 @@ ghost use Rattle.source_meaning.specs.Source.{data_end as model_data_end};
 ghost use Rattle.source_plans.specs.Views as views;
 ghost use Rattle.source_plans.specs.Views.{place_of};
 ghost use Rattle.source_steps.specs.Machines.{machine_of, shown_after, Moved, Showed};
+ghost use Rattle.source_steps.specs.Directly.{Advanced};
 
 use crate::machine::{Machine, MachineStep, silent, silently};
 use c_checked::checked::Checked;
@@ -147,8 +148,8 @@ impl<'p> Machine<'p> {
         }
     }
 
-    /// What is done next is done, in memory whose globals' pages end at `data_end`.
-    pub fn step(
+    /// What is done next is done, where it isn't hastened.
+    fn do_next(
         &mut self,
         alloc: Global,
         program: &'p Checked,
@@ -166,5 +167,22 @@ impl<'p> Machine<'p> {
             }
             Next::Call(callee, values, place) => self.call(program, callee, values, place),
         }
+    }
+
+    /// What is done next is done, in memory whose globals' pages end at `data_end`: some steps that
+    /// show nothing, and one more.
+    pub fn step(
+        &mut self,
+        alloc: Global,
+        program: &'p Checked,
+        data_end: u64,
+        next: Next<'p>,
+    ) -> Result<MachineStep<'p>, AllocError>
+        requires { data_end ≡ model_data_end program.now.globals.items }
+        ensures { IfOk result (Advanced (whole.program program.now) self.old
+            (views.next_of next.entry) self.new) }
+    {
+        let hastened = self.hasten(program, data_end, next);
+        self.do_next(alloc, program, data_end, hastened)
     }
 }

@@ -1,0 +1,3 @@
+pub mod Direct
+pub mod Surrounding
+pub mod Leading
