@@ -13,6 +13,7 @@ ghost use Rattle.c_expressions.specs.Kept.{AddsFaults};
 ghost use Rattle.c_expressions.specs.Views.{block_of, entity};
 
 use c_expressions::least::Least;
+use c_expressions::name_table::NameTable;
 use c_expressions::scopes::{Entity, declare, is_taken, spelled};
 use c_expressions::values::unless_holds;
 use c_lex::token::IntegerType;
@@ -21,7 +22,6 @@ use c_syntax::declaration::{Constant, Global as Declarator, Initialiser, Length}
 use c_syntax::expression::{Base, CType, Identifier, Literal};
 use c_types::types::{bytes_in, is_scalar};
 use host_layout::range::FIRST_DATA;
-use indexmap::IndexMap;
 use seh_num::extension::{wrap, zero_extend};
 use seh_num::width::Width;
 use std::alloc::{AllocError, Global};
@@ -30,7 +30,7 @@ use std::alloc::{AllocError, Global};
 #[derive(Drop)]
 pub struct File<'a> {
     /// The names of the file so far.
-    pub names: IndexMap<&'a [u8], Entity<'a>>,
+    pub names: NameTable<'a>,
     /// The bytes of the globals so far, from the first address of the data on.
     pub bytes: Vec<u8>,
     /// How many functions there are so far, which is the number of the next one.
