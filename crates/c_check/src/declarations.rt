@@ -7,10 +7,10 @@ ghost use Rattle.c_resolved.specs.Program as definitions;
 ghost use Rattle.c_syntax.specs.Program as syntax;
 
 use c_expressions::least::Least;
+use c_expressions::name_table::NameTable;
 use c_expressions::scopes::Entity;
 use c_locals::globals::{File, globals, name};
 use c_syntax::declaration::ExternalDeclaration;
-use indexmap::IndexMap;
 use std::alloc::{AllocError, Global};
 
 /// One more function. As many as 2^64 would need a text of more bytes, so they count as want of
@@ -64,7 +64,7 @@ fn empty<'a>(alloc: Global) -> File<'a>
     ensures { IsFile result definitions.empty_file }
 {
     File {
-        names: IndexMap::new(alloc),
+        names: NameTable::new(alloc),
         bytes: Vec::new(alloc),
         functions: 0,
         worst: Least { found: None },

@@ -9,13 +9,13 @@ ghost use Rattle.c_resolved.specs.Scopes.{meaning_in};
 ghost use Rattle.c_syntax.specs.Program as syntax;
 
 use c_expressions::least::Least;
+use c_expressions::name_table::NameTable;
 use c_expressions::scopes::{Entity, Scopes, declared};
 use c_expressions::values::unless_holds;
 use c_resolved::fault::Fault;
 use c_syntax::declaration::{ExternalDeclaration, Parameter};
 use c_syntax::expression::{Base, CType};
 use c_types::types::{plain, same_type};
-use indexmap::IndexMap;
 
 /// The place of the name of the function of this number; 0 if there is none.
 fn place_of_function(xs: &[ExternalDeclaration], number: u64) -> u64
@@ -52,7 +52,7 @@ fn is_main(returns: CType, list: &[Parameter]) -> bool
 }
 
 /// What the file declares `main` as.
-fn meaning_of_main<'a>(names: &IndexMap<&'a [u8], Entity<'a>>) -> Option<Entity<'a>>
+fn meaning_of_main<'a>(names: &NameTable<'a>) -> Option<Entity<'a>>
     ensures { option_map entity result ≡
         meaning_in (block_of names.now.entries) definitions.main_name }
 {
@@ -61,11 +61,7 @@ fn meaning_of_main<'a>(names: &IndexMap<&'a [u8], Entity<'a>>) -> Option<Entity<
 
 /// The number of `main`. There has to be a function of that name, which returns an `int` and takes
 /// nothing, or a `long long`.
-pub fn main_of(
-    names: &IndexMap<&[u8], Entity<'_>>,
-    xs: &[ExternalDeclaration],
-    worst: &mut Least,
-) -> u64
+pub fn main_of(names: &NameTable<'_>, xs: &[ExternalDeclaration], worst: &mut Least) -> u64
     ensures number { let program = map syntax.external_declaration xs.now in
         result ≡ (main_in program (block_of names.now.entries)).number }
     ensures faults { let program = map syntax.external_declaration xs.now in

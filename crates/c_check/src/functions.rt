@@ -12,7 +12,8 @@ ghost use Rattle.c_syntax.specs.Statement as trees;
 use crate::parameters;
 use c_checked::function::Function;
 use c_expressions::least::Least;
-use c_expressions::scopes::{Entity, spelled};
+use c_expressions::name_table::NameTable;
+use c_expressions::scopes::spelled;
 use c_locals::environment::Walk;
 use c_operations::operation::Size;
 use c_statements::statements;
@@ -20,7 +21,6 @@ use c_syntax::declaration::{ExternalDeclaration, Parameter};
 use c_syntax::expression::{CType, Identifier};
 use c_syntax::statement::Stmt;
 use c_types::types::{is_void, size_of};
-use indexmap::IndexMap;
 use std::alloc::{AllocError, Global};
 
 /// What a walk over the functions of a program carries along.
@@ -56,7 +56,7 @@ fn rest_of(alloc: Global, sizes: &[Size], first: usize) -> Result<Vec<Size>, All
 fn function<'t>(
     alloc: Global,
     text: &'t [u8],
-    file: &IndexMap<&'t [u8], Entity<'t>>,
+    file: &NameTable<'t>,
     progress: &mut Progress,
     returns: CType,
     name: Identifier,
@@ -92,7 +92,7 @@ fn function<'t>(
 fn one<'t>(
     alloc: Global,
     text: &'t [u8],
-    file: &IndexMap<&'t [u8], Entity<'t>>,
+    file: &NameTable<'t>,
     progress: &mut Progress,
     x: &ExternalDeclaration,
 ) -> Result<(), AllocError>
@@ -119,7 +119,7 @@ fn one<'t>(
 pub fn functions<'t>(
     alloc: Global,
     text: &'t [u8],
-    file: &IndexMap<&'t [u8], Entity<'t>>,
+    file: &NameTable<'t>,
     worst: Least,
     xs: &[ExternalDeclaration],
 ) -> Result<Progress, AllocError>

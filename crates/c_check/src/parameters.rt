@@ -11,13 +11,13 @@ ghost use Rattle.c_resolved.specs.Scopes.{spelled};
 ghost use Rattle.c_resolved.specs.Statements.{with_name};
 
 use c_expressions::least::Least;
+use c_expressions::name_table::NameTable;
 use c_expressions::scopes::{Entity, declare, is_taken, spelled};
 use c_expressions::values::unless_holds;
 use c_operations::operation::Size;
 use c_resolved::fault::Fault;
 use c_syntax::declaration::Parameter;
 use c_types::types::{is_scalar, size_of};
-use indexmap::IndexMap;
 use std::alloc::{AllocError, Global};
 
 /// The sizes of parameters.
@@ -36,7 +36,7 @@ fn parameter<'t>(
     text: &'t [u8],
     number: u64,
     p: Parameter,
-    block: &mut IndexMap<&'t [u8], Entity<'t>>,
+    block: &mut NameTable<'t>,
     worst: &mut Least,
 ) -> Result<(), AllocError>
     ensures block { let names = block_of block.old.entries in
@@ -62,13 +62,13 @@ pub fn block_of<'t>(
     text: &'t [u8],
     worst: &mut Least,
     list: &[Parameter],
-) -> Result<IndexMap<&'t [u8], Entity<'t>>, AllocError>
+) -> Result<NameTable<'t>, AllocError>
     ensures block { let names = definitions.with_parameters text.now list.now [] 0 in
         IfOk result (λ block. block_of block.entries ≡ names) }
     ensures faults { let faults = definitions.parameter_faults text.now list.now [] in
         OnOk result (AddsFaults worst.old worst.new faults) }
 {
-    let mut block = IndexMap::new(alloc);
+    let mut block = NameTable::new(alloc);
     for (i, p) in list.iter().enumerate() {
         parameter(text, i as u64, *p, &mut block, worst)?;
     }

@@ -7,8 +7,7 @@ use Rattle.std.specs.Cmp.{nat_eq_equiv}
 use Rattle.std.specs.Cmp.Lexicographic.{pointwise, bytes_decides, lists_equiv}
 use Rattle.std.specs.Map.{lookup}
 use Rattle.c_expressions.specs.declared.scopes.Entity.{Entity as Entity'}
-use Rattle.indexmap.specs.IndexMap.{insert_entry}
-use Rattle.indexmap.proofs.MapLemmas.{absent_from_lookup, insert_entry-absent}
+use Rattle.c_expressions.specs.NameTables.{meaning_of}
 use Rattle.c_expressions.specs.Words.{entity, names_after, block_of, built_in_functions, built_in_constants, Entity, BuiltInFunction, CodeFunction, AbnormalFunction, BuiltInConstant, is_some, is_taken, with_name}
 use Rattle.c_operations.specs.declared.built_in.BuiltIn.TheVariants.{Put, Protect, RaiseException}
 use Rattle.c_resolved.specs.Scopes.{Scope, same_bytes, meaning_in, built_ins}
@@ -78,36 +77,40 @@ after_one false false block k n e free taken same = ap (λ b. cond b (Some e) (m
 pub names_are : (block : Scope) (es : List (Bor (List ℕ) × Entity')) (n : List ℕ)
     → meaning_in built_ins n ≡ None
     → meaning_in (names_after block es) n ≡ option_or (meaning_in block n)
-    (option_map entity (lookup (λ k. pointwise nat_eq n k.now) es))
+    (option_map entity (meaning_of es n))
 names_are block [] n free = sym (or_nothing (meaning_in block n))
 names_are block (x ∷ es) n free =
     let k : List ℕ = x.0.now in
     let e = entity x.1 in
-    let rest = option_map entity (lookup (λ k. pointwise nat_eq n k.now) es) in
+    let rest = option_map entity (meaning_of es n) in
     names_are (with_name block k e) es n free
     ∙ ap (λ o. option_or o rest) (after_one (is_taken block k) (same_bytes k n) block k n e free
     refl refl)
     ∙ or_assoc (meaning_in block n) (cond (same_bytes k n) (Some e) None) rest
     ∙ ap (option_or (meaning_in block n)) (by (same_bytes k n)
-    ∙ ap (λ b. option_map entity (cond b (Some x.1) (lookup (λ k. pointwise nat_eq n k.now) es)))
+    ∙ ap (λ b. option_map entity (cond b (Some x.1) (meaning_of es n)))
     (sym (same_flips n k)))
   where
     by : (b : Bool) → option_or (cond b (Some (entity x.1)) None)
-        (option_map entity (lookup (λ k. pointwise nat_eq n k.now) es))
-        ≡ option_map entity (cond b (Some x.1) (lookup (λ k. pointwise nat_eq n k.now) es))
+        (option_map entity (meaning_of es n))
+        ≡ option_map entity (cond b (Some x.1) (meaning_of es n))
     by true = refl
     by false = refl
 
 pub block_is : (es : List (Bor (List ℕ) × Entity')) (n : List ℕ) → meaning_in built_ins n ≡ None
-    → meaning_in (block_of es) n ≡ option_map entity (lookup (λ k. pointwise nat_eq n k.now) es)
+    → meaning_in (block_of es) n ≡ option_map entity (meaning_of es n)
 block_is es n free = names_are [] es n free
 
 -- the names after one more entry
-pub names_push : (block : Scope) (es : List (Bor (List ℕ) × Entity')) (k : Bor (List ℕ))
+names_push : (block : Scope) (es : List (Bor (List ℕ) × Entity')) (k : Bor (List ℕ))
     (e : Entity') → names_after block (es ++ (k, e) ∷ [])
     ≡ with_name (names_after block es) k.now (entity e)
 names_push block [] k e = refl
 names_push block (x ∷ es) k e = names_push (with_name block x.0.now (entity x.1)) es k e
+
+pub block_push : (es : List (Bor (List ℕ) × Entity')) (k : Bor (List ℕ)) (e : Entity')
+    → block_of (es ++ (k, e) ∷ []) ≡ with_name (block_of es) k.now (entity e)
+block_push es k e = names_push [] es k e
 
 -- what a name is built in for: a function, else a constant
 pub built_in_is : (n : List ℕ) → meaning_in built_ins n
@@ -128,20 +131,14 @@ or_none : (a b : Option Entity) → option_or a b ≡ None → (a ≡ None) × (
 or_none None b p = (refl, p)
 or_none (Some x) b p = absurd cc
 
--- the entries after a name that the block didn't have
-pub declared_new : (es : List (Bor (List ℕ) × Entity')) (k : Bor (List ℕ)) (e : Entity')
-    → is_taken (block_of es) k.now ≡ false
-    → block_of (insert_entry (λ a b. pointwise nat_eq a.now b.now) es k e)
-    ≡ with_name (block_of es) k.now (entity e)
-declared_new es k e free =
-    let n : List ℕ = k.now in
+-- a name that the block doesn't have yet has no entry
+pub no_entry : (es : List (Bor (List ℕ) × Entity')) (n : List ℕ) → is_taken (block_of es) n ≡ false
+    → meaning_of es n ≡ None
+no_entry es n free =
     let none = not_some (meaning_in (built_ins ++ block_of es) n) free in
     let both = or_none (meaning_in built_ins n) (meaning_in (block_of es) n)
     (sym (meaning_append built_ins (block_of es) n) ∙ none) in
-    let absent = nothing_mapped (lookup (λ q. pointwise nat_eq n q.now) es)
-    (sym (block_is es n both.0) ∙ both.1) in
-    ap block_of (insert_entry-absent (λ a b. pointwise nat_eq a.now b.now) k e es
-    (absent_from_lookup (λ q. pointwise nat_eq n q.now) es absent)) ∙ names_push [] es k e
+    nothing_mapped (meaning_of es n) (sym (block_is es n both.0) ∙ both.1)
 
 -- a name that isn't the first of a scope means what the others say
 pub absent : (k : List ℕ) (e : Entity) (rest : Scope) (n : List ℕ) → same_bytes k n ≡ false

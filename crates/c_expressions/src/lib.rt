@@ -15,6 +15,7 @@ pub mod calls;
 pub mod context;
 pub mod expressions;
 pub mod least;
+pub mod name_table;
 pub mod places;
 pub mod primary;
 pub mod rules;

@@ -6,10 +6,10 @@ ghost use Rattle.c_resolved.specs.Statements.{is_taken, with_name};
 ghost use Rattle.c_expressions.specs.Views.{entity, block_of, scopes_of, built_in_functions};
 ghost use Rattle.c_expressions.specs.Views.{built_in_constants};
 
+use crate::name_table::NameTable;
 use c_operations::built_in::BuiltIn;
 use c_syntax::declaration::Parameter;
 use c_syntax::expression::{CType, Identifier};
-use indexmap::IndexMap;
 use std::alloc::AllocError;
 
 /// What a name means.
@@ -46,8 +46,8 @@ pub enum Entity<'a> {
 /// of their declarations.
 #[derive(Clone, Copy)]
 pub enum Scopes<'t, 's> {
-    File(&'s IndexMap<&'t [u8], Entity<'t>>),
-    Inside(&'s IndexMap<&'t [u8], Entity<'t>>, &'s Scopes<'t, 's>),
+    File(&'s NameTable<'t>),
+    Inside(&'s NameTable<'t>, &'s Scopes<'t, 's>),
 }
 
 /// The bytes of an identifier.
@@ -124,14 +124,12 @@ pub fn built_in(name: &[u8]) -> Option<Entity<'static>>
 }
 
 /// What a name that isn't built in means in a block.
-fn in_block<'a>(name: &[u8], block: &IndexMap<&'a [u8], Entity<'a>>) -> Option<Entity<'a>>
+#[tactic(auto, using(crate::proofs::Names::block_is))]
+fn in_block<'a>(name: &[u8], block: &NameTable<'a>) -> Option<Entity<'a>>
     requires { meaning_in built_ins name.now ≡ None }
     ensures { option_map entity result ≡ meaning_in (block_of block.now.entries) name.now }
 {
-    match block.get(name) {
-        Some(found) => Some(*found),
-        None => None,
-    }
+    block.get(name)
 }
 
 /// What a name that isn't built in means, the innermost block first.
@@ -162,7 +160,7 @@ pub fn meaning<'t>(name: &[u8], scopes: &Scopes<'t, '_>) -> Option<Entity<'t>>
 
 /// Whether a name is built in, or the block has it already.
 #[tactic(auto, using(crate::proofs::Names::meaning_append))]
-pub fn is_taken(name: &[u8], block: &IndexMap<&[u8], Entity<'_>>) -> bool
+pub fn is_taken(name: &[u8], block: &NameTable<'_>) -> bool
     ensures { result ≡ is_taken (block_of block.now.entries) name.now }
 {
     match built_in(name) {
@@ -178,7 +176,7 @@ pub fn is_taken(name: &[u8], block: &IndexMap<&[u8], Entity<'_>>) -> bool
 pub fn declare<'a>(
     name: &'a [u8],
     meaning: Entity<'a>,
-    block: &mut IndexMap<&'a [u8], Entity<'a>>,
+    block: &mut NameTable<'a>,
 ) -> Result<(), AllocError>
     ensures { OnOk result (block_of block.new.entries ≡ with_name (block_of block.old.entries)
         name.now (entity meaning.entry)) }
@@ -186,6 +184,5 @@ pub fn declare<'a>(
     if is_taken(name, block) {
         return Ok(());
     }
-    block.insert(name, meaning)?;
-    Ok(())
+    block.insert(name, meaning)
 }

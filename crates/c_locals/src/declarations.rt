@@ -19,6 +19,7 @@ use crate::evaluated::{any_or_none, to_type_or_none};
 use c_checked::expression::Expr as Checked;
 use c_checked::statement::{Declared, Stmt};
 use c_expressions::least::Least;
+use c_expressions::name_table::NameTable;
 use c_expressions::scopes::{self, Entity, is_taken, spelled};
 use c_expressions::values::unless_holds;
 use c_operations::operation::Size;
@@ -26,7 +27,6 @@ use c_resolved::fault::Fault;
 use c_syntax::expression::{Base, CType, Identifier};
 use c_syntax::statement::{ForInitialiser, Local};
 use c_types::types::{is_scalar, size_of};
-use indexmap::IndexMap;
 use std::alloc::{AllocError, Global};
 
 /// What a `for` does first: what it declares, or what it evaluates (C11, 6.8.5.3).
@@ -42,7 +42,7 @@ pub struct Beginning {
 fn check_local<'t>(
     worst: &mut Least,
     text: &'t [u8],
-    block: &IndexMap<&'t [u8], Entity<'t>>,
+    block: &NameTable<'t>,
     name: Identifier,
     of: CType,
 )
@@ -68,7 +68,7 @@ fn declare<'t>(
     env: &Environment<'t, '_>,
     base: Base,
     local: &Local,
-    block: &mut IndexMap<&'t [u8], Entity<'t>>,
+    block: &mut NameTable<'t>,
     walk: &mut Walk,
 ) -> Result<Declared, AllocError>
     ensures { IfOk result (λ d. Resolves block.new.entries walk.old walk.new (declares d ∷ [])
@@ -100,7 +100,7 @@ fn declare_each<'t>(
     env: &Environment<'t, '_>,
     base: Base,
     locals: &[Local],
-    block: &mut IndexMap<&'t [u8], Entity<'t>>,
+    block: &mut NameTable<'t>,
     walk: &mut Walk,
 ) -> Result<Vec<Declared>, AllocError>
     ensures { IfOk result (λ v. Resolves block.new.entries walk.old walk.new (map declares v.items)
@@ -127,7 +127,7 @@ pub fn declare_all<'t>(
     env: &Environment<'t, '_>,
     base: Base,
     locals: &[Local],
-    block: &mut IndexMap<&'t [u8], Entity<'t>>,
+    block: &mut NameTable<'t>,
     walk: &mut Walk,
 ) -> Result<Vec<Stmt>, AllocError>
     ensures { IfOk result (λ v. Resolves block.new.entries walk.old walk.new (map statement v.items)
@@ -143,7 +143,7 @@ pub fn for_initialiser<'t>(
     alloc: Global,
     env: &Environment<'t, '_>,
     initialiser: &ForInitialiser,
-    block: &mut IndexMap<&'t [u8], Entity<'t>>,
+    block: &mut NameTable<'t>,
     walk: &mut Walk,
 ) -> Result<Beginning, AllocError>
     requires { block.old.entries ≡ [] }

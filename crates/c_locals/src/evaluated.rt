@@ -15,20 +15,20 @@ use crate::environment::{Environment, context};
 use c_checked::expression::Expr as Checked;
 use c_expressions::expressions::resolve;
 use c_expressions::least::Least;
-use c_expressions::scopes::{Entity, Scopes};
+use c_expressions::name_table::NameTable;
+use c_expressions::scopes::Scopes;
 use c_expressions::values;
 use c_resolved::fault::Fault;
 use c_syntax::expression::{CType, Expr};
 use c_types::typed::TypedNode;
 use c_types::types::is_void;
-use indexmap::IndexMap;
 use std::alloc::{AllocError, Global};
 
 /// The type and the node of an expression in a block.
 fn resolved_at<'t>(
     alloc: Global,
     env: &Environment<'t, '_>,
-    block: &IndexMap<&'t [u8], Entity<'t>>,
+    block: &NameTable<'t>,
     worst: &mut Least,
     e: &Expr,
 ) -> Result<Option<TypedNode>, AllocError>
@@ -45,7 +45,7 @@ fn resolved_at<'t>(
 pub fn any<'t>(
     alloc: Global,
     env: &Environment<'t, '_>,
-    block: &IndexMap<&'t [u8], Entity<'t>>,
+    block: &NameTable<'t>,
     worst: &mut Least,
     e: &Expr,
 ) -> Result<Checked, AllocError>
@@ -60,7 +60,7 @@ pub fn any<'t>(
 pub fn condition<'t>(
     alloc: Global,
     env: &Environment<'t, '_>,
-    block: &IndexMap<&'t [u8], Entity<'t>>,
+    block: &NameTable<'t>,
     worst: &mut Least,
     at: u64,
     e: &Expr,
@@ -76,7 +76,7 @@ pub fn condition<'t>(
 pub fn to_type<'t>(
     alloc: Global,
     env: &Environment<'t, '_>,
-    block: &IndexMap<&'t [u8], Entity<'t>>,
+    block: &NameTable<'t>,
     worst: &mut Least,
     t: CType,
     e: &Expr,
@@ -93,7 +93,7 @@ pub fn to_type<'t>(
 pub fn any_or_none<'t>(
     alloc: Global,
     env: &Environment<'t, '_>,
-    block: &IndexMap<&'t [u8], Entity<'t>>,
+    block: &NameTable<'t>,
     worst: &mut Least,
     e: &Option<Expr>,
 ) -> Result<Option<Checked>, AllocError>
@@ -110,7 +110,7 @@ pub fn any_or_none<'t>(
 pub fn condition_or_none<'t>(
     alloc: Global,
     env: &Environment<'t, '_>,
-    block: &IndexMap<&'t [u8], Entity<'t>>,
+    block: &NameTable<'t>,
     worst: &mut Least,
     at: u64,
     e: &Option<Expr>,
@@ -128,7 +128,7 @@ pub fn condition_or_none<'t>(
 pub fn to_type_or_none<'t>(
     alloc: Global,
     env: &Environment<'t, '_>,
-    block: &IndexMap<&'t [u8], Entity<'t>>,
+    block: &NameTable<'t>,
     worst: &mut Least,
     t: CType,
     e: &Option<Expr>,
@@ -146,7 +146,7 @@ pub fn to_type_or_none<'t>(
 pub fn returned<'t>(
     alloc: Global,
     env: &Environment<'t, '_>,
-    block: &IndexMap<&'t [u8], Entity<'t>>,
+    block: &NameTable<'t>,
     worst: &mut Least,
     at: u64,
     e: &Option<Expr>,
@@ -168,7 +168,7 @@ pub fn returned<'t>(
 fn returned_value<'t>(
     alloc: Global,
     env: &Environment<'t, '_>,
-    block: &IndexMap<&'t [u8], Entity<'t>>,
+    block: &NameTable<'t>,
     worst: &mut Least,
     at: u64,
     e: &Expr,
@@ -188,7 +188,7 @@ fn returned_value<'t>(
 fn refused_value<'t>(
     alloc: Global,
     env: &Environment<'t, '_>,
-    block: &IndexMap<&'t [u8], Entity<'t>>,
+    block: &NameTable<'t>,
     worst: &mut Least,
     at: u64,
     e: &Expr,

@@ -18,11 +18,11 @@ use c_checked::statement::Filter;
 use c_expressions::context::named;
 use c_expressions::expressions::resolve;
 use c_expressions::least::Least;
+use c_expressions::name_table::NameTable;
 use c_expressions::scopes::{Entity, Scopes};
 use c_expressions::values::to_answer;
 use c_syntax::expression::{Expr, Identifier, Literal};
 use c_types::typed::TypedNode;
-use indexmap::IndexMap;
 use std::alloc::{AllocError, Global};
 
 /// Whether a literal is the number 1.
@@ -46,11 +46,7 @@ fn is_accepting(meaning: Option<Entity<'_>>) -> bool
 }
 
 /// Whether a name means EXCEPTION_EXECUTE_HANDLER in a block.
-fn names_accepting<'t>(
-    env: &Environment<'t, '_>,
-    block: &IndexMap<&'t [u8], Entity<'t>>,
-    name: Identifier,
-) -> bool
+fn names_accepting<'t>(env: &Environment<'t, '_>, block: &NameTable<'t>, name: Identifier) -> bool
     ensures { result ≡ definitions.is_accepting
         (definitions.entity_at (environment env.now) (block_of block.now.entries) name) }
 {
@@ -59,11 +55,7 @@ fn names_accepting<'t>(
 }
 
 /// Whether a filter is a literal 1 or the accepting constant, parentheses aside.
-pub fn always<'t>(
-    env: &Environment<'t, '_>,
-    block: &IndexMap<&'t [u8], Entity<'t>>,
-    e: &Expr,
-) -> bool
+pub fn always<'t>(env: &Environment<'t, '_>, block: &NameTable<'t>, e: &Expr) -> bool
     ensures { result ≡ definitions.always (environment env.now) (block_of block.now.entries)
         (expression e.now) }
 {
@@ -79,7 +71,7 @@ pub fn always<'t>(
 fn resolved_at<'t>(
     alloc: Global,
     env: &Environment<'t, '_>,
-    block: &IndexMap<&'t [u8], Entity<'t>>,
+    block: &NameTable<'t>,
     worst: &mut Least,
     e: &Expr,
 ) -> Result<Option<TypedNode>, AllocError>
@@ -96,7 +88,7 @@ fn resolved_at<'t>(
 fn answer<'t>(
     alloc: Global,
     env: &Environment<'t, '_>,
-    block: &IndexMap<&'t [u8], Entity<'t>>,
+    block: &NameTable<'t>,
     worst: &mut Least,
     e: &Expr,
 ) -> Result<Checked, AllocError>
@@ -112,7 +104,7 @@ fn answer<'t>(
 pub fn filter_value<'t>(
     alloc: Global,
     env: &Environment<'t, '_>,
-    block: &IndexMap<&'t [u8], Entity<'t>>,
+    block: &NameTable<'t>,
     worst: &mut Least,
     e: &Expr,
 ) -> Result<Option<Checked>, AllocError>

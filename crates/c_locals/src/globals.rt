@@ -13,6 +13,7 @@ ghost use Rattle.c_expressions.specs.Kept.{AddsFaults};
 ghost use Rattle.c_expressions.specs.Views.{block_of, entity};
 
 use c_expressions::least::Least;
+use c_expressions::name_table::NameTable;
 use c_expressions::scopes::{Entity, declare, is_taken, spelled};
 use c_expressions::values::unless_holds;
 use c_lex::token::IntegerType;
@@ -21,7 +22,6 @@ use c_syntax::declaration::{Constant, Global as Declarator, Initialiser, Length}
 use c_syntax::expression::{Base, CType, Identifier, Literal};
 use c_types::types::{bytes_in, is_scalar};
 use host_layout::range::FIRST_DATA;
-use indexmap::IndexMap;
 use seh_num::extension::{wrap, zero_extend};
 use seh_num::width::Width;
 use std::alloc::{AllocError, Global};
@@ -30,7 +30,7 @@ use std::alloc::{AllocError, Global};
 #[derive(Drop)]
 pub struct File<'a> {
     /// The names of the file so far.
-    pub names: IndexMap<&'a [u8], Entity<'a>>,
+    pub names: NameTable<'a>,
     /// The bytes of the globals so far, from the first address of the data on.
     pub bytes: Vec<u8>,
     /// How many functions there are so far, which is the number of the next one.
@@ -101,11 +101,18 @@ fn put_zeros(bytes: &mut Vec<u8>, count: u64) -> Result<(), AllocError>
     Ok(())
 }
 
+/// How many bytes a variable of a type takes. One of type void, which is refused, takes none.
+fn stored_bytes(t: CType) -> u64
+    ensures { result ≡ definitions.stored_bytes t }
+{
+    if is_scalar(t) { bytes_in(t) } else { 0 }
+}
+
 /// How many bytes an array has; as many as 2^64 are more than there are.
 fn array_bytes(length: Length, t: CType) -> Result<u64, AllocError>
-    ensures { IfOk result (λ n. n ≡ length.value * bytes_in t) }
+    ensures { IfOk result (λ n. n ≡ length.value * definitions.stored_bytes t) }
 {
-    match length.value.checked_mul(bytes_in(t)) {
+    match length.value.checked_mul(stored_bytes(t)) {
         Some(count) => Ok(count),
         None => Err(AllocError),
     }
@@ -159,13 +166,13 @@ fn put_initial_value(
         (option_map trees.initialiser initialiser.now)).faults) }
 {
     match (length, initialiser) {
-        (None, None) => put_zeros(bytes, bytes_in(t)),
+        (None, None) => put_zeros(bytes, stored_bytes(t)),
         (None, Some(Initialiser::Single(constant))) => {
-            put_number(bytes, bytes_in(t), constant_value(*constant))
+            put_number(bytes, stored_bytes(t), constant_value(*constant))
         }
         (None, Some(Initialiser::List { at, .. })) => {
             worst.add(*at, Fault::BadInitialiser);
-            put_zeros(bytes, bytes_in(t))
+            put_zeros(bytes, stored_bytes(t))
         }
         (Some(length), None) => put_zeros(bytes, array_bytes(length, t)?),
         (Some(length), Some(Initialiser::Single(constant))) => {
@@ -178,7 +185,7 @@ fn put_initial_value(
                 alloc,
                 bytes,
                 array_bytes(length, t)?,
-                bytes_in(t),
+                stored_bytes(t),
                 constants,
             )
         }

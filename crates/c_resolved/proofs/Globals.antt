@@ -4,7 +4,7 @@ use Rattle.std.proofs.Common.{◌≡◌, ◌≤◌, ℕ, ◌+◌, ◌-◌, ◌*�
 use Rattle.std.proofs.lemmas.Bool.{lt-ltb}
 use Rattle.std.proofs.lemmas.List.{length-append, length-replicate, length-take-le}
 use Rattle.std.specs.Prelude.{zero, suc, true, not, nat_lt, if◌then◌else◌, List, [], ◌∷◌, ◌++◌, length, replicate, Option, Some, None}
-use Rattle.c_resolved.specs.Words.{W64, bytes_of, Size, Length, Base, Void, Char, UnsignedChar, Short, UnsignedShort, Int, Unsigned, LongLong, UnsignedLongLong, CType, size_of_base, size, elements, aligned, end_of_globals, bytes_from, Initialiser, Single, Several, Global, ExternalDeclaration, Globals, Function, Duplicate, TypeClash, is_scalar, base_width, bytes_in, UserFunction, spelled, unless_holds, is_taken, first_data, constant_value, bytes_of_number, bytes_of_all, filled, initial_value, length_faults, global_entity, File, padded, with_global, with_globals, parameter_types, with_external_declaration, file_of}
+use Rattle.c_resolved.specs.Words.{W64, bytes_of, Size, Length, Base, Void, Char, UnsignedChar, Short, UnsignedShort, Int, Unsigned, LongLong, UnsignedLongLong, CType, size_of_base, size, elements, aligned, end_of_globals, bytes_from, Initialiser, Single, Several, Global, ExternalDeclaration, Globals, Function, Duplicate, TypeClash, is_scalar, base_width, bytes_in, stored_bytes, UserFunction, spelled, unless_holds, is_taken, first_data, constant_value, bytes_of_number, bytes_of_all, filled, initial_value, length_faults, global_entity, File, padded, with_global, with_globals, parameter_types, with_external_declaration, file_of}
 use Rattle.c_checked.specs.Program as checked_program
 use Rattle.c_resolved.proofs.ResolvedExpressions.{EntityFits, FunctionFits}
 use Rattle.c_resolved.proofs.SoundDeclarations.{none_in_both, holds, ScopeFits, with_name_fits}
@@ -23,16 +23,16 @@ filled_length n bytes =
     length-take-le n (bytes ++ zeros) (omega (arith, all, rest))
 
 initial_length : (t : CType) (l : Option Length) (i : Option Initialiser)
-    → length (initial_value t l i).bytes ≡ bytes_in t * elements l
-initial_length t None None = length-replicate (bytes_in t) 0 ∙ omega arith
-initial_length t None (Some (Single c)) = number_length (bytes_in t) (constant_value c)
+    → length (initial_value t l i).bytes ≡ stored_bytes t * elements l
+initial_length t None None = length-replicate (stored_bytes t) 0 ∙ omega arith
+initial_length t None (Some (Single c)) = number_length (stored_bytes t) (constant_value c)
     ∙ omega arith
-initial_length t None (Some (Several at cs)) = length-replicate (bytes_in t) 0 ∙ omega arith
-initial_length t (Some l) None = length-replicate (l.value * bytes_in t) 0 ∙ omega arith
-initial_length t (Some l) (Some (Single c)) = length-replicate (l.value * bytes_in t) 0
+initial_length t None (Some (Several at cs)) = length-replicate (stored_bytes t) 0 ∙ omega arith
+initial_length t (Some l) None = length-replicate (l.value * stored_bytes t) 0 ∙ omega arith
+initial_length t (Some l) (Some (Single c)) = length-replicate (l.value * stored_bytes t) 0
     ∙ omega arith
-initial_length t (Some l) (Some (Several at cs)) = filled_length (l.value * bytes_in t)
-    (bytes_of_all (bytes_in t) cs) ∙ omega arith
+initial_length t (Some l) (Some (Several at cs)) = filled_length (l.value * stored_bytes t)
+    (bytes_of_all (stored_bytes t) cs) ∙ omega arith
 
 -- ---- sizes
 
@@ -53,6 +53,12 @@ same_size : (b : Base) (p : ℕ) → is_scalar (record { base = b; pointers = p 
     → bytes_in (record { base = b; pointers = p }) ≡ size b p
 same_size b zero h = base_bytes b h
 same_size b (suc p) h = ap (λ c. bytes_of (if c then W64 else base_width b)) (positive p)
+
+-- what a variable takes
+stored : (b : Base) (p : ℕ) → is_scalar (record { base = b; pointers = p }) ≡ true
+    → stored_bytes (record { base = b; pointers = p }) ≡ size b p
+stored b p h = ap (λ k. if k then bytes_in (record { base = b; pointers = p }) else 0) h
+    ∙ same_size b p h
 
 base_is_bytes : (b : Base) → is_scalar (record { base = b; pointers = 0 }) ≡ true
     → IsBytes (size_of_base b)
@@ -146,7 +152,8 @@ global_length text base g file h =
     length-append before (initial_value t g.length g.initialiser).bytes
     ∙ ap (λ n. n + length (initial_value t g.length g.initialiser).bytes) aligned_before
     ∙ ap (λ n. aligned (length file.bytes) (size base g.pointers) + n)
-    (initial_length t g.length g.initialiser ∙ ap (λ n. n * elements g.length) same)
+    (initial_length t g.length g.initialiser
+    ∙ ap (λ n. n * elements g.length) (stored base g.pointers h))
 
 global_grows : (text : List ℕ) (base : Base) (g : Global) (file : File)
     → length file.bytes ≤ length (padded (bytes_in (type_of_global base g)) file.bytes)

@@ -3,7 +3,7 @@ use Rattle.std.proofs.Common.{◌≡◌, ℕ, ◌%◌, ◌^◌, refl, ap, sym, s
 use Rattle.std.proofs.lemmas.Bool.{eqb-true, lt-ltb}
 use Rattle.std.proofs.lemmas.Option.{slice_get_within}
 use Rattle.std.specs.Prelude.{Bool, true, false, ◌&&◌, nat_eq, nat_lt, nat_le, if◌then◌else◌, List, [], ◌∷◌, ◌++◌, length, map, slice_get, Option, Some, None}
-use Rattle.c_resolved.specs.Words.{W32, low, wrapped, Size, Fixity, Arguments, Done, Next, TypingContext, are_sizes, constant_fits, argument_sizes, arguments_sound, call_fits, UnsignedLongLong, CType, Field, Identifier, Literal, Arithmetic, Increment, UnaryOperator, Expression, start, Fault, NotLvalue, TypeClash, ArgCount, CodeOutsideFilter, InfoOutsideFilter, AbnormalOutsideFinally, plain, pointer_to, pointed, is_integer, is_scalar, is_sized_pointer, access_of, width_of, size_of, TypedNode, typed, only_if, int, as_is, as_index, unary_of, binary_of, cast_of, element_of, assigned, compound_assigned, incremented, conditional_of, comma_of, lvalue_of, Entity, LocalVariable, GlobalVariable, GlobalArray, UserFunction, BuiltInFunction, CodeFunction, AbnormalFunction, BuiltInConstant, Names, FaultAt, fault_at, ResolvedExpression, ruled, rule_1, rule_2, rule_3, given_that, integer_base, constant, literal, name, is_lvalue, is_global, is_addressable, operand_is_lvalue, unsigned, field, Wanted, OfType, ZeroLiteral, built_in_wants, built_in_result, fits, passed, Argument, Passed, before, spoiled, pass, pass_all, faults_of, called, call_with, only_where, call, changed, resolve_expression, resolve_arguments, result_size}
+use Rattle.c_resolved.specs.Words.{W32, low, wrapped, Size, Fixity, Arguments, TypingContext, are_sizes, constant_fits, argument_sizes, arguments_sound, call_fits, UnsignedLongLong, CType, Field, Identifier, Literal, Arithmetic, Increment, UnaryOperator, Expression, start, Fault, NotLvalue, TypeClash, ArgCount, CodeOutsideFilter, InfoOutsideFilter, AbnormalOutsideFinally, plain, pointer_to, pointed, is_integer, is_scalar, is_sized_pointer, access_of, width_of, size_of, TypedNode, typed, only_if, int, as_is, as_index, unary_of, binary_of, cast_of, element_of, assigned, compound_assigned, incremented, conditional_of, comma_of, lvalue_of, Entity, LocalVariable, GlobalVariable, GlobalArray, UserFunction, BuiltInFunction, CodeFunction, AbnormalFunction, BuiltInConstant, Names, FaultAt, fault_at, ResolvedExpression, ruled, rule_1, rule_2, rule_3, given_that, integer_base, constant, literal, name, is_lvalue, is_global, is_addressable, operand_is_lvalue, unsigned, field, Wanted, OfType, ZeroLiteral, built_in_wants, built_in_result, fits, passed, Argument, Passed, before, spoiled, pass, pass_all, faults_of, called, call_with, only_where, call, changed, resolve_expression, resolve_arguments, result_size}
 use Rattle.c_operations.specs.Numbers.{width}
 use Rattle.c_operations.specs.declared.operation.Size.TheVariants as sizes
 use Rattle.c_operations.specs.declared.field.Field.TheVariants as fields

@@ -1,9 +1,9 @@
 -- What declarations without faults are resolved to is sound.
-use Rattle.std.proofs.Common.{◌≡◌, ℕ, ◌+◌, refl}
+use Rattle.std.proofs.Common.{◌≡◌, ℕ, refl}
 use Rattle.std.proofs.lemmas.Bool.{and_parts, lt-ltb}
 use Rattle.std.proofs.lemmas.Option.{slice_get_within}
 use Rattle.std.specs.Prelude.{Bool, true, false, not, List, [], ◌∷◌, ◌++◌, length, slice_get, Option, Some, None}
-use Rattle.c_resolved.specs.Words.{Size, Inside, expression_size, expression_sound, optional_sound, condition_sound, test_sound, value_fits, declared_sound, all_declared_sound, statement_sound, statements_sound, Base, CType, Expression, start, Statement, Local, ForInitialiser, Declaring, Evaluating, Fault, Duplicate, TypeClash, is_integer, is_scalar, size_of, TypedNode, int, as_is, can_become, Entity, LocalVariable, Names, FaultAt, ResolvedExpression, resolve_expression, result_size, Scope, same_bytes, spelled, meaning_in, built_ins, Reach, Nowhere, Beyond, Near, Environment, Numbering, ResolvedStatements, names_at, filter_names, unless_holds, any, condition, to_type, to_answer, optional, is_taken, with_name, declare, declare_all, follow, only, names_only, ResolvedForInitialiser, resolve_for_initialiser}
+use Rattle.c_resolved.specs.Words.{Size, Inside, expression_size, expression_sound, optional_sound, condition_sound, test_sound, value_fits, declared_sound, all_declared_sound, statement_sound, statements_sound, Base, CType, Expression, start, Local, ForInitialiser, Declaring, Evaluating, Fault, Duplicate, TypeClash, is_integer, is_scalar, size_of, TypedNode, int, as_is, can_become, Entity, LocalVariable, Names, FaultAt, ResolvedExpression, resolve_expression, result_size, Scope, same_bytes, spelled, meaning_in, built_ins, Reach, Nowhere, Beyond, Near, Environment, Numbering, ResolvedStatements, names_at, filter_names, unless_holds, any, condition, to_type, to_answer, optional, is_taken, with_name, declare, declare_all, follow, only, names_only, ResolvedForInitialiser, resolve_for_initialiser}
 use Rattle.c_operations.specs.declared.operation.Size.TheVariants as sizes
 use Rattle.c_checked.specs.Program.{Function}
 use Rattle.c_checked.specs.Statement as checked

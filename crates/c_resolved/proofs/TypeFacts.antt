@@ -2,7 +2,7 @@
 use Rattle.std.proofs.Common.{◌≡◌, ℕ, ◌+◌, ◌-◌, refl, ap, sym, ◌∙◌, arith}
 use Rattle.std.proofs.lemmas.Bool.Decides.{nat_tests}
 use Rattle.std.specs.Prelude.{Bool, true, false, not, ◌&&◌, ◌||◌, nat_eq, nat_lt, if◌then◌else◌, Some, None}
-use Rattle.c_resolved.specs.Words.{Width, W8, W16, W32, W64, bytes_of, Size, size_in_memory, constant_fits, is_divisor, Base, Void, Char, UnsignedChar, Short, UnsignedShort, Int, Unsigned, LongLong, UnsignedLongLong, CType, plain, pointer_to, pointed, is_void_base, is_pointer, is_void, is_integer, is_scalar, is_void_pointer, is_sized_pointer, base_width, size_of_width, size_of, promoted_base, promoted, wider, common, TypedNode, can_become, are_comparable, result_size}
+use Rattle.c_resolved.specs.Words.{Width, W8, W64, bytes_of, Size, size_in_memory, constant_fits, is_divisor, Base, Void, Char, Unsigned, LongLong, UnsignedLongLong, CType, plain, pointer_to, pointed, is_void_base, is_pointer, is_void, is_integer, is_scalar, is_void_pointer, is_sized_pointer, base_width, size_of_width, size_of, promoted_base, promoted, wider, common, TypedNode, can_become, are_comparable, result_size}
 use Rattle.c_operations.specs.declared.operation.Size.TheVariants as sizes
 use Rattle.c_resolved.proofs.Conversions.{and_left, and_right}
 

@@ -75,18 +75,27 @@ abbrev pub too_many : List Constant → List FaultAt
 too_many [] = []
 too_many (c ∷ cs) = fault_at c.at BadInitialiser
 
+-- how many bytes a variable of a type takes; one of type void, which no accepted program has, takes
+-- none
+abbrev pub stored_bytes : CType → ℕ
+stored_bytes t = if is_scalar t then bytes_in t else 0
+
 abbrev pub initial_value : CType → Option Length → Option Initialiser → InitialValue
-initial_value t None None = record { bytes = replicate (bytes_in t) 0; faults = [] }
+initial_value t None None = record { bytes = replicate (stored_bytes t) 0; faults = [] }
 initial_value t None (Some (Single c)) =
-    record { bytes = bytes_of_number (bytes_in t) (constant_value c); faults = [] }
+    record { bytes = bytes_of_number (stored_bytes t) (constant_value c); faults = [] }
 initial_value t None (Some (Several at cs)) =
-    record { bytes = replicate (bytes_in t) 0; faults = fault_at at BadInitialiser }
-initial_value t (Some l) None = record { bytes = replicate (l.value * bytes_in t) 0; faults = [] }
+    record { bytes = replicate (stored_bytes t) 0; faults = fault_at at BadInitialiser }
+initial_value t (Some l) None =
+    record { bytes = replicate (l.value * stored_bytes t) 0; faults = [] }
 initial_value t (Some l) (Some (Single c)) =
-    record { bytes = replicate (l.value * bytes_in t) 0; faults = fault_at c.at BadInitialiser }
+    record {
+      bytes = replicate (l.value * stored_bytes t) 0;
+      faults = fault_at c.at BadInitialiser;
+    }
 initial_value t (Some l) (Some (Several at cs)) =
     record {
-      bytes = filled (l.value * bytes_in t) (bytes_of_all (bytes_in t) cs);
+      bytes = filled (l.value * stored_bytes t) (bytes_of_all (stored_bytes t) cs);
       faults = too_many (drop l.value cs);
     }
 

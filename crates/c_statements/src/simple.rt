@@ -11,19 +11,18 @@ ghost use Rattle.c_syntax.specs.Statement as trees;
 
 use crate::build::{break_of, continue_of, evaluate_of, leave_of, return_of};
 use c_checked::statement::Stmt;
-use c_expressions::scopes::Entity;
+use c_expressions::name_table::NameTable;
 use c_locals::environment::{Environment, Walk, jump};
 use c_locals::evaluated::{any_or_none, returned};
 use c_resolved::fault::Fault;
 use c_syntax::expression::Expr;
-use indexmap::IndexMap;
 use std::alloc::{AllocError, Global};
 
 /// An expression, or nothing (C11, 6.8.3).
 pub fn evaluated<'t>(
     alloc: Global,
     env: &Environment<'t, '_>,
-    block: &IndexMap<&'t [u8], Entity<'t>>,
+    block: &NameTable<'t>,
     walk: &mut Walk,
     e: &Option<Expr>,
 ) -> Result<Stmt, AllocError>
@@ -39,7 +38,7 @@ pub fn evaluated<'t>(
 pub fn return_from<'t>(
     alloc: Global,
     env: &Environment<'t, '_>,
-    block: &IndexMap<&'t [u8], Entity<'t>>,
+    block: &NameTable<'t>,
     walk: &mut Walk,
     at: u64,
     e: &Option<Expr>,

@@ -20,7 +20,8 @@ use crate::build::{
 use crate::simple::{break_from, continue_from, evaluated, leave_from, return_from};
 use c_checked::expression::Expr as CheckedExpr;
 use c_checked::statement::Stmt as Checked;
-use c_expressions::scopes::{Entity, Scopes};
+use c_expressions::name_table::NameTable;
+use c_expressions::scopes::Scopes;
 use c_locals::declarations::{declare_all, for_initialiser};
 use c_locals::environment::{
     Environment, Reach, Walk, in_body, in_handler, in_last, in_loop, within,
@@ -29,7 +30,6 @@ use c_locals::evaluated::{any_or_none, condition, condition_or_none};
 use c_locals::filters::{filter_value, numbered};
 use c_syntax::expression::{CType, Expr};
 use c_syntax::statement::{ForInitialiser, Stmt};
-use indexmap::IndexMap;
 use std::alloc::{AllocError, Global};
 
 /// A statement that is a part of another one, as a block of its own (C11, 6.8.4 p3 and 6.8.5 p5).
@@ -43,7 +43,7 @@ fn part(
     ensures { IfOk result (λ m. MakesPart walk.old walk.new m.value
         (resolve_statement (statement s.now) (environment env.now) [] (numbering walk.old))) }
 {
-    let mut block = IndexMap::new(alloc);
+    let mut block = NameTable::new(alloc);
     let made = statement(alloc, env, &mut block, walk, s)?;
     Ok(Box::new(alloc, only(made))?)
 }
@@ -60,7 +60,7 @@ fn items(
         (resolve_statements (statements (map statement list.now)) (environment env.now) []
         (numbering walk.old))) }
 {
-    let mut block = IndexMap::new(alloc);
+    let mut block = NameTable::new(alloc);
     statements(alloc, env, &mut block, walk, list)
 }
 
@@ -69,7 +69,7 @@ fn items(
 fn governed<'t>(
     alloc: Global,
     env: &Environment<'t, '_>,
-    block: &IndexMap<&'t [u8], Entity<'t>>,
+    block: &NameTable<'t>,
     inner: &Environment<'t, '_>,
     walk: &mut Walk,
     s: &Stmt,
@@ -96,7 +96,7 @@ fn governed<'t>(
 fn for_loop<'t>(
     alloc: Global,
     env: &Environment<'t, '_>,
-    block: &IndexMap<&'t [u8], Entity<'t>>,
+    block: &NameTable<'t>,
     walk: &mut Walk,
     body: &Stmt,
     at: u64,
@@ -111,7 +111,7 @@ fn for_loop<'t>(
 {
     let scopes = Scopes::Inside(block, env.outer);
     let here = within(env, &scopes);
-    let mut names = IndexMap::new(alloc);
+    let mut names = NameTable::new(alloc);
     let beginning = for_initialiser(alloc, &here, first, &mut names, walk)?;
     match condition_or_none(alloc, &here, &names, &mut walk.worst, at, condition) {
         Err(failed) => {
@@ -145,7 +145,7 @@ fn for_loop<'t>(
 fn guarded<'t>(
     alloc: Global,
     env: &Environment<'t, '_>,
-    block: &mut IndexMap<&'t [u8], Entity<'t>>,
+    block: &mut NameTable<'t>,
     walk: &mut Walk,
     s: &Stmt,
 ) -> Result<Vec<Checked>, AllocError>
@@ -195,7 +195,7 @@ fn guarded<'t>(
 fn loop_or_try<'t>(
     alloc: Global,
     env: &Environment<'t, '_>,
-    block: &mut IndexMap<&'t [u8], Entity<'t>>,
+    block: &mut NameTable<'t>,
     walk: &mut Walk,
     s: &Stmt,
 ) -> Result<Vec<Checked>, AllocError>
@@ -233,7 +233,7 @@ fn loop_or_try<'t>(
 fn with_parts<'t>(
     alloc: Global,
     env: &Environment<'t, '_>,
-    block: &mut IndexMap<&'t [u8], Entity<'t>>,
+    block: &mut NameTable<'t>,
     walk: &mut Walk,
     s: &Stmt,
 ) -> Result<Vec<Checked>, AllocError>
@@ -271,7 +271,7 @@ fn with_parts<'t>(
 fn statement<'t>(
     alloc: Global,
     env: &Environment<'t, '_>,
-    block: &mut IndexMap<&'t [u8], Entity<'t>>,
+    block: &mut NameTable<'t>,
     walk: &mut Walk,
     s: &Stmt,
 ) -> Result<Vec<Checked>, AllocError>
@@ -307,7 +307,7 @@ fn statement<'t>(
 fn statements<'t>(
     alloc: Global,
     env: &Environment<'t, '_>,
-    block: &mut IndexMap<&'t [u8], Entity<'t>>,
+    block: &mut NameTable<'t>,
     walk: &mut Walk,
     list: &[Stmt],
 ) -> Result<Vec<Checked>, AllocError>
@@ -328,9 +328,9 @@ fn statements<'t>(
 pub fn body<'t>(
     alloc: Global,
     text: &'t [u8],
-    file: &IndexMap<&'t [u8], Entity<'t>>,
+    file: &NameTable<'t>,
     returns: CType,
-    block: &mut IndexMap<&'t [u8], Entity<'t>>,
+    block: &mut NameTable<'t>,
     walk: &mut Walk,
     list: &[Stmt],
 ) -> Result<Vec<Checked>, AllocError>

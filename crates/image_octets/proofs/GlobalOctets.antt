@@ -5,7 +5,7 @@ use Rattle.c_syntax.specs.declared.declaration.Length.{Length}
 use Rattle.c_syntax.specs.declared.expression.Base.{Base}
 use Rattle.c_syntax.specs.declared.expression.CType.{CType}
 use Rattle.c_syntax.specs.Program.{Initialiser, Single, Several, Global, ExternalDeclaration, Globals, Function}
-use Rattle.c_resolved.specs.Program.{constant_value, bytes_of_number, bytes_of_all, filled, initial_value, padded, File, with_global, with_globals, with_external_declaration, file_of, empty_file}
+use Rattle.c_resolved.specs.Program.{constant_value, bytes_of_number, bytes_of_all, filled, stored_bytes, initial_value, padded, File, with_global, with_globals, with_external_declaration, file_of, empty_file}
 use Rattle.c_resolved.specs.Types.{bytes_in}
 use Rattle.image_octets.specs.OctetLaws.{AreOctets, ResolvedAreOctets}
 use Rattle.image_octets.proofs.Octets.{joined, taken, repeated}
@@ -25,13 +25,13 @@ filled_octets n bytes all = taken n (bytes ++ replicate (n - length bytes) 0)
 
 initial_octets : (t : CType) (l : Option Length) (i : Option Initialiser)
     → AreOctets (initial_value t l i).bytes
-initial_octets t None None = repeated (bytes_in t)
-initial_octets t None (Some (Single c)) = number_octets (bytes_in t) (constant_value c)
-initial_octets t None (Some (Several at cs)) = repeated (bytes_in t)
-initial_octets t (Some l) None = repeated (l.value * bytes_in t)
-initial_octets t (Some l) (Some (Single c)) = repeated (l.value * bytes_in t)
+initial_octets t None None = repeated (stored_bytes t)
+initial_octets t None (Some (Single c)) = number_octets (stored_bytes t) (constant_value c)
+initial_octets t None (Some (Several at cs)) = repeated (stored_bytes t)
+initial_octets t (Some l) None = repeated (l.value * stored_bytes t)
+initial_octets t (Some l) (Some (Single c)) = repeated (l.value * stored_bytes t)
 initial_octets t (Some l) (Some (Several at cs)) =
-    filled_octets (l.value * bytes_in t) (bytes_of_all (bytes_in t) cs) (all_octets (bytes_in t) cs)
+    filled_octets (l.value * stored_bytes t) (bytes_of_all (stored_bytes t) cs) (all_octets (stored_bytes t) cs)
 
 padded_octets : (n : ℕ) (bytes : List ℕ) → AreOctets bytes → AreOctets (padded n bytes)
 padded_octets n bytes all = joined bytes (replicate ((n - length bytes % n) % n) 0) all

@@ -27,6 +27,10 @@ int a[0]; int main(void){  return 0; } => TypeClash 6
 int a[0x0]; int main(void){  return 0; } => TypeClash 6
 void a; int main(void){  return 0; } => TypeClash 5
 void a[3]; int main(void){  return 0; } => TypeClash 5
+void a[18446744073709551615]; int main(void){  return 0; } => TypeClash 5
+void a[18446744073709551615] = {1, 2}; int main(void){  return 0; } => TypeClash 5
+void a[18446744073709551615] = 1; int main(void){  return 0; } => TypeClash 5
+void a = 1; int main(void){  return 0; } => TypeClash 5
 int b, *c; void *d, e; int main(void){  return 0; } => TypeClash 20
 int a[0] = {1}; int main(void){  return 0; } => TypeClash 6
 int main(void){ void x; return 0; } => TypeClash 21

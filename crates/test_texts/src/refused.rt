@@ -54,6 +54,8 @@ pub const RULES: &str = r"
 => 2 ! refused TypeClash 4
 # result of main: int *main(void){ return 1; }
 => 2 ! refused TypeClash 5
+# an array of void with as many elements as can be: void a[18446744073709551615]; int main(void){ return 0; }
+=> 2 ! refused TypeClash 5
 # no main: int f(void){ return 1; }
 => 2 ! refused NoMain 0
 # local twice: int main(void){ int a; int a; }
