@@ -1,6 +1,7 @@
 //! From an image to a host.
 
-ghost use Rattle.std.specs.Prelude.{◌≡◌, true, None, IfOk, IfErr};
+ghost use Rattle.std.specs.Prelude.{◌≡◌, true, None, Ok, IfOk, IfErr};
+ghost use Rattle.eh_tables.specs.Tables.{directory, TablesAreWhole};
 ghost use Rattle.host_model.specs.Loading as model;
 ghost use Rattle.host_model.specs.Loading.{first_cpu, has_place};
 ghost use Rattle.x64_memory.specs.PageMaps.{memory_of};
@@ -77,6 +78,22 @@ fn refusal(image: &ImageView<'_>) -> Option<LoadErr>
     None
 }
 
+/// The function table of an image, read whole.
+fn read_tables<'image, 'bytes>(
+    alloc: Global,
+    image: &'image ImageView<'bytes>,
+) -> Result<Tables<'image, 'bytes>, LoadErr>
+    ensures read { IfOk result (λ t. (directory image.now ≡ Ok t.ranges) × (t.image ≡ image.now)) }
+    ensures whole { IfOk result (λ t. TablesAreWhole t) }
+    ensures refused { IfErr result (λ e. IsLoadRefusal image.now e) }
+{
+    match Tables::read_in(alloc, image) {
+        Ok(Ok(tables)) => Ok(tables),
+        Ok(Err(refusal)) => Err(LoadErr::Table(refusal)),
+        Err(_) => Err(LoadErr::Memory),
+    }
+}
+
 /// Loads an image: its sections, a stack and the arena are mapped, the slots of its imports hold
 /// the addresses of the host's services, a later one over an earlier, and the run is at the entry
 /// point with the argument in RCX.
@@ -97,10 +114,7 @@ pub fn load<'image, 'bytes>(
     ensures accepted { IfOk result (λ h. model.load_refusal image.now ≡ None) }
     ensures refused { IfErr result (λ e. IsLoadRefusal image.now e) }
 {
-    let tables = match Tables::read(image) {
-        Ok(tables) => tables,
-        Err(error) => return Err(LoadErr::Table(error)),
-    };
+    let tables = read_tables(alloc, image)?;
     if let Some(refusal) = refusal(image) {
         return Err(refusal);
     }

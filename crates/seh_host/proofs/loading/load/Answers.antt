@@ -15,12 +15,12 @@ returns-clause-loaded c =
     (ap (λ b. b + c.entry.result) c.base.ensures ∙ ap (λ n. image.base + n) c.entry.ensures.value)
     ∙ ap (first_cpu (image.base + image.entry))
     (to_z-of_z w64 c.args.arg (record { sfits = c.ranges.arg.sfits })) in
-    let memory = c.in-Ok-mapped.ensures in
-    let functions = functions_read image c.in-Ok.tables (c.in-Ok.ensures.read).0
-    (c.in-Ok.ensures.read).1 in
+    let memory = c.in-Ok.ensures in
+    let functions = functions_read image c.in_ok-tables.tables (c.in_ok-tables.ensures.read).0
+    (c.in_ok-tables.ensures.read).1 in
     let listed = c.in-Ok-funclets_in.ensures.items
     ∙ ap (λ (t : Functions). funclets t.entries) functions in
-    let going : Live (record { cpu = c.first_cpu.result; memory = memory_of c.in-Ok-mapped.space })
+    let going : Live (record { cpu = c.first_cpu.result; memory = memory_of c.in-Ok.space })
     ≡ host (start image c.args.arg) = (λ i. Live (record { cpu = cpu i; memory = memory i }))
     ∙ sym (ap (over (start image c.args.arg))
     (place_above image image.entry (c.in_default.ensures.place refl))) in
@@ -28,7 +28,7 @@ returns-clause-loaded c =
 
 pub invariant_of-result-clause-coherent : goal.invariant_of-result-clause-coherent
 invariant_of-result-clause-coherent c =
-    λ e. c.in-Ok-new-2.ensures (memory_of c.in-Ok-mapped.space)
+    λ e. c.in-Ok-new-2.ensures (memory_of c.in-Ok.space)
 
 pub invariant_of-result-clause-admitted : goal.invariant_of-result-clause-admitted
 invariant_of-result-clause-admitted c =
