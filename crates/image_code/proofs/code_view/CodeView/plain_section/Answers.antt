@@ -1,4 +1,4 @@
-use Rattle.std.proofs.Common.{◌≡◌, ◌-◌, Some, take, drop, sym, ap, subst, ◌∙◌, refl, arith}
+use Rattle.std.proofs.Common.{◌≡◌, ◌-◌, take, drop, sym, ap, subst, ◌∙◌, refl, arith}
 use Rattle.flat_memory.specs.Memory.{executable}
 use Rattle.host_model.specs.Loading.{section_of}
 use Rattle.image_code.specs.Code.{code_of}
