@@ -1,6 +1,6 @@
 -- `check` and `check --each` of the same bytes end with one status.
-use Rattle.std.proofs.Common.{◌≡◌, ◌≢◌, ◌⊎◌, inl, inr, ℕ, ◌+◌, ◌<◌, ◌≤◌, List, [], ◌∷◌, ◌++◌, length, cond, ◌==◌, Option, Some, None, Result, Ok, Err, refl, sym, ap, subst, ◌∙◌, arith}
-use Rattle.std.specs.Prelude.{All, is_none, count_by, if◌then◌else◌}
+use Rattle.std.proofs.Common.{◌≡◌, ◌⊎◌, inl, inr, ℕ, ◌+◌, ◌<◌, List, [], ◌∷◌, ◌++◌, length, cond, Option, Some, None, Result, Ok, Err, refl, sym, ap, subst, ◌∙◌, arith}
+use Rattle.std.specs.Prelude.{All, is_none}
 use Rattle.std.proofs.lemmas.Bool.{eq-eqb, ne_eqb}
 use Rattle.std.proofs.lemmas.List.Elements.{All-head, All-tail}
 use Rattle.std.proofs.lemmas.List.Sums.{count_by-le-length, sum_by-cons}
@@ -32,11 +32,10 @@ use Rattle.seh.specs.Answers.{image_limit}
 use Rattle.seh.specs.Checks.{IsChecked, IsRefusedTable, IsCheckAnswer}
 use Rattle.seh.specs.EntryChecks.{AreChecked, IsEntriesAnswer, kept_count}
 use Rattle.seh.specs.EntryCheckLaws.{StatusesAgree}
-use Rattle.seh.specs.Calls.{Call, Asks, HadNoFault, WantedMemory}
+use Rattle.seh.specs.Calls.{Call, HadNoFault, WantedMemory}
 use Rattle.seh.specs.Refusals.{Reported, refusal_status}
 use Rattle.seh.specs.Statuses.{verdict_status, entries_status}
 use Rattle.seh.proofs.Completeness.{one_image}
-use Rattle.seh.proofs.OneVerdict.{one_table}
 use Rattle.seh.proofs.OneTextOfEntries.{of_table}
 use Rattle.seh.proofs.Calls.{Came, came, judged_by, of_refusal, image_wanted, wanted, cut, table_read}
 
