@@ -6,9 +6,9 @@ use crate::plans::{Calls, told};
 use std::alloc::Global;
 use std::process::Abort;
 
-/// A row is `COMMAND READ WRITE | INPUT | WANTED`: how many bytes a call of the source, and a call of
-/// `out`, moves at most where one fails, and what is answered where none does; of an image and a
-/// view the status alone.
+/// A row is `COMMAND READ WRITE | INPUT | WANTED`: how many bytes a call of the source, and a call
+/// of `out`, moves at most where one fails, and what is answered where none does; of an image and
+/// a view the status alone.
 const COMMANDS: &str = r"
 compile 1 32 | text int main(void){ __try{ __try{ RaiseException(0xE0000001,0,0,0); } __finally{ put(AbnormalTermination()); } } __except(2){ put(3); } return 0; } | 0
 compile 4096 4096 | text int main(void){ __try{ __try{ RaiseException(0xE0000001,0,0,0); } __finally{ put(AbnormalTermination()); } } __except(2){ put(3); } return 0; } | 0
