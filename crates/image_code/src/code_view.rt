@@ -147,8 +147,8 @@ impl<'image, 'bytes> CodeView<'image, 'bytes> {
         }
     }
 
-    /// The section that covers an address, where its bytes may be executed and no slot has one of the
-    /// fifteen from there on: what the file stores of it from there is code as it stands.
+    /// The section that covers an address, where its bytes may be executed and no slot has one of
+    /// the fifteen from there on: what the file stores of it from there is code as it stands.
     fn plain_section(&self, at: u64) -> Option<&SectionView<'bytes>>
         ensures { IfSome result (λ s. (n : ℕ) → n ≤ LONGEST_INSTRUCTION
             → at - s.now.address + n ≤ length s.now.raw → at + n < 2 ^ 64

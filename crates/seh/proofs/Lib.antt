@@ -18,3 +18,4 @@ pub mod CompiledChecks
 pub mod CompiledFrames
 pub mod EntryCalls
 pub mod OneTextOfEntries
+pub mod OneStatus

@@ -14,7 +14,7 @@ use Rattle.seh.proofs.Completeness.{one_image}
 use Rattle.seh.proofs.OneVerdict.{one_table}
 
 -- the verdicts are of the entries of an image that is read
-of_table : (bytes : List ℕ) (vs : List EntryVerdict) (h : AreChecked bytes vs) (image : Image)
+pub of_table : (bytes : List ℕ) (vs : List EntryVerdict) (h : AreChecked bytes vs) (image : Image)
     (entries : List Entry) → reading bytes ≡ Ok image → tables image ≡ Ok entries
     → AreEntryVerdicts (checked_code image CHECK_STACK) entries vs
 of_table bytes vs h image entries is whole =

@@ -5,7 +5,7 @@ use Rattle.pe_image.specs.Reading.{IsImage}
 use Rattle.eh_tables.specs.Tables.{Entry, tables}
 use Rattle.unwind_check.specs.declared.rule.EntryVerdict.{EntryVerdict}
 use Rattle.image_code.specs.Verdicts.{AreImageVerdicts}
-use Rattle.command_line.specs.declared.command.CheckReport.TheVariants.{Each}
+use Rattle.command_line.specs.declared.command.CheckReport.TheVariants.{Whole, Each}
 use Rattle.command_line.specs.declared.command.Command.TheVariants.{Check}
 use Rattle.x64_emit.specs.declared.entry.TheConstants.{CHECK_STACK}
 use Rattle.seh.specs.Answers.{image_limit}
@@ -28,3 +28,11 @@ EntryCheckIsComplete =
 abbrev pub EntriesHaveOneVerdictEach : Type 0
 EntriesHaveOneVerdictEach =
     (bytes : List ℕ) (a b : List EntryVerdict) → AreChecked bytes a → AreChecked bytes b → a ≡ b
+
+-- a call of `check` and one of `check --each` over the same bytes end with one status, where memory
+-- isn't wanting in either
+abbrev pub StatusesAgree : Type 0
+StatusesAgree =
+    (bytes : List ℕ) (whole each : Call)
+    → length bytes ≤ image_limit → Asks (Check Whole) bytes whole → Asks (Check Each) bytes each
+    → WantedMemory whole ⊎ (WantedMemory each ⊎ (whole.status ≡ each.status))

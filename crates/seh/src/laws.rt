@@ -4,7 +4,7 @@ ghost use Rattle.seh.specs.Calls.{CompileIsComplete, RunIsComplete, MeaningIsCom
 ghost use Rattle.seh.specs.CheckLaws.{ImagesHaveOneVerdict, DoneIsYes, CheckedCallersAreFound};
 ghost use Rattle.seh.specs.CompiledChecks.{CompiledImagesAreKept, CompiledVerdictsAreYes, CompiledIsKept};
 ghost use Rattle.seh.specs.CompiledFrames.{CompiledEntriesAreFound, CompiledLeavesAreFound, CompiledCodeIsCovered};
-ghost use Rattle.seh.specs.EntryCheckLaws.{EntryCheckIsComplete, EntriesHaveOneVerdictEach};
+ghost use Rattle.seh.specs.EntryCheckLaws.{EntryCheckIsComplete, EntriesHaveOneVerdictEach, StatusesAgree};
 ghost use Rattle.seh.specs.Completeness.{AcceptedTextsCompile, CompiledImagesRun};
 ghost use Rattle.seh.specs.Existence.{ImagesExist};
 ghost use Rattle.seh.specs.Headline.{Headline, NothingMore, Walks};
@@ -118,7 +118,10 @@ pub fn compiled_frames()
 {}
 
 /// What `check --each` says of an image: each entry of an image has one verdict, and so the image
-/// has one text.
+/// has one text. Where no stream has a fault and memory isn't wanting, `check` and `check --each` of
+/// the same bytes end with one status: that of yes where each entry is without a fault, that of no
+/// where one isn't, and that of a refusal where the image or its function table is refused.
 pub fn checked_entries()
-    ensures { EntriesHaveOneVerdictEach }
+    ensures one_verdict_each { EntriesHaveOneVerdictEach }
+    ensures statuses { StatusesAgree }
 {}

@@ -1,5 +1,5 @@
-//! The trailing part of a legal epilogue, by the instructions that were decoded, and past them as the
-//! processor fetches it (Microsoft x64 ABI, "Epilog code").
+//! The trailing part of a legal epilogue, by the instructions that were decoded, and past them as
+//! the processor fetches it (Microsoft x64 ABI, "Epilog code").
 
 ghost use Rattle.std.specs.Prelude.{◌≡◌, ◌+◌, ◌-◌, ◌<◌, ◌^◌, ◌==◌};
 ghost use Rattle.virtual_unwind.specs.Tail as spec;

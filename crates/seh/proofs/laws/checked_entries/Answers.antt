@@ -1,5 +1,6 @@
+use Rattle.seh.proofs.OneStatus.{statuses_agree}
 use Rattle.seh.proofs.OneTextOfEntries.{entries_have_one_verdict_each}
 use Rattle.seh.proofs.laws.checked_entries.Goals as goal
 
 pub returns : goal.returns
-returns c = entries_have_one_verdict_each
+returns c = record { one_verdict_each = entries_have_one_verdict_each; statuses = statuses_agree }
