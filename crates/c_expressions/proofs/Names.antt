@@ -5,7 +5,6 @@ use Rattle.std.specs.Option.{option_or}
 use Rattle.std.specs.Borrow.{Bor}
 use Rattle.std.specs.Cmp.{nat_eq_equiv}
 use Rattle.std.specs.Cmp.Lexicographic.{pointwise, bytes_decides, lists_equiv}
-use Rattle.std.specs.Map.{lookup}
 use Rattle.c_expressions.specs.declared.scopes.Entity.{Entity as Entity'}
 use Rattle.c_expressions.specs.NameTables.{meaning_of}
 use Rattle.c_expressions.specs.Words.{entity, names_after, block_of, built_in_functions, built_in_constants, Entity, BuiltInFunction, CodeFunction, AbnormalFunction, BuiltInConstant, is_some, is_taken, with_name}
