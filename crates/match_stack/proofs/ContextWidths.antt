@@ -12,8 +12,13 @@ small_set (k ∷ ks) v s lt = record { count = s.count; each = at }
     at (suc j) l = s.each (suc j) l
 
 pub wide_after : (t : Functions) (m : Memory) (c : Context) (f : StackFrame) → FrameIsAt t m c f
-    → IsWide c.kept → IsWide (after_frame c f).kept
-wide_after t m c f h s = small_set c.kept (rsp c + f.size + 8) s h.room
+    → AllSmall f.others → IsWide (after_frame c f).kept
+wide_after t m c f h small = record { count = let e = h.eight in omega arith; each = at }
+  where
+    at : (j : ℕ) → j < length ((rsp c + f.size + 8) ∷ f.others)
+        → slice_index ((rsp c + f.size + 8) ∷ f.others) j < 2 ^ 64
+    at zero l = h.room
+    at (suc j) l = small j (omega arith)
 
 pub wide_after_leaf : (t : Functions) (m : Memory) (c : Context) (back : ℕ) → LeafIsAt t m c back
     → IsWide c.kept → IsWide (after_leaf c back).kept

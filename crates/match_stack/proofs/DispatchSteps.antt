@@ -1,7 +1,7 @@
 -- Where a search or an unwinding begins, or continues.
-use Rattle.std.proofs.Common.{◌≡◌, inl, ℕ, zero, suc, ◌+◌, ◌-◌, ◌%◌, ◌^◌, ◌<◌, ◌≤◌, Bool, true, Option, Some, None, List, [], ◌∷◌, length, refl, ap, subst, ◌∙◌, arith}
+use Rattle.std.proofs.Common.{◌≡◌, inl, ℕ, zero, suc, ◌+◌, ◌-◌, ◌%◌, ◌^◌, ◌<◌, ◌≤◌, Bool, true, Option, Some, None, List, ◌∷◌, length, refl, ap, subst, ◌∙◌, arith}
 use Rattle.std.specs.Prelude.{not, ◌==◌, slice_index, replicate}
-use Rattle.match_stack.specs.Words.{Code, Event, Memory, Cpu, Context, context_of, State, rsp, Functions, DispatchRecord, placed, misplaced, RecordFits, AllSmall, RECORD_SIZE, is_search, Funclet, with_event, if_placed, unwinds_on, Exception, noncontinuable, LinearProgram, Frame, Item, Waits, handlers, StackItem, Framed, Leaf, Searching, Unwinding, ImagePlan, Activation, HasSpace, below_end, record_room, Onward, Linked, On, RecordHasRoom, IsWellFormed, place_below, place_of, parameters, count, new_record, if_finally, accepting, accepted, again, to_target, jumping, searches_on, raise_event, placed_in, AsksHost, IsException, RaiseSearches, LocalUnwindUnwinds, AcceptanceUnwinds, AnswersContinue, FinallyReturnsUnwind}
+use Rattle.match_stack.specs.Words.{Code, Event, Memory, Cpu, Context, context_of, State, rsp, Functions, DispatchRecord, placed, misplaced, RecordFits, AllSmall, RECORD_SIZE, is_search, Funclet, with_event, if_placed, unwinds_on, Exception, noncontinuable, LinearProgram, Frame, Item, Waits, handlers, StackItem, Framed, Leaf, ImagePlan, Activation, HasSpace, below_end, record_room, Onward, Linked, On, RecordHasRoom, IsWellFormed, place_below, place_of, parameters, count, new_record, if_finally, accepting, accepted, again, to_target, jumping, searches_on, raise_event, placed_in, AsksHost, IsException, RaiseSearches, LocalUnwindUnwinds, AcceptanceUnwinds, AnswersContinue, FinallyReturnsUnwind}
 use Rattle.seh_num.specs.declared.event.Event.TheVariants as events
 use Rattle.seh_records.specs.declared.dispatch.Kind.{Kind}
 use Rattle.seh_records.specs.declared.dispatch.Kind.TheVariants.{Search, ExceptionUnwind, LocalUnwind}

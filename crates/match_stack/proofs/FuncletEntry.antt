@@ -98,9 +98,6 @@ pub few_items : (t : Functions) (m : Memory) (c : Context) (is : List StackItem)
     → rsp c < 2 ^ 64 → rsp c + 8 * length is < 2 ^ 64
 few_items t m c [] s lt = omega arith
 few_items t m c (Framed f ∷ is) s lt =
-    let k = s.0.kept in
-    let up : rsp (after_frame c f) ≡ rsp c + f.size
-    + 8 = set_head c.kept (rsp c + f.size + 8) (omega arith) in
     let room = s.0.room in
     let e = few_items t m (after_frame c f) is s.1 (omega arith) in
     omega arith

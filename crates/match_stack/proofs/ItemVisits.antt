@@ -2,12 +2,12 @@
 use Rattle.std.proofs.Common.{◌≡◌, ℕ, ◌+◌, ◌-◌, ◌%◌, ◌^◌, ◌<◌, ◌≤◌, true, Option, Some, None, Ok, List, [], ◌∷◌, length, refl, ap, ◌∙◌, arith}
 use Rattle.std.specs.Prelude.{nat_lt, nat_eq, not, slice_index, slice_set}
 use Rattle.std.proofs.lemmas.Bool.{lt-ltb}
-use Rattle.match_stack.specs.Words.{Memory, Instr, Context, context_of, Info, Entry, rsp, word, Functions, distance, fetched, RECORD_SIZE, WalkState, walk_in, filter_return, finally_return, StackFrame, FrameIsAt, LeafIsAt, after_frame, after_leaf, caller_frame, caller_of_leaf, state, rsp_raised, Answer, popped, operations, CallerFrame, base_if, found, in_body, by_distance, past_prologue, of_entry, rising, risen, caller_in, visited, if_over, if_filter, framed, past_filter, past_finally, if_search, above, if_above, saved_in, FrameIsVisited, LeafIsVisited, SearchIsPassed, UnwindingIsPassed, StackIsOver}
+use Rattle.match_stack.specs.Words.{Memory, Instr, Context, context_of, Info, Entry, rsp, word, Functions, distance, fetched, RECORD_SIZE, WalkState, walk_in, filter_return, finally_return, StackFrame, FrameIsAt, LeafIsAt, after_frame, after_leaf, caller_frame, caller_of_leaf, state, rsp_raised, Answer, popped, operations, CallerFrame, found, in_body, by_distance, past_prologue, of_entry, rising, risen, caller_in, visited, if_over, if_filter, framed, past_filter, past_finally, if_search, above, if_above, saved_in, FrameIsVisited, LeafIsVisited, SearchIsPassed, UnwindingIsPassed, StackIsOver, IsAsTold, told, at_entry}
 use Rattle.seh_num.specs.Answers.{◌>>=◌}
-use Rattle.eh_tables.specs.declared.code.UnwindCode.{UnwindCode}
-use Rattle.eh_tables.specs.declared.code.UnwindOperation.TheVariants.{Allocate}
 use Rattle.virtual_unwind.specs.CallerOf.{unwound}
 use Rattle.seh_walk.specs.Walk.{if_finally}
+use Rattle.match_stack.proofs.Lemmas.{undoing}
+use Rattle.match_stack.proofs.FrameWords.{left_is}
 
 pub set_head : (kept : List ℕ) (v : ℕ) → 0 < length kept → slice_index (slice_set kept 0 v) 0 ≡ v
 set_head [] v lt = absurd (omega arith)
@@ -16,46 +16,24 @@ set_head (k ∷ ks) v lt = refl
 abbrev up_by : ℕ → List ℕ → ℕ → Answer Context
 up_by x ks v = Ok (rsp_raised (record { rip = v; kept = x ∷ ks }) 8)
 
--- the fixed allocation undone and the return address popped
-frame_popped : (m : Memory) (rip : ℕ) (kept : List ℕ) (n back : ℕ) → 0 < length kept
-    → slice_index kept 0 + n + 8 < 2 ^ 64 → word m (slice_index kept 0 + n) ≡ Ok back
-    → popped m (rsp_raised (record { rip = rip; kept = kept }) n)
-    ≡ Ok (record { rip = back; kept = slice_set kept 0 (slice_index kept 0 + n + 8) })
-frame_popped m rip [] n back lt room w = absurd (omega arith)
-frame_popped m rip (k ∷ ks) n back lt room w =
-    let e : (k + n) % 2 ^ 64 ≡ k + n = omega arith in
-    let f : ((k + n) % 2 ^ 64 + 8) % 2 ^ 64 ≡ k + n + 8 = omega arith in
-    ap (λ (o : Answer ℕ). o >>= up_by ((k + n) % 2 ^ 64) ks) (ap (word m) e ∙ w)
-    ∙ ap (λ x. Ok (record { rip = back; kept = x ∷ ks })) f
-
-base_is_rsp : (i : Info) (c : Context) → i.frame_register ≡ 0
-    → base_if i c (not (nat_eq i.frame_register 0)) ≡ rsp c
-base_is_rsp i c e = ap (λ r. base_if i c (not (nat_eq r 0))) e
-
-body_found : (m : Memory) (c : Context) (f : StackFrame) → f.entry.info.frame_register ≡ 0
-    → f.entry.parents ≡ [] → f.entry.info.codes
-    ≡ record { offset = f.offset; operation = Allocate f.size } ∷ [] → length c.kept ≡ 9
-    → rsp c + f.size + 8 < 2 ^ 64 → word m (rsp c + f.size) ≡ Ok f.return_address
+-- undoing the codes of a frame gives its caller, with the registers that were saved
+body_found : (m : Memory) (c : Context) (f : StackFrame) → f.entry.parents ≡ []
+    → length c.kept ≡ 9 → length f.others ≡ 8 → rsp c + f.size + 8 < 2 ^ 64 → IsAsTold m c f
     → in_body m f.entry.info f.entry.parents c ≡ Ok (caller_frame c f)
-body_found m c f none no_parents codes kept room returns =
+body_found m c f no_parents kept eight room h =
     let i = f.entry.info in
-    let base = base_if i c (not (nat_eq i.frame_register 0)) in
-    ap (λ b. found b (Some i) (unwound m b i f.entry.parents (operations i.codes) c))
-    (base_is_rsp i c none)
+    ap (λ b. found b (Some i) (unwound m b i f.entry.parents (operations i.codes) c)) h.base
     ∙ ap (λ (a : List Info). found (rsp c) (Some i) (unwound m (rsp c) i a (operations i.codes) c))
     no_parents
-    ∙ ap (λ (k : List UnwindCode). found (rsp c) (Some i) (unwound m (rsp c) i [] (operations k) c))
-    codes
     ∙ ap (λ (r : Answer Context). found (rsp c) (Some i) r)
-    (frame_popped m c.rip c.kept f.size f.return_address (omega arith) room returns)
+    (undoing i m c (rsp c) (at_entry c f) f.return_address (told f) kept room h.offset h.allowed
+    h.stack h.framed h.others ∙ ap Ok (left_is c f eight))
 
 pub frame_called : (t : Functions) (m : Memory) (c : Context) (f : StackFrame) → FrameIsAt t m c f
     → caller_in t m c ≡ Ok (caller_frame c f)
 unfolding caller_in
 frame_called t m c f h =
     let rva = distance t.base c.rip in
-    let up : rsp (after_frame c f) ≡ rsp c + f.size
-    + 8 = set_head c.kept (rsp c + f.size + 8) (let k = h.kept in omega arith) in
     let rises : nat_lt (rsp c) (rsp (after_frame c f)) ≡ true = lt-ltb _ _ (omega arith) in
     ap (λ (o : Option Entry). of_entry m c rva o >>= rising c) h.found
     ∙ ap (λ b. by_distance m f.entry.info f.entry.parents c (rva - f.entry.range.begin) b
@@ -63,7 +41,7 @@ frame_called t m c f h =
     ∙ ap (λ (o : Option (List Instr)). past_prologue m f.entry.info f.entry.parents c o
     >>= rising c) h.not_epilogue
     ∙ ap (λ (r : Answer CallerFrame). r >>= rising c)
-    (body_found m c f h.no_register h.no_parents h.codes h.kept h.room h.returns)
+    (body_found m c f h.no_parents h.kept h.eight h.room h.is_told)
     ∙ ap (risen c (caller_frame c f)) rises
 
 pub frame_is_visited : FrameIsVisited

@@ -1,4 +1,5 @@
 mod Lemmas
+pub mod FrameWords
 pub mod ItemVisits
 pub mod MemoryReads
 pub mod StackKeeping
@@ -23,3 +24,5 @@ pub mod SearchTurns
 pub mod UnwindTurns
 pub mod DispatchSteps
 pub mod FilterAnswers
+pub mod HostRegisters
+pub mod AllocatedFrames

@@ -5,7 +5,7 @@ use Rattle.std.specs.Prelude.{nat_lt}
 use Rattle.std.proofs.lemmas.Bool.{ltb-false}
 use Rattle.match_stack.specs.Words.{STACK_START, STACK_END, Protection, is_readable, Memory, with_bytes, first_refused, may_read, may_write, rsp, word, Functions, misplaced, return_address_at, RECORD_SIZE, PLACED_SIZE, Funclet, LinearProgram, BodyName, FunctionBody, FuncletBody, ImagePlan, Activation, Reaches, KeepsAbove, is_writable, Leads, KeptByStoresBelow, KeptByOtherMemories}
 use Rattle.match_stack.proofs.Lemmas.{fetched_by_its_bytes}
-use Rattle.match_stack.proofs.MemoryReads.{SameCode, tail_at_same, refused_same, word_kept, word_same}
+use Rattle.match_stack.proofs.MemoryReads.{SameCode, tail_at_same, refused_same, word_kept, word_same, saved_kept}
 use Rattle.match_stack.proofs.ListMemories.{ReadsSame, list_kept}
 
 -- ---- stores below the stack pointer
@@ -23,6 +23,8 @@ reads_above : (m : Memory) (byte : ℕ → ℕ) (low : ℕ) → KeepsAbove m byt
     → ReadsSame m (with_bytes m byte) low STACK_END
 reads_above m byte low a = record {
   words = λ at v p q w. word_above m byte low at v a p (omega arith) w;
+  saved = λ at v p q w. saved_kept m (with_bytes m byte) at v (omega arith) (λ x l h. refl)
+      (λ x l h. a.above x (omega arith)) w;
   records = λ at p q. fetched_by_its_bytes m (with_bytes m byte) at (omega arith) refl
       (λ x l h. a.above x (omega arith));
   places = λ at p q. misplaced_same m byte at;
@@ -105,6 +107,9 @@ module _ (m m' : Memory) (low top : ℕ) (k : KeepsRange m m' low top) (from : S
     words = λ at v p q w. word_kept m m' at (omega arith)
         (λ x l h. k.protection x (omega arith) (omega arith))
         (λ x l h. k.bytes x (omega arith) (omega arith)) ∙ w;
+    saved = λ at v p q w. saved_kept m m' at v (omega arith)
+        (λ x l h. k.protection x (omega arith) (omega arith))
+        (λ x l h. k.bytes x (omega arith) (omega arith)) w;
     records = λ at p q.
         fetched_by_its_bytes m m' at (omega arith)
         (refused_same (may_read m) (may_read m') RECORD_SIZE at (omega arith)

@@ -1,13 +1,15 @@
 -- The list is in each memory that reads the same in the stack, from its stack pointer up, and has
 -- the same code.
 use Rattle.std.proofs.Common.{◌≡◌, ℕ, ◌+◌, ◌≤◌, Bool, true, false, Ok, List, [], ◌∷◌, ◌∙◌, arith}
-use Rattle.match_stack.specs.Words.{STACK_END, Memory, Context, context_of, rsp, word, tail_at, Functions, DispatchRecord, misplaced, fetched, RECORD_SIZE, filter_return, finally_return, Funclet, Layout, LinearProgram, BodyName, FunctionBody, FuncletBody, Frame, Item, Waits, Searches, Unwinds, StackFrame, StackItem, Framed, Leaf, Searching, Unwinding, FrameIsAt, LeafIsAt, RecordIsAt, IsStack, after_frame, after_leaf, ImagePlan, Activation, activations_below, HoldsWords, temporaries_end, HasActivation, FrameWaits, LeafWaits, Linked, IsLinkedStack, home_end, HasPointers, BodyWaits, IsOwnRecord}
+use Rattle.match_stack.specs.Words.{STACK_END, Memory, Context, context_of, rsp, word, tail_at, Functions, DispatchRecord, misplaced, fetched, RECORD_SIZE, filter_return, finally_return, Funclet, Layout, LinearProgram, BodyName, FunctionBody, FuncletBody, Frame, Item, Waits, Searches, Unwinds, StackFrame, StackItem, Framed, Leaf, Searching, Unwinding, FrameIsAt, LeafIsAt, RecordIsAt, IsStack, after_frame, after_leaf, ImagePlan, Activation, activations_below, HoldsWords, temporaries_end, HasActivation, FrameWaits, LeafWaits, Linked, IsLinkedStack, home_end, HasPointers, BodyWaits, IsOwnRecord, IsWord}
 use Rattle.match_stack.proofs.ItemVisits.{set_head}
+use Rattle.match_stack.proofs.FrameWords.{told_above}
 use Rattle.match_stack.proofs.ListEnds.{words_fit, end_within, in_stack}
 
 -- what a memory reads as another does, from an address up to another
 pub record ReadsSame (m m' : Memory) (low top : ℕ) : Type 0 where
   pub words : (at v : ℕ) → low ≤ at → at + 8 ≤ top → word m at ≡ Ok v → word m' at ≡ Ok v
+  pub saved : (at v : ℕ) → low ≤ at → at + 8 ≤ top → IsWord m at v → IsWord m' at v
   pub records : (at : ℕ) → low ≤ at → at + RECORD_SIZE ≤ top → fetched m' at ≡ fetched m at
   pub places : (at : ℕ) → low ≤ at → at + RECORD_SIZE ≤ top → misplaced m' at ≡ misplaced m at
   pub tails : (register at : ℕ) → tail_at register m' at ≡ tail_at register m at
@@ -16,6 +18,7 @@ module _ (m m' : Memory) (top : ℕ) where
   pub higher : (low high : ℕ) → low ≤ high → ReadsSame m m' low top → ReadsSame m m' high top
   higher low high le r = record {
     words = λ at v p q w. r.words at v (omega arith) q w;
+    saved = λ at v p q w. r.saved at v (omega arith) q w;
     records = λ at p q. r.records at (omega arith) q;
     places = λ at p q. r.places at (omega arith) q;
     tails = r.tails;
@@ -84,17 +87,20 @@ module _ (m m' : Memory) (top : ℕ) where
         }
 
     pub frame_kept : (c : Context) (f : StackFrame) (b : Frame) (below : List Item)
-        (acts : List Activation) → ReadsSame m m' (rsp c) top → rsp c + f.size ≤ top
+        (acts : List Activation) → ReadsSame m m' (rsp c) top → f.slots ≤ f.size
+        → rsp c + f.size ≤ top
         → FrameWaits t fs program p m c f b below acts → FrameWaits t fs program p m' c f b below
         acts
-    frame_kept c f b below acts r fits h =
+    frame_kept c f b below acts r within fits h =
         let y = p.layout b.body in
-        let e = end_within m y (rsp c) f.size b.activation acts b.body h.waits.activation in
+        let e = end_within m y (rsp c) f.slots b.activation acts b.body h.waits.activation in
         record {
           framed = h.framed;
           entry = h.entry;
-          waits = body_kept c f.size (temporaries_end y b.body f.size) b acts r fits (omega arith)
-              h.waits;
+          slots = h.slots;
+          small = h.small;
+          waits = body_kept c f.slots (temporaries_end y b.body f.slots) b acts r (omega arith)
+              (omega arith) h.waits;
           pointers = pointers_kept y (rsp c) f.size below r fits h.pointers;
           returns = h.returns;
         }
@@ -126,9 +132,9 @@ module _ (m m' : Memory) (top : ℕ) where
 
     -- ---- items of the stack
 
-    -- a frame is kept where its return address and the code are read as before
+    -- a frame is kept where what is above its slots and the code are read as before
     pub frame_above : (low : ℕ) (c : Context) (f : StackFrame) → ReadsSame m m' low top
-        → low ≤ rsp c + f.size → rsp c + f.size + 8 ≤ top → FrameIsAt t m c f → FrameIsAt t m' c f
+        → low ≤ rsp c + f.slots → rsp c + f.size + 8 ≤ top → FrameIsAt t m c f → FrameIsAt t m' c f
     frame_above low c f r le fits s = record {
       live = s.live;
       not_filter = s.not_filter;
@@ -136,12 +142,12 @@ module _ (m m' : Memory) (top : ℕ) where
       found = s.found;
       past_prologue = s.past_prologue;
       not_epilogue = r.tails f.entry.info.frame_register c.rip ∙ s.not_epilogue;
-      codes = s.codes;
-      no_register = s.no_register;
       no_parents = s.no_parents;
       kept = s.kept;
+      eight = s.eight;
+      slots = s.slots;
       room = s.room;
-      returns = r.words (rsp c + f.size) f.return_address le fits s.returns;
+      is_told = told_above m m' low top c f r.saved le fits s.is_told;
     }
 
     pub frame_is_at : (c : Context) (f : StackFrame) → ReadsSame m m' (rsp c) top
@@ -181,8 +187,6 @@ module _ (m m' : Memory) (t : Functions) (fs : List Funclet) (program : LinearPr
       → Linked t fs program p m c is items acts → IsLinkedStack t fs program p m' c is items acts
   list_kept c [] [] acts r s h = record { stack = s; linked = h }
   list_kept c (Framed f ∷ is) (Waits b ∷ below) acts r s h =
-      let k = s.0.kept in
-      let e = set_head c.kept (rsp c + f.size + 8) (omega arith) in
       let l = in_stack t fs program p m (after_frame c f) is below (activations_below b.body acts)
       s.1 h.2 in
       let outer = list_kept (after_frame c f) is below (activations_below b.body acts)
@@ -193,7 +197,7 @@ module _ (m m' : Memory) (t : Functions) (fs : List Funclet) (program : LinearPr
           outer.stack,
         );
         linked = (
-          frame_kept m m' STACK_END t fs program p c f b below acts r
+          frame_kept m m' STACK_END t fs program p c f b below acts r s.0.slots
               (omega arith) h.0,
           h.1,
           outer.linked,

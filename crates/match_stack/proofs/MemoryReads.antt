@@ -1,7 +1,8 @@
 -- Code and words read the same in memories that agree on their bytes.
 use Rattle.std.proofs.Common.{◌≡◌, ℕ, zero, suc, ◌+◌, ◌*◌, ◌%◌, ◌^◌, ◌<◌, ◌≤◌, Bool, true, false, cond, Option, Some, List, [], ◌∷◌, refl, sym, ap, ◌∙◌, arith}
-use Rattle.match_stack.specs.Words.{Protection, is_readable, Memory, with_bytes, number_at, access, first_refused, may_read, Instr, word, readable, tail_at, next, executable, FetchedInstr, item_of, fetched_at, from_item, tail}
+use Rattle.match_stack.specs.Words.{Protection, is_readable, Memory, with_bytes, number_at, access, first_refused, may_read, Instr, word, readable, tail_at, next, executable, FetchedInstr, item_of, fetched_at, from_item, tail, IsWord}
 use Rattle.x64_instr.specs.Spelling.{leading}
+use Rattle.match_stack.proofs.Lemmas.{same_number}
 
 -- ---- code
 
@@ -82,6 +83,17 @@ word_kept m m' a lt modes h =
     (number_same m'.byte m.byte 8 a (omega arith)
     (λ i il. let e : (a + i) % 2 ^ 64 ≡ a + i = omega arith in ap m'.byte e
     ∙ h (a + i) (omega arith) (omega arith) ∙ ap m.byte (sym e)))
+
+-- the same of a word that was saved
+pub saved_kept : (m m' : Memory) (a v : ℕ) → a + 8 < 2 ^ 64
+    → ((x : ℕ) → a ≤ x → x < a + 8 → m'.protection x ≡ m.protection x)
+    → ((x : ℕ) → a ≤ x → x < a + 8 → m'.byte x ≡ m.byte x) → IsWord m a v → IsWord m' a v
+saved_kept m m' a v lt modes h w = record {
+  readable = refused_same (may_read m) (may_read m') 8 a lt
+      (λ x p q. ap (λ (r : Protection). is_readable r.rights) (modes x p q)) ∙ w.readable;
+  value = same_number m'.byte m.byte 8 a w.high h ∙ w.value;
+  high = w.high;
+}
 
 pub word_same : (m : Memory) (byte : ℕ → ℕ) (a : ℕ) → a + 8 < 2 ^ 64
     → ((x : ℕ) → a ≤ x → x < a + 8 → byte x ≡ m.byte x) → word (with_bytes m byte) a ≡ word m a

@@ -203,8 +203,9 @@ module _ (t : Functions) (fs : List Funclet) (program : LinearProgram) (p : Imag
           };
           funclet = x.funclet;
           named = x.named;
-          reaches = body_reaches t fs program p m b.body (rsp c) f.size b.activation acts
-              is_there.room body.waits.activation;
+          reaches = body_reaches t fs program p m b.body (rsp c) f.slots b.activation acts
+              (let e = is_there.slots in let o = is_there.room in omega arith)
+              body.waits.activation;
           above = omega arith;
           kept = record {
             frame_small = omega arith;
@@ -296,7 +297,7 @@ module _ (t : Functions) (fs : List Funclet) (program : LinearProgram) (p : Imag
       (handlers_in rs b.activation (length below) ++ handlers program below None)) (sym at)
       (from_row m c f is b below acts s.0 h.0 wide row
       (searched_plainly m (activations_below b.body acts) is below (after_frame c f) 0 None s.1 h.2
-      (at_first_row t fs program p below) (wide_after t m c f s.0 wide)))
+      (at_first_row t fs program p below) (wide_after t m c f s.0 h.0.small)))
   searched_plainly m acts (Leaf back ∷ is) (Waits b ∷ below) c row left s h at wide =
       subst (λ (rs : List Region). SearchedAs t fs program p m acts c (Leaf back ∷ is)
       (Waits b ∷ below) (plain_search t c row (Leaf back ∷ is))
@@ -335,7 +336,7 @@ module _ (t : Functions) (fs : List Funclet) (program : LinearProgram) (p : Imag
       (Waits b ∷ below) (plain_search t c row (Framed f ∷ is)) x) (sym o.finds_handlers)
       (from_row m c f is b below acts s.0 h.0 wide row
       (searched_plainly m (activations_below b.body acts) is below (after_frame c f) 0 None s.1 h.2
-      (at_first_row t fs program p below) (wide_after t m c f s.0 wide)))))
+      (at_first_row t fs program p below) (wide_after t m c f s.0 h.0.small)))))
   continues m acts (Framed f ∷ is) (Waits b ∷ below) c to row found n s h wide (inr o) lt =
       searched_outer t fs program p m acts (activations_below b.body acts) c (after_frame c f)
       (Framed f ∷ is) is (Waits b ∷ below) below
@@ -343,7 +344,7 @@ module _ (t : Functions) (fs : List Funclet) (program : LinearProgram) (p : Imag
       (activation_below b.body acts) (λ to row found o. inr o)
       (λ depth label frame address a. inr a) _ _ found refl
       (continues m (activations_below b.body acts) is below (after_frame c f) to row found n s.1 h.2
-      (wide_after t m c f s.0 wide) o (omega arith))
+      (wide_after t m c f s.0 h.0.small) o (omega arith))
   continues m acts (Leaf back ∷ is) (Waits b ∷ below) c to row found n s h wide (inl o) lt =
       subst (λ (x : Context). SearchedAs t fs program p m acts c (Leaf back ∷ is) (Waits b ∷ below)
       (search n t m (state x row)) found) o.same

@@ -3,6 +3,7 @@ use Rattle.std.proofs.Common.{◌≡◌, ℕ, ◌+◌, ◌<◌, ◌≤◌, Bool,
 use Rattle.match_stack.specs.Words.{Memory, with_bytes, Context, context_of, rsp, Functions, DispatchRecord, RECORD_SIZE, filter_return, finally_return, StackItem, Framed, Leaf, Searching, Unwinding, RecordIsAt, IsStack, IsBetween, after_frame, ItemIsAt, OwnedBy, context_after, context_at, KeptByOtherStores, NothingBelowIsOwned, SlotsAreFree}
 use Rattle.match_stack.proofs.Lemmas.{fetched_by_its_bytes}
 use Rattle.match_stack.proofs.ItemVisits.{set_head}
+use Rattle.match_stack.proofs.FrameWords.{told_same, owned_low as frame_low, owned_high as frame_high}
 use Rattle.match_stack.proofs.MemoryReads.{tail_at_same, word_same}
 
 -- ---- stores elsewhere
@@ -45,13 +46,12 @@ item_is_same t m byte c (Framed f) code same s =
       not_epilogue = tail_at_same m (with_bytes m byte)
           (record { execute = λ x. refl; byte = code }) f.entry.info.frame_register c.rip
           ∙ s.not_epilogue;
-      codes = s.codes;
-      no_register = s.no_register;
       no_parents = s.no_parents;
       kept = s.kept;
+      eight = s.eight;
+      slots = s.slots;
       room = s.room;
-      returns = word_same m byte (rsp c + f.size) (omega arith)
-          (λ x p q. same x (within x (rsp c + f.size) (rsp c + f.size + 8) p q)) ∙ s.returns;
+      is_told = told_same m byte c f same s.is_told;
     }
 item_is_same t m byte c (Leaf back) code same s =
     let room = s.room in
@@ -83,23 +83,22 @@ kept_by_other_stores t m byte c (i ∷ is) agree s = (
 -- each item's bytes lie between its RSP and the next one's
 pub rises : (t : Functions) (m : Memory) (c : Context) (i : StackItem) → ItemIsAt t m c i
     → rsp c < rsp (context_after c i)
-rises t m c (Framed f) s = let k = s.kept in let e = set_head c.kept (rsp c + f.size + 8)
-    (omega arith) in omega arith
+rises t m c (Framed f) s = omega arith
 rises t m c (Leaf back) s = let k = s.kept in let e = set_head c.kept (rsp c + 8) (omega arith) in
     omega arith
 rises t m c (Searching r) s = let a = s.above in omega arith
 rises t m c (Unwinding r) s = let a = s.above in omega arith
 
-owned_low : (c : Context) (i : StackItem) (a : ℕ) → OwnedBy c i a → rsp c ≤ a
-owned_low c (Framed f) a o = let p = o.low in omega arith
-owned_low c (Leaf back) a o = let p = o.low in omega arith
-owned_low c (Searching r) a o = let p = o.low in omega arith
-owned_low c (Unwinding r) a o = let p = o.low in omega arith
+owned_low : (t : Functions) (m : Memory) (c : Context) (i : StackItem) (a : ℕ) → ItemIsAt t m c i
+    → OwnedBy c i a → rsp c ≤ a
+owned_low t m c (Framed f) a s o = let p = frame_low m c f a s.is_told o in omega arith
+owned_low t m c (Leaf back) a s o = let p = o.low in omega arith
+owned_low t m c (Searching r) a s o = let p = o.low in omega arith
+owned_low t m c (Unwinding r) a s o = let p = o.low in omega arith
 
 owned_high : (t : Functions) (m : Memory) (c : Context) (i : StackItem) (a : ℕ) → ItemIsAt t m c i
     → OwnedBy c i a → a < rsp (context_after c i)
-owned_high t m c (Framed f) a s o = let k = s.kept in
-    let e = set_head c.kept (rsp c + f.size + 8) (omega arith) in let p = o.high in omega arith
+owned_high t m c (Framed f) a s o = frame_high m c f a s.is_told o
 owned_high t m c (Leaf back) a s o = let k = s.kept in
     let e = set_head c.kept (rsp c + 8) (omega arith) in let p = o.high in omega arith
 owned_high t m c (Searching r) a s o = let p = o.high in let q = s.above in omega arith
@@ -107,7 +106,7 @@ owned_high t m c (Unwinding r) a s o = let p = o.high in let q = s.above in omeg
 
 pub nothing_below_is_owned : NothingBelowIsOwned
 nothing_below_is_owned t m c [] a s lt o = o
-nothing_below_is_owned t m c (i ∷ is) a s lt (inl o) = let p = owned_low c i a o in
+nothing_below_is_owned t m c (i ∷ is) a s lt (inl o) = let p = owned_low t m c i a s.0 o in
     absurd (omega arith)
 nothing_below_is_owned t m c (i ∷ is) a s lt (inr o) = let p = rises t m c i s.0 in
     nothing_below_is_owned t m (context_after c i) is a s.1 (omega arith) o
@@ -120,12 +119,11 @@ along t m c (i ∷ inner) outer s = let p = rises t m c i s.0 in
     let q = along t m (context_after c i) inner outer s.1 in omega arith
 
 pub slots_are_free : SlotsAreFree
-slots_are_free t m c [] f outer a s w (inl o) = let p = o.low in let q = w.high in
-    absurd (omega arith)
+slots_are_free t m c [] f outer a s w (inl o) = let p = frame_low m c f a s.0.is_told o in
+    let q = w.high in absurd (omega arith)
 slots_are_free t m c [] f outer a s w (inr o) =
     let q = w.high in
-    let k = s.0.kept in
-    let e = set_head c.kept (rsp c + f.size + 8) (omega arith) in
+    let k = s.0.slots in
     nothing_below_is_owned t m (after_frame c f) outer a s.1 (omega arith) o
 slots_are_free t m c (i ∷ inner) f outer a s w (inl o) =
     let p = owned_high t m c i a s.0 o in

@@ -140,7 +140,9 @@ module _ (t : Functions) (fs : List Funclet) (program : LinearProgram) (p : Imag
           at_row = refl;
           aimed = aimed;
           reaches = body_reaches t fs program p m b.body
-              (rsp c) f.size b.activation acts is_there.room body.waits.activation;
+              (rsp c) f.slots b.activation acts
+              (let e = is_there.slots in let o = is_there.room in omega arith)
+              body.waits.activation;
           funclet = x.is.funclet;
           named = x.is.named;
           above = omega arith;
@@ -246,7 +248,7 @@ module _ (t : Functions) (fs : List Funclet) (program : LinearProgram) (p : Imag
             (seen_from (held_past b.body held) below None (activations_below b.body acts))
             (host_step false None (let l = lt in omega arith) elsewhere x.first)
             (λ then. linear_step then ∙ x.leaves then (out held b.body below then)
-            ∙ left_out held (rsp c) f.size b.activation acts b.body below
+            ∙ left_out held (rsp c) f.slots b.activation acts b.body below
             then body.waits.activation)
             (grows_past b.body held) (let r = rises t m c (Framed f) is_there in omega arith) more
         by (inr x) = inl (runs_here rows x (host_step false (Some (x.index, x.row)) (let l = lt in
@@ -319,8 +321,8 @@ module _ (t : Functions) (fs : List Funclet) (program : LinearProgram) (p : Imag
       in_a_frame held c f is b below acts row left s.0 s.1 h.0 h.1 h.2 wide at e a
       (unwound_plainly (held_past b.body held) (activations_below b.body acts) is below
       (after_frame c f) 0 None s.1 h.2 (at_first_row t fs program p below)
-      (wide_after t m c f s.0 wide) a
-      (counted_past m (p.layout b.body) (rsp c) f.size b.activation acts b.body held
+      (wide_after t m c f s.0 h.0.small) a
+      (counted_past m (p.layout b.body) (rsp c) f.slots b.activation acts b.body held
       h.0.waits.activation ∙ e))
   unwound_plainly held acts (Leaf back ∷ is) (Waits b ∷ below) c row left s h at wide a e =
       past_leaf held c back is b below acts row left s.0 s.1 h.0 at a

@@ -14,7 +14,7 @@ use Rattle.seh_records.specs.declared.dispatch.Kind.TheVariants.{ExceptionUnwind
 use Rattle.seh_records.specs.declared.dispatch.DispatchRecord.{DispatchRecord}
 use Rattle.seh_records.specs.declared.layout.TheConstants.{PLACED_SIZE}
 use Rattle.seh_records.specs.Record.{misplaced}
-use Rattle.seh_records.specs.Laws.{RecordFits}
+use Rattle.seh_records.specs.Laws.{RecordFits, AllSmall}
 use Rattle.host_model.specs.declared.funclet.Funclet.{Funclet}
 use Rattle.host_model.specs.Dispatch.{row_before, rows_of, parameters, count}
 use Rattle.template_code.specs.declared.layout.Layout.{Layout}
@@ -204,12 +204,15 @@ module _ (t : Functions) (fs : List Funclet) (program : LinearProgram) (p : Imag
       (instruction_in (body_of program w.body) w.next) ≡ Some back
   ReturnsTo items back = Unit {0}
 
-  -- in a frame of its own, which has the body's entry
+  -- in a frame of its own, which has the body's entry and slots; its caller's registers are numbers
+  -- of 64 bits
   pub record FrameWaits (m : Memory) (c : Context) (f : StackFrame) (b : Frame) (below : List Item)
       (acts : List Activation) : Type 0 where
     pub framed : p.leaf b.body ≡ false
     pub entry : f.entry ≡ p.entry b.body
-    pub waits : BodyWaits m c f.size (temporaries_end (p.layout b.body) b.body f.size) b acts
+    pub slots : f.slots ≡ (p.layout b.body).frame
+    pub small : AllSmall f.others
+    pub waits : BodyWaits m c f.slots (temporaries_end (p.layout b.body) b.body f.slots) b acts
     pub pointers : HasPointers m (p.layout b.body) (rsp c) f.size below
     pub returns : ReturnsTo below f.return_address
 

@@ -17,4 +17,6 @@ pub mod UnwindOutcomes
 pub mod TurnLaws
 pub mod DispatchSteps
 pub mod FilterReturns
+pub mod RegisterLaws
+pub mod AllocatedFrames
 pub mod Words

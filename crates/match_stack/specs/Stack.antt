@@ -4,24 +4,28 @@ use Rattle.std.specs.Prelude.{◌≡◌, ℕ, ◌+◌, ◌-◌, ◌^◌, ◌<◌
 use Rattle.flat_memory.specs.Memory.{Memory}
 use Rattle.x64_machine.specs.declared.context.Context.{Context}
 use Rattle.x64_machine.specs.Contexts.{context_of}
-use Rattle.eh_tables.specs.declared.code.UnwindOperation.TheVariants.{Allocate}
+use Rattle.eh_tables.specs.declared.code.UnwindOperation.{UnwindOperation}
+use Rattle.eh_tables.specs.declared.code.UnwindOperation.TheVariants.{Push, Allocate, Save}
 use Rattle.eh_tables.specs.Tables.{Entry}
-use Rattle.virtual_unwind.specs.Contexts.{rsp}
-use Rattle.virtual_unwind.specs.Undone.{word}
+use Rattle.virtual_unwind.specs.Contexts.{get, rsp}
+use Rattle.virtual_unwind.specs.Undone.{word, operations}
 use Rattle.virtual_unwind.specs.Tail.{tail_at}
-use Rattle.virtual_unwind.specs.CallerOf.{Functions, CallerFrame, distance, entry_of}
+use Rattle.virtual_unwind.specs.CallerOf.{Functions, CallerFrame, distance, entry_of, base_if, has_frame}
+use Rattle.frame_rules.specs.Codes.{are_allowed}
+use Rattle.frame_rules.specs.Frame as rules
 use Rattle.seh_records.specs.declared.dispatch.DispatchRecord.{DispatchRecord}
 use Rattle.seh_records.specs.Record.{fetched}
 use Rattle.seh_records.specs.declared.layout.TheConstants.{RECORD_SIZE, POINTERS_AT}
 use Rattle.seh_walk.specs.Walk.{filter_return, finally_return, is_search}
 
--- a frame of a body: its entry in the function table, the size of its fixed allocation, the offset
--- of that allocation's unwind code, and its return address
+-- a frame of a body: its entry in the function table; how far above RSP its slots end, and its
+-- return address is; that address; and what its caller has in RBX, RBP, RSI, RDI and R12 to R15
 pub record StackFrame : Type 0 where
   pub entry : Entry
+  pub slots : ℕ
   pub size : ℕ
-  pub offset : ℕ
   pub return_address : ℕ
+  pub others : List ℕ
 
 -- a frame; a leaf function, which has none, by its return address; a suspended search; a suspended
 -- unwinding
@@ -33,9 +37,9 @@ pub data StackItem : Type 0 where
 
 -- ---- where a walk continues after an item
 
--- at the caller, past the allocation and the return address
+-- at the caller, past the frame and the return address, with the caller's registers
 abbrev pub after_frame : Context → StackFrame → Context
-after_frame c f = record { rip = f.return_address; kept = slice_set c.kept 0 (rsp c + f.size + 8) }
+after_frame c f = record { rip = f.return_address; kept = (rsp c + f.size + 8) ∷ f.others }
 
 -- a leaf function has pushed nothing: its return address is at RSP (Microsoft x64 ABI, "Function
 -- types")
@@ -59,6 +63,35 @@ caller_of_leaf c back = record { frame = rsp c; context = after_leaf c back; ask
 
 -- ---- what is in memory
 
+-- what the unwind codes of a frame's entry tell
+abbrev pub told : StackFrame → List UnwindOperation
+told f = operations f.entry.info.codes
+
+-- the registers at the function's first byte, by their numbers: RSP is at the return address
+abbrev pub at_entry : Context → StackFrame → ℕ → ℕ
+at_entry c f = get (record { rip = f.return_address; kept = (rsp c + f.size) ∷ f.others })
+
+-- the words that codes tell of, from an address up and above a base, are above another address
+abbrev pub AreAbove : (low base at : ℕ) → List UnwindOperation → Type 0
+AreAbove low base at [] = low ≤ at
+AreAbove low base at (Push r ∷ xs) = (low ≤ at) × AreAbove low base (at + 8) xs
+AreAbove low base at (Allocate n ∷ xs) = AreAbove low base (at + n) xs
+AreAbove low base at (Save r n ∷ xs) = (low ≤ base + n) × AreAbove low base at xs
+AreAbove low base at (x ∷ xs) = AreAbove low base at xs
+
+-- it is as its codes tell: above its slots are the saved registers of the caller and the return
+-- address, the frame register, if it has one, leads to RSP, and what isn't saved is as the caller
+-- has it
+pub record IsAsTold (m : Memory) (c : Context) (f : StackFrame) : Type 0 where
+  pub offset : f.entry.info.frame_offset ≤ 2 ^ 64
+  pub allowed : are_allowed f.entry.info.frame_register (told f) ≡ true
+  pub base : base_if f.entry.info c (has_frame f.entry.info) ≡ rsp c
+  pub stack : rules.Stack m (at_entry c f) f.return_address (rsp c) (rsp c) (told f)
+  pub framed : rules.Framed f.entry.info.frame_register f.entry.info.frame_offset (get c) (rsp c)
+      (told f)
+  pub others : rules.Others (at_entry c f) (get c) (told f)
+  pub above : AreAbove (rsp c + f.slots) (rsp c) (rsp c) (told f)
+
 -- a frame whose body is past its prologue, and not in an epilogue
 pub record FrameIsAt (t : Functions) (m : Memory) (c : Context) (f : StackFrame) : Type 0 where
   pub live : (c.rip == 0) ≡ false
@@ -68,12 +101,12 @@ pub record FrameIsAt (t : Functions) (m : Memory) (c : Context) (f : StackFrame)
   pub past_prologue : nat_lt (distance t.base c.rip - f.entry.range.begin)
       f.entry.info.prologue_size ≡ false
   pub not_epilogue : tail_at f.entry.info.frame_register m c.rip ≡ None
-  pub codes : f.entry.info.codes ≡ record { offset = f.offset; operation = Allocate f.size } ∷ []
-  pub no_register : f.entry.info.frame_register ≡ 0
   pub no_parents : f.entry.parents ≡ []
   pub kept : length c.kept ≡ 9
+  pub eight : length f.others ≡ 8
+  pub slots : f.slots ≤ f.size
   pub room : rsp c + f.size + 8 < 2 ^ 64
-  pub returns : word m (rsp c + f.size) ≡ Ok f.return_address
+  pub is_told : IsAsTold m c f
 
 -- a leaf function, which has no entry in the function table
 pub record LeafIsAt (t : Functions) (m : Memory) (c : Context) (back : ℕ) : Type 0 where
@@ -114,12 +147,23 @@ pub record IsBetween (a from to : ℕ) : Type 0 where
   pub low : from ≤ a
   pub high : a < to
 
+-- a byte of the words that codes tell of, from an address up and above a base, and of the return
+-- address above them
+abbrev pub IsSavedAt : (base at : ℕ) → List UnwindOperation → ℕ → Type 0
+IsSavedAt base at [] a = IsBetween a at (at + 8)
+IsSavedAt base at (Push r ∷ xs) a = IsBetween a at (at + 8) ⊎ IsSavedAt base (at + 8) xs a
+IsSavedAt base at (Allocate n ∷ xs) a = IsSavedAt base (at + n) xs a
+IsSavedAt base at (Save r n ∷ xs) a =
+    IsBetween a (base + n) (base + n + 8) ⊎ IsSavedAt base at xs a
+IsSavedAt base at (x ∷ xs) a = IsSavedAt base at xs a
+
 -- What a walk reads of each item's memory:
--- of a body's frame the return address above it, of a leaf function the one at RSP;
+-- of a body's frame the saved registers and the return address above it, of a leaf function the one
+-- at RSP;
 -- of a suspended search and a suspended unwinding the record, but for the home space at its begin.
 -- The slots of a waiting body are its own too, and no walk reads them: `BodyWaits` in Linked.antt.
 abbrev pub OwnedBy : Context → StackItem → ℕ → Type 0
-OwnedBy c (Framed f) a = IsBetween a (rsp c + f.size) (rsp c + f.size + 8)
+OwnedBy c (Framed f) a = IsSavedAt (rsp c) (rsp c) (told f) a
 OwnedBy c (Leaf back) a = IsBetween a (rsp c) (rsp c + 8)
 OwnedBy c (Searching r) a = IsBetween a (rsp c + 32) (rsp c + RECORD_SIZE)
 OwnedBy c (Unwinding r) a = IsBetween a (rsp c + 32) (rsp c + RECORD_SIZE)

@@ -72,7 +72,7 @@ SlotsAreFree =
     (t : Functions) (m : Memory) (c : Context) (inner : List StackItem) (f : StackFrame)
     (outer : List StackItem) (a : ℕ)
     → IsStack t m c (inner ++ (Framed f ∷ outer))
-    → IsBetween a (rsp (context_at c inner)) (rsp (context_at c inner) + f.size)
+    → IsBetween a (rsp (context_at c inner)) (rsp (context_at c inner) + f.slots)
     → Owned c (inner ++ (Framed f ∷ outer)) a → ⊥
 
 -- ---- one item more

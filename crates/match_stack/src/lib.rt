@@ -6,6 +6,7 @@
 
 pub mod list_laws;
 pub mod record_laws;
+pub mod register_laws;
 pub mod returns;
 pub mod search_laws;
 pub mod steps;
