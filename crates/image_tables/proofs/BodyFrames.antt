@@ -13,7 +13,7 @@ use Rattle.virtual_unwind.specs.Contexts.{rsp}
 use Rattle.virtual_unwind.specs.Undone.{word}
 use Rattle.seh_walk.specs.Walk.{filter_return, finally_return}
 use Rattle.host_model.specs.Machine.{functions_in}
-use Rattle.match_stack.specs.Stack.{FrameIsAt, LeafIsAt}
+use Rattle.match_stack.specs.Stack.{FrameIsAt, LeafIsAt, IsAsTold}
 use Rattle.image_tables.proofs.Lemmas.{never_empty, items_are_at, sizes_append, template_sizes, entry_sizes, routine_small}
 use Rattle.image_tables.specs.Entries as tables
 use Rattle.image_tables.proofs.Lookups.{some_same, none_some, entries_are_held, leaves_are_held_by_none}
@@ -155,12 +155,13 @@ pub record HasItem (m : Memory) (x : Placed) (rva : ℕ) : Type 0 where
 
 -- a frame at such an instruction
 pub frame_at : (p : LinearProgram) (m : Memory) (index : ℕ) (x : Placed) (f : FrameLayout)
-    (c : Context) (rva back : ℕ) → FitsProgram p → HasRegions p
+    (c : Context) (rva back : ℕ) (others : List ℕ) → FitsProgram p → HasRegions p
     → slice_get (placed p) index ≡ Some x → x.routine.frame ≡ Some f
-    → HasItem m x rva → c.rip ≡ image_base + rva → length c.kept ≡ 9 → rsp c + f.size + 8 < 2 ^ 64
-    → word m (rsp c + f.size) ≡ Ok back
-    → FrameIsAt (functions_in (image_of (linked p))) m c (stack_frame p x f back)
-frame_at p m index x f c rva back fits regions e framed first here kept room' returns =
+    → HasItem m x rva → c.rip ≡ image_base + rva → length c.kept ≡ 9 → length others ≡ 8
+    → rsp c + f.size + 8 < 2 ^ 64 → IsAsTold m c (stack_frame p x f back others)
+    → FrameIsAt (functions_in (image_of (linked p))) m c (stack_frame p x f back others)
+frame_at p m index x f c rva back others fits regions e framed first here kept eight room'
+    is_told =
     let h = there p index x fits e in
     let room = h.room in
     let small = routine_small x.routine h.near in
@@ -182,25 +183,26 @@ frame_at p m index x f c rva back fits regions e framed first here kept room' re
           (omega arith);
       not_epilogue = ap (tail_at 0 m) here ∙ no_epilogue (image_base + rva) m first.item first.inner
           first.is_there (omega arith);
-      codes = refl;
-      no_register = refl;
       no_parents = refl;
       kept = kept;
+      eight = eight;
+      slots = (let e : f.size ≤ f.size = omega arith in e);
       room = room';
-      returns = returns;
+      is_told = is_told;
     }
 
 pub frame_is_at : (p : LinearProgram) (m : Memory) (index : ℕ) (x : Placed) (f : FrameLayout)
-    (c : Context) (rva back : ℕ) → FitsProgram p → HasRegions p
+    (c : Context) (rva back : ℕ) (others : List ℕ) → FitsProgram p → HasRegions p
     → slice_get (placed p) index ≡ Some x → x.routine.frame ≡ Some f
     → IsExecutableAt m (image_base + x.begin) (spelled (routine_code (site_of p) x.begin x.routine))
-    → IsInBody p x rva → c.rip ≡ image_base + rva → length c.kept ≡ 9 → rsp c + f.size + 8 < 2 ^ 64
-    → word m (rsp c + f.size) ≡ Ok back
-    → FrameIsAt (functions_in (image_of (linked p))) m c (stack_frame p x f back)
-frame_is_at p m index x f c rva back fits regions e framed code body here kept room' returns =
+    → IsInBody p x rva → c.rip ≡ image_base + rva → length c.kept ≡ 9 → length others ≡ 8
+    → rsp c + f.size + 8 < 2 ^ 64 → IsAsTold m c (stack_frame p x f back others)
+    → FrameIsAt (functions_in (image_of (linked p))) m c (stack_frame p x f back others)
+frame_is_at p m index x f c rva back others fits regions e framed code body here kept eight room'
+    is_told =
     let h = there p index x fits e in
     let i = item_there p x rva fits h body in
-    frame_at p m index x f c rva back fits regions e framed
+    frame_at p m index x f c rva back others fits regions e framed
     (record {
       item = body.item;
       inner = i.inner;
@@ -208,12 +210,13 @@ frame_is_at p m index x f c rva back fits regions e framed code body here kept r
       inside = i.inside;
       is_there = item_is_at p m x rva code h body;
     })
-    here kept room' returns
+    here kept eight room' is_told
 
 pub bodies_have_frames : BodiesHaveFrames
-bodies_have_frames p m index x f c rva back fits regions e framed w =
-    frame_is_at p m index x f c rva back fits regions e framed
-    (routine_is_at p m x w.text (there p index x fits e)) w.body w.here w.kept w.room w.returns
+bodies_have_frames p m index x f c rva back others fits regions e framed w =
+    frame_is_at p m index x f c rva back others fits regions e framed
+    (routine_is_at p m x w.text (there p index x fits e)) w.body w.here w.kept w.eight w.room
+    w.is_told
 
 -- ---- a leaf function
 

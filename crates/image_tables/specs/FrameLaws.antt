@@ -14,12 +14,11 @@ use Rattle.frame_rules.specs.Frame.{left_to}
 use Rattle.frame_rules.specs.Prologue.{items}
 use Rattle.frame_rules.specs.Rules.{IsRight, IsInFunction, IsFound}
 use Rattle.frame_rules.specs.States.{registers, return_address, IsEntry, InBody, HasItems}
-use Rattle.match_stack.specs.Stack.{StackFrame, FrameIsAt, LeafIsAt}
+use Rattle.match_stack.specs.Stack.{StackFrame, FrameIsAt, LeafIsAt, IsAsTold}
 use Rattle.host_layout.specs.declared.imported.ImportedService.{ImportedService}
 use Rattle.pe_write.specs.Program.{image_of}
 use Rattle.linear_code.specs.Program.{LinearProgram}
 use Rattle.frame_layout.specs.declared.frame.FrameLayout.{FrameLayout}
-use Rattle.frame_layout.specs.Layout.{taking_size}
 use Rattle.image_link.specs.Fits.{FitsProgram}
 use Rattle.image_link.specs.Text.{thunk_at, check_stack_at}
 use Rattle.image_link.specs.Linked.{text_begin, linked}
@@ -43,35 +42,38 @@ TextsAreFixed =
 
 -- ---- bodies that wait
 
--- the frame of a routine's body, with its return address
-abbrev pub stack_frame : LinearProgram → Placed → FrameLayout → ℕ → StackFrame
-stack_frame p x f back =
+-- the frame of a routine's body, whose slots end at its return address, with what its caller has
+abbrev pub stack_frame : LinearProgram → Placed → FrameLayout → (back : ℕ) → List ℕ → StackFrame
+stack_frame p x f back others =
     record {
       entry = entry_of (site_of p) x f;
+      slots = f.size;
       size = f.size;
-      offset = taking_size f.size;
       return_address = back;
+      others = others;
     }
 
--- what a state must have: the address in the body, room up to the return address, and that address
+-- what a state must have: the address in the body, room up to the return address, and above the
+-- slots what the frame's codes tell
 pub record IsWaiting (p : LinearProgram) (m : Memory) (x : Placed) (f : FrameLayout) (c : Context)
-    (rva back : ℕ) : Type 0 where
+    (rva back : ℕ) (others : List ℕ) : Type 0 where
   pub text : HasText m p
   pub body : IsInBody p x rva
   pub here : c.rip ≡ image_base + rva
   pub kept : length c.kept ≡ 9
+  pub eight : length others ≡ 8
   pub room : rsp c + f.size + 8 < 2 ^ 64
-  pub returns : word m (rsp c + f.size) ≡ Ok back
+  pub is_told : IsAsTold m c (stack_frame p x f back others)
 
 -- at an instruction of its body a routine's frame is there: it has its entry, and is past its
 -- prologue and not in an epilogue
 abbrev pub BodiesHaveFrames : Type 0
 BodiesHaveFrames =
     (p : LinearProgram) (m : Memory) (index : ℕ) (x : Placed) (f : FrameLayout) (c : Context)
-    (rva back : ℕ)
+    (rva back : ℕ) (others : List ℕ)
     → FitsProgram p → HasRegions p → slice_get (placed p) index ≡ Some x → x.routine.frame ≡ Some f
-    → IsWaiting p m x f c rva back
-    → FrameIsAt (functions_in (image_of (linked p))) m c (stack_frame p x f back)
+    → IsWaiting p m x f c rva back others
+    → FrameIsAt (functions_in (image_of (linked p))) m c (stack_frame p x f back others)
 
 -- the same of a leaf function, which has neither
 pub record IsLeafWaiting (p : LinearProgram) (m : Memory) (x : Placed) (c : Context)

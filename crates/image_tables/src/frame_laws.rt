@@ -8,9 +8,9 @@ pub fn text()
     ensures fixed { TextsAreFixed }
 {}
 
-/// At each instruction of its body a routine's frame is there: the function table has its entry
-/// there, and undoing that entry's one code finds its return address. A leaf function has no entry,
-/// and its return address at RSP.
+/// At each instruction of its body a routine's frame is there where memory is as the unwind codes
+/// of its entry tell: the function table has that entry there, and RIP is past its prologue and in
+/// no epilogue. A leaf function has no entry, and its return address at RSP.
 pub fn bodies()
     ensures framed { BodiesHaveFrames }
     ensures leaves { LeavesHaveReturns }
