@@ -2,7 +2,7 @@
 use Rattle.std.proofs.Common.{◌≡◌, ℕ, zero, suc, ◌+◌, ◌*◌, ◌≤◌, Some, List, [], ◌∷◌, ◌++◌, length, refl, sym, subst, ◌∙◌, arith, inl, inr, length-append}
 use Rattle.std.specs.Prelude.{slice_get}
 use Rattle.match_bodies.specs.Words.{STACK_END, Memory, Context, context_of, rsp, Functions, Funclet, Layout, LinearProgram, BodyName, FunctionBody, FuncletBody, Item, Waits, Searches, Unwinds, StackItem, Framed, Leaf, Searching, Unwinding, IsStack, after_frame, after_leaf, ImagePlan, Activation, locals_of, activations_below, HoldsWords, HasActivation, HoldsLocals, IsActivation, ActivationHasBase, home_end, Linked, ActivationIsAt, ActivationsAreAt}
-use Rattle.match_bodies.proofs.Lemmas.{set_head, rises, words_fit, in_stack}
+use Rattle.match_bodies.proofs.Lemmas.{rises, words_fit, in_stack}
 
 -- ---- lists
 
@@ -105,12 +105,10 @@ module _ (t : Functions) (fs : List Funclet) (program : LinearProgram) (p : Imag
   are_there m c [] [] acts k base distance s h i = absurd
       (subst (λ a. IsActivation a k base distance) h.0 i)
   are_there m c (Framed f ∷ is) (Waits b ∷ below) acts k base distance s h i =
-      let nine = s.0.kept in
-      let e : rsp (after_frame c f) ≡ rsp c + f.size
-      + 8 = set_head c.kept (rsp c + f.size + 8) (omega arith) in
+      let within = s.0.slots in
       let l = in_stack t fs program p m (after_frame c f) is below (activations_below b.body acts)
       s.1 h.2 in
-      in_body m (p.layout b.body) (rsp c) f.size b.activation (rsp (after_frame c f)) k base
+      in_body m (p.layout b.body) (rsp c) f.slots b.activation (rsp (after_frame c f)) k base
       distance acts b.body h.0.waits.activation i (omega arith) (omega arith)
       (λ j. are_there m (after_frame c f) is below (activations_below b.body acts) k base distance
       s.1 h.2 j)

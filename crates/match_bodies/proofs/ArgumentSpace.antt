@@ -2,7 +2,7 @@
 -- callee's (Microsoft x64 ABI, "Stack allocation"): a change of them leaves the list as it is.
 use Rattle.std.proofs.Common.{◌≡◌, ℕ, ◌+◌, ◌*◌, ◌≤◌, true, false, Option, Some, None, List, [], ◌∷◌, refl, sym, subst, ◌∙◌, arith, inr}
 use Rattle.match_bodies.specs.Words.{STACK_START, STACK_END, Memory, Context, rsp, Functions, Funclet, Layout, LinearProgram, LinearBody, BodyName, FunctionBody, FuncletBody, body_of, Frame, Item, Waits, Searches, Unwinds, StackFrame, StackItem, Framed, Leaf, Searching, Unwinding, IsStack, after_frame, ImagePlan, Activation, activations_below, temporaries_end, HasActivation, HasPointers, IsAbove, Linked, IsLinkedStack, IsFunctionLayout, IsLayoutIf, IsLaidOut, AreLaidOut, KeepsStackBut}
-use Rattle.match_bodies.proofs.Lemmas.{set_head, words_fit, end_within, in_stack, ReadsSame, higher, frame_above, words_kept, list_kept, reads_other}
+use Rattle.match_bodies.proofs.Lemmas.{words_fit, end_within, in_stack, ReadsSame, higher, frame_above, words_kept, list_kept, reads_other}
 
 module _ (m m' : Memory) (t : Functions) (fs : List Funclet) (program : LinearProgram)
     (p : ImagePlan) (layouts : AreLaidOut program p) (room : ℕ) where
@@ -118,17 +118,15 @@ module _ (m m' : Memory) (t : Functions) (fs : List Funclet) (program : LinearPr
         → IsLinkedStack t fs program p m' c (Framed f ∷ is) (Waits b ∷ below) acts
     framed_free f is b below acts few framed s h =
         let y = p.layout b.body in
-        let nine = s.0.kept in
-        let e : rsp (after_frame c f) ≡ rsp c + f.size
-        + 8 = set_head c.kept (rsp c + f.size + 8) (omega arith) in
+        let within = s.0.slots in
         let l = in_stack t fs program p m (after_frame c f) is below (activations_below b.body acts)
         s.1 h.2 in
         let w = h.0.waits in
-        let a = above_home w.code f.size b.activation acts b.body (few w.code w.body) framed
+        let a = above_home w.code f.slots b.activation acts b.body (few w.code w.body) framed
         (layouts b.body w.code w.body) w.activation in
         let size = a.frame in
         let temps = a.temporaries in
-        let ends = end_within m y (rsp c) f.size b.activation acts b.body w.activation in
+        let ends = end_within m y (rsp c) f.slots b.activation acts b.body w.activation in
         let outer = list_kept m m' t fs program p (after_frame c f) is below
         (activations_below b.body acts) (higher m m' STACK_END (rsp c + room)
         (rsp (after_frame c f)) (omega arith) reads) s.1 h.2 in
@@ -142,6 +140,8 @@ module _ (m m' : Memory) (t : Functions) (fs : List Funclet) (program : LinearPr
             record {
               framed = h.0.framed;
               entry = h.0.entry;
+              slots = h.0.slots;
+              small = h.0.small;
               waits = record {
                 code = w.code;
                 body = w.body;
@@ -149,15 +149,20 @@ module _ (m m' : Memory) (t : Functions) (fs : List Funclet) (program : LinearPr
                 instruction = w.instruction;
                 same = w.same;
                 small = w.small;
-                activation = activation_free y f.size b.activation acts b.body a (omega arith)
+                activation = activation_free y f.slots b.activation acts b.body a (omega arith)
                     w.activation;
                 temporaries = words_kept m m' STACK_END (rsp c + room) (rsp c + y.temporaries)
-                    (rsp c + temporaries_end y b.body f.size) b.temporaries reads (omega arith)
+                    (rsp c + temporaries_end y b.body f.slots) b.temporaries reads (omega arith)
                     (omega arith) w.temporaries;
                 space = w.space;
               };
-              pointers = pointers_free y f.size b b.body below refl a (omega arith) h.1
-                  h.0.pointers;
+              pointers = pointers_free y f.size b b.body below refl (record {
+                frame = omega arith;
+                temporaries = a.temporaries;
+                locals = a.locals;
+                base = a.base;
+                pointers = a.pointers;
+              }) (omega arith) h.1 h.0.pointers;
               returns = h.0.returns;
             },
             h.1,

@@ -1,32 +1,19 @@
 -- A body that waits runs again.
-use Rattle.std.proofs.Common.{◌≡◌, ℕ, ◌+◌, ◌^◌, ◌<◌, ◌≤◌, Bool, true, false, List, [], ◌∷◌, length, Option, Some, Ok, refl, sym, ap, subst, ◌∙◌, arith}
-use Rattle.std.specs.Prelude.{slice_set, slice_get}
+use Rattle.std.proofs.Common.{◌≡◌, ℕ, ◌+◌, ◌≤◌, Bool, true, false, List, [], ◌∷◌, length, Option, Some, Ok, refl, sym, ap, subst, ◌∙◌, arith}
+use Rattle.std.specs.Prelude.{slice_set, slice_get, slice_index}
 use Rattle.std.specs.List.{AllByRecursion}
-use Rattle.std.proofs.lemmas.List.{length-set}
-use Rattle.match_bodies.specs.Words.{Event, STACK_END, Memory, Rsp, Context, context_of, State, register, rsp, Functions, word, Funclet, Layout, Region, LinearProgram, LinearBody, LinearFunclet, BodyName, FunctionBody, FuncletBody, Frame, Item, Waits, Searches, Unwinds, body_of, holds, regions_of, StackFrame, StackItem, Framed, Leaf, FrameIsAt, after_frame, after_leaf, context_below, ImagePlan, InCode, Activation, activations_below, HoldsWords, HasActivation, temporaries_end, home_end, HasSpace, below_end, BodyWaits, HasPointers, IsAbove, FuncletIsAbove, On, Sites, IsLaidOut, IsProgramImage, slots_end, last_temporary, InBody}
-use Rattle.eh_tables.specs.declared.code.UnwindCode.{UnwindCode}
-use Rattle.eh_tables.specs.declared.code.UnwindOperation.{UnwindOperation}
-use Rattle.eh_tables.specs.declared.code.UnwindOperation.TheVariants.{Allocate}
+use Rattle.match_bodies.specs.Words.{Event, STACK_END, Memory, Rsp, Context, context_of, State, register, rsp, Functions, word, Funclet, Layout, Region, LinearProgram, LinearBody, LinearFunclet, BodyName, FunctionBody, FuncletBody, Frame, Item, Waits, Searches, Unwinds, body_of, holds, regions_of, StackFrame, StackItem, Framed, Leaf, FrameIsAt, after_leaf, context_below, IsWellFormed, ImagePlan, InCode, Activation, activations_below, HoldsWords, HasActivation, temporaries_end, home_end, HasSpace, below_end, BodyWaits, HasPointers, IsAbove, FuncletIsAbove, On, Sites, IsLaidOut, IsProgramImage, frame_of, slots_end, last_temporary, HasFrame, InBody, IsAsTold, IsAllocated}
 use Rattle.eh_tables.specs.Tables.{Entry}
-use Rattle.match_bodies.proofs.Lemmas.{set_head}
+use Rattle.virtual_unwind.specs.Undone.{operations}
+use Rattle.frame_rules.specs.Codes.{depth}
+use Rattle.eh_tables.specs.declared.code.UnwindCode.{UnwindCode}
+use Rattle.eh_tables.specs.declared.code.UnwindOperation.TheVariants.{Allocate}
+use Rattle.match_stack.proofs.AllocatedFrames.{told_allocations}
 use Rattle.match_stack.specs.HostUnwind.{on_top}
-use Rattle.match_bodies.proofs.StackContexts.{on_moved}
+use Rattle.match_bodies.proofs.Lemmas.{told_depth}
+use Rattle.match_bodies.proofs.InstructionEffects.{others_of}
 use Rattle.match_bodies.proofs.StackTop.{leaf_layout}
-
--- ---- the size of a frame
-
-abbrev size_by : ℕ → UnwindOperation → ℕ
-size_by d (Allocate n) = n
-size_by d o = d
-
-abbrev size_of : ℕ → List UnwindCode → ℕ
-size_of d [] = d
-size_of d (x ∷ xs) = size_by d x.operation
-
-same_size : (offset offset' size size' : ℕ) (codes : List UnwindCode)
-    → codes ≡ record { offset = offset; operation = Allocate size } ∷ []
-    → codes ≡ record { offset = offset'; operation = Allocate size' } ∷ [] → size ≡ size'
-same_size offset offset' size size' codes a b = ap (size_of 0) (sym a ∙ b)
+use Rattle.match_bodies.proofs.BodyFrames.{small_others, told_with}
 
 all_same : (label : ℕ) (rs : List Region) → AllByRecursion
     (λ (r : Region). holds label r ≡ holds label r) rs
@@ -86,8 +73,38 @@ module _ (t : Functions) (fs : List Funclet) (program : LinearProgram) (p : Imag
           → FrameIsAt t m c f → f.size ≡ (p.layout name).frame
       frame_size m c f name b there leaf entry s =
           let a = image.allocations name b there leaf in
-          same_size f.offset a.offset f.size (p.layout name).frame (p.entry name).info.codes
-          (ap (λ (e : Entry). e.info.codes) (sym entry) ∙ s.codes) a.codes
+          let codes = ap (λ (e : Entry). operations e.info.codes) entry ∙ ap operations a.codes in
+          let d = ap depth codes in
+          let h = told_depth m c f s.is_told in
+          omega arith
+
+      -- nothing else of its caller is in it
+      pub waiting_allocated : (m : Memory) (c : Context) (f : StackFrame) (name : BodyName)
+          (b : LinearBody)
+          → body_of program name ≡ Some b → p.leaf name ≡ false → f.entry ≡ p.entry name
+          → FrameIsAt t m c f → IsAllocated m c f
+      waiting_allocated m c f name b there leaf entry s =
+          let a = image.allocations name b there leaf in
+          let code : ℕ → UnwindCode = λ n. record {
+            offset = a.offset;
+            operation = Allocate n;
+          } in
+          told_allocations m c f a.offset (ap (λ (e : Entry). e.info.codes) entry ∙ a.codes
+          ∙ ap (λ (n : ℕ). code n ∷ []) (sym (frame_size m c f name b there leaf entry s))) s.kept
+          s.eight s.is_told
+
+      -- it is the body's
+      pub frame_is : (m : Memory) (c : Context) (f : StackFrame) (name : BodyName) (b : LinearBody)
+          → body_of program name ≡ Some b → p.leaf name ≡ false → f.entry ≡ p.entry name
+          → f.slots ≡ (p.layout name).frame → FrameIsAt t m c f
+          → f ≡ frame_of p name f.return_address f.others
+      frame_is m c f name b there leaf entry slots s = λ i. record {
+        entry = entry i;
+        slots = slots i;
+        size = frame_size m c f name b there leaf entry s i;
+        return_address = f.return_address;
+        others = f.others;
+      }
 
       -- ---- on top of the list
 
@@ -95,10 +112,10 @@ module _ (t : Functions) (fs : List Funclet) (program : LinearProgram) (p : Imag
           (below : List Item) (acts : List Activation) (label : ℕ) (ts : List ℕ) (landed : Option ℕ)
           (source : Memory) (es : List Event)
           → On t fs program p u.memory c (Framed f ∷ is) (Waits b ∷ below) acts
-          → register u.cpu Rsp ≡ rsp c → InCode p b.body label u.cpu.rip → u.cpu.rip < 2 ^ 64
+          → (context_of u.cpu).kept ≡ c.kept → InCode p b.body label u.cpu.rip → IsWellFormed u
           → IsFront u.memory b.temporaries ts
           → InBody t fs program p q u (on_top (again b label ts landed) below source acts es)
-      framed_again u c f is b below acts label ts landed source es on sp inside small front =
+      framed_again u c f is b below acts label ts landed source es on same inside well front =
           let m = u.memory in
           let name = b.body in
           let y = p.layout name in
@@ -107,13 +124,9 @@ module _ (t : Functions) (fs : List Funclet) (program : LinearProgram) (p : Imag
           let w = l.0.waits in
           let b' = again b label ts landed in
           let size = frame_size m c f name w.code w.body l.0.framed l.0.entry s.0 in
-          let n1 : length (slice_set c.kept 0 (rsp c + f.size + 8))
-          ≡ 9 = length-set c.kept 0 (rsp c + f.size + 8) ∙ s.0.kept in
-          let nine = s.0.kept in
-          let up : register u.cpu Rsp + y.frame + 8
-          ≡ rsp (after_frame c f) = (let z : register u.cpu Rsp + y.frame + 8
-          ≡ rsp c + f.size + 8 = omega (arith, sp, size) in z)
-          ∙ sym (set_head c.kept (rsp c + f.size + 8) (omega arith)) in
+          let sp : register u.cpu Rsp ≡ rsp c = ap (λ (ks : List ℕ). slice_index ks 0) same in
+          let up : rsp c + f.size + 8 ≡ register u.cpu Rsp + y.frame + 8 =
+          omega (arith, sp, size) in
           let slots : BodyWaits t fs program p m (context_of u.cpu) y.frame
           (temporaries_end y name y.frame) b' acts = record {
             code = w.code;
@@ -121,14 +134,15 @@ module _ (t : Functions) (fs : List Funclet) (program : LinearProgram) (p : Imag
             label = label;
             instruction = record { low = inside.low; high = inside.high };
             same = all_same label (regions_of (body_of program name));
-            small = small;
+            small = well.rip_small;
             activation = subst (λ x. HasActivation m y x y.frame b.activation acts name) (sym sp)
-                (subst (λ n. HasActivation m y (rsp c) n b.activation acts name) size w.activation);
+                (subst (λ n. HasActivation m y (rsp c) n b.activation acts name) l.0.slots
+                w.activation);
             temporaries = subst (λ x. HoldsWords m (x + y.temporaries)
                 (x + temporaries_end y name y.frame) ts) (sym sp)
                 (front (rsp c + y.temporaries) (rsp c + temporaries_end y name y.frame)
                 (subst (λ n. HoldsWords m (rsp c + y.temporaries) (rsp c + temporaries_end y name n)
-                b.temporaries) size w.temporaries));
+                b.temporaries) l.0.slots w.temporaries));
             space = subst (λ x. HasSpace x below_end (length acts + b.held)) (sym sp) w.space;
           } in
           record {
@@ -142,12 +156,18 @@ module _ (t : Functions) (fs : List Funclet) (program : LinearProgram) (p : Imag
             home = λ yes. let z : true ≡ false = sym yes ∙ l.0.framed in absurd cc;
             back = f.return_address;
             returns_to = l.0.returns;
-            returns = subst (λ x. word m (x + y.frame) ≡ Ok f.return_address) (sym sp)
-                (subst (λ n. word m (rsp c + n) ≡ Ok f.return_address) size s.0.returns);
+            others = f.others;
+            eight = s.0.eight;
+            small = l.0.small;
+            frame = subst (λ (leaf : Bool). HasFrame u leaf (frame_of p name f.return_address
+                f.others)) (sym l.0.framed)
+                (told_with m c (context_of u.cpu) (frame_of p name f.return_address f.others) same
+                (subst (IsAsTold m c)
+                (frame_is m c f name w.code w.body l.0.framed l.0.entry l.0.slots s.0)
+                s.0.is_told));
             is = is;
-            below = λ others n. on_moved t fs program p m (after_frame c f)
-                (context_below f.return_address (register u.cpu Rsp + y.frame + 8) others) is below
-                (activations_below name acts) n1 (omega arith) refl up
+            below = subst (λ x. On t fs program p m (context_below f.return_address x f.others) is
+                below (activations_below name acts)) up
                 (record {
                   is_there = record { stack = s.1; linked = l.2 };
                   data_alone = on.data_alone;
@@ -158,10 +178,10 @@ module _ (t : Functions) (fs : List Funclet) (program : LinearProgram) (p : Imag
           (below : List Item) (acts : List Activation) (label : ℕ) (ts : List ℕ) (landed : Option ℕ)
           (source : Memory) (es : List Event)
           → On t fs program p u.memory c (Leaf back ∷ is) (Waits b ∷ below) acts
-          → register u.cpu Rsp ≡ rsp c → InCode p b.body label u.cpu.rip → u.cpu.rip < 2 ^ 64
+          → (context_of u.cpu).kept ≡ c.kept → InCode p b.body label u.cpu.rip → IsWellFormed u
           → IsFront u.memory b.temporaries ts
           → InBody t fs program p q u (on_top (again b label ts landed) below source acts es)
-      leaf_again u c back is b below acts label ts landed source es on sp inside small front =
+      leaf_again u c back is b below acts label ts landed source es on same inside well front =
           let m = u.memory in
           let name = b.body in
           let y = p.layout name in
@@ -171,14 +191,15 @@ module _ (t : Functions) (fs : List Funclet) (program : LinearProgram) (p : Imag
           let b' = again b label ts landed in
           let none = leaf_layout t fs program p q name w.code l.0.leaf
           (image.laid_out name w.code w.body) in
-          let n1 : length (slice_set c.kept 0 (rsp c + 8)) ≡ 9 = length-set c.kept 0 (rsp c + 8)
-          ∙ s.0.kept in
-          let nine = s.0.kept in
           let zero_frame = none.frame in
-          let up : register u.cpu Rsp + y.frame + 8
-          ≡ rsp (after_leaf c back) = (let z : register u.cpu Rsp + y.frame + 8
-          ≡ rsp c + 8 = omega (arith, sp) in z) ∙ sym (set_head c.kept (rsp c + 8) (omega arith)) in
-          let at : rsp c ≡ register u.cpu Rsp + y.frame = omega (arith, sp) in
+          let sp : register u.cpu Rsp ≡ rsp c = ap (λ (ks : List ℕ). slice_index ks 0) same in
+          let up : register u.cpu Rsp + 8 ≡ register u.cpu Rsp + y.frame + 8 = omega arith in
+          let others = others_of u.cpu.registers in
+          let rest : On t fs program p m (after_leaf c back) is below
+          (activations_below name acts) = record {
+            is_there = record { stack = s.1; linked = l.2 };
+            data_alone = on.data_alone;
+          } in
           let slots : BodyWaits t fs program p m (context_of u.cpu) y.temporaries home_end b'
           acts = record {
             code = w.code;
@@ -186,7 +207,7 @@ module _ (t : Functions) (fs : List Funclet) (program : LinearProgram) (p : Imag
             label = label;
             instruction = record { low = inside.low; high = inside.high };
             same = all_same label (regions_of (body_of program name));
-            small = small;
+            small = well.rip_small;
             activation = subst (λ x. HasActivation m y x y.temporaries b.activation acts name)
                 (sym sp) w.activation;
             temporaries = subst (λ x. HoldsWords m (x + y.temporaries) (x + home_end) ts) (sym sp)
@@ -204,31 +225,38 @@ module _ (t : Functions) (fs : List Funclet) (program : LinearProgram) (p : Imag
             home = λ yes. subst (λ x. x + home_end ≤ STACK_END) (sym sp) l.0.home;
             back = back;
             returns_to = l.0.returns;
-            returns = subst (λ x. word m x ≡ Ok back) at s.0.returns;
-            is = is;
-            below = λ others n. on_moved t fs program p m (after_leaf c back)
-                (context_below back (register u.cpu Rsp + y.frame + 8) others) is below
-                (activations_below name acts) n1 (omega arith) refl up
-                (record {
-                  is_there = record { stack = s.1; linked = l.2 };
-                  data_alone = on.data_alone;
+            others = others;
+            eight = refl;
+            small = small_others u well;
+            frame = subst (λ (leaf : Bool). HasFrame u leaf (frame_of p name back others))
+                (sym l.0.leaf) (record {
+                  returns = subst (λ x. word m x ≡ Ok back) (sym sp) s.0.returns;
+                  others = refl;
                 });
+            is = is;
+            below = subst (λ x. On t fs program p m (context_below back x others) is below
+                (activations_below name acts)) up
+                (subst (λ (ks : List ℕ). let x : Context = record {
+                  rip = back;
+                  kept = slice_set ks 0 (slice_index ks 0 + 8);
+                } in On t fs program p m x is below (activations_below name acts)) (sym same) rest);
           }
 
       -- whatever represents it
       pub waits_in_body : (u : State) (c : Context) (is : List StackItem) (b : Frame)
           (below : List Item) (acts : List Activation) (label : ℕ) (ts : List ℕ) (landed : Option ℕ)
           (source : Memory) (es : List Event)
-          → On t fs program p u.memory c is (Waits b ∷ below) acts → register u.cpu Rsp ≡ rsp c
-          → InCode p b.body label u.cpu.rip → u.cpu.rip < 2 ^ 64 → IsFront u.memory b.temporaries ts
+          → On t fs program p u.memory c is (Waits b ∷ below) acts
+          → (context_of u.cpu).kept ≡ c.kept → InCode p b.body label u.cpu.rip → IsWellFormed u
+          → IsFront u.memory b.temporaries ts
           → InBody t fs program p q u (on_top (again b label ts landed) below source acts es)
-      waits_in_body u c (Framed f ∷ is) b below acts label ts landed source es on sp inside small
+      waits_in_body u c (Framed f ∷ is) b below acts label ts landed source es on same inside well
           front =
-          framed_again u c f is b below acts label ts landed source es on sp inside small front
-      waits_in_body u c (Leaf back ∷ is) b below acts label ts landed source es on sp inside small
+          framed_again u c f is b below acts label ts landed source es on same inside well front
+      waits_in_body u c (Leaf back ∷ is) b below acts label ts landed source es on same inside well
           front =
-          leaf_again u c back is b below acts label ts landed source es on sp inside small front
-      waits_in_body u c is b below acts label ts landed source es on sp inside small front = absurd
+          leaf_again u c back is b below acts label ts landed source es on same inside well front
+      waits_in_body u c is b below acts label ts landed source es on same inside well front = absurd
           on.is_there.linked
 
 -- no temporaries, or all of them

@@ -1,6 +1,6 @@
 -- The running body has a view: its slots as templates see them hold linear code's numbers.
 use Rattle.std.proofs.Common.{◌≡◌, ℕ, ◌+◌, ◌*◌, ◌≤◌, Bool, true, false, Some, None, List, [], ◌∷◌, length, refl, sym, ap, subst, ◌∙◌, arith, inl, inr}
-use Rattle.std.specs.Prelude.{◌⊎◌, slice_get, slice_index, drop, replicate}
+use Rattle.std.specs.Prelude.{◌⊎◌, slice_get, slice_index, drop}
 use Rattle.match_bodies.specs.Words.{STACK_START, STACK_END, Rsp, State, register, LinearBody, BodyName, FunctionBody, FuncletBody, body_of, Configuration, machine, context_below, locals_of, activations_below, temporaries_end, HasActivation, IsLinkedStack, IsFunctionLayout, IsLeafLayout, IsFuncletLayout, IsLayoutIf, IsLaidOut, IsFuncletPlan, slots_end, last_temporary, FrameHolds, seen_by_templates, counts_of, frame_at, state_of, Setting, RepresentsAt, Roomy, HasSlotsOf}
 use Rattle.linear_machine.specs.Frames as linear
 use Rattle.match_bodies.proofs.Lemmas.{in_stack}
@@ -44,9 +44,9 @@ module _ (setting : Setting) where
 
       pub frame_top : sp + (p.layout c.frame.body).frame + 8 ≤ STACK_END
       frame_top =
-          let o = b.body.below (replicate 8 0) refl in
+          let o = b.body.below in
           in_stack t fs program p s.memory (context_below b.body.back
-          (sp + (p.layout c.frame.body).frame + 8) (replicate 8 0)) b.body.is c.below
+          (sp + (p.layout c.frame.body).frame + 8) b.body.others) b.body.is c.below
           (activations_below c.frame.body b.body.acts) o.is_there.stack o.is_there.linked
 
       values_count : (values : List ℕ) → slice_get (locals_of b.body.acts) c.frame.activation
@@ -85,7 +85,7 @@ module _ (setting : Setting) where
           b.body.acts
       by_funclet k name plan h =
           let low = sp_low in
-          let o = b.body.below (replicate 8 0) refl in
+          let o = b.body.below in
           let y = p.layout c.frame.body in
           let function_plan : IsLaidOut program p (FunctionBody plan.funclet.function)
           plan.function = image.laid_out (FunctionBody plan.funclet.function) plan.function
@@ -98,11 +98,11 @@ module _ (setting : Setting) where
           let same = plan.same_locals in
           funclet_placed t fs program p s.memory y (p.layout (FunctionBody plan.funclet.function))
           code sp c.frame.activation k b.body.acts
-          (context_below b.body.back (sp + y.frame + 8) (replicate 8 0)) b.body.is c.below
+          (context_below b.body.back (sp + y.frame + 8) b.body.others) b.body.is c.below
           (subst (λ n. IsFuncletLayout (p.layout n) (p.layout (FunctionBody plan.funclet.function))
           code) (sym name) plan.layout) (omega arith) refl
           (subst (λ n. IsLinkedStack t fs program p s.memory
-          (context_below b.body.back (sp + y.frame + 8) (replicate 8 0)) b.body.is c.below
+          (context_below b.body.back (sp + y.frame + 8) b.body.others) b.body.is c.below
           (activations_below n b.body.acts)) name o.is_there) h
           (λ values e. let n = values_count values e in omega arith) (omega arith)
 

@@ -3,13 +3,14 @@
 use Rattle.std.proofs.Common.{◌≡◌, ℕ, ◌+◌, ◌-◌, ◌≤◌, Bool, true, false, Some, None, Ok, List, [], ◌∷◌, ◌++◌, length, refl, sym, ap, subst, ◌∙◌, arith, append_assoc}
 use Rattle.std.specs.Prelude.{slice_get, slice_index}
 use Rattle.std.proofs.lemmas.List.{append-nil}
-use Rattle.match_bodies.specs.Words.{Memory, Rsp, Instr, Context, State, register, with_rip, word, Instruction, LinearBody, BodyName, body_of, size, sizes, thunk, IsNear, call, template, IsReturn, Steps, HasCode, HasThunk, StackItem, Framed, Leaf, ItemIsAt, OwnedBy, context_after, context_below, is_call, KeepsShadow, AllKeep, links_of, frame_with, FindsReturn, Setting, IsResumed, Indirect}
+use Rattle.match_bodies.specs.Words.{Memory, Rsp, Instr, Context, State, register, with_rip, word, Instruction, LinearBody, BodyName, body_of, size, sizes, thunk, IsNear, call, template, IsReturn, Steps, HasCode, HasThunk, StackItem, Framed, Leaf, ItemIsAt, OwnedBy, context_after, context_below, is_call, KeepsShadow, AllKeep, links_of, frame_of, FindsReturn, Setting, IsResumed, Indirect}
 use Rattle.x64_instr.specs.declared.operand.Base.TheVariants as bases
 use Rattle.x64_instr.specs.declared.operand.RegisterOrMemory.TheVariants as places
-use Rattle.match_bodies.proofs.Lemmas.{thunk_encodable, code_split, straight, keep_first}
+use Rattle.match_bodies.proofs.Lemmas.{thunk_encodable, code_split, straight, keep_first, frame_low}
 use Rattle.match_bodies.proofs.InstructionEffects.{others_of, Calls, jumps}
 use Rattle.match_bodies.proofs.SilentTurns.{program_kept}
 use Rattle.match_bodies.proofs.StackTop.{leaf_layout}
+use Rattle.match_bodies.proofs.BodyFrames.{framed_by_return}
 use Rattle.match_bodies.proofs.RoutineWalks.{read_here, effect_here, StepsTo, steps_split, keeps_split, Beneath, beneath_stays, callers_above, AllPlain, Finds, Ran, ran}
 use Rattle.match_bodies.proofs.ShadowTurns.{gives_here, called, beneath_called, call_keeps_shadow, beneath_callee}
 use Rattle.match_bodies.proofs.ReturnAddresses.{resumed_found, within_found, template_there}
@@ -152,14 +153,17 @@ module _ (setting : Setting) where
           by : (leaf : Bool) → p.leaf name ≡ leaf → Waits limit
           by false e =
               let high = beneath.high in
-              let f = image.frames v.memory name b there from_here back is e has_called resumed
+              let there_is_room = framed_by_return setting name b is v.memory from_here back e
               (let n = eight in omega arith) (omega arith) back_there in
+              let f = image.frames v.memory name b there from_here back others is e has_called
+              resumed there_is_room in
               let z : sp - 8 + 8 + frame + 8 ≡ top + 8 = omega arith in
               record {
-                item = Framed (frame_with (p.entry name) frame f.offset back);
-                is_there = f.is_there;
+                item = Framed (frame_of p name back others);
+                is_there = f;
                 same = ap (λ n. context_below back n others) z;
-                owned = λ a o. (let l = o.low in omega arith);
+                owned = λ a o. (let l = frame_low v.memory from_here (frame_of p name back others) a
+                    f.is_told o in omega arith);
               }
           by true e =
               let high = beneath.high in

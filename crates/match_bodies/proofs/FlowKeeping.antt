@@ -8,6 +8,7 @@ use Rattle.x64_templates.specs.Keeping.{is_call}
 use Rattle.x64_templates.specs.Chains.{AllTurns, IsInside, IsTurnOf}
 use Rattle.match_bodies.proofs.Lemmas.{Encodable, all_turns, HeadAbove, straight}
 use Rattle.match_runs.specs.Shadow as shadows
+use Rattle.match_bodies.proofs.OwedCallers.{finds_return}
 use Rattle.match_bodies.proofs.BodyCallers.{gives_caller}
 
 no_call : (i : Instr) → is_call i ≡ false → shadows.calls i ≡ false
@@ -48,7 +49,7 @@ module _ (t : Functions) (fs : List Funclet) (program : LinearProgram) (p : Imag
         subst (λ (x : Context). GivesCallers t u.memory (state x 0) (caller_by kept size back ∷ cs))
         is
         (gives_caller t u.memory c (caller_by kept size back) cs
-        (finds c back refl nine room h.returns) h.beyond)
+        (finds_return t u.memory u.cpu.rip size finds c back refl nine room h.returns) h.beyond)
 
     module _ (code : List Instr) (s w : State) (size back : ℕ) (cs : List Context)
         (room : register s.cpu Rsp + size + 8 < 2 ^ 64)

@@ -5,8 +5,9 @@ pub mod InstructionEffects
 pub mod SilentTurns
 pub mod RoutineWalks
 pub mod ShadowTurns
-pub mod StackContexts
 pub mod StackTop
+pub mod BodyFrames
+pub mod OwedCallers
 pub mod BodyResumption
 pub mod TemplateSizes
 pub mod ReturnAddresses

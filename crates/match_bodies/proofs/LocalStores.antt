@@ -104,7 +104,10 @@ module _ (m m' : Memory) (t : Functions) (fs : List Funclet) (program : LinearPr
   frame_passed c f b below acts i h = record {
     framed = h.framed;
     entry = h.entry;
-    waits = body_passed c f.size (temporaries_end (p.layout b.body) b.body f.size) b acts i h.waits;
+    slots = h.slots;
+    small = h.small;
+    waits = body_passed c f.slots (temporaries_end (p.layout b.body) b.body f.slots) b acts i
+        h.waits;
     pointers = h.pointers;
     returns = h.returns;
   }
@@ -221,25 +224,24 @@ module _ (m m' : Memory) (t : Functions) (fs : List Funclet) (program : LinearPr
         → KeepsStackBut m m' (rsp c) from to → STACK_START ≤ rsp c → FrameIsAt t m c f
         → IsStack t m (after_frame c f) is
         → FrameWaits t fs program p m c f b below (a ∷ outer)
-        → HasActivation m (p.layout b.body) (rsp c) f.size b.activation (a ∷ outer) (FunctionBody n)
+        → HasActivation m (p.layout b.body) (rsp c) f.slots b.activation (a ∷ outer)
+        (FunctionBody n)
         → IsAbove t fs program p b b.body below
         → Linked t fs program p m (after_frame c f) is below outer
         → Stored c (Framed f ∷ is) (Waits b ∷ below) (a ∷ outer)
     own_function c f is b below a outer n name own fits keeps low frame rest h locals above linked =
-        let y = p.layout b.body in let nine = frame.kept in
-        let e : rsp (after_frame c f) ≡ rsp c + f.size + 8 =
-        set_head c.kept (rsp c + f.size + 8) (omega arith) in
+        let y = p.layout b.body in let within = frame.slots in
         let l = in_stack t fs program p m (after_frame c f) is below outer rest linked in
         let at : from ≡ rsp c + y.locals = omega
         (arith, locals.activation.base, locals.activation.distance, own.base, own.distance) in
-        let w = words_fit m (rsp c + y.locals) (rsp c + f.size) a.values locals.values in
-        let count = own_count a outer own fits in let le : to ≤ rsp c + f.size = omega arith in
+        let w = words_fit m (rsp c + y.locals) (rsp c + f.slots) a.values locals.values in
+        let count = own_count a outer own fits in let le : to ≤ rsp c + f.slots = omega arith in
         let r = below_them (rsp c) low end keeps in
         let r' = above_them (rsp c) low (omega arith) keeps in
-        let last : temporaries_end y b.body f.size ≡ y.locals =
-        ap (λ x. temporaries_end y x f.size) name in
+        let last : temporaries_end y b.body f.slots ≡ y.locals =
+        ap (λ x. temporaries_end y x f.slots) name in
         let temps = words_kept m m' from (rsp c) (rsp c + y.temporaries)
-        (rsp c + temporaries_end y b.body f.size) b.temporaries r (omega arith) (omega arith)
+        (rsp c + temporaries_end y b.body f.slots) b.temporaries r (omega arith) (omega arith)
         h.waits.temporaries in
         let outermost = list_kept m m' t fs program p (after_frame c f) is below outer
         (higher m m' STACK_END to (rsp (after_frame c f)) (omega arith) r') rest linked in
@@ -254,7 +256,9 @@ module _ (m m' : Memory) (t : Functions) (fs : List Funclet) (program : LinearPr
             record {
               framed = h.framed;
               entry = h.entry;
-              waits = own_body c f.size (temporaries_end y b.body f.size) n b a outer name own le
+              slots = h.slots;
+              small = h.small;
+              waits = own_body c f.slots (temporaries_end y b.body f.slots) n b a outer name own le
                   words locals temps h.waits;
               pointers = no_pointers y (rsp c) f.size n b below
                   (subst (λ x. IsAbove t fs program p b x below) name above);
@@ -281,7 +285,7 @@ module _ (m m' : Memory) (t : Functions) (fs : List Funclet) (program : LinearPr
           stack = (frame_is_at m m' from t fs program p c f r le frame, rest.stack);
           linked = (
             frame_passed c f b below acts i (frame_kept m m' from t fs program p c f b below acts r
-                (omega arith) h),
+                frame.slots (omega arith) h),
             above,
             subst (λ x. Linked t fs program p m' (after_frame c f) is below x)
                 (sym (below_passed acts b.body i)) rest.linked,
@@ -317,9 +321,6 @@ module _ (m m' : Memory) (t : Functions) (fs : List Funclet) (program : LinearPr
         → Stored (after_frame c f) is below (activations_below name acts)
         → Stored c (Framed f ∷ is) (Waits b ∷ below) acts
     upper c f is b below acts name same i keeps low frame stack h above linked rest =
-        let nine = frame.kept in
-        let e : rsp (after_frame c f) ≡ rsp c + f.size + 8 =
-        set_head c.kept (rsp c + f.size + 8) (omega arith) in
         let high = (are_there t fs program p m (after_frame c f) is below
         (activations_below name acts) k base distance stack linked i).low_end in
         passes_frame c f is b below acts (subst (λ x. passes acts x) (sym same) i) keeps low frame
@@ -352,7 +353,7 @@ module _ (m m' : Memory) (t : Functions) (fs : List Funclet) (program : LinearPr
         → KeepsStackBut m m' (rsp c) from to → STACK_START ≤ rsp c → FrameIsAt t m c f
         → IsStack t m (after_frame c f) is
         → FrameWaits t fs program p m c f b below acts
-        → HasActivation m (p.layout b.body) (rsp c) f.size b.activation acts name
+        → HasActivation m (p.layout b.body) (rsp c) f.slots b.activation acts name
         → IsAbove t fs program p b b.body below
         → Linked t fs program p m (after_frame c f) is below (activations_below name acts)
         → (passes acts name → Stored (after_frame c f) is below (activations_below name acts))

@@ -1,9 +1,10 @@
 -- The next instruction of a body begins, in the memory that a template leaves.
 use Rattle.std.proofs.Common.{◌≡◌, ℕ, ◌+◌, ◌*◌, ◌<◌, ◌≤◌, true, Option, Some, None, Ok, List, [], ◌∷◌, length, refl, sym, ap, subst, ◌∙◌, arith, inl, inr}
-use Rattle.std.specs.Prelude.{◌⊎◌, slice_get}
-use Rattle.match_bodies.specs.Words.{STACK_START, STACK_END, Event, Memory, Rax, Rsp, State, register, word, Local, Temporary, BodyState, LinearBody, LinearFunclet, BodyName, FunctionBody, FuncletBody, body_of, Frame, Item, Waits, Searches, Unwinds, Configuration, Context, Layout, FrameHolds, context_of, holds, regions_of, InCode, context_below, Activation, locals_of, activations_below, HoldsWords, IsActivation, HasActivation, HasPointers, FuncletIsAbove, IsAbove, BodyWaits, HasSpace, below_end, home_end, IsLinkedStack, IsData, On, IsWellFormed, IsFunctionLayout, IsLayoutIf, slots_end, counts_of, frame_at, with_values, KeepsStackBut, OwnerHasFrame, InTemporaries, InLocals, last_temporary, Setting, RepresentsAt}
+use Rattle.std.specs.Prelude.{◌⊎◌, slice_get, slice_index, drop}
+use Rattle.match_bodies.specs.Words.{STACK_START, STACK_END, Event, Memory, Rax, Rsp, kept_of, State, register, word, Local, Temporary, BodyState, LinearBody, LinearFunclet, BodyName, FunctionBody, FuncletBody, body_of, Frame, Item, Waits, Searches, Unwinds, Configuration, Context, Layout, FrameHolds, context_of, regions_of, InCode, context_below, Activation, locals_of, activations_below, HoldsWords, IsActivation, HasActivation, HasPointers, FuncletIsAbove, IsAbove, BodyWaits, HasSpace, below_end, home_end, IsLinkedStack, IsData, On, IsWellFormed, IsFunctionLayout, IsLayoutIf, slots_end, counts_of, frame_at, with_values, KeepsStackBut, OwnerHasFrame, InTemporaries, InLocals, last_temporary, Setting, RepresentsAt}
 use Rattle.virtual_unwind.specs.Undone.{Answer}
 use Rattle.match_bodies.proofs.Lemmas.{kept_by_other_memories}
+use Rattle.match_bodies.proofs.BodyFrames.{body_return, has_frame}
 use Rattle.match_bodies.proofs.ProgramKeeping.{program_stays}
 use Rattle.match_bodies.proofs.HomeSpace.{CallerHasFrame, home_is_free}
 use Rattle.match_bodies.proofs.SlotPlaces.{KeepsSlot, SlotsPlaced}
@@ -66,7 +67,7 @@ module _ (setting : Setting) where
     pub record Ran (u : State) (d : BodyState) (values ts : List ℕ) : Type 0 where
       pub changed : Changed program.globals s u y (counts_of code) sp here.base
       pub holds : FrameHolds (frame_at program p c.frame.body code sp here.base) u.memory d
-      pub stack : register u.cpu Rsp ≡ sp
+      pub kept : kept_of u.cpu.registers ≡ kept_of s.cpu.registers
       pub leaves : Leaves code d values ts
 
     cnt : length here.values ≡ code.locals
@@ -82,10 +83,10 @@ module _ (setting : Setting) where
     same_word x z e = cc
 
     module _ (u : State) (d : BodyState) (values ts : List ℕ) (r : Ran u d values ts) where
-      -- ---- slots
+      stack_there : register u.cpu Rsp ≡ sp
+      stack_there = ap (λ (ks : List ℕ). slice_index ks 0) r.kept
 
-      number_of_values : length values ≡ length here.values
-      number_of_values = r.leaves.count ∙ sym cnt
+      -- ---- slots
 
       new_local : (i v : ℕ) → slice_get values i ≡ Some v
           → word u.memory (here.base + y.locals + 8 * i) ≡ Ok v
@@ -139,10 +140,7 @@ module _ (setting : Setting) where
 
       own_base : (o : Option ℕ) → o ≡ y.base → o ≡ None → here.base ≡ sp
       own_base None e n = subst (λ o. KeepsSlot s.memory y o sp here.base) (sym e) here.kept
-      own_base (Some slot) e n = absurd (no_slot n)
-        where
-          no_slot : ◌≡◌ {A = Option ℕ} (Some slot) None → ⊥
-          no_slot e = cc
+      own_base (Some slot) e n = let z : ◌≡◌ {A = Option ℕ} (Some slot) None = n in absurd cc
 
       function_base : y.base ≡ None → here.base ≡ sp
       function_base n = own_base y.base refl n
@@ -224,7 +222,7 @@ module _ (setting : Setting) where
                 f
             | inr (inr f) ↦ funclet_beside f y.frame (inr refl)
           ])
-          b.body.returns
+          (body_return setting s c b.body).returns
 
       activation : HasActivation u.memory y sp
           (slots_end y (p.leaf c.frame.body)) c.frame.activation
@@ -303,14 +301,13 @@ module _ (setting : Setting) where
 
       module _ (caller : p.leaf c.frame.body ≡ true → CallerHasFrame p c.below)
           (owner : (k : ℕ) → c.frame.body ≡ FuncletBody k
-          → OwnerHasFrame t fs program p c.frame.activation c.below b.body.acts) (others : List ℕ)
-          (eight : length others ≡ 8) where
+          → OwnerHasFrame t fs program p c.frame.activation c.below b.body.acts) where
         abbrev above : Context
-        above = context_below b.body.back (sp + y.frame + 8) others
+        above = context_below b.body.back (sp + y.frame + 8) b.body.others
 
         abbrev old : IsLinkedStack t fs program p s.memory above b.body.is c.below
             (activations_below c.frame.body b.body.acts)
-        old = (b.body.below others eight).is_there
+        old = b.body.below.is_there
 
         abbrev New : BodyName → Type 0
         New name = IsLinkedStack t fs program p u.memory above b.body.is c.below
@@ -375,7 +372,7 @@ module _ (setting : Setting) where
             let g = function_layout.passed in
             let h = function_layout.temporaries in
             let e = f.layout.locals in
-            let n = number_of_values in
+            let n = r.leaves.count ∙ sym cnt in
             let keep = stack_kept_but program.globals s u y (counts_of code) sp c.frame.activation
             b.body.acts here cnt r.changed b.memory.data_alone b.memory.stack (sp + y.frame + 8)
             (omega arith) (omega arith) in
@@ -439,13 +436,14 @@ module _ (setting : Setting) where
           small = well_formed.rip_small;
           activation = subst (λ x. HasActivation u.memory y x (slots_end y (p.leaf c.frame.body))
               c.frame.activation (with_values b.body.acts c.frame.activation values) c.frame.body)
-              (sym r.stack) activation;
+              (sym stack_there) activation;
           temporaries = subst (λ x. HoldsWords u.memory (x + y.temporaries)
               (x + last_temporary y c.frame.body (p.leaf c.frame.body)) ts)
-              (sym r.stack) new_temporaries;
+              (sym stack_there) new_temporaries;
           space = subst (λ x. HasSpace x below_end
               (length (with_values b.body.acts c.frame.activation values) + c.frame.held))
-              (sym r.stack) (subst (λ n. HasSpace sp below_end (n + c.frame.held)) (sym same_depth)
+              (sym stack_there) (subst (λ n. HasSpace sp below_end (n + c.frame.held))
+              (sym same_depth)
               b.body.slots.space);
         }
 
@@ -472,19 +470,27 @@ module _ (setting : Setting) where
             store = refl;
             slots = slots;
             pointers = subst (λ x. HasPointers t fs program p u.memory y x y.frame c.below)
-                (sym r.stack) (pointers_in c.below b.body.above b.body.pointers);
+                (sym stack_there) (pointers_in c.below b.body.above b.body.pointers);
             above = above_next c.below c.frame.body c.frame label landed ts b.body.above;
-            home = λ e. subst (λ x. x + home_end ≤ STACK_END) (sym r.stack) (b.body.home e);
+            home = λ e. subst (λ x. x + home_end ≤ STACK_END) (sym stack_there) (b.body.home e);
             back = b.body.back;
             returns_to = b.body.returns_to;
-            returns = subst (λ x. word u.memory (x + y.frame) ≡ Ok b.body.back)
-                (sym r.stack) returns;
+            others = b.body.others;
+            eight = b.body.eight;
+            small = b.body.small;
+            frame = has_frame setting c.frame.body code b.body.slots.body u b.body.back
+                b.body.others (let e = stack_there in let h = top in omega arith)
+                (record {
+                  returns = subst (λ x. word u.memory (x + y.frame) ≡ Ok b.body.back)
+                      (sym stack_there) returns;
+                  others_are = ap (λ (ks : List ℕ). drop 1 ks) r.kept
+                      ∙ (body_return setting s c b.body).others_are;
+                });
             is = b.body.is;
-            below = λ others eight.
-                subst (λ x. On t fs program p u.memory
-                (context_below b.body.back (x + y.frame + 8) others) b.body.is c.below
+            below = subst (λ x. On t fs program p u.memory
+                (context_below b.body.back (x + y.frame + 8) b.body.others) b.body.is c.below
                 (activations_below c.frame.body
-                (with_values b.body.acts c.frame.activation values))) (sym r.stack)
-                (new_on caller owner others eight);
+                (with_values b.body.acts c.frame.activation values))) (sym stack_there)
+                (new_on caller owner);
           };
         }

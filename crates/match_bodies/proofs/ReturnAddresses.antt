@@ -1,12 +1,14 @@
 -- Where an image's code is, a walk finds the return address of its routine.
-use Rattle.std.proofs.Common.{◌≡◌, ℕ, ◌+◌, ◌<◌, ◌≤◌, Bool, true, false, Some, List, [], ◌∷◌, ◌++◌, length, get_or, refl, sym, ap, subst, ◌∙◌, arith, inl, inr}
+use Rattle.std.proofs.Common.{◌≡◌, ℕ, ◌+◌, ◌^◌, ◌<◌, ◌≤◌, Bool, true, false, Some, Ok, List, [], ◌∷◌, ◌++◌, length, drop, get_or, refl, sym, ap, subst, ◌∙◌, arith, inl, inr}
 use Rattle.std.specs.Prelude.{slice_get, slice_set}
 use Rattle.std.proofs.lemmas.Option.{slice_get_cases, slice_get_within, get_or_from_slice_get}
 use Rattle.std.proofs.lemmas.List.{append-nil}
-use Rattle.match_bodies.specs.Words.{Memory, Rax, Instr, Context, rsp, word, Instruction, LinearBody, BodyName, body_of, sizes, fetch, template, offset_of, code_from, IsReturn, HasCode, after_leaf, links_of, begin_of, making_size, frame_code, arguments_code, entry_code, frame_with, caller_above, HasCaller, FindsReturn, Setting, IsResumed}
+use Rattle.match_bodies.specs.Words.{Memory, Rax, Instr, Context, rsp, word, Instruction, LinearBody, BodyName, body_of, sizes, fetch, template, offset_of, code_from, IsReturn, HasCode, after_frame, after_leaf, links_of, begin_of, making_size, frame_code, arguments_code, entry_code, frame_of, caller_above, HasCaller, FindsReturn, Setting, IsResumed}
 use Rattle.linear_code.specs.declared.instruction.Instruction.TheVariants as instructions
 use Rattle.match_bodies.proofs.Lemmas.{sizes_append, template_sizes, code_split, template_placed, frame_is_visited, leaf_is_visited}
 use Rattle.match_bodies.proofs.StackTop.{leaf_layout}
+use Rattle.match_bodies.proofs.BodyFrames.{framed_by_return, first_set}
+use Rattle.match_bodies.proofs.OwedCallers.{return_finds}
 use Rattle.match_bodies.proofs.TemplateSizes.{template_some}
 use Rattle.match_bodies.specs.Setting.{HasProgram}
 
@@ -27,13 +29,10 @@ module _ (setting : Setting) where
     -- where a body waits, or is within an instruction that isn't a return
     pub resumed_found : (label rip : ℕ) → IsResumed setting name b label rip
         → FindsReturn t m rip (p.layout name).frame
-    resumed_found label rip r c back at nine room w = by (p.leaf name) refl
+    resumed_found label rip r = return_finds t m rip (p.layout name).frame found
       where
-        y : ℕ
-        y = (p.layout name).frame
-
-        here : IsResumed setting name b label c.rip
-        here = record {
+        here_at : (c : Context) → c.rip ≡ rip → IsResumed setting name b label c.rip
+        here_at c at = record {
           instruction = r.instruction;
           there = r.there;
           continues = r.continues;
@@ -44,27 +43,38 @@ module _ (setting : Setting) where
           here = at ∙ r.here;
         }
 
-        by : (leaf : Bool) → p.leaf name ≡ leaf
+        by : (c : Context) (back : ℕ) → c.rip ≡ rip → length c.kept ≡ 9
+            → rsp c + (p.layout name).frame + 8 < 2 ^ 64
+            → word m (rsp c + (p.layout name).frame) ≡ Ok back → (leaf : Bool) → p.leaf name ≡ leaf
             → HasCaller t m c (caller_above c (p.layout name).frame back)
-        by false e =
-            let f = image.frames m name b label c back is e has here nine room w in
-            record {
+        by c back at nine room w false e =
+            let others = drop 1 c.kept in
+            let f = image.frames m name b label c back others is e has (here_at c at)
+            (framed_by_return setting name b is m c back e nine room w) in
+            let k : HasCaller t m c (after_frame c (frame_of p name back others)) = record {
               frame = _;
-              visits = frame_is_visited t m c 0
-                  (frame_with (p.entry name) (p.layout name).frame f.offset back) f.is_there;
+              visits = frame_is_visited t m c 0 (frame_of p name back others) f;
               context = refl;
-            }
-        by true e =
+            } in
+            subst (λ (ks : List ℕ). let x : Context = record { rip = back; kept = ks } in
+            HasCaller t m c x) (first_set c.kept (rsp c + (p.layout name).frame + 8) nine) k
+        by c back at nine room w true e =
             let none = leaf_layout t fs program p q name b e (image.laid_out name b is) in
             let zero_frame = none.frame in
             let z : rsp c + (p.layout name).frame ≡ rsp c = omega arith in
             let up : rsp c + 8 ≡ rsp c + (p.layout name).frame + 8 = omega arith in
-            let l = image.leaves m name b label c back is e here nine (omega arith)
+            let l = image.leaves m name b label c back is e (here_at c at) nine (omega arith)
             (ap (word m) (sym z) ∙ w) in
             let k : HasCaller t m c (after_leaf c back) =
             record { frame = _; visits = leaf_is_visited t m c 0 back l; context = refl } in
             subst (λ n. let x : Context = record { rip = back; kept = slice_set c.kept 0 n } in
             HasCaller t m c x) up k
+
+        found : (c : Context) (back : ℕ) → c.rip ≡ rip → length c.kept ≡ 9
+            → rsp c + (p.layout name).frame + 8 < 2 ^ 64
+            → word m (rsp c + (p.layout name).frame) ≡ Ok back
+            → HasCaller t m c (caller_above c (p.layout name).frame back)
+        found c back at nine room w = by c back at nine room w (p.leaf name) refl
 
     pub within_found : (label : ℕ) (i : Instruction) → slice_get b.code label ≡ Some i
         → (IsReturn i → ⊥) → (done left : List Instr) (item : Instr)

@@ -7,6 +7,7 @@ use Rattle.match_bodies.proofs.Lemmas.{longest, same_number, bytes_kept, outside
 use Rattle.x64_machine.specs.Effect.{step}
 use Rattle.match_bodies.proofs.StackWalks.{callers, on_stack}
 use Rattle.match_bodies.proofs.InstructionEffects.{others_of, is_idle, idle_leaves, idle_calls_nothing, store_leaves}
+use Rattle.match_bodies.proofs.OwedCallers.{finds_return}
 use Rattle.match_bodies.proofs.SilentTurns.{program_kept}
 
 -- ---- the instruction at RIP is run
@@ -180,7 +181,8 @@ module _ (t : Functions) where
       let high = b.high in
       let c = context_of s.cpu in
       let above = context_below back (top + 8) others in
-      let h = finds c back refl refl (let z : rsp c + d + 8 < 2 ^ 64 = omega arith in z)
+      let h = finds_return t s.memory s.cpu.rip d finds c back refl refl
+      (let z : rsp c + d + 8 < 2 ^ 64 = omega arith in z)
       (ap (word s.memory) at ∙ b.returns) in
       let same : caller_above c d back ≡ above = λ i. context_below back (at i + 8)
       (b.others_are i) in

@@ -3,6 +3,7 @@ use Rattle.std.proofs.Common.{◌≡◌, ℕ, ◌+◌, ◌^◌, ◌<◌, ◌≤�
 use Rattle.match_bodies.specs.Words.{Memory, executable, number_at, Rax, Rsp, Instr, leading, is_encodable, Context, context_of, State, register, with_rip, effect, Functions, word, Funclet, size, IsNear, call, Steps, HasCode, StackItem, ItemIsAt, IsStack, OwnedBy, Owned, context_after, context_below, state, is_call, GivesCallers, WalkGives, KeepsShadow, caller_above, HasCaller, FindsReturn, caller_at}
 use Rattle.x64_instr.specs.declared.instruction.Instr.TheVariants as instrs
 use Rattle.template_code.specs.Jumps.{distance}
+use Rattle.match_bodies.proofs.OwedCallers.{finds_return}
 use Rattle.match_bodies.proofs.Lemmas.{call_size, arrives, short, past_frame, HeadAbove, straight, call_keeps, return_keeps}
 use Rattle.match_bodies.proofs.StackWalks.{callers, on_stack, stack_rises}
 use Rattle.match_bodies.proofs.InstructionEffects.{others_of, is_probing, probing_is_idle, idle_leaves, idle_calls_nothing, rax_stays, Sets, Calls, calls, Returns, returns, word_loads}
@@ -19,7 +20,8 @@ module _ (t : Functions) (fs : List Funclet) where
   gives_at m rip sp d top back others is eight finds at high w list =
       let c = context_below rip sp others in
       let above = context_below back (top + 8) others in
-      let h = finds c back refl (let z : length (sp ∷ others) ≡ 9 = omega arith in z)
+      let h = finds_return t m rip d finds c back refl
+      (let z : length (sp ∷ others) ≡ 9 = omega arith in z)
       (let z : sp + d + 8 < 2 ^ 64 = omega arith in z) (ap (word m) at ∙ w) in
       let same : caller_above c d back ≡ above = λ i. context_below back (at i + 8) others in
       let k = subst (HasCaller t m c) same h in
@@ -37,8 +39,9 @@ module _ (t : Functions) (fs : List Funclet) where
       let c = context_of u.cpu in
       let caller = context_below next (sp + 8) others in
       let z : register u.cpu Rsp + 0 ≡ sp = omega arith in
-      let h = finds c next refl refl (let w : register u.cpu Rsp + 0 + 8 < 2 ^ 64 = omega arith in
-      w) (ap (word u.memory) z ∙ pushed) in
+      let h = finds_return t u.memory u.cpu.rip 0 finds c next refl refl
+      (let w : register u.cpu Rsp + 0 + 8 < 2 ^ 64 = omega arith in w)
+      (ap (word u.memory) z ∙ pushed) in
       let is : caller_above c 0 next ≡ caller = λ i. context_below next (z i + 8) (same i) in
       let k = subst (HasCaller t u.memory c) is h in
       subst (λ x. GivesCallers t u.memory (state c 0) (x ∷ cs)) k.context

@@ -1,8 +1,9 @@
 -- A body that runs is on top of what waits below it, as one that waits.
-use Rattle.std.proofs.Common.{◌≡◌, ℕ, ◌+◌, Bool, true, false, List, [], ◌∷◌, refl, sym, ap, subst, ◌∙◌, arith}
-use Rattle.match_bodies.specs.Words.{Rsp, context_of, State, register, Functions, word, Funclet, LinearProgram, LinearBody, BodyName, FunctionBody, FuncletBody, Waits, Configuration, regions_of, StackItem, Framed, Leaf, LeafIsAt, context_below, ImagePlan, Activation, activations_below, BodyWaits, On, Sites, IsLayoutIf, IsLeafLayout, IsLaidOut, HasProgram, IsProgramImage, frame_with, slots_end, last_temporary, InBody, Rbx, Rbp, Rsi, Rdi, R12, R13, R14, R15, IsGiven, IsFramed}
+use Rattle.std.proofs.Common.{◌≡◌, ℕ, ◌+◌, Bool, true, false, List, [], ◌∷◌, drop, refl, sym, ap, subst, ◌∙◌, arith}
+use Rattle.match_bodies.specs.Words.{Rsp, context_of, State, register, Functions, Funclet, LinearProgram, LinearBody, BodyName, FunctionBody, FuncletBody, Waits, Configuration, regions_of, StackItem, Framed, Leaf, FrameIsAt, LeafIsAt, context_below, ImagePlan, Activation, activations_below, BodyWaits, On, Sites, IsLayoutIf, IsLeafLayout, IsLaidOut, HasProgram, IsProgramImage, frame_of, slots_end, last_temporary, HasFrame, InBody, IsGiven, IsFramed}
 use Rattle.match_bodies.proofs.Lemmas.{in_stack}
 use Rattle.match_bodies.specs.ProgramImages.{IsResumed}
+use Rattle.match_bodies.specs.Bodies.{IsLeafFrame}
 
 module _ (t : Functions) (fs : List Funclet) (program : LinearProgram) (p : ImagePlan) (q : Sites)
   where
@@ -24,27 +25,24 @@ module _ (t : Functions) (fs : List Funclet) (program : LinearProgram) (p : Imag
       pub is : List StackItem
       pub on : On t fs program p u.memory (context_of u.cpu) is (Waits c.frame ∷ c.below) acts
 
-    abbrev pub others_of : State → List ℕ
-    others_of u = register u.cpu Rbx ∷ register u.cpu Rbp ∷ register u.cpu Rsi ∷ register u.cpu Rdi
-        ∷ register u.cpu R12 ∷ register u.cpu R13 ∷ register u.cpu R14 ∷ register u.cpu R15 ∷ []
-
     -- a body whose frame is there
     pub framed_top : (u : State) (c : Configuration) (at : InBody t fs program p q u c)
-        → p.leaf c.frame.body ≡ false → IsFramed t fs program p q u.memory c.frame.body
-        (context_of u.cpu) at.back → OnTop u c at.acts
+        → p.leaf c.frame.body ≡ false → FrameIsAt t u.memory (context_of u.cpu)
+        (frame_of p c.frame.body at.back at.others) → OnTop u c at.acts
     framed_top u c at e f =
         let name = c.frame.body in
         let y = p.layout name in
-        let rest = at.below (others_of u) refl in
         record {
-          is = Framed (frame_with (p.entry name) y.frame f.offset at.back) ∷ at.is;
+          is = Framed (frame_of p name at.back at.others) ∷ at.is;
           on = record {
             is_there = record {
-              stack = (f.is_there, rest.is_there.stack);
+              stack = (f, at.below.is_there.stack);
               linked = (
                 record {
                   framed = e;
                   entry = refl;
+                  slots = refl;
+                  small = at.small;
                   waits = subst (λ (leaf : Bool). BodyWaits t fs program p u.memory
                       (context_of u.cpu)
                       (slots_end y leaf) (last_temporary y name leaf) c.frame at.acts) e at.slots;
@@ -52,11 +50,34 @@ module _ (t : Functions) (fs : List Funclet) (program : LinearProgram) (p : Imag
                   returns = at.returns_to;
                 },
                 at.above,
-                rest.is_there.linked,
+                at.below.is_there.linked,
               );
             };
-            data_alone = rest.data_alone;
+            data_alone = at.below.data_alone;
           };
+        }
+
+    -- the frame of a leaf function, and of any other body
+    pub leaf_frame : (u : State) (c : Configuration) (at : InBody t fs program p q u c)
+        → p.leaf c.frame.body ≡ true → IsLeafFrame u (frame_of p c.frame.body at.back at.others)
+    leaf_frame u c at e = subst (λ (leaf : Bool). HasFrame u leaf
+        (frame_of p c.frame.body at.back at.others)) e at.frame
+
+    -- there is room for it
+    pub framed_here : (u : State) (c : Configuration) (at : InBody t fs program p q u c)
+        → p.leaf c.frame.body ≡ false
+        → IsFramed p u.memory c.frame.body (context_of u.cpu) at.back at.others
+    framed_here u c at e =
+        let name = c.frame.body in
+        let top = in_stack t fs program p u.memory
+        (context_below at.back (register u.cpu Rsp + (p.layout name).frame + 8) at.others) at.is
+        c.below (activations_below name at.acts) at.below.is_there.stack at.below.is_there.linked in
+        record {
+          kept = refl;
+          eight = at.eight;
+          room = omega arith;
+          is_told = subst (λ (leaf : Bool). HasFrame u leaf (frame_of p name at.back at.others)) e
+              at.frame;
         }
 
     module _ (image : IsProgramImage t fs program p q) where
@@ -71,11 +92,13 @@ module _ (t : Functions) (fs : List Funclet) (program : LinearProgram) (p : Imag
           let b = at.slots.code in
           let none = leaf_layout name b e (image.laid_out name b at.slots.body) in
           let up : sp + y.frame + 8 ≡ sp + 8 = let z = none.frame in omega arith in
-          let rest : On t fs program p u.memory (context_below at.back (sp + 8) (others_of u)) at.is
-          c.below (activations_below name at.acts) =
-          subst (λ a. On t fs program p u.memory (context_below at.back a (others_of u)) at.is
-          c.below
-          (activations_below name at.acts)) up (at.below (others_of u) refl) in
+          let rest : On t fs program p u.memory
+          (context_below at.back (sp + 8) (drop 1 (context_of u.cpu).kept)) at.is c.below
+          (activations_below name at.acts) =
+          subst (λ (os : List ℕ). On t fs program p u.memory (context_below at.back (sp + 8) os)
+          at.is c.below (activations_below name at.acts)) (sym (leaf_frame u c at e).others)
+          (subst (λ a. On t fs program p u.memory (context_below at.back a at.others) at.is c.below
+          (activations_below name at.acts)) up at.below) in
           record {
             is = Leaf at.back ∷ at.is;
             on = record {
@@ -104,15 +127,8 @@ module _ (t : Functions) (fs : List Funclet) (program : LinearProgram) (p : Imag
           → IsResumed t fs program p q c.frame.body at.slots.code label u.cpu.rip
           → HasProgram t fs program p q u.memory → p.leaf c.frame.body ≡ false → OnTop u c at.acts
       framed_on_top u c label at resumed has e =
-          let name = c.frame.body in
-          let y = p.layout name in
-          let sp = register u.cpu Rsp in
-          let rest = at.below (others_of u) refl in
-          let top = in_stack t fs program p u.memory
-          (context_below at.back (sp + y.frame + 8) (others_of u)) at.is c.below
-          (activations_below name at.acts) rest.is_there.stack rest.is_there.linked in
-          framed_top u c at e (image.frames u.memory name at.slots.code label (context_of u.cpu)
-          at.back at.slots.body e has resumed refl (omega arith) at.returns)
+          framed_top u c at e (image.frames u.memory c.frame.body at.slots.code label
+          (context_of u.cpu) at.back at.others at.slots.body e has resumed (framed_here u c at e))
 
       leaf_on_top : (u : State) (c : Configuration) (label : ℕ) (at : InBody t fs program p q u c)
           → IsResumed t fs program p q c.frame.body at.slots.code label u.cpu.rip
@@ -121,16 +137,11 @@ module _ (t : Functions) (fs : List Funclet) (program : LinearProgram) (p : Imag
           let name = c.frame.body in
           let y = p.layout name in
           let sp = register u.cpu Rsp in
-          let b = at.slots.code in
-          let none = leaf_layout name b e (image.laid_out name b at.slots.body) in
-          let here : sp + y.frame ≡ sp = let z = none.frame in omega arith in
-          let rest = at.below (others_of u) refl in
           let top = in_stack t fs program p u.memory
-          (context_below at.back (sp + y.frame + 8) (others_of u)) at.is c.below
-          (activations_below name at.acts) rest.is_there.stack rest.is_there.linked in
-          leaf_top u c at e (image.leaves u.memory name b label (context_of u.cpu) at.back
-          at.slots.body e resumed refl (let z = none.frame in omega arith)
-          (ap (word u.memory) (sym here) ∙ at.returns))
+          (context_below at.back (sp + y.frame + 8) at.others) at.is c.below
+          (activations_below name at.acts) at.below.is_there.stack at.below.is_there.linked in
+          leaf_top u c at e (image.leaves u.memory name at.slots.code label (context_of u.cpu)
+          at.back at.slots.body e resumed refl (omega arith) (leaf_frame u c at e).returns)
 
       -- where RIP is at a machine instruction of an instruction of its code
       pub body_on_top : (u : State) (c : Configuration) (label : ℕ)

@@ -24,8 +24,7 @@ on_stack t m c row (Unwinding r ∷ is) s = past_host t m (state c row) (state r
 pub stack_rises : (t : Functions) (m : Memory) (c : Context) (is : List StackItem)
     → IsStack t m c is → HeadAbove (rsp c) (callers c is)
 stack_rises t m c [] s = tt
-stack_rises t m c (Framed f ∷ is) s = let up = set_head c.kept (rsp c + f.size + 8)
-    (let k = s.0.kept in omega arith) in omega arith
+stack_rises t m c (Framed f ∷ is) s = omega arith
 stack_rises t m c (Leaf back ∷ is) s = let up = set_head c.kept (rsp c + 8)
     (let k = s.0.kept in omega arith) in omega arith
 stack_rises t m c (Searching r ∷ is) s = let a = s.0.above in

@@ -1,6 +1,6 @@
 -- Each turn of the run of an instruction's template keeps the shadow.
 use Rattle.std.proofs.Common.{◌≡◌, ℕ, ◌+◌, ◌^◌, ◌<◌, ◌≤◌, List, [], ◌++◌, Option, Some, None, length, drop, refl, sym, ap, subst, ◌∙◌, arith, length-append, append_assoc}
-use Rattle.std.specs.Prelude.{slice_get, slice_index}
+use Rattle.std.specs.Prelude.{slice_get}
 use Rattle.match_bodies.specs.Words.{Memory, Rsp, Instr, State, register, Operation, Gives, performed, is_reserved, Slot, Local, Temporary, Instruction, LinearBody, Configuration, Layout, size, sizes, local_at, keep_local, keep, operands_code, finish_code, compute_code, IsNear, template, template_size, MachineView, machine, Reaches, FrameHolds, HasCode, AllKeep, HaveRoom, links_of, counts_of, Setting, RepresentsAt, work, test_code, information_code}
 use Rattle.c_operations.specs.declared.field.Field.{Field}
 use Rattle.linear_code.specs.declared.instruction.Instruction.TheVariants as instructions
@@ -11,7 +11,7 @@ use Rattle.match_bodies.proofs.TemplatePieces.{piece_there}
 use Rattle.match_bodies.proofs.BodyViews.{IsCounted, placed, room_here, holds_here}
 use Rattle.match_bodies.proofs.ChainKeeping.{Keeps, keeps_then, reaches_keeps}
 use Rattle.match_bodies.proofs.TemplateShadows.{kept_by_rest, Below, is_here, is_after, ran_same, RunsKeep, whole, IsPast, past_none, one_piece, piece_to, piece_then, near_here}
-use Rattle.match_bodies.proofs.TemplateRuns.{code, frame, slots, v, same_state, template_here, sp_is, has_slots, dropped, Surroundings}
+use Rattle.match_bodies.proofs.TemplateRuns.{code, frame, slots, v, same_state, template_here, sp_is, has_slots, Surroundings}
 
 jump_size : (y : Layout) (at label : ℕ) → at + template_size y (instructions.Jump label) ≡ at + 5
 unfolding template_size size
@@ -158,16 +158,15 @@ module _ (setting : Setting) (roomy : HaveRoom setting.program) (s : State)
       past_work : Past (ops ++ work o) mid
       past_work =
           let e = past.rip in
-          let sp : register mid.cpu Rsp ≡ register s.cpu Rsp = ap
-          (λ (xs : List ℕ). slice_index xs 1) rest ∙ dropped s.cpu.registers in
+          let registers = kept_by_rest view.rest s.cpu.registers rest in
           let kept = keeps_then s x mid keeps (reaches_keeps (length (work o)) x mid comes) in
           let ran = ran_same setting s c b counted mid source kept
           (λ a h. worked.result.own a h ∙ ap (λ (k : Memory). k.byte a) same)
           (λ h. worked.result.bytes (subst (λ (k : Memory). (a : ℕ) → k.byte a < 256) (sym same) h))
-          worked.result.agrees sp in
+          worked.result.agrees registers in
           record {
             rip = omega (arith, sizes_append ops (work o));
-            registers = kept_by_rest view.rest s.cpu.registers rest;
+            registers = registers;
             is_there = is_after setting s c b counted mid _ _ [] ran around.caller around.owner;
           }
 

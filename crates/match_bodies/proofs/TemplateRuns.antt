@@ -181,16 +181,14 @@ module _ (setting : Setting) (roomy : HaveRoom setting.program) where
       to_label n label rip d values ts landed events r at lt small leaves free keep =
           let u : State = machine r.after rip r.flags in
           let keeps = reaches_keeps n s u r.comes in
-          let sp : register u.cpu Rsp ≡ register s.cpu Rsp = ap (λ (xs : List ℕ). slice_index xs 1)
-          r.rest ∙ dropped s.cpu.registers in
+          let kept = kept_by_rest r.after.rest s.cpu.registers r.rest in
           let ran : Ran setting s c b counted u d values
           ts = record {
             changed = record { changes = r.changes; keeps = keeps };
             holds = r.holds;
-            stack = sp;
+            kept = kept;
             leaves = leaves;
           } in
-          let kept = kept_by_rest r.after.rest s.cpu.registers r.rest in
           let ends = ends_at setting s c b counted u label at lt kept
           (is_after setting s c b counted u d values ts ran around.caller around.owner) in (
             u,

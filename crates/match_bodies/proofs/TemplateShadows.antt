@@ -4,7 +4,7 @@ use Rattle.std.proofs.Common.{◌≡◌, ℕ, suc, ◌+◌, ◌^◌, ◌<◌, �
 use Rattle.std.specs.Prelude.{slice_get, slice_index}
 use Rattle.std.proofs.lemmas.List.{append-nil}
 use Rattle.std.proofs.lemmas.Option.{slice_get_within, get_or_from_slice_get}
-use Rattle.match_bodies.specs.Words.{Memory, Rsp, Instr, Context, kept_of, State, register, Instruction, BodyState, LinearBody, FuncletBody, Configuration, is_reserved, Layout, sizes, template, template_size, Agrees, IsBytes, Reaches, IsReturn, WalkGives, AllKeep, links_of, FindsReturn, counts_of, state_of, OwnerHasFrame, Setting, RepresentsAt}
+use Rattle.match_bodies.specs.Words.{Memory, Rsp, Instr, Context, kept_of, State, register, Instruction, BodyState, LinearBody, FuncletBody, Configuration, is_reserved, Layout, sizes, template, template_size, Agrees, IsBytes, Reaches, IsReturn, WalkGives, AllKeep, IsStack, context_below, links_of, FindsReturn, counts_of, state_of, OwnerHasFrame, Setting, RepresentsAt}
 use Rattle.linear_code.specs.declared.instruction.Instruction.TheVariants as instructions
 use Rattle.match_bodies.proofs.Lemmas.{offset_next, IsFlow, LabelsNear, body_most, labels_near}
 use Rattle.x64_templates.proofs.Bodies.{holds_same, changes_same}
@@ -13,6 +13,7 @@ use Rattle.match_bodies.proofs.SilentTurns.{program_kept}
 use Rattle.match_bodies.proofs.BodyCallers.{begin_finds}
 use Rattle.match_bodies.proofs.FlowKeeping.{caller_by, IsBelow, from_state}
 use Rattle.match_bodies.proofs.TemplatePieces.{piece_finds, piece_keeps}
+use Rattle.match_bodies.proofs.BodyFrames.{body_return, below_here}
 use Rattle.match_bodies.proofs.HomeSpace.{CallerHasFrame}
 use Rattle.match_bodies.proofs.ChainKeeping.{Keeps}
 use Rattle.match_bodies.proofs.BodyViews.{IsCounted, placed, count, frame_top, room_here, holds_here, slots_here, locals_here}
@@ -62,9 +63,9 @@ module _ (setting : Setting) (s : State) (c : Configuration)
   pub is_here : Below s.memory
   is_here = record {
     program_there = b.memory.code;
-    returns = b.body.returns;
+    returns = (body_return setting s c b.body).returns;
     beyond = on_stack t s.memory caller_here 0 b.body.is
-        (b.body.below (drop 1 kept_here) refl).is_there.stack;
+        (below_here setting s c b.body).is_there.stack;
   }
 
   -- after a run of a template
@@ -79,22 +80,24 @@ module _ (setting : Setting) (s : State) (c : Configuration)
         b.memory.code;
     returns = returns setting s c b counted u d values ts r;
     beyond = on_stack t u.memory caller_here 0 b.body.is
-        (new_on setting s c b counted u d values ts r caller owner (drop 1 kept_here)
-        refl).is_there.stack;
+        (subst (λ (os : List ℕ). IsStack t u.memory (context_below b.body.back
+        (register s.cpu Rsp + layout_here.frame + 8) os) b.body.is)
+        (sym (body_return setting s c b.body).others_are)
+        (new_on setting s c b counted u d values ts r caller owner).is_there.stack);
   }
 
   -- where no reserved byte has changed the slots are as they were
   pub ran_same : (u : State) (source : Memory) → Keeps s u
       → ((a : ℕ) → is_reserved program.globals a ≡ true → u.memory.byte a ≡ s.memory.byte a)
       → (IsBytes s.memory → IsBytes u.memory) → Agrees (is_reserved program.globals) u.memory source
-      → register u.cpu Rsp ≡ register s.cpu Rsp
+      → kept_of u.cpu.registers ≡ kept_of s.cpu.registers
       → Ran setting s c b counted u (record {
         slots = (state_of program p s c
             (placed setting s c b counted).base).slots;
         memory = source;
       })
       (placed setting s c b counted).values []
-  ran_same u source keeps own bytes agrees sp =
+  ran_same u source keeps own bytes agrees kept =
       let base = (placed setting s c b counted).base in
       let room = room_here setting s c b counted in
       let w = slots_here setting s c b counted in
@@ -109,7 +112,7 @@ module _ (setting : Setting) (s : State) (c : Configuration)
             (register s.cpu Rsp) base room s.memory u.memory source (state_of program p s c base)
             own
             keeps.protection agrees (holds_here setting s c b counted);
-        stack = sp;
+        kept = kept;
         leaves = record {
           count = count setting s c b counted;
           locals = λ i lt. w.locals i lt ∙ ap (λ xs. slice_index xs i)

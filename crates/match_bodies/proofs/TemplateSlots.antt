@@ -3,7 +3,6 @@ use Rattle.std.proofs.Common.{◌≡◌, ℕ, zero, suc, ◌<◌, ◌≤◌, Som
 use Rattle.std.specs.Prelude.{slice_get, slice_index}
 use Rattle.match_bodies.specs.Words.{Local, Temporary, BodyState, LinearBody, Region, holds}
 use Rattle.std.specs.List.{AllByRecursion}
-use Rattle.match_bodies.proofs.BodyViews.{count}
 
 -- ---- the numbers of locals
 

@@ -84,7 +84,6 @@ module _ (t : Functions) (m : Memory) where
       → Unwinds (rsp c) (callers c is) (plain_unwind t frame target c row is)
   along frame target c row [] s = tt
   along frame target c row (Framed f ∷ is) s =
-      let up = set_head c.kept (rsp c + f.size + 8) (let k = s.0.kept in omega arith) in
       let next = after_frame c f in
       let others = plain_unwind t frame target next 0 is in
       in_frame_or frame target c row (Framed f ∷ is) s others

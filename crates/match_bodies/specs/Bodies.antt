@@ -1,5 +1,5 @@
 -- The body that runs, where an instruction of linear code begins.
-use Rattle.std.specs.Prelude.{◌≡◌, ℕ, zero, suc, ◌+◌, ◌*◌, ◌≤◌, Bool, true, false, List, [], ◌∷◌, length, Some, Ok}
+use Rattle.std.specs.Prelude.{◌≡◌, ℕ, zero, suc, ◌+◌, ◌*◌, ◌≤◌, Bool, true, false, List, [], ◌∷◌, length, drop, Some, Ok}
 use Rattle.host_layout.specs.declared.range.TheConstants.{STACK_END}
 use Rattle.x64_instr.specs.declared.register.Reg.TheVariants.{Rax, Rsp}
 use Rattle.x64_machine.specs.Contexts.{context_of}
@@ -10,14 +10,15 @@ use Rattle.host_model.specs.declared.funclet.Funclet.{Funclet}
 use Rattle.linear_code.specs.Program.{LinearProgram}
 use Rattle.linear_machine.specs.Frames.{BodyName, FunctionBody, FuncletBody, Item, Waits, Searches, Unwinds, Configuration}
 use Rattle.template_code.specs.declared.layout.Layout.{Layout}
-use Rattle.match_stack.specs.Stack.{StackItem}
+use Rattle.seh_records.specs.Laws.{AllSmall}
+use Rattle.match_stack.specs.Stack.{StackItem, StackFrame, IsAsTold}
 use Rattle.match_stack.specs.WalkLaws.{context_below}
 use Rattle.match_stack.specs.ImagePlan.{ImagePlan}
 use Rattle.match_stack.specs.ItemMatches.{Activation, locals_of, activations_below, temporaries_end, home_end, BodyWaits, HasPointers, IsAbove, ReturnsTo}
 use Rattle.match_stack.specs.StackRecords.{On}
 use Rattle.match_stack.specs.DispatchStates.{IsWellFormed}
 use Rattle.match_bodies.specs.CodeSites.{Sites}
-use Rattle.match_bodies.specs.ProgramImages.{IsMachineMemory}
+use Rattle.match_bodies.specs.ProgramImages.{IsMachineMemory, frame_of}
 
 -- where the locals of a body end above RSP at the latest, and its temporaries: in a leaf function
 -- the temporaries come after the locals, up to the end of the home space above its return address
@@ -28,6 +29,16 @@ slots_end y false = y.frame
 abbrev pub last_temporary : Layout → BodyName → Bool → ℕ
 last_temporary y name true = home_end
 last_temporary y name false = temporaries_end y name y.frame
+
+-- a leaf function has its return address at RSP, and its caller's registers as they are
+pub record IsLeafFrame (s : State) (f : StackFrame) : Type 0 where
+  pub returns : word s.memory (register s.cpu Rsp) ≡ Ok f.return_address
+  pub others : drop 1 (context_of s.cpu).kept ≡ f.others
+
+-- the frame of a body that runs, a leaf function's or any other's
+abbrev pub HasFrame : State → Bool → StackFrame → Type 0
+HasFrame s true f = IsLeafFrame s f
+HasFrame s false f = IsAsTold s.memory (context_of s.cpu) f
 
 -- how many temporaries a body that waits holds, and all of them
 abbrev pub held_below : List Item → ℕ
@@ -54,8 +65,9 @@ turns_in_hand c = in_hand c.frame.body c.frame.next + turns_left c
 
 module _ (t : Functions) (fs : List Funclet) (program : LinearProgram) (p : ImagePlan)
     (q : Sites) where
-  -- the body's frame is from RSP up: its slots hold what linear code has in them, above them is the
-  -- return address, and from there on is the list
+  -- the body's frame is from RSP up: its slots hold what linear code has in them, above them is
+  -- what its codes tell of and the return address, and from there on is the list, with the
+  -- registers that whoever called it has
   pub record InBody (s : State) (c : Configuration) : Type 0 where
     pub acts : List Activation
     pub store : c.store.activations ≡ locals_of acts
@@ -68,11 +80,12 @@ module _ (t : Functions) (fs : List Funclet) (program : LinearProgram) (p : Imag
     pub home : p.leaf c.frame.body ≡ true → register s.cpu Rsp + home_end ≤ STACK_END
     pub back : ℕ
     pub returns_to : ReturnsTo t fs program p c.below back
-    pub returns : word s.memory (register s.cpu Rsp + (p.layout c.frame.body).frame) ≡ Ok back
+    pub others : List ℕ
+    pub eight : length others ≡ 8
+    pub small : AllSmall others
+    pub frame : HasFrame s (p.leaf c.frame.body) (frame_of p c.frame.body back others)
     pub is : List StackItem
-    pub below :
-        (others : List ℕ) → length others ≡ 8
-        → On t fs program p s.memory (context_below back (register s.cpu Rsp
+    pub below : On t fs program p s.memory (context_below back (register s.cpu Rsp
         + (p.layout c.frame.body).frame + 8) others) is c.below
         (activations_below c.frame.body acts)
 

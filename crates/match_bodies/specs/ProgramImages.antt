@@ -14,7 +14,6 @@ use Rattle.x64_instr.specs.declared.register.Reg.TheVariants.{Rax, Rcx, Rdx}
 use Rattle.x64_machine.specs.declared.cpu.Cpu.{Cpu}
 use Rattle.x64_machine.specs.Effect.{register}
 use Rattle.eh_tables.specs.declared.code.UnwindOperation.TheVariants.{Allocate}
-use Rattle.eh_tables.specs.Tables.{Entry}
 use Rattle.virtual_unwind.specs.Contexts.{rsp}
 use Rattle.virtual_unwind.specs.CallerOf.{Functions, distance}
 use Rattle.virtual_unwind.specs.Undone.{word}
@@ -44,7 +43,7 @@ use Rattle.x64_templates.specs.Implements.{IsReady}
 use Rattle.x64_templates.specs.Runs.{HasCode}
 use Rattle.x64_templates.specs.Thunks.{HasThunk}
 use Rattle.x64_templates.specs.Epilogues.{IsReturn}
-use Rattle.match_stack.specs.Stack.{StackFrame, FrameIsAt, LeafIsAt}
+use Rattle.match_stack.specs.Stack.{StackFrame, FrameIsAt, LeafIsAt, IsAsTold}
 use Rattle.match_stack.specs.ImagePlan.{ImagePlan, Gives}
 use Rattle.match_stack.specs.StackRecords.{IsData}
 use Rattle.seh_walk.specs.Walk.{filter_return, finally_return}
@@ -58,10 +57,24 @@ service_of Put = services.Put
 service_of Protect = services.Protect
 service_of RaiseException = services.RaiseException
 
--- a frame of its size, with its entry
-abbrev pub frame_with : Entry → ℕ → ℕ → ℕ → StackFrame
-frame_with entry size offset back =
-    record { entry = entry; size = size; offset = offset; return_address = back }
+-- the frame of a body: its slots end at its return address
+abbrev pub frame_of : ImagePlan → BodyName → (back : ℕ) → List ℕ → StackFrame
+frame_of p name back others =
+    record {
+      entry = p.entry name;
+      slots = (p.layout name).frame;
+      size = (p.layout name).frame;
+      return_address = back;
+      others = others;
+    }
+
+-- where a body's frame can be: there is room, and what is above its slots is as its codes tell
+pub record IsFramed (p : ImagePlan) (m : Memory) (name : BodyName) (c : Context) (back : ℕ)
+    (others : List ℕ) : Type 0 where
+  pub kept : length c.kept ≡ 9
+  pub eight : length others ≡ 8
+  pub room : rsp c + (p.layout name).frame + 8 < 2 ^ 64
+  pub is_told : IsAsTold m c (frame_of p name back others)
 
 -- the registers of a saved state, as templates see them; its memory plays no part
 abbrev pub no_memory : Memory
@@ -139,26 +152,23 @@ module _ (t : Functions) (fs : List Funclet) (program : LinearProgram) (p : Imag
         ≡ done ++ (item ∷ left)
     pub here : rip ≡ p.address name label + sizes done
 
-  pub record IsFramed (m : Memory) (name : BodyName) (c : Context) (back : ℕ) : Type 0 where
-    pub offset : ℕ
-    pub is_there : FrameIsAt t m c (frame_with (p.entry name) (p.layout name).frame offset back)
-
-  -- there its entry is found, RIP is past the prologue and in no epilogue: where its return address
-  -- is at the frame's end, its frame is there
+  -- there its entry is found, RIP is past the prologue and in no epilogue: so its frame is there
   abbrev pub FramesAreWaiting : Type 0
   FramesAreWaiting =
       (m : Memory) (name : BodyName) (b : LinearBody) (label : ℕ) (c : Context) (back : ℕ)
+      (others : List ℕ)
       → body_of program name ≡ Some b → p.leaf name ≡ false → HasProgram m
-      → IsResumed name b label c.rip
-      → length c.kept ≡ 9 → rsp c + (p.layout name).frame + 8 < 2 ^ 64
-      → word m (rsp c + (p.layout name).frame) ≡ Ok back
-      → IsFramed m name c back
+      → IsResumed name b label c.rip → IsFramed p m name c back others
+      → FrameIsAt t m c (frame_of p name back others)
 
-  -- the unwind codes of an entry are the allocation of its body's frame
+  -- the unwind codes of an entry are the allocation of its body's frame, and there is no frame
+  -- register
   pub record HasAllocation (name : BodyName) : Type 0 where
     pub offset : ℕ
     pub codes : (p.entry name).info.codes
         ≡ record { offset = offset; operation = Allocate (p.layout name).frame } ∷ []
+    pub no_register : (p.entry name).info.frame_register ≡ 0
+    pub no_offset : (p.entry name).info.frame_offset ≡ 0
 
   -- a leaf function has no entry
   abbrev pub LeavesAreWaiting : Type 0

@@ -72,15 +72,16 @@ pub use Rattle.match_stack.specs.ImagePlan.{ImagePlan, InCode, IsGiven}
 pub use Rattle.match_stack.specs.ItemMatches.{Activation, IsActivation, locals_of, activations_below, HoldsWords, HasActivation, HoldsLocals, ActivationHasBase, home_end, Linked, temporaries_end, HasPointers, IsAbove, HasSpace, below_end, BodyWaits, FuncletIsAbove, record_room, FrameWaits, LeafWaits}
 pub use Rattle.match_stack.specs.ListLaws.{IsLinkedStack, KeepsStack}
 pub use Rattle.match_stack.specs.PlainWalks.{state, decided_or, plain_unwind}
-pub use Rattle.match_stack.specs.Stack.{StackItem, Framed, Leaf, Searching, Unwinding, IsStack, after_frame, after_leaf, StackFrame, FrameIsAt, ItemIsAt, OwnedBy, context_after, LeafIsAt, Owned, caller_frame, caller_of_leaf, Agree}
+pub use Rattle.match_stack.specs.AllocatedFrames.{IsAllocated}
+pub use Rattle.match_stack.specs.Stack.{IsAsTold, StackItem, Framed, Leaf, Searching, Unwinding, IsStack, after_frame, after_leaf, StackFrame, FrameIsAt, ItemIsAt, OwnedBy, context_after, LeafIsAt, Owned, caller_frame, caller_of_leaf, Agree}
 pub use Rattle.match_stack.specs.StackRecords.{On, IsData}
 pub use Rattle.match_stack.specs.WalkLaws.{context_below}
-pub use Rattle.match_bodies.specs.Bodies.{slots_end, last_temporary, InBody, turns_left}
+pub use Rattle.match_bodies.specs.Bodies.{slots_end, last_temporary, HasFrame, InBody, turns_left}
 pub use Rattle.match_bodies.specs.BodyViews.{counts_of, seen_by_templates, frame_at, state_of, HasSlotsOf}
 pub use Rattle.match_bodies.specs.Callers.{HasCaller, FindsReturn, caller_above}
 pub use Rattle.match_bodies.specs.CodeSites.{Sites, links_of, arguments_code, begin_of, making_size, making, frame_code, entry_code, code_of, give_back}
 pub use Rattle.match_bodies.specs.ConfigurationFacts.{IsWellMade, IsKnown}
 pub use Rattle.match_bodies.specs.Layouts.{IsFunctionLayout, IsLayoutIf, IsLaidOut, AreLaidOut, IsLeafLayout, IsFuncletLayout, IsFuncletPlan}
-pub use Rattle.match_bodies.specs.ProgramImages.{HasProgram, IsProgramImage, frame_with, service_of, HasService, IsMachineMemory, IsInImage, IsFramed}
+pub use Rattle.match_bodies.specs.ProgramImages.{HasProgram, IsProgramImage, frame_of, service_of, HasService, IsMachineMemory, IsInImage, IsFramed}
 pub use Rattle.match_bodies.specs.Setting.{setting_of, Setting, RepresentsAt, IsResumed}
 pub use Rattle.match_bodies.specs.SlotStores.{with_values, KeepsStackBut, OwnerHasFrame, with_values_if, ActivationIsAt, ActivationsAreAt, ActivationsAreStored}
