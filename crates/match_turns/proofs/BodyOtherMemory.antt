@@ -1,7 +1,7 @@
 -- The same body in another memory, whose stack is the same from RSP up.
 use Rattle.std.proofs.Common.{◌≡◌, ℕ, ◌+◌, ◌≤◌, false, sym, ap, ◌∙◌, arith}
 use Rattle.match_turns.specs.Words.{STACK_START, STACK_END, Memory, Rsp, context_of, State, register, Configuration, context_below, activations_below, BodyWaits, temporaries_end, KeepsStack, slots_end, last_temporary, Setting, IsMachineMemory, RepresentsAt}
-use Rattle.match_turns.proofs.Lemmas.{end_within, reads_other, kept_by_other_memories, IsCounted, sp_low, frame_top, some_is}
+use Rattle.match_turns.proofs.Lemmas.{end_within, reads_other, kept_by_other_memories, body_return, has_frame, IsCounted, sp_low, frame_top, some_is}
 use Rattle.match_stack.proofs.ListMemories.{ReadsSame, body_kept, pointers_kept}
 
 -- the stack from further up
@@ -96,14 +96,22 @@ module _ (setting : Setting) (s : State) (c : Configuration)
           home = b.body.home;
           back = b.body.back;
           returns_to = b.body.returns_to;
-          returns = reads.words (sp + frame) b.body.back (omega arith) h b.body.returns;
+          others = b.body.others;
+          eight = b.body.eight;
+          small = b.body.small;
+          frame = has_frame setting c.frame.body b.body.slots.code b.body.slots.body elsewhere
+              b.body.back b.body.others (omega arith) (record {
+                returns = reads.words (sp + frame) b.body.back (omega arith) h
+                    (body_return setting s c b.body).returns;
+                others_are = (body_return setting s c b.body).others_are;
+              });
           is = b.body.is;
-          below = λ others eight. record {
+          below = record {
             is_there = kept_by_other_memories t fs program p s.memory m
-                (context_below b.body.back (sp + frame + 8) others) b.body.is c.below
+                (context_below b.body.back (sp + frame + 8) b.body.others) b.body.is c.below
                 (activations_below c.frame.body b.body.acts)
                 (higher_stack s.memory m sp (sp + frame + 8) (omega arith) keeps) (omega arith)
-                (b.body.below others eight).is_there;
+                b.body.below.is_there;
             data_alone = memory.data_alone;
           };
         };

@@ -1,11 +1,12 @@
 -- A body returns: RAX has the number of its slot, and RIP and RSP are those of its return address.
-use Rattle.std.proofs.Common.{◌≡◌, ℕ, zero, suc, ◌+◌, ◌≤◌, true, Option, Some, None, length, refl, sym, subst, ◌∙◌, arith, length-append}
+use Rattle.match_turns.proofs.KeptRegisters.{kept_moved}
+use Rattle.std.proofs.Common.{◌≡◌, ℕ, zero, suc, ◌+◌, ◌≤◌, true, Option, Some, None, List, ◌∷◌, length, refl, sym, ap, subst, ◌∙◌, arith, length-append}
 use Rattle.std.specs.Prelude.{slice_get}
 use Rattle.std.proofs.lemmas.List.{length-drop}
-use Rattle.match_turns.specs.Words.{Rax, Rsp, State, register, Slot, Local, Temporary, IsSlot, Configuration, read, Layout, return_code, epilogue, fetch, local_at, fetch_local, MachineView, machine, HasBack, with_sp, moved, Returned, HaveRoom, IsWellFormed, AllKeep, counts_of, Setting, RepresentsAt}
+use Rattle.match_turns.specs.Words.{kept_of, Rax, Rsp, State, register, Slot, Local, Temporary, IsSlot, Configuration, read, Layout, return_code, epilogue, fetch, local_at, fetch_local, MachineView, machine, HasBack, with_sp, moved, Returned, HaveRoom, IsWellFormed, AllKeep, counts_of, Setting, RepresentsAt}
 use Rattle.x64_templates.specs.Runs.{Reaches}
 use Rattle.linear_code.specs.declared.instruction.Instruction.TheVariants as instructions
-use Rattle.match_turns.proofs.Lemmas.{number_small, fetch_fine, sp_moved, return_run, others_of, reaches_steps, may_read_written, word_is, reaches_keeps, stays_well_formed, IsCounted, sp_low, frame_top, room_here, holds_here, slots_here, v, frame, slots, same_state, template_here, has_slots, sp_is, index_of}
+use Rattle.match_turns.proofs.Lemmas.{body_return, number_small, fetch_fine, sp_moved, return_run, others_of, reaches_steps, may_read_written, word_is, reaches_keeps, stays_well_formed, IsCounted, sp_low, frame_top, room_here, holds_here, slots_here, v, frame, slots, same_state, template_here, has_slots, sp_is, index_of}
 use Rattle.match_bodies.proofs.ReturnKeeping.{fetch_plain, returns_keep}
 use Rattle.match_turns.proofs.ReturnAddressPlace.{top_of, begins_beneath}
 
@@ -57,7 +58,8 @@ module _ (setting : Setting) (roomy : HaveRoom setting.program) where
     has_back =
         let low = sp_low setting s c b counted in
         let top = frame_top setting s c b counted in
-        let r = word_is s.memory (sp + layout.frame) back b.body.returns in
+        let r = word_is s.memory (sp + layout.frame) back
+        (body_return setting s c b.body).returns in
         let small = number_small s.memory 8 (sp + layout.frame) b.memory.data_alone.bytes in
         record {
           number = r;
@@ -115,6 +117,12 @@ module _ (setting : Setting) (roomy : HaveRoom setting.program) where
     sp_after = sym (index_of (with_sp view.rest (sp + layout.frame + 8)) 1)
         ∙ sp_moved view (sp + layout.frame + 8)
         (length-drop 3 s.cpu.registers ∙ (let z = b.well_formed.count in omega arith))
+
+    -- the caller has its registers again
+    pub registers_after : kept_of after.cpu.registers ≡ (sp + layout.frame + 8) ∷ b.body.others
+    registers_after = kept_moved s.cpu.registers (sp + layout.frame + 8) sp_after
+        ∙ ap (λ (os : List ℕ). (sp + layout.frame + 8) ∷ os)
+        (body_return setting s c b.body).others_are
 
     pub well_formed_after : IsWellFormed after
     well_formed_after = stays_well_formed s after (reaches_keeps n s after reaches) has_back.small

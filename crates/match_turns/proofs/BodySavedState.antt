@@ -1,11 +1,10 @@
 -- The body that runs is in its body too with the state that the host saves of it: RSP is the same,
 -- and RIP at the instruction or, where a call is the last of its code, at the next one.
-use Rattle.std.proofs.Common.{◌≡◌, ℕ, zero, suc, ◌+◌, ◌^◌, ◌<◌, ◌≤◌, List, [], ◌∷◌, length, Option, Some, Ok, sym, subst, arith}
-use Rattle.std.specs.Prelude.{slice_get, take}
-use Rattle.match_turns.specs.Words.{STACK_END, Memory, Rsp, Cpu, State, register, Functions, Funclet, Layout, LinearProgram, LinearFunclet, BodyName, FunctionBody, FuncletBody, body_of, Frame, Item, Waits, Searches, Unwinds, Configuration, with_last, context_below, ImagePlan, InCode, activations_below, home_end, below_end, HoldsWords, HasActivation, HasSpace, SameRegions, HasPointers, FuncletIsAbove, IsAbove, On, Sites, slots_end, last_temporary}
-use Rattle.virtual_unwind.specs.Undone.{word}
+use Rattle.std.proofs.Common.{◌≡◌, ℕ, zero, suc, ◌+◌, ◌^◌, ◌<◌, ◌≤◌, List, [], ◌∷◌, length, Option, Some, sym, ap, subst, arith}
+use Rattle.std.specs.Prelude.{slice_get, slice_index, take}
+use Rattle.match_turns.specs.Words.{STACK_END, Memory, Rsp, Cpu, kept_of, State, register, Functions, Funclet, Layout, LinearProgram, LinearFunclet, BodyName, FunctionBody, FuncletBody, body_of, Frame, Item, Waits, Searches, Unwinds, Configuration, with_last, context_below, ImagePlan, InCode, activations_below, home_end, below_end, HoldsWords, HasActivation, HasSpace, SameRegions, HasPointers, FuncletIsAbove, IsAbove, On, Sites, slots_end, last_temporary, frame_of}
 use Rattle.match_bodies.specs.Bodies.{InBody, RepresentsAt}
-use Rattle.match_turns.proofs.Lemmas.{IsFront}
+use Rattle.match_turns.proofs.Lemmas.{IsFront, frame_with}
 
 -- the first of some words
 pub first_words : (m : Memory) (vs : List ℕ) (n : ℕ) → IsFront m vs (take n vs)
@@ -38,12 +37,15 @@ module _ (t : Functions) (fs : List Funclet) (program : LinearProgram) (p : Imag
 
     module _ (s : State) (c : Configuration) (b : RepresentsAt t fs program p q s c) (saved : Cpu)
         (label : ℕ) (ts : List ℕ)
-        (sp : register saved Rsp ≡ register s.cpu Rsp)
+        (registers : kept_of saved.registers ≡ kept_of s.cpu.registers)
         (inside : InCode p c.frame.body label saved.rip)
         (same : SameRegions t fs program p (body_of program c.frame.body) label c.frame.next)
         (small : saved.rip < 2 ^ 64) (front : IsFront s.memory c.frame.temporaries ts) where
       abbrev y : Layout
       y = p.layout c.frame.body
+
+      abbrev sp : register saved Rsp ≡ register s.cpu Rsp
+      sp = ap (λ (ks : List ℕ). slice_index ks 0) registers
 
       abbrev size : ℕ
       size = slots_end y (p.leaf c.frame.body)
@@ -76,9 +78,13 @@ module _ (t : Functions) (fs : List Funclet) (program : LinearProgram) (p : Imag
         home = λ leaf. subst (λ x. x + home_end ≤ STACK_END) (sym sp) (b.body.home leaf);
         back = b.body.back;
         returns_to = b.body.returns_to;
-        returns = subst (λ x. word s.memory (x + y.frame) ≡ Ok b.body.back) (sym sp) b.body.returns;
+        others = b.body.others;
+        eight = b.body.eight;
+        small = b.body.small;
+        frame = frame_with s saved (p.leaf c.frame.body)
+            (frame_of p c.frame.body b.body.back b.body.others) registers b.body.frame;
         is = b.body.is;
-        below = λ others n. subst (λ x. On t fs program p s.memory
-            (context_below b.body.back (x + y.frame + 8) others) b.body.is c.below
-            (activations_below c.frame.body b.body.acts)) (sym sp) (b.body.below others n);
+        below = subst (λ x. On t fs program p s.memory
+            (context_below b.body.back (x + y.frame + 8) b.body.others) b.body.is c.below
+            (activations_below c.frame.body b.body.acts)) (sym sp) b.body.below;
       }

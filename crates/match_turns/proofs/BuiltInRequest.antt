@@ -1,12 +1,13 @@
 -- A built-in function is called: the service is reached, and what it saves of the body is on top of
 -- the list.
-use Rattle.std.proofs.Common.{◌≡◌, ℕ, ◌+◌, ◌-◌, ◌%◌, ◌^◌, ◌<◌, ◌≤◌, Some, List, [], ◌∷◌, length, Ok, refl, sym, ap, subst, ◌∙◌, arith, length-set, set}
+use Rattle.match_turns.proofs.KeptRegisters.{saved_kept}
+use Rattle.std.proofs.Common.{◌≡◌, ℕ, ◌+◌, ◌-◌, ◌%◌, ◌^◌, ◌<◌, ◌≤◌, Some, List, [], ◌∷◌, length, Ok, refl, sym, ap, subst, ◌∙◌, arith, length-set, set, drop}
 use Rattle.std.specs.Prelude.{◌==◌, false, slice_get, take}
-use Rattle.match_turns.specs.Words.{W64, loaded, IMAGE_BASE, IMAGE_RANGE_END, STACK_START, STACK_END, address_of, Rsp, Instr, opcode_register, Cpu, State, register, BuiltIn, Put, Protect, RaiseException, Temporary, BodyState, LinearBody, Configuration, body_of, regions_of, waiting, instruction_at, Layout, size, sizes, put_back, keep, temporary_at, call, IsNear, return_at, begin_call, clear_result, template, template_size, MachineView, machine, pushed, HasCode, KeepsAbove, IsWellFormed, IsLive, Comes, links_of, service_of, IsWellMade, IsKnown, Setting, InBody, IsMachineMemory, IsResumed, RepresentsAt, arguments_code}
+use Rattle.match_turns.specs.Words.{kept_of, W64, loaded, IMAGE_BASE, IMAGE_RANGE_END, STACK_START, STACK_END, address_of, Rsp, Instr, opcode_register, Cpu, State, register, BuiltIn, Put, Protect, RaiseException, Temporary, BodyState, LinearBody, Configuration, body_of, regions_of, waiting, instruction_at, Layout, size, sizes, put_back, keep, temporary_at, call, IsNear, return_at, begin_call, clear_result, template, template_size, MachineView, machine, pushed, HasCode, KeepsAbove, IsWellFormed, IsLive, Comes, links_of, service_of, IsWellMade, IsKnown, Setting, InBody, IsMachineMemory, IsResumed, RepresentsAt, arguments_code}
 use Rattle.x64_templates.specs.Runs.{Reaches}
 use Rattle.std.proofs.lemmas.List.{length-drop}
 use Rattle.linear_code.specs.declared.instruction.Instruction.TheVariants as instructions
-use Rattle.match_turns.proofs.Lemmas.{sizes_append, call_size, template_sizes, set_small, template_some, reaches_silently, counted_here, code_at, reaches_keeps, stays_well_formed, frame, slots, v, same_state, template_here, has_slots, next_address, sp_is, IsCounted, sp_low, frame_top, room_here, holds_here}
+use Rattle.match_turns.proofs.Lemmas.{dropped, kept_by_rest, sizes_append, call_size, template_sizes, set_small, template_some, reaches_silently, counted_here, code_at, reaches_keeps, stays_well_formed, frame, slots, v, same_state, template_here, has_slots, next_address, sp_is, IsCounted, sp_low, frame_top, room_here, holds_here}
 use Rattle.match_turns.proofs.FunctionFrame.{same_itself}
 use Rattle.match_turns.proofs.CallResult.{offset_most}
 use Rattle.match_turns.proofs.BuiltInCall.{with_arguments_of, ServiceReached, service_reached}
@@ -219,6 +220,10 @@ module _ (setting : Setting) (made : IsWellMade setting.program setting.plan) wh
     sp_saved = pushing.sp_saved given sp back low_enough high_enough b.memory.data_alone
         b.memory.stack service run.flags back_small many
 
+    registers_saved : kept_of saved.registers ≡ kept_of s.cpu.registers
+    registers_saved = saved_kept (drop 3 s.cpu.registers) _ _ (sp - 8) _ sp sp_saved
+        (sym (dropped s.cpu.registers)) ∙ kept_by_rest (drop 3 s.cpu.registers) s.cpu.registers refl
+
     pub well_formed_saved : IsWellFormed (record { cpu = saved; memory = state.memory })
     well_formed_saved =
         let raised = (register state.cpu Rsp + 8) % 2 ^ 64 % 2 ^ 64 in
@@ -240,7 +245,8 @@ module _ (setting : Setting) (made : IsWellMade setting.program setting.plan) wh
 
     abbrev at_return : InBody setting (record { cpu = saved; memory = s.memory }) (waiting c first)
     at_return =
-        in_body t fs program p q s c b saved c.frame.next (take first c.frame.temporaries) sp_saved
+        in_body t fs program p q s c b saved c.frame.next (take first c.frame.temporaries)
+        registers_saved
         (record { low = back_inside.0; high = back_inside.1 })
         (same_itself (regions_of (body_of program c.frame.body)) c.frame.next) back_small
         (first_words s.memory c.frame.temporaries first)

@@ -9,7 +9,7 @@ use Rattle.match_turns.specs.Words.{STACK_START, STACK_END, Memory, may_write, n
 use Rattle.virtual_unwind.specs.Undone.{word}
 use Rattle.lowering_invariants.specs.SmallNumbers.{AreSmall}
 use Rattle.linear_code.specs.declared.instruction.Instruction.TheVariants as instructions
-use Rattle.match_turns.proofs.Lemmas.{sizes_append, call_size, same_number, pushed_back, comes_then, others_of, StepsTo, reaches_steps, enters_steps, AllPlain, plain_both, arguments_plain, passing_plain, parameters_plain, entry_ran, calls_keep, CalleeBegins, reaches_silently, enters_silently, program_reaches, locals_count, KeepsImage, Keeps, keeps_then, enters_keeps, stays_well_formed, stack_is_reserved, room_here, slots_here, may_read_written, word_of}
+use Rattle.match_turns.proofs.Lemmas.{sizes_append, call_size, same_number, pushed_back, comes_then, others_of, StepsTo, reaches_steps, enters_steps, AllPlain, plain_both, arguments_plain, passing_plain, parameters_plain, EntryRan, entry_ran, calls_keep, CalleeBegins, reaches_silently, enters_silently, program_reaches, locals_count, KeepsImage, Keeps, keeps_then, enters_keeps, stays_well_formed, stack_is_reserved, room_here, slots_here, may_read_written, word_of}
 use Rattle.match_bodies.specs.CodeSites as sites
 use Rattle.match_bodies.proofs.CallKeeping.{callee_begins as callee_entered}
 use Rattle.match_bodies.proofs.MemoryKeeping.{memory_stays}
@@ -224,19 +224,28 @@ module _ {setting : Setting} (at_call : AtCall setting) where
         l.small,
       )
 
-  entry_keeps : AllKeep t fs inside.turns at_callee
-  entry_keeps =
+  entry_run : EntryRan t fs program p q image (FunctionBody f) o there some (caller - 8)
+      (caller + 32) next (others_of s.cpu.registers) (callee_there.item ∷ b.body.is) inside.turns
+      at_callee after (sites.arguments_code program p (FunctionBody f))
+  entry_run =
       let k = callee_there in
       let stored = arguments_stored (p.leaf (FunctionBody f)) (image.laid_out (FunctionBody f) o
       there) in
       let lo = low in
-      (entry_ran t fs program p q image (FunctionBody f) o there some (caller - 8) (caller + 32)
+      entry_ran t fs program p q image (FunctionBody f) o there some (caller - 8) (caller + 32)
       next (others_of s.cpu.registers) (k.item ∷ b.body.is) inside.turns at_callee after
       (sites.arguments_code program p (FunctionBody f)) [] 40
       (sym (append-nil (sites.arguments_code program p (FunctionBody f)))) inside.exact
       (enters_steps inside.turns at_callee after inside.comes) k.rip k.stack k.beneath_it
       k.program_there stored.1 (omega arith) (omega arith)
-      (subst (λ (xs : List Instr). AllPlain layout.frame 40 xs) (sym arguments_are) stored.0)).keeps
+      (subst (λ (xs : List Instr). AllPlain layout.frame 40 xs) (sym arguments_are) stored.0)
+
+  entry_keeps : AllKeep t fs inside.turns at_callee
+  entry_keeps = entry_run.keeps
+
+  -- the nonvolatile registers are those of the call
+  others_there : others_of after.cpu.registers ≡ others_of s.cpu.registers
+  others_there = entry_run.beneath.others_are
 
   pub comes : Comes t fs turns s [] after
   unfolding turns
@@ -439,8 +448,11 @@ module _ {setting : Setting} (at_call : AtCall setting) where
       (subst (λ x. HoldsWords after.memory (x + layout.locals)
       (x + slots_end layout (p.leaf (FunctionBody f))) (arguments ++ others)) (sym stack)
       numbers)
-      waits.0 (λ more n. subst (λ x. On t fs program p after.memory (context_below back x more)
-      waits.0 (Waits (waiting c first).frame ∷ c.below) b.body.acts) (sym up) (waits.1 more n)) in
+      waits.0 (subst (λ x. On t fs program p after.memory (context_below back x
+      (others_of after.cpu.registers)) waits.0 (Waits (waiting c first).frame ∷ c.below)
+      b.body.acts) (sym up) (subst (λ (os : List ℕ). On t fs program p after.memory
+      (context_below back caller os) waits.0 (Waits (waiting c first).frame ∷ c.below) b.body.acts)
+      (sym others_there) waits.1)) in
       subst (λ (xs : List (List ℕ)). RepresentsAt setting after
       (begun f (arguments ++ others) c.frame.held (Waits (waiting c first).frame ∷ c.below)
       c.store.memory xs c.events)) (sym b.body.store) begins

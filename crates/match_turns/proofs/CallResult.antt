@@ -4,9 +4,9 @@ use Rattle.std.proofs.Common.{◌≡◌, ℕ, zero, suc, ◌+◌, ◌^◌, ◌<�
 use Rattle.std.specs.Prelude.{◌⊎◌, slice_get, slice_index}
 use Rattle.std.proofs.lemmas.Bool.{eq-eqb, ne_eqb}
 use Rattle.std.proofs.lemmas.Option.{slice_get_within}
-use Rattle.match_turns.specs.Words.{Event, Memory, Rax, Rsp, Instr, Context, State, register, rsp, Functions, distance, Funclet, arrivals, Temporary, Instruction, BodyState, with_slot, LinearProgram, LinearBody, BodyName, FuncletBody, body_of, Frame, Item, Waits, Configuration, Layout, sizes, keep, template, body_size, offset_of, machine, HasCode, ReachesBody, StackItem, ImagePlan, Activation, locals_of, On, on_top, IsWellFormed, AllKeep, HaveRoom, Sites, links_of, seen_by_templates, counts_of, OwnerHasFrame, with_values, Setting, IsMachineMemory}
+use Rattle.match_turns.specs.Words.{kept_of, Event, Memory, Rax, Rsp, Instr, Context, State, register, Functions, distance, Funclet, arrivals, Temporary, Instruction, BodyState, with_slot, LinearProgram, LinearBody, BodyName, FuncletBody, body_of, Frame, Item, Waits, Configuration, Layout, sizes, keep, template, body_size, offset_of, machine, HasCode, ReachesBody, StackItem, ImagePlan, Activation, locals_of, On, on_top, IsWellFormed, AllKeep, HaveRoom, Sites, links_of, seen_by_templates, counts_of, OwnerHasFrame, with_values, Setting, IsMachineMemory}
 use Rattle.x64_templates.specs.Runs.{Reaches}
-use Rattle.match_turns.proofs.Lemmas.{sizes_append, template_sizes, code_split, call_ends, keep_flow, first_in_code, waits_in_body, locals_count, same_activations, Keeps, reaches_keeps, stays_well_formed, IsCounted, is_machine, room_here, holds_here, slots_here, locals_here, Leaves, Ran, represents_next, kept_by_rest, is_here, is_after, ends_at, RunsKeep, one_piece, code, y, v, frame, slots, template_here, next_address, sp_is, silent_at, dropped, Surroundings}
+use Rattle.match_turns.proofs.Lemmas.{sizes_append, template_sizes, code_split, call_ends, keep_flow, first_in_code, waits_in_body, locals_count, same_activations, Keeps, reaches_keeps, stays_well_formed, IsCounted, is_machine, room_here, holds_here, slots_here, locals_here, Leaves, Ran, represents_next, kept_by_rest, is_here, is_after, ends_at, RunsKeep, one_piece, code, y, v, frame, slots, template_here, next_address, sp_is, silent_at, Surroundings}
 use Rattle.x64_templates.specs.Epilogues.{IsReturn}
 use Rattle.match_bodies.specs.Bodies.{RepresentsAt}
 use Rattle.match_bodies.proofs.BodyResumption.{again}
@@ -82,12 +82,12 @@ module _ (setting : Setting) (roomy : HaveRoom setting.program) where
   answered w items source acts es v = on_top (again w (w.next + 1) (w.temporaries ++ v ∷ [])
       w.landed) items source acts es
 
-  -- where what the body called has returned RSP is the body's, the list is there from there on, and
-  -- RIP is at the code that keeps the result
+  -- where what the body called has returned RSP and the nonvolatile registers are the body's, the
+  -- list is there from there on, and RIP is at the code that keeps the result
   module _ (u : State) (w : Frame) (items : List Item) (acts : List Activation) (source : Memory)
       (es : List Event) (above : Context) (is : List StackItem)
       (on : On t fs program p u.memory above is (Waits w ∷ items) acts)
-      (sp : register u.cpu Rsp ≡ rsp above) (well_formed : IsWellFormed u)
+      (registers : kept_of u.cpu.registers ≡ above.kept) (well_formed : IsWellFormed u)
       (memory : IsMachineMemory setting u.memory source)
       (o : LinearBody) (there : body_of program w.body ≡ Some o) (i : Instruction) (first : ℕ)
       (done : List Instr) (calls : slice_get o.code w.next ≡ Some i) (goes : IsReturn i → ⊥)
@@ -126,9 +126,12 @@ module _ (setting : Setting) (roomy : HaveRoom setting.program) where
           };
           memory = memory;
           body = waits_in_body t fs program p q image earlier above is w items acts w.next
-              w.temporaries w.landed source es on sp
-              (first_in_code t fs program p q image w.body o w.next there lt) small_address
-              (λ at end h. h);
+              w.temporaries w.landed source es on registers
+              (first_in_code t fs program p q image w.body o w.next there lt) (record {
+                rip_small = small_address;
+                count = well_formed.count;
+                small = well_formed.small;
+              }) (λ at end h. h);
           landed = λ code e. absurd (nothing w.landed code free e);
         }
 
@@ -294,8 +297,7 @@ module _ (setting : Setting) (roomy : HaveRoom setting.program) where
             count = k.count;
             small = k.small;
           } in
-          let stack : register z.cpu Rsp ≡ register u.cpu Rsp = ap
-          (λ (xs : List ℕ). slice_index xs 1) r.rest ∙ dropped u.cpu.registers in
+          let same = kept_by_rest r.after.rest u.cpu.registers r.rest in
           let d : BodyState = record {
             slots = with_slot
                 (slots setting roomy earlier caller waits counted).slots (Temporary first) result;
@@ -306,7 +308,7 @@ module _ (setting : Setting) (roomy : HaveRoom setting.program) where
           ts = record {
             changed = record { changes = r.changes; keeps = keeps };
             holds = r.holds;
-            stack = stack;
+            kept = same;
             leaves = leaves;
           } in
           let inside : w.next + 1 < length body.code = subst
@@ -317,7 +319,7 @@ module _ (setting : Setting) (roomy : HaveRoom setting.program) where
           (stays_well_formed earlier z keeps small waits.well_formed)
           (λ code e. absurd (nothing w.landed code free e)) around.caller around.owner in
           let ends = ends_at setting earlier caller waits counted z (w.next + 1)
-          next_place inside (kept_by_rest r.after.rest u.cpu.registers r.rest)
+          next_place inside same
           (is_after setting earlier caller waits counted z d values_here ts ran around.caller
           around.owner) in
           record {

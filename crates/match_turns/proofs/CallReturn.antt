@@ -2,7 +2,7 @@
 -- and the next instruction begins.
 use Rattle.std.proofs.Common.{◌≡◌, ℕ, ◌+◌, ◌-◌, ◌<◌, Some, None, List, [], ◌∷◌, ◌++◌, length, sym, arith, append_assoc}
 use Rattle.std.specs.Prelude.{slice_get}
-use Rattle.match_turns.specs.Words.{Event, Memory, Rax, Rsp, Instr, Context, State, register, rsp, Temporary, HasSlots, LinearBody, body_of, Frame, Item, Waits, Layout, sizes, keep, call, return_at, begin_call, passing_code, template_size, StackItem, Activation, On, on_top, IsWellFormed, HaveRoom, counts_of, Setting, IsMachineMemory, arguments_code}
+use Rattle.match_turns.specs.Words.{Event, Memory, Rax, Instr, Context, kept_of, State, register, Temporary, HasSlots, LinearBody, body_of, Frame, Item, Waits, Layout, sizes, keep, call, return_at, begin_call, passing_code, template_size, StackItem, Activation, On, on_top, IsWellFormed, HaveRoom, counts_of, Setting, IsMachineMemory, arguments_code}
 use Rattle.linear_code.specs.declared.instruction.Instruction.TheVariants as instructions
 use Rattle.match_turns.proofs.Lemmas.{sizes_append, call_size, passing_call_size, IsCounted, each}
 use Rattle.match_turns.proofs.CallResult.{IsSurrounded, answered}
@@ -22,11 +22,12 @@ call_template y f first count = passing_call_size y first count 0 0
 module _ (setting : Setting) (roomy : HaveRoom setting.program) where
   open setting use {functions as t, funclets as fs, program, plan as p, sites as q}
 
-  -- after the callee's return RSP is the caller's, and the list is there from there on
+  -- after the callee's return RSP and the nonvolatile registers are the caller's, and the list is
+  -- there from there on
   module _ (u : State) (w : Frame) (items : List Item) (acts : List Activation) (source : Memory)
       (es : List Event) (above : Context) (is : List StackItem)
       (on : On t fs program p u.memory above is (Waits w ∷ items) acts)
-      (sp : register u.cpu Rsp ≡ rsp above) (well_formed : IsWellFormed u)
+      (registers : kept_of u.cpu.registers ≡ above.kept) (well_formed : IsWellFormed u)
       (memory : IsMachineMemory setting u.memory source)
       (o : LinearBody) (there : body_of program w.body ≡ Some o) (f first arguments : ℕ)
       (calls : slice_get o.code w.next ≡ Some (instructions.Call f first arguments))
@@ -66,8 +67,8 @@ module _ (setting : Setting) (roomy : HaveRoom setting.program) where
           → kept.Resumes t fs program p q u (answered setting roomy w items source acts es
           (register u.cpu Rax))
       resumes counted surrounded =
-          kept.resumes setting roomy u w items acts source es above is on sp well_formed memory o
-          there (instructions.Call f first arguments) first (passing ++ beginning) calls (λ h. h)
+          kept.resumes setting roomy u w items acts source es above is on registers well_formed
+          memory o there (instructions.Call f first arguments) first (passing ++ beginning) calls (λ h. h)
           (sym (append_assoc passing beginning (keep layout (Temporary first)))) fits within held
           free
           back_is counted surrounded

@@ -1,11 +1,11 @@
 -- Where a function was called its caller waits on the list, in the memory that the callee has by
 -- then.
-use Rattle.std.proofs.Common.{◌≡◌, ℕ, zero, suc, ◌+◌, ◌-◌, ◌*◌, ◌^◌, ◌<◌, ◌≤◌, false, Option, Some, List, [], ◌∷◌, ◌++◌, length, refl, sym, subst, ◌∙◌, arith}
+use Rattle.std.proofs.Common.{◌≡◌, ℕ, zero, suc, ◌+◌, ◌-◌, ◌*◌, ◌^◌, ◌<◌, ◌≤◌, false, Option, Some, List, [], ◌∷◌, ◌++◌, refl, sym, subst, ◌∙◌, arith}
 use Rattle.std.specs.Prelude.{slice_get, take}
 use Rattle.std.proofs.lemmas.List.{append_assoc}
-use Rattle.match_turns.specs.Words.{IMAGE_BASE, IMAGE_RANGE_END, Memory, Rsp, Instr, context_of, State, register, Temporary, LinearBody, LinearFunclet, BodyName, FunctionBody, FuncletBody, body_of, Item, Waits, Searches, Unwinds, waiting, regions_of, Layout, sizes, put_back, keep, temporary_at, call, return_at, begin_call, passing_code, template_size, StackItem, context_below, HoldsWords, IsAbove, FuncletIsAbove, IsData, On, KeepsStackBut, Setting, InBody, IsResumed, IsLinkedStack, arguments_code}
+use Rattle.match_turns.specs.Words.{IMAGE_BASE, IMAGE_RANGE_END, Memory, Rsp, Instr, context_of, State, register, Temporary, LinearBody, LinearFunclet, BodyName, FunctionBody, FuncletBody, body_of, Item, Waits, Searches, Unwinds, waiting, regions_of, Layout, sizes, put_back, keep, temporary_at, call, return_at, begin_call, passing_code, template_size, StackItem, context_below, HoldsWords, IsAbove, FuncletIsAbove, IsData, On, KeepsStackBut, Setting, InBody, IsResumed, IsLinkedStack, arguments_code, frame_of}
 use Rattle.linear_code.specs.declared.instruction.Instruction.TheVariants as instructions
-use Rattle.match_turns.proofs.Lemmas.{sizes_append, call_size, template_some, on_moved, body_on_top, sp_low, next_address}
+use Rattle.match_turns.proofs.Lemmas.{sizes_append, call_size, template_some, others_of, frame_with, body_on_top, sp_low, next_address}
 use Rattle.match_turns.proofs.CallResult.{offset_most}
 use Rattle.match_turns.proofs.CallReturn.{returns_at, call_template}
 use Rattle.match_turns.proofs.FunctionFrame.{same_itself}
@@ -160,7 +160,11 @@ module _ {setting : Setting} (at_call : AtCall setting) where
     home = b.body.home;
     back = b.body.back;
     returns_to = b.body.returns_to;
-    returns = b.body.returns;
+    others = b.body.others;
+    eight = b.body.eight;
+    small = b.body.small;
+    frame = frame_with s later.cpu (p.leaf c.frame.body)
+        (frame_of p c.frame.body b.body.back b.body.others) refl b.body.frame;
     is = b.body.is;
     below = b.body.below;
   }
@@ -168,9 +172,9 @@ module _ {setting : Setting} (at_call : AtCall setting) where
   -- the caller on top of what waits below it
   pub awaits : (m : Memory) (room : ℕ) → room ≤ 32 + 8 * b.body.slots.code.passed
       → p.leaf c.frame.body ≡ false → KeepsStackBut s.memory m sp sp (sp + room) → IsData m
-      → (is : List StackItem) × ((others : List ℕ) → length others ≡ 8
-      → On t fs program p m (context_below back sp others) is
-      (Waits (waiting c first).frame ∷ c.below) b.body.acts)
+      → (is : List StackItem) × On t fs program p m
+      (context_below back sp (others_of s.cpu.registers)) is
+      (Waits (waiting c first).frame ∷ c.below) b.body.acts
   awaits m room few framed keeps data_alone =
       let top = body_on_top t fs program p q image later (waiting c first) c.frame.next in_body
       resumed b.memory.code in
@@ -182,9 +186,7 @@ module _ {setting : Setting} (at_call : AtCall setting) where
       (λ o e. subst (λ (x : LinearBody). room ≤ 32 + 8 * x.passed)
       (same_body b.body.slots.code o (sym b.body.slots.body ∙ e)) few) framed top.on.is_there in (
         top.is,
-        λ others n. on_moved t fs program p m (context_of later.cpu) (context_below back sp others)
-            top.is (Waits (waiting c first).frame ∷ c.below) b.body.acts refl (omega (arith, n))
-            refl refl (record { is_there = is_there; data_alone = data_alone }),
+        record { is_there = is_there; data_alone = data_alone },
       )
     where
       same_body : (x o : LinearBody) → Some x ≡ Some o → x ≡ o

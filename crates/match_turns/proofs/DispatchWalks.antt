@@ -1,28 +1,12 @@
 -- What the walk gives where the host dispatches: at the first byte of a funclet that it starts,
 -- where it lands, and at its services.
 use Rattle.std.proofs.Common.{◌≡◌, ◌≢◌, ℕ, ◌+◌, ◌%◌, ◌^◌, ◌<◌, true, false, Option, Some, None, Ok, List, [], ◌∷◌, length, refl, sym, ap, subst, ◌∙◌, arith}
-use Rattle.std.specs.Prelude.{Result, slice_get, slice_index, slice_set}
+use Rattle.std.specs.Prelude.{Result, slice_get, slice_set}
 use Rattle.match_turns.specs.Words.{W64, RefusedAccess, Memory, loaded, Rdx, Rsp, Rbx, Rbp, Rsi, Rdi, R12, R13, R14, R15, Cpu, Context, kept_of, context_of, State, register, rsp, readable, DispatchRecord, filter_return, finally_return, steps, Turn, at_landing, back, Exception, LinearFunclet, BodyName, FuncletBody, funclet_body, Handler, Resumption, Item, Configuration, StackItem, Framed, IsStack, after_frame, context_below, state, parent_body, IsFunclet, Activation, Arrives, FilterBegins, Unwound, BlockBegins, LandsThere, IsUnwinding, drop_below, GivesCallers, WalkGives, caller_at, callers, caller_above, FindsReturn, Setting, IsMachineMemory, WalkContinues}
 use Rattle.virtual_unwind.specs.Undone.{word}
 use Rattle.seh_num.specs.declared.event.Event.TheVariants as events
-use Rattle.match_turns.proofs.Lemmas.{few_items, none_below, frame_size, on_stack, gives_caller, begin_finds, word_is}
+use Rattle.match_turns.proofs.Lemmas.{finds_return, nine_numbers, first_set, waiting_allocated, few_items, none_below, frame_size, on_stack, gives_caller, begin_finds, word_is}
 use Rattle.match_bodies.proofs.UnwindWalks.{block_callers, landing_callers}
-
--- nine registers, one by one
-nine : (ks : List ℕ) → length ks ≡ 9
-    → slice_index ks 0 ∷ slice_index ks 1 ∷ slice_index ks 2 ∷ slice_index ks 3 ∷ slice_index ks 4
-    ∷ slice_index ks 5 ∷ slice_index ks 6 ∷ slice_index ks 7 ∷ slice_index ks 8 ∷ [] ≡ ks
-nine [] e = absurd (omega arith)
-nine (a ∷ []) e = absurd (omega arith)
-nine (a ∷ b ∷ []) e = absurd (omega arith)
-nine (a ∷ b ∷ c ∷ []) e = absurd (omega arith)
-nine (a ∷ b ∷ c ∷ d ∷ []) e = absurd (omega arith)
-nine (a ∷ b ∷ c ∷ d ∷ f ∷ []) e = absurd (omega arith)
-nine (a ∷ b ∷ c ∷ d ∷ f ∷ g ∷ []) e = absurd (omega arith)
-nine (a ∷ b ∷ c ∷ d ∷ f ∷ g ∷ h ∷ []) e = absurd (omega arith)
-nine (a ∷ b ∷ c ∷ d ∷ f ∷ g ∷ h ∷ i ∷ []) e = absurd (omega arith)
-nine (a ∷ b ∷ c ∷ d ∷ f ∷ g ∷ h ∷ i ∷ j ∷ []) e = refl
-nine (a ∷ b ∷ c ∷ d ∷ f ∷ g ∷ h ∷ i ∷ j ∷ k ∷ ks) e = absurd (omega arith)
 
 -- the nonvolatile registers, with another stack pointer
 kept_with : (rs : List ℕ) (v : ℕ) → length rs ≡ 16
@@ -67,7 +51,8 @@ module _ (setting : Setting) where
       let small = a.at_small in
       let here : sp + 0 ≡ sp = omega arith in
       let up : a.at ≡ sp + 0 + 8 = omega arith in
-      let found = funclet_finds u.memory k a.name a.funclet (context_of u.cpu) a.back a.rip refl
+      let found = finds_return t u.memory (p.funclet k) 0
+      (funclet_finds u.memory k a.name a.funclet) (context_of u.cpu) a.back a.rip refl
       (omega arith) (ap (word u.memory) here ∙ a.returns) in
       let below : GivesCallers t u.memory (state (context_below a.back a.at others) 0) cs = subst
       (GivesCallers t u.memory (state (context_below a.back a.at others) 0)) (same others)
@@ -139,18 +124,23 @@ module _ (setting : Setting) where
         let size : f.size ≡ y.frame = frame_size t fs program p q image s.memory l.to f l.body.body
         waits.waits.code waits.waits.body waits.framed waits.entry is_there in
         let room = is_there.room in
+        let told = waiting_allocated t fs program p q image s.memory l.to f l.body.body
+        waits.waits.code waits.waits.body waits.framed waits.entry is_there in
         let d : Context = record { rip = r.target; kept = l.to.kept } in
         let cs = callers (after_frame l.to f) l.is in
-        let found =
-        begin_finds t fs program p q image s.memory l.body.body waits.waits.code w.target.label
+        let found = finds_return t s.memory (p.address l.body.body w.target.label) y.frame
+        (begin_finds t fs program p q image s.memory l.body.body waits.waits.code w.target.label
         waits.waits.body memory.code (image.landings l.body.body waits.waits.code w.target.label
-        waits.waits.body l.lands)
+        waits.waits.body l.lands))
         d f.return_address l.at_address is_there.kept (omega arith)
-        (ap (λ n. word s.memory (rsp l.to + n)) (sym size) ∙ is_there.returns) in
+        (ap (λ n. word s.memory (rsp l.to + n)) (sym size) ∙ told.returns) in
         let caller : caller_above d y.frame f.return_address
         ≡ after_frame l.to f = ap (λ n. let x : Context =
         record { rip = f.return_address; kept = slice_set l.to.kept 0 (rsp l.to + n + 8) } in x)
-        (sym size) in
+        (sym size)
+        ∙ ap (λ (ks : List ℕ). let x : Context = record { rip = f.return_address; kept = ks } in x)
+        (sym (first_set l.to.kept (rsp l.to + f.size + 8) is_there.kept)
+        ∙ ap (λ (os : List ℕ). (rsp l.to + f.size + 8) ∷ os) told.others) in
         let rest : GivesCallers t s.memory (state (caller_above d y.frame f.return_address) 0)
         cs = subst (λ (x : Context). GivesCallers t s.memory (state x 0) cs) (sym caller)
         (on_stack t s.memory (after_frame l.to f) 0 l.is l.on.is_there.stack.1) in
@@ -159,7 +149,7 @@ module _ (setting : Setting) where
         (gives_caller t s.memory d (caller_above d y.frame f.return_address) cs found rest) in
         let landed : WalkGives t (at_landing s l.to rax r.target) (after_frame l.to f ∷ cs) = subst
         (λ (ks : List ℕ). GivesCallers t s.memory (state (record { rip = r.target; kept = ks }) 0)
-        (after_frame l.to f ∷ cs)) (sym (nine l.to.kept is_there.kept)) here in
+        (after_frame l.to f ∷ cs)) (sym (nine_numbers l.to.kept is_there.kept)) here in
         subst (WalkGives t (at_landing s l.to rax r.target))
         (sym (landing_callers t s.memory r.target_frame r.target r.walk r.row is steps
         u.on.is_there.stack short l.to (Framed f ∷ l.is) l.answer l.on.is_there.stack)) landed
@@ -188,8 +178,9 @@ module _ (setting : Setting) where
       } in x) up in
       let returns : word s.memory (sp + 0) ≡ Ok ret = ap (word s.memory) flat
       ∙ ap (λ (x : Result ℕ RefusedAccess). readable sp x) w in
-      let found = image.callers_outside.services s.memory a low high other another
-      (context_of s.cpu) ret here refl (omega arith) returns in (
+      let found = finds_return t s.memory a 0
+      (image.callers_outside.services s.memory a low high other another) (context_of s.cpu)
+      ret here refl (omega arith) returns in (
         c,
         gives_caller t s.memory (context_of s.cpu) c cs found
             (subst (λ (x : Context). GivesCallers t s.memory (state x 0) cs) same

@@ -56,7 +56,7 @@ module _ (setting : Setting) (made : IsWellMade setting.program setting.plan)
       (record c { store = record { memory = c.store.memory; activations = xs } })) (sym store)
       (waits_in_body t fs program p q image u (context_of saved) is c.frame c.below acts
       c.frame.next c.frame.temporaries c.frame.landed c.store.memory c.events on refl inside
-      well_formed.rip_small (all_front s.memory c.frame.temporaries))
+      well_formed (all_front s.memory c.frame.temporaries))
 
   pub works_on : WorksOn setting u c
   works_on = record { again = again; well_formed = well_formed; memory = memory; body = in_body }

@@ -1,6 +1,6 @@
 -- A filter begins: it keeps the base and the address of its EXCEPTION_POINTERS, and its first
 -- instruction follows.
-use Rattle.std.proofs.Common.{◌≡◌, ℕ, ◌+◌, ◌%◌, ◌^◌, ◌<◌, ◌≤◌, false, Some, Ok, List, [], ◌∷◌, ◌++◌, length, refl, sym, ap, subst, ◌∙◌, arith, inl, length-append}
+use Rattle.std.proofs.Common.{◌≡◌, ℕ, ◌+◌, ◌%◌, ◌^◌, ◌<◌, ◌≤◌, false, Some, Ok, List, [], ◌∷◌, ◌++◌, length, refl, sym, ap, subst, ◌∙◌, arith, inl, length-append, drop}
 use Rattle.std.proofs.lemmas.List.{append-nil}
 use Rattle.std.specs.Prelude.{nat_lt, slice_get}
 use Rattle.std.proofs.lemmas.Option.{slice_get_within}
@@ -192,6 +192,7 @@ module _ (setting : Setting) where
       distance = subst (λ d. IsActivation acts handler.activation a.reaches.base d)
           (parent_locals setting k f f.parent a.name known.funclet.there parent owner)
           a.reaches.activation;
+      others = ap (λ (ks : List ℕ). drop 1 ks) e.registers;
       rip = rip_here;
       well_formed = well_formed_here;
     }

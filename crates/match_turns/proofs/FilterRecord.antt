@@ -1,6 +1,5 @@
 -- A filter's frame leads to the record of its search, which carries its exception.
 use Rattle.std.proofs.Common.{◌≡◌, ℕ, ◌+◌, ◌^◌, ◌<◌, ◌≤◌, List, ◌∷◌, Some, Ok, refl, sym, subst, ◌∙◌, arith}
-use Rattle.std.specs.Prelude.{replicate}
 use Rattle.match_turns.specs.Words.{STACK_START, STACK_END, bytes_of, Memory, number_at, Rsp, Context, context_of, State, register, rsp, Functions, DispatchRecord, RecordFits, Funclet, Field, ExceptionCode, Exception, field_of, LinearProgram, LinearFunclet, Frame, Handler, Resumption, Item, Waits, Searches, Unwinds, Configuration, field_at, field_width, IsField, MayRead, StackItem, Searching, IsStack, context_below, ImagePlan, Activation, activations_below, HasPointers, FuncletIsAbove, IsAbove, Linked, Sites, IsFilterBody}
 use Rattle.virtual_unwind.specs.Undone.{word}
 use Rattle.seh_records.specs.Record.{fetched}
@@ -85,7 +84,7 @@ module _ (t : Functions) (fs : List Funclet) (program : LinearProgram) (p : Imag
     size = (p.layout c.frame.body).frame
 
     abbrev above : Context
-    above = context_below b.body.back (sp + size + 8) (replicate 8 0)
+    above = context_below b.body.back (sp + size + 8) b.body.others
 
     abbrev asked_here : IsFilterBody program c.frame.body → IsAsked c.frame.exception c.below
     asked_here f = asked_by c.frame c.below f b.body.above
@@ -94,7 +93,7 @@ module _ (t : Functions) (fs : List Funclet) (program : LinearProgram) (p : Imag
         → HasRecord s.memory above c.frame.exception
     record_here f =
         let a = asked_here f in
-        let on = b.body.below (replicate 8 0) refl in
+        let on = b.body.below in
         subst (HasRecord s.memory above) (sym a.same)
         (record_on_top s.memory above b.body.is (activations_below c.frame.body b.body.acts)
         a.searched a.resumption a.asked a.rest a.below on.is_there.stack

@@ -4,13 +4,13 @@ use Rattle.std.proofs.Common.{◌≡◌, ℕ, ◌+◌, ◌-◌, ◌^◌, ◌<◌
 use Rattle.std.specs.Prelude.{slice_get, drop}
 use Rattle.std.proofs.lemmas.List.{length-drop, get_or-set_same}
 use Rattle.seh_num.specs.declared.event.Event.TheVariants as events
-use Rattle.match_turns.specs.Words.{STACK_START, STACK_END, Rdx, Rsp, context_of, State, register, distance, arrivals, by_kind, of_test, LinearBody, BodyName, FuncletBody, body_of, funclet_body, Waits, Configuration, instruction_in, Layout, sizes, IsNear, finally_arguments, MachineView, machine, pushed, HasBelow, context_below, InCode, by_parent, parent_body, IsFunclet, HasActivation, return_of, ReturnsTo, KeepsAbove, On, IsWellFormed, AllKeep, Comes, AllReturnsStayInRegions, IsFinallyKind, parent_of, IsFuncletOf, HaveRoom, slots_end, Setting, InBody, IsMachineMemory, IsResumed, RepresentsAt, is_finally}
+use Rattle.match_turns.specs.Words.{STACK_START, STACK_END, Rdx, Rsp, context_of, State, register, distance, arrivals, by_kind, of_test, LinearBody, BodyName, FuncletBody, body_of, funclet_body, Waits, Configuration, instruction_in, Layout, sizes, IsNear, finally_arguments, MachineView, machine, pushed, HasBelow, context_below, InCode, by_parent, parent_body, IsFunclet, HasActivation, return_of, ReturnsTo, KeepsAbove, On, IsWellFormed, AllKeep, Comes, AllReturnsStayInRegions, IsFinallyKind, parent_of, IsFuncletOf, HaveRoom, slots_end, Setting, InBody, IsMachineMemory, IsResumed, RepresentsAt, is_finally, frame_of}
 use Rattle.virtual_unwind.specs.Undone.{word}
 use Rattle.x64_templates.specs.Runs.{Reaches}
 use Rattle.x64_instr.specs.declared.instruction.Instr.TheVariants as instrs
 use Rattle.linear_code.specs.declared.instruction.Instruction.TheVariants as instructions
 use Rattle.linear_code.specs.declared.program.FuncletKind.TheVariants as funclets
-use Rattle.match_turns.proofs.Lemmas.{with_two, FinallyCalled, finally_begins, pushed_back, reaches_above, kept_by_stores_below, first_in_code, on_moved, reaches_comes, others_of, reaches_steps, calls_keep, OnTop, body_on_top, may_read_written, word_of, reaches_keeps, stays_well_formed, IsCounted, sp_low, frame_top, v, same_state, template_here, sp_is}
+use Rattle.match_turns.proofs.Lemmas.{with_two, FinallyCalled, finally_begins, pushed_back, reaches_above, kept_by_stores_below, first_in_code, frame_with, reaches_comes, others_of, reaches_steps, calls_keep, OnTop, body_on_top, may_read_written, word_of, reaches_keeps, stays_well_formed, IsCounted, sp_low, frame_top, v, same_state, template_here, sp_is}
 use Rattle.match_stack.specs.ItemMatches as linked
 use Rattle.match_stack.proofs.SearchHandlers.{body_reaches}
 use Rattle.match_turns.proofs.ReturnAddressPlace.{top_of, begins_beneath}
@@ -18,6 +18,7 @@ use Rattle.match_turns.proofs.FinallyCallReturn.{offset_most, after_call}
 use Rattle.match_turns.proofs.FuncletFrame.{ArrivesBelow}
 use Rattle.match_turns.proofs.CallRegions.{apart_same}
 use Rattle.match_turns.proofs.DispatchMemory.{memory_untouched}
+use Rattle.match_turns.proofs.KeptRegisters.{kept_moved}
 use Rattle.match_turns.proofs.ReturnAddressPush as pushing
 
 same_parents : (function : ℕ) (o : Option ℕ) → by_parent function o ≡ parent_of function o
@@ -250,7 +251,11 @@ module _ (setting : Setting) (roomy : HaveRoom setting.program)
       home = b.body.home;
       back = b.body.back;
       returns_to = b.body.returns_to;
-      returns = b.body.returns;
+      others = b.body.others;
+      eight = b.body.eight;
+      small = b.body.small;
+      frame = frame_with s later.cpu (p.leaf c.frame.body)
+          (frame_of p c.frame.body b.body.back b.body.others) refl b.body.frame;
       is = b.body.is;
       below = b.body.below;
     }
@@ -259,13 +264,15 @@ module _ (setting : Setting) (roomy : HaveRoom setting.program)
     on_top = body_on_top t fs program p q image later c (c.frame.next + 1) in_body resumed
         b.memory.code
 
-    list : (others : List ℕ) → length others ≡ 8
-        → On t fs program p called.memory (context_below back sp others) on_top.is
-        (Waits c.frame ∷ c.below) b.body.acts
-    list others eight =
-        on_moved t fs program p called.memory (context_of later.cpu) (context_below back sp others)
-        on_top.is (Waits c.frame ∷ c.below) b.body.acts refl (omega (arith, eight)) refl refl
-        (record {
+    -- the nonvolatile registers are those of the call
+    others_there : others_of called.cpu.registers ≡ others_of s.cpu.registers
+    others_there = ap (λ (ks : List ℕ). drop 1 ks)
+        (kept_moved s.cpu.registers (sp - 8) stack_there)
+
+    list : On t fs program p called.memory (context_below back sp (others_of called.cpu.registers))
+        on_top.is (Waits c.frame ∷ c.below) b.body.acts
+    list = subst (λ (os : List ℕ). On t fs program p called.memory (context_below back sp os)
+        on_top.is (Waits c.frame ∷ c.below) b.body.acts) (sym others_there) (record {
           is_there = kept_by_stores_below t fs program p s.memory bytes (context_of later.cpu)
               on_top.is (Waits c.frame ∷ c.below) b.body.acts keeps_above on_top.on.is_there;
           data_alone = pushing.pushed_data before sp back low_enough high_enough b.memory.data_alone

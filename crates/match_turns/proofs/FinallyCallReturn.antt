@@ -1,8 +1,8 @@
 -- A `__finally` block that a body has called returns: the body continues after its call.
 use Rattle.std.proofs.Common.{◌≡◌, ℕ, zero, suc, ◌+◌, ◌<◌, ◌≤◌, Option, Some, None, List, [], ◌∷◌, length, get_or, refl, sym, ap, subst, ◌∙◌, arith}
-use Rattle.std.specs.Prelude.{slice_get, replicate}
+use Rattle.std.specs.Prelude.{slice_get}
 use Rattle.std.proofs.lemmas.List.{append-nil}
-use Rattle.match_turns.specs.Words.{Rsp, Context, State, register, distance, arrivals, Slot, Instruction, LinearBody, LinearFunclet, BodyName, FuncletBody, body_of, Frame, Item, Waits, Configuration, Next, with_some, read, forth, instruction_in, end_finally, end_funclet, end_body, act, Layout, sizes, call, finally_arguments, return_code, template_size, body_size, offset_of, HasBack, context_below, AllReturnsStayInRegions, HaveRoom, InCode, Activation, locals_of, activations_below, return_of, ReturnsTo, On, IsWellFormed, Moves, links_of, held_below, turns_left, Setting, InBody, RepresentsAt}
+use Rattle.match_turns.specs.Words.{kept_of, Rsp, Context, State, register, distance, arrivals, Slot, Instruction, LinearBody, LinearFunclet, BodyName, FuncletBody, body_of, Frame, Item, Waits, Configuration, Next, with_some, read, forth, instruction_in, end_finally, end_funclet, end_body, act, Layout, sizes, call, finally_arguments, return_code, template_size, body_size, offset_of, HasBack, context_below, AllReturnsStayInRegions, HaveRoom, InCode, Activation, locals_of, activations_below, return_of, ReturnsTo, On, IsWellFormed, Moves, links_of, held_below, turns_left, Setting, InBody, RepresentsAt}
 use Rattle.x64_templates.specs.Runs.{Reaches}
 use Rattle.linear_code.specs.declared.instruction.Instruction.TheVariants as instructions
 use Rattle.linear_code.specs.declared.program.FuncletKind.TheVariants as funclets
@@ -90,8 +90,8 @@ module _ (setting : Setting) (roomy : HaveRoom setting.program)
     reaches : Reaches n s after
     reaches = leaving.reaches setting roomy s c b counted from at
 
-    sp_after : register after.cpu Rsp ≡ sp + layout.frame + 8
-    sp_after = leaving.sp_after setting roomy s c b counted from at
+    registers_after : kept_of after.cpu.registers ≡ (sp + layout.frame + 8) ∷ b.body.others
+    registers_after = leaving.registers_after setting roomy s c b counted from at
 
     well_formed_after : IsWellFormed after
     well_formed_after = leaving.well_formed_after setting roomy s c b counted from at
@@ -132,15 +132,12 @@ module _ (setting : Setting) (roomy : HaveRoom setting.program)
     outer_is : outer ≡ b.body.acts
     outer_is = ap (λ name. activations_below name b.body.acts) is
 
-    abbrev rest : List ℕ
-    rest = replicate 8 0
-
     abbrev above : Context
-    above = context_below back (sp + layout.frame + 8) rest
+    above = context_below back (sp + layout.frame + 8) b.body.others
 
     on : On t fs program p s.memory above b.body.is (Waits w ∷ items) outer
     on = subst (λ ws. On t fs program p s.memory above b.body.is ws outer) below
-        (b.body.below rest refl)
+        b.body.below
 
     abbrev pub next_one : Configuration
     next_one = forth (record { frame = w; below = items; store = c.store; events = c.events })
@@ -155,7 +152,8 @@ module _ (setting : Setting) (roomy : HaveRoom setting.program)
         } in
         InBody setting after d) (ap locals_of outer_is ∙ sym b.body.store)
         (waits_in_body t fs program p q image after above b.body.is w items outer (w.next + 1)
-        w.temporaries w.landed c.store.memory c.events on sp_after back_code has_back.small
+        w.temporaries w.landed c.store.memory c.events on registers_after back_code
+        well_formed_after
         (all_front s.memory w.temporaries))
 
     begins : RepresentsAt setting after next_one

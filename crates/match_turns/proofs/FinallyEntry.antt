@@ -1,13 +1,13 @@
 -- A `__finally` block begins: base and flag are kept, and its first instruction follows.
-use Rattle.std.proofs.Common.{◌≡◌, ℕ, ◌+◌, ◌*◌, ◌<◌, ◌≤◌, Bool, true, false, Some, None, List, [], ◌∷◌, ◌++◌, length, refl, sym, ap, subst, ◌∙◌, arith, inl, inr, append_assoc}
+use Rattle.std.proofs.Common.{◌≡◌, ℕ, ◌+◌, ◌*◌, ◌<◌, ◌≤◌, Bool, true, false, Some, None, List, [], ◌∷◌, ◌++◌, length, refl, sym, ap, subst, ◌∙◌, arith, inl, inr, append_assoc, drop}
 use Rattle.std.specs.Prelude.{slice_get, slice_index, slice_set}
 use Rattle.std.proofs.lemmas.Option.{slice_get_within, slice_get_cases}
 use Rattle.std.proofs.lemmas.List.{append-nil}
-use Rattle.match_turns.specs.Words.{STACK_START, STACK_END, W32, low, Event, Memory, number_at, Rax, Rcx, Rdx, Rsp, Instr, State, register, of_test, no_exception, Local, BodyState, with_slot, LinearBody, LinearFunclet, BodyName, FuncletBody, funclet_body, Item, Store, Configuration, flag_of, Layout, sizes, move, put_back, keep, local_at, keep_local, fetched, machine, HasCode, Enters, FramePlace, ReachesBody, Steps, StackItem, is_encodable, IsFinallyKind, parent_of, function_of, owner_of, IsFuncletOf, owners_of, by_parent, Activation, locals_of, IsActivation, HasSpace, below_end, record_room, HasPointers, FuncletIsAbove, IsWellFormed, KeepsShadow, AllKeep, is_call, LeadsTo, parent_base, keep_argument, begin_of, making_size, FindsReturn, with_values, OwnerHasFrame, IsKnown, entry_turns, FlagsFit, LARGEST_FRAME, Setting, HasProgram, IsMachineMemory, RepresentsAt, frame_at, state_of}
+use Rattle.match_turns.specs.Words.{kept_of, IsStack, context_below, STACK_START, STACK_END, W32, low, Event, Memory, number_at, Rax, Rcx, Rdx, Rsp, Instr, State, register, of_test, no_exception, Local, BodyState, with_slot, LinearBody, LinearFunclet, BodyName, FuncletBody, funclet_body, Item, Store, Configuration, flag_of, Layout, sizes, move, put_back, keep, local_at, keep_local, fetched, machine, HasCode, Enters, FramePlace, ReachesBody, Steps, StackItem, is_encodable, IsFinallyKind, parent_of, function_of, owner_of, IsFuncletOf, owners_of, by_parent, Activation, locals_of, IsActivation, HasSpace, below_end, record_room, HasPointers, FuncletIsAbove, IsWellFormed, KeepsShadow, AllKeep, is_call, LeadsTo, parent_base, keep_argument, begin_of, making_size, FindsReturn, with_values, OwnerHasFrame, IsKnown, entry_turns, FlagsFit, LARGEST_FRAME, Setting, HasProgram, IsMachineMemory, RepresentsAt, frame_at, state_of}
 use Rattle.match_bodies.specs.CodeSites.{arguments_code}
 use Rattle.linear_code.specs.declared.program.FuncletKind.TheVariants as funclets
 use Rattle.linear_machine.specs.Frames as linear
-use Rattle.match_turns.proofs.Lemmas.{sizes_append, code_split, near, enters_then, flag_run, Within, straight, keep_first, others_of, program_kept, enters_silently, read_here, StepsTo, reaches_steps, enters_steps, keeps_split, Beneath, beneath_by, callers_above, Finds, ran, label_found, argument_found, frame_there, EntryRan, locals_count, activated, reaches_keeps, enters_keeps, stays_well_formed, SlotsPlaced, IsCounted, frame_top, room_here, holds_here, slots_here, locals_here, Leaves, Ran, returns, new_on, represents_next, set_length, local_after, gives_here}
+use Rattle.match_turns.proofs.Lemmas.{sizes_append, code_split, near, enters_then, flag_run, Within, straight, keep_first, others_of, program_kept, enters_silently, read_here, StepsTo, reaches_steps, enters_steps, keeps_split, Beneath, beneath_by, callers_above, Finds, ran, label_found, argument_found, frame_there, EntryRan, locals_count, activated, reaches_keeps, enters_keeps, stays_well_formed, SlotsPlaced, IsCounted, frame_top, room_here, holds_here, slots_here, locals_here, Leaves, Ran, returns, new_on, represents_next, set_length, local_after, gives_here, body_return}
 use Rattle.match_bodies.proofs.RoutineWalks.{Ran as MidRan}
 use Rattle.match_bodies.proofs.BodyViews.{placed, count}
 use Rattle.match_turns.proofs.FuncletPrologue.{LeadsBy}
@@ -102,6 +102,7 @@ module _ (setting : Setting) where
           (sym stack_1) e.number;
       distance = subst (λ d. IsActivation acts activation a.reaches.base d)
           (parent_locals setting k f f.parent a.name known.there parent owner) a.reaches.activation;
+      others = ap (λ (ks : List ℕ). drop 1 ks) e.registers;
       rip = refl;
       well_formed = well_formed_1;
     }
@@ -239,7 +240,7 @@ module _ (setting : Setting) where
                 };
           };
           holds = r.holds;
-          stack = ap (λ (xs : List ℕ). slice_index xs 1) r.rest;
+          kept = ap (λ (xs : List ℕ). kept_of (0 ∷ 0 ∷ 0 ∷ xs)) r.rest;
           leaves = leaves;
         }
 
@@ -424,11 +425,13 @@ module _ (setting : Setting) where
     beneath_u =
         let h = frame_top setting s1 c1 b1 counted in
         let on = new_on setting s1 c1 b1 counted u d values [] ran_here (λ z. let w : true ≡ false =
-        sym z ∙ l.plan.framed in absurd cc) (λ j z. framed_owner) (others_of u.cpu.registers)
-        refl in
+        sym z ∙ l.plan.framed in absurd cc) (λ j z. framed_owner) in
+        let same = sym (body_return setting s1 c1 b1.body).others_are ∙ sym others_there in
         subst (λ o. Beneath t u top1 (top1 + 8) b1.body.back o list1) others_there
         (beneath_by t u top1 b1.body.back list1 well_formed_here.count (returns setting s1 c1 b1
-        counted u d values [] ran_here) on.is_there.stack (omega arith) on.data_alone.no_code)
+        counted u d values [] ran_here)
+        (subst (λ (os : List ℕ). IsStack t u.memory (context_below b1.body.back (top1 + 8) os)
+        list1) same on.is_there.stack) (omega arith) on.data_alone.no_code)
 
     last_step : Steps x u
     last_step = subst (Steps x) run_1.2 run_1.1

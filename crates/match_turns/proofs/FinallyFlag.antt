@@ -3,7 +3,6 @@ use Rattle.std.proofs.Common.{◌≡◌, ℕ, zero, suc, ◌+◌, ◌<◌, Bool,
 use Rattle.std.specs.Prelude.{slice_get, slice_set}
 use Rattle.match_turns.specs.Words.{W32, low, Event, of_test, no_exception, FuncletKind, LinearBody, FuncletBody, Item, Store, Configuration, set_local, flag_in}
 use Rattle.linear_code.specs.declared.program.FuncletKind.TheVariants as funclets
-use Rattle.match_turns.proofs.FuncletFrame.{begins}
 
 pub same_number : (a b : ℕ) → Some a ≡ Some b → a ≡ b
 same_number a b e = cc

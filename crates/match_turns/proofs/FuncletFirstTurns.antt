@@ -1,10 +1,11 @@
 -- A funclet's first turns: its frame is made, and keeps the base of its activation.
-use Rattle.std.proofs.Common.{◌≡◌, ℕ, ◌+◌, ◌-◌, ◌*◌, ◌^◌, ◌<◌, ◌≤◌, Some, None, List, [], ◌∷◌, ◌++◌, length, refl, sym, ap, subst, ◌∙◌, arith}
-use Rattle.std.specs.Prelude.{slice_index, drop, replicate}
+use Rattle.match_turns.proofs.KeptRegisters.{kept_moved}
+use Rattle.std.proofs.Common.{◌≡◌, ℕ, ◌+◌, ◌-◌, ◌*◌, ◌^◌, ◌<◌, ◌≤◌, Some, None, List, [], ◌∷◌, ◌++◌, length, sym, ap, subst, ◌∙◌, arith}
+use Rattle.std.specs.Prelude.{slice_index, drop}
 use Rattle.std.proofs.lemmas.Bool.{le-leb}
-use Rattle.match_turns.specs.Words.{STACK_START, STACK_END, Memory, number_at, Rcx, Rdx, Rsp, Instr, Flags, State, register, distance, arrivals, FuncletBody, body_of, funclet_body, Item, Layout, sizes, enter_code, code_from, MachineView, machine, sp_of, HasCode, Enters, Activation, below_end, record_room, links_of, making, frame_code, parent_base, keep_argument, funclet_arguments, entry_code, seen_by_templates, LARGEST_FRAME, Setting, HasProgram, IsMachineMemory}
+use Rattle.match_turns.specs.Words.{kept_of, STACK_START, STACK_END, Memory, number_at, Rcx, Rdx, Rsp, Instr, Flags, State, register, distance, arrivals, FuncletBody, body_of, funclet_body, Item, Layout, sizes, enter_code, code_from, MachineView, machine, sp_of, HasCode, Enters, Activation, below_end, record_room, links_of, making, frame_code, parent_base, keep_argument, funclet_arguments, entry_code, seen_by_templates, LARGEST_FRAME, Setting, HasProgram, IsMachineMemory}
 use Rattle.match_bodies.specs.CodeSites.{arguments_code}
-use Rattle.match_turns.proofs.Lemmas.{sizes_append, code_split, Within, within_keeps_code, in_stack, activations_are_at, is_machine, index_of, sp_seen}
+use Rattle.match_turns.proofs.Lemmas.{others_of, sizes_append, code_split, Within, within_keeps_code, in_stack, activations_are_at, is_machine, index_of, sp_seen}
 use Rattle.match_bodies.specs.CodeSites as sites
 use Rattle.match_turns.proofs.FuncletPrologue.{LeadsBy, first_code, Made, HasRoom, made}
 use Rattle.match_turns.proofs.FuncletFrame.{ArrivesBelow, IsPlanned}
@@ -89,6 +90,7 @@ module _ (setting : Setting) where
     pub comes : Enters turns s (machine after rip flags)
     pub at : sp_of after ≡ sp
     pub stack : slice_index after.rest 1 ≡ sp
+    pub registers : kept_of (0 ∷ 0 ∷ 0 ∷ after.rest) ≡ sp ∷ others_of s.cpu.registers
     pub rcx : after.rcx ≡ register s.cpu Rcx
     pub number : number_at after.memory.byte 8 (sp + l.plan.layout.slot) ≡ base
     pub within : Within sp (sp + (p.layout (FuncletBody k)).frame) s.memory after.memory
@@ -113,7 +115,7 @@ module _ (setting : Setting) where
 
     pub top : a.at ≤ STACK_END
     top = in_stack t fs program p s.memory _ a.is items acts
-        (a.on (replicate 8 0) refl).is_there.stack (a.on (replicate 8 0) refl).is_there.linked
+        a.on.is_there.stack a.on.is_there.linked
 
     pub low : STACK_START + LARGEST_FRAME ≤ register s.cpu Rsp
     low = let e = a.stack in omega (arith, space, shallow)
@@ -123,7 +125,7 @@ module _ (setting : Setting) where
 
     pub base_small : a.reaches.base < 2 ^ 64
     base_small = let r = activations_are_at t fs program p s.memory _ a.is items acts activation
-        a.reaches.base _ (a.on (replicate 8 0) refl).is_there a.reaches.activation in
+        a.reaches.base _ a.on.is_there a.reaches.activation in
         let h = r.high_end in omega arith
 
     pub room : HasRoom v sp frame (l.plan.layout.slot)
@@ -176,6 +178,9 @@ module _ (setting : Setting) where
           run.flags)) (sym (is_machine s a.well_formed.count)) run.comes;
       at = run.lowered;
       stack = sym (index_of run.after.rest 1) ∙ run.lowered;
+      registers = ap (λ (xs : List ℕ). kept_of (0 ∷ 0 ∷ 0 ∷ xs)) run.rest
+          ∙ kept_moved s.cpu.registers sp (ap (λ (xs : List ℕ). slice_index xs 1) (sym run.rest)
+          ∙ sym (index_of run.after.rest 1) ∙ run.lowered);
       rcx = run.rcx;
       number = run.number;
       within = run.within;

@@ -6,7 +6,7 @@ use Rattle.std.specs.List.{AllByRecursion}
 use Rattle.std.proofs.lemmas.Bool.{cases_lt}
 use Rattle.match_turns.specs.Words.{STACK_START, STACK_END, Event, Protection, is_writable, Memory, may_write, number_at, Rcx, Rdx, Rsp, context_of, State, register, Functions, Funclet, Exception, is_reserved, Region, LinearProgram, LinearFunclet, BodyName, FuncletBody, body_of, funclet_body, Frame, Item, Store, Configuration, holds, regions_of, Layout, StackItem, context_below, ImagePlan, InCode, IsFunclet, Activation, locals_of, IsActivation, HasActivation, HoldsWords, HasSpace, below_end, HasPointers, FuncletIsAbove, BodyWaits, ReturnsTo, Reaches, KeepsStack, On, IsWellFormed, Arrives, IsFuncletPlan, slots_end, last_temporary, Setting, InBody, IsMachineMemory, RepresentsAt}
 use Rattle.virtual_unwind.specs.Undone.{word}
-use Rattle.match_turns.proofs.Lemmas.{same_number, Within, kept_by_other_memories, word_is, word_of, may_read_written, stack_is_reserved, program_stays}
+use Rattle.match_turns.proofs.Lemmas.{others_of, has_frame, small_others, same_number, Within, kept_by_other_memories, word_is, word_of, may_read_written, stack_is_reserved, program_stays}
 
 pub same_regions : (rs : List Region) (label : ℕ)
     → AllByRecursion (λ (r : Region). holds label r ≡ holds label r) rs
@@ -114,8 +114,8 @@ pub record ArrivesBelow (t : Functions) (fs : List Funclet) (program : LinearPro
   pub returns : word s.memory (register s.cpu Rsp) ≡ Ok back
   pub returns_to : ReturnsTo t fs program p items back
   pub is : List StackItem
-  pub on : (others : List ℕ) → length others ≡ 8
-      → On t fs program p s.memory (context_below back at others) is items acts
+  pub on : On t fs program p s.memory (context_below back at (others_of s.cpu.registers)) is items
+      acts
   pub well_formed : IsWellFormed s
 
 abbrev pub arrives_below : (t : Functions) (fs : List Funclet) (program : LinearProgram)
@@ -136,7 +136,7 @@ arrives_below t fs program p s k activation first items acts a to = record {
   returns = a.returns;
   returns_to = to;
   is = a.is;
-  on = λ others n. a.on others;
+  on = a.on (others_of s.cpu.registers);
   well_formed = a.well_formed;
 }
 
@@ -169,6 +169,7 @@ module _ (setting : Setting) where
     pub number : number_at u.memory.byte 8 (register u.cpu Rsp + l.plan.layout.slot)
         ≡ a.reaches.base
     pub distance : IsActivation acts activation a.reaches.base (p.layout (FuncletBody k)).locals
+    pub others : others_of u.cpu.registers ≡ others_of s.cpu.registers
     pub rip : u.cpu.rip ≡ p.address (FuncletBody k) 0
     pub well_formed : IsWellFormed u
 
@@ -230,18 +231,20 @@ module _ (setting : Setting) where
     at_is : a.at ≡ sp + y.frame + 8
     at_is = let e = h.stack in let f = a.stack in omega arith
 
-    pub list : (others : List ℕ) → length others ≡ 8
-        → On t fs program p u.memory (context_below a.back (sp + y.frame + 8) others) a.is items
-        acts
-    list others eight =
+    pub list : On t fs program p u.memory (context_below a.back (sp + y.frame + 8)
+        (others_of u.cpu.registers)) a.is items acts
+    list =
         let e = high in
         let lo = h.low in
-        let on = subst (λ x. On t fs program p s.memory (context_below a.back x others) a.is items
-        acts) at_is (a.on others eight) in
+        let above = context_below a.back (sp + y.frame + 8) (others_of u.cpu.registers) in
+        let on : On t fs program p s.memory above a.is items acts =
+        subst (λ (os : List ℕ). On t fs program p s.memory (context_below a.back (sp + y.frame + 8)
+        os) a.is items acts) (sym h.others)
+        (subst (λ x. On t fs program p s.memory (context_below a.back x (others_of s.cpu.registers))
+        a.is items acts) at_is a.on) in
         record {
-          is_there = kept_by_other_memories t fs program p s.memory u.memory
-              (context_below a.back (sp + y.frame + 8) others) a.is items acts keeps (omega arith)
-              on.is_there;
+          is_there = kept_by_other_memories t fs program p s.memory u.memory above a.is items acts
+              keeps (omega arith) on.is_there;
           data_alone = (memory_stays setting s.memory u.memory store.memory sp (sp + y.frame)
               h.within h.low (omega arith) memory).data_alone;
         }
@@ -298,10 +301,18 @@ module _ (setting : Setting) where
       home = λ e. absurd (apart (sym e ∙ l.plan.framed));
       back = a.back;
       returns_to = a.returns_to;
-      returns = (let e = high in word_stays setting s.memory u.memory store.memory sp (sp + y.frame)
-          h.within h.low (omega arith) memory (sp + y.frame) a.back
-          (let z = h.low in omega arith) (omega arith) (omega arith)
-          (subst (λ x. word s.memory x ≡ Ok a.back) h.stack a.returns));
+      others = others_of u.cpu.registers;
+      eight = refl;
+      small = small_others u h.well_formed;
+      frame = has_frame setting (FuncletBody k) l.funclet.body is u a.back
+          (others_of u.cpu.registers) (let e = high in omega arith)
+          (record {
+            returns = (let e = high in word_stays setting s.memory u.memory store.memory sp
+                (sp + y.frame) h.within h.low (omega arith) memory (sp + y.frame) a.back
+                (let z = h.low in omega arith) (omega arith) (omega arith)
+                (subst (λ x. word s.memory x ≡ Ok a.back) h.stack a.returns));
+            others_are = refl;
+          });
       is = a.is;
       below = list;
     }

@@ -1,11 +1,11 @@
 -- A funclet that the dispatcher has called returns to it: RIP is at the host's return address, and
 -- RSP at the record.
-use Rattle.std.proofs.Common.{◌≡◌, ℕ, zero, ◌+◌, ◌<◌, ◌≤◌, Some, List, [], ◌∷◌, length, refl, sym, ap, subst, ◌∙◌, arith}
-use Rattle.std.specs.Prelude.{slice_get, replicate}
-use Rattle.match_turns.specs.Words.{W32, low, Rsp, context_of, State, register, Exception, Slot, Region, LinearFunclet, FuncletBody, Frame, Handler, Target, Resumption, Item, Waits, Searches, Unwinds, Configuration, Next, with_some, read, answer, end_funclet, end_body, act, exec, return_code, StackItem, Searching, Unwinding, context_below, activations_below, On, SearchIsAnswered, linear_answer, Comes, HasRule, IsMatched, HaveRoom, AreWaiting, turns_left, KnownNext, FlagsFit, waiting_below, Setting, IsMachineMemory, RepresentsAt, Continuations, Represents}
+use Rattle.std.proofs.Common.{◌≡◌, ℕ, zero, ◌+◌, ◌<◌, ◌≤◌, Some, List, [], ◌∷◌, length, sym, ap, subst, ◌∙◌, arith}
+use Rattle.std.specs.Prelude.{slice_get}
+use Rattle.match_turns.specs.Words.{W32, low, Rsp, context_of, State, register, Exception, Slot, Region, LinearFunclet, FuncletBody, Frame, Handler, Target, Resumption, Item, Waits, Searches, Unwinds, Configuration, Next, with_some, read, answer, end_funclet, end_body, act, exec, return_code, StackItem, Searching, Unwinding, context_below, activations_below, On, SearchIsAnswered, linear_answer, Comes, HasRule, IsMatched, HaveRoom, AreWaiting, turns_left, KnownNext, FlagsFit, waiting_below, Setting, IsMachineMemory, RepresentsAt, Continuations, Represents, Context}
 use Rattle.linear_code.specs.declared.instruction.Instruction.TheVariants as instructions
 use Rattle.linear_code.specs.declared.program.FuncletKind.TheVariants as funclets
-use Rattle.match_turns.proofs.Lemmas.{on_moved, reaches_silently, IsCounted}
+use Rattle.match_turns.proofs.Lemmas.{reaches_silently, IsCounted}
 use Rattle.match_turns.proofs.BodyReturn as leaving
 use Rattle.match_turns.proofs.BodyReturn.{returns_soon}
 use Rattle.match_turns.proofs.DispatchReturnSteps.{filter_step, finally_step}
@@ -32,9 +32,6 @@ module _ (setting : Setting) (roomy : HaveRoom setting.program) where
     abbrev back : ℕ
     back = b.body.back
 
-    abbrev rest_of_context : List ℕ
-    rest_of_context = replicate 8 0
-
     abbrev top : ℕ
     top = register s.cpu Rsp + (p.layout c.frame.body).frame + 8
 
@@ -42,23 +39,23 @@ module _ (setting : Setting) (roomy : HaveRoom setting.program) where
     same_acts = ap (λ name. activations_below name b.body.acts) is
 
     -- the list as it stood, below what the funclet has given back
-    rest_of_list : On t fs program p s.memory (context_below back top rest_of_context) b.body.is
+    rest_of_list : On t fs program p s.memory (context_below back top b.body.others) b.body.is
         c.below
         b.body.acts
     rest_of_list = subst (λ acts. On t fs program p s.memory
-        (context_below back top rest_of_context)
-        b.body.is c.below acts) same_acts (b.body.below rest_of_context refl)
+        (context_below back top b.body.others)
+        b.body.is c.below acts) same_acts b.body.below
 
     here : (js : List StackItem) (items : List Item) → b.body.is ≡ js → c.below ≡ items
         → On t fs program p after.memory (context_of after.cpu) js items b.body.acts
     here js items e below =
-        let on = subst (λ xs. On t fs program p s.memory (context_below back top rest_of_context) xs
+        let on = subst (λ xs. On t fs program p s.memory (context_below back top b.body.others) xs
         items b.body.acts) e
-        (subst (λ ys. On t fs program p s.memory (context_below back top rest_of_context) b.body.is
+        (subst (λ ys. On t fs program p s.memory (context_below back top b.body.others) b.body.is
         ys b.body.acts) below rest_of_list) in
-        on_moved t fs program p s.memory (context_below back top rest_of_context)
-        (context_of after.cpu) js items b.body.acts refl refl refl
-        (leaving.sp_after setting roomy s c b counted from at) on
+        subst (λ (ks : List ℕ). let x : Context = record { rip = back; kept = ks } in
+        On t fs program p s.memory x js items b.body.acts)
+        (sym (leaving.registers_after setting roomy s c b counted from at)) on
 
     -- in the host's page no funclet begins
     silent : back < 0x100000000 → Comes t fs n s [] after
@@ -93,12 +90,12 @@ module _ (setting : Setting) (roomy : HaveRoom setting.program) where
       abbrev waiting : List Item
       waiting = Searches exception resumption asked rest ∷ Waits w ∷ below
 
-      on_top : IsSearchOnTop (context_below back top rest_of_context) b.body.is
+      on_top : IsSearchOnTop (context_below back top b.body.others) b.body.is
       on_top =
           let is_there = (subst (λ ys. On t fs program p s.memory
-          (context_below back top rest_of_context) b.body.is ys b.body.acts) under
+          (context_below back top b.body.others) b.body.is ys b.body.acts) under
           rest_of_list).is_there in
-          search_on_top t fs program p s.memory (context_below back top rest_of_context) b.body.is
+          search_on_top t fs program p s.memory (context_below back top b.body.others) b.body.is
           exception resumption asked rest (Waits w ∷ below) b.body.acts is_there.stack
           is_there.linked
 
@@ -137,12 +134,12 @@ module _ (setting : Setting) (roomy : HaveRoom setting.program) where
         (under : c.below ≡ Unwinds rest target ∷ Waits f ∷ below)
         (waits : AreWaiting program c.below)
       where
-        unwinding : IsUnwindingOnTop (context_below back top rest_of_context) b.body.is
+        unwinding : IsUnwindingOnTop (context_below back top b.body.others) b.body.is
         unwinding =
             let is_there = (subst (λ ys. On t fs program p s.memory
-            (context_below back top rest_of_context) b.body.is ys b.body.acts) under
+            (context_below back top b.body.others) b.body.is ys b.body.acts) under
             rest_of_list).is_there in
-            unwinding_on_top t fs program p s.memory (context_below back top rest_of_context)
+            unwinding_on_top t fs program p s.memory (context_below back top b.body.others)
             b.body.is rest target (Waits f ∷ below) b.body.acts is_there.stack is_there.linked
 
         pub block_returns : IsMatched t fs program 16 turns_left (Represents setting) s c

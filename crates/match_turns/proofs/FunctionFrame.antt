@@ -1,11 +1,11 @@
 -- A function begins: its frame is below its return address, and on top of what waits.
-use Rattle.std.proofs.Common.{◌≡◌, ℕ, suc, ◌+◌, ◌<◌, ◌≤◌, Bool, true, false, Some, None, Ok, List, [], ◌∷◌, length, refl, arith}
+use Rattle.std.proofs.Common.{◌≡◌, ℕ, suc, ◌+◌, ◌^◌, ◌<◌, ◌≤◌, Bool, true, false, Some, None, Ok, List, [], ◌∷◌, length, refl, arith}
 use Rattle.std.specs.List.{AllByRecursion}
-use Rattle.match_turns.specs.Words.{Event, STACK_END, Memory, Rsp, context_of, State, register, Functions, Funclet, no_exception, Region, LinearProgram, LinearBody, FunctionBody, body_of, Item, Waits, Searches, Unwinds, holds, regions_of, Layout, StackItem, context_below, ImagePlan, Activation, locals_of, HasSpace, below_end, HoldsWords, home_end, BodyWaits, HasPointers, ReturnsTo, FunctionIsAbove, On, IsWellFormed, Sites, IsLayoutIf, IsProgramImage, slots_end, last_temporary, begun}
+use Rattle.match_turns.specs.Words.{Event, STACK_END, Memory, Rsp, context_of, State, register, Functions, Funclet, no_exception, Region, LinearProgram, LinearBody, FunctionBody, body_of, Item, Waits, Searches, Unwinds, holds, regions_of, Layout, StackItem, context_below, ImagePlan, Activation, locals_of, HasSpace, below_end, HoldsWords, home_end, BodyWaits, HasPointers, ReturnsTo, FunctionIsAbove, On, IsWellFormed, Sites, IsLayoutIf, IsProgramImage, slots_end, last_temporary, begun, setting_of}
 use Rattle.virtual_unwind.specs.Undone.{word}
 use Rattle.match_bodies.specs.ProgramImages.{IsMachineMemory}
 use Rattle.match_bodies.specs.Bodies.{RepresentsAt}
-use Rattle.match_turns.proofs.Lemmas.{locals_count}
+use Rattle.match_turns.proofs.Lemmas.{others_of, has_frame, small_others, in_stack, locals_count}
 use Rattle.match_turns.proofs.CallResult.{nothing}
 
 pub same_itself : (rs : List Region) (label : ℕ)
@@ -39,14 +39,19 @@ module _ (t : Functions) (fs : List Funclet) (program : LinearProgram) (p : Imag
       (register z.cpu Rsp + slots_end (p.layout (FunctionBody f)) (p.leaf (FunctionBody f)))
       values)
       (is : List StackItem)
-      (below : (others : List ℕ) → length others ≡ 8
-      → On t fs program p z.memory (context_below back
-      (register z.cpu Rsp + (p.layout (FunctionBody f)).frame + 8) others) is items acts) where
+      (below : On t fs program p z.memory (context_below back
+      (register z.cpu Rsp + (p.layout (FunctionBody f)).frame + 8) (others_of z.cpu.registers)) is
+      items acts) where
     abbrev y : Layout
     y = p.layout (FunctionBody f)
 
     abbrev sp : ℕ
     sp = register z.cpu Rsp
+
+    in_memory : sp + y.frame + 8 < 2 ^ 64
+    in_memory = let h = in_stack t fs program p z.memory (context_below back (sp + y.frame + 8)
+        (others_of z.cpu.registers)) is items acts below.is_there.stack below.is_there.linked in
+        omega arith
 
     abbrev own : Activation
     own = record { base = sp; distance = y.locals; values = values }
@@ -108,7 +113,11 @@ module _ (t : Functions) (fs : List Funclet) (program : LinearProgram) (p : Imag
         home = home;
         back = back;
         returns_to = returns_to;
-        returns = returns;
+        others = others_of z.cpu.registers;
+        eight = refl;
+        small = small_others z well_formed;
+        frame = has_frame (setting_of t fs program p q image) (FunctionBody f) o there z back
+            (others_of z.cpu.registers) in_memory (record { returns = returns; others_are = refl });
         is = is;
         below = below;
       };

@@ -1,14 +1,15 @@
 -- A function returns: to the body that waits for it, or out of `main`.
+use Rattle.match_turns.proofs.KeptRegisters.{kept_moved}
 use Rattle.std.proofs.Common.{◌≡◌, ◌≢◌, ℕ, ◌+◌, ◌<◌, Some, None, List, [], ◌∷◌, length, refl, sym, ap, subst, ◌∙◌, arith, length-append}
-use Rattle.std.specs.Prelude.{get_or, slice_get, replicate}
+use Rattle.std.specs.Prelude.{get_or, slice_get}
 use Rattle.std.proofs.lemmas.List.{append-nil, length-drop}
 use Rattle.std.proofs.lemmas.Option.{slice_get-get_or}
-use Rattle.match_turns.specs.Words.{W32, signed, Rsp, Context, State, register, distance, arrivals, Slot, LinearBody, LinearFunclet, FunctionBody, FuncletBody, body_of, funclet_body, Frame, Item, Waits, Store, Configuration, Finished, Next, with_some, read, instruction_in, left_store, end_body, act, return, Layout, return_code, MachineView, machine, HasBack, with_sp, moved, Returned, context_below, Activation, activations_below, return_of, ReturnsTo, On, store_of, on_top, IsWellFormed, AllKeep, Moves, Exits, HaveRoom, held_below, turns_left, slots_end, Setting, RepresentsAt}
+use Rattle.match_turns.specs.Words.{kept_of, W32, signed, Rsp, Context, State, register, distance, arrivals, Slot, LinearBody, LinearFunclet, FunctionBody, FuncletBody, body_of, funclet_body, Frame, Item, Waits, Store, Configuration, Finished, Next, with_some, read, instruction_in, left_store, end_body, act, return, Layout, return_code, MachineView, machine, HasBack, with_sp, moved, Returned, context_below, Activation, activations_below, return_of, ReturnsTo, On, store_of, on_top, IsWellFormed, AllKeep, Moves, Exits, HaveRoom, held_below, turns_left, slots_end, Setting, RepresentsAt}
 use Rattle.x64_templates.specs.Runs.{Reaches}
 use Rattle.linear_code.specs.declared.instruction.Instruction.TheVariants as instructions
 use Rattle.linear_code.specs.declared.program.FuncletKind.TheVariants as kinds
 use Rattle.source_meaning.specs.declared.ended.Ended.TheVariants as ends
-use Rattle.match_turns.proofs.Lemmas.{reaches_then, sp_moved, keep_then, reaches_silently, reaches_keeps, stays_well_formed, IsCounted, v, slots, same_state, index_of}
+use Rattle.match_turns.proofs.Lemmas.{body_return, reaches_then, sp_moved, keep_then, reaches_silently, reaches_keeps, stays_well_formed, IsCounted, v, slots, same_state, index_of}
 use Rattle.match_stack.proofs.UnwindTargets.{left_activations}
 use Rattle.match_turns.proofs.CallResult.{IsSurrounded, answered}
 use Rattle.match_turns.proofs.CallReturn.{returns_at, resumes}
@@ -64,10 +65,15 @@ module _ (setting : Setting) (roomy : HaveRoom setting.program) where
         (machine (moved (after_view r) (sp + layout.frame + 8)) back run.flags))
         (leaving.result_is setting roomy s c b counted from at x reads) run.comes)
 
-    pub sp_after : register after.cpu Rsp ≡ sp + layout.frame + 8
+    sp_after : register after.cpu Rsp ≡ sp + layout.frame + 8
     sp_after = sym (index_of (with_sp view.rest (sp + layout.frame + 8)) 1)
         ∙ sp_moved view (sp + layout.frame + 8)
         (length-drop 3 s.cpu.registers ∙ (let k = b.well_formed.count in omega arith))
+
+    registers_after : kept_of after.cpu.registers ≡ (sp + layout.frame + 8) ∷ b.body.others
+    registers_after = kept_moved s.cpu.registers (sp + layout.frame + 8) sp_after
+        ∙ ap (λ (os : List ℕ). (sp + layout.frame + 8) ∷ os)
+        (body_return setting s c b.body).others_are
 
     well_formed_after : IsWellFormed after
     well_formed_after = stays_well_formed s after (reaches_keeps n s after reaches) has_back.small
@@ -161,15 +167,12 @@ module _ (setting : Setting) (roomy : HaveRoom setting.program) where
       abbrev pub outer : List Activation
       outer = activations_below c.frame.body b.body.acts
 
-      abbrev rest : List ℕ
-      rest = replicate 8 0
-
       abbrev above : Context
-      above = context_below back (sp + layout.frame + 8) rest
+      above = context_below back (sp + layout.frame + 8) b.body.others
 
       on : On t fs program p s.memory above b.body.is (Waits w ∷ items) outer
       on = subst (λ ws. On t fs program p s.memory above b.body.is ws outer) below
-          (b.body.below rest refl)
+          b.body.below
 
       abbrev pub waiting_for_it : Configuration
       waiting_for_it = on_top w items c.store.memory outer c.events
@@ -190,7 +193,7 @@ module _ (setting : Setting) (roomy : HaveRoom setting.program) where
           let some = (leaving.returns_soon layout from).0 in
           let more = length-append w.temporaries (x ∷ []) in
           let z = resumes setting roomy after w items outer c.store.memory c.events
-          above b.body.is on sp_after well_formed_after
+          above b.body.is on registers_after well_formed_after
           (record {
             data_alone = b.memory.data_alone;
             agrees = b.memory.agrees;

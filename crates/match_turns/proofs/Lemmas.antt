@@ -25,12 +25,14 @@ pub use Rattle.match_runs.proofs.Shadows.{none_below, straight, keep_first, host
 pub use Rattle.match_runs.proofs.Turns.{comes_then, comes_one, comes_nowhere}
 pub use Rattle.match_stack.proofs.DispatchSteps.{answers_continue, finally_returns_unwind, raise_searches, local_unwind_unwinds, acceptance_unwinds}
 pub use Rattle.match_stack.proofs.FuncletEntry.{set_small, few_items}
+pub use Rattle.match_stack.proofs.HostRegisters.{nine_numbers}
 pub use Rattle.match_stack.proofs.ListEnds.{end_within, in_stack}
 pub use Rattle.match_stack.proofs.ListKeeping.{reads_other, kept_by_other_memories, reaches_above, kept_by_stores_below}
 pub use Rattle.match_bodies.proofs.ActivationPlaces.{locals_count, got_before, got_last, activations_are_at}
 pub use Rattle.match_bodies.proofs.ActivationStores.{same_activations, activated}
 pub use Rattle.match_bodies.proofs.BodyCallers.{gives_caller, begin_finds}
-pub use Rattle.match_bodies.proofs.BodyResumption.{IsFront, waits_in_body, frame_size, all_front, no_front}
+pub use Rattle.match_bodies.proofs.BodyFrames.{body_return, below_here, has_frame, frame_with, first_set, small_others}
+pub use Rattle.match_bodies.proofs.BodyResumption.{IsFront, waits_in_body, frame_size, waiting_allocated, all_front, no_front}
 pub use Rattle.match_bodies.proofs.BodyViews.{IsCounted, sp_low, frame_top, room_here, holds_here, slots_here, AsFunction, AsFunclet, kind, is_machine, locals_here}
 pub use Rattle.match_bodies.proofs.CallKeeping.{calls_keep, CalleeBegins, callee_begins, thunk_keeps}
 pub use Rattle.match_bodies.proofs.ChainKeeping.{reaches_keeps, stays_well_formed, Keeps, keeps_then, enters_keeps}
@@ -39,6 +41,7 @@ pub use Rattle.match_bodies.proofs.EntryKeeping.{arguments_plain, plain_both, pa
 pub use Rattle.match_bodies.proofs.FrameMaking.{frame_there, making_steps}
 pub use Rattle.match_bodies.proofs.InstructionEffects.{others_of}
 pub use Rattle.match_bodies.proofs.NextInstruction.{Ran, represents_next, returns, new_on, further}
+pub use Rattle.match_bodies.proofs.OwedCallers.{finds_return}
 pub use Rattle.match_bodies.proofs.PlainSteps.{GoesInside, from_here, label_small, moves_to, at_other, is_read}
 pub use Rattle.match_bodies.proofs.ProgramKeeping.{program_stays, KeepsImage}
 pub use Rattle.match_bodies.proofs.ReturnAddresses.{label_found, argument_found, template_there}
@@ -47,7 +50,6 @@ pub use Rattle.match_bodies.proofs.ShadowTurns.{gives_here}
 pub use Rattle.match_bodies.proofs.SilentTurns.{reaches_silently, enters_silently, program_reaches, KeepsCode, program_kept, reaches_comes, funclet_makes, silent_here}
 pub use Rattle.match_bodies.proofs.SlotPlaces.{KeepsSlot, stack_is_reserved, SlotsPlaced}
 pub use Rattle.match_bodies.proofs.SlotWrites.{locals_after, temporaries_after, FitsAfter, one_more, set_length, local_after}
-pub use Rattle.match_bodies.proofs.StackContexts.{on_moved}
 pub use Rattle.match_bodies.proofs.StackTop.{body_on_top, OnTop}
 pub use Rattle.match_bodies.proofs.StackWalks.{on_stack, stack_rises, keep_then}
 pub use Rattle.match_bodies.proofs.StackWords.{may_read_written, word_is, word_of}

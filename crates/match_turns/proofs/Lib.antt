@@ -59,6 +59,7 @@ pub mod ServiceReturn
 pub mod ServiceTurns
 pub mod ServiceSteps
 pub mod WaitingBodies
+pub mod KeptRegisters
 pub mod BodySavedState
 pub mod BuiltInRequest
 pub mod RaiseCall

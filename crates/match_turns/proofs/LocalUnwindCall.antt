@@ -1,10 +1,11 @@
 -- A local unwind: the host is asked with the body's own frame and the label's address, and saves
 -- the state after the call.
+use Rattle.match_turns.proofs.KeptRegisters.{kept_back_set}
 use Rattle.std.proofs.Common.{◌≡◌, ℕ, zero, ◌+◌, ◌-◌, ◌%◌, ◌^◌, ◌<◌, ◌≤◌, Bool, true, false, List, [], ◌∷◌, length, Option, Some, None, Ok, refl, sym, ap, subst, ◌∙◌, arith, inl, length-set}
 use Rattle.std.specs.Prelude.{slice_get}
 use Rattle.std.proofs.lemmas.List.{length-drop}
 use Rattle.std.proofs.lemmas.Option.{slice_get_within}
-use Rattle.match_turns.specs.Words.{W64, IMAGE_BASE, IMAGE_RANGE_END, STACK_START, STACK_END, address_of, Memory, loaded, Rcx, Rsp, Instr, Context, Cpu, context_of, State, register, Functions, Funclet, arrived, unwound_locally, Local, Instruction, LinearProgram, LinearBody, Frame, Item, Waits, Configuration, body_of, local_unwind, act, instruction_at, exec, Layout, size, sizes, move, IsNear, MachineView, machine, pushed, HasCode, StackItem, Framed, Leaf, ImagePlan, InCode, Activation, SameRegions, Aimed, Linked, AimedHere, KeepsAbove, IsWellFormed, AllKeep, Comes, HasRule, IsMatched, LandsWell, callers, links_of, turns_left, IsWellMade, IsKnown, KnownNext, turns_per_step, FlagsFit, NoneLanded, Setting, setting_of, InBody, IsMachineMemory, IsResumed, RepresentsAt, Represents, modrm, address_to, local_unwind_code, LocalUnwindsAreMatched}
+use Rattle.match_turns.specs.Words.{kept_of, W64, IMAGE_BASE, IMAGE_RANGE_END, STACK_START, STACK_END, address_of, Memory, loaded, Rcx, Rsp, Instr, Context, Cpu, context_of, State, register, Functions, Funclet, arrived, unwound_locally, Local, Instruction, LinearProgram, LinearBody, Frame, Item, Waits, Configuration, body_of, local_unwind, act, instruction_at, exec, Layout, size, sizes, move, IsNear, MachineView, machine, pushed, HasCode, StackItem, Framed, Leaf, ImagePlan, InCode, Activation, SameRegions, Aimed, Linked, AimedHere, KeepsAbove, IsWellFormed, AllKeep, Comes, HasRule, IsMatched, LandsWell, callers, links_of, turns_left, IsWellMade, IsKnown, KnownNext, turns_per_step, FlagsFit, NoneLanded, Setting, setting_of, InBody, IsMachineMemory, IsResumed, RepresentsAt, Represents, modrm, address_to, local_unwind_code, LocalUnwindsAreMatched}
 use Rattle.x64_templates.specs.Runs.{Reaches}
 use Rattle.host_layout.specs.declared.service.Service.TheVariants as services
 use Rattle.x64_instr.specs.declared.instruction.Instr.TheVariants as instrs
@@ -302,6 +303,13 @@ module _ (setting : Setting) (made : IsWellMade setting.program setting.plan)
     sp_saved = pushing.sp_saved given sp back low_enough high_enough b.memory.data_alone
         b.memory.stack service s.cpu.flags back_small many
 
+    sp_there : register state.cpu Rsp ≡ sp - 8
+    sp_there = pushing.sp_there given sp back low_enough high_enough b.memory.data_alone
+        b.memory.stack service s.cpu.flags back_small many
+
+    registers_saved : kept_of saved.registers ≡ kept_of s.cpu.registers
+    registers_saved = kept_back_set s.cpu.registers (sp - 8) _ sp sp_there sp_saved
+
     well_formed_saved : IsWellFormed (record { cpu = saved; memory = state.memory })
     well_formed_saved =
         let raised = (register state.cpu Rsp + 8) % 2 ^ 64 % 2 ^ 64 in
@@ -320,7 +328,8 @@ module _ (setting : Setting) (made : IsWellMade setting.program setting.plan)
         b.memory.stack)
 
     abbrev at_return : InBody setting (record { cpu = saved; memory = s.memory }) c
-    at_return = in_body t fs program p q s c b saved (c.frame.next + 1) c.frame.temporaries sp_saved
+    at_return = in_body t fs program p q s c b saved (c.frame.next + 1) c.frame.temporaries
+        registers_saved
         (record { low = inside.low; high = inside.high }) same_regions back_small
         (all_front s.memory c.frame.temporaries)
 

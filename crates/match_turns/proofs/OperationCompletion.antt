@@ -1,12 +1,12 @@
 -- Within an operation that gives a number, the rest of its template completes the step.
 use Rattle.std.proofs.Common.{◌≡◌, ℕ, zero, ◌+◌, ◌*◌, ◌^◌, ◌<◌, ◌≤◌, Option, Some, None, List, [], ◌∷◌, length, refl, sym, ap, subst, ◌∙◌, arith, length-append}
-use Rattle.std.specs.Prelude.{slice_index, slice_set}
+use Rattle.std.specs.Prelude.{slice_set}
 use Rattle.std.proofs.lemmas.List.{append-nil}
 use Rattle.std.proofs.lemmas.Option.{slice_get_within}
-use Rattle.match_turns.specs.Words.{Memory, Rax, Rcx, Rsp, Instr, State, register, Gives, Operation, Slot, Temporary, Layout, Instruction, BodyState, with_slot, HasSlots, LinearBody, Configuration, Next, act, written, exec, sizes, operands_code, finish_code, machine, ReachesBody, FramePlace, locals_of, AllKeep, Comes, HasRule, Moves, turns_left, IsWellMade, IsKnown, seen_by_templates, counts_of, with_values, ComesTo, Setting, RepresentsAt, WorksOn}
+use Rattle.match_turns.specs.Words.{Memory, Rax, Rcx, Instr, State, register, Gives, Operation, Slot, Temporary, Layout, Instruction, BodyState, with_slot, HasSlots, LinearBody, Configuration, Next, act, written, exec, sizes, operands_code, finish_code, machine, ReachesBody, FramePlace, locals_of, AllKeep, Comes, HasRule, Moves, turns_left, IsWellMade, IsKnown, seen_by_templates, counts_of, with_values, ComesTo, Setting, RepresentsAt, WorksOn}
 use Rattle.linear_code.specs.declared.instruction.Instruction.TheVariants as instructions
 use Rattle.linear_machine.specs.Frames as linear
-use Rattle.match_turns.proofs.Lemmas.{compute_length, reaches_silently, locals_count, activated, IsCounted, is_machine, Keeps, reaches_keeps, stays_well_formed, Leaves, further, Ran, represents_next, kept_by_rest, is_here, is_after, ends_at, RunsKeep, finish_keeps, Surroundings, dropped, has_slots, next_address, silent_at, locals_after, temporaries_after, FitsAfter, one_more, at_other, label_small, stored, writes, fits_when_read, leaves_stored, held_here, goes_inside}
+use Rattle.match_turns.proofs.Lemmas.{compute_length, reaches_silently, locals_count, activated, IsCounted, is_machine, Keeps, reaches_keeps, stays_well_formed, Leaves, further, Ran, represents_next, kept_by_rest, is_here, is_after, ends_at, RunsKeep, finish_keeps, Surroundings, has_slots, next_address, silent_at, locals_after, temporaries_after, FitsAfter, one_more, at_other, label_small, stored, writes, fits_when_read, leaves_stored, held_here, goes_inside}
 use Rattle.x64_templates.specs.Runs.{Finished}
 use Rattle.match_bodies.proofs.BodyViews.{placed}
 use Rattle.match_turns.proofs.OperationMeaning.{acts_as}
@@ -83,9 +83,6 @@ module _ (setting : Setting) (made : IsWellMade setting.program setting.plan)
       keeps : Keeps s u
       keeps = reaches_keeps n s u r.comes
 
-      sp : register u.cpu Rsp ≡ register s.cpu Rsp
-      sp = ap (λ (xs : List ℕ). slice_index xs 1) r.rest ∙ dropped s.cpu.registers
-
       ran : Ran setting old c begins counted u d values ts
       ran = record {
         changed = record {
@@ -98,7 +95,7 @@ module _ (setting : Setting) (made : IsWellMade setting.program setting.plan)
           };
         };
         holds = r.holds;
-        stack = sp;
+        kept = kept_by_rest r.after.rest s.cpu.registers r.rest;
         leaves = leaves;
       }
 

@@ -1,16 +1,15 @@
 -- Within an operation: the body is as where the operation's instruction begins, and the
 -- operation is made on what memory holds.
-use Rattle.std.proofs.Common.{◌≡◌, ℕ, ◌+◌, ◌^◌, ◌<◌, ◌≤◌, Bool, true, false, List, [], ◌∷◌, length, Option, Some, None, Ok, refl, sym, ap, subst, ◌∙◌, arith}
-use Rattle.std.specs.Prelude.{slice_get}
+use Rattle.std.proofs.Common.{◌≡◌, ℕ, ◌+◌, ◌^◌, ◌<◌, ◌≤◌, Bool, true, false, List, [], ◌∷◌, length, Option, Some, None, refl, sym, ap, subst, ◌∙◌, arith}
+use Rattle.std.specs.Prelude.{slice_get, slice_index}
 use Rattle.std.specs.List.{AllByRecursion}
 use Rattle.std.proofs.lemmas.Option.{slice_get_within}
-use Rattle.match_turns.specs.Words.{STACK_END, Rax, Rcx, Rsp, Cpu, State, register, Functions, Funclet, Operation, OperationResult, performed, is_reserved, Slot, Temporary, Instruction, BodyState, Region, LinearProgram, LinearBody, body_of, Configuration, holds, regions_of, is_constant, operand, Layout, finish_code, MachineView, HasCode, FramePlace, context_below, ImagePlan, InCode, activations_below, home_end, below_end, HoldsWords, HasActivation, HasPointers, HasSpace, On, Sites, view_of, slots_end, last_temporary, IsWellMade, IsKnown, seen_by_templates, ComesTo, Setting, RepresentsAt, WorksOn}
-use Rattle.virtual_unwind.specs.Undone.{word}
+use Rattle.match_turns.specs.Words.{STACK_END, Rax, Rcx, Rsp, Cpu, kept_of, State, register, Functions, Funclet, Operation, OperationResult, performed, is_reserved, Slot, Temporary, Instruction, BodyState, Region, LinearProgram, LinearBody, body_of, Configuration, holds, regions_of, is_constant, operand, Layout, finish_code, MachineView, HasCode, FramePlace, context_below, ImagePlan, InCode, activations_below, home_end, below_end, HoldsWords, HasActivation, HasPointers, HasSpace, On, Sites, view_of, slots_end, last_temporary, IsWellMade, IsKnown, seen_by_templates, ComesTo, Setting, RepresentsAt, WorksOn, frame_of}
 use Rattle.c_operations.specs.declared.operation.Operation.TheVariants as operations
 use Rattle.linear_code.specs.declared.instruction.Instruction.TheVariants as instructions
 use Rattle.x64_templates.specs.Implements.{IsReady, HasOperands}
 use Rattle.x64_templates.specs.Runs.{Finished}
-use Rattle.match_turns.proofs.Lemmas.{finish_run, first_in_code, IsCounted, room_here, holds_here, code, frame, slots, has_slots, sp_is, Surroundings, same_constant, some_is, label_in, counted_here, around_here, code_at}
+use Rattle.match_turns.proofs.Lemmas.{frame_with, finish_run, first_in_code, IsCounted, room_here, holds_here, code, frame, slots, has_slots, sp_is, Surroundings, same_constant, some_is, label_in, counted_here, around_here, code_at}
 use Rattle.match_bodies.specs.Bodies.{InBody}
 use Rattle.match_turns.proofs.OperationMeaning.{nothing_landed}
 use Rattle.match_turns.proofs.OperationCode.{finish_is_at}
@@ -24,11 +23,13 @@ all_same label (r ∷ rs) = (refl, all_same label rs)
 
 pub in_body_at : (t : Functions) (fs : List Funclet) (program : LinearProgram) (p : ImagePlan)
     (q : Sites) (s : State) (c : Configuration) (cpu : Cpu)
-    → InBody t fs program p q s c → register cpu Rsp ≡ register s.cpu Rsp
+    → InBody t fs program p q s c → kept_of cpu.registers ≡ kept_of s.cpu.registers
     → InCode p c.frame.body c.frame.next cpu.rip → cpu.rip < 2 ^ 64
     → InBody t fs program p q (record { cpu = cpu; memory = s.memory }) c
-in_body_at t fs program p q s c cpu b sp inside small =
+in_body_at t fs program p q s c cpu b registers inside small =
     let m = s.memory in
+    let sp : register cpu Rsp ≡ register s.cpu Rsp = ap (λ (ks : List ℕ). slice_index ks 0)
+    registers in
     let y = p.layout c.frame.body in
     let leaf = p.leaf c.frame.body in
     record {
@@ -54,11 +55,13 @@ in_body_at t fs program p q s c cpu b sp inside small =
       home = λ e. subst (λ x. x + home_end ≤ STACK_END) (sym sp) (b.home e);
       back = b.back;
       returns_to = b.returns_to;
-      returns = subst (λ x. word m (x + y.frame) ≡ Ok b.back) (sym sp) b.returns;
+      others = b.others;
+      eight = b.eight;
+      small = b.small;
+      frame = frame_with s cpu leaf (frame_of p c.frame.body b.back b.others) registers b.frame;
       is = b.is;
-      below = λ others n. subst (λ x. On t fs program p m
-          (context_below b.back (x + y.frame + 8) others) b.is c.below
-          (activations_below c.frame.body b.acts)) (sym sp) (b.below others n);
+      below = subst (λ x. On t fs program p m (context_below b.back (x + y.frame + 8) b.others) b.is
+          c.below (activations_below c.frame.body b.acts)) (sym sp) b.below;
     }
 
 -- what an operation needs beside its operands is in RAX and RDX

@@ -1,10 +1,10 @@
 -- From where an operation begins to where its operands are in their registers.
 use Rattle.std.proofs.Common.{◌≡◌, ℕ, ◌+◌, ◌^◌, ◌<◌, ◌≤◌, false, Bool, List, [], ◌++◌, length, Some, refl, sym, ap, subst, ◌∙◌, arith, length-append}
-use Rattle.std.specs.Prelude.{slice_get, slice_index}
-use Rattle.match_turns.specs.Words.{Memory, Rax, Rcx, Rsp, Instr, State, register, distance, arrivals, Operation, Slot, Temporary, Instruction, HasSlots, LinearBody, Configuration, is_constant, instruction_at, Layout, sizes, fetch, operands_code, finish_code, machine, InCode, IsWellFormed, AllKeep, Comes, LeadsTo, view_of, WorksAgain, IsWellMade, IsKnown, counts_of, Setting, setting_of, RepresentsAt, WorksOn, before, fetch_turns, OperandsAreFetched}
+use Rattle.std.specs.Prelude.{slice_get}
+use Rattle.match_turns.specs.Words.{Memory, Rax, Rcx, Instr, kept_of, State, distance, arrivals, Operation, Slot, Temporary, Instruction, HasSlots, LinearBody, Configuration, is_constant, instruction_at, Layout, sizes, fetch, operands_code, finish_code, machine, InCode, IsWellFormed, AllKeep, Comes, LeadsTo, view_of, WorksAgain, IsWellMade, IsKnown, counts_of, Setting, setting_of, RepresentsAt, WorksOn, before, fetch_turns, OperandsAreFetched}
 use Rattle.x64_templates.specs.Runs.{Reaches}
 use Rattle.linear_code.specs.declared.instruction.Instruction.TheVariants as instructions
-use Rattle.match_turns.proofs.Lemmas.{before_length, code_split, Begun, operands_run, reaches_silently, IsCounted, room_here, holds_here, kept_by_rest, is_here, operands_keep, code, frame, slots, v, dropped, same_state, template_here, has_slots, next_address, sp_is, Surroundings, reaches_keeps, stays_well_formed, is_read, counted_here, around_here, code_at, ready_here}
+use Rattle.match_turns.proofs.Lemmas.{before_length, code_split, Begun, operands_run, reaches_silently, IsCounted, room_here, holds_here, kept_by_rest, is_here, operands_keep, code, frame, slots, v, same_state, template_here, has_slots, next_address, sp_is, Surroundings, reaches_keeps, stays_well_formed, is_read, counted_here, around_here, code_at, ready_here}
 use Rattle.lowering_invariants.specs.Ready as ready
 use Rattle.match_turns.proofs.OperationCode.{some_finish, whole_size, finish_is_at, silent_within}
 use Rattle.match_turns.proofs.OperationInProgress.{in_body_at, ready_same}
@@ -115,8 +115,8 @@ module _ (setting : Setting) (made : IsWellMade setting.program setting.plan)
   well_formed : IsWellFormed u
   well_formed = stays_well_formed s u (reaches_keeps n s u comes) small b.well_formed
 
-  sp : register u.cpu Rsp ≡ register s.cpu Rsp
-  sp = ap (λ (xs : List ℕ). slice_index xs 1) begun.rest ∙ dropped s.cpu.registers
+  registers : kept_of u.cpu.registers ≡ kept_of s.cpu.registers
+  registers = kept_by_rest begun.stopped.rest s.cpu.registers begun.rest
 
   -- the operands are the temporaries
   has_temporary : (i x : ℕ) → (slots setting made.room s c b counted).slots (Temporary i) ≡ x
@@ -148,7 +148,7 @@ module _ (setting : Setting) (made : IsWellMade setting.program setting.plan)
     again = again;
     well_formed = well_formed;
     memory = b.memory;
-    body = in_body_at t fs program p q s c u.cpu b.body sp inside small;
+    body = in_body_at t fs program p q s c u.cpu b.body registers inside small;
   }
 
   -- each turn keeps the shadow
@@ -157,8 +157,7 @@ module _ (setting : Setting) (made : IsWellMade setting.program setting.plan)
       operands_keep setting made.room s c b counted around to o (Temporary first) (Temporary second)
       at_here u comes (record {
         rip = at_end;
-        registers = kept_by_rest begun.stopped.rest s.cpu.registers
-            begun.rest;
+        registers = registers;
         is_there = is_here setting s c b counted;
       })
 

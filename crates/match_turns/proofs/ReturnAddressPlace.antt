@@ -1,8 +1,8 @@
 -- Where a body begins an instruction, and where a funclet is called, the list is above the return
 -- address.
-use Rattle.std.proofs.Common.{ℕ, ◌+◌, ◌≤◌, List, refl, sym, subst, arith}
+use Rattle.std.proofs.Common.{ℕ, ◌+◌, ◌≤◌, List, sym, subst, arith}
 use Rattle.match_turns.specs.Words.{STACK_END, Rsp, State, register, Item, Configuration, IsStack, context_below, Activation, Setting, RepresentsAt}
-use Rattle.match_turns.proofs.Lemmas.{others_of, Beneath, beneath_by, IsCounted, frame_top}
+use Rattle.match_turns.proofs.Lemmas.{others_of, body_return, below_here, Beneath, beneath_by, IsCounted, frame_top}
 use Rattle.match_turns.proofs.FuncletFrame.{ArrivesBelow}
 
 module _ (setting : Setting) where
@@ -18,8 +18,9 @@ module _ (setting : Setting) where
         b.body.is
     begins_beneath =
         let h = frame_top setting s c b counted in
-        beneath_by t s top_of b.body.back b.body.is b.well_formed.count b.body.returns
-        (b.body.below (others_of s.cpu.registers) refl).is_there.stack (omega arith)
+        beneath_by t s top_of b.body.back b.body.is b.well_formed.count
+        (body_return setting s c b.body).returns (below_here setting s c b.body).is_there.stack
+        (omega arith)
         b.memory.data_alone.no_code
 
   -- that of a funclet
@@ -30,7 +31,7 @@ module _ (setting : Setting) where
       a.is
   arrives_beneath s k activation first items acts a high =
       let e = a.stack in
-      let on = a.on (others_of s.cpu.registers) refl in
+      let on = a.on in
       beneath_by t s (register s.cpu Rsp) a.back a.is a.well_formed.count a.returns
       (subst (λ n. IsStack t s.memory (context_below a.back n (others_of s.cpu.registers)) a.is)
       (sym e) on.is_there.stack) (omega arith) on.data_alone.no_code

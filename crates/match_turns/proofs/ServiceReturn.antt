@@ -1,62 +1,26 @@
 -- A service returns: its result goes to the temporary of the first argument, and the next
 -- instruction begins.
-use Rattle.std.proofs.Common.{◌≡◌, ℕ, zero, suc, ◌+◌, ◌-◌, ◌%◌, ◌^◌, ◌<◌, ◌≤◌, false, List, [], ◌∷◌, ◌++◌, length, take, drop, get_or, set, Option, Some, None, refl, sym, ap, subst, ◌∙◌, arith, inl, inr}
-use Rattle.std.specs.Prelude.{◌⊎◌, slice_get, slice_index}
+use Rattle.std.proofs.Common.{◌≡◌, ℕ, zero, suc, ◌+◌, ◌-◌, ◌%◌, ◌^◌, ◌<◌, ◌≤◌, false, List, [], ◌∷◌, ◌++◌, length, take, drop, set, Option, Some, None, refl, sym, ap, subst, ◌∙◌, arith}
+use Rattle.std.specs.Prelude.{slice_get}
 use Rattle.std.proofs.lemmas.List.{append-nil, length-set}
 use Rattle.std.proofs.lemmas.Option.{slice_get_within}
 use Rattle.match_turns.specs.Words.{Event, Memory, Rsp, Instr, Context, kept_of, State, register, distance, arrivals, Continues, turn, BuiltIn, Temporary, BodyState, with_slot, LinearBody, Configuration, Next, act, sizes, keep, call, return_at, begin_call, clear_result, MachineView, machine, AreSmall, sp_of, ReachesBody, locals_of, KeepsAbove, KeepsStack, WalkGives, KeepsShadow, AllKeep, Comes, Moves, HaveRoom, turns_left, counts_of, with_values, OwnerHasFrame, Setting, HasProgram, IsMachineMemory, RepresentsAt, arguments_code}
 use Rattle.linear_code.specs.declared.instruction.Instruction.TheVariants as instructions
 use Rattle.linear_machine.specs.Frames as linear
-use Rattle.match_turns.proofs.Lemmas.{sizes_append, call_size, index_other, call_ends, keep_flow, comes_then, silent_here, reaches_silently, program_reaches, locals_count, same_activations, IsCounted, room_here, holds_here, locals_here, Keeps, keeps_then, reaches_keeps, stays_well_formed, Ran, represents_next, kept_by_rest, caller_here, beyond_here, is_here, is_after, ends_at, ends_gives, IsPast, one_piece, past_ends, frame, slots, has_slots, silent_at, dropped, Surroundings, one_more, label_small, leaves_stored}
+use Rattle.match_turns.proofs.Lemmas.{sizes_append, call_size, call_ends, keep_flow, comes_then, silent_here, reaches_silently, program_reaches, locals_count, same_activations, IsCounted, room_here, holds_here, locals_here, Keeps, keeps_then, reaches_keeps, stays_well_formed, Ran, represents_next, kept_by_rest, caller_here, beyond_here, is_here, is_after, ends_at, ends_gives, IsPast, one_piece, past_ends, frame, slots, has_slots, silent_at, dropped, Surroundings, one_more, label_small, leaves_stored}
 use Rattle.match_bodies.proofs.BodyViews.{placed}
 use Rattle.match_turns.proofs.BuiltInRequest.{clear_size}
 use Rattle.match_turns.proofs.ReturnAddressPush.{keeps_above, sp_there as returned_sp, sp_saved}
 use Rattle.match_turns.proofs.BodyOtherMemory.{elsewhere, source_elsewhere, represents_elsewhere, same_activations as same_acts, same_code}
 use Rattle.match_turns.proofs.ServiceCall.{sp, given, back, at_service, flags_there, low, top, many, next_is, back_small, reaches, comes_there, live_there, returns, code_after}
-use Rattle.match_turns.proofs.ServiceShadow.{is_elsewhere, service_keeps, set_back}
+use Rattle.match_turns.proofs.ServiceShadow.{is_elsewhere, service_keeps}
+use Rattle.match_turns.proofs.KeptRegisters.{set_back, saved_kept}
 
 -- numbers of 64 bits, with another of 64 bits among them
 small_set : (xs : List ℕ) (i v : ℕ) → AreSmall xs → v < 2 ^ 64 → AreSmall (set xs i v)
 small_set [] i v h lt = tt
 small_set (x ∷ xs) zero v h lt = (lt, h.1)
 small_set (x ∷ xs) (suc i) v h lt = (h.0, small_set xs i v h.1 lt)
-
--- of registers by their numbers from 3 on, RSP is set back, and R8 and R9 were arguments
-saved_kept : (xs : List ℕ) (third fourth low sp old : ℕ)
-    → get_or (set (set (set (set xs 5 third) 6 fourth) 1 low) 1 sp) 1 0 ≡ old
-    → old ≡ slice_index xs 1 → kept_of (0 ∷ 0 ∷ 0
-    ∷ set (set (set (set xs 5 third) 6 fourth) 1 low) 1 sp) ≡ kept_of (0 ∷ 0 ∷ 0 ∷ xs)
-saved_kept xs third fourth low sp old back was =
-    let all = set (set (set (set xs 5 third) 6 fourth) 1 low) 1 sp in
-    let same = λ (k : ℕ) (a : 1 ≡ k → ⊥) (b : 5 ≡ k → ⊥) (c : 6 ≡ k → ⊥).
-    index_other (set (set (set xs 5 third) 6 fourth) 1 low) 1 k sp a
-    ∙ index_other (set (set xs 5 third) 6 fourth) 1 k low a
-    ∙ index_other (set xs 5 third) 6 k fourth c ∙ index_other xs 5 k third b in
-    let rsp = back ∙ was in
-    let at = λ (k : ℕ) (h : (k < 1) ⊎ ((1 < k) × (k < 5)) ⊎ (6 < k)). same k
-    (λ e. absurd (elim h [
-      | inl l ↦ omega arith
-      | inr (inl l) ↦ (let z = l.0 in omega arith)
-      | inr
-          (inr l) ↦ omega arith
-    ]))
-    (λ e. absurd (elim h [
-      | inl l ↦ omega arith
-      | inr (inl l) ↦ (let z = l.1 in omega arith)
-      | inr
-          (inr l) ↦ omega arith
-    ]))
-    (λ e. absurd (elim h [
-      | inl l ↦ omega arith
-      | inr (inl l) ↦ (let z = l.1 in omega arith)
-      | inr
-          (inr l) ↦ omega arith
-    ])) in
-    λ j. rsp j ∷ at 0 (inl (omega arith)) j ∷ at 2 (inr (inl (omega arith, omega arith))) j
-    ∷ at 3 (inr (inl (omega arith, omega arith))) j
-    ∷ at 4 (inr (inl (omega arith, omega arith))) j ∷ at 9 (inr (inr (omega arith))) j
-    ∷ at 10 (inr (inr (omega arith))) j ∷ at 11 (inr (inr (omega arith))) j
-    ∷ at 12 (inr (inr (omega arith))) j ∷ []
 
 nothing : (landed : Option ℕ) (code : ℕ) → landed ≡ None → landed ≡ Some code → ⊥
 nothing landed code e h = let z : ◌≡◌ {A = Option ℕ} None (Some code) = sym e ∙ h in cc
@@ -248,8 +212,14 @@ module _ (setting : Setting) (roomy : HaveRoom setting.program) where
             small = given_small;
           }) (reaches_keeps 1 u after run.comes)
 
-      stack : register after.cpu Rsp ≡ called_from
-      stack = ap (λ (xs : List ℕ). slice_index xs 1) run.rest ∙ sp_is x m
+      -- RSP and the nonvolatile registers are those of the body before the call
+      kept_back : kept_of u.cpu.registers ≡ kept_of s.cpu.registers
+      kept_back = saved_kept (drop 3 s.cpu.registers) _ _ (called_from - 8) sp_after called_from
+          (sp_is x m) (sym (dropped s.cpu.registers))
+          ∙ kept_by_rest (drop 3 s.cpu.registers) s.cpu.registers refl
+
+      kept_after : kept_of after.cpu.registers ≡ kept_of s.cpu.registers
+      kept_after = ap (λ (rest : List ℕ). kept_of (0 ∷ 0 ∷ 0 ∷ rest)) run.rest ∙ kept_back
 
       abbrev values : List ℕ
       values = linear.locals_of c.store c.frame.activation
@@ -261,7 +231,7 @@ module _ (setting : Setting) (roomy : HaveRoom setting.program) where
       ran = record {
         changed = record { changes = run.changes; keeps = keeps_registers };
         holds = run.holds;
-        stack = stack;
+        kept = kept_after;
         leaves = (let r = room_slots in leaves_stored setting roomy earlier calling begins counted
             around_earlier (Temporary first) x source held_earlier fits (omega arith));
       }
@@ -303,12 +273,6 @@ module _ (setting : Setting) (roomy : HaveRoom setting.program) where
       pub silent_back : arrivals u.cpu (distance t.base u.cpu.rip) 1 fs ≡ []
       silent_back = silent_here t fs program p q image u run.comes.0 u.cpu run.comes.1 memory.code
 
-      -- RSP and the nonvolatile registers are those of the body before the call
-      kept_back : kept_of u.cpu.registers ≡ kept_of s.cpu.registers
-      kept_back = saved_kept (drop 3 s.cpu.registers) _ _ (called_from - 8) sp_after called_from
-          (sp_is x m) (sym (dropped s.cpu.registers))
-          ∙ kept_by_rest (drop 3 s.cpu.registers) s.cpu.registers refl
-
       -- up to where the service returns to
       abbrev pub call_code : List Instr
       call_code = clear_result ∷ begin_call (p.layout c.frame.body) first
@@ -341,9 +305,8 @@ module _ (setting : Setting) (roomy : HaveRoom setting.program) where
           let r = room_slots in
           let i = instructions.CallBuiltIn f first in
           let room = room_here setting earlier calling begins counted in
-          let kept = ap (λ (rest : List ℕ). kept_of (0 ∷ 0 ∷ 0 ∷ rest)) run.rest ∙ kept_back in
           let ends = ends_at setting earlier calling begins counted after
-          (c.frame.next + 1) rip_is inside kept
+          (c.frame.next + 1) rip_is inside kept_after
           (is_after setting earlier calling begins counted after d values ts ran
           around_earlier.caller around_earlier.owner) in
           one_piece setting earlier calling begins counted i at_earlier (λ h. h) call_code

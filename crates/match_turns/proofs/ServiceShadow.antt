@@ -1,11 +1,11 @@
 -- A service that has been called returns: its own call is over, and the walk gives the callers of
 -- the body again.
-use Rattle.std.proofs.Common.{◌≡◌, ℕ, ◌+◌, ◌^◌, ◌<◌, ◌≤◌, List, [], ◌∷◌, drop, Ok, Err, refl, ap, subst, ◌∙◌, arith}
-use Rattle.std.specs.Prelude.{Result, slice_index, slice_set, if◌then◌else◌}
-use Rattle.match_turns.specs.Words.{W64, RefusedAccess, address_of, service_at, in_host_page, Memory, executable, loaded, Rsp, leading, Context, kept_of, context_of, State, register, hosted, execute, step, rsp, distance, readable, filter_return, finally_return, arrivals, BuiltIn, Put, Protect, RaiseException, Configuration, state, activations_below, KeepsStack, drop_below, started, served, GivesCallers, WalkGives, KeepsShadow, caller_above, service_of, Setting, HasProgram, RepresentsAt}
+use Rattle.std.proofs.Common.{◌≡◌, ℕ, ◌+◌, ◌^◌, ◌<◌, ◌≤◌, List, [], ◌∷◌, Ok, Err, refl, ap, subst, ◌∙◌, arith}
+use Rattle.std.specs.Prelude.{Result, if◌then◌else◌}
+use Rattle.match_turns.specs.Words.{W64, RefusedAccess, address_of, service_at, in_host_page, Memory, executable, loaded, Rsp, leading, Context, context_of, State, register, hosted, execute, step, rsp, distance, readable, filter_return, finally_return, arrivals, BuiltIn, Put, Protect, RaiseException, Configuration, state, activations_below, KeepsStack, drop_below, started, served, GivesCallers, WalkGives, KeepsShadow, caller_above, service_of, Setting, HasProgram, RepresentsAt}
 use Rattle.virtual_unwind.specs.Undone.{word}
 use Rattle.x64_machine.specs.declared.outcome.Stop.TheVariants as stops
-use Rattle.match_turns.proofs.Lemmas.{index_other, reads_other, kept_by_other_memories, none_below, one_below, host_keeps, on_stack, gives_caller, IsCounted, sp_low, frame_top, kept_here, caller_here, Below}
+use Rattle.match_turns.proofs.Lemmas.{finds_return, body_return, below_here, reads_other, kept_by_other_memories, none_below, one_below, host_keeps, on_stack, gives_caller, IsCounted, sp_low, frame_top, caller_here, Below}
 use Rattle.match_turns.proofs.BodyOtherMemory.{higher_stack}
 
 -- at a service of a built-in function the host continues
@@ -65,16 +65,16 @@ module _ (setting : Setting) where
         code = keeps.code;
         no_more_code = keeps.no_more_code;
       }) (omega arith) (omega arith) in
-      let kept = kept_here setting s c b counted in
       let caller = caller_here setting s c b counted in
+      let below = body_return setting s c b.body in
       let list = kept_by_other_memories t fs program p s.memory m caller b.body.is c.below
       (activations_below c.frame.body b.body.acts)
       (higher_stack s.memory m sp (sp + frame + 8) (omega arith) keeps) (omega arith)
-      (b.body.below (drop 1 kept) refl).is_there in
+      (below_here setting s c b.body).is_there in
       record {
         program_there = has;
         returns = reads.words (sp + frame) b.body.back (omega arith)
-            (omega arith) b.body.returns;
+            (omega arith) below.returns;
         beyond = on_stack t m caller 0 b.body.is list.stack;
       }
 
@@ -93,19 +93,10 @@ module _ (setting : Setting) where
       let flat : register s.cpu Rsp + 0 ≡ register s.cpu Rsp = omega arith in
       let there : word s.memory (register s.cpu Rsp + 0) ≡ Ok back = ap (word s.memory) flat
       ∙ ap (λ (x : Result ℕ RefusedAccess). readable (register s.cpu Rsp) x) returns in
-      let found = image.callers_outside.services s.memory (address_of (service_of f)) at.0 at.1 at.2
-      at.3 (context_of s.cpu) back here refl (omega arith) there in
+      let found = finds_return t s.memory (address_of (service_of f)) 0
+      (image.callers_outside.services s.memory (address_of (service_of f)) at.0 at.1 at.2 at.3)
+      (context_of s.cpu) back here refl (omega arith) there in
       let gives : WalkGives t s (c ∷ d ∷ cs) = gives_caller t s.memory (context_of s.cpu) c (d ∷ cs)
       found (subst (λ (x : Context). GivesCallers t s.memory (state x 0) (d ∷ cs)) same before) in
       host_keeps t fs s u (address_of (service_of f)) [] (c ∷ d ∷ cs) (d ∷ cs) (host_step f s here)
       silent gives after (call_over f (register u.cpu Rsp) u c d cs (omega arith) above)
-
--- RSP alone is set anew
-pub set_back : (xs : List ℕ) (sp v : ℕ) → slice_index (slice_set xs 1 sp) 1 ≡ v
-    → kept_of (0 ∷ 0 ∷ 0 ∷ slice_set xs 1 sp) ≡ slice_set (kept_of (0 ∷ 0 ∷ 0 ∷ xs)) 0 v
-set_back xs sp v e =
-    let same = λ (k : ℕ) (n : 1 ≡ k → ⊥). index_other xs 1 k sp n in
-    let far = λ (k : ℕ) (h : 1 < k). same k (λ z. absurd (omega arith)) in
-    λ j. e j ∷ same 0 (λ z. absurd (omega arith)) j ∷ far 2 (omega arith) j ∷ far 3 (omega arith) j
-    ∷ far 4 (omega arith) j ∷ far 9 (omega arith) j ∷ far 10 (omega arith) j
-    ∷ far 11 (omega arith) j ∷ far 12 (omega arith) j ∷ []

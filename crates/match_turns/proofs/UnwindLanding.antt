@@ -3,7 +3,7 @@ use Rattle.std.proofs.Common.{◌≡◌, true, ℕ, ◌≤◌, List, [], ◌∷�
 use Rattle.std.proofs.lemmas.List.{append-nil}
 use Rattle.match_turns.specs.Words.{Event, Memory, Context, State, DispatchRecord, Turn, at_landing, Frame, Target, Item, Waits, Configuration, Next, arrive, StackItem, Framed, StackFrame, InCode, Activation, On, store_of, on_top, IsWellFormed, IsUnwinding, Unwound, LandsThere, landing_value, landing_events, LeadsTo, callers, turns_left, entry_turns, Setting, IsMachineMemory, RepresentsAt, Represents, ContinuesAs}
 use Rattle.linear_machine.specs.Unwinding as linear
-use Rattle.match_turns.proofs.Lemmas.{waits_in_body, no_front, all_front, first_in_code}
+use Rattle.match_turns.proofs.Lemmas.{nine_numbers, waits_in_body, no_front, all_front, first_in_code}
 use Rattle.match_turns.proofs.DispatchWalks.{landing_walk}
 
 same_code : (a b : ℕ) → Some a ≡ Some b → a ≡ b
@@ -60,7 +60,7 @@ module _ (setting : Setting) where
         memory = memory;
         body = waits_in_body t fs program p q image (at_landing s to rax address) to
             (Framed framed ∷ is) body below outer label body.temporaries body.landed source
-            (shown ++ []) on refl inside well_formed.rip_small
+            (shown ++ []) on (nine_numbers to.kept on.is_there.stack.0.kept) inside well_formed
             (all_front s.memory body.temporaries);
         landed = λ x e. let z = sym (unlanded refl) ∙ e in absurd cc;
       }
@@ -70,7 +70,8 @@ module _ (setting : Setting) where
         memory = memory;
         body = waits_in_body t fs program p q image (at_landing s to rax address) to
             (Framed framed ∷ is) body below outer label [] (Some code) source
-            (shown ++ landing_events (Some code)) on refl inside well_formed.rip_small
+            (shown ++ landing_events (Some code)) on (nine_numbers to.kept on.is_there.stack.0.kept)
+            inside well_formed
             (no_front s.memory body.temporaries);
         landed = λ x e. let z : code ≡ x = same_code code x e in is_code ∙ z;
       }
