@@ -11,6 +11,8 @@ use Rattle.linear_code.specs.declared.instruction.Instruction.TheVariants as ins
 use Rattle.image_link.specs.Text as texts
 use Rattle.image_tables.specs.Entries as tables
 use Rattle.image_tables.proofs.Arguments.{arguments_inner}
+use Rattle.match_stack.proofs.AllocatedFrames.{allocations_are_told}
+use Rattle.match_bodies.proofs.BodyFrames.{rest_length}
 use Rattle.image_states.proofs.Addresses.{place, here}
 use Rattle.image_states.proofs.Entering.{frame_same, code_same}
 use Rattle.image_states.proofs.Framed.{executable_of}
@@ -137,7 +139,6 @@ module _ (program : LinearProgram) (c : HasWholeImage program) (name : BodyName)
         (let h = entry_here rva (omega arith) high k at in
         let same = h.1 in (
           e,
-          taking_size f.size,
           record {
             live = ne_eqb k.rip 0 (λ z. (let q : k.rip ≡ 0 = z in absurd (omega arith)));
             not_filter = ne_eqb k.rip filter_return
@@ -149,12 +150,13 @@ module _ (program : LinearProgram) (c : HasWholeImage program) (name : BodyName)
                 (omega arith);
             not_epilogue = ap (tail_at 0 m) at
                 ∙ no_epilogue (image_base + rva) m i inner is_there (omega arith);
-            codes = refl;
-            no_register = refl;
             no_parents = refl;
             kept = nine;
+            eight = rest_length k.kept nine;
+            slots = (let l : f.size ≤ f.size = omega arith in l);
             room = room;
-            returns = w;
+            is_told = allocations_are_told m k e (taking_size f.size) f.size back refl refl
+                (omega arith) nine room w;
           },
         )))
 

@@ -4,7 +4,7 @@ use Rattle.std.specs.Prelude.{◌&&◌, ◌||◌, ◌⊎◌}
 use Rattle.std.specs.List.{AllByRecursion, flat_map}
 use Rattle.std.proofs.lemmas.Bool.{and_from, and_parts, and_left, and_right, or_left, lt-ltb, le-ltb, le-leb, lt-leb, ltb-true, leb-true, cases_lt, false≢true}
 use Rattle.std.proofs.lemmas.List.{get_or_past}
-use Rattle.image_states.specs.Words.{IMAGE_BASE, IMAGE_RANGE_END, is_writable, Memory, may_write, Section, Image, Import, ImageContents, image_of, imports_of, sizes_of, rdata_at, end_at, section_of, mode_in, byte_in, stored_byte, with_slots, mapped, is_between, data_end, is_data, is_reserved, LinearProgram, linked, image_base, HasWholeImage, MOST_IMAGE, GUARD_START, STACK_START, STACK_END, ARENA_START, ARENA_END, FIRST_DATA, in_stack, in_arena, services, imported, import_tables, sections_of, parts_of, text_at, xdata_at, pdata_at, data_section, text_section, rdata_section, xdata_section, pdata_section, stack_mode, IsBeside, plain_mode, first_memory, data_size, HasBytes}
+use Rattle.image_states.specs.Words.{IMAGE_BASE, IMAGE_RANGE_END, is_writable, Memory, may_write, Section, Image, Import, ImageContents, image_of, imports_of, sizes_of, rdata_at, end_at, section_of, mode_in, byte_in, stored_byte, with_slots, mapped, is_between, data_end, is_data, is_reserved, LinearProgram, linked, image_base, HasWholeImage, MOST_IMAGE, GUARD_START, STACK_START, STACK_END, ARENA_START, ARENA_END, FIRST_DATA, in_stack, in_arena, services, imported, import_tables, sections_of, parts_of, text_at, xdata_at, pdata_at, data_section, text_section, rdata_section, xdata_section, pdata_section, stack_mode, IsBeside, plain_mode, first_memory, HasBytes}
 use Rattle.flat_memory.specs.declared.protection.Rights.TheVariants.{Nothing, ReadWrite}
 use Rattle.pe_image.specs.Imports as importing
 use Rattle.pe_image.specs.Numbers.{zeros}

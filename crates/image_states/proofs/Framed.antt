@@ -1,10 +1,11 @@
 -- The frames of bodies that wait.
-use Rattle.std.proofs.Common.{◌≡◌, ℕ, zero, suc, ◌+◌, ◌^◌, ◌<◌, true, false, List, [], ◌∷◌, Option, Some, None, Ok, refl, sym, ap, subst, ◌∙◌, arith}
+use Rattle.std.proofs.Common.{◌≡◌, ℕ, zero, suc, ◌+◌, ◌^◌, ◌<◌, true, false, List, [], ◌∷◌, Option, Some, None, refl, sym, ap, subst, ◌∙◌, arith}
 use Rattle.std.specs.Prelude.{slice_get}
 use Rattle.std.specs.List.{AllByRecursion}
 use Rattle.image_states.proofs.Lemmas.{some_same, none_some, routine_small, size_of, sized, frame_is_at, leaves_are_at}
 use Rattle.std.proofs.lemmas.Bool.{false≢true}
-use Rattle.image_states.specs.Words.{Memory, Instr, rsp, word, FrameIsAt, IsExecutableAt, Instruction, LinearBody, LinearProgram, BodyName, body_of, FrameLayout, taking_size, spelled, sizes, IsCodeAt, routine_code, IsInstructionNear, site_of, image_base, template_at, links, HasProgram, links_of, begin_of, code_of, functions_of, funclets_of, is_leaf, or_none, routine_of, address_of, plan_of, sites_of, HasWholeImage, IsReturn, IsInBody, frame_with, IsResumed, FramesAreWaiting, HasAllocation, LeavesAreWaiting}
+use Rattle.image_states.specs.Words.{Memory, Instr, rsp, FrameIsAt, IsExecutableAt, Instruction, LinearBody, LinearProgram, BodyName, body_of, FrameLayout, taking_size, spelled, sizes, IsCodeAt, routine_code, IsInstructionNear, site_of, image_base, template_at, links, HasProgram, links_of, begin_of, code_of, functions_of, funclets_of, is_leaf, or_none, routine_of, address_of, plan_of, sites_of, HasWholeImage, IsReturn, IsInBody, frame_of, IsResumed, FramesAreWaiting, HasAllocation, LeavesAreWaiting}
+use Rattle.match_stack.specs.Stack.{IsAsTold}
 use Rattle.eh_tables.specs.declared.code.UnwindOperation.TheVariants.{Allocate}
 use Rattle.eh_tables.specs.declared.code.UnwindCode.{UnwindCode}
 use Rattle.linear_code.specs.declared.instruction.Instruction.TheVariants as instructions
@@ -99,7 +100,7 @@ module _ (program : LinearProgram) (c : HasWholeImage program) where
 
   pub frames_are_at : FramesAreWaiting (functions_of program) (funclets_of program) program
       (plan_of program) (sites_of program)
-  frames_are_at m name b label k back is framed has r kept room returns =
+  frames_are_at m name b label k back others is framed has r w =
       let p = place program c name b is in
       let x = routine_of program name in
       let f = framed_of x.routine.frame framed in
@@ -109,19 +110,20 @@ module _ (program : LinearProgram) (c : HasWholeImage program) where
       let here' : k.rip ≡ image_base + rva = r.here
       ∙ (let q : image_base + template_at x label + sizes r.done
       ≡ image_base + rva = omega arith in q) in
-      let s = frame_is_at program m p.index x f.0 k rva back c.fits c.ranges p.at f.1
-      (code_there name b is m has) (in_body name b is label k.rip r) here' kept
-      (subst (λ (n : ℕ). rsp k + n + 8 < 2 ^ 64) size room)
-      (subst (λ (n : ℕ). word m (rsp k + n) ≡ Ok back) size returns) in
-      let same : stack_frame program x f.0 back
-      ≡ frame_with (tables.entry_of (site_of program) x (or_none x.routine.frame))
-      x.routine.layout.frame (taking_size f.0.size) back =
-      λ i. frame_with (tables.entry_of (site_of program) x (or_none (sym f.1 i))) (sym size i)
-      (taking_size f.0.size) back in
-      record {
-        offset = taking_size f.0.size;
-        is_there = subst (FrameIsAt (functions_of program) m k) same s;
-      }
+      let same : stack_frame program x f.0 back others
+      ≡ frame_of (plan_of program) name back others =
+      λ i. record {
+        entry = tables.entry_of (site_of program) x (or_none (sym f.1 i));
+        slots = sym size i;
+        size = sym size i;
+        return_address = back;
+        others = others;
+      } in
+      subst (FrameIsAt (functions_of program) m k) same
+      (frame_is_at program m p.index x f.0 k rva back others c.fits c.ranges p.at f.1
+      (code_there name b is m has) (in_body name b is label k.rip r) here' w.kept w.eight
+      (subst (λ (n : ℕ). rsp k + n + 8 < 2 ^ 64) size w.room)
+      (subst (IsAsTold m k) (sym same) w.is_told))
 
   pub leaves_are_at' : LeavesAreWaiting (functions_of program) (funclets_of program) program
       (plan_of program) (sites_of program)
@@ -156,4 +158,6 @@ module _ (program : LinearProgram) (c : HasWholeImage program) where
       record {
         offset = taking_size (or_none x.routine.frame).size;
         codes = ap (λ (n : ℕ). code n ∷ []) size;
+        no_register = refl;
+        no_offset = refl;
       }

@@ -9,6 +9,10 @@ use Rattle.x64_encode.proofs.Lengths.{longest}
 use Rattle.seh_num.specs.Answers.{◌>>=◌}
 use Rattle.match_stack.specs.PlainWalks.{state}
 use Rattle.match_stack.proofs.ItemVisits.{set_head, frame_is_visited}
+use Rattle.match_stack.specs.Stack.{after_frame}
+use Rattle.match_stack.specs.AllocatedFrames.{allocated_frame}
+use Rattle.match_bodies.proofs.BodyFrames.{first_set}
+use Rattle.match_bodies.proofs.OwedCallers.{return_finds}
 use Rattle.image_states.proofs.Lemmas.{items_are_at, signed}
 use Rattle.frame_rules.proofs.Tails.{tail-more}
 
@@ -76,46 +80,44 @@ module _ (t : Functions) (m : Memory) (rip : ℕ) (live : 0 < rip) (not_filter :
   pub by_popping : ((c : Context) → c.rip ≡ rip
       → of_entry m c (distance t.base c.rip) (entry_of t c.rip) ≡ found (rsp c) None (popped m c))
       → FindsReturn t m rip 0
-  by_popping e c back at nine room w = visits c (caller_above c 0 back) (popped m c) at (e c at)
-      (popped_here m c.rip c.kept back (omega arith) room w) (risen_by c 0 back nine)
+  by_popping e = return_finds t m rip 0 (λ c back at nine room w.
+      visits c (caller_above c 0 back) (popped m c) at (e c at)
+      (popped_here m c.rip c.kept back (omega arith) room w) (risen_by c 0 back nine))
 
   -- where a return alone is left of an epilogue
   pub by_return : ((c : Context) → c.rip ≡ rip
       → of_entry m c (distance t.base c.rip) (entry_of t c.rip)
       ≡ found (rsp c) None (left m (instrs.Return ∷ []) c)) → FindsReturn t m rip 0
-  by_return e c back at nine room w =
+  by_return e = return_finds t m rip 0 (λ c back at nine room w.
       visits c (caller_above c 0 back) (left m (instrs.Return ∷ []) c) at (e c at)
       (ap (λ (a : Answer Context). a >>= left m [])
-      (popped_here m c.rip c.kept back (omega arith) room w)) (risen_by c 0 back nine)
+      (popped_here m c.rip c.kept back (omega arith) room w)) (risen_by c 0 back nine))
 
   -- where the whole of it is left
   pub by_epilogue : (n : ℕ) → ((c : Context) → c.rip ≡ rip
       → of_entry m c (distance t.base c.rip) (entry_of t c.rip)
       ≡ found (rsp c) None (left m (give_back n ∷ instrs.Return ∷ []) c)) → FindsReturn t m rip n
-  by_epilogue n e c back at nine room w =
+  by_epilogue n e = return_finds t m rip n (λ c back at nine room w.
       visits c (caller_above c n back) (left m (give_back n ∷ instrs.Return ∷ []) c) at (e c at)
       (ap (λ (a : Answer Context). a >>= left m [])
-      (popped_above m c.rip c.kept n back (omega arith) room w)) (risen_by c n back nine)
+      (popped_above m c.rip c.kept n back (omega arith) room w)) (risen_by c n back nine))
 
 -- where a frame is
 pub by_frame : (t : Functions) (m : Memory) (rip size : ℕ)
     → ((c : Context) (back : ℕ) → c.rip ≡ rip → length c.kept ≡ 9 → rsp c + size + 8 < 2 ^ 64
-    → word m (rsp c + size) ≡ Ok back → (entry : Entry) × (offset : ℕ)
-    × FrameIsAt t m c (record {
-      entry = entry;
-      size = size;
-      offset = offset;
-      return_address = back;
-    }))
+    → word m (rsp c + size) ≡ Ok back
+    → (entry : Entry) × FrameIsAt t m c (allocated_frame entry size back c))
     → FindsReturn t m rip size
-by_frame t m rip size h c back at nine room w =
-    let s = h c back at nine room w in
-    record {
+by_frame t m rip size h = return_finds t m rip size (λ c back at nine room w.
+    (let s = h c back at nine room w in
+    let f = allocated_frame s.0 size back c in
+    let k : HasCaller t m c (after_frame c f) = record {
       frame = _;
-      visits = frame_is_visited t m c 0
-          (record { entry = s.0; size = size; offset = s.1; return_address = back }) s.2;
+      visits = frame_is_visited t m c 0 f s.1;
       context = refl;
-    }
+    } in
+    subst (λ (ks : List ℕ). let x : Context = record { rip = back; kept = ks } in HasCaller t m c x)
+    (first_set c.kept (rsp c + size + 8) nine) k))
 
 -- ---- what is left of an epilogue
 

@@ -1,5 +1,5 @@
 -- Where a body continues after an exception that is continued, as a test.
-use Rattle.std.proofs.Common.{◌≡◌, ℕ, ◌+◌, ◌==◌, true, false, Option, Some, None, refl, ap, ◌∙◌}
+use Rattle.std.proofs.Common.{◌≡◌, ℕ, ◌+◌, ◌==◌, true, Option, Some, None, refl, ap, ◌∙◌}
 use Rattle.std.specs.Prelude.{slice_get, ◌&&◌}
 use Rattle.std.proofs.lemmas.Bool.{and_from, and_parts, eq-eqb, eqb-true, false≢true}
 use Rattle.image_states.specs.Words.{Rax, Rcx, Cpu, RaiseException, Temporary, Instruction, LinearProgram, body_of, instruction_in, Layout, sizes, routine_of, address_of, functions_of, funclets_of, plan_of, sites_of, Frame, Resumption, AfterCall, SameOperation, operands_code, return_at, view_of, ReturnsThere, WorksAgain, SaysResumptions, is_some, is_ready, returns_there, works_again}
