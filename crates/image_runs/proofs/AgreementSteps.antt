@@ -1,5 +1,5 @@
 -- A step that is matched from the actual configuration is matched.
-use Rattle.std.proofs.Common.{◌≡◌, ℕ, ◌+◌, ◌*◌, List, length, sym, ap, arith}
+use Rattle.std.proofs.Common.{◌≡◌, ℕ, ◌+◌, ◌*◌, List, length, sym, arith}
 use Rattle.image_runs.specs.Words.{State, Functions, Funclet, Instruction, LinearProgram, Configuration, ImagePlan, IsMatched, Marks, AreAlike, AgreeOnSet, StepsAgree, Sites, turns_left, held_below, Represents, RepresentsWhereSet}
 use Rattle.match_runs.proofs.Turns.{comes_nowhere}
 use Rattle.match_runs.proofs.Matches.{StepCarries, matched_by}

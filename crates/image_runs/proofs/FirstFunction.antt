@@ -236,8 +236,8 @@ module _ (t : Functions) (fs : List Funclet) (program : LinearProgram) (p : Imag
       0 refl (subst (λ x. word after.memory (x + layout.frame) ≡ Ok 0) (sym stack) returns)
       (subst (λ x. HoldsWords after.memory (x + layout.locals)
       (x + slots_end layout (p.leaf (FunctionBody f))) (arguments ++ others)) (sym stack) numbers)
-      [] (λ more n. subst (λ x. On t fs program p after.memory (context_below 0 x more) [] [] [])
-      (sym up)
+      [] (subst (λ x. On t fs program p after.memory
+      (context_below 0 x (others_of after.cpu.registers)) [] [] []) (sym up)
       (record {
         is_there = record {
           stack = refl;

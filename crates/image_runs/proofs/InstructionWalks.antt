@@ -1,15 +1,14 @@
 -- Within an instruction the walk gives the frames that it gave where the instruction
 -- began.
-use Rattle.std.proofs.Common.{◌≡◌, ℕ, ◌+◌, ◌-◌, ◌^◌, ◌<◌, ◌≤◌, false, Some, None, Ok, List, [], ◌∷◌, length, refl, sym, ap, subst, ◌∙◌, arith}
-use Rattle.std.specs.Prelude.{nat_lt, Option}
+use Rattle.std.proofs.Common.{◌≡◌, ℕ, ◌+◌, ◌^◌, ◌<◌, ◌≤◌, false, Some, List, [], ◌∷◌, length, refl, sym, ap, subst, arith}
 use Rattle.std.specs.List.{AllByRecursion}
-use Rattle.image_runs.specs.Words.{STACK_START, Memory, Instr, Context, context_of, State, Entry, rsp, Functions, distance, word, Funclet, LinearProgram, LinearBody, Frame, body_of, Item, Waits, Configuration, StackItem, Framed, Leaf, FrameIsAt, IsStack, StackFrame, ImagePlan, InCode, Activation, BodyWaits, Linked, HasSpace, below_end, Sites, HasProgram, IsResumed, IsProgramImage, IsWithinInstruction, WalkGives, WalksGiveTheFramesWithin}
-use Rattle.virtual_unwind.specs.Tail.{tail_at}
+use Rattle.image_runs.specs.Words.{STACK_START, Memory, Context, context_of, State, rsp, Functions, Funclet, LinearProgram, LinearBody, Frame, body_of, Item, Waits, Configuration, StackItem, Framed, Leaf, FrameIsAt, IsStack, StackFrame, ImagePlan, InCode, Activation, BodyWaits, Linked, HasSpace, below_end, Sites, HasProgram, IsResumed, IsProgramImage, IsWithinInstruction, WalkGives, WalksGiveTheFramesWithin, frame_of}
 use Rattle.linear_code.specs.declared.program.Region.{Region}
 use Rattle.linear_machine.specs.Regions.{holds, regions_of}
 use Rattle.match_stack.specs.ListLaws as linked
 use Rattle.match_stack.proofs.ListKeeping.{kept_by_other_memories}
-use Rattle.image_runs.proofs.Lemmas.{frame_size}
+use Rattle.match_stack.specs.Stack.{IsAsTold}
+use Rattle.image_runs.proofs.Lemmas.{frame_size, frame_is, told_with}
 use Rattle.image_runs.proofs.LiveFrames.{as_many, are_frames}
 use Rattle.image_runs.proofs.WalkFrames.{frames, gives}
 use Rattle.image_runs.proofs.StateWalks.{IsTop, tops}
@@ -58,42 +57,33 @@ module _ (t : Functions) (fs : List Funclet) (program : LinearProgram) (p : Imag
     }
 
     frame_there : (f : StackFrame) → p.leaf b.body ≡ false → f.entry ≡ p.entry b.body
-        → FrameIsAt t m c f → FrameIsAt t m to f
-    frame_there f framed entry s =
-        let y = p.layout b.body in
+        → f.slots ≡ (p.layout b.body).frame → FrameIsAt t m c f → FrameIsAt t m to f
+    frame_there f framed entry slots s =
+        let same = frame_is t fs program p q image m c f b.body code there framed entry slots s in
         let size = frame_size t fs program p q image m c f b.body code there framed entry s in
-        let room = s.room in
-        let x = (image.frames m b.body code b.next to f.return_address there framed has resumed
-        s.kept (subst (λ n. rsp c + n + 8 < 2 ^ 64) size room)
-        (subst (λ n. word m (rsp c + n) ≡ Ok f.return_address) size s.returns)).is_there in
-        record {
-          live = x.live;
-          not_filter = x.not_filter;
-          not_finally = x.not_finally;
-          found = x.found ∙ ap (λ (e : Entry). Some e) (sym entry);
-          past_prologue = subst (λ (e : Entry). nat_lt (distance t.base rip - e.range.begin)
-              e.info.prologue_size ≡ false) (sym entry) x.past_prologue;
-          not_epilogue = subst (λ (e : Entry). ◌≡◌ {A = Option (List Instr)}
-              (tail_at e.info.frame_register m rip) None) (sym entry) x.not_epilogue;
-          codes = s.codes;
-          no_register = s.no_register;
-          no_parents = s.no_parents;
+        let own = frame_of p b.body f.return_address f.others in
+        subst (FrameIsAt t m to) (sym same)
+        (image.frames m b.body code b.next to f.return_address f.others there framed has resumed
+        (record {
           kept = s.kept;
-          room = room;
-          returns = s.returns;
-        }
+          eight = s.eight;
+          room = subst (λ n. rsp c + n + 8 < 2 ^ 64) size s.room;
+          is_told = told_with m c to own refl (subst (IsAsTold m c) same s.is_told);
+        }))
 
     -- the same list from another address of the instruction
     there_too : (is : List StackItem) → IsStack t m c is
         → Linked t fs program p m c is (Waits b ∷ below) acts
         → linked.IsLinkedStack t fs program p m to is (Waits b ∷ below) acts
     there_too (Framed f ∷ is) s l = record {
-      stack = (frame_there f l.0.framed l.0.entry s.0, s.1);
+      stack = (frame_there f l.0.framed l.0.entry l.0.slots s.0, s.1);
       linked = (
         record {
           framed = l.0.framed;
           entry = l.0.entry;
-          waits = waits_there f.size _ l.0.waits;
+          slots = l.0.slots;
+          small = l.0.small;
+          waits = waits_there f.slots _ l.0.waits;
           pointers = l.0.pointers;
           returns = l.0.returns;
         },

@@ -8,11 +8,12 @@ pub use Rattle.template_code.proofs.Sizes.{template_sizes, sizes_append}
 pub use Rattle.x64_templates.proofs.PlacedCode.{same_number, bytes_kept, enters_then, outside_page, bytes_split, spells, reads}
 pub use Rattle.match_runs.proofs.Steps.{at_instruction, matched_step, steps_are_matched}
 pub use Rattle.match_stack.proofs.ItemVisits.{set_head, frame_is_visited, leaf_is_visited, search_is_passed, unwinding_is_passed, stack_is_over}
-pub use Rattle.match_bodies.proofs.BodyResumption.{frame_size}
+pub use Rattle.match_bodies.proofs.BodyFrames.{told_with}
+pub use Rattle.match_bodies.proofs.BodyResumption.{frame_size, waiting_allocated, frame_is}
 pub use Rattle.match_bodies.proofs.ChainKeeping.{Keeps, enters_keeps, stays_well_formed}
 pub use Rattle.match_bodies.proofs.FrameMaking.{making_steps}
 pub use Rattle.match_bodies.proofs.SlotPlaces.{stack_is_reserved}
-pub use Rattle.match_bodies.proofs.StackTop.{leaf_layout, OnTop, others_of, framed_top, leaf_top, body_on_top}
+pub use Rattle.match_bodies.proofs.StackTop.{leaf_layout, OnTop, leaf_frame, framed_here, framed_top, leaf_top, body_on_top}
 pub use Rattle.match_bodies.proofs.StackWords.{word_is, may_read_written, word_of}
 pub use Rattle.match_bodies.proofs.StepNeeds.{label_in}
 pub use Rattle.match_bodies.proofs.TemplateRuns.{index_of, sp_seen, get_or_is}

@@ -2,7 +2,7 @@
 use Rattle.std.proofs.Common.{◌≡◌, ℕ, ◌+◌, Bool, Some, List, [], ◌∷◌, length, drop, refl, sym, ap, subst, ◌∙◌, arith}
 use Rattle.std.specs.Prelude.{slice_set}
 use Rattle.image_runs.specs.Words.{Memory, Context, context_of, rsp, Functions, Funclet, LinearProgram, Item, Waits, Searches, Unwinds, StackItem, Framed, Leaf, Searching, Unwinding, IsStack, after_frame, after_leaf, ImagePlan, Activation, activations_below, BodyWaits, Linked, temporaries_end, ReturnsTo, Sites, IsProgramImage, slots_end, last_temporary, back_to, AreFrames}
-use Rattle.image_runs.proofs.Lemmas.{set_head, leaf_layout, frame_size}
+use Rattle.image_runs.proofs.Lemmas.{set_head, leaf_layout, frame_size, waiting_allocated}
 use Rattle.image_runs.proofs.WalkFrames.{frames}
 
 set_rest : (kept : List ℕ) (v : ℕ) → drop 1 (slice_set kept 0 v) ≡ drop 1 kept
@@ -47,18 +47,18 @@ module _ (t : Functions) (fs : List Funclet) (program : LinearProgram) (p : Imag
         let w = l.0.waits in
         let size = frame_size t fs program p q image m c f b.body w.code w.body l.0.framed l.0.entry
         s.0 in
-        let up = rsp c + f.size + 8 in (
+        let told = waiting_allocated t fs program p q image m c f b.body w.code w.body l.0.framed
+        l.0.entry s.0 in (
           record {
             waits = subst (λ (leaf : Bool). BodyWaits t fs program p m c (slots_end y leaf)
                 (last_temporary y b.body leaf) b acts) (sym l.0.framed)
                 (subst (λ n. BodyWaits t fs program p m c n (temporaries_end y b.body n) b acts)
-                size w);
+                l.0.slots w);
             at = refl;
             back = back m (after_frame c f) is below (activations_below b.body acts) s.1 l.2
                 l.0.returns;
-            after = set_head c.kept up (let k = s.0.kept in omega arith)
-                ∙ ap (λ n. rsp c + n + 8) size;
-            kept = set_rest c.kept up;
+            after = ap (λ n. rsp c + n + 8) size;
+            kept = sym told.others;
           },
           are_frames m (after_frame c f) is below (activations_below b.body acts) s.1 l.2,
         )

@@ -2,12 +2,12 @@
 use Rattle.std.proofs.Common.{◌≡◌, ℕ, ◌+◌, ◌^◌, ◌<◌, false, List, [], ◌∷◌, ◌++◌, length, Option, Some, None, Ok, refl, sym, ap, subst, ◌∙◌, arith}
 use Rattle.std.specs.Prelude.{slice_get}
 use Rattle.std.proofs.lemmas.Bool.{false≢true}
-use Rattle.image_runs.specs.Words.{Memory, Rax, Instr, chosen, Context, rsp, word, FrameIsAt, LeafIsAt, Slot, Local, Temporary, LinearBody, LinearProgram, BodyName, body_of, Layout, spelled, sizes, text_begin, linked, HasProgram, IsFramed, frame_with, functions_of, funclets_of, plan_of, sites_of, or_none, routine_of, HasWholeImage, IsReturning, fetch_local, local_at, fetch, epilogue, code_from, entry_code, entry_size, check_stack_at, routine_code, stack_frame, begin_of, code_of, LinkedReturnsWait}
+use Rattle.image_runs.specs.Words.{Memory, Rax, Instr, chosen, Context, rsp, word, FrameIsAt, LeafIsAt, Slot, Local, Temporary, LinearBody, LinearProgram, BodyName, body_of, Layout, spelled, sizes, text_begin, linked, HasProgram, IsFramed, frame_of, functions_of, funclets_of, plan_of, sites_of, or_none, routine_of, HasWholeImage, IsReturning, fetch_local, local_at, fetch, epilogue, code_from, entry_code, entry_size, check_stack_at, routine_code, stack_frame, begin_of, code_of, LinkedReturnsWait}
 use Rattle.image_states.specs.Plans.{is_leaf}
 use Rattle.frame_rules.specs.Bytes.{IsExecutableAt}
 use Rattle.linear_code.specs.declared.instruction.Instruction.TheVariants as instructions
 use Rattle.frame_layout.specs.declared.frame.FrameLayout.{FrameLayout}
-use Rattle.frame_layout.specs.Layout.{taking_size}
+use Rattle.match_stack.specs.Stack.{IsAsTold}
 use Rattle.x64_emit.specs.Near.{IsInstructionNear}
 use Rattle.image_link.proofs.Entries.{entry_sizes}
 use Rattle.image_tables.specs.RoutinePlaces.{Placed, end_of, site_of}
@@ -107,46 +107,48 @@ module _ (p : LinearProgram) (c : HasWholeImage p) (m : Memory) (name : BodyName
   at_return from there = ap (λ (d : LinearBody). slice_get d.code label) (place p c name b is).body
       ∙ there
 
-  frame_there : (f : FrameLayout) → x.routine.frame ≡ Some f → (first : HasItem m x rva)
-      → k.rip ≡ image_base + rva → rsp k + f.size + 8 < 2 ^ 64 → word m (rsp k + f.size) ≡ Ok back
-      → FrameIsAt (functions_of p) m k (stack_frame p x f back)
-  frame_there f framed first at room' returns = frame_at p m (place p c name b is).index x f k rva
-      back c.fits c.ranges (place p c name b is).at framed first at kept room' returns
+  frame_there : (f : FrameLayout) (others : List ℕ) → x.routine.frame ≡ Some f
+      → (first : HasItem m x rva) → k.rip ≡ image_base + rva → length others ≡ 8
+      → rsp k + f.size + 8 < 2 ^ 64 → IsAsTold m k (stack_frame p x f back others)
+      → FrameIsAt (functions_of p) m k (stack_frame p x f back others)
+  frame_there f others framed first at eight room' is_told = frame_at p m
+      (place p c name b is).index x f k rva back others c.fits c.ranges (place p c name b is).at
+      framed first at kept eight room' is_told
 
   leaf_there : x.routine.frame ≡ None → k.rip ≡ image_base + rva → rsp k + 8 < 2 ^ 64
       → word m (rsp k) ≡ Ok back → rva < end_of x → LeafIsAt (functions_of p) m k back
   leaf_there none at room' returns inside = leaf_at p m (place p c name b is).index x k rva back
       c.fits c.ranges (place p c name b is).at none (omega arith) inside at kept room' returns
 
-  framed_still : (plan_of p).leaf name ≡ false
+  framed_still : (others : List ℕ) → (plan_of p).leaf name ≡ false
       → HasProgram (functions_of p) (funclets_of p) p (plan_of p) (sites_of p) m
       → IsReturning (functions_of p) (funclets_of p) p (plan_of p) (sites_of p) b name label k.rip
-      → rsp k + x.routine.layout.frame + 8 < 2 ^ 64
-      → word m (rsp k + x.routine.layout.frame) ≡ Ok back
-      → IsFramed (functions_of p) (funclets_of p) p (plan_of p) (sites_of p) m name k back
-  framed_still framed has r room returns =
+      → IsFramed (plan_of p) m name k back others
+      → FrameIsAt (functions_of p) m k (frame_of (plan_of p) name back others)
+  framed_still others framed has r w =
       let f = framed_of x.routine.frame framed in
       let at = (place p c name b is).at in
       let size : x.routine.layout.frame ≡ f.0.size = sized p (place p c name b is).index x at
       ∙ ap size_of f.1 in
       let first = returning p m x label r.from (code_there has) (here p c name b is)
       (at_return r.from r.there) in
-      let s = frame_there f.0 f.1 first r.here (subst (λ (n : ℕ). rsp k + n + 8 < 2 ^ 64) size room)
-      (subst (λ (n : ℕ). word m (rsp k + n) ≡ Ok back) size returns) in
-      let same : stack_frame p x f.0 back ≡ frame_with
-      (tables.entry_of (site_of p) x (or_none x.routine.frame)) x.routine.layout.frame
-      (taking_size f.0.size) back =
-      λ i. frame_with (tables.entry_of (site_of p) x (or_none (sym f.1 i))) (sym size i)
-      (taking_size f.0.size) back in
-      record {
-        offset = taking_size f.0.size;
-        is_there = subst (FrameIsAt (functions_of p) m k) same s;
-      }
+      let same : stack_frame p x f.0 back others ≡ frame_of (plan_of p) name back others =
+      λ i. record {
+        entry = tables.entry_of (site_of p) x (or_none (sym f.1 i));
+        slots = sym size i;
+        size = sym size i;
+        return_address = back;
+        others = others;
+      } in
+      subst (FrameIsAt (functions_of p) m k) same
+      (frame_there f.0 others f.1 first r.here w.eight
+      (subst (λ (n : ℕ). rsp k + n + 8 < 2 ^ 64) size w.room)
+      (subst (IsAsTold m k) (sym same) w.is_told))
 
 pub linked_returns_wait : LinkedReturnsWait
 linked_returns_wait p c = record {
-  frames = λ m name b label k back is framed has r kept room returns. framed_still p c m name b is k
-      label back kept framed has r room returns;
+  frames = λ m name b label k back others is framed has r w. framed_still p c m name b is k label
+      back w.kept others framed has r w;
   leaves = λ m name b label k back is leaf r kept room returns.
       leaf_there p c m name b is k label back kept (leaf_of (routine_of p name).routine.frame leaf)
       r.here room returns (within p c name b is label r.from r.there);

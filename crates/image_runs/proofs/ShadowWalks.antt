@@ -14,6 +14,7 @@ use Rattle.match_runs.specs.Shadowed.{first_shadow, WalkGivesShadow}
 use Rattle.match_runs.proofs.Shadows.{at_end}
 use Rattle.image_runs.proofs.RunMatches as runs
 use Rattle.match_bodies.proofs.BodyCallers.{gives_caller}
+use Rattle.match_bodies.proofs.OwedCallers.{finds_return}
 use Rattle.image_runs.specs.ShadowWalks.{WalksTheShadow, ImagesWalkTheShadow, CompiledWalkTheShadow, AcceptedWalkTheShadow}
 use Rattle.image_runs.proofs.FirstState.{first_states_start}
 use Rattle.image_runs.proofs.ImageCode.{lowered_is_compiled}
@@ -56,8 +57,9 @@ module _ (t : Functions) (fs : List Funclet) (program : LinearProgram) (p : Imag
         let flat : sp + 0 ≡ first_stack = omega arith in
         let returns : word s.memory (sp + 0) ≡ Ok 0 = ap (word s.memory) flat ∙ h.returns in
         let rip : s.cpu.rip ≡ q.function program.main = ap (λ (c : Cpu). c.rip) h.cpu in
-        let found = (image.callers (FunctionBody program.main) main.body there).entries s.memory
-        (λ leaf. some) (context_of s.cpu) 0 rip refl (omega arith) returns in
+        let found = finds_return t s.memory (q.function program.main) 0
+        ((image.callers (FunctionBody program.main) main.body there).entries s.memory
+        (λ leaf. some)) (context_of s.cpu) 0 rip refl (omega arith) returns in
         let caller : Context = context_below 0 (sp + 0 + 8) others in
         let up : sp + 0 + 8 ≡ sp + 8 = omega arith in
         let number = word_is s.memory sp 0 (ap (word s.memory) at ∙ h.returns) in

@@ -1,9 +1,9 @@
 -- In every state that represents a configuration the walk gives the live frames.
 use Rattle.std.proofs.Common.{◌≡◌, ◌⊎◌, inl, inr, ℕ, ◌+◌, ◌^◌, ◌<◌, ◌≤◌, Bool, true, false, Some, List, [], ◌∷◌, ◌++◌, refl, sym, ap, ◌∙◌, arith}
 use Rattle.std.specs.Prelude.{slice_get}
-use Rattle.image_runs.specs.Words.{Rsp, Instr, context_of, State, register, Functions, word, Funclet, Slot, Temporary, Instruction, LinearProgram, Waits, Configuration, instruction_in, instruction_at, sizes, template, IsReturn, context_below, ImagePlan, Activation, activations_below, locals_of, Sites, links_of, HasProgram, IsResumed, IsProgramImage, InBody, RepresentsAt, IsKnown, Represents, WorksOn, IsReturning, ReturnsWait, WalkGives, operands_code, finish_code, WalksGiveTheFrames}
+use Rattle.image_runs.specs.Words.{Rsp, Instr, context_of, State, register, Functions, Funclet, Slot, Temporary, Instruction, LinearProgram, Waits, Configuration, instruction_in, instruction_at, sizes, template, IsReturn, context_below, ImagePlan, Activation, activations_below, locals_of, Sites, links_of, HasProgram, IsResumed, IsProgramImage, InBody, RepresentsAt, IsKnown, Represents, WorksOn, IsReturning, ReturnsWait, WalkGives, operands_code, finish_code, WalksGiveTheFrames}
 use Rattle.linear_code.specs.declared.instruction.Instruction.TheVariants as instructions
-use Rattle.image_runs.proofs.Lemmas.{template_sizes, template_some, leaf_layout, OnTop, others_of, framed_top, leaf_top, body_on_top, some_finish, is_some}
+use Rattle.image_runs.proofs.Lemmas.{template_sizes, template_some, OnTop, leaf_frame, framed_here, framed_top, leaf_top, body_on_top, some_finish, is_some}
 use Rattle.match_stack.proofs.ListEnds.{in_stack}
 use Rattle.image_runs.proofs.WalkFrames.{frames, gives}
 use Rattle.image_runs.proofs.LiveFrames.{as_many, are_frames}
@@ -56,25 +56,22 @@ module _ (t : Functions) (fs : List Funclet) (program : LinearProgram) (p : Imag
 
       below_end : sp + size + 8 < 2 ^ 64
       below_end =
-          let rest = at.below (others_of t fs program p q s) refl in
           let top = in_stack t fs program p s.memory
-          (context_below at.back (sp + size + 8) (others_of t fs program p q s)) at.is c.below
-          (activations_below c.frame.body at.acts) rest.is_there.stack rest.is_there.linked in
+          (context_below at.back (sp + size + 8) at.others) at.is c.below
+          (activations_below c.frame.body at.acts) at.below.is_there.stack
+          at.below.is_there.linked in
           omega arith
 
       returning_top : (leaf : Bool) → p.leaf c.frame.body ≡ leaf
           → OnTop t fs program p q s c at.acts
       returning_top false e = framed_top t fs program p q s c at e
           (still.frames s.memory c.frame.body at.slots.code c.frame.next (context_of s.cpu) at.back
-          at.slots.body e has r refl below_end at.returns)
+          at.others at.slots.body e has r (framed_here t fs program p q s c at e))
       returning_top true e =
-          let z = (leaf_layout t fs program p q c.frame.body at.slots.code e
-          (image.laid_out c.frame.body at.slots.code at.slots.body)).frame in
           let lt = below_end in
-          let here : sp + size ≡ sp = omega arith in
           leaf_top t fs program p q image s c at e
           (still.leaves s.memory c.frame.body at.slots.code c.frame.next (context_of s.cpu) at.back
-          at.slots.body e r refl (omega arith) (ap (word s.memory) (sym here) ∙ at.returns))
+          at.slots.body e r refl (omega arith) (leaf_frame t fs program p q s c at e).returns)
 
   -- where an instruction begins
   begun : ReturnsWait t fs program p q → (s : State) (c : Configuration) (i : Instruction)

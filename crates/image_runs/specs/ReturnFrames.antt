@@ -10,10 +10,10 @@ use Rattle.linear_code.specs.declared.slot.Slot.{Slot}
 use Rattle.linear_code.specs.declared.instruction.Instruction.TheVariants as instructions
 use Rattle.linear_code.specs.Program.{LinearProgram, LinearBody}
 use Rattle.linear_machine.specs.Frames.{BodyName, body_of}
-use Rattle.match_stack.specs.Stack.{LeafIsAt}
+use Rattle.match_stack.specs.Stack.{FrameIsAt, LeafIsAt}
 use Rattle.match_stack.specs.ImagePlan.{ImagePlan}
 use Rattle.match_bodies.specs.CodeSites.{Sites}
-use Rattle.match_bodies.specs.ProgramImages.{HasProgram, IsFramed}
+use Rattle.match_bodies.specs.ProgramImages.{HasProgram, IsFramed, frame_of}
 
 module _ (t : Functions) (fs : List Funclet) (program : LinearProgram) (p : ImagePlan)
     (q : Sites) where
@@ -26,11 +26,10 @@ module _ (t : Functions) (fs : List Funclet) (program : LinearProgram) (p : Imag
   abbrev pub ReturningFramesWait : Type 0
   ReturningFramesWait =
       (m : Memory) (name : BodyName) (b : LinearBody) (label : ℕ) (c : Context) (back : ℕ)
+      (others : List ℕ)
       → body_of program name ≡ Some b → p.leaf name ≡ false → HasProgram t fs program p q m
-      → IsReturning b name label c.rip
-      → length c.kept ≡ 9 → rsp c + (p.layout name).frame + 8 < 2 ^ 64
-      → word m (rsp c + (p.layout name).frame) ≡ Ok back
-      → IsFramed t fs program p q m name c back
+      → IsReturning b name label c.rip → IsFramed p m name c back others
+      → FrameIsAt t m c (frame_of p name back others)
 
   abbrev pub ReturningLeavesWait : Type 0
   ReturningLeavesWait =

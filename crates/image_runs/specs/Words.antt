@@ -78,7 +78,7 @@ pub use Rattle.match_bodies.specs.BodyViews.{seen_by_templates, counts_of}
 pub use Rattle.match_bodies.specs.CodeSites.{Sites, arguments_code, function_arguments, making, links_of, begin_of, code_of}
 pub use Rattle.match_bodies.specs.ConfigurationFacts.{IsKnown, KnownNext, IsWellMade}
 pub use Rattle.match_bodies.specs.Layouts.{IsLayoutIf, IsFunctionLayout, IsLeafLayout}
-pub use Rattle.match_bodies.specs.ProgramImages.{IsMachineMemory, IsProgramImage, HasProgram, IsResumed, IsFramed, frame_with}
+pub use Rattle.match_bodies.specs.ProgramImages.{IsMachineMemory, IsProgramImage, HasProgram, IsResumed, IsFramed, frame_of}
 pub use Rattle.match_bodies.specs.StepLaws.{turns_per_step, IsWithinBody}
 pub use Rattle.match_turns.specs.CallOutcome.{CallBegins, begun, FunctionsApart}
 pub use Rattle.match_turns.specs.DispatchOutcome.{Represents, WorksOn}
