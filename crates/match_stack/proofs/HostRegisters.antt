@@ -11,8 +11,8 @@ use Rattle.seh_records.specs.declared.dispatch.DispatchRecord.{DispatchRecord}
 use Rattle.host_model.specs.declared.funclet.Funclet.{Funclet}
 use Rattle.host_model.specs.Dispatch.{at_landing}
 use Rattle.linear_code.specs.Program.{LinearProgram}
-use Rattle.linear_machine.specs.Frames.{Frame, Item, Waits, Searches, Unwinds}
-use Rattle.match_stack.specs.Stack.{StackFrame, StackItem, Framed, Searching, Unwinding}
+use Rattle.linear_machine.specs.Frames.{Item, Waits, Searches, Unwinds}
+use Rattle.match_stack.specs.Stack.{StackItem, Searching, Unwinding}
 use Rattle.match_stack.specs.WalkLaws.{context_below}
 use Rattle.match_stack.specs.ImagePlan.{ImagePlan}
 use Rattle.match_stack.specs.ItemMatches.{Activation, HasActivation}
