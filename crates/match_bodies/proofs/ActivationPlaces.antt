@@ -99,7 +99,8 @@ module _ (t : Functions) (fs : List Funclet) (program : LinearProgram) (p : Imag
       → HasActivation m now mine y sp size number acts name
       → IsActivation acts k base distance register → sp + size ≤ STACK_END → sp ≤ above
       → (IsActivation (activations_below name acts) k base distance register
-      → ActivationIsAt t fs program p m above k base distance register (activations_below name acts))
+      → ActivationIsAt t fs program p m above k base distance register
+      (activations_below name acts))
       → ActivationIsAt t fs program p m sp k base distance register acts
   in_body m now mine y sp size number above k base distance register [] name h i le up rest =
       absurd i
@@ -125,7 +126,8 @@ module _ (t : Functions) (fs : List Funclet) (program : LinearProgram) (p : Imag
       let l = in_stack t fs program p m (after_frame c f) is below (activations_below b.body acts)
       s.1 h.2 in
       in_body m (get c) (p.register b.body) (p.layout b.body) (rsp c) f.slots b.activation
-      (rsp (after_frame c f)) k base distance register acts b.body h.0.waits.activation i (omega arith) (omega arith)
+      (rsp (after_frame c f)) k base distance register acts b.body h.0.waits.activation i
+      (omega arith) (omega arith)
       (λ j. are_there m (after_frame c f) is below (activations_below b.body acts) k base distance
       register s.1 h.2 j)
   are_there m c (Leaf back ∷ is) (Waits b ∷ below) acts k base distance register s h i =
@@ -134,8 +136,8 @@ module _ (t : Functions) (fs : List Funclet) (program : LinearProgram) (p : Imag
       let w = words_fit m (rsp c + (p.layout b.body).temporaries) (rsp c + home_end) b.temporaries
       h.0.waits.temporaries in
       in_body m (get c) (p.register b.body) (p.layout b.body) (rsp c)
-      (p.layout b.body).temporaries b.activation (rsp (after_leaf c back)) k base distance register acts b.body h.0.waits.activation i (omega arith)
-      (omega arith)
+      (p.layout b.body).temporaries b.activation (rsp (after_leaf c back)) k base distance register
+      acts b.body h.0.waits.activation i (omega arith) (omega arith)
       (λ j. are_there m (after_leaf c back) is below (activations_below b.body acts) k base distance
       register s.1 h.2 j)
   are_there m c (Searching r ∷ is) (Searches exception resumption asked rest ∷ below) acts k base
@@ -143,7 +145,8 @@ module _ (t : Functions) (fs : List Funclet) (program : LinearProgram) (p : Imag
       let e = rises t m c (Searching r) s.0 in
       higher m (rsp c) (rsp (context_of r.saved)) k base distance register acts (omega arith)
       (are_there m (context_of r.saved) is below acts k base distance register s.1 h.1 i)
-  are_there m c (Unwinding r ∷ is) (Unwinds rest target ∷ below) acts k base distance register s h i =
+  are_there m c (Unwinding r ∷ is) (Unwinds rest target ∷ below) acts k base distance register s h
+      i =
       let e = rises t m c (Unwinding r) s.0 in
       higher m (rsp c) (rsp r.walk) k base distance register acts (omega arith)
       (are_there m r.walk is below acts k base distance register s.1 h.1 i)
@@ -151,5 +154,5 @@ module _ (t : Functions) (fs : List Funclet) (program : LinearProgram) (p : Imag
 
 pub activations_are_at : (t : Functions) (fs : List Funclet) (program : LinearProgram)
     (p : ImagePlan) → ActivationsAreAt t fs program p
-activations_are_at t fs program p m c is items acts k base distance register s i = are_there t fs program p m
-    c is items acts k base distance register s.stack s.linked i
+activations_are_at t fs program p m c is items acts k base distance register s i =
+    are_there t fs program p m c is items acts k base distance register s.stack s.linked i

@@ -125,11 +125,12 @@ module _ (m m' : Memory) (t : Functions) (fs : List Funclet) (program : LinearPr
         let l = in_stack t fs program p m (after_frame c f) is below (activations_below b.body acts)
         s.1 h.2 in
         let w = h.0.waits in
-        let a = above_home (get c) (p.register b.body) w.code f.slots b.activation acts b.body (few w.code w.body) framed
-        (layouts b.body w.code w.body) w.activation in
+        let a = above_home (get c) (p.register b.body) w.code f.slots b.activation acts b.body
+        (few w.code w.body) framed (layouts b.body w.code w.body) w.activation in
         let size = a.frame in
         let temps = a.temporaries in
-        let ends = end_within m (get c) (p.register b.body) y (rsp c) f.slots b.activation acts b.body w.activation in
+        let ends = end_within m (get c) (p.register b.body) y (rsp c) f.slots b.activation acts
+        b.body w.activation in
         let outer = list_kept m m' t fs program p (after_frame c f) is below
         (activations_below b.body acts) (higher m m' STACK_END (rsp c + room)
         (rsp (after_frame c f)) (omega arith) reads) s.1 h.2 in
@@ -152,8 +153,8 @@ module _ (m m' : Memory) (t : Functions) (fs : List Funclet) (program : LinearPr
                 instruction = w.instruction;
                 same = w.same;
                 small = w.small;
-                activation = activation_free (get c) (p.register b.body) y f.slots b.activation acts b.body a (omega arith)
-                    w.activation;
+                activation = activation_free (get c) (p.register b.body) y f.slots b.activation
+                    acts b.body a (omega arith) w.activation;
                 temporaries = words_kept m m' STACK_END (rsp c + room) (rsp c + y.temporaries)
                     (rsp c + temporaries_end y b.body f.slots) b.temporaries reads (omega arith)
                     (omega arith) w.temporaries;

@@ -68,7 +68,8 @@ module _ (setting : Setting) where
       by_leaf f true name is layouts h =
           let low = sp_low in
           leaf_placed s.memory (get (context_of s.cpu)) (p.register c.frame.body)
-          (image.no_registers c.frame.body) (p.layout c.frame.body) code sp c.frame.activation f b.body.acts
+          (image.no_registers c.frame.body) (p.layout c.frame.body) code sp c.frame.activation f
+          b.body.acts
           (subst (λ l. IsLayoutIf program p (p.layout c.frame.body) code l) is
           (subst (λ n. IsLayoutIf program p (p.layout n) code (p.leaf n)) (sym name) layouts))
           (omega arith) (b.body.home is) h
@@ -76,7 +77,8 @@ module _ (setting : Setting) where
           let low = sp_low in
           let top = frame_top in
           function_placed s.memory (get (context_of s.cpu)) (p.register c.frame.body)
-          (image.no_registers c.frame.body) (p.layout c.frame.body) code sp c.frame.activation f b.body.acts
+          (image.no_registers c.frame.body) (p.layout c.frame.body) code sp c.frame.activation f
+          b.body.acts
           (subst (λ l. IsLayoutIf program p (p.layout c.frame.body) code l) is
           (subst (λ n. IsLayoutIf program p (p.layout n) code (p.leaf n)) (sym name) layouts))
           (omega arith) (omega arith) h
@@ -232,8 +234,8 @@ module _ (setting : Setting) where
             plan = plan;
             layout = subst (λ n. IsFuncletLayout (p.layout n)
                 (p.layout (FunctionBody plan.funclet.function)) code) (sym name) plan.layout;
-            activation = subst (λ l. HasActivation s.memory (get (context_of s.cpu)) (p.register c.frame.body)
-                (p.layout c.frame.body) sp
+            activation = subst (λ l. HasActivation s.memory (get (context_of s.cpu))
+                (p.register c.frame.body) (p.layout c.frame.body) sp
                 (slots_end (p.layout c.frame.body) l) c.frame.activation b.body.acts
                 (FuncletBody k))
                 framed h;

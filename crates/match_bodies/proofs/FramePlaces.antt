@@ -1,11 +1,12 @@
--- Where no local is in a register, the locals of an activation are words of its frame.
+-- Where no local is in a register, the locals of an activation are words of its frame; with the
+-- same registers they are where they were.
 use Rattle.std.proofs.Common.{◌≡◌, ℕ, ◌+◌, Option, None, Ok, List, [], ◌∷◌, length, sym, subst, ◌∙◌, arith}
 use Rattle.std.specs.Prelude.{slice_index}
-use Rattle.match_bodies.specs.Words.{Memory, Context, get, rsp, word, Layout, BodyName, FunctionBody, FuncletBody, Activation, HoldsWords, IsInPlace, HoldsPlaces, HasActivation, IsInFrame, FrameWords, IsLeft, LeavesRegisters}
+use Rattle.match_bodies.specs.Words.{Memory, Context, get, rsp, word, Layout, BodyName, Activation, HoldsWords, IsInPlace, HoldsPlaces, HasActivation, IsInFrame, FrameWords, IsLeft, LeavesRegisters}
 
 -- ---- one local
 
--- a register of none
+-- no local is in a register
 abbrev pub InFrames : (ℕ → Option ℕ) → Type 0
 InFrames register = (local : ℕ) → register local ≡ None
 
@@ -16,10 +17,6 @@ framed_word m at v o e h = subst (IsInFrame m at v) e h
 word_framed : (m : Memory) (at v : ℕ) (o : Option ℕ) → o ≡ None → word m at ≡ Ok v
     → IsInFrame m at v o
 word_framed m at v o e h = subst (IsInFrame m at v) (sym e) h
-
-placed_word : (m : Memory) (now : ℕ → ℕ) (at v : ℕ) (o : Option ℕ) → o ≡ None
-    → IsInPlace m now at v o → word m at ≡ Ok v
-placed_word m now at v o e h = subst (IsInPlace m now at v) e h
 
 word_placed : (m : Memory) (now : ℕ → ℕ) (at v : ℕ) (o : Option ℕ) → o ≡ None → word m at ≡ Ok v
     → IsInPlace m now at v o
@@ -45,15 +42,6 @@ frame_of_words m register none i at end [] h = h
 frame_of_words m register none i at end (v ∷ vs) h = (
   word_framed m at v (register i) (none i) h.0,
   frame_of_words m register none (i + 1) (at + 8) end vs h.1,
-)
-
-pub words_of_places : (m : Memory) (now : ℕ → ℕ) (register : ℕ → Option ℕ) → InFrames register
-    → (i at end : ℕ) (vs : List ℕ) → HoldsPlaces m now register i at end vs
-    → HoldsWords m at end vs
-words_of_places m now register none i at end [] h = h
-words_of_places m now register none i at end (v ∷ vs) h = (
-  placed_word m now at v (register i) (none i) h.0,
-  words_of_places m now register none (i + 1) (at + 8) end vs h.1,
 )
 
 pub places_of_words : (m : Memory) (now : ℕ → ℕ) (register : ℕ → Option ℕ) → InFrames register
@@ -96,17 +84,3 @@ activation_with m register y c c' size k acts name same h =
         → HasActivation m (get (record { rip = c'.rip; kept = kept })) register y
         (slice_index kept 0) size k acts name
     going rip kept h = h
-
--- with any registers, where no local is in one
-pub activation_now : (m : Memory) (now now' : ℕ → ℕ) (register : ℕ → Option ℕ) → InFrames register
-    → (y : Layout) (sp size k : ℕ) (acts : List Activation) (name : BodyName)
-    → HasActivation m now register y sp size k acts name
-    → HasActivation m now' register y sp size k acts name
-activation_now m now now' register none y sp size k [] (FunctionBody f) h = absurd h
-activation_now m now now' register none y sp size k (a ∷ outer) (FunctionBody f) h = record {
-  none = h.none;
-  activation = h.activation;
-  values = places_of_words m now' register none 0 (sp + y.locals) (sp + size) a.values
-      (words_of_places m now register none 0 (sp + y.locals) (sp + size) a.values h.values);
-}
-activation_now m now now' register none y sp size k acts (FuncletBody j) h = h

@@ -189,7 +189,8 @@ module _ (setting : Setting) where
           })
 
       funclet_base : (number size : ℕ) → (h : HasActivation s.memory then registers y sp size
-          c.frame.activation b.body.acts (FuncletBody number)) → KeepsSlot s.memory y (Some h.slot) sp here.base
+          c.frame.activation b.body.acts (FuncletBody number))
+          → KeepsSlot s.memory y (Some h.slot) sp here.base
       funclet_base number size h = subst (λ o. KeepsSlot s.memory y o sp here.base) h.some here.kept
 
       -- the frame's word at an offset that is in no slot
@@ -249,20 +250,23 @@ module _ (setting : Setting) where
           (with_values b.body.acts c.frame.activation values) c.frame.body
       activation = elim (kind setting s c b counted) [
         | inl f ↦ subst (λ l. HasActivation u.memory now registers y sp (slots_end y l)
-            c.frame.activation (with_values b.body.acts c.frame.activation values) c.frame.body) (sym f.framed)
+            c.frame.activation (with_values b.body.acts c.frame.activation values) c.frame.body)
+            (sym f.framed)
             (subst (λ n. HasActivation u.memory now registers y sp y.frame c.frame.activation
             (with_values b.body.acts c.frame.activation values) n) (sym f.name)
             (own_activation f.number y.frame b.body.acts refl f.activation (let n = r.leaves.count
             in let z = f.layout.locals in omega arith)))
         | inr (inl f) ↦ subst (λ l. HasActivation u.memory now registers y sp (slots_end y l)
-            c.frame.activation (with_values b.body.acts c.frame.activation values) c.frame.body) (sym f.leaf)
+            c.frame.activation (with_values b.body.acts c.frame.activation values) c.frame.body)
+            (sym f.leaf)
             (subst (λ n. HasActivation u.memory now registers y sp y.temporaries c.frame.activation
             (with_values b.body.acts c.frame.activation values) n) (sym f.name)
             (own_activation f.number y.temporaries b.body.acts refl f.activation
             (let n = r.leaves.count in let x = f.layout.temporaries in let z = f.layout.locals in
             omega arith)))
         | inr (inr f) ↦ subst (λ l. HasActivation u.memory now registers y sp (slots_end y l)
-            c.frame.activation (with_values b.body.acts c.frame.activation values) c.frame.body) (sym f.framed)
+            c.frame.activation (with_values b.body.acts c.frame.activation values) c.frame.body)
+            (sym f.framed)
             (subst (λ n. HasActivation u.memory now registers y sp y.frame c.frame.activation
             (with_values b.body.acts c.frame.activation values) n) (sym f.name)
             (record {
@@ -459,7 +463,8 @@ module _ (setting : Setting) where
           same = same_regions (regions_of (body_of program c.frame.body)) label;
           small = well_formed.rip_small;
           activation = subst (λ x. HasActivation u.memory now registers y x
-              (slots_end y (p.leaf c.frame.body)) c.frame.activation (with_values b.body.acts c.frame.activation values) c.frame.body)
+              (slots_end y (p.leaf c.frame.body)) c.frame.activation
+              (with_values b.body.acts c.frame.activation values) c.frame.body)
               (sym stack_there) activation;
           temporaries = subst (λ x. HoldsWords u.memory (x + y.temporaries)
               (x + last_temporary y c.frame.body (p.leaf c.frame.body)) ts)

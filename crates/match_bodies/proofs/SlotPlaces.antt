@@ -58,13 +58,13 @@ own_placed : (m : Memory) (now : ℕ → ℕ) (register : ℕ → Option ℕ) �
     → (sp + (y.locals + 8 * length a.values) ≤ sp + y.temporaries)
     ⊎ (sp + (y.temporaries + 8 * temporaries) ≤ sp + y.locals)
     → SlotsPlaced m y temporaries sp k (a ∷ outer)
-own_placed m now register framed y temporaries sp size k f room a outer none h low high small temps
-    locals apart =
+own_placed m now register in_frames y temporaries sp size k f room a outer none h low high small
+    temps locals apart =
     record {
       base = sp;
       values = a.values;
       number = own_number a outer k h.activation.number;
-      holds = words_of_frame m register framed 0 (sp + y.locals)
+      holds = words_of_frame m register in_frames 0 (sp + y.locals)
           (sp + y.locals + 8 * length a.values) a.values
           (frame_words m now register 0 (sp + y.locals) (sp + size) a.values h.values);
       sp_low = low;
@@ -82,28 +82,28 @@ pub function_placed : (m : Memory) (now : ℕ → ℕ) (register : ℕ → Optio
     (acts : List Activation) → IsFunctionLayout y b → STACK_START ≤ sp → sp + y.frame ≤ STACK_END
     → HasActivation m now register y sp y.frame k acts (FunctionBody f)
     → SlotsPlaced m y b.temporaries sp k acts
-function_placed m now register framed y b sp k f [] l low high h = absurd h
-function_placed m now register framed y b sp k f (a ∷ outer) l low high h =
+function_placed m now register in_frames y b sp k f [] l low high h = absurd h
+function_placed m now register in_frames y b sp k f (a ∷ outer) l low high h =
     let w = places_fit m now register 0 (sp + y.locals) (sp + y.frame) a.values h.values in
     let t = l.temporaries in
     let small = l.small in
     let more = l.locals in
-    own_placed m now register framed y b.temporaries sp y.frame k f y.frame a outer l.none h low high (omega arith)
-    (omega arith) (omega arith) (inr (omega arith))
+    own_placed m now register in_frames y b.temporaries sp y.frame k f y.frame a outer l.none h low
+    high (omega arith) (omega arith) (omega arith) (inr (omega arith))
 
 pub leaf_placed : (m : Memory) (now : ℕ → ℕ) (register : ℕ → Option ℕ) → InFrames register
     → (y : Layout) (b : LinearBody) (sp k f : ℕ) (acts : List Activation)
     → IsLeafLayout y b → STACK_START ≤ sp → sp + home_end ≤ STACK_END
     → HasActivation m now register y sp y.temporaries k acts (FunctionBody f)
     → SlotsPlaced m y b.temporaries sp k acts
-leaf_placed m now register framed y b sp k f [] l low high h = absurd h
-leaf_placed m now register framed y b sp k f (a ∷ outer) l low high h =
+leaf_placed m now register in_frames y b sp k f [] l low high h = absurd h
+leaf_placed m now register in_frames y b sp k f (a ∷ outer) l low high h =
     let w = places_fit m now register 0 (sp + y.locals) (sp + y.temporaries) a.values h.values in
     let t = l.temporaries in
     let few = l.few in
     let first = l.locals in
-    own_placed m now register framed y b.temporaries sp y.temporaries k f home_end a outer l.none h low high
-    (omega arith) (omega arith) (omega arith) (inl (omega arith))
+    own_placed m now register in_frames y b.temporaries sp y.temporaries k f home_end a outer l.none
+    h low high (omega arith) (omega arith) (omega arith) (inl (omega arith))
 
 -- ---- a funclet's, further up
 
@@ -120,7 +120,8 @@ module _ (t : Functions) (fs : List Funclet) (program : LinearProgram) (p : Imag
       → ((values : List ℕ) → slice_get (locals_of acts) k ≡ Some values
       → 8 * length values < 2 ^ 30) → function.locals < 2 ^ 30
       → SlotsPlaced m y b.temporaries sp k acts
-  funclet_placed m now register framed y function b sp k j acts c is items l low at list h few near =
+  funclet_placed m now register in_frames y function b sp k j acts c is items l low at list h few
+      near =
       let a = activations_are_at t fs program p m c is items acts k h.base y.locals
       register list
       h.activation in
@@ -137,7 +138,7 @@ module _ (t : Functions) (fs : List Funclet) (program : LinearProgram) (p : Imag
         base = h.base;
         values = a.values;
         number = a.number;
-        holds = words_of_frame m register framed 0 (h.base + y.locals)
+        holds = words_of_frame m register in_frames 0 (h.base + y.locals)
             (h.base + y.locals + 8 * length a.values) a.values a.holds;
         sp_low = low;
         sp_high = omega arith;

@@ -313,13 +313,15 @@ module _ (t : Functions) (fs : List Funclet) (program : LinearProgram) (p : Imag
       searched_outer t fs program p m acts acts c (context_of r.saved) (Searching r ∷ is) is
       (Searches exception resumption asked rest ∷ below) below
       (let q = rises t m c (Searching r) s.0 in omega arith)
-      (λ k base distance register i. i) (λ to row found o. o) (λ depth label frame address a. a) _ _ _ refl
+      (λ k base distance register i. i) (λ to row found o. o) (λ depth label frame address a. a) _ _
+      _ refl
       (searched_plainly m acts is below (context_of r.saved) 0 None s.1 h.1
       (at_first_row t fs program p below) (wide_saved r h.0.own.fits))
   searched_plainly m acts (Unwinding r ∷ is) (Unwinds rest target ∷ below) c row left s h at wide =
       searched_outer t fs program p m acts acts c r.walk (Unwinding r ∷ is) is
       (Unwinds rest target ∷ below) below (let q = rises t m c (Unwinding r) s.0 in omega arith)
-      (λ k base distance register i. i) (λ to row found o. o) (λ depth label frame address a. a) _ _ _ refl
+      (λ k base distance register i. i) (λ to row found o. o) (λ depth label frame address a. a) _ _
+      _ refl
       (searched_plainly m acts is below r.walk r.row (Some rest) s.1 h.1 h.0.row
       (wide_walk r h.0.own.fits))
   searched_plainly m acts is items c row left s h at wide = absurd h
@@ -371,15 +373,15 @@ module _ (t : Functions) (fs : List Funclet) (program : LinearProgram) (p : Imag
       searched_outer t fs program p m acts acts c (context_of r.saved) (Searching r ∷ is) is
       (Searches exception resumption asked rest ∷ below) below
       (let q = rises t m c (Searching r) s.0 in omega arith)
-      (λ k base distance register i. i) (λ to row found o. o) (λ depth label frame address a. a) _ _ found
-      refl
+      (λ k base distance register i. i) (λ to row found o. o) (λ depth label frame address a. a) _ _
+      found refl
       (continues m acts is below (context_of r.saved) to row found n s.1 h.1
       (wide_saved r h.0.own.fits) o (omega arith))
   continues m acts (Unwinding r ∷ is) (Unwinds rest target ∷ below) c to row found n s h wide o lt =
       searched_outer t fs program p m acts acts c r.walk (Unwinding r ∷ is) is
       (Unwinds rest target ∷ below) below (let q = rises t m c (Unwinding r) s.0 in omega arith)
-      (λ k base distance register i. i) (λ to row found o. o) (λ depth label frame address a. a) _ _ found
-      refl
+      (λ k base distance register i. i) (λ to row found o. o) (λ depth label frame address a. a) _ _
+      found refl
       (continues m acts is below r.walk to row found n s.1 h.1 (wide_walk r h.0.own.fits) o
       (omega arith))
   continues m acts [] items c to row found n s h wide o lt = absurd o

@@ -254,8 +254,8 @@ module _ (setting : Setting) where
     in_code = let g = (image.addresses (FuncletBody k) l.funclet.body is).rises 0 some in
         let r = h.rip in record { low = omega arith; high = omega arith }
 
-    pub kept_base : HasActivation u.memory (get (context_of u.cpu)) (p.register (FuncletBody k)) y sp
-        y.frame activation acts (FuncletBody k)
+    pub kept_base : HasActivation u.memory (get (context_of u.cpu)) (p.register (FuncletBody k)) y
+        sp y.frame activation acts (FuncletBody k)
     kept_base =
         let e = high in
         let z = l.plan.layout.kept in
@@ -285,7 +285,8 @@ module _ (setting : Setting) where
       same = same_regions (regions_of (body_of program (FuncletBody k))) 0;
       small = h.well_formed.rip_small;
       activation = subst (λ z. HasActivation u.memory (get (context_of u.cpu))
-          (p.register (FuncletBody k)) y sp (slots_end y z) activation acts (FuncletBody k)) (sym l.plan.framed) kept_base;
+          (p.register (FuncletBody k)) y sp (slots_end y z) activation acts (FuncletBody k))
+          (sym l.plan.framed) kept_base;
       temporaries = subst (λ z. HoldsWords u.memory (sp + y.temporaries)
           (sp + last_temporary y (FuncletBody k) z) []) (sym l.plan.framed) no_temporaries;
       space = space;
