@@ -1,5 +1,5 @@
 -- The image of a compiled program has its bodies where the plan says.
-use Rattle.std.proofs.Common.{◌≡◌, ℕ, ◌+◌, ◌<◌, length, Some, sym, ap, subst, ◌∙◌, arith}
+use Rattle.std.proofs.Common.{◌≡◌, ℕ, ◌+◌, ◌<◌, length, Some, refl, sym, ap, subst, ◌∙◌, arith}
 use Rattle.std.proofs.lemmas.Bool.{lt-ltb, ltb-true}
 use Rattle.image_states.specs.Words.{LinearBody, LinearProgram, BodyName, body_of, sizes, body_size, offset_of, check_stack_at, Placed, end_of, site_of, image_base, begin_of, entry_code, functions_of, funclets_of, routine_of, address_of, plan_of, sites_of, HasWholeImage, HasAddresses, ImagesArePrograms}
 use Rattle.image_states.proofs.Lemmas.{entry_sizes}
@@ -67,6 +67,7 @@ images_are_programs program c = record {
   laid_out = laid_out program c;
   addresses = λ name b is. addresses program c name b is;
   check_stack = check_stack_inside program c;
+  no_registers = λ name local. refl;
   lands = λ name b label is lt. lt-ltb label (length (routine_of program name).routine.body.code)
       (let e = same_length program c name b is in omega arith);
   landings = λ name b label is l. (let lt = ltb-true label

@@ -149,6 +149,7 @@ plan_of program = record {
       λ name. tables.entry_of (site_of program) (routine_of program name)
       (or_none (routine_of program name).routine.frame);
   layout = λ name. (routine_of program name).routine.layout;
+  register = λ name local. None;
   lands = λ name label. nat_lt label (length (routine_of program name).routine.body.code);
   resumes = resumes program;
 }

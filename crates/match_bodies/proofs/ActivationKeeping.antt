@@ -1,5 +1,5 @@
 -- Other numbers in the locals of one activation leave the others as they are.
-use Rattle.std.proofs.Common.{◌≡◌, ℕ, suc, ◌<◌, Bool, true, false, List, [], ◌∷◌, length, refl, sym, ap, ◌∙◌, arith, inl, inr}
+use Rattle.std.proofs.Common.{◌≡◌, ℕ, suc, ◌<◌, Bool, true, false, Option, List, [], ◌∷◌, length, refl, sym, ap, ◌∙◌, arith, inl, inr}
 use Rattle.std.specs.Prelude.{◌==◌}
 use Rattle.std.proofs.lemmas.Bool.{eq-eqb, ne_eqb}
 use Rattle.match_bodies.specs.Words.{Activation, IsActivation, with_values, with_values_if}
@@ -16,30 +16,38 @@ with_count (a ∷ outer) k values = by (k == length outer) (with_count outer k v
     by true e = refl
     by false e = ap suc e
 
-pub is_lower : (acts : List Activation) (k base distance : ℕ) → IsActivation acts k base distance
-    → k < length acts
-is_lower [] k base distance i = absurd i
-is_lower (a ∷ outer) k base distance (inl b) = omega (arith, b.number)
-is_lower (a ∷ outer) k base distance (inr i) = let e = is_lower outer k base distance i in
-    omega arith
+pub is_lower : (acts : List Activation) (k base distance : ℕ) (register : ℕ → Option ℕ)
+    → IsActivation acts k base distance register → k < length acts
+is_lower [] k base distance register i = absurd i
+is_lower (a ∷ outer) k base distance register (inl b) = omega (arith, b.number)
+is_lower (a ∷ outer) k base distance register (inr i) =
+    let e = is_lower outer k base distance register i in omega arith
 
 -- each activation has the base that it had
 pub still_is : (acts : List Activation) (k : ℕ) (values : List ℕ) (j base distance : ℕ)
-    → IsActivation acts j base distance → IsActivation (with_values acts k values) j base distance
-still_is [] k values j base distance i = absurd i
-still_is (a ∷ outer) k values j base distance i = by (k == length outer) i
-    (λ h. still_is outer k values j base distance h)
+    (register : ℕ → Option ℕ) → IsActivation acts j base distance register
+    → IsActivation (with_values acts k values) j base distance register
+still_is [] k values j base distance register i = absurd i
+still_is (a ∷ outer) k values j base distance register i = by (k == length outer) i
+    (λ h. still_is outer k values j base distance register h)
   where
-    by : (b : Bool) → IsActivation (a ∷ outer) j base distance
-        → (IsActivation outer j base distance → IsActivation (with_values outer k values) j base
-        distance) → IsActivation (with_values_if b a outer values (with_values outer k values)) j
-        base distance
-    by true (inl h) rest = inl (record { number = h.number; base = h.base; distance = h.distance })
+    by : (b : Bool) → IsActivation (a ∷ outer) j base distance register
+        → (IsActivation outer j base distance register
+        → IsActivation (with_values outer k values) j base distance register)
+        → IsActivation (with_values_if b a outer values (with_values outer k values)) j base
+        distance register
+    by true (inl h) rest = inl (record {
+      number = h.number;
+      base = h.base;
+      distance = h.distance;
+      registers = h.registers;
+    })
     by true (inr h) rest = inr h
     by false (inl h) rest = inl (record {
       number = h.number ∙ sym (with_count outer k values);
       base = h.base;
       distance = h.distance;
+      registers = h.registers;
     })
     by false (inr h) rest = inr (rest h)
 

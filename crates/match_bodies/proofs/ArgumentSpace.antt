@@ -1,8 +1,8 @@
 -- The home space and the places of further arguments at the bottom of a caller's frame are its
 -- callee's (Microsoft x64 ABI, "Stack allocation"): a change of them leaves the list as it is.
 use Rattle.std.proofs.Common.{◌≡◌, ℕ, ◌+◌, ◌*◌, ◌≤◌, true, false, Option, Some, None, List, [], ◌∷◌, refl, sym, subst, ◌∙◌, arith, inr}
-use Rattle.match_bodies.specs.Words.{STACK_START, STACK_END, Memory, Context, rsp, Functions, Funclet, Layout, LinearProgram, LinearBody, BodyName, FunctionBody, FuncletBody, body_of, Frame, Item, Waits, Searches, Unwinds, StackFrame, StackItem, Framed, Leaf, Searching, Unwinding, IsStack, after_frame, ImagePlan, Activation, activations_below, temporaries_end, HasActivation, HasPointers, IsAbove, Linked, IsLinkedStack, IsFunctionLayout, IsLayoutIf, IsLaidOut, AreLaidOut, KeepsStackBut}
-use Rattle.match_bodies.proofs.Lemmas.{words_fit, end_within, in_stack, ReadsSame, higher, frame_above, words_kept, list_kept, reads_other}
+use Rattle.match_bodies.specs.Words.{STACK_START, STACK_END, Memory, Context, get, rsp, Functions, Funclet, Layout, LinearProgram, LinearBody, BodyName, FunctionBody, FuncletBody, body_of, Frame, Item, Waits, Searches, Unwinds, StackFrame, StackItem, Framed, Leaf, Searching, Unwinding, IsStack, after_frame, ImagePlan, Activation, activations_below, temporaries_end, HasActivation, HasPointers, IsAbove, Linked, IsLinkedStack, IsFunctionLayout, IsLayoutIf, IsLaidOut, AreLaidOut, KeepsStackBut}
+use Rattle.match_bodies.proofs.Lemmas.{places_fit, end_within, in_stack, ReadsSame, higher, frame_above, words_kept, places_kept, list_kept, reads_other}
 
 module _ (m m' : Memory) (t : Functions) (fs : List Funclet) (program : LinearProgram)
     (p : ImagePlan) (layouts : AreLaidOut program p) (room : ℕ) where
@@ -26,17 +26,18 @@ module _ (m m' : Memory) (t : Functions) (fs : List Funclet) (program : LinearPr
       pub base : (slot : ℕ) → y.base ≡ Some slot → room ≤ slot
       pub pointers : (k : ℕ) → name ≡ FuncletBody k → room ≤ y.pointers
 
-    above_home : (b : LinearBody) (size : ℕ) (k : ℕ) (acts : List Activation) (name : BodyName)
+    above_home : (now : ℕ → ℕ) (register : ℕ → Option ℕ) (b : LinearBody) (size : ℕ) (k : ℕ)
+        (acts : List Activation) (name : BodyName)
         → room ≤ 32 + 8 * b.passed → p.leaf name ≡ false → IsLaidOut program p name b
-        → HasActivation m (p.layout name) (rsp c) size k acts name
+        → HasActivation m now register (p.layout name) (rsp c) size k acts name
         → AboveHome (p.layout name) name size
-    above_home b size k [] (FunctionBody f) few framed l h = absurd h
-    above_home b size k (a ∷ outer) (FunctionBody f) few framed l h =
+    above_home now register b size k [] (FunctionBody f) few framed l h = absurd h
+    above_home now register b size k (a ∷ outer) (FunctionBody f) few framed l h =
         let y = p.layout (FunctionBody f) in
         let g : IsFunctionLayout y b = subst (λ x. IsLayoutIf program p y b x) framed l in
         let q = g.passed in
         let r = g.temporaries in
-        let w = words_fit m (rsp c + y.locals) (rsp c + size) a.values h.values in
+        let w = places_fit m now register 0 (rsp c + y.locals) (rsp c + size) a.values h.values in
         record {
           frame = omega arith;
           temporaries = omega arith;
@@ -47,7 +48,7 @@ module _ (m m' : Memory) (t : Functions) (fs : List Funclet) (program : LinearPr
       where
         no_base : (slot : ℕ) → ◌≡◌ {A = Option ℕ} None (Some slot) → ⊥
         no_base slot e = cc
-    above_home b size k acts (FuncletBody j) few framed l h =
+    above_home now register b size k acts (FuncletBody j) few framed l h =
         let g = l.layout in
         let q = g.passed in
         let r = g.kept in
@@ -66,19 +67,21 @@ module _ (m m' : Memory) (t : Functions) (fs : List Funclet) (program : LinearPr
         same : (x y : ℕ) → Some x ≡ Some y → x ≡ y
         same x y e = cc
 
-    activation_free : (y : Layout) (size k : ℕ) (acts : List Activation) (name : BodyName)
+    activation_free : (now : ℕ → ℕ) (register : ℕ → Option ℕ) (y : Layout) (size k : ℕ)
+        (acts : List Activation) (name : BodyName)
         → AboveHome y name size → rsp c + size ≤ STACK_END
-        → HasActivation m y (rsp c) size k acts name → HasActivation m' y (rsp c) size k acts name
-    activation_free y size k [] (FunctionBody f) a top h = absurd h
-    activation_free y size k (x ∷ outer) (FunctionBody f) a top h =
+        → HasActivation m now register y (rsp c) size k acts name
+        → HasActivation m' now register y (rsp c) size k acts name
+    activation_free now register y size k [] (FunctionBody f) a top h = absurd h
+    activation_free now register y size k (x ∷ outer) (FunctionBody f) a top h =
         let l = a.locals f refl in
         record {
           none = h.none;
           activation = h.activation;
-          values = words_kept m m' STACK_END (rsp c + room) (rsp c + y.locals) (rsp c + size)
-              x.values reads (omega arith) top h.values;
+          values = places_kept m m' STACK_END now register (rsp c + room) 0 (rsp c + y.locals)
+              (rsp c + size) x.values reads (omega arith) top h.values;
         }
-    activation_free y size k acts (FuncletBody j) a top h =
+    activation_free now register y size k acts (FuncletBody j) a top h =
         let z = h.room in
         let l = a.base h.slot h.some in
         record {
@@ -122,11 +125,12 @@ module _ (m m' : Memory) (t : Functions) (fs : List Funclet) (program : LinearPr
         let l = in_stack t fs program p m (after_frame c f) is below (activations_below b.body acts)
         s.1 h.2 in
         let w = h.0.waits in
-        let a = above_home w.code f.slots b.activation acts b.body (few w.code w.body) framed
-        (layouts b.body w.code w.body) w.activation in
+        let a = above_home (get c) (p.register b.body) w.code f.slots b.activation acts b.body
+        (few w.code w.body) framed (layouts b.body w.code w.body) w.activation in
         let size = a.frame in
         let temps = a.temporaries in
-        let ends = end_within m y (rsp c) f.slots b.activation acts b.body w.activation in
+        let ends = end_within m (get c) (p.register b.body) y (rsp c) f.slots b.activation acts
+        b.body w.activation in
         let outer = list_kept m m' t fs program p (after_frame c f) is below
         (activations_below b.body acts) (higher m m' STACK_END (rsp c + room)
         (rsp (after_frame c f)) (omega arith) reads) s.1 h.2 in
@@ -149,8 +153,8 @@ module _ (m m' : Memory) (t : Functions) (fs : List Funclet) (program : LinearPr
                 instruction = w.instruction;
                 same = w.same;
                 small = w.small;
-                activation = activation_free y f.slots b.activation acts b.body a (omega arith)
-                    w.activation;
+                activation = activation_free (get c) (p.register b.body) y f.slots b.activation
+                    acts b.body a (omega arith) w.activation;
                 temporaries = words_kept m m' STACK_END (rsp c + room) (rsp c + y.temporaries)
                     (rsp c + temporaries_end y b.body f.slots) b.temporaries reads (omega arith)
                     (omega arith) w.temporaries;

@@ -2,7 +2,7 @@
 use Rattle.std.proofs.Common.{◌≡◌, ℕ, ◌+◌, ◌≤◌, Bool, true, false, List, [], ◌∷◌, length, Option, Some, Ok, refl, sym, ap, subst, ◌∙◌, arith}
 use Rattle.std.specs.Prelude.{slice_set, slice_get, slice_index}
 use Rattle.std.specs.List.{AllByRecursion}
-use Rattle.match_bodies.specs.Words.{Event, STACK_END, Memory, Rsp, Context, context_of, State, register, rsp, Functions, word, Funclet, Layout, Region, LinearProgram, LinearBody, LinearFunclet, BodyName, FunctionBody, FuncletBody, Frame, Item, Waits, Searches, Unwinds, body_of, holds, regions_of, StackFrame, StackItem, Framed, Leaf, FrameIsAt, after_leaf, context_below, IsWellFormed, ImagePlan, InCode, Activation, activations_below, HoldsWords, HasActivation, temporaries_end, home_end, HasSpace, below_end, BodyWaits, HasPointers, IsAbove, FuncletIsAbove, On, Sites, IsLaidOut, IsProgramImage, frame_of, slots_end, last_temporary, HasFrame, InBody, IsAsTold, IsAllocated}
+use Rattle.match_bodies.specs.Words.{Event, STACK_END, Memory, Rsp, Context, context_of, State, register, get, rsp, Functions, word, Funclet, Layout, Region, LinearProgram, LinearBody, LinearFunclet, BodyName, FunctionBody, FuncletBody, Frame, Item, Waits, Searches, Unwinds, body_of, holds, regions_of, StackFrame, StackItem, Framed, Leaf, FrameIsAt, after_leaf, context_below, IsWellFormed, ImagePlan, InCode, Activation, activations_below, HoldsWords, HasActivation, temporaries_end, home_end, HasSpace, below_end, BodyWaits, HasPointers, IsAbove, FuncletIsAbove, On, Sites, IsLaidOut, IsProgramImage, frame_of, slots_end, last_temporary, HasFrame, InBody}
 use Rattle.eh_tables.specs.Tables.{Entry}
 use Rattle.virtual_unwind.specs.Undone.{operations}
 use Rattle.frame_rules.specs.Codes.{depth}
@@ -13,6 +13,7 @@ use Rattle.match_stack.specs.HostUnwind.{on_top}
 use Rattle.match_bodies.proofs.Lemmas.{told_depth}
 use Rattle.match_bodies.proofs.InstructionEffects.{others_of}
 use Rattle.match_bodies.proofs.StackTop.{leaf_layout}
+use Rattle.match_bodies.proofs.FramePlaces.{activation_with}
 use Rattle.match_bodies.proofs.BodyFrames.{small_others, told_with}
 
 all_same : (label : ℕ) (rs : List Region) → AllByRecursion
@@ -135,9 +136,10 @@ module _ (t : Functions) (fs : List Funclet) (program : LinearProgram) (p : Imag
             instruction = record { low = inside.low; high = inside.high };
             same = all_same label (regions_of (body_of program name));
             small = well.rip_small;
-            activation = subst (λ x. HasActivation m y x y.frame b.activation acts name) (sym sp)
-                (subst (λ n. HasActivation m y (rsp c) n b.activation acts name) l.0.slots
-                w.activation);
+            activation = activation_with m (p.register name) y c (context_of u.cpu) y.frame
+                b.activation acts name same
+                (subst (λ n. HasActivation m (get c) (p.register name) y (rsp c) n b.activation acts
+                name) l.0.slots w.activation);
             temporaries = subst (λ x. HoldsWords m (x + y.temporaries)
                 (x + temporaries_end y name y.frame) ts) (sym sp)
                 (front (rsp c + y.temporaries) (rsp c + temporaries_end y name y.frame)
@@ -208,8 +210,8 @@ module _ (t : Functions) (fs : List Funclet) (program : LinearProgram) (p : Imag
             instruction = record { low = inside.low; high = inside.high };
             same = all_same label (regions_of (body_of program name));
             small = well.rip_small;
-            activation = subst (λ x. HasActivation m y x y.temporaries b.activation acts name)
-                (sym sp) w.activation;
+            activation = activation_with m (p.register name) y c (context_of u.cpu) y.temporaries
+                b.activation acts name same w.activation;
             temporaries = subst (λ x. HoldsWords m (x + y.temporaries) (x + home_end) ts) (sym sp)
                 (front (rsp c + y.temporaries) (rsp c + home_end) w.temporaries);
             space = subst (λ x. HasSpace x below_end (length acts + b.held)) (sym sp) w.space;

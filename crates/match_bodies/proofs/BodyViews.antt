@@ -1,7 +1,7 @@
 -- The running body has a view: its slots as templates see them hold linear code's numbers.
 use Rattle.std.proofs.Common.{◌≡◌, ℕ, ◌+◌, ◌*◌, ◌≤◌, Bool, true, false, Some, None, List, [], ◌∷◌, length, refl, sym, ap, subst, ◌∙◌, arith, inl, inr}
 use Rattle.std.specs.Prelude.{◌⊎◌, slice_get, slice_index, drop}
-use Rattle.match_bodies.specs.Words.{STACK_START, STACK_END, Rsp, State, register, LinearBody, BodyName, FunctionBody, FuncletBody, body_of, Configuration, machine, context_below, locals_of, activations_below, temporaries_end, HasActivation, IsLinkedStack, IsFunctionLayout, IsLeafLayout, IsFuncletLayout, IsLayoutIf, IsLaidOut, IsFuncletPlan, slots_end, last_temporary, FrameHolds, seen_by_templates, counts_of, frame_at, state_of, Setting, RepresentsAt, Roomy, HasSlotsOf}
+use Rattle.match_bodies.specs.Words.{STACK_START, STACK_END, Rsp, State, context_of, get, register, LinearBody, BodyName, FunctionBody, FuncletBody, body_of, Configuration, machine, context_below, locals_of, activations_below, temporaries_end, HasActivation, IsLinkedStack, IsFunctionLayout, IsLeafLayout, IsFuncletLayout, IsLayoutIf, IsLaidOut, IsFuncletPlan, slots_end, last_temporary, FrameHolds, seen_by_templates, counts_of, frame_at, state_of, Setting, RepresentsAt, Roomy, HasSlotsOf}
 use Rattle.linear_machine.specs.Frames as linear
 use Rattle.match_bodies.proofs.Lemmas.{in_stack}
 use Rattle.match_bodies.proofs.SlotPlaces.{SlotsPlaced, function_placed, leaf_placed, funclet_placed, room_of, holds_of, local_is, temporary_is}
@@ -59,27 +59,33 @@ module _ (setting : Setting) where
 
       by_leaf : (f : ℕ) (leaf : Bool) → c.frame.body ≡ FunctionBody f → p.leaf c.frame.body ≡ leaf
           → IsLaidOut program p (FunctionBody f) code
-          → HasActivation s.memory (p.layout c.frame.body) sp
+          → HasActivation s.memory (get (context_of s.cpu)) (p.register c.frame.body)
+          (p.layout c.frame.body) sp
           (slots_end (p.layout c.frame.body) leaf)
           c.frame.activation b.body.acts (FunctionBody f)
           → SlotsPlaced s.memory (p.layout c.frame.body) code.temporaries sp c.frame.activation
           b.body.acts
       by_leaf f true name is layouts h =
           let low = sp_low in
-          leaf_placed s.memory (p.layout c.frame.body) code sp c.frame.activation f b.body.acts
+          leaf_placed s.memory (get (context_of s.cpu)) (p.register c.frame.body)
+          (image.no_registers c.frame.body) (p.layout c.frame.body) code sp c.frame.activation f
+          b.body.acts
           (subst (λ l. IsLayoutIf program p (p.layout c.frame.body) code l) is
           (subst (λ n. IsLayoutIf program p (p.layout n) code (p.leaf n)) (sym name) layouts))
           (omega arith) (b.body.home is) h
       by_leaf f false name is layouts h =
           let low = sp_low in
           let top = frame_top in
-          function_placed s.memory (p.layout c.frame.body) code sp c.frame.activation f b.body.acts
+          function_placed s.memory (get (context_of s.cpu)) (p.register c.frame.body)
+          (image.no_registers c.frame.body) (p.layout c.frame.body) code sp c.frame.activation f
+          b.body.acts
           (subst (λ l. IsLayoutIf program p (p.layout c.frame.body) code l) is
           (subst (λ n. IsLayoutIf program p (p.layout n) code (p.leaf n)) (sym name) layouts))
           (omega arith) (omega arith) h
 
       by_funclet : (k : ℕ) → c.frame.body ≡ FuncletBody k → IsFuncletPlan program p k code
-          → HasActivation s.memory (p.layout c.frame.body) sp (p.layout c.frame.body).frame
+          → HasActivation s.memory (get (context_of s.cpu)) (p.register c.frame.body)
+          (p.layout c.frame.body) sp (p.layout c.frame.body).frame
           c.frame.activation b.body.acts (FuncletBody k)
           → SlotsPlaced s.memory (p.layout c.frame.body) code.temporaries sp c.frame.activation
           b.body.acts
@@ -96,7 +102,8 @@ module _ (setting : Setting) where
           let wide = function_layout.locals in
           let small = function_layout.small in
           let same = plan.same_locals in
-          funclet_placed t fs program p s.memory y (p.layout (FunctionBody plan.funclet.function))
+          funclet_placed t fs program p s.memory (get (context_of s.cpu)) (p.register c.frame.body)
+          (image.no_registers c.frame.body) y (p.layout (FunctionBody plan.funclet.function))
           code sp c.frame.activation k b.body.acts
           (context_below b.body.back (sp + y.frame + 8) b.body.others) b.body.is c.below
           (subst (λ n. IsFuncletLayout (p.layout n) (p.layout (FunctionBody plan.funclet.function))
@@ -107,7 +114,8 @@ module _ (setting : Setting) where
           (λ values e. let n = values_count values e in omega arith) (omega arith)
 
       by_name : (name : BodyName) → c.frame.body ≡ name
-          → HasActivation s.memory (p.layout c.frame.body) sp
+          → HasActivation s.memory (get (context_of s.cpu)) (p.register c.frame.body)
+          (p.layout c.frame.body) sp
           (slots_end (p.layout c.frame.body) (p.leaf c.frame.body)) c.frame.activation b.body.acts
           name
           → SlotsPlaced s.memory (p.layout c.frame.body) code.temporaries sp c.frame.activation
@@ -119,7 +127,8 @@ module _ (setting : Setting) where
           let plan : IsFuncletPlan program p k code = subst (λ n. IsLaidOut program p n code) name
           (image.laid_out c.frame.body code b.body.slots.body) in
           by_funclet k name plan
-          (subst (λ l. HasActivation s.memory (p.layout c.frame.body) sp
+          (subst (λ l. HasActivation s.memory (get (context_of s.cpu)) (p.register c.frame.body)
+          (p.layout c.frame.body) sp
           (slots_end (p.layout c.frame.body) l) c.frame.activation b.body.acts (FuncletBody k))
           (ap p.leaf name ∙ plan.framed) h)
 
@@ -158,7 +167,8 @@ module _ (setting : Setting) where
         pub name : c.frame.body ≡ FunctionBody number
         pub framed : p.leaf c.frame.body ≡ false
         pub layout : IsFunctionLayout (p.layout c.frame.body) code
-        pub activation : HasActivation s.memory (p.layout c.frame.body) sp
+        pub activation : HasActivation s.memory (get (context_of s.cpu)) (p.register c.frame.body)
+            (p.layout c.frame.body) sp
             (p.layout c.frame.body).frame c.frame.activation b.body.acts (FunctionBody number)
 
       pub record AsLeaf : Type 0 where
@@ -166,7 +176,8 @@ module _ (setting : Setting) where
         pub name : c.frame.body ≡ FunctionBody number
         pub leaf : p.leaf c.frame.body ≡ true
         pub layout : IsLeafLayout (p.layout c.frame.body) code
-        pub activation : HasActivation s.memory (p.layout c.frame.body) sp
+        pub activation : HasActivation s.memory (get (context_of s.cpu)) (p.register c.frame.body)
+            (p.layout c.frame.body) sp
             (p.layout c.frame.body).temporaries c.frame.activation b.body.acts (FunctionBody number)
 
       pub record AsFunclet : Type 0 where
@@ -176,12 +187,14 @@ module _ (setting : Setting) where
         pub plan : IsFuncletPlan program p number code
         pub layout : IsFuncletLayout (p.layout c.frame.body)
             (p.layout (FunctionBody plan.funclet.function)) code
-        pub activation : HasActivation s.memory (p.layout c.frame.body) sp
+        pub activation : HasActivation s.memory (get (context_of s.cpu)) (p.register c.frame.body)
+            (p.layout c.frame.body) sp
             (p.layout c.frame.body).frame c.frame.activation b.body.acts (FuncletBody number)
 
       kind_by_leaf : (f : ℕ) (leaf : Bool) → c.frame.body ≡ FunctionBody f
           → p.leaf c.frame.body ≡ leaf → IsLaidOut program p (FunctionBody f) code
-          → HasActivation s.memory (p.layout c.frame.body) sp
+          → HasActivation s.memory (get (context_of s.cpu)) (p.register c.frame.body)
+          (p.layout c.frame.body) sp
           (slots_end (p.layout c.frame.body) leaf)
           c.frame.activation b.body.acts (FunctionBody f)
           → AsFunction ⊎ (AsLeaf ⊎ AsFunclet)
@@ -203,7 +216,8 @@ module _ (setting : Setting) where
       })
 
       kind_by_name : (name : BodyName) → c.frame.body ≡ name
-          → HasActivation s.memory (p.layout c.frame.body) sp
+          → HasActivation s.memory (get (context_of s.cpu)) (p.register c.frame.body)
+          (p.layout c.frame.body) sp
           (slots_end (p.layout c.frame.body) (p.leaf c.frame.body)) c.frame.activation b.body.acts
           name → AsFunction ⊎ (AsLeaf ⊎ AsFunclet)
       kind_by_name (FunctionBody f) name h = kind_by_leaf f (p.leaf c.frame.body) name refl
@@ -220,7 +234,8 @@ module _ (setting : Setting) where
             plan = plan;
             layout = subst (λ n. IsFuncletLayout (p.layout n)
                 (p.layout (FunctionBody plan.funclet.function)) code) (sym name) plan.layout;
-            activation = subst (λ l. HasActivation s.memory (p.layout c.frame.body) sp
+            activation = subst (λ l. HasActivation s.memory (get (context_of s.cpu))
+                (p.register c.frame.body) (p.layout c.frame.body) sp
                 (slots_end (p.layout c.frame.body) l) c.frame.activation b.body.acts
                 (FuncletBody k))
                 framed h;

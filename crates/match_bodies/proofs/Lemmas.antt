@@ -11,9 +11,9 @@ pub use Rattle.x64_templates.proofs.Linked.{template_placed}
 pub use Rattle.x64_templates.proofs.PlacedCode.{thunk_encodable, Encodable, same_number, bytes_kept, outside_page, bytes_split, spells, reads, all_may}
 pub use Rattle.match_runs.proofs.Shadows.{past_frame, straight, keep_first, HeadAbove, call_keeps, return_keeps, past_host, at_end, head_above, unique, none_below, one_below}
 pub use Rattle.match_stack.proofs.ItemVisits.{set_head, frame_is_visited, leaf_is_visited, search_is_passed, unwinding_is_passed}
-pub use Rattle.match_stack.proofs.ListEnds.{words_fit, in_stack, end_within}
+pub use Rattle.match_stack.proofs.ListEnds.{words_fit, places_fit, in_stack, end_within}
 pub use Rattle.match_stack.proofs.ListKeeping.{reads_other, kept_by_other_memories}
-pub use Rattle.match_stack.proofs.ListMemories.{ReadsSame, higher, frame_above, words_kept, list_kept, frame_kept, leaf_kept, own_kept, frame_is_at, leaf_is_at, record_is_at}
+pub use Rattle.match_stack.proofs.ListMemories.{ReadsSame, higher, frame_above, words_kept, places_kept, list_kept, frame_kept, leaf_kept, own_kept, frame_is_at, leaf_is_at, record_is_at}
 pub use Rattle.match_stack.proofs.StackKeeping.{rises, kept_by_other_stores, nothing_below_is_owned}
 pub use Rattle.match_stack.proofs.ContextWidths.{wide_of}
 pub use Rattle.frame_rules.proofs.Undoing.{word-is}

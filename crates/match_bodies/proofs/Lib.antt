@@ -21,6 +21,7 @@ pub mod TemplatePieces
 pub mod ActivationPlaces
 pub mod ActivationKeeping
 pub mod LocalStores
+pub mod FramePlaces
 pub mod StackWords
 pub mod SlotPlaces
 pub mod BodyViews

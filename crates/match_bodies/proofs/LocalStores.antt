@@ -1,14 +1,14 @@
 -- Other numbers in the locals of one activation leave the list as it is.
-use Rattle.std.proofs.Common.{◌≡◌, ℕ, ◌+◌, ◌*◌, ◌≤◌, true, false, Some, List, [], ◌∷◌, ◌++◌, length, refl, sym, ap, subst, ◌∙◌, arith, inl, inr}
+use Rattle.std.proofs.Common.{◌≡◌, ℕ, ◌+◌, ◌*◌, ◌≤◌, true, false, Option, Some, None, List, [], ◌∷◌, ◌++◌, length, refl, sym, ap, subst, ◌∙◌, arith, inl, inr}
 use Rattle.std.specs.Prelude.{slice_get}
-use Rattle.match_bodies.specs.Words.{STACK_START, STACK_END, Memory, Context, context_of, rsp, Functions, Funclet, Layout, LinearProgram, BodyName, FunctionBody, FuncletBody, Frame, Item, Waits, Searches, Unwinds, StackFrame, StackItem, Framed, Leaf, Searching, Unwinding, FrameIsAt, LeafIsAt, IsStack, after_frame, after_leaf, ImagePlan, Activation, locals_of, activations_below, HoldsWords, temporaries_end, HasActivation, HoldsLocals, IsActivation, ActivationHasBase, home_end, HasPointers, IsAbove, HasSpace, below_end, BodyWaits, Linked, IsLinkedStack, with_values, KeepsStackBut, OwnerHasFrame, record_room, FrameWaits, LeafWaits, ActivationsAreStored}
+use Rattle.match_bodies.specs.Words.{STACK_START, STACK_END, Memory, Context, context_of, get, rsp, Functions, Funclet, Layout, LinearProgram, BodyName, FunctionBody, FuncletBody, Frame, Item, Waits, Searches, Unwinds, StackFrame, StackItem, Framed, Leaf, Searching, Unwinding, FrameIsAt, LeafIsAt, IsStack, after_frame, after_leaf, ImagePlan, Activation, locals_of, activations_below, HoldsWords, IsInPlace, HoldsPlaces, temporaries_end, HasActivation, HoldsLocals, IsActivation, ActivationHasBase, home_end, HasPointers, IsAbove, HasSpace, below_end, BodyWaits, Linked, IsLinkedStack, with_values, IsInFrame, FrameWords, IsLeft, LeavesRegisters, KeepsStackBut, OwnerHasFrame, record_room, FrameWaits, LeafWaits, ActivationsAreStored}
 use Rattle.seh_walk.specs.Walk.{filter_return, finally_return}
-use Rattle.match_bodies.proofs.Lemmas.{set_head, rises, words_fit, in_stack, ReadsSame, higher, words_kept, frame_kept, leaf_kept, own_kept, frame_above, frame_is_at, leaf_is_at, record_is_at, list_kept, reads_other}
+use Rattle.match_bodies.proofs.Lemmas.{set_head, rises, places_fit, in_stack, ReadsSame, higher, words_kept, frame_kept, leaf_kept, own_kept, frame_above, frame_is_at, leaf_is_at, record_is_at, list_kept, reads_other}
 use Rattle.match_bodies.proofs.ActivationPlaces.{are_there, locals_count, got_before, got_last}
 use Rattle.match_bodies.proofs.ActivationKeeping.{with_count, is_lower, still_is, first_changes, later_changes}
 
 module _ (m m' : Memory) (t : Functions) (fs : List Funclet) (program : LinearProgram)
-    (p : ImagePlan) (k base distance : ℕ) (values : List ℕ) where
+    (p : ImagePlan) (k base distance : ℕ) (register : ℕ → Option ℕ) (values : List ℕ) where
   abbrev from : ℕ
   from = base + distance
 
@@ -44,15 +44,16 @@ module _ (m m' : Memory) (t : Functions) (fs : List Funclet) (program : LinearPr
 
   -- a frame that is passed: the activation is that of one above it
   abbrev passes : (acts : List Activation) (name : BodyName) → Type 0
-  passes acts name = IsActivation (activations_below name acts) k base distance
+  passes acts name = IsActivation (activations_below name acts) k base distance register
 
-  activation_passed : (y : Layout) (sp size number : ℕ) (acts : List Activation) (name : BodyName)
-      → passes acts name → HasActivation m' y sp size number acts name
-      → HasActivation m' y sp size number (with_values acts k values) name
-  activation_passed y sp size number [] (FunctionBody f) i h = absurd h
-  activation_passed y sp size number (a ∷ outer) (FunctionBody f) i h =
-      let lt = is_lower outer k base distance i in
-      subst (λ x. HasActivation m' y sp size number x (FunctionBody f))
+  activation_passed : (now : ℕ → ℕ) (mine : ℕ → Option ℕ) (y : Layout) (sp size number : ℕ)
+      (acts : List Activation) (name : BodyName) → passes acts name
+      → HasActivation m' now mine y sp size number acts name
+      → HasActivation m' now mine y sp size number (with_values acts k values) name
+  activation_passed now mine y sp size number [] (FunctionBody f) i h = absurd h
+  activation_passed now mine y sp size number (a ∷ outer) (FunctionBody f) i h =
+      let lt = is_lower outer k base distance register i in
+      subst (λ x. HasActivation m' now mine y sp size number x (FunctionBody f))
       (sym (later_changes a outer k values lt))
       (record {
         none = h.none;
@@ -61,17 +62,18 @@ module _ (m m' : Memory) (t : Functions) (fs : List Funclet) (program : LinearPr
               ∙ sym (with_count outer k values);
           base = h.activation.base;
           distance = h.activation.distance;
+          registers = h.activation.registers;
         };
         values = h.values;
       })
-  activation_passed y sp size number acts (FuncletBody j) i h =
+  activation_passed now mine y sp size number acts (FuncletBody j) i h =
       record {
         slot = h.slot;
         base = h.base;
         some = h.some;
         room = h.room;
         kept = h.kept;
-        activation = still_is acts k values number h.base y.locals h.activation;
+        activation = still_is acts k values number h.base y.locals mine h.activation;
       }
 
   below_passed : (acts : List Activation) (name : BodyName) → passes acts name
@@ -79,7 +81,7 @@ module _ (m m' : Memory) (t : Functions) (fs : List Funclet) (program : LinearPr
       ≡ with_values (activations_below name acts) k values
   below_passed [] (FunctionBody f) i = absurd i
   below_passed (a ∷ outer) (FunctionBody f) i = ap (activations_below (FunctionBody f))
-      (later_changes a outer k values (is_lower outer k base distance i))
+      (later_changes a outer k values (is_lower outer k base distance register i))
   below_passed acts (FuncletBody j) i = refl
 
   body_passed : (c : Context) (size end : ℕ) (b : Frame) (acts : List Activation)
@@ -92,7 +94,7 @@ module _ (m m' : Memory) (t : Functions) (fs : List Funclet) (program : LinearPr
     instruction = h.instruction;
     same = h.same;
     small = h.small;
-    activation = activation_passed (p.layout b.body)
+    activation = activation_passed (get c) (p.register b.body) (p.layout b.body)
         (rsp c) size b.activation acts b.body i h.activation;
     temporaries = h.temporaries;
     space = space_kept (rsp c) below_end b.held acts h.space;
@@ -125,10 +127,29 @@ module _ (m m' : Memory) (t : Functions) (fs : List Funclet) (program : LinearPr
 
   -- ---- the activation's own frame
 
-  words_longer : (n : Memory) (at end later : ℕ) (vs : List ℕ) → end ≤ later
-      → HoldsWords n at end vs → HoldsWords n at later vs
-  words_longer n at end later [] le h = let e = h in omega arith
-  words_longer n at end later (v ∷ vs) le h = (h.0, words_longer n (at + 8) end later vs le h.1)
+  in_place : (now : ℕ → ℕ) (at v w : ℕ) (o : Option ℕ) → IsInPlace m now at v o
+      → IsInFrame m' at w o → IsLeft v w o → IsInPlace m' now at w o
+  in_place now at v w None h f l = f
+  in_place now at v w (Some r) h f l = h ∙ l
+
+  -- those in registers as they were, and the others in their words
+  in_places : (now : ℕ → ℕ) (mine : ℕ → Option ℕ) (i at end later : ℕ) (vs ws : List ℕ)
+      → HoldsPlaces m now mine i at later vs → FrameWords m' mine i at end ws
+      → LeavesRegisters mine i vs ws → end ≤ later → HoldsPlaces m' now mine i at later ws
+  in_places now mine i at end later [] [] h f l le = h
+  in_places now mine i at end later (v ∷ vs) (w ∷ ws) h f l le = (
+    in_place now at v w (mine i) h.0 f.0 l.0,
+    in_places now mine (i + 1) (at + 8) end later vs ws h.1 f.1 l.1 le,
+  )
+  in_places now mine i at end later [] (w ∷ ws) h f l le = absurd l
+  in_places now mine i at end later (v ∷ vs) [] h f l le = absurd l
+
+  as_many : (r : ℕ → Option ℕ) (i : ℕ) (vs ws : List ℕ) → LeavesRegisters r i vs ws
+      → length ws ≡ length vs
+  as_many r i [] [] l = refl
+  as_many r i (v ∷ vs) (w ∷ ws) l = let e = as_many r (i + 1) vs ws l.1 in omega arith
+  as_many r i [] (w ∷ ws) l = absurd l
+  as_many r i (v ∷ vs) [] l = absurd l
 
   -- a function has no record right above it
   no_pointers : (y : Layout) (sp size f : ℕ) (b : Frame) (below : List Item)
@@ -140,11 +161,14 @@ module _ (m m' : Memory) (t : Functions) (fs : List Funclet) (program : LinearPr
   no_pointers y sp size f b (Unwinds rest target ∷ below) a = absurd a
 
   -- its numbers, in a frame whose locals end before an address
-  own_activation : (y : Layout) (sp size number f : ℕ) (a : Activation) (outer : List Activation)
-      → ActivationHasBase k base distance a outer → to ≤ sp + size → HoldsWords m' from to values
-      → HoldsLocals m y sp size number a outer
-      → HasActivation m' y sp size number (record a { values = values } ∷ outer) (FunctionBody f)
-  own_activation y sp size number f a outer own le words h =
+  own_activation : (now : ℕ → ℕ) (mine : ℕ → Option ℕ) (y : Layout) (sp size number f : ℕ)
+      (a : Activation) (outer : List Activation)
+      → ActivationHasBase k base distance register a outer → to ≤ sp + size
+      → FrameWords m' register 0 from to values → LeavesRegisters register 0 a.values values
+      → HoldsLocals m now mine y sp size number a outer
+      → HasActivation m' now mine y sp size number (record a { values = values } ∷ outer)
+      (FunctionBody f)
+  own_activation now mine y sp size number f a outer own le words left h =
       let at : from ≡ sp + y.locals = omega (
         arith,
         h.activation.base,
@@ -152,34 +176,41 @@ module _ (m m' : Memory) (t : Functions) (fs : List Funclet) (program : LinearPr
         own.base,
         own.distance,
       ) in
+      let same : register ≡ mine = own.registers ∙ sym h.activation.registers in
       record {
         none = h.none;
         activation = record {
           number = h.activation.number;
           base = h.activation.base;
           distance = h.activation.distance;
+          registers = h.activation.registers;
         };
-        values = subst (λ x. HoldsWords m' x (sp + size) values) at
-            (words_longer m' from to (sp + size) values le words);
+        values = in_places now mine 0 (sp + y.locals) to (sp + size) a.values values h.values
+            (subst (λ x. FrameWords m' mine 0 x to values) at
+            (subst (λ (r : ℕ → Option ℕ). FrameWords m' r 0 from to values) same words))
+            (subst (λ (r : ℕ → Option ℕ). LeavesRegisters r 0 a.values values) same left) le;
       }
 
   own_body : (c : Context) (size end f : ℕ) (b : Frame) (a : Activation) (outer : List Activation)
-      → b.body ≡ FunctionBody f → ActivationHasBase k base distance a outer → to ≤ rsp c + size
-      → HoldsWords m' from to values
-      → HoldsLocals m (p.layout b.body) (rsp c) size b.activation a outer
+      → b.body ≡ FunctionBody f → ActivationHasBase k base distance register a outer
+      → to ≤ rsp c + size
+      → FrameWords m' register 0 from to values → LeavesRegisters register 0 a.values values
+      → HoldsLocals m (get c) (p.register b.body) (p.layout b.body) (rsp c) size b.activation a
+      outer
       → HoldsWords m' (rsp c + (p.layout b.body).temporaries) (rsp c + end) b.temporaries
       → BodyWaits t fs program p m c size end b (a ∷ outer)
       → BodyWaits t fs program p m' c size end b (record a { values = values } ∷ outer)
-  own_body c size end f b a outer is own le words locals temporaries h = record {
+  own_body c size end f b a outer is own le words left locals temporaries h = record {
     code = h.code;
     body = h.body;
     label = h.label;
     instruction = h.instruction;
     same = h.same;
     small = h.small;
-    activation = subst (λ n. HasActivation m' (p.layout b.body) (rsp c) size b.activation
-        (record a { values = values } ∷ outer) n) (sym is)
-        (own_activation (p.layout b.body) (rsp c) size b.activation f a outer own le words locals);
+    activation = subst (λ n. HasActivation m' (get c) (p.register b.body) (p.layout b.body) (rsp c)
+        size b.activation (record a { values = values } ∷ outer) n) (sym is)
+        (own_activation (get c) (p.register b.body) (p.layout b.body) (rsp c) size b.activation f a
+        outer own le words left locals);
     temporaries = temporaries;
     space = h.space;
   }
@@ -187,11 +218,13 @@ module _ (m m' : Memory) (t : Functions) (fs : List Funclet) (program : LinearPr
   -- ---- all of them
 
   abbrev Fits : List Activation → Type 0
-  Fits acts = (vs : List ℕ) → slice_get (locals_of acts) k ≡ Some vs → length values ≡ length vs
+  Fits acts =
+      (vs : List ℕ) → slice_get (locals_of acts) k ≡ Some vs → LeavesRegisters register 0 vs values
 
-  own_count : (a : Activation) (outer : List Activation) → ActivationHasBase k base distance a outer
-      → Fits (a ∷ outer) → length values ≡ length a.values
-  own_count a outer own fits =
+  own_left : (a : Activation) (outer : List Activation)
+      → ActivationHasBase k base distance register a outer → Fits (a ∷ outer)
+      → LeavesRegisters register 0 a.values values
+  own_left a outer own fits =
       let n : length (locals_of outer) ≡ k = locals_count outer ∙ sym own.number in
       fits a.values (subst (λ x. slice_get (locals_of outer ++ a.values ∷ []) x ≡ Some a.values) n
       (got_last (locals_of outer) a.values))
@@ -213,19 +246,20 @@ module _ (m m' : Memory) (t : Functions) (fs : List Funclet) (program : LinearPr
   }
 
   module _ (start : STACK_START ≤ base) (far : 32 ≤ distance) (end : to ≤ STACK_END)
-      (words : HoldsWords m' from to values) where
+      (words : FrameWords m' register 0 from to values) where
     abbrev Stored : Context → List StackItem → List Item → List Activation → Type 0
     Stored c is items acts = IsLinkedStack t fs program p m' c is items (with_values acts k values)
 
     -- a function's frame whose activation it is
     own_function : (c : Context) (f : StackFrame) (is : List StackItem) (b : Frame)
         (below : List Item) (a : Activation) (outer : List Activation) (n : ℕ)
-        → b.body ≡ FunctionBody n → ActivationHasBase k base distance a outer → Fits (a ∷ outer)
+        → b.body ≡ FunctionBody n → ActivationHasBase k base distance register a outer
+        → Fits (a ∷ outer)
         → KeepsStackBut m m' (rsp c) from to → STACK_START ≤ rsp c → FrameIsAt t m c f
         → IsStack t m (after_frame c f) is
         → FrameWaits t fs program p m c f b below (a ∷ outer)
-        → HasActivation m (p.layout b.body) (rsp c) f.slots b.activation (a ∷ outer)
-        (FunctionBody n)
+        → HasActivation m (get c) (p.register b.body) (p.layout b.body) (rsp c) f.slots b.activation
+        (a ∷ outer) (FunctionBody n)
         → IsAbove t fs program p b b.body below
         → Linked t fs program p m (after_frame c f) is below outer
         → Stored c (Framed f ∷ is) (Waits b ∷ below) (a ∷ outer)
@@ -234,8 +268,11 @@ module _ (m m' : Memory) (t : Functions) (fs : List Funclet) (program : LinearPr
         let l = in_stack t fs program p m (after_frame c f) is below outer rest linked in
         let at : from ≡ rsp c + y.locals = omega
         (arith, locals.activation.base, locals.activation.distance, own.base, own.distance) in
-        let w = words_fit m (rsp c + y.locals) (rsp c + f.slots) a.values locals.values in
-        let count = own_count a outer own fits in let le : to ≤ rsp c + f.slots = omega arith in
+        let w = places_fit m (get c) (p.register b.body) 0 (rsp c + y.locals) (rsp c + f.slots)
+        a.values locals.values in
+        let left = own_left a outer own fits in
+        let count = as_many register 0 a.values values left in
+        let le : to ≤ rsp c + f.slots = omega arith in
         let r = below_them (rsp c) low end keeps in
         let r' = above_them (rsp c) low (omega arith) keeps in
         let last : temporaries_end y b.body f.slots ≡ y.locals =
@@ -259,7 +296,7 @@ module _ (m m' : Memory) (t : Functions) (fs : List Funclet) (program : LinearPr
               slots = h.slots;
               small = h.small;
               waits = own_body c f.slots (temporaries_end y b.body f.slots) n b a outer name own le
-                  words locals temps h.waits;
+                  words left locals temps h.waits;
               pointers = no_pointers y (rsp c) f.size n b below
                   (subst (λ x. IsAbove t fs program p b x below) name above);
               returns = h.returns;
@@ -322,7 +359,7 @@ module _ (m m' : Memory) (t : Functions) (fs : List Funclet) (program : LinearPr
         → Stored c (Framed f ∷ is) (Waits b ∷ below) acts
     upper c f is b below acts name same i keeps low frame stack h above linked rest =
         let high = (are_there t fs program p m (after_frame c f) is below
-        (activations_below name acts) k base distance stack linked i).low_end in
+        (activations_below name acts) k base distance register stack linked i).low_end in
         passes_frame c f is b below acts (subst (λ x. passes acts x) (sym same) i) keeps low frame
         (omega arith) h above
         (subst (λ x. Stored (after_frame c f) is below (activations_below x acts)) (sym same) rest)
@@ -339,7 +376,7 @@ module _ (m m' : Memory) (t : Functions) (fs : List Funclet) (program : LinearPr
         let nine = leaf.kept in
         let e : rsp (after_leaf c back) ≡ rsp c + 8 = set_head c.kept (rsp c + 8) (omega arith) in
         let high = (are_there t fs program p m (after_leaf c back) is below
-        (activations_below name acts) k base distance stack linked i).low_end in
+        (activations_below name acts) k base distance register stack linked i).low_end in
         passes_leaf c back is b below acts (subst (λ x. passes acts x) (sym same) i) keeps low leaf
         (omega arith) h above
         (subst (λ x. Stored (after_leaf c back) is below (activations_below x acts))
@@ -348,12 +385,13 @@ module _ (m m' : Memory) (t : Functions) (fs : List Funclet) (program : LinearPr
     -- this frame's own, or that of one above
     by_frame : (c : Context) (f : StackFrame) (is : List StackItem) (b : Frame) (below : List Item)
         (acts : List Activation) (name : BodyName) → b.body ≡ name
-        → IsActivation acts k base distance
+        → IsActivation acts k base distance register
         → Fits acts
         → KeepsStackBut m m' (rsp c) from to → STACK_START ≤ rsp c → FrameIsAt t m c f
         → IsStack t m (after_frame c f) is
         → FrameWaits t fs program p m c f b below acts
-        → HasActivation m (p.layout b.body) (rsp c) f.slots b.activation acts name
+        → HasActivation m (get c) (p.register b.body) (p.layout b.body) (rsp c) f.slots b.activation
+        acts name
         → IsAbove t fs program p b b.body below
         → Linked t fs program p m (after_frame c f) is below (activations_below name acts)
         → (passes acts name → Stored (after_frame c f) is below (activations_below name acts))
@@ -374,7 +412,7 @@ module _ (m m' : Memory) (t : Functions) (fs : List Funclet) (program : LinearPr
 
     by_leaf : (c : Context) (back : ℕ) (is : List StackItem) (b : Frame) (below : List Item)
         (acts : List Activation) (name : BodyName) → b.body ≡ name
-        → IsActivation acts k base distance
+        → IsActivation acts k base distance register
         → (k ≡ length (activations_below name acts) → p.leaf b.body ≡ false)
         → KeepsStackBut m m' (rsp c) from to → STACK_START ≤ rsp c → LeafIsAt t m c back
         → IsStack t m (after_leaf c back) is
@@ -396,10 +434,11 @@ module _ (m m' : Memory) (t : Functions) (fs : List Funclet) (program : LinearPr
 
     pub stored : (c : Context) (is : List StackItem) (items : List Item) (acts : List Activation)
         → IsStack t m c is → Linked t fs program p m c is items acts
-        → IsActivation acts k base distance → OwnerHasFrame t fs program p k items acts → Fits acts
+        → IsActivation acts k base distance register → OwnerHasFrame t fs program p k items acts
+        → Fits acts
         → KeepsStackBut m m' (rsp c) from to → STACK_START ≤ rsp c → Stored c is items acts
     stored c [] [] acts s h i o fits keeps low =
-        absurd (subst (λ a. IsActivation a k base distance) h.0 i)
+        absurd (subst (λ a. IsActivation a k base distance register) h.0 i)
     stored c (Framed f ∷ is) (Waits b ∷ below) acts s h i o fits keeps low =
         let e = rises t m c (Framed f) s.0 in
         by_frame c f is b below acts b.body refl i fits keeps low s.0 s.1 h.0 h.0.waits.activation
@@ -417,7 +456,7 @@ module _ (m m' : Memory) (t : Functions) (fs : List Funclet) (program : LinearPr
         ∷ below) acts s h i o fits keeps low =
         let e = rises t m c (Searching d) s.0 in let a = s.0.above in
         let high = (are_there t fs program p m (context_of d.saved) is below acts k base distance
-        s.1 h.1 i).low_end in
+        register s.1 h.1 i).low_end in
         let r = below_them (rsp c) low end keeps in
         let outer = stored (context_of d.saved) is below acts s.1 h.1 i o fits
         (kept_from (rsp c) (rsp (context_of d.saved)) (omega arith) keeps) (omega arith) in
@@ -444,7 +483,7 @@ module _ (m m' : Memory) (t : Functions) (fs : List Funclet) (program : LinearPr
     stored c (Unwinding d ∷ is) (Unwinds rest target ∷ below) acts s h i o fits keeps low =
         let e = rises t m c (Unwinding d) s.0 in
         let a = s.0.above in
-        let high = (are_there t fs program p m d.walk is below acts k base distance s.1 h.1
+        let high = (are_there t fs program p m d.walk is below acts k base distance register s.1 h.1
         i).low_end in
         let r = below_them (rsp c) low end keeps in
         let outer = stored d.walk is below acts s.1 h.1 i o fits
@@ -470,16 +509,20 @@ module _ (m m' : Memory) (t : Functions) (fs : List Funclet) (program : LinearPr
 
 pub activations_are_stored : (t : Functions) (fs : List Funclet) (program : LinearProgram)
     (p : ImagePlan) → ActivationsAreStored t fs program p
-activations_are_stored t fs program p m m' c is items acts k base distance old values s low i far
-    owner number count keeps words =
-    let a = are_there t fs program p m c is items acts k base distance s.stack s.linked i in
+activations_are_stored t fs program p m m' c is items acts k base distance register old values s low
+    i far owner number left keeps words =
+    let a = are_there t fs program p m c is items acts k base distance register s.stack s.linked i
+    in
     let le = a.low_end in
     let top = a.high_end in
     let same : a.values ≡ old = the_same a.values old (sym a.number ∙ number) in
     let n : length a.values ≡ length old = ap length same in
-    stored m m' t fs program p k base distance values (omega arith) far (omega arith) words c is
-    items acts s.stack s.linked i owner (λ vs e. count
-    ∙ ap length (the_same old vs (sym number ∙ e))) keeps low
+    let count = as_many m m' t fs program p k base distance register values register 0 old values
+    left in
+    stored m m' t fs program p k base distance register values (omega arith) far (omega arith) words
+    c is items acts s.stack s.linked i owner
+    (λ vs e. subst (λ (xs : List ℕ). LeavesRegisters register 0 xs values)
+    (the_same old vs (sym number ∙ e)) left) keeps low
   where
     the_same : (x y : List ℕ) → Some x ≡ Some y → x ≡ y
     the_same x y e = cc

@@ -1,7 +1,7 @@
 -- The next instruction of a body begins, in the memory that a template leaves.
 use Rattle.std.proofs.Common.{◌≡◌, ℕ, ◌+◌, ◌*◌, ◌<◌, ◌≤◌, true, Option, Some, None, Ok, List, [], ◌∷◌, length, refl, sym, ap, subst, ◌∙◌, arith, inl, inr}
 use Rattle.std.specs.Prelude.{◌⊎◌, slice_get, slice_index, drop}
-use Rattle.match_bodies.specs.Words.{STACK_START, STACK_END, Event, Memory, Rax, Rsp, kept_of, State, register, word, Local, Temporary, BodyState, LinearBody, LinearFunclet, BodyName, FunctionBody, FuncletBody, body_of, Frame, Item, Waits, Searches, Unwinds, Configuration, Context, Layout, FrameHolds, context_of, regions_of, InCode, context_below, Activation, locals_of, activations_below, HoldsWords, IsActivation, HasActivation, HasPointers, FuncletIsAbove, IsAbove, BodyWaits, HasSpace, below_end, home_end, IsLinkedStack, IsData, On, IsWellFormed, IsFunctionLayout, IsLayoutIf, slots_end, counts_of, frame_at, with_values, KeepsStackBut, OwnerHasFrame, InTemporaries, InLocals, last_temporary, Setting, RepresentsAt}
+use Rattle.match_bodies.specs.Words.{STACK_START, STACK_END, Event, Memory, Rax, Rsp, kept_of, State, register, word, Local, Temporary, BodyState, LinearBody, LinearFunclet, BodyName, FunctionBody, FuncletBody, body_of, Frame, Item, Waits, Searches, Unwinds, Configuration, Context, Layout, FrameHolds, context_of, get, regions_of, InCode, context_below, Activation, locals_of, activations_below, HoldsWords, IsActivation, HasActivation, HasPointers, FuncletIsAbove, IsAbove, BodyWaits, HasSpace, below_end, home_end, IsLinkedStack, IsData, On, IsWellFormed, IsFunctionLayout, IsLayoutIf, slots_end, counts_of, frame_at, with_values, KeepsStackBut, OwnerHasFrame, InTemporaries, InLocals, last_temporary, Setting, RepresentsAt}
 use Rattle.virtual_unwind.specs.Undone.{Answer}
 use Rattle.match_bodies.proofs.Lemmas.{kept_by_other_memories}
 use Rattle.match_bodies.proofs.BodyFrames.{body_return, has_frame}
@@ -10,6 +10,7 @@ use Rattle.match_bodies.proofs.HomeSpace.{CallerHasFrame, home_is_free}
 use Rattle.match_bodies.proofs.SlotPlaces.{KeepsSlot, SlotsPlaced}
 use Rattle.match_bodies.proofs.BodyViews.{IsCounted, placed, count, sp_low, frame_top, last_room, AsFunction, AsLeaf, AsFunclet, kind}
 use Rattle.match_bodies.proofs.ActivationKeeping.{first_changes, still_is, with_count}
+use Rattle.match_bodies.proofs.FramePlaces.{frame_of_words, places_of_words, leaves_none}
 use Rattle.match_bodies.proofs.LocalStores.{activations_are_stored}
 use Rattle.match_bodies.proofs.TemplateChanges.{words_are, Changed, slot_word, word_beside, no_more_code, stays_data, stack_kept, stack_kept_but, stack_written, image_kept}
 use Rattle.match_bodies.proofs.TemplateSlots.{get_index, same_regions, Leaves}
@@ -41,6 +42,12 @@ module _ (setting : Setting) where
 
     abbrev y : Layout
     y = p.layout c.frame.body
+
+    abbrev registers : ℕ → Option ℕ
+    registers = p.register c.frame.body
+
+    abbrev then : ℕ → ℕ
+    then = get (context_of s.cpu)
 
     abbrev here : SlotsPlaced s.memory y code.temporaries sp c.frame.activation b.body.acts
     here = placed setting s c b counted
@@ -83,6 +90,9 @@ module _ (setting : Setting) where
     same_word x z e = cc
 
     module _ (u : State) (d : BodyState) (values ts : List ℕ) (r : Ran u d values ts) where
+      abbrev now : ℕ → ℕ
+      now = get (context_of u.cpu)
+
       stack_there : register u.cpu Rsp ≡ sp
       stack_there = ap (λ (ks : List ℕ). slice_index ks 0) r.kept
 
@@ -147,29 +157,34 @@ module _ (setting : Setting) where
 
       -- a function's activation, with the new numbers
       own_activation : (number size : ℕ) (acts : List Activation) → b.body.acts ≡ acts
-          → HasActivation s.memory y sp size c.frame.activation acts (FunctionBody number)
+          → HasActivation s.memory then registers y sp size c.frame.activation acts
+          (FunctionBody number)
           → y.locals + 8 * length values ≤ size
-          → HasActivation u.memory y sp size c.frame.activation
+          → HasActivation u.memory now registers y sp size c.frame.activation
           (with_values acts c.frame.activation values) (FunctionBody number)
       own_activation number size [] e h le = absurd h
       own_activation number size (a ∷ outer) e h le =
           let base = function_base h.none in
-          subst (λ x. HasActivation u.memory y sp size c.frame.activation x (FunctionBody number))
+          subst (λ x. HasActivation u.memory now registers y sp size c.frame.activation x
+          (FunctionBody number))
           (sym (first_changes a outer c.frame.activation values h.activation.number))
           (record {
             none = h.none;
             activation = record {
               number = h.activation.number;
               base = h.activation.base;
-              distance =
-                  h.activation.distance;
+              distance = h.activation.distance;
+              registers = h.activation.registers;
             };
-            values = subst (λ x. HoldsWords u.memory (x + y.locals) (sp + size) values) base
-                (new_locals (sp + size) (omega arith));
+            values = places_of_words u.memory now registers (image.no_registers c.frame.body) 0
+                (sp + y.locals) (sp + size) values
+                (subst (λ x. HoldsWords u.memory (x + y.locals) (sp + size) values) base
+                (new_locals (sp + size) (omega arith)));
           })
 
-      funclet_base : (number size : ℕ) → (h : HasActivation s.memory y sp size c.frame.activation
-          b.body.acts (FuncletBody number)) → KeepsSlot s.memory y (Some h.slot) sp here.base
+      funclet_base : (number size : ℕ) → (h : HasActivation s.memory then registers y sp size
+          c.frame.activation b.body.acts (FuncletBody number))
+          → KeepsSlot s.memory y (Some h.slot) sp here.base
       funclet_base number size h = subst (λ o. KeepsSlot s.memory y o sp here.base) h.some here.kept
 
       -- the frame's word at an offset that is in no slot
@@ -224,26 +239,29 @@ module _ (setting : Setting) where
           ])
           (body_return setting s c b.body).returns
 
-      activation : HasActivation u.memory y sp
+      activation : HasActivation u.memory now registers y sp
           (slots_end y (p.leaf c.frame.body)) c.frame.activation
           (with_values b.body.acts c.frame.activation values) c.frame.body
       activation = elim (kind setting s c b counted) [
-        | inl f ↦ subst (λ l. HasActivation u.memory y sp (slots_end y l) c.frame.activation
-            (with_values b.body.acts c.frame.activation values) c.frame.body) (sym f.framed)
-            (subst (λ n. HasActivation u.memory y sp y.frame c.frame.activation
+        | inl f ↦ subst (λ l. HasActivation u.memory now registers y sp (slots_end y l)
+            c.frame.activation (with_values b.body.acts c.frame.activation values) c.frame.body)
+            (sym f.framed)
+            (subst (λ n. HasActivation u.memory now registers y sp y.frame c.frame.activation
             (with_values b.body.acts c.frame.activation values) n) (sym f.name)
             (own_activation f.number y.frame b.body.acts refl f.activation (let n = r.leaves.count
             in let z = f.layout.locals in omega arith)))
-        | inr (inl f) ↦ subst (λ l. HasActivation u.memory y sp (slots_end y l) c.frame.activation
-            (with_values b.body.acts c.frame.activation values) c.frame.body) (sym f.leaf)
-            (subst (λ n. HasActivation u.memory y sp y.temporaries c.frame.activation
+        | inr (inl f) ↦ subst (λ l. HasActivation u.memory now registers y sp (slots_end y l)
+            c.frame.activation (with_values b.body.acts c.frame.activation values) c.frame.body)
+            (sym f.leaf)
+            (subst (λ n. HasActivation u.memory now registers y sp y.temporaries c.frame.activation
             (with_values b.body.acts c.frame.activation values) n) (sym f.name)
             (own_activation f.number y.temporaries b.body.acts refl f.activation
             (let n = r.leaves.count in let x = f.layout.temporaries in let z = f.layout.locals in
             omega arith)))
-        | inr (inr f) ↦ subst (λ l. HasActivation u.memory y sp (slots_end y l) c.frame.activation
-            (with_values b.body.acts c.frame.activation values) c.frame.body) (sym f.framed)
-            (subst (λ n. HasActivation u.memory y sp y.frame c.frame.activation
+        | inr (inr f) ↦ subst (λ l. HasActivation u.memory now registers y sp (slots_end y l)
+            c.frame.activation (with_values b.body.acts c.frame.activation values) c.frame.body)
+            (sym f.framed)
+            (subst (λ n. HasActivation u.memory now registers y sp y.frame c.frame.activation
             (with_values b.body.acts c.frame.activation values) n) (sym f.name)
             (record {
               slot = f.activation.slot;
@@ -255,7 +273,7 @@ module _ (setting : Setting) where
                   kept_word (sp + f.activation.slot) f.activation.base (omega arith) (omega arith)
                   (funclet_beside f f.activation.slot (inl z)) f.activation.kept);
               activation = still_is b.body.acts c.frame.activation values c.frame.activation
-                  f.activation.base y.locals f.activation.activation;
+                  f.activation.base y.locals registers f.activation.activation;
             }))
       ]
 
@@ -291,7 +309,8 @@ module _ (setting : Setting) where
           b.memory.stack
 
       function_below : (number : ℕ) (acts : List Activation) (size : ℕ)
-          → HasActivation s.memory y sp size c.frame.activation acts (FunctionBody number)
+          → HasActivation s.memory then registers y sp size c.frame.activation acts
+          (FunctionBody number)
           → activations_below (FunctionBody number) acts
           ≡ activations_below (FunctionBody number) (with_values acts c.frame.activation values)
       function_below number [] size h = absurd h
@@ -379,16 +398,19 @@ module _ (setting : Setting) where
             let m : code.locals ≡ length values = sym r.leaves.count in
             subst New (sym f.name)
             (activations_are_stored t fs program p s.memory u.memory above b.body.is c.below
-            b.body.acts c.frame.activation here.base y.locals here.values values
+            b.body.acts c.frame.activation here.base y.locals registers here.values values
             (subst (λ n. IsLinkedStack t fs program p s.memory above b.body.is c.below
             (activations_below n b.body.acts)) f.name old)
             (omega arith)
-            (subst (λ x. IsActivation b.body.acts c.frame.activation x y.locals) base
+            (subst (λ x. IsActivation b.body.acts c.frame.activation x y.locals registers) base
             f.activation.activation)
-            (omega arith) (owner f.number f.name) here.number n
+            (omega arith) (owner f.number f.name) here.number
+            (leaves_none registers (image.no_registers c.frame.body) 0 here.values values n)
             (subst (λ n. KeepsStackBut s.memory u.memory (sp + y.frame + 8) (here.base + y.locals)
             (here.base + y.locals + 8 * n)) m keep)
-            (new_locals (here.base + y.locals + 8 * length values) (omega arith)))
+            (frame_of_words u.memory registers (image.no_registers c.frame.body) 0
+            (here.base + y.locals) (here.base + y.locals + 8 * length values) values
+            (new_locals (here.base + y.locals + 8 * length values) (omega arith))))
 
         pub new_list : New c.frame.body
         new_list = elim (kind setting s c b counted) [
@@ -434,8 +456,9 @@ module _ (setting : Setting) where
           instruction = in_code;
           same = same_regions (regions_of (body_of program c.frame.body)) label;
           small = well_formed.rip_small;
-          activation = subst (λ x. HasActivation u.memory y x (slots_end y (p.leaf c.frame.body))
-              c.frame.activation (with_values b.body.acts c.frame.activation values) c.frame.body)
+          activation = subst (λ x. HasActivation u.memory now registers y x
+              (slots_end y (p.leaf c.frame.body)) c.frame.activation
+              (with_values b.body.acts c.frame.activation values) c.frame.body)
               (sym stack_there) activation;
           temporaries = subst (λ x. HoldsWords u.memory (x + y.temporaries)
               (x + last_temporary y c.frame.body (p.leaf c.frame.body)) ts)

@@ -6,8 +6,9 @@ use Rattle.match_bodies.specs.Words.{STACK_START, STACK_END, Memory, may_write, 
 use Rattle.linear_machine.specs.Frames as linear
 use Rattle.x64_templates.specs.EntryStates.{body_in_memory}
 use Rattle.x64_templates.proofs.Entries.{holds_body_in_memory}
-use Rattle.match_bodies.proofs.Lemmas.{words_fit, in_stack}
-use Rattle.match_bodies.proofs.ActivationPlaces.{activations_are_at, got_last, locals_count, words_shorter}
+use Rattle.match_bodies.proofs.Lemmas.{places_fit, in_stack}
+use Rattle.match_bodies.proofs.ActivationPlaces.{activations_are_at, got_last, locals_count, frame_words}
+use Rattle.match_bodies.proofs.FramePlaces.{InFrames, words_of_frame}
 use Rattle.match_bodies.proofs.StackWords.{word_is, word_in}
 
 -- where the base is kept: a function's is RSP, a funclet keeps it below its temporaries
@@ -49,20 +50,23 @@ own_number a outer k e =
     (got_last (locals_of outer) a.values)
 
 -- locals and temporaries lie apart in the first bytes from RSP on
-own_placed : (m : Memory) (y : Layout) (temporaries sp size k f room : ℕ) (a : Activation)
-    (outer : List Activation) → y.base ≡ None
-    → HasActivation m y sp size k (a ∷ outer) (FunctionBody f)
+own_placed : (m : Memory) (now : ℕ → ℕ) (register : ℕ → Option ℕ) → InFrames register
+    → (y : Layout) (temporaries sp size k f room : ℕ) (a : Activation) (outer : List Activation)
+    → y.base ≡ None → HasActivation m now register y sp size k (a ∷ outer) (FunctionBody f)
     → STACK_START ≤ sp → sp + room ≤ STACK_END → room < 2 ^ 31
     → y.temporaries + 8 * temporaries ≤ room → y.locals + 8 * length a.values ≤ room
     → (sp + (y.locals + 8 * length a.values) ≤ sp + y.temporaries)
     ⊎ (sp + (y.temporaries + 8 * temporaries) ≤ sp + y.locals)
     → SlotsPlaced m y temporaries sp k (a ∷ outer)
-own_placed m y temporaries sp size k f room a outer none h low high small temps locals apart =
+own_placed m now register in_frames y temporaries sp size k f room a outer none h low high small
+    temps locals apart =
     record {
       base = sp;
       values = a.values;
       number = own_number a outer k h.activation.number;
-      holds = words_shorter m (sp + y.locals) (sp + size) a.values h.values;
+      holds = words_of_frame m register in_frames 0 (sp + y.locals)
+          (sp + y.locals + 8 * length a.values) a.values
+          (frame_words m now register 0 (sp + y.locals) (sp + size) a.values h.values);
       sp_low = low;
       sp_high = omega arith;
       base_low = low;
@@ -73,30 +77,33 @@ own_placed m y temporaries sp size k f room a outer none h low high small temps 
       kept = subst (λ o. KeepsSlot m y o sp sp) (sym none) refl;
     }
 
-pub function_placed : (m : Memory) (y : Layout) (b : LinearBody) (sp k f : ℕ)
+pub function_placed : (m : Memory) (now : ℕ → ℕ) (register : ℕ → Option ℕ) → InFrames register
+    → (y : Layout) (b : LinearBody) (sp k f : ℕ)
     (acts : List Activation) → IsFunctionLayout y b → STACK_START ≤ sp → sp + y.frame ≤ STACK_END
-    → HasActivation m y sp y.frame k acts (FunctionBody f) → SlotsPlaced m y b.temporaries sp k acts
-function_placed m y b sp k f [] l low high h = absurd h
-function_placed m y b sp k f (a ∷ outer) l low high h =
-    let w = words_fit m (sp + y.locals) (sp + y.frame) a.values h.values in
+    → HasActivation m now register y sp y.frame k acts (FunctionBody f)
+    → SlotsPlaced m y b.temporaries sp k acts
+function_placed m now register in_frames y b sp k f [] l low high h = absurd h
+function_placed m now register in_frames y b sp k f (a ∷ outer) l low high h =
+    let w = places_fit m now register 0 (sp + y.locals) (sp + y.frame) a.values h.values in
     let t = l.temporaries in
     let small = l.small in
     let more = l.locals in
-    own_placed m y b.temporaries sp y.frame k f y.frame a outer l.none h low high (omega arith)
-    (omega arith) (omega arith) (inr (omega arith))
+    own_placed m now register in_frames y b.temporaries sp y.frame k f y.frame a outer l.none h low
+    high (omega arith) (omega arith) (omega arith) (inr (omega arith))
 
-pub leaf_placed : (m : Memory) (y : Layout) (b : LinearBody) (sp k f : ℕ) (acts : List Activation)
+pub leaf_placed : (m : Memory) (now : ℕ → ℕ) (register : ℕ → Option ℕ) → InFrames register
+    → (y : Layout) (b : LinearBody) (sp k f : ℕ) (acts : List Activation)
     → IsLeafLayout y b → STACK_START ≤ sp → sp + home_end ≤ STACK_END
-    → HasActivation m y sp y.temporaries k acts (FunctionBody f)
+    → HasActivation m now register y sp y.temporaries k acts (FunctionBody f)
     → SlotsPlaced m y b.temporaries sp k acts
-leaf_placed m y b sp k f [] l low high h = absurd h
-leaf_placed m y b sp k f (a ∷ outer) l low high h =
-    let w = words_fit m (sp + y.locals) (sp + y.temporaries) a.values h.values in
+leaf_placed m now register in_frames y b sp k f [] l low high h = absurd h
+leaf_placed m now register in_frames y b sp k f (a ∷ outer) l low high h =
+    let w = places_fit m now register 0 (sp + y.locals) (sp + y.temporaries) a.values h.values in
     let t = l.temporaries in
     let few = l.few in
     let first = l.locals in
-    own_placed m y b.temporaries sp y.temporaries k f home_end a outer l.none h low high
-    (omega arith) (omega arith) (omega arith) (inl (omega arith))
+    own_placed m now register in_frames y b.temporaries sp y.temporaries k f home_end a outer l.none
+    h low high (omega arith) (omega arith) (omega arith) (inl (omega arith))
 
 -- ---- a funclet's, further up
 
@@ -104,16 +111,19 @@ same_slot : (x y : ℕ) → Some x ≡ Some y → x ≡ y
 same_slot x y e = cc
 
 module _ (t : Functions) (fs : List Funclet) (program : LinearProgram) (p : ImagePlan) where
-  pub funclet_placed : (m : Memory) (y function : Layout) (b : LinearBody) (sp k j : ℕ)
+  pub funclet_placed : (m : Memory) (now : ℕ → ℕ) (register : ℕ → Option ℕ) → InFrames register
+      → (y function : Layout) (b : LinearBody) (sp k j : ℕ)
       (acts : List Activation) (c : Context) (is : List StackItem) (items : List Item)
       → IsFuncletLayout y function b → STACK_START ≤ sp
       → rsp c ≡ sp + y.frame + 8 → IsLinkedStack t fs program p m c is items acts
-      → HasActivation m y sp y.frame k acts (FuncletBody j)
+      → HasActivation m now register y sp y.frame k acts (FuncletBody j)
       → ((values : List ℕ) → slice_get (locals_of acts) k ≡ Some values
       → 8 * length values < 2 ^ 30) → function.locals < 2 ^ 30
       → SlotsPlaced m y b.temporaries sp k acts
-  funclet_placed m y function b sp k j acts c is items l low at list h few near =
-      let a = activations_are_at t fs program p m c is items acts k h.base y.locals list
+  funclet_placed m now register in_frames y function b sp k j acts c is items l low at list h few
+      near =
+      let a = activations_are_at t fs program p m c is items acts k h.base y.locals
+      register list
       h.activation in
       let n = few a.values a.number in
       let up = a.low_end in
@@ -128,7 +138,8 @@ module _ (t : Functions) (fs : List Funclet) (program : LinearProgram) (p : Imag
         base = h.base;
         values = a.values;
         number = a.number;
-        holds = a.holds;
+        holds = words_of_frame m register in_frames 0 (h.base + y.locals)
+            (h.base + y.locals + 8 * length a.values) a.values a.holds;
         sp_low = low;
         sp_high = omega arith;
         base_low = omega arith;

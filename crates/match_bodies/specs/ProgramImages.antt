@@ -1,5 +1,5 @@
 -- What an image has of a linear program: its code in memory, and what is known of its addresses.
-use Rattle.std.specs.Prelude.{◌≡◌, ◌≢◌, ℕ, suc, ◌+◌, ◌^◌, ◌<◌, ◌≤◌, Bool, true, false, List, [], ◌∷◌, ◌++◌, length, drop, slice_get, Some, Ok}
+use Rattle.std.specs.Prelude.{◌≡◌, ◌≢◌, ℕ, suc, ◌+◌, ◌^◌, ◌<◌, ◌≤◌, Bool, true, false, List, [], ◌∷◌, ◌++◌, length, drop, slice_get, Some, None, Ok}
 use Rattle.host_layout.specs.declared.range.TheConstants.{IMAGE_BASE, IMAGE_RANGE_END, STACK_START, STACK_END, PAGE}
 use Rattle.host_layout.specs.Ranges.{in_arena}
 use Rattle.host_layout.specs.declared.service.Service.{Service}
@@ -272,6 +272,8 @@ module _ (t : Functions) (fs : List Funclet) (program : LinearProgram) (p : Imag
     pub addresses : (name : BodyName) (b : LinearBody) → body_of program name ≡ Some b
         → HasAddresses name b
     pub check_stack : IsInImage q.check_stack (q.check_stack + sizes check_stack)
+    -- all locals are in frames
+    pub no_registers : (name : BodyName) (local : ℕ) → p.register name local ≡ None
     pub lands : (name : BodyName) (b : LinearBody) (label : ℕ) → body_of program name ≡ Some b
         → label < length b.code → p.lands name label ≡ true
     pub landings : (name : BodyName) (b : LinearBody) (label : ℕ) → body_of program name ≡ Some b

@@ -58,7 +58,7 @@ pub use Rattle.x64_templates.specs.Runs.{FrameHolds, Steps, HasCode, Reaches, En
 pub use Rattle.x64_templates.specs.Straight.{machine, MachineView, AreSmall, takes_frame}
 pub use Rattle.x64_templates.specs.Thunks.{HasThunk}
 pub use Rattle.virtual_unwind.specs.CallerOf.{Functions, distance, CallerFrame}
-pub use Rattle.virtual_unwind.specs.Contexts.{rsp}
+pub use Rattle.virtual_unwind.specs.Contexts.{get, rsp}
 pub use Rattle.virtual_unwind.specs.Undone.{word, readable}
 pub use Rattle.seh_records.specs.Laws.{AllSmall, AreBytes}
 pub use Rattle.host_model.specs.Funclets.{arrivals}
@@ -69,7 +69,7 @@ pub use Rattle.match_runs.specs.Matched.{Moves}
 pub use Rattle.match_runs.specs.Shadow.{GivesCallers, is_call, KeepsShadow, AllKeep, WalkGives, calls, caller_at, drop_below}
 pub use Rattle.match_stack.specs.DispatchStates.{IsWellFormed}
 pub use Rattle.match_stack.specs.ImagePlan.{ImagePlan, InCode, IsGiven}
-pub use Rattle.match_stack.specs.ItemMatches.{Activation, IsActivation, locals_of, activations_below, HoldsWords, HasActivation, HoldsLocals, ActivationHasBase, home_end, Linked, temporaries_end, HasPointers, IsAbove, HasSpace, below_end, BodyWaits, FuncletIsAbove, record_room, FrameWaits, LeafWaits}
+pub use Rattle.match_stack.specs.ItemMatches.{Activation, IsActivation, locals_of, activations_below, HoldsWords, IsInPlace, HoldsPlaces, HasActivation, HoldsLocals, ActivationHasBase, home_end, Linked, temporaries_end, HasPointers, IsAbove, HasSpace, below_end, BodyWaits, FuncletIsAbove, record_room, FrameWaits, LeafWaits}
 pub use Rattle.match_stack.specs.ListLaws.{IsLinkedStack, KeepsStack}
 pub use Rattle.match_stack.specs.PlainWalks.{state, decided_or, plain_unwind}
 pub use Rattle.match_stack.specs.AllocatedFrames.{IsAllocated}
@@ -84,4 +84,4 @@ pub use Rattle.match_bodies.specs.ConfigurationFacts.{IsWellMade, IsKnown}
 pub use Rattle.match_bodies.specs.Layouts.{IsFunctionLayout, IsLayoutIf, IsLaidOut, AreLaidOut, IsLeafLayout, IsFuncletLayout, IsFuncletPlan}
 pub use Rattle.match_bodies.specs.ProgramImages.{HasProgram, IsProgramImage, frame_of, service_of, HasService, IsMachineMemory, IsInImage, IsFramed}
 pub use Rattle.match_bodies.specs.Setting.{setting_of, Setting, RepresentsAt, IsResumed}
-pub use Rattle.match_bodies.specs.SlotStores.{with_values, KeepsStackBut, OwnerHasFrame, with_values_if, ActivationIsAt, ActivationsAreAt, ActivationsAreStored}
+pub use Rattle.match_bodies.specs.SlotStores.{with_values, KeepsStackBut, OwnerHasFrame, with_values_if, IsInFrame, FrameWords, IsLeft, LeavesRegisters, ActivationIsAt, ActivationsAreAt, ActivationsAreStored}

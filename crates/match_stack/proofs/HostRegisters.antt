@@ -1,8 +1,23 @@
 -- What the host leaves in the registers of a body that continues.
 use Rattle.std.proofs.Common.{◌≡◌, ℕ, List, [], ◌∷◌, length, refl, sym, ap, subst, arith}
 use Rattle.std.specs.Prelude.{slice_index}
-use Rattle.match_stack.specs.Words.{Memory, Context, context_of, State, Functions, DispatchRecord, Funclet, at_landing, LinearProgram, Item, Waits, Searches, Unwinds, StackItem, Searching, Unwinding, context_below, ImagePlan, Activation, On}
-use Rattle.match_stack.specs.RegisterLaws.{going_to, LandingHasRegisters, RestoredHasRegisters, RecordsRestOnStack}
+use Rattle.flat_memory.specs.Memory.{Memory}
+use Rattle.x64_machine.specs.declared.context.Context.{Context}
+use Rattle.x64_machine.specs.Contexts.{context_of}
+use Rattle.x64_machine.specs.Effect.{State}
+use Rattle.virtual_unwind.specs.Contexts.{get}
+use Rattle.virtual_unwind.specs.CallerOf.{Functions}
+use Rattle.seh_records.specs.declared.dispatch.DispatchRecord.{DispatchRecord}
+use Rattle.host_model.specs.declared.funclet.Funclet.{Funclet}
+use Rattle.host_model.specs.Dispatch.{at_landing}
+use Rattle.linear_code.specs.Program.{LinearProgram}
+use Rattle.linear_machine.specs.Frames.{Item, Waits, Searches, Unwinds}
+use Rattle.match_stack.specs.Stack.{StackItem, Searching, Unwinding}
+use Rattle.match_stack.specs.WalkLaws.{context_below}
+use Rattle.match_stack.specs.ImagePlan.{ImagePlan}
+use Rattle.match_stack.specs.ItemMatches.{Activation, HasActivation}
+use Rattle.match_stack.specs.StackRecords.{On}
+use Rattle.match_stack.specs.RegisterLaws.{going_to, LandingHasRegisters, LandedBodyHoldsLocals, RestoredHasRegisters, RecordsRestOnStack}
 
 -- nine numbers are what is at their places
 pub nine_numbers : (os : List ℕ) → length os ≡ 9
@@ -30,6 +45,20 @@ pub landing_has_registers : LandingHasRegisters
 landing_has_registers t fs program p s c rax target is items acts n on =
     subst (λ (x : Context). On t fs program p s.memory x is items acts)
     (sym (landed_is s c rax target c.rip n)) on
+
+pub landed_body_holds_locals : LandedBodyHoldsLocals
+landed_body_holds_locals t fs program p s c rax target f is b below acts n on =
+    subst (λ (x : Context). HasActivation s.memory (get x) (p.register b.body) (p.layout b.body)
+    (get x 4) f.slots b.activation acts b.body) (sym (landed_is s c rax target target n))
+    (holds c.rip c.kept on.is_there.linked.0.waits.activation)
+  where
+    -- a register of a context doesn't rest on its RIP
+    holds : (rip : ℕ) (kept : List ℕ)
+        → HasActivation s.memory (get (record { rip = rip; kept = kept })) (p.register b.body)
+        (p.layout b.body) (slice_index kept 0) f.slots b.activation acts b.body
+        → HasActivation s.memory (get (record { rip = target; kept = kept })) (p.register b.body)
+        (p.layout b.body) (slice_index kept 0) f.slots b.activation acts b.body
+    holds rip kept h = h
 
 pub restored_has_registers : RestoredHasRegisters
 restored_has_registers s r = refl

@@ -1,6 +1,6 @@
 -- The list ends in the stack, and each of its parts below that.
-use Rattle.std.proofs.Common.{ℕ, ◌+◌, ◌*◌, ◌≤◌, List, [], ◌∷◌, length, arith}
-use Rattle.match_stack.specs.Words.{STACK_END, Memory, Context, context_of, rsp, Functions, Funclet, Layout, LinearProgram, BodyName, FunctionBody, FuncletBody, Item, Waits, Searches, Unwinds, StackItem, Framed, Leaf, Searching, Unwinding, IsStack, after_frame, after_leaf, ImagePlan, Activation, activations_below, HoldsWords, temporaries_end, HasActivation, Linked}
+use Rattle.std.proofs.Common.{ℕ, ◌+◌, ◌*◌, ◌≤◌, Option, List, [], ◌∷◌, length, arith}
+use Rattle.match_stack.specs.Words.{STACK_END, Memory, Context, context_of, rsp, Functions, Funclet, Layout, LinearProgram, BodyName, FunctionBody, FuncletBody, Item, Waits, Searches, Unwinds, StackItem, Framed, Leaf, Searching, Unwinding, IsStack, after_frame, after_leaf, ImagePlan, Activation, activations_below, HoldsWords, HoldsPlaces, temporaries_end, HasActivation, Linked}
 use Rattle.match_stack.proofs.StackKeeping.{rises}
 
 -- ---- slots
@@ -10,14 +10,20 @@ pub words_fit : (m : Memory) (at end : ℕ) (vs : List ℕ) → HoldsWords m at 
 words_fit m at end [] h = let e = h in omega arith
 words_fit m at end (v ∷ vs) h = let e = words_fit m (at + 8) end vs h.1 in omega arith
 
+pub places_fit : (m : Memory) (now : ℕ → ℕ) (register : ℕ → Option ℕ) (i at end : ℕ) (vs : List ℕ)
+    → HoldsPlaces m now register i at end vs → at + 8 * length vs ≤ end
+places_fit m now register i at end [] h = let e = h in omega arith
+places_fit m now register i at end (v ∷ vs) h =
+    let e = places_fit m now register (i + 1) (at + 8) end vs h.1 in omega arith
+
 -- temporaries end within the frame
-pub end_within : (m : Memory) (y : Layout) (sp size k : ℕ) (acts : List Activation)
-    (name : BodyName) → HasActivation m y sp size k acts name
+pub end_within : (m : Memory) (now : ℕ → ℕ) (register : ℕ → Option ℕ) (y : Layout) (sp size k : ℕ)
+    (acts : List Activation) (name : BodyName) → HasActivation m now register y sp size k acts name
     → sp + temporaries_end y name size ≤ sp + size
-end_within m y sp size k [] (FunctionBody f) h = absurd h
-end_within m y sp size k (a ∷ outer) (FunctionBody f) h = let e = words_fit m (sp + y.locals)
-    (sp + size) a.values h.values in omega arith
-end_within m y sp size k acts (FuncletBody j) h = omega arith
+end_within m now register y sp size k [] (FunctionBody f) h = absurd h
+end_within m now register y sp size k (a ∷ outer) (FunctionBody f) h =
+    let e = places_fit m now register 0 (sp + y.locals) (sp + size) a.values h.values in omega arith
+end_within m now register y sp size k acts (FuncletBody j) h = omega arith
 
 -- ---- the list
 

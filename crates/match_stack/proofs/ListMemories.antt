@@ -1,10 +1,11 @@
 -- The list is in each memory that reads the same in the stack, from its stack pointer up, and has
 -- the same code.
-use Rattle.std.proofs.Common.{◌≡◌, ℕ, ◌+◌, ◌≤◌, Bool, true, false, Ok, List, [], ◌∷◌, ◌∙◌, arith}
-use Rattle.match_stack.specs.Words.{STACK_END, Memory, Context, context_of, rsp, word, tail_at, Functions, DispatchRecord, misplaced, fetched, RECORD_SIZE, filter_return, finally_return, Funclet, Layout, LinearProgram, BodyName, FunctionBody, FuncletBody, Frame, Item, Waits, Searches, Unwinds, StackFrame, StackItem, Framed, Leaf, Searching, Unwinding, FrameIsAt, LeafIsAt, RecordIsAt, IsStack, after_frame, after_leaf, ImagePlan, Activation, activations_below, HoldsWords, temporaries_end, HasActivation, FrameWaits, LeafWaits, Linked, IsLinkedStack, home_end, HasPointers, BodyWaits, IsOwnRecord, IsWord}
+use Rattle.std.proofs.Common.{◌≡◌, ℕ, ◌+◌, ◌≤◌, Bool, true, false, Option, Some, None, Ok, List, [], ◌∷◌, ◌∙◌, arith}
+use Rattle.match_stack.specs.Words.{STACK_END, Memory, Context, context_of, get, rsp, word, tail_at, Functions, DispatchRecord, misplaced, fetched, RECORD_SIZE, filter_return, finally_return, Funclet, Layout, LinearProgram, BodyName, FunctionBody, FuncletBody, Frame, Item, Waits, Searches, Unwinds, StackFrame, StackItem, Framed, Leaf, Searching, Unwinding, FrameIsAt, LeafIsAt, RecordIsAt, IsStack, after_frame, after_leaf, ImagePlan, Activation, activations_below, HoldsWords, IsInPlace, HoldsPlaces, temporaries_end, HasActivation, FrameWaits, LeafWaits, Linked, IsLinkedStack, home_end, HasPointers, BodyWaits, IsOwnRecord}
+use Rattle.frame_rules.specs.Frame.{IsWord}
 use Rattle.match_stack.proofs.ItemVisits.{set_head}
 use Rattle.match_stack.proofs.FrameWords.{told_above}
-use Rattle.match_stack.proofs.ListEnds.{words_fit, end_within, in_stack}
+use Rattle.match_stack.proofs.ListEnds.{words_fit, places_fit, end_within, in_stack}
 
 -- what a memory reads as another does, from an address up to another
 pub record ReadsSame (m m' : Memory) (low top : ℕ) : Type 0 where
@@ -33,17 +34,34 @@ module _ (m m' : Memory) (top : ℕ) where
       let e = words_fit m (at + 8) end vs h.1 in
       (r.words at v le (omega arith) h.0, words_kept low (at + 8) end vs r (omega arith) fits h.1)
 
-  pub activation_kept : (y : Layout) (sp size k : ℕ) (acts : List Activation) (name : BodyName)
-      → ReadsSame m m' sp top → sp + size ≤ top → HasActivation m y sp size k acts name
-      → HasActivation m' y sp size k acts name
-  activation_kept y sp size k [] (FunctionBody f) r fits h = absurd h
-  activation_kept y sp size k (x ∷ outer) (FunctionBody f) r fits h =
+  place_kept : (now : ℕ → ℕ) (low at v : ℕ) (o : Option ℕ) → ReadsSame m m' low top → low ≤ at
+      → at + 8 ≤ top → IsInPlace m now at v o → IsInPlace m' now at v o
+  place_kept now low at v None r le fits h = r.words at v le fits h
+  place_kept now low at v (Some q) r le fits h = h
+
+  pub places_kept : (now : ℕ → ℕ) (register : ℕ → Option ℕ) (low i at end : ℕ) (vs : List ℕ)
+      → ReadsSame m m' low top → low ≤ at → end ≤ top → HoldsPlaces m now register i at end vs
+      → HoldsPlaces m' now register i at end vs
+  places_kept now register low i at end [] r le fits h = h
+  places_kept now register low i at end (v ∷ vs) r le fits h =
+      let e = places_fit m now register (i + 1) (at + 8) end vs h.1 in (
+        place_kept now low at v (register i) r le (omega arith) h.0,
+        places_kept now register low (i + 1) (at + 8) end vs r (omega arith) fits h.1,
+      )
+
+  pub activation_kept : (now : ℕ → ℕ) (register : ℕ → Option ℕ) (y : Layout) (sp size k : ℕ)
+      (acts : List Activation) (name : BodyName) → ReadsSame m m' sp top → sp + size ≤ top
+      → HasActivation m now register y sp size k acts name
+      → HasActivation m' now register y sp size k acts name
+  activation_kept now register y sp size k [] (FunctionBody f) r fits h = absurd h
+  activation_kept now register y sp size k (x ∷ outer) (FunctionBody f) r fits h =
       record {
         none = h.none;
         activation = h.activation;
-        values = words_kept sp (sp + y.locals) (sp + size) x.values r (omega arith) fits h.values;
+        values = places_kept now register sp 0 (sp + y.locals) (sp + size) x.values r (omega arith)
+            fits h.values;
       }
-  activation_kept y sp size k acts (FuncletBody j) r fits h =
+  activation_kept now register y sp size k acts (FuncletBody j) r fits h =
       let room = h.room in
       record {
         slot = h.slot;
@@ -80,7 +98,8 @@ module _ (m m' : Memory) (top : ℕ) where
           instruction = h.instruction;
           same = h.same;
           small = h.small;
-          activation = activation_kept y (rsp c) size b.activation acts b.body r fits h.activation;
+          activation = activation_kept (get c) (p.register b.body) y (rsp c) size b.activation acts
+              b.body r fits h.activation;
           temporaries = words_kept (rsp c) (rsp c + y.temporaries) (rsp c + end) b.temporaries r
               (omega arith) ends h.temporaries;
           space = h.space;
@@ -93,7 +112,8 @@ module _ (m m' : Memory) (top : ℕ) where
         acts
     frame_kept c f b below acts r within fits h =
         let y = p.layout b.body in
-        let e = end_within m y (rsp c) f.slots b.activation acts b.body h.waits.activation in
+        let e = end_within m (get c) (p.register b.body) y (rsp c) f.slots b.activation acts b.body
+        h.waits.activation in
         record {
           framed = h.framed;
           entry = h.entry;

@@ -2,7 +2,7 @@
 use Rattle.std.proofs.Common.{◌≡◌, ◌⊎◌, inl, inr, ℕ, suc, ◌+◌, ◌%◌, ◌^◌, ◌<◌, ◌≤◌, Option, Some, None, List, [], ◌∷◌, ◌++◌, length, refl, sym, ap, subst, ◌∙◌, arith}
 use Rattle.std.specs.Prelude.{filter, drop}
 use Rattle.std.proofs.Math.Seq.{drop-nil}
-use Rattle.match_stack.specs.Words.{Memory, Context, context_of, ScopeRecord, Entry, rsp, Functions, distance, rows_from, first_with_jump_target, SearchResult, search, Funclet, row_before, Region, LinearProgram, BodyName, FunctionBody, FuncletBody, body_of, Frame, Handler, Item, Waits, Searches, Unwinds, holds, regions_of, handlers_in, handlers, StackFrame, StackItem, Framed, Leaf, Searching, Unwinding, FrameIsAt, LeafIsAt, IsStack, after_frame, after_leaf, state, asked_row, chosen_or, plain_search, ImagePlan, AreRegions, IsFlagged, IsHandlerRow, Gives, Activation, activations_below, HasActivation, Reaches, FrameWaits, LeafWaits, regions_from, IsAtRow, Onward, Aimed, Linked, NoHandler, FirstHandler, left_from, IsWide, FindsHandler, SearchedAs, by_handler, chosen, rows_of, IsEntryOf, IsGiven, IsActivation, IsInstruction}
+use Rattle.match_stack.specs.Words.{Memory, Context, context_of, ScopeRecord, Entry, get, rsp, Functions, distance, rows_from, first_with_jump_target, SearchResult, search, Funclet, row_before, Region, LinearProgram, BodyName, FunctionBody, FuncletBody, body_of, Frame, Handler, Item, Waits, Searches, Unwinds, holds, regions_of, handlers_in, handlers, StackFrame, StackItem, Framed, Leaf, Searching, Unwinding, FrameIsAt, LeafIsAt, IsStack, after_frame, after_leaf, state, asked_row, chosen_or, plain_search, ImagePlan, AreRegions, IsFlagged, IsHandlerRow, Gives, Activation, activations_below, HasActivation, Reaches, FrameWaits, LeafWaits, regions_from, IsAtRow, Onward, Aimed, Linked, NoHandler, FirstHandler, left_from, IsWide, FindsHandler, SearchedAs, by_handler, chosen, rows_of, IsEntryOf, IsGiven, IsActivation, IsInstruction}
 use Rattle.seh_search.specs.declared.search_result.SearchResult.TheVariants as searches
 use Rattle.match_stack.proofs.StackKeeping.{rises}
 use Rattle.match_stack.proofs.ListWalks.{search_is_of_the_list}
@@ -13,10 +13,11 @@ use Rattle.match_stack.proofs.ContextWidths.{wide_after, wide_after_leaf, wide_s
 use Rattle.match_stack.proofs.EntryFlags.{searched_all}
 
 pub activation_below : (name : BodyName) (acts : List Activation) (k base distance : ℕ)
-    → IsActivation (activations_below name acts) k base distance → IsActivation acts k base distance
-activation_below (FunctionBody f) [] k base distance h = absurd h
-activation_below (FunctionBody f) (a ∷ outer) k base distance h = inr h
-activation_below (FuncletBody j) acts k base distance h = h
+    (register : ℕ → Option ℕ) → IsActivation (activations_below name acts) k base distance register
+    → IsActivation acts k base distance register
+activation_below (FunctionBody f) [] k base distance register h = absurd h
+activation_below (FunctionBody f) (a ∷ outer) k base distance register h = inr h
+activation_below (FuncletBody j) acts k base distance register h = h
 
 pub at_first_row : (t : Functions) (fs : List Funclet) (program : LinearProgram) (p : ImagePlan)
     (items : List Item) → IsAtRow t fs program p 0 items None
@@ -28,12 +29,13 @@ at_first_row t fs program p (Unwinds rest target ∷ below) = tt
 module _ (t : Functions) (fs : List Funclet) (program : LinearProgram) (p : ImagePlan) where
   -- a frame leads its funclets to its activation
   pub body_reaches : (m : Memory) (name : BodyName) (sp size k : ℕ) (acts : List Activation)
-      → sp + size + 8 < 2 ^ 64 → HasActivation m (p.layout name) sp size k acts name
+      (now : ℕ → ℕ) → sp + size + 8 < 2 ^ 64
+      → HasActivation m now (p.register name) (p.layout name) sp size k acts name
       → Reaches t fs program p m name sp k acts
-  body_reaches m (FunctionBody f) sp size k [] lt h = absurd h
-  body_reaches m (FunctionBody f) sp size k (a ∷ outer) lt
+  body_reaches m (FunctionBody f) sp size k [] now lt h = absurd h
+  body_reaches m (FunctionBody f) sp size k (a ∷ outer) now lt
       h = record { base = sp; leads = refl; activation = inl h.activation }
-  body_reaches m (FuncletBody j) sp size k acts lt h =
+  body_reaches m (FuncletBody j) sp size k acts now lt h =
       record {
         base = h.base;
         leads = record {
@@ -48,8 +50,8 @@ module _ (t : Functions) (fs : List Funclet) (program : LinearProgram) (p : Imag
   -- what holds of a rear part of the stack holds of all of it
   module _ (m : Memory) (acts acts' : List Activation) (c c' : Context) (is is' : List StackItem)
       (items items' : List Item) (rising : rsp c ≤ rsp c')
-      (activations : (k base distance : ℕ) → IsActivation acts' k base distance
-      → IsActivation acts k base distance)
+      (activations : (k base distance : ℕ) (register : ℕ → Option ℕ)
+      → IsActivation acts' k base distance register → IsActivation acts k base distance register)
       (onward : (to : Context) (row : ℕ) (found : List Handler)
       → Onward t fs program p to row found c' is' items'
       → Onward t fs program p to row found c is items)
@@ -86,6 +88,7 @@ module _ (t : Functions) (fs : List Funclet) (program : LinearProgram) (p : Imag
             base = x.reaches.base;
             leads = x.reaches.leads;
             activation = activations h.activation x.reaches.base (p.layout x.name).locals
+                (p.register x.name)
                 x.reaches.activation;
           };
           above = let a : rsp c' ≤ x.frame = x.above in omega arith;
@@ -203,7 +206,7 @@ module _ (t : Functions) (fs : List Funclet) (program : LinearProgram) (p : Imag
           };
           funclet = x.funclet;
           named = x.named;
-          reaches = body_reaches t fs program p m b.body (rsp c) f.slots b.activation acts
+          reaches = body_reaches t fs program p m b.body (rsp c) f.slots b.activation acts (get c)
               (let e = is_there.slots in let o = is_there.room in omega arith)
               body.waits.activation;
           above = omega arith;
@@ -310,13 +313,15 @@ module _ (t : Functions) (fs : List Funclet) (program : LinearProgram) (p : Imag
       searched_outer t fs program p m acts acts c (context_of r.saved) (Searching r ∷ is) is
       (Searches exception resumption asked rest ∷ below) below
       (let q = rises t m c (Searching r) s.0 in omega arith)
-      (λ k base distance i. i) (λ to row found o. o) (λ depth label frame address a. a) _ _ _ refl
+      (λ k base distance register i. i) (λ to row found o. o) (λ depth label frame address a. a) _ _
+      _ refl
       (searched_plainly m acts is below (context_of r.saved) 0 None s.1 h.1
       (at_first_row t fs program p below) (wide_saved r h.0.own.fits))
   searched_plainly m acts (Unwinding r ∷ is) (Unwinds rest target ∷ below) c row left s h at wide =
       searched_outer t fs program p m acts acts c r.walk (Unwinding r ∷ is) is
       (Unwinds rest target ∷ below) below (let q = rises t m c (Unwinding r) s.0 in omega arith)
-      (λ k base distance i. i) (λ to row found o. o) (λ depth label frame address a. a) _ _ _ refl
+      (λ k base distance register i. i) (λ to row found o. o) (λ depth label frame address a. a) _ _
+      _ refl
       (searched_plainly m acts is below r.walk r.row (Some rest) s.1 h.1 h.0.row
       (wide_walk r h.0.own.fits))
   searched_plainly m acts is items c row left s h at wide = absurd h
@@ -368,15 +373,15 @@ module _ (t : Functions) (fs : List Funclet) (program : LinearProgram) (p : Imag
       searched_outer t fs program p m acts acts c (context_of r.saved) (Searching r ∷ is) is
       (Searches exception resumption asked rest ∷ below) below
       (let q = rises t m c (Searching r) s.0 in omega arith)
-      (λ k base distance i. i) (λ to row found o. o) (λ depth label frame address a. a) _ _ found
-      refl
+      (λ k base distance register i. i) (λ to row found o. o) (λ depth label frame address a. a) _ _
+      found refl
       (continues m acts is below (context_of r.saved) to row found n s.1 h.1
       (wide_saved r h.0.own.fits) o (omega arith))
   continues m acts (Unwinding r ∷ is) (Unwinds rest target ∷ below) c to row found n s h wide o lt =
       searched_outer t fs program p m acts acts c r.walk (Unwinding r ∷ is) is
       (Unwinds rest target ∷ below) below (let q = rises t m c (Unwinding r) s.0 in omega arith)
-      (λ k base distance i. i) (λ to row found o. o) (λ depth label frame address a. a) _ _ found
-      refl
+      (λ k base distance register i. i) (λ to row found o. o) (λ depth label frame address a. a) _ _
+      found refl
       (continues m acts is below r.walk to row found n s.1 h.1 (wide_walk r h.0.own.fits) o
       (omega arith))
   continues m acts [] items c to row found n s h wide o lt = absurd o

@@ -2,7 +2,7 @@
 use Rattle.std.proofs.Common.{◌≡◌, ◌≢◌, ◌⊎◌, inl, inr, ℕ, suc, ◌+◌, ◌%◌, ◌^◌, ◌<◌, ◌≤◌, Bool, true, false, Option, Some, None, List, [], ◌∷◌, length, refl, sym, ap, subst, ◌∙◌, arith}
 use Rattle.std.specs.Prelude.{nat_eq}
 use Rattle.std.proofs.lemmas.Bool.{le-ltb, eq-eqb, ne_eqb}
-use Rattle.match_stack.specs.Words.{Event, Memory, Context, context_of, rsp, Functions, distance, AskedRecord, rows_from, unwound, until, until_if, first_finally, UnwindResult, if_past, if_target, by_row, Funclet, arrivals, row_before, Layout, Region, LinearProgram, BodyName, FunctionBody, FuncletBody, body_of, Frame, Target, Item, Waits, Searches, Unwinds, Store, Seen, Next, pick, regions_of, left_store, unwind_body, StackFrame, StackItem, Framed, Leaf, Searching, Unwinding, FrameIsAt, LeafIsAt, IsStack, after_frame, after_leaf, caller_frame, caller_of_leaf, state, decided_or, plain_unwind, ImagePlan, Gives, Activation, activations_below, HasActivation, FrameWaits, LeafWaits, regions_from, IsAtRow, Aimed, Linked, NoBlock, Arrives, FirstBlock, left_from, IsWide, store_of, Course, RunsBlock, UnwoundAs, target_past, IsAbove, AimedHere, on_top}
+use Rattle.match_stack.specs.Words.{Event, Memory, Context, context_of, get, rsp, Functions, distance, AskedRecord, rows_from, unwound, until, until_if, first_finally, UnwindResult, if_past, if_target, by_row, Funclet, arrivals, row_before, Layout, Region, LinearProgram, BodyName, FunctionBody, FuncletBody, body_of, Frame, Target, Item, Waits, Searches, Unwinds, Store, Seen, Next, pick, regions_of, left_store, unwind_body, StackFrame, StackItem, Framed, Leaf, Searching, Unwinding, FrameIsAt, LeafIsAt, IsStack, after_frame, after_leaf, caller_frame, caller_of_leaf, state, decided_or, plain_unwind, ImagePlan, Gives, Activation, activations_below, HasActivation, FrameWaits, LeafWaits, regions_from, IsAtRow, Aimed, Linked, NoBlock, Arrives, FirstBlock, left_from, IsWide, store_of, Course, RunsBlock, UnwoundAs, target_past, IsAbove, AimedHere, on_top}
 use Rattle.seh_unwind.specs.declared.unwind_result.UnwindResult.TheVariants as unwinds
 use Rattle.linear_machine.specs.Unwinding as linear
 use Rattle.match_stack.proofs.StackKeeping.{rises}
@@ -25,12 +25,13 @@ grows_past (FunctionBody f) held = let e : held ≤ held + 1 = omega arith in e
 grows_past (FuncletBody k) held = let e : held ≤ held = omega arith in e
 
 counted_past : (m : Memory) (y : Layout) (sp size k : ℕ) (acts : List Activation) (name : BodyName)
-    (held : ℕ) → HasActivation m y sp size k acts name
+    (held : ℕ) (now : ℕ → ℕ) (register : ℕ → Option ℕ)
+    → HasActivation m now register y sp size k acts name
     → length (activations_below name acts) + held_past name held ≡ length acts + held
-counted_past m y sp size k [] (FunctionBody f) held h = absurd h
-counted_past m y sp size k (a ∷ outer) (FunctionBody f) held h =
+counted_past m y sp size k [] (FunctionBody f) held now register h = absurd h
+counted_past m y sp size k (a ∷ outer) (FunctionBody f) held now register h =
     let e : length outer + (held + 1) ≡ suc (length outer) + held = omega arith in e
-counted_past m y sp size k acts (FuncletBody j) held h = refl
+counted_past m y sp size k acts (FuncletBody j) held now register h = refl
 
 past_is : (name : BodyName) (target : Target) (held : ℕ)
     → target_past name (record target { held = held })
@@ -57,12 +58,13 @@ module _ (t : Functions) (fs : List Funclet) (program : LinearProgram) (p : Imag
 
   -- a body that is left: its activation too, if it is a function's
   left_out : (held : ℕ) (sp size k : ℕ) (acts : List Activation) (name : BodyName)
-      (below : List Item) (then : Next) → HasActivation m (p.layout name) sp size k acts name
+      (below : List Item) (then : Next) (now : ℕ → ℕ)
+      → HasActivation m now (p.register name) (p.layout name) sp size k acts name
       → out held name below then (left_store name k (store_of source acts))
       ≡ seen_from (held_past name held) below None (activations_below name acts) then
-  left_out held sp size k acts name below then h =
+  left_out held sp size k acts name below then now h =
       ap (out held name below then) (left_activations m source
-      (p.layout name) sp size k acts name h)
+      (p.layout name) sp size k acts name now (p.register name) h)
       ∙ ap (λ (to : Target). linear.unwind program then to below None events
       (store_of source (activations_below name acts))) (past_is name target held)
 
@@ -140,7 +142,7 @@ module _ (t : Functions) (fs : List Funclet) (program : LinearProgram) (p : Imag
           at_row = refl;
           aimed = aimed;
           reaches = body_reaches t fs program p m b.body
-              (rsp c) f.slots b.activation acts
+              (rsp c) f.slots b.activation acts (get c)
               (let e = is_there.slots in let o = is_there.room in omega arith)
               body.waits.activation;
           funclet = x.is.funclet;
@@ -249,7 +251,7 @@ module _ (t : Functions) (fs : List Funclet) (program : LinearProgram) (p : Imag
             (host_step false None (let l = lt in omega arith) elsewhere x.first)
             (λ then. linear_step then ∙ x.leaves then (out held b.body below then)
             ∙ left_out held (rsp c) f.slots b.activation acts b.body below
-            then body.waits.activation)
+            then (get c) body.waits.activation)
             (grows_past b.body held) (let r = rises t m c (Framed f) is_there in omega arith) more
         by (inr x) = inl (runs_here rows x (host_step false (Some (x.index, x.row)) (let l = lt in
             omega arith) elsewhere x.first) (inr a))
@@ -283,7 +285,7 @@ module _ (t : Functions) (fs : List Funclet) (program : LinearProgram) (p : Imag
         (out held b.body below then (left_store b.body b.activation (store_of source acts))))
         (ne_eqb target.depth (length below) away)
         ∙ left_out held (rsp c) (p.layout b.body).temporaries b.activation acts b.body below
-        then body.waits.activation
+        then (get c) body.waits.activation
 
     host_left : plain_unwind t frame address c row (Leaf back ∷ is) ≡ plain_unwind t frame address
         (after_leaf c back) 0 is
@@ -323,14 +325,15 @@ module _ (t : Functions) (fs : List Funclet) (program : LinearProgram) (p : Imag
       (after_frame c f) 0 None s.1 h.2 (at_first_row t fs program p below)
       (wide_after t m c f s.0 h.0.small) a
       (counted_past m (p.layout b.body) (rsp c) f.slots b.activation acts b.body held
-      h.0.waits.activation ∙ e))
+      (get c) (p.register b.body) h.0.waits.activation ∙ e))
   unwound_plainly held acts (Leaf back ∷ is) (Waits b ∷ below) c row left s h at wide a e =
       past_leaf held c back is b below acts row left s.0 s.1 h.0 at a
       (unwound_plainly (held_past b.body held) (activations_below b.body acts) is below
       (after_leaf c back) 0 None s.1 h.2 (at_first_row t fs program p below)
       (wide_after_leaf t m c back s.0 wide) a
       (counted_past m (p.layout b.body) (rsp c)
-      (p.layout b.body).temporaries b.activation acts b.body held h.0.waits.activation ∙ e))
+      (p.layout b.body).temporaries b.activation acts b.body held (get c)
+      (p.register b.body) h.0.waits.activation ∙ e))
   unwound_plainly held acts (Searching r ∷ is) (Searches exception resumption asked rest
       ∷ below) c row left s h at wide a e =
       from_rear t fs program p m target held held frame address (rsp c) (rsp (context_of r.saved))

@@ -1,6 +1,6 @@
 -- The target of the host's unwinding lies ahead of it, and one from a rear part of the stack is one
 -- from the front.
-use Rattle.std.proofs.Common.{◌≡◌, inl, inr, ℕ, ◌<◌, ◌≤◌, List, [], ◌∷◌, length, refl, sym, ap, ◌∙◌, arith, length-append}
+use Rattle.std.proofs.Common.{◌≡◌, inl, inr, ℕ, ◌<◌, ◌≤◌, Option, List, [], ◌∷◌, length, refl, sym, ap, ◌∙◌, arith, length-append}
 use Rattle.std.proofs.lemmas.List.{take_at}
 use Rattle.match_stack.specs.Words.{Event, Memory, Context, context_of, rsp, Functions, UnwindResult, Funclet, Layout, LinearProgram, BodyName, FunctionBody, FuncletBody, Target, Item, Waits, Searches, Unwinds, Store, Seen, Next, left_store, StackItem, Framed, Leaf, Searching, Unwinding, IsStack, after_frame, after_leaf, ImagePlan, Activation, activations_below, HasActivation, Aimed, store_of, Course, UnwoundAs, locals_of}
 use Rattle.match_stack.proofs.StackKeeping.{rises}
@@ -12,13 +12,14 @@ locals_length (a ∷ outer) = let e = locals_length outer in
     omega (arith, length-append (locals_of outer) (a.values ∷ []))
 
 pub left_activations : (m source : Memory) (y : Layout) (sp size k : ℕ) (acts : List Activation)
-    (name : BodyName) → HasActivation m y sp size k acts name
+    (name : BodyName) (now : ℕ → ℕ) (register : ℕ → Option ℕ)
+    → HasActivation m now register y sp size k acts name
     → left_store name k (store_of source acts) ≡ store_of source (activations_below name acts)
-left_activations m source y sp size k [] (FunctionBody f) h = absurd h
-left_activations m source y sp size k (a ∷ outer) (FunctionBody f) h =
+left_activations m source y sp size k [] (FunctionBody f) now register h = absurd h
+left_activations m source y sp size k (a ∷ outer) (FunctionBody f) now register h =
     ap (λ (xs : List (List ℕ)). let s : Store = record { memory = source; activations = xs } in s)
     (take_at (locals_of outer) (a.values ∷ []) k (locals_length outer ∙ sym h.activation.number))
-left_activations m source y sp size k acts (FuncletBody j) h = refl
+left_activations m source y sp size k acts (FuncletBody j) now register h = refl
 
 module _ (t : Functions) (fs : List Funclet) (program : LinearProgram) (p : ImagePlan) where
   -- ---- the target lies ahead

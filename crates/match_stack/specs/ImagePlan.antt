@@ -28,6 +28,7 @@ pub record ImagePlan : Type 0 where
   pub leaf : BodyName → Bool  -- a leaf function, which has no frame and no entry
   pub entry : BodyName → Entry  -- the entry of the function table for any other body
   pub layout : BodyName → Layout  -- where the slots of a body are
+  pub register : BodyName → ℕ → Option ℕ  -- the register that a local is in, by its number
   pub lands : BodyName → ℕ → Bool  -- an unwinding may land at this instruction
   -- a body that waits continues so from a state that was saved where it raised an exception
   pub resumes : Resumption → Frame → Cpu → Bool

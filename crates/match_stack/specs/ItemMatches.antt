@@ -7,7 +7,7 @@ use Rattle.x64_machine.specs.declared.cpu.Cpu.{Cpu}
 use Rattle.x64_machine.specs.declared.context.Context.{Context}
 use Rattle.x64_machine.specs.Contexts.{context_of}
 use Rattle.eh_tables.specs.declared.scope.ScopeRecord.{ScopeRecord}
-use Rattle.virtual_unwind.specs.Contexts.{rsp}
+use Rattle.virtual_unwind.specs.Contexts.{get, rsp}
 use Rattle.virtual_unwind.specs.Undone.{word}
 use Rattle.virtual_unwind.specs.CallerOf.{Functions, entry_of}
 use Rattle.seh_records.specs.declared.dispatch.Kind.TheVariants.{ExceptionUnwind, LocalUnwind}
@@ -36,10 +36,12 @@ use Rattle.template_code.specs.declared.layout.TheConstants.{LARGEST_FRAME}
 
 -- ---- the source's activations
 
--- the base of a function's frame, the distance of its first local from there, and the locals
+-- the base of a function's frame, the distance of its first local from there, which locals are in
+-- registers instead, and the locals
 pub record Activation : Type 0 where
   pub base : ℕ
   pub distance : ℕ
+  pub register : ℕ → Option ℕ
   pub values : List ℕ
 
 -- innermost first here; the linear machine has the outermost first
@@ -47,18 +49,19 @@ abbrev pub locals_of : List Activation → List (List ℕ)
 locals_of [] = []
 locals_of (a ∷ outer) = locals_of outer ++ a.values ∷ []
 
--- activation number k has its base and its first local there
-pub record ActivationHasBase (k at first : ℕ) (a : Activation)
+-- activation number k has its base and its first local there, and these in registers
+pub record ActivationHasBase (k at first : ℕ) (register : ℕ → Option ℕ) (a : Activation)
     (outer : List Activation) : Type 0 where
   pub number : k ≡ length outer
   pub base : at ≡ a.base
   pub distance : first ≡ a.distance
+  pub registers : register ≡ a.register
 
 -- the activation of this number has its base so far above
-abbrev pub IsActivation : List Activation → ℕ → ℕ → ℕ → Type 0
-IsActivation [] k base distance = ⊥
-IsActivation (a ∷ outer) k base distance =
-    ActivationHasBase k base distance a outer ⊎ IsActivation outer k base distance
+abbrev pub IsActivation : List Activation → ℕ → ℕ → ℕ → (ℕ → Option ℕ) → Type 0
+IsActivation [] k base distance register = ⊥
+IsActivation (a ∷ outer) k base distance register =
+    ActivationHasBase k base distance register a outer ⊎ IsActivation outer k base distance register
 
 -- the activations below a body: a function's own is the first
 abbrev pub below_function : List Activation → List Activation
@@ -99,38 +102,55 @@ abbrev pub HoldsWords : Memory → ℕ → ℕ → List ℕ → Type 0
 HoldsWords m at end [] = at ≤ end
 HoldsWords m at end (v ∷ vs) = (word m at ≡ Ok v) × HoldsWords m (at + 8) end vs
 
+-- a local is in its register, or in its word of the frame
+abbrev pub IsInPlace : Memory → (ℕ → ℕ) → (at v : ℕ) → Option ℕ → Type 0
+IsInPlace m now at v None = word m at ≡ Ok v
+IsInPlace m now at v (Some r) = now r ≡ v
+
+-- the numbers of locals one after another, from the one of a number on; each has a word of the
+-- frame, from an address on and below an end, which it leaves unused where it is in a register
+abbrev pub HoldsPlaces : Memory → (ℕ → ℕ) → (ℕ → Option ℕ) → (i at end : ℕ) → List ℕ → Type 0
+HoldsPlaces m now register i at end [] = at ≤ end
+HoldsPlaces m now register i at end (v ∷ vs) =
+    IsInPlace m now at v (register i) × HoldsPlaces m now register (i + 1) (at + 8) end vs
+
 -- where the temporaries of a body end at the latest: a function's before its locals, a funclet's
 -- before its return address
 abbrev pub temporaries_end : Layout → BodyName → ℕ → ℕ
 temporaries_end y (FunctionBody f) size = y.locals
 temporaries_end y (FuncletBody k) size = size
 
--- a function's frame holds the locals of its activation, which is the first
-pub record HoldsLocals (m : Memory) (y : Layout) (sp size k : ℕ) (a : Activation)
-    (outer : List Activation) : Type 0 where
+-- a function's frame and registers hold the locals of its activation, which is the first
+pub record HoldsLocals (m : Memory) (now : ℕ → ℕ) (register : ℕ → Option ℕ) (y : Layout)
+    (sp size k : ℕ) (a : Activation) (outer : List Activation) : Type 0 where
   pub none : y.base ≡ None
-  pub activation : ActivationHasBase k sp y.locals a outer
-  pub values : HoldsWords m (sp + y.locals) (sp + size) a.values
+  pub activation : ActivationHasBase k sp y.locals register a outer
+  pub values : HoldsPlaces m now register 0 (sp + y.locals) (sp + size) a.values
 
 -- a funclet's frame keeps the base
-pub record FrameKeepsBase (m : Memory) (y : Layout) (sp size k : ℕ)
+pub record FrameKeepsBase (m : Memory) (register : ℕ → Option ℕ) (y : Layout) (sp size k : ℕ)
     (acts : List Activation) : Type 0 where
   pub slot : ℕ
   pub base : ℕ
   pub some : y.base ≡ Some slot
   pub room : slot + 8 ≤ size
   pub kept : word m (sp + slot) ≡ Ok base
-  pub activation : IsActivation acts k base y.locals
+  pub activation : IsActivation acts k base y.locals register
 
--- the first activation's locals are in the frame
-abbrev pub FirstHoldsLocals : Memory → Layout → (sp size k : ℕ) → List Activation → Type 0
-FirstHoldsLocals m y sp size k [] = ⊥
-FirstHoldsLocals m y sp size k (a ∷ outer) = HoldsLocals m y sp size k a outer
+-- the first activation's locals are in the frame and in registers
+abbrev pub FirstHoldsLocals : Memory → (ℕ → ℕ) → (ℕ → Option ℕ) → Layout → (sp size k : ℕ)
+    → List Activation → Type 0
+FirstHoldsLocals m now register y sp size k [] = ⊥
+FirstHoldsLocals m now register y sp size k (a ∷ outer) =
+    HoldsLocals m now register y sp size k a outer
 
 -- a function holds its own locals; a funclet keeps the base of its function's
-abbrev pub HasActivation : Memory → Layout → (sp size k : ℕ) → List Activation → BodyName → Type 0
-HasActivation m y sp size k acts (FunctionBody f) = FirstHoldsLocals m y sp size k acts
-HasActivation m y sp size k acts (FuncletBody j) = FrameKeepsBase m y sp size k acts
+abbrev pub HasActivation : Memory → (ℕ → ℕ) → (ℕ → Option ℕ) → Layout → (sp size k : ℕ)
+    → List Activation → BodyName → Type 0
+HasActivation m now register y sp size k acts (FunctionBody f) =
+    FirstHoldsLocals m now register y sp size k acts
+HasActivation m now register y sp size k acts (FuncletBody j) =
+    FrameKeepsBase m register y sp size k acts
 
 -- what the frame that a funclet is given leads to: a function's frame is the base, a funclet's
 -- keeps it
@@ -158,7 +178,7 @@ module _ (t : Functions) (fs : List Funclet) (program : LinearProgram) (p : Imag
       (acts : List Activation) : Type 0 where
     pub base : ℕ
     pub leads : Leads m (p.layout name) name frame base
-    pub activation : IsActivation acts k base (p.layout name).locals
+    pub activation : IsActivation acts k base (p.layout name).locals (p.register name)
 
   -- the same regions of a body hold two of its instructions
   abbrev pub SameRegions : Option LinearBody → ℕ → ℕ → Type 0
@@ -179,7 +199,8 @@ module _ (t : Functions) (fs : List Funclet) (program : LinearProgram) (p : Imag
     pub instruction : InCode p b.body label c.rip
     pub same : SameRegions (body_of program b.body) label b.next
     pub small : c.rip < 2 ^ 64
-    pub activation : HasActivation m (p.layout b.body) (rsp c) size b.activation acts b.body
+    pub activation : HasActivation m (get c) (p.register b.body) (p.layout b.body) (rsp c) size
+        b.activation acts b.body
     pub temporaries : HoldsWords m (rsp c + (p.layout b.body).temporaries)
         (rsp c + end) b.temporaries
     pub space : HasSpace (rsp c) below_end (length acts + b.held)

@@ -30,7 +30,7 @@ pub use Rattle.x64_machine.specs.declared.cpu.Cpu.{Cpu}
 pub use Rattle.template_code.specs.declared.layout.Layout.{Layout}
 pub use Rattle.virtual_unwind.specs.CallerOf.{Functions, distance, CallerFrame, base_if, found, in_body, by_distance, past_prologue, of_entry, rising, risen}
 unfoldable pub use Rattle.virtual_unwind.specs.CallerOf.{caller_in}
-pub use Rattle.virtual_unwind.specs.Contexts.{rsp, rsp_raised}
+pub use Rattle.virtual_unwind.specs.Contexts.{get, rsp, rsp_raised}
 pub use Rattle.virtual_unwind.specs.Tail.{FetchedInstr, item_of, from_item}
 unfoldable pub use Rattle.virtual_unwind.specs.Tail.{tail_at, fetched_at, tail}
 pub use Rattle.virtual_unwind.specs.Undone.{word, readable, Answer, popped, operations}
@@ -61,7 +61,7 @@ pub use Rattle.match_stack.specs.FrameHandlers.{NoHandler, FirstHandler, NoBlock
 pub use Rattle.match_stack.specs.HostSearch.{IsWide, FindsHandler, SearchedAs, CanBeKept, Asks, Accepts}
 pub use Rattle.match_stack.specs.HostUnwind.{store_of, Course, RunsBlock, UnwoundAs, on_top, Lands}
 pub use Rattle.match_stack.specs.ImagePlan.{ImagePlan, IsFlagged, InCode, IsHandlerRow, IsOfKind, AreRegions, Gives, AllFinally, AllExcept, IsFinallyRow, target_rva, IsFunclet, IsEntryOf, IsGiven}
-pub use Rattle.match_stack.specs.ItemMatches.{Activation, HasSpace, below_end, record_room, Onward, Linked, Reaches, activations_below, HoldsWords, temporaries_end, HasActivation, FrameWaits, LeafWaits, regions_from, IsAtRow, Aimed, Leads, home_end, HasPointers, BodyWaits, IsOwnRecord, IsActivation, locals_of, IsAbove, AimedHere, HasPurpose}
+pub use Rattle.match_stack.specs.ItemMatches.{Activation, HasSpace, below_end, record_room, Onward, Linked, Reaches, activations_below, HoldsWords, IsInPlace, HoldsPlaces, temporaries_end, HasActivation, FrameWaits, LeafWaits, regions_from, IsAtRow, Aimed, Leads, home_end, HasPointers, BodyWaits, IsOwnRecord, IsActivation, locals_of, IsAbove, AimedHere, HasPurpose}
 pub use Rattle.match_stack.specs.ListLaws.{IsLinkedStack, KeepsAbove, left_from, SearchFindsTheHandlers, UnwindingRunsTheBlocks, UnwindingStopsAtTheTarget, KeptByStoresBelow, KeptByOtherMemories, IsInstruction}
 pub use Rattle.match_stack.specs.PlainWalks.{state, chosen_or, asked_row, plain_search, decided_or, plain_unwind}
 pub use Rattle.match_stack.specs.RecordLaws.{RecordLeavesTheList, SearchIsOneMore, UnwindingIsOneMore, PushedRecordLeavesOthers, ReturnAddressIsPushed}

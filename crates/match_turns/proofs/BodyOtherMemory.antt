@@ -1,6 +1,6 @@
 -- The same body in another memory, whose stack is the same from RSP up.
 use Rattle.std.proofs.Common.{◌≡◌, ℕ, ◌+◌, ◌≤◌, false, sym, ap, ◌∙◌, arith}
-use Rattle.match_turns.specs.Words.{STACK_START, STACK_END, Memory, Rsp, context_of, State, register, Configuration, context_below, activations_below, BodyWaits, temporaries_end, KeepsStack, slots_end, last_temporary, Setting, IsMachineMemory, RepresentsAt}
+use Rattle.match_turns.specs.Words.{STACK_START, STACK_END, Memory, Rsp, context_of, get, State, register, Configuration, context_below, activations_below, BodyWaits, temporaries_end, KeepsStack, slots_end, last_temporary, Setting, IsMachineMemory, RepresentsAt}
 use Rattle.match_turns.proofs.Lemmas.{end_within, reads_other, kept_by_other_memories, body_return, has_frame, IsCounted, sp_low, frame_top, some_is}
 use Rattle.match_stack.proofs.ListMemories.{ReadsSame, body_kept, pointers_kept}
 
@@ -66,7 +66,8 @@ module _ (setting : Setting) (s : State) (c : Configuration)
       let h = top in
       let e = size_is in
       let f = end_is in
-      let w = end_within s.memory (p.layout c.frame.body) sp
+      let w = end_within s.memory (get (context_of s.cpu)) (p.register c.frame.body)
+      (p.layout c.frame.body) sp
       (slots_end (p.layout c.frame.body) (p.leaf c.frame.body)) c.frame.activation b.body.acts
       c.frame.body b.body.slots.activation in
       body_kept s.memory m 0x70800000 t fs program p (context_of s.cpu)

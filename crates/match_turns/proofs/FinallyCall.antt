@@ -4,7 +4,7 @@ use Rattle.std.proofs.Common.{◌≡◌, ℕ, ◌+◌, ◌-◌, ◌^◌, ◌<◌
 use Rattle.std.specs.Prelude.{slice_get, drop}
 use Rattle.std.proofs.lemmas.List.{length-drop, get_or-set_same}
 use Rattle.seh_num.specs.declared.event.Event.TheVariants as events
-use Rattle.match_turns.specs.Words.{STACK_START, STACK_END, Rdx, Rsp, context_of, State, register, distance, arrivals, by_kind, of_test, LinearBody, BodyName, FuncletBody, body_of, funclet_body, Waits, Configuration, instruction_in, Layout, sizes, IsNear, finally_arguments, MachineView, machine, pushed, HasBelow, context_below, InCode, by_parent, parent_body, IsFunclet, HasActivation, return_of, ReturnsTo, KeepsAbove, On, IsWellFormed, AllKeep, Comes, AllReturnsStayInRegions, IsFinallyKind, parent_of, IsFuncletOf, HaveRoom, slots_end, Setting, InBody, IsMachineMemory, IsResumed, RepresentsAt, is_finally, frame_of}
+use Rattle.match_turns.specs.Words.{STACK_START, STACK_END, Rdx, Rsp, context_of, get, State, register, distance, arrivals, by_kind, of_test, LinearBody, BodyName, FuncletBody, body_of, funclet_body, Waits, Configuration, instruction_in, Layout, sizes, IsNear, finally_arguments, MachineView, machine, pushed, HasBelow, context_below, InCode, by_parent, parent_body, IsFunclet, HasActivation, return_of, ReturnsTo, KeepsAbove, On, IsWellFormed, AllKeep, Comes, AllReturnsStayInRegions, IsFinallyKind, parent_of, IsFuncletOf, HaveRoom, slots_end, Setting, InBody, IsMachineMemory, IsResumed, RepresentsAt, is_finally}
 use Rattle.virtual_unwind.specs.Undone.{word}
 use Rattle.x64_templates.specs.Runs.{Reaches}
 use Rattle.x64_instr.specs.declared.instruction.Instr.TheVariants as instrs
@@ -281,9 +281,10 @@ module _ (setting : Setting) (roomy : HaveRoom setting.program)
 
     -- ---- what the block finds
 
-    held : HasActivation s.memory y sp y.frame c.frame.activation b.body.acts name
-    held = subst (λ z. HasActivation s.memory y sp (slots_end y z) c.frame.activation b.body.acts
-        name) framed b.body.slots.activation
+    held : HasActivation s.memory (get (context_of s.cpu)) (p.register name) y sp y.frame
+        c.frame.activation b.body.acts name
+    held = subst (λ z. HasActivation s.memory (get (context_of s.cpu)) (p.register name) y sp
+        (slots_end y z) c.frame.activation b.body.acts name) framed b.body.slots.activation
 
     activation : linked.Reaches t fs program p called.memory name (register called.cpu Rdx)
         c.frame.activation b.body.acts
@@ -292,7 +293,7 @@ module _ (setting : Setting) (roomy : HaveRoom setting.program)
         reaches_above t fs program p s.memory bytes sp name sp c.frame.activation b.body.acts
         keeps_above (omega arith)
         (body_reaches t fs program p s.memory name sp y.frame c.frame.activation b.body.acts
-        (omega arith) held)
+        (get (context_of s.cpu)) (omega arith) held)
 
     is_funclet : IsFunclet t fs program p name k
     is_funclet = record {

@@ -12,6 +12,7 @@ use Rattle.match_bodies.proofs.RoutineWalks.{Ran as MidRan}
 use Rattle.match_bodies.proofs.BodyViews.{placed, count}
 use Rattle.match_turns.proofs.FuncletPrologue.{LeadsBy}
 use Rattle.match_turns.proofs.FuncletFrame.{ArrivesBelow, IsPlanned, funclet_planned, HasFrame, first_frame, beginning, begins}
+use Rattle.match_bodies.proofs.FramePlaces.{same_registers}
 use Rattle.match_turns.proofs.FuncletConfiguration.{HasLocals, activation_at, as_many, no_leaf, parent_locals, leads_by, locals_counted, owner_framed}
 use Rattle.match_turns.proofs.FuncletFirstTurns.{HasEntered, entered, first_small, silent_there}
 use Rattle.match_turns.proofs.ReturnAddressPlace.{top_of, begins_beneath}
@@ -100,8 +101,12 @@ module _ (setting : Setting) where
       within = subst (λ r. Within r (r + y.frame) s.memory s1.memory) (sym stack_1) e.within;
       number = subst (λ r. number_at s1.memory.byte 8 (r + l.plan.layout.slot) ≡ a.reaches.base)
           (sym stack_1) e.number;
-      distance = subst (λ d. IsActivation acts activation a.reaches.base d)
-          (parent_locals setting k f f.parent a.name known.there parent owner) a.reaches.activation;
+      distance = subst (IsActivation acts activation a.reaches.base y.locals)
+          (same_registers (p.register a.name) (p.register (FuncletBody k))
+          (image.no_registers a.name) (image.no_registers (FuncletBody k)))
+          (subst (λ d. IsActivation acts activation a.reaches.base d (p.register a.name))
+          (parent_locals setting k f f.parent a.name known.there parent owner)
+          a.reaches.activation);
       others = ap (λ (ks : List ℕ). drop 1 ks) e.registers;
       rip = refl;
       well_formed = well_formed_1;

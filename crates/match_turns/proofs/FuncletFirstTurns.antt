@@ -125,7 +125,7 @@ module _ (setting : Setting) where
 
     pub base_small : a.reaches.base < 2 ^ 64
     base_small = let r = activations_are_at t fs program p s.memory _ a.is items acts activation
-        a.reaches.base _ a.on.is_there a.reaches.activation in
+        a.reaches.base _ _ a.on.is_there a.reaches.activation in
         let h = r.high_end in omega arith
 
     pub room : HasRoom v sp frame (l.plan.layout.slot)

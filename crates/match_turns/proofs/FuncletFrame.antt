@@ -4,7 +4,7 @@ use Rattle.std.proofs.Common.{◌≡◌, ℕ, ◌+◌, ◌^◌, ◌<◌, ◌≤�
 use Rattle.std.specs.Prelude.{◌⊎◌, slice_get}
 use Rattle.std.specs.List.{AllByRecursion}
 use Rattle.std.proofs.lemmas.Bool.{cases_lt}
-use Rattle.match_turns.specs.Words.{STACK_START, STACK_END, Event, Protection, is_writable, Memory, may_write, number_at, Rcx, Rdx, Rsp, context_of, State, register, Functions, Funclet, Exception, is_reserved, Region, LinearProgram, LinearFunclet, BodyName, FuncletBody, body_of, funclet_body, Frame, Item, Store, Configuration, holds, regions_of, Layout, StackItem, context_below, ImagePlan, InCode, IsFunclet, Activation, locals_of, IsActivation, HasActivation, HoldsWords, HasSpace, below_end, HasPointers, FuncletIsAbove, BodyWaits, ReturnsTo, Reaches, KeepsStack, On, IsWellFormed, Arrives, IsFuncletPlan, slots_end, last_temporary, Setting, InBody, IsMachineMemory, RepresentsAt}
+use Rattle.match_turns.specs.Words.{STACK_START, STACK_END, Event, Protection, is_writable, Memory, may_write, number_at, Rcx, Rdx, Rsp, context_of, get, State, register, Functions, Funclet, Exception, is_reserved, Region, LinearProgram, LinearFunclet, BodyName, FuncletBody, body_of, funclet_body, Frame, Item, Store, Configuration, holds, regions_of, Layout, StackItem, context_below, ImagePlan, InCode, IsFunclet, Activation, locals_of, IsActivation, HasActivation, HoldsWords, HasSpace, below_end, HasPointers, FuncletIsAbove, BodyWaits, ReturnsTo, Reaches, KeepsStack, On, IsWellFormed, Arrives, IsFuncletPlan, slots_end, last_temporary, Setting, InBody, IsMachineMemory, RepresentsAt}
 use Rattle.virtual_unwind.specs.Undone.{word}
 use Rattle.match_turns.proofs.Lemmas.{others_of, has_frame, small_others, same_number, Within, kept_by_other_memories, word_is, word_of, may_read_written, stack_is_reserved, program_stays}
 
@@ -169,6 +169,7 @@ module _ (setting : Setting) where
     pub number : number_at u.memory.byte 8 (register u.cpu Rsp + l.plan.layout.slot)
         ≡ a.reaches.base
     pub distance : IsActivation acts activation a.reaches.base (p.layout (FuncletBody k)).locals
+        (p.register (FuncletBody k))
     pub others : others_of u.cpu.registers ≡ others_of s.cpu.registers
     pub rip : u.cpu.rip ≡ p.address (FuncletBody k) 0
     pub well_formed : IsWellFormed u
@@ -253,7 +254,8 @@ module _ (setting : Setting) where
     in_code = let g = (image.addresses (FuncletBody k) l.funclet.body is).rises 0 some in
         let r = h.rip in record { low = omega arith; high = omega arith }
 
-    pub kept_base : HasActivation u.memory y sp y.frame activation acts (FuncletBody k)
+    pub kept_base : HasActivation u.memory (get (context_of u.cpu)) (p.register (FuncletBody k)) y
+        sp y.frame activation acts (FuncletBody k)
     kept_base =
         let e = high in
         let z = l.plan.layout.kept in
@@ -282,8 +284,9 @@ module _ (setting : Setting) where
       instruction = in_code;
       same = same_regions (regions_of (body_of program (FuncletBody k))) 0;
       small = h.well_formed.rip_small;
-      activation = subst (λ z. HasActivation u.memory y sp (slots_end y z) activation acts
-          (FuncletBody k)) (sym l.plan.framed) kept_base;
+      activation = subst (λ z. HasActivation u.memory (get (context_of u.cpu))
+          (p.register (FuncletBody k)) y sp (slots_end y z) activation acts (FuncletBody k))
+          (sym l.plan.framed) kept_base;
       temporaries = subst (λ z. HoldsWords u.memory (sp + y.temporaries)
           (sp + last_temporary y (FuncletBody k) z) []) (sym l.plan.framed) no_temporaries;
       space = space;

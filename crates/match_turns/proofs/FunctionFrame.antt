@@ -1,10 +1,11 @@
 -- A function begins: its frame is below its return address, and on top of what waits.
 use Rattle.std.proofs.Common.{◌≡◌, ℕ, suc, ◌+◌, ◌^◌, ◌<◌, ◌≤◌, Bool, true, false, Some, None, Ok, List, [], ◌∷◌, length, refl, arith}
 use Rattle.std.specs.List.{AllByRecursion}
-use Rattle.match_turns.specs.Words.{Event, STACK_END, Memory, Rsp, context_of, State, register, Functions, Funclet, no_exception, Region, LinearProgram, LinearBody, FunctionBody, body_of, Item, Waits, Searches, Unwinds, holds, regions_of, Layout, StackItem, context_below, ImagePlan, Activation, locals_of, HasSpace, below_end, HoldsWords, home_end, BodyWaits, HasPointers, ReturnsTo, FunctionIsAbove, On, IsWellFormed, Sites, IsLayoutIf, IsProgramImage, slots_end, last_temporary, begun, setting_of}
+use Rattle.match_turns.specs.Words.{Event, STACK_END, Memory, Rsp, context_of, get, State, register, Functions, Funclet, no_exception, Region, LinearProgram, LinearBody, FunctionBody, body_of, Item, Waits, Searches, Unwinds, holds, regions_of, Layout, StackItem, context_below, ImagePlan, Activation, locals_of, HasSpace, below_end, HoldsWords, home_end, BodyWaits, HasPointers, ReturnsTo, FunctionIsAbove, On, IsWellFormed, Sites, IsLayoutIf, IsProgramImage, slots_end, last_temporary, begun, setting_of}
 use Rattle.virtual_unwind.specs.Undone.{word}
 use Rattle.match_bodies.specs.ProgramImages.{IsMachineMemory}
 use Rattle.match_bodies.specs.Bodies.{RepresentsAt}
+use Rattle.match_bodies.proofs.FramePlaces.{places_of_words}
 use Rattle.match_turns.proofs.Lemmas.{others_of, has_frame, small_others, in_stack, locals_count}
 use Rattle.match_turns.proofs.CallResult.{nothing}
 
@@ -54,7 +55,12 @@ module _ (t : Functions) (fs : List Funclet) (program : LinearProgram) (p : Imag
         omega arith
 
     abbrev own : Activation
-    own = record { base = sp; distance = y.locals; values = values }
+    own = record {
+      base = sp;
+      distance = y.locals;
+      register = p.register (FunctionBody f);
+      values = values;
+    }
 
     abbrev HasPlan : Bool → Type 0
     HasPlan leaf = IsLayoutIf program p y o leaf
@@ -91,8 +97,15 @@ module _ (t : Functions) (fs : List Funclet) (program : LinearProgram) (p : Imag
           small = well_formed.rip_small;
           activation = record {
             none = no_base (p.leaf (FunctionBody f)) planned;
-            activation = record { number = count_of_locals acts; base = refl; distance = refl };
-            values = numbers;
+            activation = record {
+              number = count_of_locals acts;
+              base = refl;
+              distance = refl;
+              registers = refl;
+            };
+            values = places_of_words z.memory (get (context_of z.cpu)) (p.register (FunctionBody f))
+                (image.no_registers (FunctionBody f)) 0 (sp + y.locals)
+                (sp + slots_end y (p.leaf (FunctionBody f))) values numbers;
           };
           temporaries = (let r = room (p.leaf (FunctionBody f)) planned in omega arith);
           space = space;

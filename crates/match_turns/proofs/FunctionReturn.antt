@@ -4,7 +4,7 @@ use Rattle.std.proofs.Common.{◌≡◌, ◌≢◌, ℕ, ◌+◌, ◌<◌, Some,
 use Rattle.std.specs.Prelude.{get_or, slice_get}
 use Rattle.std.proofs.lemmas.List.{append-nil, length-drop}
 use Rattle.std.proofs.lemmas.Option.{slice_get-get_or}
-use Rattle.match_turns.specs.Words.{kept_of, W32, signed, Rsp, Context, State, register, distance, arrivals, Slot, LinearBody, LinearFunclet, FunctionBody, FuncletBody, body_of, funclet_body, Frame, Item, Waits, Store, Configuration, Finished, Next, with_some, read, instruction_in, left_store, end_body, act, return, Layout, return_code, MachineView, machine, HasBack, with_sp, moved, Returned, context_below, Activation, activations_below, return_of, ReturnsTo, On, store_of, on_top, IsWellFormed, AllKeep, Moves, Exits, HaveRoom, held_below, turns_left, slots_end, Setting, RepresentsAt}
+use Rattle.match_turns.specs.Words.{kept_of, W32, signed, Rsp, Context, context_of, get, State, register, distance, arrivals, Slot, LinearBody, LinearFunclet, FunctionBody, FuncletBody, body_of, funclet_body, Frame, Item, Waits, Store, Configuration, Finished, Next, with_some, read, instruction_in, left_store, end_body, act, return, Layout, return_code, MachineView, machine, HasBack, with_sp, moved, Returned, context_below, Activation, activations_below, return_of, ReturnsTo, On, store_of, on_top, IsWellFormed, AllKeep, Moves, Exits, HaveRoom, held_below, turns_left, slots_end, Setting, RepresentsAt}
 use Rattle.x64_templates.specs.Runs.{Reaches}
 use Rattle.linear_code.specs.declared.instruction.Instruction.TheVariants as instructions
 use Rattle.linear_code.specs.declared.program.FuncletKind.TheVariants as kinds
@@ -92,7 +92,7 @@ module _ (setting : Setting) (roomy : HaveRoom setting.program) where
         left_store c.frame.body c.frame.activation o) b.body.store
         ∙ left_activations s.memory c.store.memory layout sp
         (slots_end layout (p.leaf c.frame.body)) c.frame.activation b.body.acts c.frame.body
-        b.body.slots.activation
+        (get (context_of s.cpu)) (p.register c.frame.body) b.body.slots.activation
 
     acts_as : (next : Next) → act program (instructions.Return from) next c
         ≡ return next x c.below c.events (store_of c.store.memory

@@ -4,13 +4,15 @@ use Rattle.std.proofs.Common.{◌≡◌, ℕ, ◌+◌, ◌^◌, ◌<◌, ◌≤�
 use Rattle.std.specs.Prelude.{slice_get, slice_index}
 use Rattle.std.specs.List.{AllByRecursion}
 use Rattle.std.proofs.lemmas.Option.{slice_get_within}
-use Rattle.match_turns.specs.Words.{STACK_END, Rax, Rcx, Rsp, Cpu, kept_of, State, register, Functions, Funclet, Operation, OperationResult, performed, is_reserved, Slot, Temporary, Instruction, BodyState, Region, LinearProgram, LinearBody, body_of, Configuration, holds, regions_of, is_constant, operand, Layout, finish_code, MachineView, HasCode, FramePlace, context_below, ImagePlan, InCode, activations_below, home_end, below_end, HoldsWords, HasActivation, HasPointers, HasSpace, On, Sites, view_of, slots_end, last_temporary, IsWellMade, IsKnown, seen_by_templates, ComesTo, Setting, RepresentsAt, WorksOn, frame_of}
+use Rattle.match_turns.specs.Words.{STACK_END, Rax, Rcx, Rsp, Cpu, kept_of, context_of, State, register, Functions, Funclet, Operation, OperationResult, performed, is_reserved, Slot, Temporary, Instruction, BodyState, Region, LinearProgram, LinearBody, body_of, Configuration, holds, regions_of, is_constant, operand, Layout, finish_code, MachineView, HasCode, FramePlace, context_below, ImagePlan, InCode, activations_below, home_end, below_end, HoldsWords, HasPointers, HasSpace, On, Sites, view_of, slots_end, last_temporary, IsWellMade, IsKnown, seen_by_templates, ComesTo, Setting, RepresentsAt, WorksOn}
+use Rattle.match_bodies.specs.ProgramImages.{frame_of}
 use Rattle.c_operations.specs.declared.operation.Operation.TheVariants as operations
 use Rattle.linear_code.specs.declared.instruction.Instruction.TheVariants as instructions
 use Rattle.x64_templates.specs.Implements.{IsReady, HasOperands}
 use Rattle.x64_templates.specs.Runs.{Finished}
 use Rattle.match_turns.proofs.Lemmas.{frame_with, finish_run, first_in_code, IsCounted, room_here, holds_here, code, frame, slots, has_slots, sp_is, Surroundings, same_constant, some_is, label_in, counted_here, around_here, code_at}
 use Rattle.match_bodies.specs.Bodies.{InBody}
+use Rattle.match_bodies.proofs.FramePlaces.{activation_with}
 use Rattle.match_turns.proofs.OperationMeaning.{nothing_landed}
 use Rattle.match_turns.proofs.OperationCode.{finish_is_at}
 
@@ -42,8 +44,9 @@ in_body_at t fs program p q s c cpu b registers inside small =
         instruction = record { low = inside.low; high = inside.high };
         same = all_same c.frame.next (regions_of (body_of program c.frame.body));
         small = small;
-        activation = subst (λ x. HasActivation m y x (slots_end y leaf) c.frame.activation b.acts
-            c.frame.body) (sym sp) b.slots.activation;
+        activation = activation_with m (p.register c.frame.body) y (context_of s.cpu)
+            (context_of cpu) (slots_end y leaf) c.frame.activation b.acts c.frame.body registers
+            b.slots.activation;
         temporaries = subst (λ x. HoldsWords m (x + y.temporaries)
             (x + last_temporary y c.frame.body leaf) c.frame.temporaries) (sym sp)
             b.slots.temporaries;

@@ -75,7 +75,7 @@ pub use Rattle.x64_templates.specs.Returned.{Returned, CallBegun}
 pub use Rattle.x64_templates.specs.Runs.{HasCode, FramePlace, Roomy, FrameHolds, ReachesBody, IsThere, Enters, Steps}
 pub use Rattle.x64_templates.specs.Straight.{MachineView, machine, Executes, takes_frame, AreSmall}
 pub use Rattle.virtual_unwind.specs.CallerOf.{Functions, distance}
-pub use Rattle.virtual_unwind.specs.Contexts.{rsp}
+pub use Rattle.virtual_unwind.specs.Contexts.{get, rsp}
 pub use Rattle.virtual_unwind.specs.Undone.{readable}
 pub use Rattle.seh_records.specs.Laws.{AllSmall, RecordFits}
 pub use Rattle.seh_records.specs.Record.{return_address_at, place_below, if_readable, if_marked, of_kind, kind_of, recorded, mark, word}
