@@ -8,6 +8,8 @@ use Rattle.virtual_unwind.specs.Undone.{operations}
 use Rattle.frame_rules.specs.Codes.{depth}
 use Rattle.eh_tables.specs.declared.code.UnwindCode.{UnwindCode}
 use Rattle.eh_tables.specs.declared.code.UnwindOperation.TheVariants.{Allocate}
+use Rattle.match_stack.specs.Stack.{IsAsTold}
+use Rattle.match_stack.specs.AllocatedFrames.{IsAllocated}
 use Rattle.match_stack.proofs.AllocatedFrames.{told_allocations}
 use Rattle.match_stack.specs.HostUnwind.{on_top}
 use Rattle.match_bodies.proofs.Lemmas.{told_depth}

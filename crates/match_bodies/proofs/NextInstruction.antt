@@ -98,6 +98,9 @@ module _ (setting : Setting) where
 
       -- ---- slots
 
+      number_of_values : length values ≡ length here.values
+      number_of_values = r.leaves.count ∙ sym cnt
+
       new_local : (i v : ℕ) → slice_get values i ≡ Some v
           → word u.memory (here.base + y.locals + 8 * i) ≡ Ok v
       new_local i v e =
@@ -150,7 +153,10 @@ module _ (setting : Setting) where
 
       own_base : (o : Option ℕ) → o ≡ y.base → o ≡ None → here.base ≡ sp
       own_base None e n = subst (λ o. KeepsSlot s.memory y o sp here.base) (sym e) here.kept
-      own_base (Some slot) e n = let z : ◌≡◌ {A = Option ℕ} (Some slot) None = n in absurd cc
+      own_base (Some slot) e n = absurd (no_slot n)
+        where
+          no_slot : ◌≡◌ {A = Option ℕ} (Some slot) None → ⊥
+          no_slot e = cc
 
       function_base : y.base ≡ None → here.base ≡ sp
       function_base n = own_base y.base refl n
@@ -391,7 +397,7 @@ module _ (setting : Setting) where
             let g = function_layout.passed in
             let h = function_layout.temporaries in
             let e = f.layout.locals in
-            let n = r.leaves.count ∙ sym cnt in
+            let n = number_of_values in
             let keep = stack_kept_but program.globals s u y (counts_of code) sp c.frame.activation
             b.body.acts here cnt r.changed b.memory.data_alone b.memory.stack (sp + y.frame + 8)
             (omega arith) (omega arith) in

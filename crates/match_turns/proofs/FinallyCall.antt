@@ -18,6 +18,7 @@ use Rattle.match_turns.proofs.FinallyCallReturn.{offset_most, after_call}
 use Rattle.match_turns.proofs.FuncletFrame.{ArrivesBelow}
 use Rattle.match_turns.proofs.CallRegions.{apart_same}
 use Rattle.match_turns.proofs.DispatchMemory.{memory_untouched}
+use Rattle.match_bodies.specs.ProgramImages.{frame_of}
 use Rattle.match_turns.proofs.KeptRegisters.{kept_moved}
 use Rattle.match_turns.proofs.ReturnAddressPush as pushing
 
