@@ -1,6 +1,6 @@
 -- An entry by its parts, and the entries of a table that was read whole.
-use Rattle.std.proofs.Common.{◌≡◌, ℕ, zero, suc, ◌+◌, ◌<◌, Bool, true, false, Some, None, Ok, Err, List, [], ◌∷◌, length, drop, get_or, refl, sym, ap, subst, ◌∙◌, arith}
-use Rattle.std.specs.Prelude.{Result, Option, is_ok, IsOk, nat_le, nat_lt, option_map}
+use Rattle.std.proofs.Common.{◌≡◌, ℕ, zero, suc, ◌+◌, ◌<◌, Bool, true, false, Some, None, Ok, Err, List, [], ◌∷◌, length, drop, get_or, refl, sym, ap, subst, ◌∙◌}
+use Rattle.std.specs.Prelude.{Option, is_ok, IsOk, nat_le, nat_lt, option_map}
 use Rattle.std.specs.Result.{result_ok}
 use Rattle.eh_tables.specs.Words.{Image, RuntimeFunction, TableErr, ◌>>=◌, unless, prepend, Table, Info, info, Entry, Tables, entry, entry_at, parents, no_range, end_before, entries, entries_of, passed, covers_address, entry_or, holding, TablesAreWhole}
 use Rattle.eh_tables.specs.Found.{function_entry}

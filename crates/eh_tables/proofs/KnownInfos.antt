@@ -1,6 +1,5 @@
 -- An info that can be read for one entry can be read for each, and so can a chain.
 use Rattle.std.proofs.Common.{◌≡◌, ℕ, zero, suc, ◌+◌, ◌/◌, ◌%◌, ◌≤◌, ◌<◌, ◌≢◌, Bool, true, false, Option, Some, None, Ok, Err, List, [], ◌∷◌, length, eqb, ltb, leb, refl, sym, ap, subst, ◌∙◌, arith, inl, inr, cond}
-use Rattle.std.specs.Prelude.{Result, is_ok, IsOk, nat_le, nat_lt}
 use Rattle.std.specs.Ordering.{nat_cmp}
 use Rattle.std.specs.BTreeMap.{BTreeMap, get, is_at}
 use Rattle.std.specs.Map.{lookup}
@@ -10,8 +9,8 @@ use Rattle.eh_tables.specs.Words.{Image, RuntimeFunction, ScopeRecord, TableErr,
 use Rattle.eh_tables.specs.Codes.{OperationAndSlots}
 use Rattle.eh_tables.specs.Codes as codes
 use Rattle.eh_tables.specs.Scopes as scopes
-use Rattle.eh_tables.specs.Infos.{version, are_flags, flags, slots_end, trailer_size, is_framed, slots_of, is_c, info_of}
-use Rattle.eh_tables.specs.Known.{contents_checked, counted, within, if_within, with_info, IsChain, AreKnown}
+use Rattle.eh_tables.specs.Infos.{version, are_flags, flags, is_framed, slots_of}
+use Rattle.eh_tables.specs.Known.{counted, within, if_within, with_info, IsChain, AreKnown}
 use Rattle.eh_tables.specs.declared.refusal.TableErr.TheVariants as refusals
 use Rattle.eh_tables.proofs.Lookups.{given, prepended}
 
@@ -230,7 +229,8 @@ info_alone : (n : ℕ) (image : Image) (i : ℕ) (r : RuntimeFunction)
 info_alone zero image i r = refl
 info_alone (suc n) image i r = refl
 
-pub none_known : (image : Image) (known : BTreeMap ℕ ℕ) → known.entries ≡ [] → AreKnown image known
+pub none_known : (image : Image) (known : BTreeMap ℕ ℕ) → known.entries ≡ []
+    → AreKnown image known
 none_known image known e rva n found = absurd (never (sym (ap (lookup (is_at (nat_cmp rva))) e)
     ∙ found))
   where
@@ -284,7 +284,8 @@ chain_kept image old new i room n r has before few is rva m found =
         let fits = chain_fits room image i (Some r) is p in
         record {
           infos = is;
-          read = info_alone 32 image 0 r ∙ chain_carried room 32 image i 0 (Some r) is p (omega arith);
+          read = info_alone 32 image 0 r
+              ∙ chain_carried room 32 image i 0 (Some r) is p (omega arith);
           len = sym (one h);
         }
 

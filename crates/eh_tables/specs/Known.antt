@@ -1,6 +1,6 @@
--- What is known of unwind infos, so that they aren't checked again: an info that can be read for one
--- entry can be read for each.
-use Rattle.std.specs.Prelude.{◌≡◌, ℕ, zero, suc, ◌+◌, Bool, true, false, nat_lt, nat_le, List, length, Option, Some, None, Ok, Err}
+-- What is known of unwind infos, so that they aren't checked again: an info that can be read for
+-- one entry can be read for each.
+use Rattle.std.specs.Prelude.{◌≡◌, ℕ, ◌+◌, Bool, true, false, nat_lt, nat_le, List, length, Some, Ok, Err}
 use Rattle.std.specs.Ordering.{nat_cmp}
 use Rattle.std.specs.BTreeMap.{BTreeMap, get}
 use Rattle.pe_image.specs.Image.{Image}

@@ -16,10 +16,6 @@ rows_found f (Some x) e = let same : f ≡ function_entry x = one e in
     one : {a b : FunctionEntry} → Some a ≡ Some b → a ≡ b
     one e = cc
 
-pub no_rows_found : (o : Option Entry) → None ≡ option_map function_entry o → rows_of o ≡ []
-no_rows_found None e = refl
-no_rows_found (Some x) e = absurd cc
-
 zero_none : (rows : List ScopeRecord) → row_before rows 0 ≡ None
 zero_none [] = refl
 zero_none (r ∷ rows) = refl

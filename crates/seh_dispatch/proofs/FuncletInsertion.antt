@@ -36,7 +36,8 @@ later a e es n = elim (cases_lt a e.0) [
 -- ---- the model's insertion, by the first funclet
 
 module _ (a : ℕ) (b : Bool) (x : Funclet) (xs : List Funclet) where
-  pub below : a < x.address → inserted a b (x ∷ xs) ≡ record { address = a; is_finally = b } ∷ x ∷ xs
+  pub below : a < x.address
+      → inserted a b (x ∷ xs) ≡ record { address = a; is_finally = b } ∷ x ∷ xs
   below lt = ap (if_below a b x xs (inserted a b xs)) (lt-ltb a x.address lt)
 
   pub there : a ≡ x.address → inserted a b (x ∷ xs) ≡ x ∷ xs

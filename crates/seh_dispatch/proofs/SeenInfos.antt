@@ -1,21 +1,21 @@
 -- A scope table whose rows were gathered adds nothing.
-use Rattle.std.proofs.Common.{◌≡◌, ◌≢◌, ℕ, ◌+◌, ◌<◌, ◌≤◌, Bool, true, false, cond, Option, Some, None, Ok, Err, List, [], ◌∷◌, length, drop, get_or, eqb, ltb, refl, sym, ap, subst, ◌∙◌, arith, inl, inr}
-use Rattle.std.specs.Prelude.{◌||◌, Result, option_map}
+use Rattle.std.proofs.Common.{◌≡◌, ◌≢◌, ℕ, ◌+◌, ◌<◌, ◌≤◌, Bool, true, false, cond, Some, None, Ok, Err, List, [], ◌∷◌, length, drop, get_or, eqb, refl, sym, ap, subst, ◌∙◌, arith, inl, inr}
+use Rattle.std.specs.Prelude.{◌||◌, option_map}
 use Rattle.std.specs.Result.{result_ok}
 use Rattle.std.specs.Ordering.{nat_cmp, is_eq}
-use Rattle.std.specs.declared.cmp.Ordering.TheVariants.{Less, Equal, Greater}
+use Rattle.std.specs.declared.cmp.Ordering.TheVariants.{Less, Greater}
 use Rattle.std.specs.Cmp.{nat_cmp_is}
 use Rattle.std.specs.BTreeMap.{is_at}
 use Rattle.std.specs.List.{list_any}
 use Rattle.std.specs.BTreeSet.{BTreeSet, contains}
-use Rattle.std.proofs.lemmas.Bool.{cases_lt, cases_eq, ne_eqb, eq-eqb, cases_order}
+use Rattle.std.proofs.lemmas.Bool.{cases_eq, ne_eqb, eq-eqb, cases_order}
 use Rattle.pe_image.specs.Image.{Image}
 use Rattle.eh_tables.specs.Answer.{Table}
 use Rattle.eh_tables.specs.declared.range.RuntimeFunction.{RuntimeFunction}
 use Rattle.eh_tables.specs.Infos.{Info, info}
 use Rattle.eh_tables.proofs.KnownInfos.{info_carried}
 use Rattle.eh_tables.proofs.KnownEntries.{info_is_own}
-use Rattle.seh_dispatch.specs.Words.{ScopeRecord, Entry, Tables, entry_at, no_range, entries_of, TablesAreWhole, Funclet, inserted, if_below, if_same, with_row, of_rows, of_entries, AreAscending}
+use Rattle.seh_dispatch.specs.Words.{ScopeRecord, Entry, Tables, entry_at, no_range, entries_of, TablesAreWhole, Funclet, inserted, with_row, of_rows, of_entries, AreAscending}
 use Rattle.seh_dispatch.specs.Seen.{has, has_row, AreGathered, AreSeen}
 use Rattle.seh_dispatch.proofs.FuncletInsertion.{below, there, above}
 use Rattle.seh_dispatch.proofs.TableEntries.{at, entry-more}

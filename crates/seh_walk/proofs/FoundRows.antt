@@ -1,5 +1,5 @@
 -- What is asked at a frame is that of the entry which a look-up has found.
-use Rattle.std.proofs.Common.{◌≡◌, ℕ, Bool, true, false, Option, Some, None, refl, ap, ◌∙◌}
+use Rattle.std.proofs.Common.{◌≡◌, Bool, true, false, Option, Some, None, refl, ap, ◌∙◌}
 use Rattle.std.specs.Prelude.{option_map}
 use Rattle.eh_tables.specs.declared.lookup.FunctionEntry.{FunctionEntry}
 use Rattle.eh_tables.specs.Found.{function_entry}

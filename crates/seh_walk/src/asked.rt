@@ -73,9 +73,9 @@ fn first_block(
     None
 }
 
-/// The first row, from an index on, that a search asks at a frame whose entry was found: in the body
-/// of an entry with UNW_FLAG_EHANDLER, a row that holds the address and isn't that of a `__finally`
-/// block.
+/// The first row, from an index on, that a search asks at a frame whose entry was found: in the
+/// body of an entry with UNW_FLAG_EHANDLER, a row that holds the address and isn't that of a
+/// `__finally` block.
 pub fn first_searched(
     found: Option<&FunctionEntry>,
     in_body: bool,
@@ -100,9 +100,9 @@ pub fn first_searched(
     }
 }
 
-/// The first row, from an index on, whose `__finally` block an unwinding runs at a frame whose entry
-/// was found: in the body of an entry with UNW_FLAG_UHANDLER, a row that holds the address and is
-/// that of a `__finally` block. In the target's frame no row is asked from the first on that holds
+/// The first row, from an index on, whose `__finally` block an unwinding runs at a frame whose
+/// entry was found: in the body of an entry with UNW_FLAG_UHANDLER, a row that holds the address
+/// and is that of a `__finally` block. In the target's frame no row is asked from the first on that holds
 /// the target or lands there.
 pub fn first_unwound(
     found: Option<&FunctionEntry>,

@@ -2,7 +2,7 @@ use Rattle.std.proofs.Common.{rules, ◌≡◌, ◌-◌, [], ◌∷◌, List, dr
 use Rattle.eh_tables.specs.Found.{function_entry}
 use Rattle.std.specs.Prelude.{option_map}
 use Rattle.seh_dispatch.specs.Words.{ScopeRecord, entries_of, holding, functions_of, entry_of, distance, rows_of, row_before}
-use Rattle.seh_dispatch.proofs.FilterRows.{rows_found, no_rows_found, row_zero, row_some, row_none}
+use Rattle.seh_dispatch.proofs.FilterRows.{rows_found, row_zero, row_some, row_none}
 use Rattle.seh_dispatch.proofs.answering.asked_row.Goals as goal
 
 pub returns-then-dispatch-eq0 : goal.returns-then-dispatch-eq0
