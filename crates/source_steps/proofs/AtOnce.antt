@@ -1,6 +1,6 @@
 -- What is done at once, as steps of the machine.
 use Rattle.std.proofs.Common.{◌≡◌, ℕ, suc, List, [], ◌∷◌, map, refl, sym, ap, ◌∙◌, subst}
-use Rattle.std.specs.Prelude.{true, reverse, Option, Some, None, option_map}
+use Rattle.std.specs.Prelude.{true, Option, Some, None, option_map}
 use Rattle.seh_num.specs.declared.event.Event.{Event}
 use Rattle.c_checked.specs.declared.expression.Conversion.{Conversion}
 use Rattle.c_checked.specs.Expression.{Expression, On, Node}

@@ -16,7 +16,7 @@ use Rattle.seh_num.specs.declared.division.DivFault.{DivFault}
 use Rattle.seh_num.specs.declared.division.DivFault.TheVariants as faults
 use Rattle.c_operations.specs.Numbers.{result_of, width}
 use Rattle.c_operations.specs.Performed as performing
-use Rattle.c_operations.specs.Performed.{OperationResult, performed}
+use Rattle.c_operations.specs.Performed.{performed}
 use Rattle.c_checked.specs.declared.expression.Access.{Access}
 use Rattle.c_checked.specs.Expression as nodes
 use Rattle.c_checked.specs.Expression.{Expression, On, Node, Lvalue, Local, Global, Indirection}
