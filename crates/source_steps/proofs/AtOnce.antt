@@ -28,9 +28,6 @@ use Rattle.source_steps.specs.Directly.{Hastened, Unchanged, DoneAtOnce, Written
 use Rattle.source_steps.specs.Directly.{stack_of, waiting}
 use Rattle.source_steps.specs.declared.machine.Machine.{Machine as Machine'}
 
-pub stays : (program : Program) (m : Machine') (next : Next) → Hastened program m next m next
-stays program m next = λ es. record { steps = 0; is = refl }
-
 -- a value, in surroundings that are those of the place
 pub value_at_once : (program : Program) (m : Machine') (p : Place) (e : Expression)
     (left data_end : ℕ) (k : spec.Surroundings) (r : ℕ × ℕ)

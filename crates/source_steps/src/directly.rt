@@ -245,8 +245,8 @@ impl<'p> Machine<'p> {
         }
     }
 
-    /// A statement of a list is run at once. None, and nothing changed, where there is none, or where
-    /// it has to wait.
+    /// A statement of a list is run at once. None, and nothing changed, where there is none, or
+    /// where it has to wait.
     fn run_listed(
         &mut self,
         program: &'p Checked,

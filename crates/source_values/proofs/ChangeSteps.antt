@@ -165,7 +165,8 @@ module _ (program : Program) (st : State) (p : Place) (hs : List Handler) where
       (made a.2.0) c a.6 in
       let y = then_from (spec.value k f a.2.1)
       (λ y left. with_left (computed reserved o (converted before old) y st.memory) left) z.0 z.1 in
-      let w = left_from (computed reserved o (converted before old) y.0.0 st.memory) y.0.1 z.0 y.2 in
+      let w = left_from (computed reserved o (converted before old) y.0.0 st.memory) y.0.1 z.0
+      y.2 in
       let fs1 = Assignment (frames.ReadsCompound of p) ∷ fs in
       let fs2 = Assignment (frames.EvaluatesCompound of a.2.0 p) ∷ fs in
       let fs3 = Assignment (frames.OperatesCompound of a.2.0 old p) ∷ fs in

@@ -43,8 +43,8 @@ use Rattle.source_values.proofs.Steps.{leads_on, leads_then}
 
 -- ---- what an answer comes from
 
-pub counted_from : {A : Type 0} (n : ℕ) (go : ℕ → Option A) (r : A) → counted (nat_eq n 0) n go ≡ Some r
-    → (m : ℕ) × (n ≡ suc m) × (go m ≡ Some r)
+pub counted_from : {A : Type 0} (n : ℕ) (go : ℕ → Option A) (r : A)
+    → counted (nat_eq n 0) n go ≡ Some r → (m : ℕ) × (n ≡ suc m) × (go m ≡ Some r)
 counted_from zero go r e = absurd (none-some r e)
 counted_from (suc m) go r e =
     let more : nat_eq (suc m) 0 ≡ false = ne_eqb (suc m) 0 (λ (z : suc m ≡ 0). omega (arith, z)) in
