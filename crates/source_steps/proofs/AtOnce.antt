@@ -1,6 +1,6 @@
 -- What is done at once, as steps of the machine.
 use Rattle.std.proofs.Common.{◌≡◌, ℕ, suc, List, [], ◌∷◌, map, refl, sym, ap, ◌∙◌, subst}
-use Rattle.std.specs.Prelude.{true, reverse, Option, Some, None, option_map}
+use Rattle.std.specs.Prelude.{true, Option, Some, None, option_map}
 use Rattle.seh_num.specs.declared.event.Event.{Event}
 use Rattle.c_checked.specs.declared.expression.Conversion.{Conversion}
 use Rattle.c_checked.specs.Expression.{Expression, On, Node}
@@ -27,9 +27,6 @@ use Rattle.source_steps.specs.Machines.{machine_of, state_of}
 use Rattle.source_steps.specs.Directly.{Hastened, Unchanged, DoneAtOnce, WrittenTo, Made, EvaluatedTo, Evaluated}
 use Rattle.source_steps.specs.Directly.{stack_of, waiting}
 use Rattle.source_steps.specs.declared.machine.Machine.{Machine as Machine'}
-
-pub stays : (program : Program) (m : Machine') (next : Next) → Hastened program m next m next
-stays program m next = λ es. record { steps = 0; is = refl }
 
 -- a value, in surroundings that are those of the place
 pub value_at_once : (program : Program) (m : Machine') (p : Place) (e : Expression)

@@ -144,7 +144,13 @@ impl<'p> Machine<'p> {
             (tree.lvalue change.entry.target.now) change.entry.address change.entry.written)
             self.new change.entry.left (model.converted conversion change.entry.value) result }
     {
-        if !self.write(data_end, change.target, change.address, change.written, place) {
+        if !self.write(
+            data_end,
+            change.target,
+            change.address,
+            change.written,
+            place,
+        ) {
             return None;
         }
         self.steps_left = change.left;
@@ -239,8 +245,8 @@ impl<'p> Machine<'p> {
         }
     }
 
-    /// A statement of a list is run at once. None, and nothing changed, where there is none, or where
-    /// it has to wait.
+    /// A statement of a list is run at once. None, and nothing changed, where there is none, or
+    /// where it has to wait.
     fn run_listed(
         &mut self,
         program: &'p Checked,

@@ -5,8 +5,8 @@
 //! shows, after those that `directly` can do at once; `calls`, `places`, `raises` and `giving` do
 //! the parts of steps that change the machine.
 //!
-//! Proved: a step leaves the machine, and shows the event, of some steps of the definition, of which
-//! the last alone shows one. Begin with `stepping`.
+//! Proved: a step leaves the machine, and shows the event, of some steps of the definition, of
+//! which the last alone shows one. Begin with `stepping`.
 #![tactic(auto)]
 
 pub mod activations;

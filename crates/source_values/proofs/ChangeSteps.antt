@@ -1,6 +1,6 @@
 -- Where an expression changes one place at its end, the machine's steps lead to its value.
-use Rattle.std.proofs.Common.{◌≡◌, ℕ, suc, List, ◌∷◌, refl, sym, ap, ◌∙◌, subst}
-use Rattle.std.specs.Prelude.{Bool, true, nat_eq, Option, Some, None}
+use Rattle.std.proofs.Common.{◌≡◌, ℕ, suc, List, ◌∷◌, refl, sym, ap, subst}
+use Rattle.std.specs.Prelude.{Bool, true, Option, Some, None}
 use Rattle.std.proofs.lemmas.Option.{same_Some, none-some}
 use Rattle.flat_memory.specs.Memory.{Memory}
 use Rattle.c_operations.specs.declared.operation.Operation.{Operation}
@@ -14,7 +14,7 @@ use Rattle.c_checked.specs.Expression.{Expression, On, Node, Lvalue, Local, Glob
 use Rattle.c_checked.specs.Expression.{Element}
 use Rattle.c_checked.specs.Program.{Program}
 use Rattle.source_meaning.specs.Source.{is_reserved}
-use Rattle.source_meaning.specs.State.{State, Value, set_memory}
+use Rattle.source_meaning.specs.State.{State, Value}
 use Rattle.source_meaning.specs.Expressions.{converted, incremented_value}
 use Rattle.source_meaning.specs.Tasks as tasks
 use Rattle.source_meaning.specs.Tasks.{Handler}
@@ -25,8 +25,7 @@ use Rattle.source_machine.specs.Machine.{Machine}
 use Rattle.source_operations.specs.Outcomes.{computed}
 use Rattle.source_values.specs.Leading.{Leads}
 use Rattle.source_values.specs.Direct as spec
-use Rattle.source_values.specs.Direct.{counted, then_with, with_left, Change}
-use Rattle.source_values.specs.Surrounding.{around}
+use Rattle.source_values.specs.Direct.{then_with, with_left, Change}
 use Rattle.source_values.proofs.Steps.{leads_on, leads_then}
 use Rattle.source_values.proofs.ValueSteps.{counted_from, then_from, left_from, at, here, value_leads}
 use Rattle.source_values.proofs.ValueSteps.{address_leads, read_leads, computed_leads}
@@ -46,9 +45,16 @@ fetched_from k l n go r e =
     let next = λ (a left : ℕ). spec.with_old a (spec.read k l a) left in
     let c = counted_from n (λ left. then_with (spec.address k l left) next) f.0 f.1 in
     let a = then_from (spec.address k l c.0) next f.0 c.2 in
-    let x = old_from a.0.0 (spec.read k l a.0.0) a.0.1 f.0 a.2 in
-    (c.0, c.1, a.0, a.1, x.0, x.1, subst (λ (y : (ℕ × ℕ) × ℕ). go y.0.0 y.0.1 y.1 ≡ Some r)
-    (sym x.2) f.2)
+    let x = old_from a.0.0 (spec.read k l a.0.0) a.0.1 f.0 a.2 in (
+      c.0,
+      c.1,
+      a.0,
+      a.1,
+      x.0,
+      x.1,
+      subst (λ (y : (ℕ × ℕ) × ℕ). go y.0.0 y.0.1 y.1 ≡ Some r)
+          (sym x.2) f.2,
+    )
   where
     some_fetched : {A : Type 0} (q : Option ((ℕ × ℕ) × ℕ)) (go : ℕ → ℕ → ℕ → Option A) (r : A)
         → spec.then_fetched q go ≡ Some r
@@ -159,7 +165,8 @@ module _ (program : Program) (st : State) (p : Place) (hs : List Handler) where
       (made a.2.0) c a.6 in
       let y = then_from (spec.value k f a.2.1)
       (λ y left. with_left (computed reserved o (converted before old) y st.memory) left) z.0 z.1 in
-      let w = left_from (computed reserved o (converted before old) y.0.0 st.memory) y.0.1 z.0 y.2 in
+      let w = left_from (computed reserved o (converted before old) y.0.0 st.memory) y.0.1 z.0
+      y.2 in
       let fs1 = Assignment (frames.ReadsCompound of p) ∷ fs in
       let fs2 = Assignment (frames.EvaluatesCompound of a.2.0 p) ∷ fs in
       let fs3 = Assignment (frames.OperatesCompound of a.2.0 old p) ∷ fs in

@@ -1,12 +1,13 @@
 -- Steps of the machine, one after another.
-use Rattle.std.proofs.Common.{◌≡◌, ℕ, zero, suc, ◌+◌, refl, sym, ap, ◌∙◌, subst, arith}
+use Rattle.std.proofs.Common.{◌≡◌, ℕ, zero, suc, ◌+◌, refl, ap, ◌∙◌, arith}
 use Rattle.c_checked.specs.Program.{Program}
 use Rattle.source_machine.specs.Machine.{Machine, step}
 use Rattle.source_machine.specs.Runs.{after}
 use Rattle.source_values.specs.Leading.{Leads}
 
 module _ (program : Program) where
-  pub after_sum : (j k : ℕ) (m : Machine) → after program (j + k) m ≡ after program k (after program j m)
+  pub after_sum : (j k : ℕ) (m : Machine)
+      → after program (j + k) m ≡ after program k (after program j m)
   after_sum zero k m =
       let none : 0 + k ≡ k = omega arith in
       ap (λ (n : ℕ). after program n m) none
@@ -15,7 +16,8 @@ module _ (program : Program) where
       ap (λ (n : ℕ). after program n m) one ∙ after_sum j k (step program m)
 
   -- a step after some is one more
-  pub after_more : (k : ℕ) (m : Machine) → step program (after program k m) ≡ after program (suc k) m
+  pub after_more : (k : ℕ) (m : Machine)
+      → step program (after program k m) ≡ after program (suc k) m
   after_more zero m = refl
   after_more (suc k) m = after_more k (step program m)
 

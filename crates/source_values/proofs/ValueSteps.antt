@@ -16,7 +16,7 @@ use Rattle.seh_num.specs.declared.division.DivFault.{DivFault}
 use Rattle.seh_num.specs.declared.division.DivFault.TheVariants as faults
 use Rattle.c_operations.specs.Numbers.{result_of, width}
 use Rattle.c_operations.specs.Performed as performing
-use Rattle.c_operations.specs.Performed.{OperationResult, performed}
+use Rattle.c_operations.specs.Performed.{performed}
 use Rattle.c_checked.specs.declared.expression.Access.{Access}
 use Rattle.c_checked.specs.Expression as nodes
 use Rattle.c_checked.specs.Expression.{Expression, On, Node, Lvalue, Local, Global, Indirection}
@@ -43,8 +43,8 @@ use Rattle.source_values.proofs.Steps.{leads_on, leads_then}
 
 -- ---- what an answer comes from
 
-pub counted_from : {A : Type 0} (n : ℕ) (go : ℕ → Option A) (r : A) → counted (nat_eq n 0) n go ≡ Some r
-    → (m : ℕ) × (n ≡ suc m) × (go m ≡ Some r)
+pub counted_from : {A : Type 0} (n : ℕ) (go : ℕ → Option A) (r : A)
+    → counted (nat_eq n 0) n go ≡ Some r → (m : ℕ) × (n ≡ suc m) × (go m ≡ Some r)
 counted_from zero go r e = absurd (none-some r e)
 counted_from (suc m) go r e =
     let more : nat_eq (suc m) 0 ≡ false = ne_eqb (suc m) 0 (λ (z : suc m ≡ 0). omega (arith, z)) in

@@ -1,5 +1,5 @@
 -- What the code's surroundings represent, and those of a place in a state.
-use Rattle.std.specs.Prelude.{ℕ, Bool, List, [], Option, Some, None}
+use Rattle.std.specs.Prelude.{ℕ, Bool, [], Some, None}
 use Rattle.x64_memory.specs.PageMaps.{memory_of}
 use Rattle.c_checked.specs.Expression.{lvalue}
 use Rattle.source_meaning.specs.State.{State, frame_of}

@@ -85,7 +85,11 @@ fn compound(
 
 /// For an expression that changes one place: what is left of it, after so many steps. None for
 /// another, and where an operand has to wait.
-pub fn pending_change<'p>(around: &Surroundings<'_>, node: &'p Node, left: u64) -> Option<Change<'p>>
+pub fn pending_change<'p>(
+    around: &Surroundings<'_>,
+    node: &'p Node,
+    left: u64,
+) -> Option<Change<'p>>
     ensures { option_map change_of result ≡
         spec.change (surroundings_of around.now) (tree.node node.now) left }
 {

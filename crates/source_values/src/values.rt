@@ -230,12 +230,16 @@ fn node_value(around: &Surroundings<'_>, node: &Node, left: u64) -> Option<(u64,
         Node::CompoundAssign { .. } => None,
         Node::Increment { .. } => None,
         Node::Unary { operation, operand } => unary_value(around, *operation, operand, left),
-        Node::Binary { operation, left: first, right } => {
-            binary_value(around, *operation, value(around, first, left), right)
-        }
-        Node::PointerDifference { size, left: first, right } => {
-            difference_value(around, *size, value(around, first, left), right)
-        }
+        Node::Binary {
+            operation,
+            left: first,
+            right,
+        } => { binary_value(around, *operation, value(around, first, left), right) }
+        Node::PointerDifference {
+            size,
+            left: first,
+            right,
+        } => { difference_value(around, *size, value(around, first, left), right) }
         Node::Not(operand) => not_value(around, operand, left),
         Node::And(first, second) => and_value(around, value(around, first, left), second),
         Node::Or(first, second) => or_value(around, value(around, first, left), second),

@@ -1,4 +1,4 @@
-use Rattle.std.proofs.Common.{◌≡◌, ◌<◌, length, subst, sym, arith}
+use Rattle.std.proofs.Common.{◌<◌, length, subst, sym, arith}
 use Rattle.c_checked.specs.Whole as whole
 use Rattle.source_meaning.specs.Tasks as tasks
 use Rattle.source_plans.specs.Views as views

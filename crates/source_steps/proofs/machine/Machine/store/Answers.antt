@@ -9,9 +9,12 @@ use Rattle.source_steps.proofs.machine.Machine.store.Goals as goal
 pub returns-in-Gives : goal.returns-in-Gives
 returns-in-Gives c = λ es.
     let st = state_of c.args.self.now es in
-    let memory = memory_of c.perform.new.space in
-    (set_memory st memory, ap (spec.stored st) (sym c.perform.ensures.outcome)
-    ∙ ap (λ r. spec.stored st (outcome_of r memory)) c.in-Gives.is, λ x. refl)
+    let memory = memory_of c.perform.new.space in (
+      set_memory st memory,
+      ap (spec.stored st) (sym c.perform.ensures.outcome)
+          ∙ ap (λ r. spec.stored st (outcome_of r memory)) c.in-Gives.is,
+      λ x. refl,
+    )
 
 pub returns-in-Raises : goal.returns-in-Raises
 returns-in-Raises c = λ x es.

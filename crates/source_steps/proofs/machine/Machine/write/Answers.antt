@@ -12,11 +12,12 @@ use Rattle.source_steps.proofs.machine.Machine.write.Goals as goal
 pub returns-in-Local : goal.returns-in-Local
 returns-in-Local c = λ es.
     let st = state_of c.args.self.now es in
-    let p = views.place_of c.args.place in
-    (set_local st p.activation c.in-Local.local c.args.value,
-    ap (λ l. spec.written (reserved_below c.args.data_end) st p l c.args.address c.args.value)
-    (ap lvalue c.in-Local.is ∙ made.local_is _),
-    λ x. sym (c.set_local.ensures x es))
+    let p = views.place_of c.args.place in (
+      set_local st p.activation c.in-Local.local c.args.value,
+      ap (λ l. spec.written (reserved_below c.args.data_end) st p l c.args.address c.args.value)
+          (ap lvalue c.in-Local.is ∙ made.local_is _),
+      λ x. sym (c.set_local.ensures x es),
+    )
 
 pub returns-in-Global : goal.returns-in-Global
 returns-in-Global c =
