@@ -68,12 +68,12 @@ around : (s : SiteView) (info at : ℕ) (rs : List RoutineView) (rva : ℕ) → 
 around s info at [] rva le lt = absurd (omega arith)
 around s info at (r ∷ rs) rva le lt = elim (cases_lt rva (at + routine_size r)) [
   | inl here ↦ record {
-      index = 0;
-      routine = record { routine = r; begin = at; info = info };
-      is = refl;
-      low = le;
-      high = here;
-    }
+    index = 0;
+    routine = record { routine = r; begin = at; info = info };
+    is = refl;
+    low = le;
+    high = here;
+  }
   | inr past ↦
       let more = around s (info + length (info_bytes s at r)) (at + routine_size r) rs rva past
       (omega arith) in
