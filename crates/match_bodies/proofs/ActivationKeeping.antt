@@ -1,8 +1,8 @@
 -- Other numbers in the locals of one activation leave the others as they are.
-use Rattle.std.proofs.Common.{◌≡◌, ℕ, suc, ◌<◌, Bool, true, false, Option, List, [], ◌∷◌, length, refl, sym, ap, ◌∙◌, arith, inl, inr}
+use Rattle.std.proofs.Common.{◌≡◌, ℕ, suc, ◌+◌, ◌<◌, Bool, true, false, Option, List, [], ◌∷◌, length, refl, sym, ap, subst, ◌∙◌, arith, inl, inr}
 use Rattle.std.specs.Prelude.{◌==◌}
 use Rattle.std.proofs.lemmas.Bool.{eq-eqb, ne_eqb}
-use Rattle.match_bodies.specs.Words.{Activation, IsActivation, with_values, with_values_if}
+use Rattle.match_bodies.specs.Words.{Activation, IsActivation, HasSpace, with_values, with_values_if}
 
 -- ---- activations
 
@@ -15,6 +15,12 @@ with_count (a ∷ outer) k values = by (k == length outer) (with_count outer k v
         → length (with_values_if b a outer values (with_values outer k values)) ≡ length (a ∷ outer)
     by true e = refl
     by false e = ap suc e
+
+pub same_space : (acts : List Activation) (k : ℕ) (values : List ℕ) (sp beside held : ℕ)
+    → HasSpace sp beside (length acts + held)
+    → HasSpace sp beside (length (with_values acts k values) + held)
+same_space acts k values sp beside held s = subst (λ n. HasSpace sp beside (n + held))
+    (sym (with_count acts k values)) s
 
 pub is_lower : (acts : List Activation) (k base distance : ℕ) (register : ℕ → Option ℕ)
     → IsActivation acts k base distance register → k < length acts

@@ -2,20 +2,20 @@
 -- registers are those that are there.
 use Rattle.std.proofs.Common.{◌≡◌, ℕ, suc, ◌+◌, ◌^◌, ◌<◌, Bool, true, false, Some, Ok, List, [], ◌∷◌, length, drop, refl, sym, ap, subst, ◌∙◌, arith}
 use Rattle.std.specs.Prelude.{slice_index, slice_set}
-use Rattle.match_bodies.specs.Words.{Memory, Rsp, Context, context_of, kept_of, State, register, rsp, word, LinearBody, BodyName, body_of, Configuration, context_below, activations_below, StackFrame, On, frame_of, HasFrame, IsFramed, Setting, IsWellFormed, AllSmall}
+use Rattle.match_bodies.specs.Words.{Memory, Rsp, Context, context_of, kept_of, State, register, rsp, word, LinearBody, BodyName, body_of, Configuration, context_below, activations_below, StackFrame, On, frame_of, HasFrame, IsFramed, Setting, IsWellFormed, AllSmall, IsAsTold, IsAllocated}
 use Rattle.match_bodies.specs.Setting.{InBody}
 use Rattle.match_bodies.proofs.Lemmas.{wide_of}
 use Rattle.x64_machine.specs.declared.cpu.Cpu.{Cpu}
-use Rattle.match_stack.specs.Stack.{IsAsTold}
-use Rattle.match_stack.specs.AllocatedFrames.{IsAllocated}
 use Rattle.match_stack.proofs.AllocatedFrames.{allocations_are_told, told_allocations}
 use Rattle.match_bodies.proofs.InstructionEffects.{others_of}
 use Rattle.match_bodies.proofs.StackTop.{leaf_layout}
 
+-- the registers of a context beside RSP
 pub rest_length : (ks : List ℕ) → length ks ≡ 9 → length (drop 1 ks) ≡ 8
 rest_length [] n = absurd (omega arith)
 rest_length (k ∷ ks) n = omega arith
 
+-- a context with another RSP
 pub first_set : (ks : List ℕ) (v : ℕ) → length ks ≡ 9 → v ∷ drop 1 ks ≡ slice_set ks 0 v
 first_set [] v n = absurd (omega arith)
 first_set (k ∷ ks) v n = refl

@@ -2,14 +2,12 @@
 use Rattle.std.proofs.Common.{◌≡◌, ℕ, ◌+◌, ◌≤◌, Bool, true, false, List, [], ◌∷◌, length, Option, Some, Ok, refl, sym, ap, subst, ◌∙◌, arith}
 use Rattle.std.specs.Prelude.{slice_set, slice_get, slice_index}
 use Rattle.std.specs.List.{AllByRecursion}
-use Rattle.match_bodies.specs.Words.{Event, STACK_END, Memory, Rsp, Context, context_of, State, register, get, rsp, Functions, word, Funclet, Layout, Region, LinearProgram, LinearBody, LinearFunclet, BodyName, FunctionBody, FuncletBody, Frame, Item, Waits, Searches, Unwinds, body_of, holds, regions_of, StackFrame, StackItem, Framed, Leaf, FrameIsAt, after_leaf, context_below, IsWellFormed, ImagePlan, InCode, Activation, activations_below, HoldsWords, HasActivation, temporaries_end, home_end, HasSpace, below_end, BodyWaits, HasPointers, IsAbove, FuncletIsAbove, On, Sites, IsLaidOut, IsProgramImage, frame_of, slots_end, last_temporary, HasFrame, InBody}
+use Rattle.match_bodies.specs.Words.{Event, STACK_END, Memory, Rsp, Context, context_of, State, register, rsp, Functions, word, Funclet, Layout, Region, LinearProgram, LinearBody, LinearFunclet, BodyName, FunctionBody, FuncletBody, Frame, Item, Waits, Searches, Unwinds, body_of, holds, regions_of, StackFrame, StackItem, Framed, Leaf, FrameIsAt, after_leaf, context_below, IsWellFormed, ImagePlan, InCode, Activation, activations_below, HoldsWords, HasActivation, temporaries_end, home_end, HasSpace, below_end, BodyWaits, HasPointers, IsAbove, FuncletIsAbove, On, Sites, IsLaidOut, IsProgramImage, frame_of, slots_end, last_temporary, HasFrame, InBody, IsAsTold, IsAllocated, get}
 use Rattle.eh_tables.specs.Tables.{Entry}
 use Rattle.virtual_unwind.specs.Undone.{operations}
 use Rattle.frame_rules.specs.Codes.{depth}
 use Rattle.eh_tables.specs.declared.code.UnwindCode.{UnwindCode}
 use Rattle.eh_tables.specs.declared.code.UnwindOperation.TheVariants.{Allocate}
-use Rattle.match_stack.specs.Stack.{IsAsTold}
-use Rattle.match_stack.specs.AllocatedFrames.{IsAllocated}
 use Rattle.match_stack.proofs.AllocatedFrames.{told_allocations}
 use Rattle.match_stack.specs.HostUnwind.{on_top}
 use Rattle.match_bodies.proofs.Lemmas.{told_depth}
@@ -56,7 +54,8 @@ module _ (t : Functions) (fs : List Funclet) (program : LinearProgram) (p : Imag
     leaf_pointers m y sp size b (FunctionBody f) (Unwinds rest target ∷ below) is h = absurd h
 
     -- the same name, exception and what lies below
-    above_same : (b b' : Frame) (name : BodyName) (below : List Item) → b'.exception ≡ b.exception
+    pub above_same : (b b' : Frame) (name : BodyName) (below : List Item)
+        → b'.exception ≡ b.exception
         → IsAbove t fs program p b name below → IsAbove t fs program p b' name below
     above_same b b' (FunctionBody f) below e h = h
     above_same b b' (FuncletBody k) below e h = by_funclet (slice_get program.funclets k) below h

@@ -1,11 +1,12 @@
 -- Other numbers in the locals of one activation leave the list as it is.
-use Rattle.std.proofs.Common.{◌≡◌, ℕ, ◌+◌, ◌*◌, ◌≤◌, true, false, Option, Some, None, List, [], ◌∷◌, ◌++◌, length, refl, sym, ap, subst, ◌∙◌, arith, inl, inr}
+use Rattle.std.proofs.Common.{◌≡◌, ℕ, ◌+◌, ◌*◌, ◌≤◌, true, false, Option, Some, List, [], ◌∷◌, ◌++◌, length, refl, sym, ap, subst, ◌∙◌, arith, inl, inr}
 use Rattle.std.specs.Prelude.{slice_get}
-use Rattle.match_bodies.specs.Words.{STACK_START, STACK_END, Memory, Context, context_of, get, rsp, Functions, Funclet, Layout, LinearProgram, BodyName, FunctionBody, FuncletBody, Frame, Item, Waits, Searches, Unwinds, StackFrame, StackItem, Framed, Leaf, Searching, Unwinding, FrameIsAt, LeafIsAt, IsStack, after_frame, after_leaf, ImagePlan, Activation, locals_of, activations_below, HoldsWords, IsInPlace, HoldsPlaces, temporaries_end, HasActivation, HoldsLocals, IsActivation, ActivationHasBase, home_end, HasPointers, IsAbove, HasSpace, below_end, BodyWaits, Linked, IsLinkedStack, with_values, IsInFrame, FrameWords, IsLeft, LeavesRegisters, KeepsStackBut, OwnerHasFrame, record_room, FrameWaits, LeafWaits, ActivationsAreStored}
+use Rattle.match_bodies.specs.Words.{STACK_START, STACK_END, Memory, Context, context_of, get, rsp, Functions, Funclet, Layout, LinearProgram, BodyName, FunctionBody, FuncletBody, Frame, Item, Waits, Searches, Unwinds, StackFrame, StackItem, Framed, Leaf, Searching, Unwinding, FrameIsAt, LeafIsAt, IsStack, after_frame, after_leaf, ImagePlan, Activation, locals_of, activations_below, HoldsWords, temporaries_end, HasActivation, HoldsLocals, IsActivation, ActivationHasBase, home_end, HasPointers, IsAbove, below_end, BodyWaits, Linked, IsLinkedStack, with_values, FrameWords, LeavesRegisters, KeepsStackBut, OwnerHasFrame, record_room, FrameWaits, LeafWaits, ActivationsAreStored}
 use Rattle.seh_walk.specs.Walk.{filter_return, finally_return}
 use Rattle.match_bodies.proofs.Lemmas.{set_head, rises, places_fit, in_stack, ReadsSame, higher, words_kept, frame_kept, leaf_kept, own_kept, frame_above, frame_is_at, leaf_is_at, record_is_at, list_kept, reads_other}
 use Rattle.match_bodies.proofs.ActivationPlaces.{are_there, locals_count, got_before, got_last}
-use Rattle.match_bodies.proofs.ActivationKeeping.{with_count, is_lower, still_is, first_changes, later_changes}
+use Rattle.match_bodies.proofs.FramePlaces.{in_places, as_many}
+use Rattle.match_bodies.proofs.ActivationKeeping.{same_space, with_count, is_lower, still_is, first_changes, later_changes}
 
 module _ (m m' : Memory) (t : Functions) (fs : List Funclet) (program : LinearProgram)
     (p : ImagePlan) (k base distance : ℕ) (register : ℕ → Option ℕ) (values : List ℕ) where
@@ -35,12 +36,6 @@ module _ (m m' : Memory) (t : Functions) (fs : List Funclet) (program : LinearPr
         code = h.code;
         no_more_code = h.no_more_code;
       }) (omega arith) (omega arith)
-
-  space_kept : (sp beside held : ℕ) (acts : List Activation)
-      → HasSpace sp beside (length acts + held)
-      → HasSpace sp beside (length (with_values acts k values) + held)
-  space_kept sp beside held acts s = subst (λ n. HasSpace sp beside (n + held))
-      (sym (with_count acts k values)) s
 
   -- a frame that is passed: the activation is that of one above it
   abbrev passes : (acts : List Activation) (name : BodyName) → Type 0
@@ -97,7 +92,7 @@ module _ (m m' : Memory) (t : Functions) (fs : List Funclet) (program : LinearPr
     activation = activation_passed (get c) (p.register b.body) (p.layout b.body)
         (rsp c) size b.activation acts b.body i h.activation;
     temporaries = h.temporaries;
-    space = space_kept (rsp c) below_end b.held acts h.space;
+    space = same_space acts k values (rsp c) below_end b.held h.space;
   }
 
   frame_passed : (c : Context) (f : StackFrame) (b : Frame) (below : List Item)
@@ -126,30 +121,6 @@ module _ (m m' : Memory) (t : Functions) (fs : List Funclet) (program : LinearPr
   }
 
   -- ---- the activation's own frame
-
-  in_place : (now : ℕ → ℕ) (at v w : ℕ) (o : Option ℕ) → IsInPlace m now at v o
-      → IsInFrame m' at w o → IsLeft v w o → IsInPlace m' now at w o
-  in_place now at v w None h f l = f
-  in_place now at v w (Some r) h f l = h ∙ l
-
-  -- those in registers as they were, and the others in their words
-  in_places : (now : ℕ → ℕ) (mine : ℕ → Option ℕ) (i at end later : ℕ) (vs ws : List ℕ)
-      → HoldsPlaces m now mine i at later vs → FrameWords m' mine i at end ws
-      → LeavesRegisters mine i vs ws → end ≤ later → HoldsPlaces m' now mine i at later ws
-  in_places now mine i at end later [] [] h f l le = h
-  in_places now mine i at end later (v ∷ vs) (w ∷ ws) h f l le = (
-    in_place now at v w (mine i) h.0 f.0 l.0,
-    in_places now mine (i + 1) (at + 8) end later vs ws h.1 f.1 l.1 le,
-  )
-  in_places now mine i at end later [] (w ∷ ws) h f l le = absurd l
-  in_places now mine i at end later (v ∷ vs) [] h f l le = absurd l
-
-  as_many : (r : ℕ → Option ℕ) (i : ℕ) (vs ws : List ℕ) → LeavesRegisters r i vs ws
-      → length ws ≡ length vs
-  as_many r i [] [] l = refl
-  as_many r i (v ∷ vs) (w ∷ ws) l = let e = as_many r (i + 1) vs ws l.1 in omega arith
-  as_many r i [] (w ∷ ws) l = absurd l
-  as_many r i (v ∷ vs) [] l = absurd l
 
   -- a function has no record right above it
   no_pointers : (y : Layout) (sp size f : ℕ) (b : Frame) (below : List Item)
@@ -185,7 +156,7 @@ module _ (m m' : Memory) (t : Functions) (fs : List Funclet) (program : LinearPr
           distance = h.activation.distance;
           registers = h.activation.registers;
         };
-        values = in_places now mine 0 (sp + y.locals) to (sp + size) a.values values h.values
+        values = in_places m m' now mine 0 (sp + y.locals) to (sp + size) a.values values h.values
             (subst (λ x. FrameWords m' mine 0 x to values) at
             (subst (λ (r : ℕ → Option ℕ). FrameWords m' r 0 from to values) same words))
             (subst (λ (r : ℕ → Option ℕ). LeavesRegisters r 0 a.values values) same left) le;
@@ -500,7 +471,8 @@ module _ (m m' : Memory) (t : Functions) (fs : List Funclet) (program : LinearPr
               purpose = h.0.purpose;
               row = h.0.row;
               aimed = h.0.aimed;
-              space = space_kept (rsp c) (below_end + record_room) target.held acts h.0.space;
+              space = same_space acts k values (rsp c) (below_end + record_room) target.held
+                  h.0.space;
             },
             outer.linked,
           );
@@ -517,8 +489,7 @@ activations_are_stored t fs program p m m' c is items acts k base distance regis
     let top = a.high_end in
     let same : a.values ≡ old = the_same a.values old (sym a.number ∙ number) in
     let n : length a.values ≡ length old = ap length same in
-    let count = as_many m m' t fs program p k base distance register values register 0 old values
-    left in
+    let count = as_many register 0 old values left in
     stored m m' t fs program p k base distance register values (omega arith) far (omega arith) words
     c is items acts s.stack s.linked i owner
     (λ vs e. subst (λ (xs : List ℕ). LeavesRegisters register 0 xs values)

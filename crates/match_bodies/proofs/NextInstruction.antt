@@ -1,9 +1,10 @@
 -- The next instruction of a body begins, in the memory that a template leaves.
 use Rattle.std.proofs.Common.{◌≡◌, ℕ, ◌+◌, ◌*◌, ◌<◌, ◌≤◌, true, Option, Some, None, Ok, List, [], ◌∷◌, length, refl, sym, ap, subst, ◌∙◌, arith, inl, inr}
 use Rattle.std.specs.Prelude.{◌⊎◌, slice_get, slice_index, drop}
-use Rattle.match_bodies.specs.Words.{STACK_START, STACK_END, Event, Memory, Rax, Rsp, kept_of, State, register, word, Local, Temporary, BodyState, LinearBody, LinearFunclet, BodyName, FunctionBody, FuncletBody, body_of, Frame, Item, Waits, Searches, Unwinds, Configuration, Context, Layout, FrameHolds, context_of, get, regions_of, InCode, context_below, Activation, locals_of, activations_below, HoldsWords, IsActivation, HasActivation, HasPointers, FuncletIsAbove, IsAbove, BodyWaits, HasSpace, below_end, home_end, IsLinkedStack, IsData, On, IsWellFormed, IsFunctionLayout, IsLayoutIf, slots_end, counts_of, frame_at, with_values, KeepsStackBut, OwnerHasFrame, InTemporaries, InLocals, last_temporary, Setting, RepresentsAt}
+use Rattle.match_bodies.specs.Words.{STACK_START, STACK_END, Event, Memory, Rax, Rsp, kept_of, State, register, word, Local, Temporary, BodyState, LinearBody, BodyName, FunctionBody, FuncletBody, body_of, Item, Waits, Searches, Unwinds, Configuration, Context, Layout, FrameHolds, context_of, get, regions_of, InCode, context_below, Activation, locals_of, activations_below, HoldsWords, IsActivation, HasActivation, HasPointers, IsAbove, BodyWaits, HasSpace, below_end, home_end, IsLinkedStack, IsData, On, IsWellFormed, IsFunctionLayout, IsLayoutIf, slots_end, counts_of, frame_at, with_values, KeepsStackBut, OwnerHasFrame, InTemporaries, InLocals, last_temporary, Setting, RepresentsAt}
 use Rattle.virtual_unwind.specs.Undone.{Answer}
 use Rattle.match_bodies.proofs.Lemmas.{kept_by_other_memories}
+use Rattle.match_bodies.proofs.BodyResumption.{above_same}
 use Rattle.match_bodies.proofs.BodyFrames.{body_return, has_frame}
 use Rattle.match_bodies.proofs.ProgramKeeping.{program_stays}
 use Rattle.match_bodies.proofs.HomeSpace.{CallerHasFrame, home_is_free}
@@ -52,24 +53,6 @@ module _ (setting : Setting) where
     abbrev here : SlotsPlaced s.memory y code.temporaries sp c.frame.activation b.body.acts
     here = placed setting s c b counted
 
-    -- what waits below doesn't depend on the instruction
-    above_next : (items : List Item) (name : BodyName) (f : Frame) (label : ℕ) (landed : Option ℕ)
-        (ts : List ℕ) → IsAbove t fs program p f name items
-        → IsAbove t fs program p (record f { next = label; temporaries = ts; landed = landed }) name
-        items
-    above_next items (FunctionBody n) f label landed ts h = h
-    above_next items (FuncletBody k) f label landed ts h =
-        by_funclet (slice_get program.funclets k) items h
-      where
-        by_funclet : (o : Option LinearFunclet) (items : List Item)
-            → FuncletIsAbove t fs program p k f o items
-            → FuncletIsAbove t fs program p k (record f
-            { next = label; temporaries = ts; landed = landed }) o items
-        by_funclet (Some g) (Searches exception resumption asked rest ∷ Waits w ∷ below) h = h
-        by_funclet (Some g) (Unwinds rest target ∷ Waits w ∷ below) h = h
-        by_funclet (Some g) (Waits w ∷ below) h = h
-        by_funclet o items h = absurd h
-
     -- a run of a template of this body
     pub record Ran (u : State) (d : BodyState) (values ts : List ℕ) : Type 0 where
       pub changed : Changed program.globals s u y (counts_of code) sp here.base
@@ -97,9 +80,6 @@ module _ (setting : Setting) where
       stack_there = ap (λ (ks : List ℕ). slice_index ks 0) r.kept
 
       -- ---- slots
-
-      number_of_values : length values ≡ length here.values
-      number_of_values = r.leaves.count ∙ sym cnt
 
       new_local : (i v : ℕ) → slice_get values i ≡ Some v
           → word u.memory (here.base + y.locals + 8 * i) ≡ Ok v
@@ -153,10 +133,7 @@ module _ (setting : Setting) where
 
       own_base : (o : Option ℕ) → o ≡ y.base → o ≡ None → here.base ≡ sp
       own_base None e n = subst (λ o. KeepsSlot s.memory y o sp here.base) (sym e) here.kept
-      own_base (Some slot) e n = absurd (no_slot n)
-        where
-          no_slot : ◌≡◌ {A = Option ℕ} (Some slot) None → ⊥
-          no_slot e = cc
+      own_base (Some slot) e n = let z : ◌≡◌ {A = Option ℕ} (Some slot) None = n in absurd cc
 
       function_base : y.base ≡ None → here.base ≡ sp
       function_base n = own_base y.base refl n
@@ -245,30 +222,23 @@ module _ (setting : Setting) where
           ])
           (body_return setting s c b.body).returns
 
-      activation : HasActivation u.memory now registers y sp
-          (slots_end y (p.leaf c.frame.body)) c.frame.activation
-          (with_values b.body.acts c.frame.activation values) c.frame.body
+      abbrev Held : ℕ → BodyName → Type 0
+      Held size name = HasActivation u.memory now registers y sp size c.frame.activation
+          (with_values b.body.acts c.frame.activation values) name
+
+      activation : Held (slots_end y (p.leaf c.frame.body)) c.frame.body
       activation = elim (kind setting s c b counted) [
-        | inl f ↦ subst (λ l. HasActivation u.memory now registers y sp (slots_end y l)
-            c.frame.activation (with_values b.body.acts c.frame.activation values) c.frame.body)
-            (sym f.framed)
-            (subst (λ n. HasActivation u.memory now registers y sp y.frame c.frame.activation
-            (with_values b.body.acts c.frame.activation values) n) (sym f.name)
+        | inl f ↦ subst (λ l. Held (slots_end y l) c.frame.body) (sym f.framed)
+            (subst (Held y.frame) (sym f.name)
             (own_activation f.number y.frame b.body.acts refl f.activation (let n = r.leaves.count
             in let z = f.layout.locals in omega arith)))
-        | inr (inl f) ↦ subst (λ l. HasActivation u.memory now registers y sp (slots_end y l)
-            c.frame.activation (with_values b.body.acts c.frame.activation values) c.frame.body)
-            (sym f.leaf)
-            (subst (λ n. HasActivation u.memory now registers y sp y.temporaries c.frame.activation
-            (with_values b.body.acts c.frame.activation values) n) (sym f.name)
+        | inr (inl f) ↦ subst (λ l. Held (slots_end y l) c.frame.body) (sym f.leaf)
+            (subst (Held y.temporaries) (sym f.name)
             (own_activation f.number y.temporaries b.body.acts refl f.activation
             (let n = r.leaves.count in let x = f.layout.temporaries in let z = f.layout.locals in
             omega arith)))
-        | inr (inr f) ↦ subst (λ l. HasActivation u.memory now registers y sp (slots_end y l)
-            c.frame.activation (with_values b.body.acts c.frame.activation values) c.frame.body)
-            (sym f.framed)
-            (subst (λ n. HasActivation u.memory now registers y sp y.frame c.frame.activation
-            (with_values b.body.acts c.frame.activation values) n) (sym f.name)
+        | inr (inr f) ↦ subst (λ l. Held (slots_end y l) c.frame.body) (sym f.framed)
+            (subst (Held y.frame) (sym f.name)
             (record {
               slot = f.activation.slot;
               base = f.activation.base;
@@ -397,7 +367,7 @@ module _ (setting : Setting) where
             let g = function_layout.passed in
             let h = function_layout.temporaries in
             let e = f.layout.locals in
-            let n = number_of_values in
+            let n = r.leaves.count ∙ sym cnt in
             let keep = stack_kept_but program.globals s u y (counts_of code) sp c.frame.activation
             b.body.acts here cnt r.changed b.memory.data_alone b.memory.stack (sp + y.frame + 8)
             (omega arith) (omega arith) in
@@ -500,7 +470,8 @@ module _ (setting : Setting) where
             slots = slots;
             pointers = subst (λ x. HasPointers t fs program p u.memory y x y.frame c.below)
                 (sym stack_there) (pointers_in c.below b.body.above b.body.pointers);
-            above = above_next c.below c.frame.body c.frame label landed ts b.body.above;
+            above = above_same t fs program p q c.frame next.frame c.frame.body c.below refl
+                b.body.above;
             home = λ e. subst (λ x. x + home_end ≤ STACK_END) (sym stack_there) (b.body.home e);
             back = b.body.back;
             returns_to = b.body.returns_to;

@@ -31,6 +31,7 @@ unsaved : (old now : ℕ → ℕ) (size : ℕ) → rules.Others old now []
 unsaved old now zero h = h
 unsaved old now (suc size) h = λ r nv ne z. h r nv ne refl
 
+-- so it is enough that the return address is there
 pub finds_return : (t : Functions) (m : Memory) (rip size : ℕ) → FindsReturn t m rip size
     → (c : Context) (back : ℕ) → c.rip ≡ rip → length c.kept ≡ 9 → rsp c + size + 8 < 2 ^ 64
     → word m (rsp c + size) ≡ Ok back → HasCaller t m c (caller_above c size back)
@@ -86,6 +87,7 @@ same_others c size back others kept eight o = rest_numbers c.kept kept
     ∷ o 15 refl (λ e. absurd (omega arith)) refl i ∷ [])
     ∙ eight_numbers others eight
 
+-- and where the return address is enough, the walk finds the caller by the codes
 pub return_finds : (t : Functions) (m : Memory) (rip size : ℕ)
     → ((c : Context) (back : ℕ) → c.rip ≡ rip → length c.kept ≡ 9 → rsp c + size + 8 < 2 ^ 64
     → word m (rsp c + size) ≡ Ok back → HasCaller t m c (caller_above c size back))

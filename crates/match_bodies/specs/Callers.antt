@@ -26,10 +26,11 @@ callers c (Unwinding r ∷ is) = callers r.walk is
 abbrev pub caller_above : Context → ℕ → ℕ → Context
 caller_above c size back = record { rip = back; kept = slice_set c.kept 0 (rsp c + size + 8) }
 
--- and with these registers: at its call of this routine, and after that
+-- with these nonvolatile registers: RSP at the return address, as where the routine was entered
 abbrev pub caller_owed : Context → ℕ → ℕ → List ℕ → Context
 caller_owed c size back others = record { rip = back; kept = (rsp c + size) ∷ others }
 
+-- and past it, as the caller continues
 abbrev pub caller_left : Context → ℕ → ℕ → List ℕ → Context
 caller_left c size back others = record { rip = back; kept = (rsp c + size + 8) ∷ others }
 

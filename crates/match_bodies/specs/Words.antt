@@ -72,7 +72,8 @@ pub use Rattle.match_stack.specs.ImagePlan.{ImagePlan, InCode, IsGiven}
 pub use Rattle.match_stack.specs.ItemMatches.{Activation, IsActivation, locals_of, activations_below, HoldsWords, IsInPlace, HoldsPlaces, HasActivation, HoldsLocals, ActivationHasBase, home_end, Linked, temporaries_end, HasPointers, IsAbove, HasSpace, below_end, BodyWaits, FuncletIsAbove, record_room, FrameWaits, LeafWaits}
 pub use Rattle.match_stack.specs.ListLaws.{IsLinkedStack, KeepsStack}
 pub use Rattle.match_stack.specs.PlainWalks.{state, decided_or, plain_unwind}
-pub use Rattle.match_stack.specs.Stack.{StackItem, Framed, Leaf, Searching, Unwinding, IsStack, after_frame, after_leaf, StackFrame, FrameIsAt, ItemIsAt, OwnedBy, context_after, LeafIsAt, Owned, caller_frame, caller_of_leaf, Agree}
+pub use Rattle.match_stack.specs.AllocatedFrames.{IsAllocated}
+pub use Rattle.match_stack.specs.Stack.{IsAsTold, StackItem, Framed, Leaf, Searching, Unwinding, IsStack, after_frame, after_leaf, StackFrame, FrameIsAt, ItemIsAt, OwnedBy, context_after, LeafIsAt, Owned, caller_frame, caller_of_leaf, Agree}
 pub use Rattle.match_stack.specs.StackRecords.{On, IsData}
 pub use Rattle.match_stack.specs.WalkLaws.{context_below}
 pub use Rattle.match_bodies.specs.Bodies.{slots_end, last_temporary, HasFrame, InBody, turns_left}
