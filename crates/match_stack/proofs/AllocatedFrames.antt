@@ -1,15 +1,11 @@
 -- Frames that save nothing.
 use Rattle.std.proofs.Common.{◌≡◌, ◌≢◌, ℕ, zero, suc, ◌+◌, ◌^◌, ◌<◌, ◌≤◌, true, false, not, eqb, Option, Some, None, Ok, List, [], ◌∷◌, length, drop, get_or, refl, sym, ap, subst, ◌∙◌, arith}
-use Rattle.flat_memory.specs.Memory.{Memory, first_refused, may_read, number_at, access}
-use Rattle.x64_machine.specs.declared.context.Context.{Context}
+use Rattle.match_stack.specs.Words.{Memory, first_refused, may_read, number_at, access, Context, rsp, readable, word, operations, base_if, IsWord, told, at_entry}
 use Rattle.eh_tables.specs.declared.code.UnwindOperation.TheVariants.{Allocate}
-use Rattle.virtual_unwind.specs.Contexts.{get, kept_at, kept_index, is_nonvolatile, rsp}
-use Rattle.virtual_unwind.specs.Undone.{readable, word, operations}
-use Rattle.virtual_unwind.specs.CallerOf.{base_if}
+use Rattle.virtual_unwind.specs.Contexts.{get, kept_at, kept_index, is_nonvolatile}
 use Rattle.frame_rules.specs.Codes.{are_allowed}
 use Rattle.frame_rules.specs.Frame as rules
-use Rattle.frame_rules.specs.Frame.{IsWord}
-use Rattle.match_stack.specs.Stack.{AreAbove, told, at_entry}
+use Rattle.match_stack.specs.Stack.{AreAbove}
 use Rattle.match_stack.specs.AllocatedFrames.{allocated_frame, AllocationsAreTold, ToldAllocations}
 use Rattle.match_stack.proofs.Lemmas.{word-is}
 use Rattle.match_stack.proofs.FrameWords.{eight_numbers}

@@ -2,16 +2,14 @@
 use Rattle.std.proofs.Common.{◌≡◌, inl, inr, ℕ, ◌+◌, ◌<◌, ◌≤◌, true, ◌&&◌, leb, List, [], ◌∷◌, length, refl, ap, ◌∙◌, arith}
 use Rattle.std.specs.Prelude.{slice_index}
 use Rattle.std.proofs.lemmas.Bool.{and_parts, false≢true, leb-true}
-use Rattle.flat_memory.specs.Memory.{Memory, with_bytes}
-use Rattle.x64_machine.specs.declared.context.Context.{Context}
+use Rattle.match_stack.specs.Words.{Memory, with_bytes, Context, rsp, IsWord, StackFrame, IsBetween, IsAsTold, told, at_entry, after_frame}
 use Rattle.eh_tables.specs.declared.code.UnwindOperation.{UnwindOperation}
 use Rattle.eh_tables.specs.declared.code.UnwindOperation.TheVariants.{Push, Allocate, SetFrame, Save, SaveVector, MachineFrame}
-use Rattle.virtual_unwind.specs.Contexts.{rsp}
 use Rattle.frame_rules.specs.Codes.{depth, allocation, are_apart, may_save, is_allowed, are_allowed}
 use Rattle.frame_rules.specs.Frame as rules
-use Rattle.frame_rules.specs.Frame.{IsWord, left_to}
+use Rattle.frame_rules.specs.Frame.{left_to}
 use Rattle.match_stack.proofs.Lemmas.{stack_depth, same_number}
-use Rattle.match_stack.specs.Stack.{StackFrame, IsBetween, IsAsTold, AreAbove, IsSavedAt, told, at_entry, after_frame}
+use Rattle.match_stack.specs.Stack.{AreAbove, IsSavedAt}
 
 -- ---- the caller's registers
 

@@ -1,23 +1,8 @@
 -- What the host leaves in the registers of a body that continues.
 use Rattle.std.proofs.Common.{◌≡◌, ℕ, List, [], ◌∷◌, length, refl, sym, ap, subst, arith}
 use Rattle.std.specs.Prelude.{slice_index}
-use Rattle.flat_memory.specs.Memory.{Memory}
-use Rattle.x64_machine.specs.declared.context.Context.{Context}
-use Rattle.x64_machine.specs.Contexts.{context_of}
-use Rattle.x64_machine.specs.Effect.{State}
-use Rattle.virtual_unwind.specs.Contexts.{get}
-use Rattle.virtual_unwind.specs.CallerOf.{Functions}
-use Rattle.seh_records.specs.declared.dispatch.DispatchRecord.{DispatchRecord}
-use Rattle.host_model.specs.declared.funclet.Funclet.{Funclet}
-use Rattle.host_model.specs.Dispatch.{at_landing}
-use Rattle.linear_code.specs.Program.{LinearProgram}
-use Rattle.linear_machine.specs.Frames.{Item, Waits, Searches, Unwinds}
-use Rattle.match_stack.specs.Stack.{StackItem, Searching, Unwinding}
-use Rattle.match_stack.specs.WalkLaws.{context_below}
-use Rattle.match_stack.specs.ImagePlan.{ImagePlan}
-use Rattle.match_stack.specs.ItemMatches.{Activation, HasActivation}
-use Rattle.match_stack.specs.StackRecords.{On}
-use Rattle.match_stack.specs.RegisterLaws.{going_to, LandingHasRegisters, LandedBodyHoldsLocals, RestoredHasRegisters, RecordsRestOnStack}
+use Rattle.match_stack.specs.Words.{Memory, Context, context_of, get, State, Functions, DispatchRecord, Funclet, at_landing, LinearProgram, Item, Waits, Searches, Unwinds, StackItem, Searching, Unwinding, context_below, ImagePlan, Activation, HasActivation, On}
+use Rattle.match_stack.specs.RegisterLaws.{going_to, LandingHasRegisters, RestoredHasRegisters, RecordsRestOnStack, LandedBodyHoldsLocals}
 
 -- nine numbers are what is at their places
 pub nine_numbers : (os : List ℕ) → length os ≡ 9

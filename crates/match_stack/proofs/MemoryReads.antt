@@ -1,8 +1,7 @@
 -- Code and words read the same in memories that agree on their bytes.
 use Rattle.std.proofs.Common.{◌≡◌, ℕ, zero, suc, ◌+◌, ◌*◌, ◌%◌, ◌^◌, ◌<◌, ◌≤◌, Bool, true, false, cond, Option, Some, List, [], ◌∷◌, refl, sym, ap, ◌∙◌, arith}
-use Rattle.match_stack.specs.Words.{Protection, is_readable, Memory, with_bytes, number_at, access, first_refused, may_read, Instr, word, readable, tail_at, next, executable, FetchedInstr, item_of, fetched_at, from_item, tail}
+use Rattle.match_stack.specs.Words.{Protection, is_readable, Memory, with_bytes, number_at, access, first_refused, may_read, Instr, word, readable, tail_at, next, executable, FetchedInstr, item_of, fetched_at, from_item, tail, IsWord}
 use Rattle.x64_instr.specs.Spelling.{leading}
-use Rattle.frame_rules.specs.Frame.{IsWord}
 use Rattle.match_stack.proofs.Lemmas.{same_number}
 
 -- ---- code

@@ -1,5 +1,4 @@
--- A frame that saves nothing and has no frame register, as all frames have been: it is as its one
--- code tells.
+-- A frame that saves nothing and has no frame register: it is as its one code tells.
 use Rattle.std.specs.Prelude.{◌≡◌, ℕ, ◌+◌, ◌^◌, ◌<◌, [], ◌∷◌, length, drop, Ok}
 use Rattle.flat_memory.specs.Memory.{Memory}
 use Rattle.x64_machine.specs.declared.context.Context.{Context}
@@ -28,7 +27,7 @@ AllocationsAreTold =
     → rsp c + size + 8 < 2 ^ 64 → word m (rsp c + size) ≡ Ok back
     → IsAsTold m c (allocated_frame entry size back c)
 
--- and nothing else is: the return address is there, and the registers are the caller's
+-- and it tells nothing else: the return address is there, and the registers are the caller's
 pub record IsAllocated (m : Memory) (c : Context) (f : StackFrame) : Type 0 where
   pub returns : word m (rsp c + f.size) ≡ Ok f.return_address
   pub others : drop 1 c.kept ≡ f.others

@@ -65,7 +65,8 @@ pub use Rattle.match_stack.specs.ItemMatches.{Activation, HasSpace, below_end, r
 pub use Rattle.match_stack.specs.ListLaws.{IsLinkedStack, KeepsAbove, left_from, SearchFindsTheHandlers, UnwindingRunsTheBlocks, UnwindingStopsAtTheTarget, KeptByStoresBelow, KeptByOtherMemories, IsInstruction}
 pub use Rattle.match_stack.specs.PlainWalks.{state, chosen_or, asked_row, plain_search, decided_or, plain_unwind}
 pub use Rattle.match_stack.specs.RecordLaws.{RecordLeavesTheList, SearchIsOneMore, UnwindingIsOneMore, PushedRecordLeavesOthers, ReturnAddressIsPushed}
-pub use Rattle.match_stack.specs.Stack.{StackFrame, FrameIsAt, LeafIsAt, after_frame, after_leaf, StackItem, Searching, Unwinding, Framed, Leaf, IsStack, caller_frame, caller_of_leaf, RecordIsAt, IsBetween, Owned, ItemIsAt, OwnedBy, context_after, context_at}
+pub use Rattle.frame_rules.specs.Frame.{IsWord}
+pub use Rattle.match_stack.specs.Stack.{told, at_entry, IsAsTold, StackFrame, FrameIsAt, LeafIsAt, after_frame, after_leaf, StackItem, Searching, Unwinding, Framed, Leaf, IsStack, caller_frame, caller_of_leaf, RecordIsAt, IsBetween, Owned, ItemIsAt, OwnedBy, context_after, context_at}
 pub use Rattle.match_stack.specs.StackRecords.{On, RecordHasRoom, IsData, pushed, IsUntouched}
 pub use Rattle.match_stack.specs.TurnLaws.{IsSearching, SearchTurns, IsUnwinding, UnwindTurns}
 pub use Rattle.match_stack.specs.WalkLaws.{context_below, FrameIsVisited, LeafIsVisited, SearchIsPassed, UnwindingIsPassed, StackIsOver, SearchIsOfTheList, UnwindingIsOfTheList, CanBePlaced, RecordIsOneMore, KeptByOtherStores, NothingBelowIsOwned, SlotsAreFree}

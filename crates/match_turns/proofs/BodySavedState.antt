@@ -2,8 +2,7 @@
 -- and RIP at the instruction or, where a call is the last of its code, at the next one.
 use Rattle.std.proofs.Common.{◌≡◌, ℕ, zero, suc, ◌+◌, ◌^◌, ◌<◌, ◌≤◌, List, [], ◌∷◌, length, Option, Some, sym, ap, subst, arith}
 use Rattle.std.specs.Prelude.{slice_get, slice_index, take}
-use Rattle.match_turns.specs.Words.{STACK_END, Memory, Rsp, Cpu, kept_of, context_of, State, register, Functions, Funclet, Layout, LinearProgram, LinearFunclet, BodyName, FunctionBody, FuncletBody, body_of, Frame, Item, Waits, Searches, Unwinds, Configuration, with_last, context_below, ImagePlan, InCode, activations_below, home_end, below_end, HoldsWords, HasSpace, SameRegions, HasPointers, FuncletIsAbove, IsAbove, On, Sites, slots_end, last_temporary}
-use Rattle.match_bodies.specs.ProgramImages.{frame_of}
+use Rattle.match_turns.specs.Words.{STACK_END, Memory, Rsp, Cpu, kept_of, State, register, Functions, Funclet, Layout, LinearProgram, LinearFunclet, BodyName, FunctionBody, FuncletBody, body_of, Frame, Item, Waits, Searches, Unwinds, Configuration, with_last, context_below, ImagePlan, InCode, activations_below, home_end, below_end, HoldsWords, HasSpace, SameRegions, HasPointers, FuncletIsAbove, IsAbove, On, Sites, slots_end, last_temporary, frame_of, context_of}
 use Rattle.match_bodies.specs.Bodies.{InBody, RepresentsAt}
 use Rattle.match_bodies.proofs.FramePlaces.{activation_with}
 use Rattle.match_turns.proofs.Lemmas.{IsFront, frame_with}

@@ -67,8 +67,7 @@ module _ (setting : Setting) (roomy : HaveRoom setting.program) where
           → kept.Resumes t fs program p q u (answered setting roomy w items source acts es
           (register u.cpu Rax))
       resumes counted surrounded =
-          kept.resumes setting roomy u w items acts source es above is on registers well_formed memory o
-          there (instructions.Call f first arguments) first (passing ++ beginning) calls (λ h. h)
-          (sym (append_assoc passing beginning (keep layout (Temporary first)))) fits within held
-          free
-          back_is counted surrounded
+          kept.resumes setting roomy u w items acts source es above is on registers well_formed
+          memory o there (instructions.Call f first arguments) first (passing ++ beginning) calls
+          (λ h. h) (sym (append_assoc passing beginning (keep layout (Temporary first)))) fits
+          within held free back_is counted surrounded

@@ -3,10 +3,9 @@
 use Rattle.std.proofs.Common.{◌≡◌, ℕ, zero, suc, ◌+◌, ◌-◌, ◌*◌, ◌^◌, ◌<◌, ◌≤◌, false, Option, Some, List, [], ◌∷◌, ◌++◌, refl, sym, subst, ◌∙◌, arith}
 use Rattle.std.specs.Prelude.{slice_get, take}
 use Rattle.std.proofs.lemmas.List.{append_assoc}
-use Rattle.match_turns.specs.Words.{IMAGE_BASE, IMAGE_RANGE_END, Memory, Rsp, Instr, context_of, State, register, Temporary, LinearBody, LinearFunclet, BodyName, FunctionBody, FuncletBody, body_of, Item, Waits, Searches, Unwinds, waiting, regions_of, Layout, sizes, put_back, keep, temporary_at, call, return_at, begin_call, passing_code, template_size, StackItem, context_below, HoldsWords, IsAbove, FuncletIsAbove, IsData, On, KeepsStackBut, Setting, InBody, IsResumed, IsLinkedStack, arguments_code}
+use Rattle.match_turns.specs.Words.{IMAGE_BASE, IMAGE_RANGE_END, Memory, Rsp, Instr, context_of, State, register, Temporary, LinearBody, LinearFunclet, BodyName, FunctionBody, FuncletBody, body_of, Item, Waits, Searches, Unwinds, waiting, regions_of, Layout, sizes, put_back, keep, temporary_at, call, return_at, begin_call, passing_code, template_size, StackItem, context_below, HoldsWords, IsAbove, FuncletIsAbove, IsData, On, KeepsStackBut, Setting, InBody, IsResumed, IsLinkedStack, arguments_code, frame_of}
 use Rattle.linear_code.specs.declared.instruction.Instruction.TheVariants as instructions
 use Rattle.match_turns.proofs.Lemmas.{sizes_append, call_size, template_some, others_of, frame_with, body_on_top, sp_low, next_address}
-use Rattle.match_bodies.specs.ProgramImages.{frame_of}
 use Rattle.match_turns.proofs.CallResult.{offset_most}
 use Rattle.match_turns.proofs.CallReturn.{returns_at, call_template}
 use Rattle.match_turns.proofs.FunctionFrame.{same_itself}

@@ -2,8 +2,7 @@
 -- RSP at the record.
 use Rattle.std.proofs.Common.{◌≡◌, ℕ, zero, ◌+◌, ◌<◌, ◌≤◌, Some, List, [], ◌∷◌, length, sym, ap, subst, ◌∙◌, arith}
 use Rattle.std.specs.Prelude.{slice_get}
-use Rattle.x64_machine.specs.declared.context.Context.{Context}
-use Rattle.match_turns.specs.Words.{W32, low, Rsp, context_of, State, register, Exception, Slot, Region, LinearFunclet, FuncletBody, Frame, Handler, Target, Resumption, Item, Waits, Searches, Unwinds, Configuration, Next, with_some, read, answer, end_funclet, end_body, act, exec, return_code, StackItem, Searching, Unwinding, context_below, activations_below, On, SearchIsAnswered, linear_answer, Comes, HasRule, IsMatched, HaveRoom, AreWaiting, turns_left, KnownNext, FlagsFit, waiting_below, Setting, IsMachineMemory, RepresentsAt, Continuations, Represents}
+use Rattle.match_turns.specs.Words.{W32, low, Rsp, context_of, State, register, Exception, Slot, Region, LinearFunclet, FuncletBody, Frame, Handler, Target, Resumption, Item, Waits, Searches, Unwinds, Configuration, Next, with_some, read, answer, end_funclet, end_body, act, exec, return_code, StackItem, Searching, Unwinding, context_below, activations_below, On, SearchIsAnswered, linear_answer, Comes, HasRule, IsMatched, HaveRoom, AreWaiting, turns_left, KnownNext, FlagsFit, waiting_below, Setting, IsMachineMemory, RepresentsAt, Continuations, Represents, Context}
 use Rattle.linear_code.specs.declared.instruction.Instruction.TheVariants as instructions
 use Rattle.linear_code.specs.declared.program.FuncletKind.TheVariants as funclets
 use Rattle.match_turns.proofs.Lemmas.{reaches_silently, IsCounted}

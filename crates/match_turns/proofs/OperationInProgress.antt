@@ -4,8 +4,7 @@ use Rattle.std.proofs.Common.{◌≡◌, ℕ, ◌+◌, ◌^◌, ◌<◌, ◌≤�
 use Rattle.std.specs.Prelude.{slice_get, slice_index}
 use Rattle.std.specs.List.{AllByRecursion}
 use Rattle.std.proofs.lemmas.Option.{slice_get_within}
-use Rattle.match_turns.specs.Words.{STACK_END, Rax, Rcx, Rsp, Cpu, kept_of, context_of, State, register, Functions, Funclet, Operation, OperationResult, performed, is_reserved, Slot, Temporary, Instruction, BodyState, Region, LinearProgram, LinearBody, body_of, Configuration, holds, regions_of, is_constant, operand, Layout, finish_code, MachineView, HasCode, FramePlace, context_below, ImagePlan, InCode, activations_below, home_end, below_end, HoldsWords, HasPointers, HasSpace, On, Sites, view_of, slots_end, last_temporary, IsWellMade, IsKnown, seen_by_templates, ComesTo, Setting, RepresentsAt, WorksOn}
-use Rattle.match_bodies.specs.ProgramImages.{frame_of}
+use Rattle.match_turns.specs.Words.{STACK_END, Rax, Rcx, Rsp, Cpu, kept_of, State, register, Functions, Funclet, Operation, OperationResult, performed, is_reserved, Slot, Temporary, Instruction, BodyState, Region, LinearProgram, LinearBody, body_of, Configuration, holds, regions_of, is_constant, operand, Layout, finish_code, MachineView, HasCode, FramePlace, context_below, ImagePlan, InCode, activations_below, home_end, below_end, HoldsWords, HasPointers, HasSpace, On, Sites, view_of, slots_end, last_temporary, IsWellMade, IsKnown, seen_by_templates, ComesTo, Setting, RepresentsAt, WorksOn, frame_of, context_of}
 use Rattle.c_operations.specs.declared.operation.Operation.TheVariants as operations
 use Rattle.linear_code.specs.declared.instruction.Instruction.TheVariants as instructions
 use Rattle.x64_templates.specs.Implements.{IsReady, HasOperands}
