@@ -166,7 +166,7 @@ module _ (p : LinearProgram) (fits : FitsProgram p) (m : Memory) (text : HasText
       let begin = image_base + text_begin p.globals in
       let is = front_code s.text s.rdata in
       let low = near.text in
-      let long : length (spelled is) ≡ 51 = sym (sizes_spelled is) ∙ front_size s.text s.rdata in
+      let long : length (spelled is) ≡ 51 = sizes_spelled is ∙ front_size s.text s.rdata in
       let own = executable_split m begin (spelled is)
       (routines_bytes s (first_routine_at s.text) (routines p)) text in
       let end : begin + length (spelled is) ≡ image_base + s.text + 51 = omega arith in
@@ -229,15 +229,28 @@ module _ (p : LinearProgram) (fits : FitsProgram p) (m : Memory) (text : HasText
       (subst (λ (k : ℕ). HasItems m (image_base + s.text + n) (thunk_of p v) k) end there))
       (thunk_ok p v)
 
+  -- what comes after each of the first four thunks
+  abbrev past_protect : List FetchedInstr
+  past_protect = spell (service_thunk s.text s.rdata Put) ∷ probe
+
+  abbrev past_unwind : List FetchedInstr
+  past_unwind = spell (service_thunk s.text s.rdata Protect) ∷ past_protect
+
+  abbrev past_handler : List FetchedInstr
+  past_handler = spell (service_thunk s.text s.rdata LocalUnwind) ∷ past_unwind
+
+  abbrev past_raise : List FetchedInstr
+  past_raise = spell (service_thunk s.text s.rdata CSpecificHandler) ∷ past_handler
+
   front_piece : (rva : ℕ) → s.text ≤ rva → rva < first p.globals → IsPiece rva
   front_piece rva low high =
       let begin = image_base + s.text in
-      let z : begin ≡ begin + 0 = omega arith in
-      let a = one begin RaiseException _ _ front_there in
-      let b = one (begin + 6) CSpecificHandler _ _ a.1 in
-      let c = one (begin + 6 + 6) LocalUnwind _ _ b.1 in
-      let d = one (begin + 6 + 6 + 6) Protect _ _ c.1 in
-      let e = one (begin + 6 + 6 + 6 + 6) Put _ _ d.1 in
+      let to = begin + 51 in
+      let a = one begin RaiseException past_raise to front_there in
+      let b = one (begin + 6) CSpecificHandler past_handler to a.1 in
+      let c = one (begin + 6 + 6) LocalUnwind past_unwind to b.1 in
+      let d = one (begin + 6 + 6 + 6) Protect past_protect to c.1 in
+      let e = one (begin + 6 + 6 + 6 + 6) Put probe to d.1 in
       elim (cases_lt rva (s.text + 6)) [
         | inl before ↦ thunk_piece rva 0 RaiseException (omega arith) (omega arith) (omega arith)
             (moved begin (begin + 0) (thunk_of p RaiseException) (omega arith) a.0)
@@ -257,10 +270,10 @@ module _ (p : LinearProgram) (fits : FitsProgram p) (m : Memory) (text : HasText
                 | inr past ↦
                     let at : begin + 6 + 6 + 6 + 6 + 6 ≡ image_base + (s.text + 30) =
                     omega arith in
-                    let to : begin + 51 ≡ image_base + (s.text + 51) = omega arith in
+                    let end : begin + 51 ≡ image_base + (s.text + 51) = omega arith in
                     in_front rva (s.text + 30) (s.text + 51) probe past high (omega arith)
                     (subst (λ (k : ℕ). HasItems m k probe (image_base + (s.text + 51))) at
-                    (subst (λ (k : ℕ). HasItems m (begin + 6 + 6 + 6 + 6 + 6) probe k) to e.1))
+                    (subst (λ (k : ℕ). HasItems m (begin + 6 + 6 + 6 + 6 + 6) probe k) end e.1))
                     probe_ok
               ]
             ]
