@@ -2,7 +2,7 @@
 
 use crate::calls::{Shown, answer, fits, words_of};
 use crate::inputs::{columns_of, input_of};
-use crate::plans::{Calls, told};
+use crate::plans::{Calls, call_with_failures};
 use std::alloc::Global;
 use std::process::Abort;
 
@@ -44,10 +44,10 @@ fn command_of(column: &str) -> Option<(&str, usize, usize)> {
 /// A source that fails at each of its calls in turn: nothing is written but the refusal.
 fn reads_fail(rt: &impl Abort, alloc: Global, command: &str, input: &[u8], most: usize) {
     let none = honest(most);
-    let reads = told(rt, alloc, command, input, none).reads;
+    let reads = call_with_failures(rt, alloc, command, input, none).reads;
     for call in 0..reads {
         let read = call.saturating_add(1);
-        let shown = told(rt, alloc, command, input, Calls { read, ..none }).shown;
+        let shown = call_with_failures(rt, alloc, command, input, Calls { read, ..none }).shown;
         assert!(rt; fits(&shown, "4 ! read fault", true), "{command} {read}");
     }
 }
@@ -56,10 +56,10 @@ fn reads_fail(rt: &impl Abort, alloc: Global, command: &str, input: &[u8], most:
 /// takes one byte, as many bytes as there were calls before.
 fn writes_fail(rt: &impl Abort, alloc: Global, command: &str, input: &[u8], most: usize) {
     let none = honest(most);
-    let whole = told(rt, alloc, command, input, none);
+    let whole = call_with_failures(rt, alloc, command, input, none);
     for call in 0..whole.writes {
         let write = call.saturating_add(1);
-        let shown = told(rt, alloc, command, input, Calls { write, ..none }).shown;
+        let shown = call_with_failures(rt, alloc, command, input, Calls { write, ..none }).shown;
         let front = whole.shown.out.starts_with(&shown.out);
         let each = most != 1 || shown.out.len() as u64 == call;
         let line = shown.err.as_slice() == b"write fault\n".as_slice();
@@ -73,11 +73,11 @@ fn writes_fail(rt: &impl Abort, alloc: Global, command: &str, input: &[u8], most
 /// The same of `err`, where the input is refused: nothing is written to `out`.
 fn lines_fail(rt: &impl Abort, alloc: Global, command: &str, input: &[u8], wanted: &str) {
     let none = honest(1);
-    let whole = told(rt, alloc, command, input, none);
+    let whole = call_with_failures(rt, alloc, command, input, none);
     assert!(rt; fits(&whole.shown, wanted, true), "{command}");
     for call in 0..whole.lines {
         let line = call.saturating_add(1);
-        let shown = told(rt, alloc, command, input, Calls { line, ..none }).shown;
+        let shown = call_with_failures(rt, alloc, command, input, Calls { line, ..none }).shown;
         let front = whole.shown.err.starts_with(&shown.err);
         let none_put = shown.out.is_empty();
         assert!(rt; front && none_put && shown.code == 5, "{command} {line}");
@@ -86,7 +86,7 @@ fn lines_fail(rt: &impl Abort, alloc: Global, command: &str, input: &[u8], wante
 
 /// Streams that move one byte a call change nothing of what is answered.
 fn is_same(rt: &impl Abort, alloc: Global, command: &str, input: &[u8], whole: &Shown) {
-    let shown = told(rt, alloc, command, input, honest(1)).shown;
+    let shown = call_with_failures(rt, alloc, command, input, honest(1)).shown;
     let same = shown.code == whole.code && shown.out == whole.out && shown.err == whole.err;
     assert!(rt; same, "{command}");
 }

@@ -5,7 +5,7 @@
 
 use crate::calls::fits;
 use crate::inputs::{columns_of, input_of};
-use crate::plans::{Calls, told};
+use crate::plans::{Calls, call_with_failures};
 use std::alloc::Global;
 use std::process::Abort;
 
@@ -34,7 +34,7 @@ fn all_answer(rt: &impl Abort, alloc: Global, table: &str) {
         let (words, input, wanted) = columns_of(row).expect(rt, row);
         let (command, calls) = calls_of(words).expect(rt, row);
         let bytes = input_of(rt, alloc, input);
-        let shown = told(rt, alloc, command, &bytes, calls).shown;
+        let shown = call_with_failures(rt, alloc, command, &bytes, calls).shown;
         assert!(rt; fits(&shown, wanted, true), "{row}");
     }
 }
@@ -97,7 +97,7 @@ fn fails_at_each(rt: &impl Abort, alloc: Global, command: &str, text: &[u8], who
             line: 0,
             most: 1,
         };
-        let shown = told(rt, alloc, command, text, calls).shown;
+        let shown = call_with_failures(rt, alloc, command, text, calls).shown;
         let front = shown.out.len() == taken && whole.starts_with(&shown.out);
         assert!(rt; front && shown.code == 5, "{command} {taken}");
         assert!(rt;

@@ -18,7 +18,7 @@ pub struct Calls {
 
 /// What was answered, and how many calls of the source, of `out` and of `err` there were.
 #[derive(Drop)]
-pub struct Told {
+pub struct CallOutcome {
     pub shown: Shown,
     pub reads: u64,
     pub writes: u64,
@@ -32,14 +32,20 @@ fn plan(rt: &impl Abort, alloc: Global, failing: u64, most: usize) -> Plan {
 }
 
 /// What a command answers for an input where calls fail.
-pub fn told(rt: &impl Abort, alloc: Global, command: &str, input: &[u8], calls: Calls) -> Told {
+pub fn call_with_failures(
+    rt: &impl Abort,
+    alloc: Global,
+    command: &str,
+    input: &[u8],
+    calls: Calls,
+) -> CallOutcome {
     let words = words_of(rt, alloc, &[command]);
     let bytes = input.to_vec(alloc).expect(rt, "memory");
     let mut source = MemSource::new(bytes, plan(rt, alloc, calls.read, calls.most));
     let mut out = MemSink::new(Vec::new(alloc), plan(rt, alloc, calls.write, calls.most));
     let mut err = MemSink::new(Vec::new(alloc), plan(rt, alloc, calls.line, calls.most));
     let status = top(alloc, &words, &mut source, &mut out, &mut err);
-    Told {
+    CallOutcome {
         reads: source.plan.calls,
         writes: out.plan.calls,
         lines: err.plan.calls,
