@@ -11,19 +11,13 @@ mod checks;
 #[cfg(test)]
 mod commands;
 #[cfg(test)]
-mod damaged;
-#[cfg(test)]
 mod dispatches;
-#[cfg(test)]
-mod each_call;
 #[cfg(test)]
 mod failing;
 #[cfg(test)]
 mod images;
 #[cfg(test)]
 mod inputs;
-#[cfg(test)]
-mod plans;
 #[cfg(test)]
 mod runs;
 #[cfg(test)]
