@@ -60,11 +60,11 @@ fn declare<'a>(
 }
 
 /// The file before its first declaration.
-fn empty<'a>(alloc: Global) -> File<'a>
+fn empty<'a>(alloc: Global, text: &[u8]) -> File<'a>
     ensures { IsFile result definitions.empty_file }
 {
     File {
-        names: NameTable::new(alloc),
+        names: NameTable::of_file(alloc, text),
         bytes: Vec::new(alloc),
         functions: 0,
         worst: Least { found: None },
@@ -80,7 +80,7 @@ pub fn file<'a>(
     ensures { let program = map syntax.external_declaration xs.now in
         IfOk result (λ f. IsFile f (definitions.file_of text.now program definitions.empty_file)) }
 {
-    let mut file = empty(alloc);
+    let mut file = empty(alloc, text);
     for x in xs {
         declare(alloc, text, &mut file, x)?;
     }

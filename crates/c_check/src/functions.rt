@@ -69,7 +69,7 @@ fn function<'t>(
         let f = definitions.function_of text.now names returns name list.now made number in
         OnOk result (AddsFunctions progress.old progress.new f) }
 {
-    let mut block = parameters::block_of(alloc, text, &mut progress.worst, list)?;
+    let mut block = parameters::block_of(alloc, text, file, &mut progress.worst, list)?;
     let mut walk = Walk {
         sizes: parameters::sizes_of(alloc, list)?,
         number: progress.number,

@@ -12,7 +12,7 @@ ghost use Rattle.c_resolved.specs.Statements.{with_name};
 
 use c_expressions::least::Least;
 use c_expressions::name_table::NameTable;
-use c_expressions::scopes::{Entity, declare, is_taken, spelled};
+use c_expressions::scopes::{Entity, Scopes, declare, is_taken, spelled};
 use c_expressions::values::unless_holds;
 use c_operations::operation::Size;
 use c_resolved::fault::Fault;
@@ -56,10 +56,11 @@ fn parameter<'t>(
     declare(name, Entity::LocalVariable { number, of: p.of }, block)
 }
 
-/// The block of a function's parameters, which are numbered from 0 on.
+/// The block of a function's parameters, which are numbered from 0 on, in the file of these names.
 pub fn block_of<'t>(
     alloc: Global,
     text: &'t [u8],
+    file: &NameTable<'t>,
     worst: &mut Least,
     list: &[Parameter],
 ) -> Result<NameTable<'t>, AllocError>
@@ -68,7 +69,7 @@ pub fn block_of<'t>(
     ensures faults { let faults = definitions.parameter_faults text.now list.now [] in
         OnOk result (AddsFaults worst.old worst.new faults) }
 {
-    let mut block = NameTable::new(alloc);
+    let mut block = NameTable::of_block(alloc, &Scopes::File(file));
     for (i, p) in list.iter().enumerate() {
         parameter(text, i as u64, *p, &mut block, worst)?;
     }

@@ -139,11 +139,6 @@ no_entry es n free =
     (sym (meaning_append built_ins (block_of es) n) ∙ none) in
     nothing_mapped (meaning_of es n) (sym (block_is es n both.0) ∙ both.1)
 
--- a name that isn't the first of a scope means what the others say
-pub absent : (k : List ℕ) (e : Entity) (rest : Scope) (n : List ℕ) → same_bytes k n ≡ false
-    → meaning_in ((k, e) ∷ rest) n ≡ meaning_in rest n
-absent k e rest n p = ap (λ b. cond b (Some e) (meaning_in rest n)) p
-
 -- ---- built-in names before others
 
 pub known_first : (n : List ℕ) (e : Entity) (ys : Scope) → Some e ≡ meaning_in built_ins n

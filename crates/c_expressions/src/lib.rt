@@ -20,5 +20,6 @@ pub mod places;
 pub mod primary;
 pub mod rules;
 pub mod scopes;
+pub mod text_hasher;
 pub mod values;
 pub mod wanted;

@@ -3,39 +3,43 @@
 ghost use Rattle.std.specs.Prelude.{◌≡◌, [], ◌∷◌, ◌++◌, None, OnErr, OnOk};
 ghost use Rattle.c_expressions.specs.NameTables.{meaning_of};
 
-use crate::scopes::Entity;
+use crate::scopes::{Entity, Scopes};
+use crate::text_hasher::TextHasher;
+use indexmap::IndexMap;
 use std::alloc::{AllocError, Global};
-use std::collections::BTreeMap;
 use std::marker::Model;
 
 /// The names of a block, or of the file, in the order of their declarations, with what each means.
-/// A name is found among n others in steps that grow as the logarithm of n, whatever the names are:
-/// no text is slow to check by the choice of its names.
 #[derive(Drop)]
 pub struct NameTable<'t> {
-    entries: Vec<(&'t [u8], Entity<'t>)>,
-    /// Where each name is among the entries.
-    places: BTreeMap<&'t [u8], usize>,
+    meanings: IndexMap<&'t [u8], Entity<'t>, TextHasher>,
 }
 
 impl<'t> Model for NameTable<'t> {
-    ghost use Rattle.c_expressions.specs.NameTables.{NameTable, ArePlaces};
+    ghost use Rattle.c_expressions.specs.NameTables.{NameTable};
 
     ghost Value = { NameTable };
 
-    ghost view = { λ t. record { entries = t.entries.items } };
-
-    ghost invariant = { λ t. ArePlaces t.entries.items t.places };
+    ghost view = { λ t. record { entries = t.meanings.entries } };
 }
 
 impl<'t> NameTable<'t> {
-    /// No names.
-    pub fn new(alloc: Global) -> NameTable<'t>
+    /// No names of the file yet, whose text this is.
+    pub fn of_file(alloc: Global, text: &[u8]) -> NameTable<'t>
         ensures { result.entries ≡ [] }
     {
         NameTable {
-            entries: Vec::new(alloc),
-            places: BTreeMap::new(alloc),
+            meanings: IndexMap::with_hasher(alloc, TextHasher::new(text)),
+        }
+    }
+
+    /// No names of a block yet, inside these.
+    pub fn of_block(alloc: Global, outer: &Scopes<'_, '_>) -> NameTable<'t>
+        ensures { result.entries ≡ [] }
+    {
+        let (Scopes::File(around) | Scopes::Inside(around, _)) = outer;
+        NameTable {
+            meanings: IndexMap::with_hasher(alloc, *around.meanings.hasher()),
         }
     }
 
@@ -43,9 +47,7 @@ impl<'t> NameTable<'t> {
     pub fn get(&self, name: &[u8]) -> Option<Entity<'t>>
         ensures { result ≡ meaning_of self.now.entries name.now }
     {
-        let place = self.places.get(name)?;
-        let (_, meaning) = self.entries.get(*place)?;
-        Some(*meaning)
+        self.meanings.get(name).copied()
     }
 
     /// A new name, after the others. Where memory runs out it isn't there.
@@ -55,10 +57,7 @@ impl<'t> NameTable<'t> {
             (self.new.entries ≡ self.old.entries ++ (name.entry, meaning.entry) ∷ []) }
         ensures unchanged { OnErr result (self.new.entries ≡ self.old.entries) }
     {
-        let place = self.entries.len();
-        self.entries.reserve(1)?;
-        self.places.insert(name, place)?;
-        self.entries.push((name, meaning))?;
+        self.meanings.insert(name, meaning)?;
         Ok(())
     }
 }

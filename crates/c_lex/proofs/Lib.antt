@@ -10,3 +10,4 @@ pub mod Covering
 pub mod OnlySpelled
 pub mod Total
 pub mod Spelled
+pub mod KeywordLengths

@@ -1,6 +1,7 @@
 //! Keywords.
 
 ghost use Rattle.std.specs.Prelude.{◌≡◌};
+ghost use Rattle.std.specs.Str.{bytes_eq};
 ghost use Rattle.c_lex.specs.Keywords.{spelling, keyword_of};
 
 /// Keywords: those of C that the language has (C11, 6.4.1), those of structured exception handling,
@@ -83,6 +84,17 @@ impl Keyword {
         }
     }
 
+    /// Whether a word is spelled so. Most words have another length, which is looked at first.
+    fn is_spelled(self, word: &[u8]) -> bool
+        ensures { result ≡ bytes_eq (spelling self) word.now }
+    {
+        let spelling = self.spelling();
+        if spelling.len() != word.len() {
+            return false;
+        }
+        spelling == word
+    }
+
     /// The keyword that a word is.
     #[tactic(auto, unfolding(crate::specs::Keywords::keyword_of))]
     pub(crate) fn of(word: &[u8]) -> Option<Keyword>
@@ -91,6 +103,6 @@ impl Keyword {
         KEYWORDS
             .iter()
             .copied()
-            .find(|keyword| keyword.spelling() == word)
+            .find(|keyword| keyword.is_spelled(word))
     }
 }

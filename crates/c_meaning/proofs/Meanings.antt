@@ -12,8 +12,10 @@ use Rattle.source_machine.specs.Frames as frames
 use Rattle.source_machine.specs.Machine.{Machine}
 use Rattle.source_machine.specs.FrameMeanings.{comes_to}
 use Rattle.source_machine.specs.Runs.{beginning}
+use Rattle.seh_io.specs.Names.{none_named}
 use Rattle.seh_io.specs.Writer.{TookEvents}
 use Rattle.seh_io.specs.Successive.{took_none}
+use Rattle.seh_io.specs.declared.names.NoNames.{NoNames}
 use Rattle.seh_io.specs.declared.receiver.Lines.{Lines}
 use Rattle.seh_num.specs.Shown.{Shown}
 use Rattle.c_meaning.specs.Runs.{Ran, ShownPart, Means, MeansPart, end_of}
@@ -29,7 +31,7 @@ begins : (p : Program) (arg : ℤ) (n : ℕ) (vs : List ℕ)
     → vs ≡ main_arguments (slice_get p.functions p.main) arg
     → comes_to p (does p) (beginning p n (first_call p vs)) ≡ ran p arg n
 begins p arg n vs e =
-    ap (λ vs. enter (does p) (slice_get p.functions p.main) vs outside (start p n)) e
+    ap (λ vs. enter (does p) p.main (slice_get p.functions p.main) vs outside (start p n)) e
 
 -- and so does one that was made as it, with the arguments of `main` from a number that is the run's
 pub started : (p : Program) (arg again : ℤ) (n : ℕ) (vs : List ℕ) (made : frames.Next → Machine)
@@ -51,10 +53,14 @@ shows_end (Gives (End e) st) = refl
 shows_end (Gives how st) = refl
 
 -- nothing is the front of what a program shows
-pub nothing_shown : {X : Type 0} (taken : X → Option (List ℕ)) (faults : X → ℕ) (x : Lines X)
-    (meant : Shown Ended) → MeansPart (TookEvents taken faults) meant x x
+pub nothing_shown : {X : Type 0} (taken : X → Option (List ℕ)) (faults : X → ℕ)
+    (x : Lines X NoNames) (meant : Shown Ended) → MeansPart (TookEvents taken faults none_named) meant x x
 nothing_shown taken faults x meant =
-    record { shown = []; took_shown = took_none taken faults x; front = (meant.events, refl) }
+    record {
+      shown = [];
+      took_shown = took_none taken faults none_named x;
+      front = (meant.events, refl);
+    }
 
 module _ {X : Type 0} (took : X → List Event → X → Type 0) (p : Program) (arg : ℤ) (n : ℕ)
     (m : Machine) (is : comes_to p (does p) m ≡ ran p arg n) (x y : X) where

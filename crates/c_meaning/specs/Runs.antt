@@ -4,7 +4,9 @@ use Rattle.seh_num.specs.declared.width.Width.TheVariants.{W32}
 use Rattle.seh_num.specs.declared.event.Event.{Event}
 use Rattle.seh_num.specs.Widths.{signed}
 use Rattle.seh_num.specs.Shown.{Shown}
+use Rattle.seh_io.specs.Names.{none_named}
 use Rattle.seh_io.specs.Writer.{TookEvents}
+use Rattle.seh_io.specs.declared.names.NoNames.{NoNames}
 use Rattle.seh_io.specs.declared.receiver.Lines.{Lines}
 use Rattle.c_checked.specs.Program.{Program}
 use Rattle.source_meaning.specs.declared.ended.Ended.{Ended}
@@ -48,20 +50,20 @@ pub record ShownPart {X : Type 0} (took : X → List Event → X → Type 0) (pr
 -- a line couldn't be written: the lines of all that so many steps show were, and no step was made
 -- after the next one, which shows it
 pub record Stopped {X : Type 0} (taken : X → Option (List ℕ)) (faults : X → ℕ) (program : Program)
-    (m : Machine) (x : Lines X) (m' : Machine') (x' : Lines X) : Type 0 where
+    (m : Machine) (x : Lines X NoNames) (m' : Machine') (x' : Lines X NoNames) : Type 0 where
   pub steps : ℕ
-  pub before : Lines X
-  pub took_before : TookEvents taken faults x (after program steps m).state.events before
+  pub before : Lines X NoNames
+  pub took_before : TookEvents taken faults none_named x (after program steps m).state.events before
   pub written : before.failed ≡ false
   pub next : Next
   pub shown : List Event
-  pub took_last : TookEvents taken faults before shown x'
+  pub took_last : TookEvents taken faults none_named before shown x'
   pub failed : x'.failed ≡ true
   pub last : after program (suc steps) m
       ≡ machine_of m' next ((after program steps m).state.events ++ shown)
 
 abbrev pub HasStopped : {X : Type 0} → RunErr → (X → Option (List ℕ)) → (X → ℕ) → Program
-    → Machine → Lines X → Machine' → Lines X → Type 0
+    → Machine → Lines X NoNames → Machine' → Lines X NoNames → Type 0
 HasStopped Write taken faults program m x m' x' = Stopped taken faults program m x m' x'
 HasStopped Memory taken faults program m x m' x' = Unit {0}
 

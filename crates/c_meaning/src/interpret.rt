@@ -9,6 +9,7 @@ ghost use Rattle.c_meaning.specs.Texts as texts;
 use crate::run::{RunErr, run_program};
 use c_checked::checked::Checked;
 use seh_io::line::{ADDRESS_DIGITS, CODE_DIGITS, Line};
+use seh_io::names::NoNames;
 use seh_io::receiver::Lines;
 use seh_io::sink::Sink;
 use source_meaning::ended::Ended;
@@ -79,7 +80,7 @@ pub fn interpret<O: Sink>(
         texts.MeaningHasCause e (O.faults sink.old) (O.faults sink.new)) }
     ensures faults { O.faults sink.old ≤ O.faults sink.new }
 {
-    let mut lines = Lines::new(sink, trace);
+    let mut lines = Lines::new(sink, trace, &NoNames);
     let end = match run_program(alloc, program, arg, budget, &mut lines) {
         Ok(end) => end,
         Err(RunErr::Write) => {

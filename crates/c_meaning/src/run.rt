@@ -2,6 +2,7 @@
 
 ghost use Rattle.std.specs.Prelude.{◌≡◌, ◌≤◌, ◌++◌, [], List, false, IfOk, IfErr, OnOk, OnErr, MatchOption, length, Some, option_map, slice_get};
 ghost use Rattle.seh_num.specs.declared.event.Event.{Event as Event'};
+ghost use Rattle.seh_io.specs.Names.{none_named};
 ghost use Rattle.seh_io.specs.Writer.{TookEvents};
 ghost use Rattle.c_checked.specs.Whole as whole;
 ghost use Rattle.source_meaning.specs.Source.{data_end as model_data_end};
@@ -85,11 +86,11 @@ fn run<'p, O: Sink>(
     requires data { data_end ≡ model_data_end program.now.globals.items }
     requires fresh { lines.old.failed ≡ false }
     ensures same_reference { lines.new.sink.ghost_name ≡ lines.old.sink.ghost_name }
-    ensures ran { IfOk result (λ how. Ran (TookEvents O.taken O.faults)
+    ensures ran { IfOk result (λ how. Ran (TookEvents O.taken O.faults none_named)
         (whole.program program.now) (machine_of machine.old (views.next_of first.entry) [])
         (views.finish_of how) lines.old lines.new) }
     ensures written { OnOk result (lines.new.failed ≡ false) }
-    ensures part { OnErr result (ShownPart (TookEvents O.taken O.faults)
+    ensures part { OnErr result (ShownPart (TookEvents O.taken O.faults none_named)
         (whole.program program.now) (machine_of machine.old (views.next_of first.entry) [])
         lines.old lines.new) }
     ensures stopped { IfErr result (λ e. HasStopped e O.taken O.faults
@@ -124,6 +125,7 @@ fn first_machine<'p>(
         steps_left: budget,
         memory: first_memory(alloc, &program.globals)?,
         activations: Activations::new(alloc),
+        functions: Vec::new(alloc),
         held: 0,
         handlers: Vec::new(alloc),
         stack: Vec::new(alloc),
@@ -169,10 +171,10 @@ pub fn run_program<O: Sink>(
 ) -> Result<Option<Ended>, RunErr>
     requires { lines.old.failed ≡ false }
     ensures same_reference { lines.new.sink.ghost_name ≡ lines.old.sink.ghost_name }
-    ensures means { IfOk result (λ end. Means (TookEvents O.taken O.faults) (meaning.meaning
-        (whole.program program.now) arg budget) end lines.old lines.new) }
+    ensures means { IfOk result (λ end. Means (TookEvents O.taken O.faults none_named)
+        (meaning.meaning (whole.program program.now) arg budget) end lines.old lines.new) }
     ensures written { OnOk result (lines.new.failed ≡ false) }
-    ensures part { OnErr result (MeansPart (TookEvents O.taken O.faults) (meaning.meaning
+    ensures part { OnErr result (MeansPart (TookEvents O.taken O.faults none_named) (meaning.meaning
         (whole.program program.now) arg budget) lines.old lines.new) }
     ensures failed { IfErr result (λ e. HasFailed e lines.new.failed) }
 {

@@ -43,7 +43,7 @@ fn part(
     ensures { IfOk result (λ m. MakesPart walk.old walk.new m.value
         (resolve_statement (statement s.now) (environment env.now) [] (numbering walk.old))) }
 {
-    let mut block = NameTable::new(alloc);
+    let mut block = NameTable::of_block(alloc, env.outer);
     let made = statement(alloc, env, &mut block, walk, s)?;
     Ok(Box::new(alloc, only(made))?)
 }
@@ -60,7 +60,7 @@ fn items(
         (resolve_statements (statements (map statement list.now)) (environment env.now) []
         (numbering walk.old))) }
 {
-    let mut block = NameTable::new(alloc);
+    let mut block = NameTable::of_block(alloc, env.outer);
     statements(alloc, env, &mut block, walk, list)
 }
 
@@ -111,7 +111,7 @@ fn for_loop<'t>(
 {
     let scopes = Scopes::Inside(block, env.outer);
     let here = within(env, &scopes);
-    let mut names = NameTable::new(alloc);
+    let mut names = NameTable::of_block(alloc, env.outer);
     let beginning = for_initialiser(alloc, &here, first, &mut names, walk)?;
     match condition_or_none(alloc, &here, &names, &mut walk.worst, at, condition) {
         Err(failed) => {

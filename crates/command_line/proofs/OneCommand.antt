@@ -1,12 +1,13 @@
 -- A line of words means one command.
 use Rattle.std.proofs.Common.{◌≡◌, ℕ, ◌+◌, ◌*◌, true, false, List, ◌∷◌, pos, Option, Some, None, refl, sym, ap, subst, ◌∙◌, arith}
+use Rattle.std.specs.Fmt.{decimal}
 use Rattle.clap.specs.Words.{Row, Text}
 use Rattle.command_line.specs.declared.command.Command.{Command}
-use Rattle.command_line.specs.declared.command.Command.TheVariants.{Compile, Exec, Run, Meaning, Show, Check}
+use Rattle.command_line.specs.declared.command.Command.TheVariants.{Compile, Exec, Run, Meaning, Show, Check, Selftest}
 use Rattle.command_line.specs.declared.command.CheckReport.{CheckReport}
 use Rattle.command_line.specs.declared.command.CheckReport.TheVariants.{Whole, Each}
 use Rattle.command_line.specs.declared.command.RunOptions.{RunOptions}
-use Rattle.command_line.specs.Lines.{IsNumber, is_set, HasOptions, HasReport, IsNamedBy, IsLine}
+use Rattle.command_line.specs.Lines.{IsNumber, is_set, HasNumber, HasOptions, HasReport, IsNamedBy, IsLine}
 use Rattle.command_line.proofs.Numbers.{is_read}
 
 -- a text is one number in decimal
@@ -31,6 +32,13 @@ report_once Whole Each rows h g = let q : false ≡ true = sym h ∙ g in cc
 report_once Each Whole rows h g = let q : true ≡ false = sym h ∙ g in cc
 report_once Each Each rows h g = refl
 
+-- one number is given
+one_given : (n m : ℕ) (rows : List Row) → HasNumber n rows → HasNumber m rows → n ≡ m
+one_given n m rows x y =
+    let same : Some (decimal n) ≡ Some (decimal m) = sym x.0 ∙ y.0 in
+    let text : decimal n ≡ decimal m = cc in
+    sym (is_read (decimal m) n x.1 (sym text)).1 ∙ (is_read (decimal m) m y.1 refl).1
+
 -- a name by its first two letters
 abbrev letters : List ℕ → ℕ
 letters (x ∷ y ∷ xs) = 256 * x + y
@@ -54,6 +62,9 @@ named_once Compile (Run o') x h g =
 named_once Compile (Meaning o') x h g =
     let q : 25455 ≡ 28005 = ap letters (sym h ∙ g.0) in
     absurd (omega (arith, q))
+named_once Compile (Selftest n') x h g =
+    let q : 25455 ≡ 29541 = ap letters (sym h ∙ g.0) in
+    absurd (omega (arith, q))
 named_once Show Compile x h g =
     let q : 29544 ≡ 25455 = ap letters (sym h ∙ g) in
     absurd (omega (arith, q))
@@ -69,6 +80,9 @@ named_once Show (Run o') x h g =
     absurd (omega (arith, q))
 named_once Show (Meaning o') x h g =
     let q : 29544 ≡ 28005 = ap letters (sym h ∙ g.0) in
+    absurd (omega (arith, q))
+named_once Show (Selftest n') x h g =
+    let q : 29544 ≡ 29541 = ap letters (sym h ∙ g.0) in
     absurd (omega (arith, q))
 named_once (Check r) Compile x h g =
     let q : 25448 ≡ 25455 = ap letters (sym h.0 ∙ g) in
@@ -86,6 +100,9 @@ named_once (Check r) (Run o') x h g =
 named_once (Check r) (Meaning o') x h g =
     let q : 25448 ≡ 28005 = ap letters (sym h.0 ∙ g.0) in
     absurd (omega (arith, q))
+named_once (Check r) (Selftest n') x h g =
+    let q : 25448 ≡ 29541 = ap letters (sym h.0 ∙ g.0) in
+    absurd (omega (arith, q))
 named_once (Exec o) Compile x h g =
     let q : 25976 ≡ 25455 = ap letters (sym h.0 ∙ g) in
     absurd (omega (arith, q))
@@ -101,6 +118,9 @@ named_once (Exec o) (Run o') x h g =
     absurd (omega (arith, q))
 named_once (Exec o) (Meaning o') x h g =
     let q : 25976 ≡ 28005 = ap letters (sym h.0 ∙ g.0) in
+    absurd (omega (arith, q))
+named_once (Exec o) (Selftest n') x h g =
+    let q : 25976 ≡ 29541 = ap letters (sym h.0 ∙ g.0) in
     absurd (omega (arith, q))
 named_once (Run o) Compile x h g =
     let q : 29301 ≡ 25455 = ap letters (sym h.0 ∙ g) in
@@ -118,6 +138,9 @@ named_once (Run o) (Run o') x h g = ap Run (options_once o o' x.1 h.1 g.1)
 named_once (Run o) (Meaning o') x h g =
     let q : 29301 ≡ 28005 = ap letters (sym h.0 ∙ g.0) in
     absurd (omega (arith, q))
+named_once (Run o) (Selftest n') x h g =
+    let q : 29301 ≡ 29541 = ap letters (sym h.0 ∙ g.0) in
+    absurd (omega (arith, q))
 named_once (Meaning o) Compile x h g =
     let q : 28005 ≡ 25455 = ap letters (sym h.0 ∙ g) in
     absurd (omega (arith, q))
@@ -134,6 +157,28 @@ named_once (Meaning o) (Run o') x h g =
     let q : 28005 ≡ 29301 = ap letters (sym h.0 ∙ g.0) in
     absurd (omega (arith, q))
 named_once (Meaning o) (Meaning o') x h g = ap Meaning (options_once o o' x.1 h.1 g.1)
+named_once (Meaning o) (Selftest n') x h g =
+    let q : 28005 ≡ 29541 = ap letters (sym h.0 ∙ g.0) in
+    absurd (omega (arith, q))
+named_once (Selftest n) Compile x h g =
+    let q : 29541 ≡ 25455 = ap letters (sym h.0 ∙ g) in
+    absurd (omega (arith, q))
+named_once (Selftest n) Show x h g =
+    let q : 29541 ≡ 29544 = ap letters (sym h.0 ∙ g) in
+    absurd (omega (arith, q))
+named_once (Selftest n) (Check r') x h g =
+    let q : 29541 ≡ 25448 = ap letters (sym h.0 ∙ g.0) in
+    absurd (omega (arith, q))
+named_once (Selftest n) (Exec o') x h g =
+    let q : 29541 ≡ 25976 = ap letters (sym h.0 ∙ g.0) in
+    absurd (omega (arith, q))
+named_once (Selftest n) (Run o') x h g =
+    let q : 29541 ≡ 29301 = ap letters (sym h.0 ∙ g.0) in
+    absurd (omega (arith, q))
+named_once (Selftest n) (Meaning o') x h g =
+    let q : 29541 ≡ 28005 = ap letters (sym h.0 ∙ g.0) in
+    absurd (omega (arith, q))
+named_once (Selftest n) (Selftest n') x h g = ap Selftest (one_given n n' x.1 h.1 g.1)
 
 the_same : (x y : Text × List Row) → Some x ≡ Some y → x ≡ y
 the_same x y e = cc

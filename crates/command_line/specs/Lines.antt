@@ -7,7 +7,7 @@ use Rattle.clap.specs.Words.{App, Row, Rule, Text, fault_of, first_of, new_app, 
 use Rattle.clap.specs.Simple.{on_top}
 use Rattle.clap.specs.declared.builder.action.ArgAction.TheVariants.{Set, SetTrue}
 use Rattle.command_line.specs.declared.command.Command.{Command}
-use Rattle.command_line.specs.declared.command.Command.TheVariants.{Compile, Exec, Run, Meaning, Show, Check}
+use Rattle.command_line.specs.declared.command.Command.TheVariants.{Compile, Exec, Run, Meaning, Show, Check, Selftest}
 use Rattle.command_line.specs.declared.command.CheckReport.{CheckReport}
 use Rattle.command_line.specs.declared.command.CheckReport.TheVariants.{Whole, Each}
 use Rattle.command_line.specs.declared.command.RunOptions.{RunOptions}
@@ -15,14 +15,18 @@ use Rattle.command_line.specs.declared.reading.TheConstants.{DEFAULT_TURNS}
 
 -- ---- the commands as `clap` reads them
 
--- `compile` and `show`; `check` with `--each`; and `exec`, `run` and `meaning` with `--turns N`,
--- `--arg N` and `--trace`; each option at most once and in any order
+-- `compile` and `show`; `check` with `--each`; `exec`, `run` and `meaning` with `--turns N`,
+-- `--arg N` and `--trace`; each option at most once and in any order; and `selftest N`
 
 abbrev pub number_option : Text → Rule
 number_option name = record (new_rule name) { long = Some name; action = Some Set }
 
 abbrev pub flag : Text → Rule
 flag name = record (new_rule name) { long = Some name; action = Some SetTrue }
+
+-- a word that has to be there, and has no name
+abbrev pub required_word : Text → Rule
+required_word name = record (new_rule name) { required = true; action = Some Set }
 
 abbrev pub compile_app : App
 compile_app = new_app (codes "compile")
@@ -48,6 +52,9 @@ run_app = run_app_named (codes "run")
 abbrev pub meaning_app : App
 meaning_app = run_app_named (codes "meaning")
 
+abbrev pub selftest_app : App
+selftest_app = with_rule (new_app (codes "selftest")) (required_word (codes "number"))
+
 -- the words after the program's name are a command, and none of them asks for help or a version
 abbrev pub bare_app : App
 bare_app =
@@ -62,9 +69,9 @@ bare_app =
 
 abbrev pub seh_app : App
 seh_app =
-    with_subcommand (with_subcommand (with_subcommand (with_subcommand
+    with_subcommand (with_subcommand (with_subcommand (with_subcommand (with_subcommand
     (with_subcommand (with_subcommand bare_app compile_app.top) show_app.top) check_app.top)
-    exec_app.top) run_app.top) meaning_app.top
+    exec_app.top) run_app.top) meaning_app.top) selftest_app.top
 
 -- ---- what a line means
 
@@ -88,6 +95,10 @@ abbrev pub HasReport : CheckReport → List Row → Type 0
 HasReport Whole rows = is_set (codes "each") rows ≡ false
 HasReport Each rows = is_set (codes "each") rows ≡ true
 
+-- the number of a generated program is the word after the command, written in the same way
+abbrev pub HasNumber : ℕ → List Row → Type 0
+HasNumber n rows = (first_of (codes "number") rows ≡ Some (decimal n)) × (n < 2 ^ 63)
+
 abbrev pub IsNamedBy : Command → Text × List Row → Type 0
 IsNamedBy Compile x = x.0 ≡ codes "compile"
 IsNamedBy Show x = x.0 ≡ codes "show"
@@ -95,6 +106,7 @@ IsNamedBy (Check report) x = (x.0 ≡ codes "check") × HasReport report x.1
 IsNamedBy (Exec options) x = (x.0 ≡ codes "exec") × HasOptions options x.1
 IsNamedBy (Run options) x = (x.0 ≡ codes "run") × HasOptions options x.1
 IsNamedBy (Meaning options) x = (x.0 ≡ codes "meaning") × HasOptions options x.1
+IsNamedBy (Selftest n) x = (x.0 ≡ codes "selftest") × HasNumber n x.1
 
 -- the words are a line of the command set, which means the command
 abbrev pub IsLine : List Text → Command → Type 0

@@ -1,6 +1,6 @@
 -- Lines that are written out.
 use Rattle.std.specs.Prelude.{true, false, [], ◌∷◌, pos, codes}
-use Rattle.command_line.specs.declared.command.Command.TheVariants.{Compile, Exec, Run, Meaning, Show, Check}
+use Rattle.command_line.specs.declared.command.Command.TheVariants.{Compile, Exec, Run, Meaning, Show, Check, Selftest}
 use Rattle.command_line.specs.declared.command.CheckReport.TheVariants.{Whole, Each}
 use Rattle.command_line.specs.Lines.{IsLine, IsNoLine}
 
@@ -37,3 +37,9 @@ abbrev pub MeaningWithTrace : Type 0
 MeaningWithTrace =
     IsLine (codes "meaning" ∷ codes "--trace" ∷ [])
     (Meaning (record { turns = 10000000; argument = pos 0; trace = true }))
+
+abbrev pub SelftestOfOne : Type 0
+SelftestOfOne = IsLine (codes "selftest" ∷ codes "1" ∷ []) (Selftest 1)
+
+abbrev pub SelftestOfNone : Type 0
+SelftestOfNone = IsNoLine (codes "selftest" ∷ [])

@@ -33,4 +33,6 @@ pub enum Command {
     Show,
     /// Checks the code of an image against its function table.
     Check(CheckReport),
+    /// Compiles and runs the generated program of a number, which is below 2^63.
+    Selftest(u64),
 }

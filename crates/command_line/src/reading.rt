@@ -7,7 +7,7 @@ ghost use Rattle.clap.specs.Words.{app_of, with_subcommand, fault_of, found_of, 
 ghost use Rattle.clap.specs.declared.builder.command.Command.TheViews.{out-Command};
 ghost use Rattle.command_line.specs.declared.command.Command.{Command};
 ghost use Rattle.command_line.specs.declared.command.RunOptions.{RunOptions};
-ghost use Rattle.command_line.specs.Lines.{bare_app, seh_app, check_app, run_app_named, is_set, HasOptions, HasReport, IsLine, IsNoLine, IsNumber, IsNamedBy};
+ghost use Rattle.command_line.specs.Lines.{bare_app, seh_app, check_app, run_app_named, selftest_app, is_set, HasNumber, HasOptions, HasReport, IsLine, IsNoLine, IsNumber, IsNamedBy};
 
 use crate::command::{CheckReport, Command, RunOptions};
 use clap::error::ErrorKind;
@@ -25,7 +25,7 @@ pub enum WordsErr {
 }
 
 /// A run makes at most so many turns, where nothing else is said.
-const DEFAULT_TURNS: u64 = 10_000_000;
+pub const DEFAULT_TURNS: u64 = 10_000_000;
 
 /// The number that a text is: decimal digits with no sign and no leading zero, below 2^63.
 fn number_of(text: &str) -> Option<u64>
@@ -112,6 +112,35 @@ fn with_run<'a>(
     }
 }
 
+/// The command `selftest`, which takes the number of a generated program.
+fn selftest_command<'a>(alloc: Global) -> Result<clap::Command<'a>, AllocError>
+    ensures app { IfOk result (λ c. app_of c ≡ selftest_app) }
+    ensures local { IfOk result (λ c. (out-Command c).has_globals ≡ false) }
+{
+    clap::Command::new(alloc, "selftest").arg(
+        Arg::new(alloc, "number")
+            .required(true)
+            .action(ArgAction::Set),
+    )
+}
+
+/// A command with `selftest` below it too.
+fn with_selftest<'a>(
+    alloc: Global,
+    command: clap::Command<'a>,
+) -> Result<clap::Command<'a>, AllocError>
+    ensures { IfOk result (λ c. app_of c
+        ≡ with_subcommand (app_of command.entry) selftest_app.top) }
+{
+    match selftest_command(alloc) {
+        Ok(selftest) => command.subcommand(selftest),
+        Err(failed) => {
+            drop(command);
+            Err(failed)
+        }
+    }
+}
+
 /// The program's own command, with none below it.
 fn bare<'a>(alloc: Global) -> clap::Command<'a>
     ensures { app_of result ≡ bare_app }
@@ -133,7 +162,8 @@ fn program<'a>(alloc: Global) -> Result<clap::Command<'a>, AllocError>
     let checking = with_check(alloc, showing)?;
     let executing = with_run(alloc, checking, "exec")?;
     let running = with_run(alloc, executing, "run")?;
-    with_run(alloc, running, "meaning")
+    let meaning = with_run(alloc, running, "meaning")?;
+    with_selftest(alloc, meaning)
 }
 
 /// What `clap` makes of the words.
@@ -214,6 +244,21 @@ fn options_of(matches: &ArgMatches<'_>) -> Result<RunOptions, WordsErr>
     })
 }
 
+/// The number that is the word after the command.
+fn number_given(matches: &ArgMatches<'_>) -> Result<u64, WordsErr>
+    ensures found { IfOk result (λ n. HasNumber n (rows_of (found_of matches.now))) }
+    ensures usage { IfErr result (λ e. (e ≡ WordsErr.Usage)
+        × ((n : ℕ) → HasNumber n (rows_of (found_of matches.now)) → ⊥)) }
+{
+    match matches.get_str("number") {
+        None => Err(WordsErr::Usage),
+        Some(text) => match number_of(text) {
+            Some(number) => Ok(number),
+            None => Err(WordsErr::Usage),
+        },
+    }
+}
+
 /// The command of this name with its options.
 fn command_named(name: &str, matches: &ArgMatches<'_>) -> Result<Command, WordsErr>
     ensures found { IfOk result (λ c. IsNamedBy c (name.now, rows_of (found_of matches.now))) }
@@ -236,6 +281,10 @@ fn command_named(name: &str, matches: &ArgMatches<'_>) -> Result<Command, WordsE
             Ok(options) => Ok(Command::Meaning(options)),
             Err(error) => Err(error),
         },
+        "selftest" => match number_given(matches) {
+            Ok(number) => Ok(Command::Selftest(number)),
+            Err(error) => Err(error),
+        },
         _ => Err(WordsErr::Usage),
     }
 }
@@ -243,9 +292,9 @@ fn command_named(name: &str, matches: &ArgMatches<'_>) -> Result<Command, WordsE
 /// The command that the words after the program's name are.
 ///
 /// `exec`, `run` and `meaning` take `--turns N`, `--arg N` and `--trace`, and `check` takes
-/// `--each`, each at most once and in any order; a number is written in decimal digits with no sign
-/// and no leading zero, and is at most 2^63 - 1. Words that ask for help or a version are no line
-/// of the command set.
+/// `--each`, each at most once and in any order; after `selftest` comes one number. A number is
+/// written in decimal digits with no sign and no leading zero, and is at most 2^63 - 1. Words that
+/// ask for help or a version are no line of the command set.
 pub fn command_of(alloc: Global, words: &[String]) -> Result<Command, WordsErr>
     ensures found { IfOk result (IsLine (map string_bytes words.now)) }
     ensures usage { result ≡ Err WordsErr.Usage → IsNoLine (map string_bytes words.now) }

@@ -5,6 +5,7 @@ pub mod KnownEntries
 pub mod KnownInfos
 pub mod Lookups
 pub mod Ranges
+pub mod RangesAscending
 pub mod Rows
 pub mod Slots
 pub mod TablesAgain

@@ -28,7 +28,7 @@ pub prepended : {A : Type 0} (x : A) (r : Table (List A)) (ys : List A) → prep
 prepended x (Ok xs) ys h = record { rest = xs; is = refl; all = cc }
 prepended x (Err e) ys h = cc
 
-holds_then : (b : Bool) (e : TableErr) (u : Unit {0}) → unless b e ≡ Ok u → b ≡ true
+pub holds_then : (b : Bool) (e : TableErr) (u : Unit {0}) → unless b e ≡ Ok u → b ≡ true
 holds_then true e u h = refl
 holds_then false e u h = cc
 
@@ -84,13 +84,14 @@ split image index last r rs es h =
       read = entry_read image index last r one.value one.first;
     }
 
-below_begin : (rva : ℕ) (r : RuntimeFunction) → rva < r.begin → covers_address rva r ≡ false
+pub below_begin : (rva : ℕ) (r : RuntimeFunction) → rva < r.begin → covers_address rva r ≡ false
 below_begin rva r lt = and_left (leb r.begin rva) (ltb rva r.end) (lt-leb r.begin rva lt)
 
-past_end : (rva : ℕ) (r : RuntimeFunction) → r.end ≤ rva → covers_address rva r ≡ false
+pub past_end : (rva : ℕ) (r : RuntimeFunction) → r.end ≤ rva → covers_address rva r ≡ false
 past_end rva r le = and_right (leb r.begin rva) (ltb rva r.end) (le-ltb rva r.end le)
 
-within : (rva : ℕ) (r : RuntimeFunction) → r.begin ≤ rva → rva < r.end → covers_address rva r ≡ true
+pub within : (rva : ℕ) (r : RuntimeFunction) → r.begin ≤ rva → rva < r.end
+    → covers_address rva r ≡ true
 within rva r le lt = and_from (leb r.begin rva) (ltb rva r.end) (le-leb r.begin rva le)
     (lt-ltb rva r.end lt)
 
@@ -116,11 +117,11 @@ none_from image index last (r ∷ rs) es rva h lt =
 
 -- ---- the entry of an index
 
-abbrev end_from : ℕ → List RuntimeFunction → ℕ → ℕ
+abbrev pub end_from : ℕ → List RuntimeFunction → ℕ → ℕ
 end_from last rs zero = last
 end_from last rs (suc k) = (get_or rs k no_range).end
 
-end_of_rest : (last : ℕ) (r : RuntimeFunction) (rs : List RuntimeFunction) (k : ℕ)
+pub end_of_rest : (last : ℕ) (r : RuntimeFunction) (rs : List RuntimeFunction) (k : ℕ)
     → end_from r.end rs k ≡ end_from last (r ∷ rs) (suc k)
 end_of_rest last r rs zero = refl
 end_of_rest last r rs (suc k) = refl
@@ -259,7 +260,7 @@ all_read image index last (r ∷ rs) es (suc k) h lt =
     (sym (end_of_rest last r rs k))
     ∙ all_read image (index + 1) r.end rs s.rest k s.others (omega arith)
 
-first_end : (t : Tables) (n : ℕ) → end_from 0 t.ranges n ≡ end_before t.ranges n
+pub first_end : (t : Tables) (n : ℕ) → end_from 0 t.ranges n ≡ end_before t.ranges n
 first_end t zero = refl
 first_end t (suc n) = refl
 

@@ -1,5 +1,6 @@
 pub mod Answer
 pub mod Codes
+pub mod Covering
 pub mod Found
 pub mod Handler
 pub mod Infos

@@ -10,6 +10,7 @@
 mod code;
 mod codes;
 mod counted_ranges;
+mod covering;
 mod entry;
 mod handler;
 mod info;

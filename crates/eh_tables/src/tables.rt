@@ -2,6 +2,7 @@
 
 ghost use Rattle.std.specs.Prelude.{◌≡◌, ◌≤◌, ◌<◌, ◌/◌, ◌*◌, ◌^◌, length, slice_index_or, option_map, IfOk, IfErr};
 ghost use Rattle.std.specs.Result.{result_ok};
+ghost use Rattle.eh_tables.specs.Infos.{info};
 ghost use Rattle.eh_tables.specs.Tables as spec;
 
 use crate::entry::{Entry, read_entry};
@@ -101,7 +102,7 @@ impl<'image, 'bytes> Tables<'image, 'bytes> {
     }
 
     /// Where the entry before an index ends.
-    fn end_before(&self, index: u64) -> u32
+    pub(crate) fn end_before(&self, index: u64) -> u32
         requires { index ≤ length self.now.ranges }
         ensures { result ≡ spec.end_before self.now.ranges index }
     {
@@ -110,6 +111,15 @@ impl<'image, 'bytes> Tables<'image, 'bytes> {
         } else {
             self.range(index - 1).end
         }
+    }
+
+    /// The unwind info of an entry, read alone.
+    pub(crate) fn own_info(&self, index: u64) -> Result<Info<'bytes>, TableErr>
+        requires { index < length self.now.ranges }
+        ensures { result ≡ info self.now.image index
+            (slice_index_or self.now.ranges index spec.no_range).unwind_info }
+    {
+        read_info(self.image, index, self.range(index).unwind_info, false)
     }
 
     /// The entry of an index, in a table that was read whole: what its infos say isn't checked

@@ -1,5 +1,6 @@
 pub mod Routines
 pub mod Text
+pub mod Places
 pub mod Tables
 pub mod Linked
 pub mod Near

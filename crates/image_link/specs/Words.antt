@@ -27,6 +27,7 @@ pub use Rattle.image_link.specs.Fits.{FitsFunction, FitsFunclet, FitsProgram, ta
 pub use Rattle.image_link.specs.Linked.{total, first, text_size, xdata_begin, IsPlacement, site, image_of}
 pub use Rattle.image_link.specs.Near.{IsRoutineNear, IsFrameNear, IsEntryNear, IsSiteNear, HasRoom, HasPlaces}
 pub use Rattle.image_link.specs.Routines.{RoutineView, function_frame, framed, is_leaf, leaf_if, functions_from, funclet, routines, leaf_layout, function_layout, leaf, funclet_frame, nothing, body_of_function, body_of_funclet, kept_by, HasParent, entry_of, funclet_layout, has_call}
+pub use Rattle.image_link.specs.Places.{PlaceView, place_at, places_from}
 pub use Rattle.image_link.specs.Tables.{infos_room, infos, range_if, range_of, ranges, trailer, scope_record, scope_records, scope_table, info_if, info_room, has_except, has_finally}
 unfoldable pub use Rattle.image_link.specs.Tables.{info_bytes}
 pub use Rattle.image_link.specs.Text.{SiteView, room, routine_size, entry_code, bounds, front_code, addresses, check_stack_at, routine_code, routines_bytes, text_bytes, routine_room, frame_code, base_of, argument_code, first_routine_at, own_addresses, thunk_at, thunks_at, code_at}

@@ -9,9 +9,10 @@ ghost use Rattle.pe_write.specs.Written.{written};
 ghost use Rattle.image_link.specs.Fits.{FitsProgram};
 ghost use Rattle.image_link.specs.Linked as spec;
 ghost use Rattle.image_link.specs.Near.{IsRoutineNear, HasPlaces};
+ghost use Rattle.image_link.specs.Places.{places_from};
 ghost use Rattle.image_link.specs.Text as texts;
 
-use crate::place::{FRONT_SIZE, bounds_of};
+use crate::place::{FRONT_SIZE, Place, places_of};
 use crate::placement::{offset_of, placement_of, text_begin};
 use crate::routine::{Routine, routines};
 use crate::tables::{Tables, tables_of};
@@ -72,13 +73,14 @@ fn image_with(
     Ok(Image::new(data_size, data, code, entry, tables.xdata, tables.pdata))
 }
 
-/// The image of routines between bounds, of which the first so many are functions, and which begins
-/// at the one of the index `main`.
+/// The image of routines at their places between bounds, of which the first so many are functions,
+/// and which begins at the one of the index `main`.
 fn linked(
     alloc: Global,
     globals: &[u8],
     routines: &[Routine<'_>],
     bounds: &[u32],
+    places: &[Place],
     functions: usize,
     main: usize,
 ) -> Result<Image, AllocError>
@@ -86,13 +88,21 @@ fn linked(
     requires near { AllByRecursion IsRoutineNear routines.now }
     requires places { HasPlaces routines.now functions main }
     requires bounds { bounds.now ≡ texts.bounds (spec.first globals.now) routines.now }
+    requires placed { places.now ≡ places_from (spec.first globals.now) routines.now }
     ensures { IfOk result (λ image. image ≡ spec.image_of globals.now routines.now functions main) }
 {
     let placement = placement_of(globals, routines, bounds);
     let text = placement.text;
     let site = site_of(text, placement.rdata, bounds, functions);
-    let code = text_of(alloc, &site, routines)?;
-    let tables = tables_of(alloc, &site, routines, text + FRONT_SIZE, placement.xdata)?;
+    let code = text_of(alloc, &site, routines, places)?;
+    let tables = tables_of(
+        alloc,
+        &site,
+        routines,
+        places,
+        text + FRONT_SIZE,
+        placement.xdata,
+    )?;
     let entry = offset_of(bounds, main, text);
     image_with(alloc, globals, placement.data_size, code, entry, tables)
 }
@@ -112,8 +122,16 @@ fn image_of(
     ensures { IfOk result (λ image. image ≡ spec.image_of globals.now routines.now functions main) }
 {
     let first = text_begin(globals) + FRONT_SIZE;
-    let bounds = bounds_of(alloc, routines, first)?;
-    linked(alloc, globals, routines, &bounds, functions, main)
+    let places = places_of(alloc, routines, first)?;
+    linked(
+        alloc,
+        globals,
+        routines,
+        &places.bounds,
+        &places.each,
+        functions,
+        main,
+    )
 }
 
 /// The bytes of the image of a program.

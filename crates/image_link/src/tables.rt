@@ -5,12 +5,11 @@ ghost use Rattle.std.specs.List.{AllByRecursion};
 ghost use Rattle.eh_tables.specs.Written.{CanBeWritten, IsTrailer, table_bytes};
 ghost use Rattle.frame_layout.specs.Layout.{info_of};
 ghost use Rattle.x64_emit.specs.Linking.{address_or};
-ghost use Rattle.x64_emit.specs.Near.{IsNear};
 ghost use Rattle.image_link.specs.Near.{IsFrameNear, IsRoutineNear, IsSiteNear};
+ghost use Rattle.image_link.specs.Places.{place_at, places_from};
 ghost use Rattle.image_link.specs.Tables as spec;
-ghost use Rattle.image_link.specs.Text as texts;
 
-use crate::place::labels_at;
+use crate::place::Place;
 use crate::routine::Routine;
 use crate::text::{Site, thunk_at};
 use eh_tables::{
@@ -202,7 +201,7 @@ fn put_tables(
 }
 
 /// Adds the unwind info of a routine that begins at an address, and its entry, where it has a
-/// frame; answers where the routine ends.
+/// frame.
 fn put_routine(
     alloc: Global,
     xdata: &mut Vec<u8>,
@@ -210,22 +209,21 @@ fn put_routine(
     site: &Site<'_>,
     routine: &Routine<'_>,
     begin: u32,
+    place: &Place,
     xdata_at: u32,
-) -> Result<u32, AllocError>
+) -> Result<(), AllocError>
     requires site { IsSiteNear site.now }
     requires near { IsRoutineNear routine.now }
-    requires room { IsNear (begin + texts.routine_room routine.now) }
+    requires placed { place.now ≡ place_at begin routine.now }
     requires xdata { xdata_at + length xdata.old.items < 2 ^ 31 }
     ensures infos { OnOk result
         (xdata.new.items ≡ xdata.old.items ++ spec.info_bytes site.now begin routine.now) }
     ensures ranges { OnOk result (ranges.new.items ≡ ranges.old.items
         ++ spec.range_of (xdata_at + length xdata.old.items) begin routine.now) }
-    ensures end { IfOk result (λ end. end ≡ begin + texts.routine_size routine.now) }
 {
-    let labels = labels_at(alloc, routine, begin)?;
     let range = RuntimeFunction {
         begin,
-        end: labels.end,
+        end: place.labels.end,
         unwind_info: xdata_at + xdata.len() as u32,
     };
     put_tables(
@@ -235,10 +233,9 @@ fn put_routine(
         site,
         routine,
         &routine.frame,
-        &labels,
+        &place.labels,
         range,
-    )?;
-    Ok(labels.end)
+    )
 }
 
 /// The tables of a program: the unwind infos, and the function table as bytes.
@@ -250,18 +247,19 @@ pub struct Tables {
     pub pdata: Vec<u8>,
 }
 
-/// The tables of routines, of which the first begins at `first`, with unwind infos from `xdata_at`
-/// on.
+/// The tables of routines at their places, of which the first begins at `first`, with unwind infos
+/// from `xdata_at` on.
 pub fn tables_of(
     alloc: Global,
     site: &Site<'_>,
     routines: &[Routine<'_>],
+    places: &[Place],
     first: u32,
     xdata_at: u32,
 ) -> Result<Tables, AllocError>
     requires site { IsSiteNear site.now }
     requires near { AllByRecursion IsRoutineNear routines.now }
-    requires room { IsNear (first + texts.room routines.now) }
+    requires places { places.now ≡ places_from first routines.now }
     requires tables { xdata_at + spec.infos_room routines.now < 2 ^ 31 }
     ensures xdata { IfOk result (λ t. t.xdata.items ≡ spec.infos site.now first routines.now) }
     ensures pdata { IfOk result
@@ -270,8 +268,21 @@ pub fn tables_of(
     let mut xdata = Vec::new(alloc);
     let mut ranges = Vec::new(alloc);
     let mut at = first;
+    let mut index = 0;
     for routine in routines {
-        at = put_routine(alloc, &mut xdata, &mut ranges, site, routine, at, xdata_at)?;
+        let place = &places[index];
+        put_routine(
+            alloc,
+            &mut xdata,
+            &mut ranges,
+            site,
+            routine,
+            at,
+            place,
+            xdata_at,
+        )?;
+        at = place.labels.end;
+        index += 1;
     }
     let mut pdata = Vec::new(alloc);
     write_pdata(&ranges, &mut pdata)?;

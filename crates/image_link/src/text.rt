@@ -7,10 +7,11 @@ ghost use Rattle.x64_emit.specs.Bodies.{EndsNear};
 ghost use Rattle.x64_emit.specs.Linking as linking;
 ghost use Rattle.x64_emit.specs.Near.{IsNear, AreNear};
 ghost use Rattle.image_link.specs.Near.{IsRoutineNear, IsSiteNear};
+ghost use Rattle.image_link.specs.Places.{place_at, places_from};
 ghost use Rattle.image_link.specs.Text as spec;
 
 use crate::entry::put_entry;
-use crate::place::{FRONT_SIZE, body_at, labels_at};
+use crate::place::{FRONT_SIZE, Place};
 use crate::routine::Routine;
 use host_layout::imported::{IMPORTED_COUNT, ImportedService};
 use host_layout::limit::MOST_IMAGE;
@@ -147,51 +148,55 @@ fn put_code(
     put_body(code, links, &routine.layout, start, routine.code())
 }
 
-/// Adds a routine that begins at an address, and answers where it ends.
+/// Adds a routine that begins at an address, where it is placed.
 fn put_routine(
-    alloc: Global,
     code: &mut Vec<u8>,
     site: &Site<'_>,
     routine: &Routine<'_>,
     begin: u32,
-) -> Result<u32, AllocError>
+    place: &Place,
+) -> Result<(), AllocError>
     requires site { IsSiteNear site.now }
     requires near { IsRoutineNear routine.now }
     requires room { IsNear (begin + spec.routine_room routine.now) }
-    ensures code { OnOk result
+    requires placed { place.now ≡ place_at begin routine.now }
+    ensures { OnOk result
         (code.new.items ≡ code.old.items ++ spec.routine_bytes site.now begin routine.now) }
-    ensures end { IfOk result (λ end. end ≡ begin + spec.routine_size routine.now) }
 {
-    let start = body_at(alloc, routine, begin)?;
-    let labels = labels_at(alloc, routine, begin)?;
     let links = links_of(
         site.text,
         site.functions,
         site.funclets,
-        &labels.starts,
-        labels.end,
+        &place.labels.starts,
+        place.labels.end,
     );
     let check_stack = site.text + CHECK_STACK_OFFSET;
-    put_code(code, &links, routine, begin, start, check_stack)?;
-    Ok(labels.end)
+    put_code(code, &links, routine, begin, place.body, check_stack)
 }
 
-/// The text of a program: the thunks, `__chkstk`, and the routines.
+/// The text of a program: the thunks, `__chkstk`, and the routines at their places.
 pub fn text_of(
     alloc: Global,
     site: &Site<'_>,
     routines: &[Routine<'_>],
+    places: &[Place],
 ) -> Result<Vec<u8>, AllocError>
     requires site { IsSiteNear site.now }
     requires near { AllByRecursion IsRoutineNear routines.now }
     requires room { IsNear (spec.first_routine_at site.now.text + spec.room routines.now) }
+    requires places { places.now
+        ≡ places_from (spec.first_routine_at site.now.text) routines.now }
     ensures { IfOk result (λ v. v.items ≡ spec.text_bytes site.now routines.now) }
 {
     let mut code = Vec::new(alloc);
     put_front(&mut code, site.text, site.rdata)?;
     let mut at = site.text + FRONT_SIZE;
+    let mut index = 0;
     for routine in routines {
-        at = put_routine(alloc, &mut code, site, routine, at)?;
+        let place = &places[index];
+        put_routine(&mut code, site, routine, at, place)?;
+        at = place.labels.end;
+        index += 1;
     }
     Ok(code)
 }

@@ -8,6 +8,9 @@ use Rattle.image_runs.proofs.Lemmas.{same_number, Keeps, enters_keeps, stays_wel
 use Rattle.match_stack.specs.StackRecords.{On}
 use Rattle.lowering_invariants.specs.SmallNumbers.{AreSmall}
 use Rattle.match_bodies.proofs.SilentTurns.{enters_silently}
+use Rattle.x64_machine.specs.Contexts.{context_of}
+use Rattle.match_bodies.specs.Callers.{nothing_owed}
+use Rattle.match_bodies.proofs.OwedCallers.{returns_alone}
 use Rattle.match_bodies.proofs.InstructionEffects.{others_of}
 use Rattle.match_bodies.proofs.RoutineWalks.{enters_steps, Beneath, AllPlain}
 use Rattle.match_bodies.proofs.EntryKeeping.{parameters_plain, entry_ran}
@@ -62,20 +65,28 @@ module _ (t : Functions) (fs : List Funclet) (program : LinearProgram) (p : Imag
       (sym inside.rip ∙ e)) after.cpu
 
   -- each turn keeps the shadow
-  beneath_main : Beneath t first top (top + 40) 0 (others_of first.cpu.registers) []
+  beneath_main : Beneath t first nothing_owed top (top + 40) 0 (others_of first.cpu.registers) []
   beneath_main =
       let high = h.high in
       let well_formed' = subst IsWellFormed first_is well_formed in
+      let at : register first.cpu Rsp ≡ top = subst (λ (x : State). register x.cpu Rsp ≡ top)
+      first_is h.stack in
+      let flat : register first.cpu Rsp + 0 ≡ top = omega arith in
       record {
-        others_are = refl;
+        above = record {
+          list = refl;
+          owned = λ a w. absurd w;
+          past = omega arith;
+          high = omega arith;
+          limit = omega arith;
+          no_code = h.memory.data_alone.no_code;
+        };
         count = well_formed'.count;
-        returns = returns_to;
-        list = refl;
-        owned = λ a w. absurd w;
-        past = omega arith;
-        high = omega arith;
-        limit = omega arith;
-        no_code = h.memory.data_alone.no_code;
+        size = 0;
+        at = flat;
+        owed = returns_alone first.memory (context_of first.cpu) 0 refl
+            (let z : register first.cpu Rsp + 8 < 2 ^ 64 = omega arith in z)
+            (ap (word first.memory) at ∙ returns_to);
       }
 
   arguments_are : arguments_code program p (FunctionBody f) ≡ parameters_code layout 0 fn.parameters

@@ -1,9 +1,10 @@
 -- The function is entered, whatever its frame is.
 use Rattle.std.proofs.Common.{◌≡◌, ℕ, ◌+◌, ◌-◌, ◌<◌, ◌≤◌, Bool, true, false, Some, List, length, refl, sym, ap, subst, ◌∙◌, arith, inl, inr, length-drop}
 use Rattle.std.specs.Prelude.{nat_le, if◌then◌else◌}
-use Rattle.std.proofs.lemmas.Bool.{cases_lt, le-leb}
-use Rattle.image_runs.specs.Words.{STACK_START, STACK_END, Memory, Instr, State, Functions, Funclet, LinearProgram, LinearBody, LinearFunction, FunctionBody, body_of, Layout, sizes, parameters_code, enter_code, MachineView, HasCode, ImagePlan, Sites, making, IsLayoutIf, IsFunctionLayout, IsLeafLayout, IsProgramImage, seen_by_templates}
+use Rattle.std.proofs.lemmas.Bool.{cases_lt, le-leb, leb-true}
+use Rattle.image_runs.specs.Words.{STACK_START, STACK_END, Memory, Instr, State, Functions, Funclet, LinearProgram, LinearBody, LinearFunction, FunctionBody, body_of, Layout, sizes, parameters_code, enter_code, MachineView, HasCode, ImagePlan, Sites, IsLayoutIf, IsFunctionLayout, IsLeafLayout, IsProgramImage, seen_by_templates}
 use Rattle.template_code.specs.Probing.{enter_large}
+use Rattle.match_bodies.proofs.FrameCode.{made_small, made_large}
 use Rattle.image_runs.proofs.Lemmas.{making_steps, may_read_written, with_home, home_parameters, Made, no_frame, small_frame, large_frame}
 use Rattle.match_turns.proofs.FunctionEntryCode.{making_frame, HasEntry, has_entry}
 use Rattle.image_runs.proofs.FunctionEntry as entering
@@ -151,8 +152,10 @@ module _ (t : Functions) (fs : List Funclet) (program : LinearProgram) (p : Imag
         let x = h.low in
         let z = h.high in
         let k = l.small in
-        let is : making_frame p q f false ≡ enter_code frame = ap
-        (making frame target q.check_stack) e in
+        let some = l.passed in
+        let is : making_frame p q f false ≡ enter_code frame =
+        made_small frame target q.check_stack false refl
+        (let a = l.temporaries in let b = l.locals in omega arith) (leb-true frame 4096 e) in
         framed_entered (enter_code frame) 1 is (ap (λ x. if x then 1 else 8) e)
         (small_frame view target s.cpu.flags top arguments
         (entering.view_stack t fs program p q image s source f fn top arguments h) registers
@@ -164,8 +167,8 @@ module _ (t : Functions) (fs : List Funclet) (program : LinearProgram) (p : Imag
         let x = h.low in
         let z = h.high in
         let k = l.small in
-        let is : making_frame p q f false ≡ enter_large frame target q.check_stack = ap
-        (making frame target q.check_stack) e in
+        let is : making_frame p q f false ≡ enter_large frame target q.check_stack =
+        made_large frame target q.check_stack false refl big in
         let a = image.addresses (FunctionBody f) o there in
         let begin = a.first in
         let a1 = a.inside.low in

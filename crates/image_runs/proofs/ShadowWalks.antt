@@ -57,7 +57,7 @@ module _ (t : Functions) (fs : List Funclet) (program : LinearProgram) (p : Imag
         let flat : sp + 0 ≡ first_stack = omega arith in
         let returns : word s.memory (sp + 0) ≡ Ok 0 = ap (word s.memory) flat ∙ h.returns in
         let rip : s.cpu.rip ≡ q.function program.main = ap (λ (c : Cpu). c.rip) h.cpu in
-        let found = finds_return t s.memory (q.function program.main) 0
+        let found = finds_return t s.memory (q.function program.main)
         ((image.callers (FunctionBody program.main) main.body there).entries s.memory
         (λ leaf. some)) (context_of s.cpu) 0 rip refl (omega arith) returns in
         let caller : Context = context_below 0 (sp + 0 + 8) others in

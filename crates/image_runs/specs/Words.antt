@@ -75,7 +75,7 @@ pub use Rattle.match_stack.specs.Stack.{StackItem, Framed, Leaf, FrameIsAt, IsSt
 pub use Rattle.match_stack.specs.WalkLaws.{context_below}
 pub use Rattle.match_bodies.specs.Bodies.{turns_left, in_hand, turns_in_hand, RepresentsAt, held_below, slots_end, last_temporary, InBody}
 pub use Rattle.match_bodies.specs.BodyViews.{seen_by_templates, counts_of}
-pub use Rattle.match_bodies.specs.CodeSites.{Sites, arguments_code, function_arguments, making, links_of, begin_of, code_of}
+pub use Rattle.match_bodies.specs.CodeSites.{Sites, arguments_code, function_arguments, links_of, begin_of, code_of}
 pub use Rattle.match_bodies.specs.ConfigurationFacts.{IsKnown, KnownNext, IsWellMade}
 pub use Rattle.match_bodies.specs.Layouts.{IsLayoutIf, IsFunctionLayout, IsLeafLayout}
 pub use Rattle.match_bodies.specs.ProgramImages.{IsMachineMemory, IsProgramImage, HasProgram, IsResumed, IsFramed, frame_of}

@@ -1,22 +1,33 @@
 -- Where a walk finds the callers of a routine of a linked program.
-use Rattle.std.proofs.Common.{◌≡◌, ℕ, zero, suc, ◌+◌, ◌-◌, ◌^◌, ◌<◌, ◌≤◌, List, [], ◌∷◌, ◌++◌, length, Option, Some, None, refl, sym, ap, subst, ◌∙◌, arith, append_assoc}
-use Rattle.std.specs.Prelude.{slice_get}
+use Rattle.std.proofs.Common.{◌≡◌, ℕ, zero, suc, ◌+◌, ◌-◌, ◌^◌, ◌<◌, ◌≤◌, true, false, List, [], ◌∷◌, ◌++◌, length, Option, Some, None, refl, sym, ap, subst, ◌∙◌, arith, append_assoc, length-append}
+use Rattle.std.specs.Prelude.{slice_get, nat_lt}
 use Rattle.std.specs.List.{AllByRecursion}
-use Rattle.std.proofs.lemmas.Bool.{ne_eqb, lt-ltb, le-ltb, lt-leb}
+use Rattle.std.proofs.lemmas.Bool.{false≢true, and_from, lt-ltb, le-ltb, lt-leb}
 use Rattle.std.proofs.lemmas.List.{append-nil}
-use Rattle.image_states.specs.Words.{Memory, Rax, Instr, chosen, Context, Entry, Functions, distance, entry_of, of_entry, tail_at, left, framed, filter_return, finally_return, IsExecutableAt, Slot, Instruction, LinearBody, LinearProgram, BodyName, body_of, FrameLayout, taking_size, Layout, spelled, size, sizes, fetch, code_from, IsInstructionNear, IsFrameNear, argument_code, entry_size, check_stack_at, routine_code, Placed, body_begin, end_of, site_of, placed, image_base, template_at, links, begin_of, making_size, give_back, code_of, HasProgram, FindsReturn, functions_of, funclets_of, routine_of, plan_of, sites_of, HasWholeImage, by_distance, in_prologue, run_or, past_prologue, operations, epilogue, return_code}
+use Rattle.image_states.specs.Words.{Memory, Rax, Instr, chosen, Entry, Functions, IsExecutableAt, spell, Slot, Instruction, LinearBody, LinearProgram, BodyName, body_of, FrameLayout, taking_size, Layout, spelled, size, sizes, fetch, code_from, IsInstructionNear, IsFrameNear, argument_code, entry_size, check_stack_at, routine_code, Placed, body_begin, end_of, site_of, image_base, template_at, links, begin_of, making_size, give_back, code_of, HasProgram, FindsReturn, FindsOwed, Owed, owed_after, owed_by, is_leaf, or_none, functions_of, funclets_of, routine_of, plan_of, sites_of, HasWholeImage, run_or, operations, epilogue, return_code, placed}
 use Rattle.x64_instr.specs.declared.instruction.Instr.TheVariants as instrs
-use Rattle.image_states.proofs.Lemmas.{never_empty, sizes_append, template_sizes, entry_sizes, routine_small, some_same, none_some, prologue_sizes, entry_least, executable_split, code_split, IsTemplate, template_there, Inner, AllInner, inner_at, fetch_inner, size_of, sized, no_epilogue, away, found_in, none_in}
+use Rattle.x64_encode.proofs.Lengths.{longest}
+use Rattle.eh_tables.specs.declared.code.UnwindOperation.{UnwindOperation}
+use Rattle.eh_tables.specs.declared.code.UnwindOperation.TheVariants.{Allocate}
+use Rattle.template_code.specs.Jumps as jumps
+use Rattle.virtual_unwind.specs.CallerOf.{run_by}
+use Rattle.frame_rules.specs.Body.{Body, following, is_body}
+use Rattle.frame_rules.specs.Plan.{spelled_by, operations_of}
+use Rattle.frame_rules.specs.States.{is_other}
+use Rattle.frame_rules.proofs.Bytes.{spells_all}
+use Rattle.frame_rules.proofs.Emitting.{epilogue_following}
+use Rattle.frame_layout.specs.Layout.{plan_of as plan_of_frame}
+use Rattle.image_states.proofs.Lemmas.{never_empty, items_are_at, sizes_append, template_sizes, entry_sizes, routine_small, some_same, none_some, prologue_sizes, taking_few, entry_least, executable_split, code_split, IsTemplate, template_there, Inner, AllInner, inner_at, fetch_inner, signed, size_of, sized, away, found_in, none_in}
 use Rattle.linear_code.specs.declared.instruction.Instruction.TheVariants as instructions
 use Rattle.image_link.specs.Text as texts
 use Rattle.image_tables.specs.Entries as tables
 use Rattle.image_tables.proofs.Arguments.{arguments_inner}
-use Rattle.match_stack.proofs.AllocatedFrames.{allocations_are_told}
-use Rattle.match_bodies.proofs.BodyFrames.{rest_length}
+use Rattle.image_tables.proofs.FrameRules.{plan_near, one_code}
+use Rattle.image_tables.proofs.Rest.{same_epilogue}
 use Rattle.image_states.proofs.Addresses.{place, here}
 use Rattle.image_states.proofs.Entering.{frame_same, code_same}
 use Rattle.image_states.proofs.Framed.{executable_of}
-use Rattle.image_states.proofs.Popping.{by_popping, by_return, by_epilogue, by_frame, at_return, at_epilogue}
+use Rattle.image_states.proofs.EntryWalks.{IsOwnAddress, IsEntryAt, none_found, prologue_found, inner_found, opening_found, leaving_found}
 
 -- ---- sizes
 
@@ -58,17 +69,21 @@ module _ (program : LinearProgram) (c : HasWholeImage program) (name : BodyName)
   small rva lt = let h = here program c name b is in let room = h.room in
       let few = routine_small x.routine h.near in omega arith
 
+  own_address : (rva : ℕ) → rva < 2 ^ 31 → IsOwnAddress (image_base + rva)
+  own_address rva lt = record {
+    live = omega arith;
+    not_filter = λ z. absurd (omega arith);
+    not_finally = λ z. absurd (omega arith);
+  }
+
   -- ---- without a frame
 
   pub leaf_at : x.routine.frame ≡ None → (rva : ℕ) → x.begin ≤ rva → rva < end_of x
-      → FindsReturn t m (image_base + rva) 0
+      → FindsReturn t m (image_base + rva)
   leaf_at none rva low high =
       let s = small rva high in
-      by_popping t m (image_base + rva) (omega arith) (λ z. absurd (omega arith))
-      (λ z. absurd (omega arith))
-      (λ k at. ap (of_entry m k (distance image_base k.rip))
-      (ap (entry_of t) at ∙ none_in program index x rva c.fits c.ranges at_index none low high
-      (omega arith)))
+      none_found t m (image_base + rva) (own_address rva s)
+      (none_in program index x rva c.fits c.ranges at_index none low high (omega arith))
 
   -- ---- with one
 
@@ -85,103 +100,121 @@ module _ (program : LinearProgram) (c : HasWholeImage program) (name : BodyName)
     least : taking_size f.size ≤ entry_size x.routine
     least = entry_least x.routine f (here program c name b is).near framed near.0
 
-    entry_here : (rva : ℕ) → x.begin ≤ rva → rva < end_of x → (k : Context)
-        → k.rip ≡ image_base + rva → (entry_of t k.rip ≡ Some e) × (distance image_base k.rip ≡ rva)
-    entry_here rva low high k at =
-        let s = small rva high in (
-          ap (entry_of t) at ∙ found_in program index x f rva c.fits c.ranges at_index framed low
-              high (omega arith),
-          ap (distance image_base) at ∙ away rva (omega arith),
-        )
+    entry_at : (rva : ℕ) → x.begin ≤ rva → rva < end_of x
+        → IsEntryAt t (image_base + rva) (rva - x.begin) e.info
+    entry_at rva low high =
+        let s = small rva high in
+        record {
+          entry = e;
+          found = found_in program index x f rva c.fits c.ranges at_index framed low high
+              (omega arith);
+          info = refl;
+          parents = refl;
+          away = ap (λ n. n - x.begin) (away rva (omega arith));
+          own = own_address rva s;
+          in_order = refl;
+          sets = λ ne. absurd (ne refl);
+        }
 
-    -- before the frame is made
+    -- while the frame is made
     pub making_at : (d : ℕ) → d < taking_size f.size
-        → FindsReturn t m (image_base + (x.begin + d)) 0
+        → FindsOwed t m (image_base + (x.begin + d)) (owed_after e.info d)
     making_at d lt =
         let l = least in
         let rva = x.begin + d in
         let high : rva < end_of x = omega arith in
-        let s = small rva high in
-        by_popping t m (image_base + rva) (omega arith) (λ z. absurd (omega arith))
-        (λ z. absurd (omega arith))
-        (λ k at.
-        (let h = entry_here rva (omega arith) high k at in
-        let d' = distance image_base k.rip - x.begin in
-        let same = h.1 in
-        let before : d' < taking_size f.size = omega arith in
-        ap (of_entry m k (distance image_base k.rip)) h.0
-        ∙ ap (by_distance m e.info [] k d') (lt-ltb d' (taking_size f.size) before)
-        ∙ ap (λ q. in_prologue m e.info [] (operations (run_or e.info.codes [] q)) k)
-        (lt-leb (taking_size f.size) d' before)))
+        let same : rva - x.begin ≡ d = omega arith in
+        subst (λ n. FindsOwed t m (image_base + rva) (owed_after e.info n)) same
+        (prologue_found t m (image_base + rva) (rva - x.begin) e.info
+        (entry_at rva (omega arith) high)
+        (lt-ltb (rva - x.begin) (taking_size f.size) (omega arith)))
+
+    -- at its first byte
+    pub entered_at : FindsReturn t m (image_base + (x.begin + 0))
+    entered_at =
+        let few = near.1 in
+        let some = (taking_few f.size near.0 (omega arith)).0 in
+        let none : operations (run_by 0 e.info.codes) ≡ [] =
+        ap (λ q. operations (run_or e.info.codes [] q))
+        (lt-leb (taking_size f.size) 0 (omega arith))
+        in
+        subst (λ (os : List UnwindOperation). FindsOwed t m (image_base + (x.begin + 0))
+        (record { register = 0; offset = 0; codes = os })) none (making_at 0 (omega arith))
 
     -- past it
-    past_at : (rva : ℕ) → x.begin + taking_size f.size ≤ rva → rva < end_of x → (k : Context)
-        → k.rip ≡ image_base + rva
-        → (o : Option (List Instr)) → tail_at 0 m (image_base + rva) ≡ o
-        → of_entry m k (distance image_base k.rip) (entry_of t k.rip)
-        ≡ past_prologue m e.info [] k o
-    past_at rva low high k at o is' =
-        let h = entry_here rva (omega arith) high k at in
-        let d' = distance image_base k.rip - x.begin in
-        let same = h.1 in
-        ap (of_entry m k (distance image_base k.rip)) h.0
-        ∙ ap (by_distance m e.info [] k d') (le-ltb d' (taking_size f.size) (omega arith))
-        ∙ ap (past_prologue m e.info [] k) (ap (tail_at 0 m) at ∙ is')
+    past : (rva : ℕ) → x.begin + taking_size f.size ≤ rva
+        → nat_lt (rva - x.begin) e.info.prologue_size ≡ false
+    past rva low = le-ltb (rva - x.begin) (taking_size f.size) (omega arith)
+
+    -- its codes
+    abbrev owed : Owed
+    owed = owed_by e.info false
 
     -- an instruction of the body
     inner_at' : (rva : ℕ) (i : Instr) → x.begin + taking_size f.size ≤ rva → rva < end_of x
         → Inner i → IsExecutableAt m (image_base + rva) (chosen i)
-        → FindsReturn t m (image_base + rva) f.size
+        → FindsOwed t m (image_base + rva) owed
     inner_at' rva i low high inner is_there =
         let s = small rva high in
-        by_frame t m (image_base + rva) f.size
-        (λ k back at nine room w.
-        (let h = entry_here rva (omega arith) high k at in
-        let same = h.1 in (
-          e,
-          record {
-            live = ne_eqb k.rip 0 (λ z. (let q : k.rip ≡ 0 = z in absurd (omega arith)));
-            not_filter = ne_eqb k.rip filter_return
-                (λ z. (let q : k.rip ≡ filter_return = z in absurd (omega arith)));
-            not_finally = ne_eqb k.rip finally_return
-                (λ z. (let q : k.rip ≡ finally_return = z in absurd (omega arith)));
-            found = h.0;
-            past_prologue = le-ltb (distance image_base k.rip - x.begin) (taking_size f.size)
-                (omega arith);
-            not_epilogue = ap (tail_at 0 m) at
-                ∙ no_epilogue (image_base + rva) m i inner is_there (omega arith);
-            no_parents = refl;
-            kept = nine;
-            eight = rest_length k.kept nine;
-            slots = (let l : f.size ≤ f.size = omega arith in l);
-            room = room;
-            is_told = allocations_are_told m k e (taking_size f.size) f.size back refl refl
-                (omega arith) nine room w;
-          },
-        )))
+        let one = append-nil (chosen i) in
+        let few = longest i in
+        let l = ap length one in
+        inner_found t m (image_base + rva) (rva - x.begin) e.info (entry_at rva (omega arith) high)
+        (image_base + rva + length (spelled (i ∷ []))) (omega arith) (past rva low) (spell i) []
+        (items_are_at m (image_base + rva) (i ∷ []) (and_from _ true inner.0 refl) (omega arith)
+        (subst (IsExecutableAt m (image_base + rva)) (sym one) is_there))
+        (inner.1 (spell i).plain)
 
     -- the epilogue, and its return
-    epilogue_at : (rva : ℕ) → x.begin + taking_size f.size ≤ rva → rva < end_of x
-        → IsExecutableAt m (image_base + rva) (chosen (give_back f.size))
-        → IsExecutableAt m (image_base + rva + length (chosen (give_back f.size)))
-        (chosen instrs.Return) → FindsReturn t m (image_base + rva) f.size
-    epilogue_at rva low high is_there more =
+    epilogue_leads : is_body (following 0 0 (Allocate f.size ∷ []) (spelled_by spell
+        (epilogue f.size)) (Body [])) ≡ true
+    epilogue_leads =
+        let probe = jumps.distance 10 0 in
+        let q = plan_of_frame f probe in
+        let most = near.1 in
+        let is_plan = plan_near f 10 0 (omega arith) (omega arith) (omega arith) in
+        ap (λ (os : List UnwindOperation). is_body (following 0 0 os (spelled_by spell
+        (epilogue f.size)) (Body []))) (sym (one_code f probe near.0))
+        ∙ ap (λ (is : List Instr). is_body (following 0 0 (operations_of q) (spelled_by spell is)
+        (Body []))) (same_epilogue f.size probe)
+        ∙ ap is_body (epilogue_following spell spells_all q is_plan [])
+
+    epilogue_at : (n rva : ℕ) → f.size ≡ suc n → x.begin + taking_size f.size ≤ rva → rva < end_of x
+        → IsExecutableAt m (image_base + rva) (spelled (epilogue (suc n)))
+        → FindsOwed t m (image_base + rva) owed
+    epilogue_at n rva is' low high is_there =
         let s = small rva high in
         let most = near.1 in
-        by_epilogue t m (image_base + rva) (omega arith) (λ z. absurd (omega arith))
-        (λ z. absurd (omega arith)) f.size
-        (λ k at. past_at rva low high k at (Some (give_back f.size ∷ instrs.Return ∷ []))
-        (at_epilogue m (image_base + rva) f.size (omega arith) is_there more (omega arith)))
+        let to = image_base + rva + length (spelled (epilogue (suc n))) in
+        let few = longest (give_back (suc n)) in
+        let less = longest instrs.Return in
+        let l = length-append (chosen (give_back (suc n))) (spelled (instrs.Return ∷ [])) in
+        let k = length-append (chosen instrs.Return) (spelled []) in
+        opening_found t m (image_base + rva) (rva - x.begin) e.info
+        (entry_at rva (omega arith) high) to (omega arith) (past rva low)
+        (spell (give_back (suc n))) (spell instrs.Return ∷ []) []
+        (items_are_at m (image_base + rva) (epilogue (suc n))
+        (and_from _ true (signed (suc n) (omega arith)) refl) (omega arith) is_there)
+        (subst (λ k. is_body (following 0 0 (Allocate f.size ∷ []) (spelled_by spell (epilogue k))
+        (Body [])) ≡ true) is' epilogue_leads)
+        (λ z. false≢true (ap is_other z))
 
     return_at' : (rva : ℕ) → x.begin + taking_size f.size ≤ rva → rva < end_of x
-        → IsExecutableAt m (image_base + rva) (chosen instrs.Return)
-        → FindsReturn t m (image_base + rva) 0
+        → IsExecutableAt m (image_base + rva) (spelled (instrs.Return ∷ []))
+        → FindsReturn t m (image_base + rva)
     return_at' rva low high is_there =
         let s = small rva high in
-        by_return t m (image_base + rva) (omega arith) (λ z. absurd (omega arith))
-        (λ z. absurd (omega arith))
-        (λ k at. past_at rva low high k at (Some (instrs.Return ∷ []))
-        (at_return m (image_base + rva) is_there (omega arith)))
+        let less = longest instrs.Return in
+        let k = length-append (chosen instrs.Return) (spelled []) in
+        leaving_found t m (image_base + rva) (rva - x.begin) e.info
+        (entry_at rva (omega arith) high)
+        (image_base + rva + length (spelled (instrs.Return ∷ []))) (omega arith) (past rva low)
+        (spell instrs.Return ∷ []) []
+        (items_are_at m (image_base + rva) (instrs.Return ∷ []) refl (omega arith) is_there) refl
+
+  -- what is to be undone in it, by its frame
+  abbrev pub owed_if : Option FrameLayout → Owed
+  owed_if o = owed_by (tables.entry_of (site_of program) x (or_none o)).info (is_leaf o)
 
   -- ---- its code
 
@@ -216,8 +249,7 @@ module _ (program : LinearProgram) (c : HasWholeImage program) (name : BodyName)
       let room = h.room in
       ap sizes (frame_same x.routine.frame y.frame x.begin check
       (begin_of (plan_of program) (sites_of program) name) (sites_of program).check_stack
-      (sized program index x at_index) h.near.frame (place program c name b is).begin refl
-      (omega arith))
+      (sized program index x at_index) (place program c name b is).begin refl (omega arith))
 
   entry_is : sizes making + sizes arguments ≡ entry_size x.routine
   entry_is = omega (
@@ -271,7 +303,7 @@ module _ (program : LinearProgram) (c : HasWholeImage program) (name : BodyName)
 
     pub argument_found : HasProgram t (funclets_of program) program (plan_of program)
         (sites_of program) m → (o : Option FrameLayout) → x.routine.frame ≡ o
-        → FindsReturn t m (image_base + argument_at) (size_of o)
+        → FindsOwed t m (image_base + argument_at) (owed_if o)
     argument_found has None none = leaf_at none argument_at (omega arith) argument_high
     argument_found has (Some f) framed =
         let size = ap (λ o. sizes (texts.frame_code x.begin check o)) framed
@@ -329,16 +361,19 @@ module _ (program : LinearProgram) (c : HasWholeImage program) (name : BodyName)
         m) where
       ends_are_at : (n k rva : ℕ) → n ≡ suc k → rva ≡ template_at x label + sizes fetching
           → IsExecutableAt m (image_base + rva) (spelled (epilogue n ++ th.after))
-          → IsExecutableAt m (image_base + rva) (chosen (give_back n))
+          → IsExecutableAt m (image_base + rva) (spelled (epilogue (suc k)))
           × IsExecutableAt m (image_base + rva + length (chosen (give_back n)))
-          (chosen instrs.Return)
-      ends_are_at zero k rva e r is_there = absurd (omega arith)
-      ends_are_at (suc n) k rva e r is_there =
-          let first = executable_split m (image_base + rva) (chosen (give_back (suc n)))
-          (spelled (instrs.Return ∷ th.after)) is_there in
-          let second = executable_split m (image_base + rva + length (chosen (give_back (suc n))))
-          (chosen instrs.Return) (spelled th.after) first.1 in
-          (first.0, second.0)
+          (spelled (instrs.Return ∷ []))
+      ends_are_at n k rva e r is_there =
+          let whole = (code_split m (image_base + rva) (epilogue (suc k)) th.after
+          (subst (λ q. IsExecutableAt m (image_base + rva) (spelled (epilogue q ++ th.after))) e
+          is_there)).0 in (
+            whole,
+            subst (λ q. IsExecutableAt m (image_base + rva + length (chosen (give_back q)))
+                (spelled (instrs.Return ∷ []))) (sym e)
+                (executable_split m (image_base + rva) (chosen (give_back (suc k)))
+                (spelled (instrs.Return ∷ [])) whole).1,
+          )
 
       ends_size : (n k : ℕ) → n ≡ suc k → sizes (epilogue n) ≡ length (chosen (give_back n)) + 1
       unfolding size
@@ -346,8 +381,8 @@ module _ (program : LinearProgram) (c : HasWholeImage program) (name : BodyName)
       ends_size (suc n) k e = refl
 
       framed_return : (f : FrameLayout) → x.routine.frame ≡ Some f → (done left : List Instr)
-          → fetching ≡ done ++ left → FindsReturn t m
-          (image_base + (template_at x label + sizes done)) f.size
+          → fetching ≡ done ++ left → FindsOwed t m
+          (image_base + (template_at x label + sizes done)) (owed_if (Some f))
       framed_return f framed done [] parts =
           let some = (near f framed).0 in
           let l = least f framed in
@@ -361,9 +396,9 @@ module _ (program : LinearProgram) (c : HasWholeImage program) (name : BodyName)
           let size = ends_size f.size (f.size - 1) k in
           let fit = subst (λ n. sizes fetching + sizes (epilogue n) + template_at x label
           ≤ end_of x) same fits in
-          subst (λ (q : List Instr). FindsReturn t m (image_base + (template_at x label + sizes q))
-          f.size) (sym whole)
-          (epilogue_at f framed rva (omega arith) (omega arith) z.0 z.1)
+          subst (λ (q : List Instr). FindsOwed t m (image_base + (template_at x label + sizes q))
+          (owed_if (Some f))) (sym whole)
+          (epilogue_at f framed (f.size - 1) rva k (omega arith) (omega arith) z.0)
       framed_return f framed done (item ∷ left) parts =
           let l = least f framed in
           let inner = inner_at done left item
@@ -387,7 +422,7 @@ module _ (program : LinearProgram) (c : HasWholeImage program) (name : BodyName)
           (spelled (left ++ (epilogue y.frame ++ th.after))) rest).0)
 
       leaf_return : x.routine.frame ≡ None → (done left : List Instr) → fetching ≡ done ++ left
-          → FindsReturn t m (image_base + (template_at x label + sizes done)) 0
+          → FindsReturn t m (image_base + (template_at x label + sizes done))
       leaf_return none done left parts =
           let f' = fits in
           let some = epilogue_some y.frame in
@@ -395,14 +430,14 @@ module _ (program : LinearProgram) (c : HasWholeImage program) (name : BodyName)
           (omega (arith, ap sizes parts, sizes_append done left))
 
       pub return_found : (o : Option FrameLayout) → x.routine.frame ≡ o → (done left : List Instr)
-          → fetching ≡ done ++ left → FindsReturn t m
-          (image_base + (template_at x label + sizes done)) (size_of o)
+          → fetching ≡ done ++ left → FindsOwed t m
+          (image_base + (template_at x label + sizes done)) (owed_if o)
       return_found None none done left parts = leaf_return none done left parts
       return_found (Some f) framed done left parts = framed_return f framed done left parts
 
       pub end_found : (o : Option FrameLayout) → x.routine.frame ≡ o → (k : ℕ) → y.frame ≡ suc k
           → FindsReturn t m (image_base + (template_at x label + sizes fetching
-          + size (give_back y.frame))) 0
+          + size (give_back y.frame)))
       unfolding size
       end_found None none k e = absurd (let z = sized program index x at_index ∙ ap size_of none in
           omega arith)
@@ -415,4 +450,4 @@ module _ (program : LinearProgram) (c : HasWholeImage program) (name : BodyName)
           let same : image_base + rva + length (chosen (give_back y.frame))
           ≡ image_base + (rva + length (chosen (give_back y.frame))) = omega arith in
           return_at' f framed (rva + length (chosen (give_back y.frame))) (omega arith)
-          (omega arith) (subst (λ n. IsExecutableAt m n (chosen instrs.Return)) same z.1)
+          (omega arith) (subst (λ n. IsExecutableAt m n (spelled (instrs.Return ∷ []))) same z.1)

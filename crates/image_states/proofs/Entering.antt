@@ -1,45 +1,30 @@
 -- The code of a body, as its image has it and as the plan says.
-use Rattle.std.proofs.Common.{◌≡◌, ℕ, zero, suc, ◌+◌, ◌^◌, ◌<◌, ◌==◌, Bool, true, false, not, leb, List, [], ◌∷◌, ◌++◌, get_or, Option, Some, None, refl, sym, ap, subst, ◌∙◌, arith}
+use Rattle.std.proofs.Common.{◌≡◌, ℕ, zero, suc, ◌+◌, ◌^◌, ◌<◌, ◌==◌, Bool, true, false, not, List, [], ◌∷◌, ◌++◌, get_or, Option, Some, None, refl, sym, ap, subst, ◌∙◌, arith}
 use Rattle.std.specs.Prelude.{slice_get, ◌&&◌}
 use Rattle.std.proofs.lemmas.Option.{slice_get_within, get_or_from_slice_get, slice_get-get_or}
-use Rattle.image_states.specs.Words.{W64, Rax, Rsp, Instr, Instruction, FuncletKind, Filter, Finally, LinearBody, LinearFunction, LinearFunclet, LinearProgram, BodyName, FunctionBody, FuncletBody, function_body, funclet_body, body_of, FrameLayout, Layout, template_size, body_size, offset_of, code_from, address_or, IsFrameNear, RoutineView, leaf_if, funclet_frame, nothing, funclet, argument_code, check_stack_at, own_addresses, routine_code, text_begin, linked, Placed, body_begin, site_of, image_base, links, links_of, begin_of, entry_code, code_of, is_leaf, routine_of, address_of, plan_of, sites_of, HasWholeImage, W32, parameters_code, FitsFunclet, kept_by, HasParent, making, frame_code, parent_base, keep_base, keep_argument, function_arguments, funclet_arguments}
-use Rattle.x64_instr.specs.declared.operand.RegisterOrMemory.TheVariants as places
-use Rattle.x64_instr.specs.declared.operand.Operand.TheVariants as operands
-use Rattle.x64_instr.specs.declared.instruction.Operation.TheVariants as arithmetic
-use Rattle.x64_instr.specs.declared.instruction.Instr.TheVariants as instrs
-use Rattle.frame_rules.specs.Plan.{allocating}
-use Rattle.image_states.proofs.Lemmas.{code_is, all_at, entry_small, none_some, IsThere, size_of, sized}
+use Rattle.image_states.specs.Words.{Instruction, FuncletKind, Filter, Finally, LinearBody, LinearFunction, LinearFunclet, LinearProgram, BodyName, FunctionBody, FuncletBody, function_body, funclet_body, body_of, FrameLayout, Layout, template_size, body_size, offset_of, code_from, address_or, RoutineView, leaf_if, funclet_frame, nothing, funclet, argument_code, check_stack_at, own_addresses, routine_code, text_begin, linked, Placed, body_begin, site_of, image_base, links, links_of, begin_of, entry_code, code_of, is_leaf, routine_of, address_of, plan_of, sites_of, HasWholeImage, parameters_code, FitsFunclet, kept_by, HasParent, frame_code, parent_base, keep_base, keep_argument, function_arguments, funclet_arguments}
+use Rattle.frame_rules.specs.Bytes.{prologue_code}
+use Rattle.image_states.proofs.Lemmas.{all_at, entry_small, none_some, IsThere, size_of, sized}
 use Rattle.template_code.specs.Jumps.{distance}
 use Rattle.x64_emit.specs.Bodies.{label_list}
 use Rattle.x64_emit.specs.Entries as link_entries
 use Rattle.image_link.specs.Routines.{entry_of}
 use Rattle.image_link.specs.Routines as link
 use Rattle.image_link.specs.Text as texts
-use Rattle.match_bodies.specs.CodeSites.{arguments_code}
+use Rattle.match_bodies.specs.CodeSites.{arguments_code, frame_plan}
 use Rattle.image_states.proofs.Places.{is_function, is_funclet}
 use Rattle.image_states.proofs.Addresses.{place, here}
-use Rattle.image_states.proofs.Shifts.{AreMoved, call_moved, code_moved}
+use Rattle.image_states.proofs.Shifts.{AreMoved, code_moved}
 
 -- ---- frames
 
-making_same : (n at check at' check' : ℕ) (small : Bool) → at' ≡ image_base + at
-    → check' ≡ image_base + check → at + 10 < 2 ^ 48
-    → making n at' check' small ≡ allocating (distance (at + 10) check) n small
-making_same n at check at' check' true e f lt = refl
-making_same n at check at' check' false e f lt =
-    ap (λ (i : Instr). instrs.Move W32 (places.Register Rax) (operands.Immediate n) ∷ i
-    ∷ instrs.Arithmetic arithmetic.Sub W64 (places.Register Rsp) (operands.Register Rax) ∷ [])
-    (call_moved image_base (omega arith) (at + 10) check (at' + 10) check' (omega arith) f
-    (omega arith))
-
 pub frame_same : (o : Option FrameLayout) (size at check at' check' : ℕ) → size ≡ size_of o
-    → IsFrameNear o → at' ≡ image_base + at → check' ≡ image_base + check → at + 10 < 2 ^ 48
+    → at' ≡ image_base + at → check' ≡ image_base + check → at + 10 < 2 ^ 48
     → frame_code size at' check' (is_leaf o) ≡ texts.frame_code at check o
-frame_same None size at check at' check' s near e f lt = refl
-frame_same (Some g) size at check at' check' s near e f lt =
-    ap (λ (n : ℕ). making n at' check' (leb n 4096)) s
-    ∙ making_same g.size at check at' check' (leb g.size 4096) e f lt
-    ∙ sym (code_is (distance (at + 10) check) g.size near.0)
+frame_same None size at check at' check' s e f lt = refl
+frame_same (Some g) size at check at' check' s e f lt =
+    let away : distance (at' + 10) check' ≡ distance (at + 10) check = omega arith in
+    λ i. prologue_code (frame_plan (s i) (away i))
 
 -- ---- arguments
 
@@ -157,7 +142,7 @@ module _ (program : LinearProgram) (c : HasWholeImage program) (name : BodyName)
       let size = sized program p.index x p.at in
       (λ i. frame_same x.routine.frame x.routine.layout.frame x.begin check
       (begin_of (plan_of program) (sites_of program) name) (sites_of program).check_stack size
-      h.near.frame p.begin refl (omega arith) i ++ arguments_same program c name b is i)
+      p.begin refl (omega arith) i ++ arguments_same program c name b is i)
 
   pub moved : AreMoved image_base (links program x)
       (links_of (plan_of program) (sites_of program) name)

@@ -4,10 +4,13 @@ use Rattle.std.specs.Prelude.{slice_get}
 use Rattle.std.specs.List.{AllByRecursion}
 use Rattle.image_states.proofs.Lemmas.{some_same, none_some, routine_small, size_of, sized, frame_is_at, leaves_are_at}
 use Rattle.std.proofs.lemmas.Bool.{false≢true}
-use Rattle.image_states.specs.Words.{Memory, Instr, rsp, FrameIsAt, IsExecutableAt, Instruction, LinearBody, LinearProgram, BodyName, body_of, FrameLayout, taking_size, spelled, sizes, IsCodeAt, routine_code, IsInstructionNear, site_of, image_base, template_at, links, HasProgram, links_of, begin_of, code_of, functions_of, funclets_of, is_leaf, or_none, routine_of, address_of, plan_of, sites_of, HasWholeImage, IsReturn, IsInBody, frame_of, IsResumed, FramesAreWaiting, HasAllocation, LeavesAreWaiting}
+use Rattle.image_states.specs.Words.{Memory, Instr, rsp, FrameIsAt, IsExecutableAt, Instruction, LinearBody, LinearProgram, BodyName, body_of, FrameLayout, taking_size, spelled, sizes, IsCodeAt, routine_code, IsInstructionNear, site_of, image_base, template_at, links, HasProgram, links_of, begin_of, code_of, functions_of, funclets_of, is_leaf, or_none, routine_of, address_of, plan_of, sites_of, HasWholeImage, IsReturn, IsInBody, frame_of, IsResumed, FramesAreWaiting, IsPlanned, LeavesAreWaiting, spell, IsFrameNear}
 use Rattle.match_stack.specs.Stack.{IsAsTold}
-use Rattle.eh_tables.specs.declared.code.UnwindOperation.TheVariants.{Allocate}
-use Rattle.eh_tables.specs.declared.code.UnwindCode.{UnwindCode}
+use Rattle.eh_tables.specs.declared.unwind_info.Trailer.TheVariants.{Nothing}
+use Rattle.frame_layout.specs.Layout.{info_of}
+use Rattle.frame_layout.proofs.Sizes.{describes}
+use Rattle.frame_rules.specs.Plan as rules
+use Rattle.match_bodies.specs.CodeSites.{body_plan, frame_plan}
 use Rattle.linear_code.specs.declared.instruction.Instruction.TheVariants as instructions
 use Rattle.x64_templates.specs.Epilogues as epilogues
 use Rattle.image_tables.specs.Entries as tables
@@ -36,10 +39,6 @@ framed_of None e = absurd (false≢true (sym e))
 pub leaf_of : (o : Option FrameLayout) → is_leaf o ≡ true → o ≡ None
 leaf_of (Some f) e = absurd (false≢true e)
 leaf_of None e = refl
-
-same_size : (o : Option FrameLayout) → (or_none o).size ≡ size_of o
-same_size (Some f) = refl
-same_size None = refl
 
 near_at : (P : Instruction → Type 0) (is : List Instruction) (number : ℕ) (i : Instruction)
     → AllByRecursion P is → slice_get is number ≡ Some i → P i
@@ -143,21 +142,29 @@ module _ (program : LinearProgram) (c : HasWholeImage program) where
         returns = returns;
       })
 
-  pub allocation : (name : BodyName) (b : LinearBody) → body_of program name ≡ Some b
-      → HasAllocation (functions_of program) (funclets_of program) program (plan_of program)
+  -- an entry tells of the prologue of its frame
+  pub planned : (name : BodyName) (b : LinearBody) → body_of program name ≡ Some b
+      → (plan_of program).leaf name ≡ false
+      → IsPlanned (functions_of program) (funclets_of program) program (plan_of program)
       (sites_of program) name
-  allocation name b is =
+  planned name b is framed =
       let p = place program c name b is in
       let x = routine_of program name in
-      let size : (or_none x.routine.frame).size ≡ x.routine.layout.frame = same_size x.routine.frame
-      ∙ sym (sized program p.index x p.at) in
-      let code : ℕ → UnwindCode = λ n. record {
-        offset = taking_size (or_none x.routine.frame).size;
-        operation = Allocate n;
-      } in
+      let f = framed_of x.routine.frame framed in
+      let near = subst IsFrameNear f.1 (here program c name b is).near.frame in
+      let probe = (body_plan (plan_of program) (sites_of program) name).probe in
+      let size : f.0.size ≡ x.routine.layout.frame = sym (sized program p.index x p.at
+      ∙ ap size_of f.1) in
+      let d = describes f.0 (taking_size f.0.size) (info_of f.0 Nothing).codes near.0 refl refl
+      probe in
       record {
-        offset = taking_size (or_none x.routine.frame).size;
-        codes = ap (λ (n : ℕ). code n ∷ []) size;
-        no_register = refl;
-        no_offset = refl;
+        codes = ap (λ (o : Option FrameLayout).
+            (tables.entry_of (site_of program) x (or_none o)).info.codes) f.1 ∙ d.codes
+            ∙ ap (λ n. (rules.unwind_of spell (frame_plan n probe)).codes) size;
+        frame_register = refl;
+        frame_offset = refl;
+        prologue_size = ap (λ (o : Option FrameLayout).
+            (tables.entry_of (site_of program) x (or_none o)).info.prologue_size) f.1
+            ∙ d.prologue_size
+            ∙ ap (λ n. (rules.unwind_of spell (frame_plan n probe)).prologue_size) size;
       }

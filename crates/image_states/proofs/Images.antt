@@ -6,7 +6,7 @@ use Rattle.image_states.proofs.Lemmas.{entry_sizes}
 use Rattle.image_states.proofs.Addresses.{InImage, check_stack_inside, place, here, label_rises, body_inside, not_first}
 use Rattle.image_states.proofs.Slots.{laid_out}
 use Rattle.image_states.proofs.Entering.{entry_same}
-use Rattle.image_states.proofs.Framed.{frames_are_at, leaves_are_at', allocation}
+use Rattle.image_states.proofs.Framed.{frames_are_at, leaves_are_at', planned}
 use Rattle.image_states.proofs.Funclets.{funclets_begin}
 use Rattle.image_states.proofs.Giving.{gives}
 use Rattle.image_states.proofs.Resuming.{resumptions}
@@ -73,7 +73,7 @@ images_are_programs program c = record {
   landings = λ name b label is l. (let lt = ltb-true label
       (length (routine_of program name).routine.body.code) l in
       let e = same_length program c name b is in omega arith);
-  allocations = λ name b is leaf. allocation program c name b is;
+  plans = planned program c;
   frames = frames_are_at program c;
   leaves = leaves_are_at' program c;
   funclets = funclets_begin program c;

@@ -3,7 +3,6 @@ pub use Rattle.pe_write.proofs.Programs.{listed}
 pub use Rattle.template_code.proofs.Sizes.{offset_next, sizes_append, template_sizes, sizes_spelled}
 pub use Rattle.frame_rules.proofs.Bytes.{never_empty, items_are_at}
 pub use Rattle.host_model.proofs.Slots.{slots_read, slots-beside}
-pub use Rattle.frame_layout.proofs.Sizes.{code_is, takes_thirteen}
 pub use Rattle.x64_emit.proofs.Nearby.{some_instruction, all_at, test_small, arguments_small, passing_small, instruction_in_room}
 pub use Rattle.image_link.proofs.Entries.{entry_sizes, routine_small, entry_small}
 pub use Rattle.image_link.proofs.Images.{no_routine}

@@ -5,7 +5,7 @@ pub mod Addresses
 pub mod Slots
 pub mod Entering
 pub mod Framed
-pub mod Popping
+pub mod EntryWalks
 pub mod Callers
 pub mod Found
 pub mod Inserting

@@ -81,6 +81,19 @@ pub data Item : Type 0 where
   Searches : Exception → Resumption → Handler → List Handler → Item
   Unwinds : List Region → Target → Item
 
+-- the functions of bodies, innermost first, with one body more inside them; a funclet works on the
+-- activation of a function outside it
+abbrev pub with_function : BodyName → List ℕ → List ℕ
+with_function (FunctionBody f) fs = f ∷ fs
+with_function (FuncletBody k) fs = fs
+
+-- the functions that wait, innermost first
+abbrev pub functions_in : List Item → List ℕ
+functions_in [] = []
+functions_in (Waits f ∷ items) = with_function f.body (functions_in items)
+functions_in (Searches exc resumption h hs ∷ items) = functions_in items
+functions_in (Unwinds rs target ∷ items) = functions_in items
+
 -- memory, and the locals of the live activations, outermost first
 pub record Store : Type 0 where
   pub memory : Memory

@@ -246,6 +246,7 @@ module _ (program : Program) (linear : LinearProgram) (rate body : ℕ) where
     kept_through (below_slot context.activation names.free) shapes base now store k
         (kept_fewer everywhere (below_slot context.activation names.free) shapes now store
         (λ j x o. tt) p.1),
+    p.2,
   )
 
   -- an expression's value, and what a statement does with it
@@ -296,5 +297,5 @@ module _ (program : Program) (linear : LinearProgram) (rate body : ℕ) where
       (within program n (Eval e) context st) (stays_through names shapes context base store kept.1)
       (ih.eval e names false z shapes context site store pc [] st store steps light fits has
       (env_now names z shapes context site base store kept.1 standing.env)
-      (kept.0, kept_itself everywhere shapes store) held))
+      (kept.0, kept_itself everywhere shapes store, kept.2) held))
       (λ v mid after lower kept held. go v mid after (omega arith) kept held)

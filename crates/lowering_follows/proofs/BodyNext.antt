@@ -173,7 +173,7 @@ module _ (program : Program) (linear : LinearProgram) (rate body : ℕ) where
         last 0 asked base' (omega arith) (omega arith) placed.code
         (record { around = tt; exit = tt; loop_end = tt; loop_next = tt })
         (surroundings_finally program linear rate body names z shapes context site fsite base
-        (statements_notes last) flag st store standing kept isf.same_found)
+        (statements_notes last) flag st store standing kept isf.same_found isf.same_functions)
         (noted_kept program linear rate body names names' z shapes context base (of_test flag) st
         store refl standing.env.shape standing.past kept) (ap (λ h. h + 2) same_held)))))))
 

@@ -269,6 +269,7 @@ module _ (program : Program) (linear : LinearProgram) (rate body : ℕ) where
                 (kept_set ok shapes store context.activation x v
                 (λ y h past o. let same : z ≡ y = let a = standing.env.shape in cc in
                 let q : z.own ≡ y.own = ap (λ y. y.own) same in omega arith)),
+            kept.2,
           )
 
       clear_turn : (x : ℕ) (pc : ℕ) (temps : List ℕ) (st : State) (store : Store) (k : ℕ)

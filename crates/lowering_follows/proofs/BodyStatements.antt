@@ -1,5 +1,5 @@
 -- Statements, after their step.
-use Rattle.std.proofs.Common.{◌≡◌, ◌≤◌, ℕ, ◌+◌, List, [], ◌∷◌, length, refl, sym, subst, arith}
+use Rattle.std.proofs.Common.{◌∙◌, ◌≡◌, ◌≤◌, ℕ, ◌+◌, List, [], ◌∷◌, length, refl, sym, subst, arith}
 use Rattle.std.specs.Prelude.{◌-◌, max, nat_eq, Option, Some, None}
 use Rattle.lowering_follows.specs.Words.{Expression, Declared, Filter, Statement, Declare, Block, Evaluate, If, IfElse, For, DoWhile, Break, Continue, Leave, TryExcept, TryFinally, Statements, Program, Exception, State, Normal, Returned, Outcome, Gives, choose, and_then, Context, Handler, Run, ForIteration, DoIteration, TryBody, RunFinally, all, optional, landing, finally_after, declare_each, statement, within, Temporary, JumpIfZero, Region, LinearProgram, BodyName, Store, set_local, LoweringContext, except_names, in_try, in_except, in_guarded, expression_size, discarded_size, declared_size, all_declared_size, returned_size, statement_size, statements_size, statement_notes, statements_notes, except_kind, region, expression_code, expression_weight, optional_weight, statement_weight, statements_weight, declared_weight, all_declared_weight, AllDeclaredPlaced, Placed, for_end, do_end, Return}
 use Rattle.linear_code.specs.declared.program.RegionKind.TheVariants as regions
@@ -196,10 +196,11 @@ module _ (program : Program) (linear : LinearProgram) (rate body : ℕ) (roomy :
         (statements_notes block) exc mid after here_surrounded kept)
         (noted_kept program linear rate body scope.names names' z shapes context base exc.code mid
         after refl standing.env.shape standing.past kept) held))
-        (λ e store k f m fr. (
+        (λ e store k f m fr fn. (
           subst (λ fs. Alike shapes f.memory fs store) (sym fr)
               (subst (λ mm. Alike shapes mm e.frames store) (sym m) k.0),
           k.1,
+          fn ∙ k.2,
         ))
         (bih.try_run ss (in_try done scope) z shapes within_it inside base pc st store steps
         (omega arith) has.body

@@ -131,7 +131,7 @@ module _ (program : Program) (linear : LinearProgram) (rate body : ℕ)
         → count ≡ length fn.parameters → st.steps_left ≤ n → o + 1 + body + 3 ≤ rate → x ≤ o
         → At pc (Call f (length temps) count ∷ []) → Km st store → st.held ≡ site.held
         → G pc (temps ++ vs) st store 13 x o o (pushed context site (pc + 1) temps)
-        (enter (within program n) (Some fn) vs context st)
+        (enter (within program n) f (Some fn) vs context st)
     called_runs f fn count pc temps vs st store x o there len same steps light le has kept held =
         let lf = functions_at f fn there in
         first linear rate (conf context site pc (temps ++ vs) st store)
@@ -141,8 +141,8 @@ module _ (program : Program) (linear : LinearProgram) (rate body : ℕ)
         (price 3 0 body body) (price 13 x o o)
         (Wv program linear rate body same_globals roomy n ih names info z shapes context site base
         around (pushed context site (pc + 1) temps))
-        (enter (within program n) (Some fn) vs context st) (omega arith, omega arith, omega arith)
-        refl refl (prefix_self st.events)
+        (enter (within program n) f (Some fn) vs context st)
+        (omega arith, omega arith, omega arith) refl refl (prefix_self st.events)
         (λ k. call_turn f count pc temps vs lf.0 st store k has len lf.1)
         (ih.call f fn lf.0 vs names info z shapes context site base pc temps st store steps there
         lf.1 (len ∙ same) has.1 around kept held)
@@ -161,13 +161,13 @@ module _ (program : Program) (linear : LinearProgram) (rate body : ℕ)
         let end : pc1 + 1 ≡ pc + (arguments_size es + 1) = omega arith in
         let part = pushed context site (pc + (arguments_size es + 1)) temps in
         arguments_runs es (Call f d (argument_count es) ∷ []) pc temps st store 13 1 w part
-        (λ vs st. enter (within program n) (slice_get program.functions f) vs context st) steps
+        (λ vs st. enter (within program n) f (slice_get program.functions f) vs context st) steps
         (omega arith) (omega arith) fits.0 has kept held
         (λ vs mid after len steps kept held last.
         subst (λ q. G pc1 (temps ++ vs) mid after 13 w w w (pushed context site q temps)
-        (enter (within program n) (slice_get program.functions f) vs context mid)) end
+        (enter (within program n) f (slice_get program.functions f) vs context mid)) end
         (subst (λ o. G pc1 (temps ++ vs) mid after 13 w w w (pushed context site (pc1 + 1) temps)
-        (enter (within program n) o vs context mid)) (sym fits.1.there)
+        (enter (within program n) f o vs context mid)) (sym fits.1.there)
         (called_runs f fn (argument_count es) pc1 temps vs mid after w w fits.1.there len
         fits.1.takes steps (omega arith) (omega arith) last kept held)))
 
@@ -212,7 +212,7 @@ module _ (program : Program) (linear : LinearProgram) (rate body : ℕ)
         let store' : Store = record store { memory = m } in
         record {
           store = store';
-          fits = (memory_alike shapes st.memory st.frames store m kept.0, kept.1);
+          fits = (memory_alike shapes st.memory st.frames store m kept.0, kept.1, kept.2);
           same = held;
           reaches = stepped linear rate (conf context site pc (temps ++ vs) st store)
               (pushed context site (pc + 1) temps v st' store') st st' 13 x o refl (omega arith)

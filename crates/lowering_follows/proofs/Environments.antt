@@ -1,13 +1,13 @@
 -- What is around a part of a program while its linear code runs: where codes and flags are kept,
 -- and which handlers a search meets.
 use Rattle.std.proofs.Common.{◌≡◌, ◌≤◌, ℕ, suc, ◌+◌, List, [], ◌∷◌, ◌++◌, length, refl, ap, ◌∙◌}
-use Rattle.std.specs.Prelude.{Bool, true, false, get_or, slice_get, Option, Some, None}
-use Rattle.lowering_follows.specs.Words.{Expression, Filter, Always, Funclet, Program, Exception, State, Context, Handler, of_test, Temporary, LinearProgram, LinearFunclet, FuncletBody, Store, ExceptionSource, Names, NoException, OfFilter, KeptIn, expression_code, ExpressionFits, expression_weight, HasAt}
+use Rattle.std.specs.Prelude.{Bool, true, false, get_or, slice_get, reverse, Option, Some, None}
+use Rattle.lowering_follows.specs.Words.{Expression, Filter, Always, Funclet, Program, Exception, State, Context, Handler, of_test, Temporary, LinearProgram, LinearFunclet, FuncletBody, Store, ExceptionSource, Names, NoException, OfFilter, KeptIn, expression_code, ExpressionFits, expression_weight, HasAt, with_function, functions_in}
 use Rattle.linear_code.specs.declared.instruction.Instruction.TheVariants.{Return}
 use Rattle.linear_code.specs.declared.program.FuncletKind.TheVariants as kinds
 use Rattle.linear_machine.specs.Frames as machine
 use Rattle.lowering_follows.proofs.Lemmas.{Site, found}
-use Rattle.lowering_follows.proofs.Stores.{at_list, Shape, Alike, Places, NotesKept}
+use Rattle.lowering_follows.proofs.Stores.{at_list, Shape, functions_of, Alike, Places, NotesKept}
 
 -- ---- codes and flags
 
@@ -67,6 +67,12 @@ pub flag_among : (ok ok' : Places) (z : Shape) (source : Option ℕ) (activation
 flag_among ok ok' z None activation flag s f c = c
 flag_among ok ok' z (Some x) activation flag s f c = noted_among ok ok' z activation s x
     (of_test flag) f c
+
+-- ---- functions
+
+-- those of the body at a place and of what waits below it, innermost first
+abbrev pub functions_at : Site → List ℕ
+functions_at site = with_function site.body (functions_in site.below)
 
 -- ---- handlers
 
@@ -188,7 +194,7 @@ module _ (program : Program) (linear : LinearProgram) (rate body : ℕ) where
   -- a store that may be there since another one
   abbrev pub KeptFrom : Places → List Shape → Store → State → Store → Type 0
   KeptFrom ok shapes base st store = Alike shapes st.memory st.frames store
-      × NotesKept ok shapes base store
+      × NotesKept ok shapes base store × (st.functions ≡ functions_of shapes)
 
   -- what is around a part of a program, as it was at a store
   pub record Env (ok : Places) (names : Names) (info : Bool) (z : Shape) (shapes : List Shape)
@@ -198,6 +204,7 @@ module _ (program : Program) (linear : LinearProgram) (rate body : ℕ) where
     pub flag : FlagBound ok z names.abnormal context.activation context.abnormal base
     pub informed : info ≡ true → site.exception ≡ context.exception
     pub handlers : Match ok shapes base context.handlers (found linear rate context site)
+    pub functions : functions_at site ≡ reverse (functions_of shapes)
 
   -- the same at a store where the places are as they were
   pub env_later : (ok : Places) (names : Names) (info : Bool) (z : Shape) (shapes : List Shape)
@@ -211,6 +218,7 @@ module _ (program : Program) (linear : LinearProgram) (rate body : ℕ) where
     informed = s.informed;
     handlers = match_kept ok shapes base later context.handlers (found linear rate context site) k
         s.handlers;
+    functions = s.functions;
   }
 
   pub env_among : (ok ok' : Places) (names : Names) (info : Bool) (z : Shape) (shapes : List Shape)
@@ -223,4 +231,5 @@ module _ (program : Program) (linear : LinearProgram) (rate body : ℕ) where
     informed = s.informed;
     handlers = match_among ok ok' shapes base context.handlers (found linear rate context site) f
         s.handlers;
+    functions = s.functions;
   }

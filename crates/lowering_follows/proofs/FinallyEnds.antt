@@ -95,6 +95,7 @@ module _ (program : Program) (linear : LinearProgram) (rate body : ℕ) where
           named = refl;
           bare = refl;
           same_found = refl;
+          same_functions = refl;
           onward = λ next target st store. refl;
         } in
         after linear rate s s' from st 0 0 x (price 1 0 y y) (price 1 0 (x + y) (x + y)) w'
@@ -136,6 +137,7 @@ module _ (program : Program) (linear : LinearProgram) (rate body : ℕ) where
           named = refl;
           bare = refl;
           same_found = walked;
+          same_functions = refl;
           onward = λ next target st store. unwound_is program linear rate body target context site
               pc [] st store next has.1;
         } in

@@ -4,11 +4,12 @@ use Rattle.std.proofs.lemmas.List.{length-replicate}
 use Rattle.std.proofs.lemmas.Option.{slice_get_within}
 use Rattle.std.specs.Prelude.{◌-◌, Bool, false, take, replicate, get_or, slice_get, Option, Some, None}
 use Rattle.lowering_follows.specs.Words.{Filter, Always, Funclet, Program, Function, State, Value, Normal, Returned, Target, Outcome, Gives, Context, Handler, no_exception, all, ended_call, enter, within, Temporary, LinearProgram, LinearFunction, FunctionBody, Item, Waits, Store, with_some, deeper, regions_at, handlers_in, handlers, target_past, unwind, target_of, begin_function, exec, Names, LoweringContext, Nowhere, Jumps, statements_size, statements_notes, constant, own_locals, scope_of, statements_weight, HasAt, FunctionPlaced}
+use Rattle.source_meaning.specs.State.{with_activation, with_outermost}
 use Rattle.linear_code.specs.declared.instruction.Instruction.TheVariants as instructions
 use Rattle.linear_machine.specs.Frames as machine
 use Rattle.lowering_follows.proofs.Lemmas.{Part, at, Site, frame_of, conf, Picked, Ways, price, found, Reaches, Claim, value_ways, more, attains_out, reaches_after, reaches_more, stepped, first, fetch, sooner, deep_claim, prefix_self, handlers_below, leaves}
 use Rattle.linear_machine.proofs.Stretch.{Kept}
-use Rattle.lowering_follows.proofs.Stores.{at_push_old, Shape, FrameAlike, Places, NotesKept, everywhere, below_slot, kept_itself, kept_through, get_push_new, get_pushed, push_alike, take_alike, call_kept}
+use Rattle.lowering_follows.proofs.Stores.{at_push_old, Shape, FrameAlike, Places, NotesKept, everywhere, below_slot, kept_itself, kept_through, get_push_new, get_pushed, push_alike, take_alike, call_kept, push_functions, push_inwards, take_functions}
 use Rattle.lowering_follows.proofs.Turns.{constant_turn}
 use Rattle.lowering_follows.proofs.Environments.{FlagBound, HowFits, Match, match_kept}
 use Rattle.lowering_follows.proofs.TaskClaims.{pushed, Within, Around}
@@ -31,10 +32,11 @@ get_before_zeros [] n x = get_zeros n x
 get_before_zeros (v ∷ vs) n zero = refl
 get_before_zeros (v ∷ vs) n (suc x) = get_before_zeros vs n x
 
-pub begins_alike : (parameters locals slots : ℕ) (vs : List ℕ) → length vs ≡ parameters
-    → parameters + locals ≤ slots → FrameAlike (record { own = parameters + locals; all = slots })
+pub begins_alike : (function parameters locals slots : ℕ) (vs : List ℕ) → length vs ≡ parameters
+    → parameters + locals ≤ slots
+    → FrameAlike (record { function = function; own = parameters + locals; all = slots })
     (vs ++ zeros locals) (vs ++ zeros (slots - parameters))
-begins_alike parameters locals slots vs e le = record {
+begins_alike function parameters locals slots vs e le = record {
   own = length-append vs (zeros locals) ∙ omega (arith, e, length-replicate {A = ℕ} locals 0);
   all = length-append vs (zeros (slots - parameters))
       ∙ omega (arith, e, length-replicate {A = ℕ} (slots - parameters) 0);
@@ -134,14 +136,14 @@ module _ (program : Program) (linear : LinearProgram) (rate body : ℕ) where
     left s = record s { activations = take m s.activations }
 
     abbrev ended : State → State
-    ended st = record st { frames = take m st.frames }
+    ended st = with_outermost m st
 
     abbrev Kc : Kept
     Kc = Stays program linear rate body scope.names (shapes ++ new ∷ []) callee base'
 
     -- the same where a target has left it
     abbrev left_by_target : State → State
-    left_by_target st = record st { frames = take m st.frames; held = st.held + 1 }
+    left_by_target st = with_outermost m (record st { held = st.held + 1 })
 
     call_fits : scope.names.free ≡ new.own → (mid : State) (after : Store) → Kc mid after
         → Within program linear rate body shapes base (ended mid) (left after)
@@ -152,6 +154,7 @@ module _ (program : Program) (linear : LinearProgram) (rate body : ℕ) where
           take_alike shapes new mid.memory mid.frames after m same_m p.0,
           kept_through everywhere shapes base store (left after) kept
               (call_kept everywhere shapes new store after locals m same_m same whole),
+          take_functions shapes new mid.functions m same_m p.2,
         )
 
     ended_reaches : (s t : Part) (st mid : State) (r e d : ℕ) → Reaches linear rate s t st mid r e d
@@ -288,7 +291,7 @@ module _ (program : Program) (linear : LinearProgram) (rate body : ℕ) where
       (Waits (frame_of context site pc temps) ∷ site.below) store st.events))) st
       (price 3 0 body body)
       (value_ways (pushed context site (pc + 1) temps) (Within program linear rate body shapes base)
-      context site) (enter (within program n) (Some fn) vs context st)
+      context site) (enter (within program n) k (Some fn) vs context st)
   call_runs n bih k fn lf vs names info z shapes context site base pc temps st store f steps len
       walked around kept held =
       let w : Ways = value_ways (pushed context site (pc + 1) temps)
@@ -296,12 +299,12 @@ module _ (program : Program) (linear : LinearProgram) (rate body : ℕ) where
       let x = statements_weight fn.body in
       let m = length st.frames in
       let scope = scope_of fn in
-      let new : Shape = record { own = own_locals fn; all = lf.body.locals } in
+      let new : Shape = record { function = k; own = own_locals fn; all = lf.body.locals } in
       let shapes' = shapes ++ new ∷ [] in
       let given = vs ++ replicate (length fn.locals) 0 in
       let locals = vs ++ replicate (lf.body.locals - lf.parameters) 0 in
       let store' : Store = record store { activations = store.activations ++ locals ∷ [] } in
-      let st' : State = record st { frames = st.frames ++ given ∷ [] } in
+      let st' : State = with_activation k given st in
       let inner : Context = record {
         handlers = context.handlers;
         activation = m;
@@ -335,7 +338,7 @@ module _ (program : Program) (linear : LinearProgram) (rate body : ℕ) where
       let roomy : own_locals fn ≤ lf.body.locals = omega (arith, f.locals) in
       let alike : FrameAlike new given locals = subst
       (λ p. FrameAlike new given (vs ++ replicate (lf.body.locals - p) 0)) (sym f.parameters)
-      (begins_alike (length fn.parameters) (length fn.locals) lf.body.locals vs len roomy) in
+      (begins_alike k (length fn.parameters) (length fn.locals) lf.body.locals vs len roomy) in
       let walk : handlers linear below None ≡ found linear rate context site = ap
       (λ rs. handlers_in rs context.activation (length site.below)
       ++ handlers linear site.below None) walked in
@@ -358,6 +361,7 @@ module _ (program : Program) (linear : LinearProgram) (rate body : ℕ) where
               (found linear rate context site)
               (match_kept program linear rate body everywhere shapes base store context.handlers
               (found linear rate context site) kept.1 around.handlers)));
+          functions = ap (λ fs. k ∷ fs) around.functions ∙ push_inwards shapes new;
         };
         past = omega arith;
         room = omega (arith, f.locals);
@@ -371,7 +375,7 @@ module _ (program : Program) (linear : LinearProgram) (rate body : ℕ) where
         exception = no_exception;
         abnormal = false;
       })
-      (record st { frames = st.frames ++ (vs ++ replicate (length fn.locals) 0) ∷ [] }))) deep
+      (with_activation k (vs ++ replicate (length fn.locals) 0) st))) deep
       held
       (subst (λ c. Claim linear rate (at c) st (price 3 0 body body) w
       (ended_call m (all (within program n) fn.body inner st'))) here
@@ -399,4 +403,5 @@ module _ (program : Program) (linear : LinearProgram) (rate body : ℕ) where
       standing (
         push_alike shapes st.memory st.frames store new given locals alike kept.0,
         kept_itself (below_slot m (own_locals fn)) shapes' store',
+        push_functions shapes new st.functions kept.2,
       ) held))))))

@@ -71,7 +71,7 @@ module _ (program : Program) (linear : LinearProgram) (rate body : ℕ)
         let store' : Store = record store { memory = m } in
         record {
           store = store';
-          fits = (memory_alike shapes st.memory st.frames store m kept.0, kept.1);
+          fits = (memory_alike shapes st.memory st.frames store m kept.0, kept.1, kept.2);
           same = held;
           reaches = stepped linear rate (conf context site pc temps st store)
               (at (conf context site (pc + 1) (after v) st' store')) st st' 1 e 0 refl (omega arith)
@@ -349,6 +349,7 @@ module _ (program : Program) (linear : LinearProgram) (rate body : ℕ)
               around.shape fits kept.0,
           kept_through everywhere shapes base store store' kept.1
               (kept_set everywhere shapes store context.activation x v apart),
+          kept.2,
         ) in
         ends_by (conf context site pc temps st store) v 1 e 0 e (written (pc + 1) after) st st'
         store' (omega arith) (omega arith) refl refl refl kept' held

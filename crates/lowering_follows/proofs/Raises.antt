@@ -13,7 +13,7 @@ use Rattle.linear_machine.proofs.Stretch.{Kept, unwound}
 use Rattle.lowering_follows.proofs.Stores.{Shape, everywhere}
 use Rattle.lowering_follows.proofs.Places.{has_front, has_after}
 use Rattle.lowering_follows.proofs.Lengths.{expression_length}
-use Rattle.lowering_follows.proofs.Environments.{CodeBound, FilterFits, HowFits, Match, same_length}
+use Rattle.lowering_follows.proofs.Environments.{CodeBound, FilterFits, HowFits, Match, same_length, functions_at}
 use Rattle.lowering_follows.proofs.TaskClaims.{pushed, Within, Around, resumes, answers_search, Runs}
 
 module _ (program : Program) (linear : LinearProgram) (rate body : ℕ) where
@@ -129,6 +129,7 @@ module _ (program : Program) (linear : LinearProgram) (rate body : ℕ) where
     pub named : isite.body ≡ FuncletBody j
     pub bare : isite.regions ≡ []
     pub same_found : handlers linear isite.below None ≡ found linear rate context site
+    pub same_functions : functions_at isite ≡ functions_at site
     pub onward : (next : Next) (target : machine.Target) (st : State) (store : Store)
         → unwind linear next target isite.below None st.events store
         ≡ unwound linear rate context site target temps st store pc next
@@ -441,12 +442,14 @@ module _ (program : Program) (linear : LinearProgram) (rate body : ℕ) where
           informed = λ i. refl;
           handlers = subst (λ fs. Match program linear rate body everywhere shapes base
               context.handlers fs) (sym walked) around.handlers;
+          functions = around.functions;
         } in
         let out : IsFunclet j isite context site pc
         temps = record {
           named = refl;
           bare = refl;
           same_found = walked;
+          same_functions = refl;
           onward = λ next target st store. unwound_is target context site pc temps st store next t;
         } in
         let deep : length store.activations ≡ length st.frames = kept.0.activations

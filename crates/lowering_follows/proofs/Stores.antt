@@ -2,9 +2,10 @@
 -- flags lie after them.
 use Rattle.std.proofs.Common.{◌≡◌, ◌⊎◌, inl, inr, ◌<◌, ◌≤◌, ℕ, zero, suc, ◌+◌, List, [], ◌∷◌, ◌++◌, length, refl, ap, sym, subst, ◌∙◌, arith, length-set}
 use Rattle.std.proofs.lemmas.Bool.{cases_eq, cases_lt}
-use Rattle.std.proofs.lemmas.List.{get_or-set_same, get_or-set_other, length-take, length_push}
+use Rattle.std.proofs.lemmas.List.{get_or-set_same, get_or-set_other, length-take, length_push, length-map, map-append, reverse-append}
 use Rattle.std.proofs.lemmas.Option.{slice_get_within}
-use Rattle.std.specs.Prelude.{get_or, set, take, slice_get, Some, None}
+use Rattle.std.proofs.Math.Seq.{take-append_seam}
+use Rattle.std.specs.Prelude.{get_or, set, take, map, reverse, slice_get, Some, None}
 use Rattle.lowering_follows.specs.Words.{Memory, State, Store, set_local}
 use Rattle.source_meaning.specs.State as model
 
@@ -44,10 +45,38 @@ at_take (suc n) (x ∷ xs) (suc j) h = at_take n xs j (omega arith)
 
 -- ---- shapes of activations
 
--- how many locals the source has, and how many slots there are with codes and flags
+-- of which function; how many locals the source has, and how many slots there are with codes and
+-- flags
 pub record Shape : Type 0 where
+  pub function : ℕ
   pub own : ℕ
   pub all : ℕ
+
+abbrev pub functions_of : List Shape → List ℕ
+functions_of shapes = map (λ z. z.function) shapes
+
+-- one more activation is of its function, and is the first from within
+pub push_functions : (shapes : List Shape) (z : Shape) (functions : List ℕ)
+    → functions ≡ functions_of shapes
+    → functions ++ z.function ∷ [] ≡ functions_of (shapes ++ z ∷ [])
+push_functions shapes z functions is =
+    ap (λ fs. fs ++ z.function ∷ []) is ∙ sym (map-append (λ z. z.function) shapes (z ∷ []))
+
+pub push_inwards : (shapes : List Shape) (z : Shape)
+    → z.function ∷ reverse (functions_of shapes) ≡ reverse (functions_of (shapes ++ z ∷ []))
+push_inwards shapes z =
+    sym (ap reverse (map-append (λ z. z.function) shapes (z ∷ []))
+    ∙ reverse-append (functions_of shapes) (z.function ∷ []))
+
+-- without the last, they are those of the others
+pub take_functions : (shapes : List Shape) (z : Shape) (functions : List ℕ) (m : ℕ)
+    → m ≡ length shapes → functions ≡ functions_of (shapes ++ z ∷ [])
+    → take m functions ≡ functions_of shapes
+take_functions shapes z functions m e is =
+    let size : m ≡ length (functions_of shapes) = e ∙ sym (length-map shapes (λ z. z.function)) in
+    ap (take m) (is ∙ map-append (λ z. z.function) shapes (z ∷ []))
+    ∙ ap (λ k. take k (functions_of shapes ++ z.function ∷ [])) size
+    ∙ take-append_seam (functions_of shapes) (z.function ∷ [])
 
 get_push_old : (zs : List Shape) (z : Shape) (k : ℕ) → k < length zs
     → slice_get (zs ++ z ∷ []) k ≡ slice_get zs k

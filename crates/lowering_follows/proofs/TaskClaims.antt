@@ -127,7 +127,7 @@ module _ (program : Program) (linear : LinearProgram) (rate body : ℕ) where
         (Waits (frame_of context site pc temps) ∷ site.below) store st.events))) st
         (price 3 0 body body)
         (value_ways (pushed context site (pc + 1) temps) (Within shapes base) context site)
-        (enter (within program n) (Some fn) vs context st)
+        (enter (within program n) k (Some fn) vs context st)
 
   pub shown_raise : (exc : Exception) (resumption : Resumption) (c : Configuration)
       → IsPrefixOf c.events (events_of (raise linear (exec linear zero) exc resumption c))

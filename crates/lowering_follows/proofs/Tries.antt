@@ -12,7 +12,7 @@ use Rattle.linear_machine.proofs.Stretch.{Kept}
 use Rattle.lowering_expressions.specs.declared.scope.Way as jumps
 use Rattle.lowering_expressions.specs.Scope as scopes
 use Rattle.lowering_follows.proofs.Stores.{Shape, NotesKept, below_slot, kept_set, kept_through, kept_fewer, kept_itself, note_read, note_set_alike}
-use Rattle.lowering_follows.proofs.Environments.{CodeBound, code_kept, code_among, flag_kept, flag_among, Match, match_kept, match_among}
+use Rattle.lowering_follows.proofs.Environments.{CodeBound, code_kept, code_among, flag_kept, flag_among, Match, match_kept, match_among, functions_at}
 use Rattle.lowering_follows.proofs.BodyClaims.{JumpFits, ExitFits, Inner, exit_way, jump_way, leave_way, statement_ways, Stays, Surroundings}
 
 -- inside one region more
@@ -185,6 +185,7 @@ module _ (program : Program) (linear : LinearProgram) (rate body : ℕ) where
               (found linear rate context site) grow
               (match_kept program linear rate body ok shapes base base' context.handlers
               (found linear rate context site) k env.handlers);
+          functions = env.functions;
         };
         past = let p = standing.past in omega arith;
         room = omega arith;
@@ -196,10 +197,12 @@ module _ (program : Program) (linear : LinearProgram) (rate body : ℕ) where
       → Surroundings program linear rate body names z shapes context site base (1 + m)
       → Stays program linear rate body names shapes context base mid store
       → found linear rate context fsite ≡ found linear rate context site
+      → functions_at fsite ≡ functions_at site
       → Surroundings program linear rate body (finally_names names) z shapes
       (record context { abnormal = flag }) fsite
       (set_local store context.activation names.free (of_test flag)) m
-  surroundings_finally names z shapes context site fsite base m flag mid store standing kept same =
+  surroundings_finally names z shapes context site fsite base m flag mid store standing kept same
+      functions =
       let a = context.activation in
       let ok = below_slot a names.free in
       let ok' = below_slot a (names.free + 1) in
@@ -231,6 +234,7 @@ module _ (program : Program) (linear : LinearProgram) (rate body : ℕ) where
               (found linear rate context site) grow
               (match_kept program linear rate body ok shapes base base' context.handlers
               (found linear rate context site) k env.handlers));
+          functions = functions ∙ env.functions;
         };
         past = let p = standing.past in omega arith;
         room = omega arith;
@@ -249,6 +253,7 @@ module _ (program : Program) (linear : LinearProgram) (rate body : ℕ) where
         past kept.0,
     kept_itself (below_slot context.activation names'.free) shapes
         (set_local store context.activation names.free v),
+    kept.2,
   )
 
   -- a block's stores are stores of what is around it
@@ -263,6 +268,7 @@ module _ (program : Program) (linear : LinearProgram) (rate body : ℕ) where
         p.0,
         kept_through ok shapes base base' store k
             (kept_fewer ok' ok shapes base' store (λ j x o q. let l = o q in omega arith) p.1),
+        p.2,
       )
 
   -- the body of a `__try` with an `__except`
@@ -292,6 +298,7 @@ module _ (program : Program) (linear : LinearProgram) (rate body : ℕ) where
           flag = s.env.flag;
           informed = λ e. absurd (cc);
           handlers = ((refl, tt), s.env.handlers);
+          functions = s.env.functions;
         };
         past = s.past;
         room = s.room;
@@ -329,6 +336,7 @@ module _ (program : Program) (linear : LinearProgram) (rate body : ℕ) where
             ),
             s.env.handlers,
           );
+          functions = s.env.functions;
         };
         past = s.past;
         room = s.room;
@@ -349,6 +357,7 @@ module _ (program : Program) (linear : LinearProgram) (rate body : ℕ) where
           flag = s.env.flag;
           informed = λ e. absurd (cc);
           handlers = s.env.handlers;
+          functions = s.env.functions;
         };
         past = s.past;
         room = s.room;

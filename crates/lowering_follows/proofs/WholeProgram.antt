@@ -7,7 +7,7 @@ use Rattle.seh_num.specs.declared.event.Event.{Event}
 use Rattle.lowering_follows.specs.Words.{W32, W64, signed, wrapped, Size, Program, Function, State, Value, Normal, Returned, Target, End, Outcome, Gives, choose, Context, no_exception, all, ended_call, enter, within, does, for_parameters, outside, ran, shows, meaning, Temporary, LinearProgram, LinearFunction, FunctionBody, Store, Configuration, Seen, Finished, with_some, Running, Stuck, begin_function, exec, main_arguments, start, seen, shown, statements_size, statements_notes, constant, own_locals, scope_of, statements_weight, HasAt, FunctionPlaced, first_memory, IsPrefixOf}
 use Rattle.source_meaning.specs.declared.ended.Ended.{Ended}
 use Rattle.source_meaning.specs.declared.ended.Ended.TheVariants.{Exit}
-use Rattle.source_meaning.specs.State.{deeper}
+use Rattle.source_meaning.specs.State.{deeper, with_activation}
 use Rattle.source_meaning.specs.Meaning as source
 use Rattle.source_meaning.proofs.RemainingSteps.{enters_within}
 use Rattle.linear_code.specs.declared.instruction.Instruction.TheVariants as instructions
@@ -129,7 +129,7 @@ module _ (program : Program) (linear : LinearProgram) (rate body : ℕ)
     locals = vs ++ replicate (lf.body.locals - lf.parameters) 0
 
     abbrev begun : ℕ → State
-    begun n = record (source.start program n) { frames = given ∷ [] }
+    begun n = with_activation program.main given (source.start program n)
 
     abbrev first_store : Store
     first_store = record { memory = first_memory linear.globals; activations = [] }
@@ -188,12 +188,16 @@ module _ (program : Program) (linear : LinearProgram) (rate body : ℕ)
     main_runs : (n : ℕ) → Done (at c0) (begun n)
         (ended_call 0 (all (within program n) fn.body inner (begun n)))
     main_runs n =
-        let new : Shape = record { own = own_locals fn; all = lf.body.locals } in
+        let new : Shape = record {
+          function = program.main;
+          own = own_locals fn;
+          all = lf.body.locals;
+        } in
         let bodies = (both program linear rate body same_globals roomy placed n).bodies in
         let wide : own_locals fn ≤ lf.body.locals = omega (arith, f.locals) in
         let alike : FrameAlike new given locals = subst
         (λ p. FrameAlike new given (vs ++ replicate (lf.body.locals - p) 0)) (sym f.parameters)
-        (begins_alike (length fn.parameters) (length fn.locals) lf.body.locals vs
+        (begins_alike program.main (length fn.parameters) (length fn.locals) lf.body.locals vs
         (arguments_length fn.parameters (wrapped W64 arg) few) wide) in
         let nothing : Alike [] (first_memory program.globals) []
         first_store = record {
@@ -210,6 +214,7 @@ module _ (program : Program) (linear : LinearProgram) (rate body : ℕ)
             flag = refl;
             informed = λ e. absurd (cc);
             handlers = tt;
+            functions = refl;
           };
           past = omega arith;
           room = omega (arith, f.locals);
@@ -235,9 +240,11 @@ module _ (program : Program) (linear : LinearProgram) (rate body : ℕ)
           push_alike [] (first_memory program.globals) [] first_store new given locals alike
               nothing,
           kept_itself (below_slot 0 (own_locals fn)) (new ∷ []) store',
+          refl,
         ) refl))
 
-    enters : (n : ℕ) → enter (within program n) (Some fn) vs outside (source.start program n)
+    enters : (n : ℕ)
+        → enter (within program n) program.main (Some fn) vs outside (source.start program n)
         ≡ ended_call 0 (all (within program n) fn.body inner (begun n))
     unfolding deeper choose
     enters n = refl
@@ -245,9 +252,10 @@ module _ (program : Program) (linear : LinearProgram) (rate body : ℕ)
     ran_is : (n : ℕ) → ran program arg n ≡ ended_call 0
         (all (within program n) fn.body inner (begun n))
     ran_is n =
-        ap (λ main. enter (does program) main (source.main_arguments main arg) outside
+        ap (λ main. enter (does program) program.main main (source.main_arguments main arg) outside
         (source.start program n)) has
-        ∙ enters_within program n (Some fn) vs outside (source.start program n) (omega arith)
+        ∙ enters_within program n program.main (Some fn) vs outside (source.start program n)
+        (omega arith)
         ∙ enters n
 
     done : (n : ℕ) → Done (at c0) (begun n) (ran program arg n)

@@ -33,7 +33,7 @@ pub use Rattle.linear_code.specs.declared.instruction.Instruction.{Instruction}
 pub use Rattle.linear_code.specs.declared.instruction.Instruction.TheVariants.{Compute, Separator, LocalUnwind, JumpIfZero, Call, CallBuiltIn, CallFinally, Information, Jump, Landing}
 pub use Rattle.linear_code.specs.declared.program.Region.{Region}
 pub use Rattle.linear_code.specs.declared.slot.Slot.TheVariants.{Temporary}
-pub use Rattle.linear_machine.specs.Frames.{deeper, BodyName, FuncletBody, body_of, Item, Store, Configuration, Seen, set_local, local_of, Waits, AfterCall, last_temporaries, with_temporary, Finished, Unwinds, FunctionBody, SameOperation, function_body, Resumption, Searches, funclet_body, with_temporaries, forth, Running, Stuck}
+pub use Rattle.linear_machine.specs.Frames.{deeper, BodyName, FuncletBody, body_of, Item, Store, Configuration, Seen, set_local, local_of, Waits, AfterCall, last_temporaries, with_temporary, Finished, Unwinds, FunctionBody, SameOperation, function_body, Resumption, Searches, funclet_body, with_temporaries, forth, Running, Stuck, with_function, functions_in}
 unfoldable pub use Rattle.linear_machine.specs.Frames.{pick, with_some}
 pub use Rattle.linear_machine.specs.Instructions.{end_finally, end_body, end_funclet, count_of, begin_function, waiting, built_in, is_constant, computed, operand}
 pub use Rattle.linear_machine.specs.Regions.{holds, leads_to, stops, handlers_in, handlers, regions_at, regions_of, handlers_of}

@@ -1,7 +1,7 @@
 -- A walk gives a body's caller, and where it finds the return address at the body's instructions.
 use Rattle.std.proofs.Common.{◌≡◌, ◌<◌, Some, List, ◌∷◌, length, subst, arith, inl, inr}
 use Rattle.std.proofs.lemmas.Option.{slice_get_cases}
-use Rattle.match_bodies.specs.Words.{Memory, Context, Functions, Funclet, LinearProgram, LinearBody, BodyName, body_of, state, ImagePlan, GivesCallers, Sites, HasCaller, FindsReturn, HasProgram, IsProgramImage, setting_of}
+use Rattle.match_bodies.specs.Words.{Memory, Context, Functions, Funclet, LinearProgram, LinearBody, BodyName, body_of, state, ImagePlan, GivesCallers, Sites, HasCaller, FindsOwed, owed_of, HasProgram, IsProgramImage, setting_of}
 use Rattle.match_bodies.proofs.Lemmas.{past_frame}
 use Rattle.match_bodies.proofs.ReturnAddresses.{label_found}
 use Rattle.std.specs.Prelude.{ℕ}
@@ -18,7 +18,7 @@ pub begin_finds : (t : Functions) (fs : List Funclet) (program : LinearProgram) 
     (q : Sites) (image : IsProgramImage t fs program p q) (m : Memory) (name : BodyName)
     (b : LinearBody) (label : ℕ)
     → body_of program name ≡ Some b → HasProgram t fs program p q m → label < length b.code
-    → FindsReturn t m (p.address name label) (p.layout name).frame
+    → FindsOwed t m (p.address name label) (owed_of p name)
 begin_finds t fs program p q image m name b label there has lt = elim
     (slice_get_cases b.code label).1 [
       | inl x ↦ label_found (setting_of t fs program p q image) name b there m has label x.0 x.2

@@ -1,24 +1,25 @@
--- The frames of bodies are one allocation each: the return address is above it, and the caller's
--- registers are those that are there.
-use Rattle.std.proofs.Common.{◌≡◌, ℕ, suc, ◌+◌, ◌^◌, ◌<◌, Bool, true, false, Some, Ok, List, [], ◌∷◌, length, drop, refl, sym, ap, subst, ◌∙◌, arith}
-use Rattle.std.specs.Prelude.{slice_index, slice_set}
-use Rattle.match_bodies.specs.Words.{Memory, Rsp, Context, context_of, kept_of, State, register, rsp, word, LinearBody, BodyName, body_of, Configuration, context_below, activations_below, StackFrame, On, frame_of, HasFrame, IsFramed, Setting, IsWellFormed, AllSmall, IsAsTold, IsAllocated}
+-- The frames of bodies, as their codes tell: what of them is to be undone, and what keeps them. Each
+-- is one allocation: the return address is above it, and the caller's registers are those that are
+-- there.
+use Rattle.std.proofs.Common.{◌≡◌, ℕ, suc, ◌+◌, ◌^◌, ◌<◌, ◌≤◌, Bool, true, false, not, eqb, Some, Ok, List, [], ◌∷◌, length, drop, refl, sym, ap, subst, ◌∙◌, arith}
+use Rattle.std.specs.Prelude.{slice_index}
+use Rattle.match_bodies.specs.Words.{Memory, Rsp, Context, context_of, kept_of, State, register, rsp, word, LinearBody, BodyName, FunctionBody, FuncletBody, body_of, Configuration, StackFrame, frame_of, HasFrame, IsFramed, Setting, IsWellFormed, AllSmall, IsAsTold, IsAllocated, IsOwed, nothing_owed, owed_of, owed_by, caller_owed, get}
+use Rattle.eh_tables.specs.declared.code.UnwindOperation.TheVariants.{Allocate}
+use Rattle.virtual_unwind.specs.CallerOf.{base_if}
+use Rattle.virtual_unwind.specs.Undone.{operations}
+use Rattle.frame_rules.specs.Codes.{depth}
+use Rattle.frame_rules.proofs.Undoing.{stack_depth}
+use Rattle.match_stack.specs.Stack.{AreAbove}
+use Rattle.match_bodies.specs.Layouts.{IsLaidOut, IsLayoutIf}
 use Rattle.match_bodies.specs.Setting.{InBody}
-use Rattle.match_bodies.proofs.Lemmas.{wide_of}
+use Rattle.match_stack.proofs.FrameWords.{told_above}
+use Rattle.match_bodies.proofs.Lemmas.{wide_of, word-is, is_word}
 use Rattle.x64_machine.specs.declared.cpu.Cpu.{Cpu}
 use Rattle.match_stack.proofs.AllocatedFrames.{allocations_are_told, told_allocations}
 use Rattle.match_bodies.proofs.InstructionEffects.{others_of}
 use Rattle.match_bodies.proofs.StackTop.{leaf_layout}
-
--- the registers of a context beside RSP
-pub rest_length : (ks : List ℕ) → length ks ≡ 9 → length (drop 1 ks) ≡ 8
-rest_length [] n = absurd (omega arith)
-rest_length (k ∷ ks) n = omega arith
-
--- a context with another RSP
-pub first_set : (ks : List ℕ) (v : ℕ) → length ks ≡ 9 → v ∷ drop 1 ks ≡ slice_set ks 0 v
-first_set [] v n = absurd (omega arith)
-first_set (k ∷ ks) v n = refl
+use Rattle.match_bodies.proofs.FrameCode.{HasAllocation, allocation_alone}
+use Rattle.match_bodies.proofs.OwedCallers.{rest_length, returns_alone, at_return}
 
 -- the caller's registers are small where all are
 pub small_others : (s : State) → IsWellFormed s → AllSmall (others_of s.cpu.registers)
@@ -59,13 +60,35 @@ module _ (setting : Setting) where
     pub others_are : others_of s.cpu.registers ≡ others
 
   module _ (name : BodyName) (b : LinearBody) (is : body_of program name ≡ Some b) where
+    pub framed_some : p.leaf name ≡ false → 0 < (p.layout name).frame
+    framed_some e = some name (image.laid_out name b is) e
+      where
+        some : (n : BodyName) → IsLaidOut program p n b → p.leaf n ≡ false
+            → 0 < (p.layout n).frame
+        some (FunctionBody f) h e =
+            let l = subst (λ (leaf : Bool). IsLayoutIf program p (p.layout (FunctionBody f)) b leaf)
+            e h in
+            let passed = l.passed in
+            let temporaries = l.temporaries in
+            let locals = l.locals in
+            omega arith
+        some (FuncletBody k) h e =
+            let passed = h.layout.passed in
+            let kept = h.layout.kept in
+            let temporaries = h.layout.temporaries in
+            omega arith
+
+    -- its codes are one allocation
+    pub allocation : p.leaf name ≡ false → HasAllocation t fs program p q name
+    allocation e = allocation_alone t fs program p q name (framed_some e) (image.plans name b is e)
+
     -- where the return address is there
     pub framed_by_return : (m : Memory) (c : Context) (back : ℕ) → p.leaf name ≡ false
         → length c.kept ≡ 9 → rsp c + (p.layout name).frame + 8 < 2 ^ 64
         → word m (rsp c + (p.layout name).frame) ≡ Ok back
         → IsFramed p m name c back (drop 1 c.kept)
     framed_by_return m c back e kept room w =
-        let a = image.allocations name b is e in
+        let a = allocation e in
         let zero_offset = a.no_offset in
         record {
           kept = kept;
@@ -75,11 +98,89 @@ module _ (setting : Setting) where
               a.codes a.no_register (omega arith) kept room w;
         }
 
+    -- what its codes tell of is owed
+    pub framed_owed : (m : Memory) (c : Context) (back : ℕ) (others : List ℕ) → p.leaf name ≡ false
+        → IsFramed p m name c back others
+        → IsOwed m c (owed_of p name) (p.layout name).frame back others
+    framed_owed m c back others e h =
+        subst (λ (leaf : Bool). IsOwed m c (owed_by (p.entry name).info leaf) (p.layout name).frame
+        back others) (sym e)
+        (record {
+          kept = h.kept;
+          eight = h.eight;
+          room = h.room;
+          small = h.is_told.offset;
+          allowed = h.is_told.allowed;
+          stack = h.is_told.stack;
+          framed = h.is_told.framed;
+          unsaved = h.is_told.others;
+        })
+
+    -- they lead up to its return address
+    pub owed_frame : (m : Memory) (c : Context) (size back : ℕ) (others : List ℕ)
+        → IsOwed m c (owed_of p name) size back others → size ≡ (p.layout name).frame
+    owed_frame m c size back others o =
+        let deep = stack_depth m (get (caller_owed c size back others)) back (rsp c) (rsp c)
+        (owed_of p name).codes o.stack in
+        let d = codes_depth in
+        omega arith
+      where
+        codes_depth : depth (owed_of p name).codes ≡ (p.layout name).frame
+        codes_depth = by (p.leaf name) refl
+          where
+            by : (leaf : Bool) → p.leaf name ≡ leaf
+                → depth (owed_by (p.entry name).info leaf).codes ≡ (p.layout name).frame
+            by false e = ap depth (ap operations (allocation e).codes)
+                ∙ (let z : (p.layout name).frame + 0 ≡ (p.layout name).frame = omega arith in z)
+            by true e = sym (leaf_layout t fs program p q name b e
+                (image.laid_out name b is)).frame
+
+    -- and a frame is as they tell where they are owed
+    pub owed_framed : (m : Memory) (c : Context) (size back : ℕ) (others : List ℕ)
+        → p.leaf name ≡ false → IsOwed m c (owed_of p name) size back others
+        → IsFramed p m name c back others
+    owed_framed m c size back others e o =
+        let a = allocation e in
+        let i = (p.entry name).info in
+        let tells : operations i.codes ≡ Allocate (p.layout name).frame ∷ [] = ap operations
+        a.codes in
+        let h = subst (λ (leaf : Bool). IsOwed m c (owed_by i leaf) size back others) e o in
+        let whole = owed_frame m c size back others o in
+        let k = subst (λ n. IsOwed m c (owed_by i false) n back others) whole h in
+        record {
+          kept = k.kept;
+          eight = k.eight;
+          room = k.room;
+          is_told = record {
+            offset = k.small;
+            allowed = k.allowed;
+            base = ap (λ r. base_if i c (not (eqb r 0))) a.no_register;
+            stack = k.stack;
+            framed = k.framed;
+            others = k.unsaved;
+            above = subst (AreAbove (rsp c + (p.layout name).frame) (rsp c) (rsp c)) (sym tells)
+                (omega arith);
+          };
+        }
+
+    -- nothing of it is below the return address
+    pub codes_above : (at : ℕ) → AreAbove (at + (p.layout name).frame) at at (owed_of p name).codes
+    codes_above at = by (p.leaf name) refl
+      where
+        by : (leaf : Bool) → p.leaf name ≡ leaf → AreAbove (at + (p.layout name).frame) at at
+            (owed_by (p.entry name).info leaf).codes
+        by false e =
+            let tells = ap operations (allocation e).codes in
+            subst (AreAbove (at + (p.layout name).frame) at at) (sym tells) (omega arith)
+        by true e =
+            let none = (leaf_layout t fs program p q name b e (image.laid_out name b is)).frame in
+            omega arith
+
     allocated : (m : Memory) (c : Context) (back : ℕ) (others : List ℕ) → p.leaf name ≡ false
         → length c.kept ≡ 9 → length others ≡ 8 → IsAsTold m c (frame_of p name back others)
         → IsAllocated m c (frame_of p name back others)
     allocated m c back others e kept eight h =
-        let a = image.allocations name b is e in
+        let a = allocation e in
         told_allocations m c (frame_of p name back others) a.offset a.codes kept eight h
 
     pub tells_return : (s : State) (back : ℕ) (others : List ℕ) → length others ≡ 8
@@ -114,17 +215,114 @@ module _ (setting : Setting) where
             omega arith in
             record { returns = ap (word s.memory) z ∙ r.returns; others = r.others_are }
 
+    -- it is there in another memory that has its words, with the same nonvolatile registers
+    pub frame_stays : (s u : State) (back : ℕ) (others : List ℕ)
+        → kept_of u.cpu.registers ≡ kept_of s.cpu.registers
+        → ((a v : ℕ) → register s.cpu Rsp + (p.layout name).frame ≤ a
+        → a + 8 ≤ register s.cpu Rsp + (p.layout name).frame + 8 → word s.memory a ≡ Ok v
+        → word u.memory a ≡ Ok v)
+        → HasFrame s (p.leaf name) (frame_of p name back others)
+        → HasFrame u (p.leaf name) (frame_of p name back others)
+    frame_stays s u back others same words h = by (p.leaf name) refl h
+      where
+        by : (leaf : Bool) → p.leaf name ≡ leaf → HasFrame s leaf (frame_of p name back others)
+            → HasFrame u leaf (frame_of p name back others)
+        by false e h =
+            let sp = register s.cpu Rsp in
+            let size = (p.layout name).frame in
+            told_with u.memory (context_of s.cpu) (context_of u.cpu) (frame_of p name back others)
+            same (told_above s.memory u.memory (sp + size) (sp + size + 8) (context_of s.cpu)
+            (frame_of p name back others)
+            (λ a v l k w. is_word u.memory a v w.high (words a v l k (word-is s.memory a v w)))
+            (omega arith) (omega arith) h)
+        by true e h =
+            let none = (leaf_layout t fs program p q name b e (image.laid_out name b is)).frame in
+            record {
+              returns = ap (λ (ks : List ℕ). word u.memory (slice_index ks 0)) same
+                  ∙ words (register s.cpu Rsp) back (omega arith) (omega arith) h.returns;
+              others = ap (λ (ks : List ℕ). drop 1 ks) same ∙ h.others;
+            }
+
+    -- of a frame that is there
+    pub frame_owed : (s : State) (back : ℕ) (others : List ℕ) → length others ≡ 8
+        → register s.cpu Rsp + (p.layout name).frame + 8 < 2 ^ 64
+        → HasFrame s (p.leaf name) (frame_of p name back others)
+        → IsOwed s.memory (context_of s.cpu) (owed_of p name) (p.layout name).frame back others
+    frame_owed s back others eight room h = by (p.leaf name) refl h
+      where
+        c : Context
+        c = context_of s.cpu
+
+        by : (leaf : Bool) → p.leaf name ≡ leaf → HasFrame s leaf (frame_of p name back others)
+            → IsOwed s.memory c (owed_of p name) (p.layout name).frame back others
+        by false e h = framed_owed s.memory c back others e
+            (record { kept = refl; eight = eight; room = room; is_told = h })
+        by true e h =
+            let none = (leaf_layout t fs program p q name b e (image.laid_out name b is)).frame in
+            subst (λ (leaf : Bool). IsOwed s.memory c (owed_by (p.entry name).info leaf)
+            (p.layout name).frame back others) (sym e)
+            (subst (λ n. IsOwed s.memory c nothing_owed n back others) (sym none)
+            (subst (IsOwed s.memory c nothing_owed 0 back) h.others
+            (returns_alone s.memory c back refl (omega arith) h.returns)))
+
+    -- where the return address is there, and the registers are the caller's
+    pub owed_again : (m : Memory) (c : Context) (back : ℕ) (others : List ℕ) → length c.kept ≡ 9
+        → rsp c + (p.layout name).frame + 8 < 2 ^ 64
+        → word m (rsp c + (p.layout name).frame) ≡ Ok back → drop 1 c.kept ≡ others
+        → IsOwed m c (owed_of p name) (p.layout name).frame back others
+    owed_again m c back others kept room w same = subst
+        (λ (os : List ℕ). IsOwed m c (owed_of p name) (p.layout name).frame back os) same
+        (by (p.leaf name) refl)
+      where
+        by : (leaf : Bool) → p.leaf name ≡ leaf
+            → IsOwed m c (owed_of p name) (p.layout name).frame back (drop 1 c.kept)
+        by false e = framed_owed m c back (drop 1 c.kept) e
+            (framed_by_return m c back e kept room w)
+        by true e =
+            let none = (leaf_layout t fs program p q name b e (image.laid_out name b is)).frame in
+            let flat : rsp c + (p.layout name).frame ≡ rsp c = omega arith in
+            subst (λ (leaf : Bool). IsOwed m c (owed_by (p.entry name).info leaf)
+            (p.layout name).frame back (drop 1 c.kept)) (sym e)
+            (subst (λ n. IsOwed m c nothing_owed n back (drop 1 c.kept)) (sym none)
+            (returns_alone m c back kept (omega arith) (ap (word m) (sym flat) ∙ w)))
+
+    -- and so they are where its codes are owed
+    pub told_again : (m : Memory) (c : Context) (size top back : ℕ) (others : List ℕ)
+        → rsp c + size ≡ top → IsOwed m c (owed_of p name) size back others
+        → (word m top ≡ Ok back) × (drop 1 c.kept ≡ others)
+    told_again m c size top back others at o = by (p.leaf name) refl
+      where
+        by : (leaf : Bool) → p.leaf name ≡ leaf
+            → (word m top ≡ Ok back) × (drop 1 c.kept ≡ others)
+        by false e =
+            let framed = owed_framed m c size back others e o in
+            let whole = owed_frame m c size back others o in
+            let up : rsp c + (p.layout name).frame ≡ top = omega arith in
+            let a = allocated m c back others e o.kept o.eight framed.is_told in
+            (sym (ap (word m) up) ∙ a.returns, a.others)
+        by true e =
+            let i = (p.entry name).info in
+            let n = at_return m c size back others (subst (λ (leaf : Bool).
+            IsOwed m c (owed_by i leaf) size back others) e o) in
+            (ap (word m) (sym at ∙ n.none) ∙ n.returns, n.others_are)
+
+    -- a body without a frame is a leaf function
+    pub no_frame : (p.layout name).frame ≡ 0 → p.leaf name ≡ true
+    no_frame none = by (p.leaf name) refl
+      where
+        by : (leaf : Bool) → p.leaf name ≡ leaf → leaf ≡ true
+        by true e = refl
+        by false e = absurd (let some = framed_some e in omega arith)
+
   -- of a body that runs
+  pub body_owed : (s : State) (c : Configuration) (at : InBody setting s c)
+      → register s.cpu Rsp + (p.layout c.frame.body).frame + 8 < 2 ^ 64
+      → IsOwed s.memory (context_of s.cpu) (owed_of p c.frame.body) (p.layout c.frame.body).frame
+      at.back at.others
+  body_owed s c at room = frame_owed c.frame.body at.slots.code at.slots.body s at.back at.others
+      at.eight room at.frame
+
   pub body_return : (s : State) (c : Configuration) (at : InBody setting s c)
       → TellsReturn s c.frame.body at.back at.others
   body_return s c at = tells_return c.frame.body at.slots.code at.slots.body s at.back at.others
       at.eight at.frame
-
-  -- the list from the registers that are there
-  pub below_here : (s : State) (c : Configuration) (at : InBody setting s c)
-      → On t fs program p s.memory (context_below at.back
-      (register s.cpu Rsp + (p.layout c.frame.body).frame + 8) (others_of s.cpu.registers)) at.is
-      c.below (activations_below c.frame.body at.acts)
-  below_here s c at = subst (λ (os : List ℕ). On t fs program p s.memory (context_below at.back
-      (register s.cpu Rsp + (p.layout c.frame.body).frame + 8) os) at.is c.below
-      (activations_below c.frame.body at.acts)) (sym (body_return s c at).others_are) at.below

@@ -1,18 +1,18 @@
 -- A body calls: the instructions up to the callee's first byte keep the shadow; so does the jump of
 -- a thunk to a service.
-use Rattle.std.proofs.Common.{◌≡◌, ℕ, ◌+◌, ◌-◌, ◌≤◌, Bool, true, false, Some, None, Ok, List, [], ◌∷◌, ◌++◌, length, refl, sym, ap, subst, ◌∙◌, arith, append_assoc}
+use Rattle.std.proofs.Common.{◌≡◌, ℕ, ◌+◌, ◌-◌, ◌≤◌, Bool, true, false, Some, None, List, [], ◌∷◌, ◌++◌, length, refl, sym, ap, subst, ◌∙◌, arith, append_assoc}
 use Rattle.std.specs.Prelude.{slice_get, slice_index}
 use Rattle.std.proofs.lemmas.List.{append-nil}
-use Rattle.match_bodies.specs.Words.{Memory, Rsp, Instr, Context, State, register, with_rip, word, Instruction, LinearBody, BodyName, body_of, size, sizes, thunk, IsNear, call, template, IsReturn, Steps, HasCode, HasThunk, StackItem, Framed, Leaf, ItemIsAt, OwnedBy, context_after, context_below, is_call, KeepsShadow, AllKeep, links_of, frame_of, FindsReturn, Setting, IsResumed, Indirect}
+use Rattle.match_bodies.specs.Words.{Memory, Rsp, Instr, Context, State, register, with_rip, Instruction, LinearBody, BodyName, body_of, size, sizes, thunk, IsNear, call, template, IsReturn, Steps, HasCode, HasThunk, StackItem, Framed, Leaf, ItemIsAt, OwnedBy, context_after, context_below, is_call, KeepsShadow, AllKeep, links_of, frame_of, FindsReturn, FindsOwed, Owed, IsOwed, nothing_owed, owed_of, owed_by, Setting, IsResumed, Indirect}
 use Rattle.x64_instr.specs.declared.operand.Base.TheVariants as bases
 use Rattle.x64_instr.specs.declared.operand.RegisterOrMemory.TheVariants as places
 use Rattle.match_bodies.proofs.Lemmas.{thunk_encodable, code_split, straight, keep_first, frame_low}
 use Rattle.match_bodies.proofs.InstructionEffects.{others_of, Calls, jumps}
 use Rattle.match_bodies.proofs.SilentTurns.{program_kept}
-use Rattle.match_bodies.proofs.StackTop.{leaf_layout}
-use Rattle.match_bodies.proofs.BodyFrames.{framed_by_return}
-use Rattle.match_bodies.proofs.RoutineWalks.{read_here, effect_here, StepsTo, steps_split, keeps_split, Beneath, beneath_stays, callers_above, AllPlain, Finds, Ran, ran}
-use Rattle.match_bodies.proofs.ShadowTurns.{gives_here, called, beneath_called, call_keeps_shadow, beneath_callee}
+use Rattle.match_bodies.proofs.BodyFrames.{codes_above, owed_framed, owed_frame}
+use Rattle.match_bodies.proofs.OwedCallers.{at_return}
+use Rattle.match_bodies.proofs.RoutineWalks.{read_here, effect_here, StepsTo, steps_split, keeps_split, Beneath, beneath_stays, callers_above, gives_above, AllPlain, Finds, Ran, ran}
+use Rattle.match_bodies.proofs.ShadowTurns.{called, owed_called, call_keeps_shadow, beneath_callee}
 use Rattle.match_bodies.proofs.ReturnAddresses.{resumed_found, within_found, template_there}
 use Rattle.match_bodies.specs.Setting.{HasProgram}
 
@@ -25,10 +25,10 @@ module _ (setting : Setting) where
       (parts : template (links_of p q name) (p.layout name) (p.address name label) i
       ≡ before ++ (call next to ∷ after))
       (next_is : p.address name label + sizes before + 5 ≡ next) (near : IsNear next to) (there : ℕ)
-      (resumed : IsResumed setting name b there next) (enters : (m : Memory) → FindsReturn t m to 0)
+      (resumed : IsResumed setting name b there next) (enters : (m : Memory) → FindsReturn t m to)
       (s w : State) (top back : ℕ) (others : List ℕ) (list : List StackItem)
       (here : s.cpu.rip ≡ p.address name label)
-      (beneath : Beneath t s top (top + 8) back others list)
+      (beneath : Beneath t s (owed_of p name) top (top + 8) back others list)
       (below : register s.cpu Rsp + (p.layout name).frame ≡ top) (low : 8 ≤ register s.cpu Rsp)
       (has : HasProgram setting s.memory)
       (plain : AllPlain (p.layout name).frame 8 before) (run : StepsTo (length before + 1) s w)
@@ -39,6 +39,13 @@ module _ (setting : Setting) where
       abbrev sp : ℕ
       sp = register s.cpu Rsp
 
+      abbrev owed : Owed
+      owed = owed_of p name
+
+      -- the nonvolatile registers at the call
+      abbrev others_here : List ℕ
+      others_here = others_of s.cpu.registers
+
       -- up to the call
       halves : (u : State) × StepsTo (length before) s u × StepsTo 1 u w
       halves = steps_split (length before) 1 s w run
@@ -46,18 +53,18 @@ module _ (setting : Setting) where
       abbrev u : State
       u = halves.0
 
-      finds : Finds t fs program p q top (top + 8) back others list s.cpu.rip before frame
+      finds : Finds t fs program p q owed top (top + 8) back others list s.cpu.rip before
       finds done left split m h = by left split
         where
           by : (left : List Instr) → before ≡ done ++ left
-              → FindsReturn t m (s.cpu.rip + sizes done) frame
+              → FindsOwed t m (s.cpu.rip + sizes done) owed
           by [] e =
-              subst (λ a. FindsReturn t m (a + sizes done) frame) (sym here)
+              subst (λ a. FindsOwed t m (a + sizes done) owed) (sym here)
               (within_found setting name b is m h label i at goes done after (call next to)
               (parts ∙ ap (λ (xs : List Instr). xs ++ (call next to ∷ after))
               (e ∙ append-nil done)))
           by (item ∷ left') e =
-              subst (λ a. FindsReturn t m (a + sizes done) frame) (sym here)
+              subst (λ a. FindsOwed t m (a + sizes done) owed) (sym here)
               (within_found setting name b is m h label i at goes done
               (left' ++ (call next to ∷ after)) item
               (parts ∙ ap (λ (xs : List Instr). xs ++ (call next to ∷ after)) e
@@ -69,11 +76,14 @@ module _ (setting : Setting) where
           (subst (HasCode m (p.address name label)) parts
           (template_there setting name b is m h label i at))
 
-      first : Ran t fs program p q top (top + 8) back others list s u before
-      first = ran t fs program p q top (top + 8) back others list before s u frame 8 halves.1 plain
-          (subst (λ a. HasCode s.memory a before) (sym here) (codes s.memory has).0) has beneath
-          below
-          refl finds
+      first : Ran t fs program p q owed top (top + 8) back others list s u before
+      first = ran t fs program p q owed top (top + 8) back others list before s u frame 8 halves.1
+          plain (subst (λ a. HasCode s.memory a before) (sym here) (codes s.memory has).0) has
+          beneath below refl (codes_above setting name b is sp) finds
+
+      -- its nonvolatile registers are those of the body
+      others_same : others_of u.cpu.registers ≡ others_here
+      others_same = first.keeps_others
 
       -- the call
       abbrev calling : StepsTo 1 u w
@@ -93,37 +103,28 @@ module _ (setting : Setting) where
       sp_below : register u.cpu Rsp ≡ sp - 8 + 8
       sp_below = let z = first.stack in omega arith
 
-      up : sp - 8 + 8 + frame ≡ top
-      up = omega arith
-
       there_is : u.cpu.rip + 5 ≡ next
       there_is = let z = first.rip in omega arith
 
       is_called : Calls (with_rip u next) v (sp - 8) to
-      is_called = called t fs top (top + 8) back others list u v st first.beneath (sp - 8) frame to
-          sp_below up next there_is near after code_there
-
-      still_beneath : Beneath t v top (top + 8) back others list
-      still_beneath = beneath_called t fs top (top + 8) back others list u v st first.beneath
-          (sp - 8)
-          frame to sp_below up next there_is near after code_there
+      is_called = called t fs owed top (top + 8) back others list u v st first.beneath (sp - 8) to
+          sp_below next there_is near after code_there
 
       has_called : HasProgram setting v.memory
       has_called = program_kept t fs program p q u.memory v.memory
           (record { protection = st.protection; fixed = st.fixed }) first.has
 
-      call_found : FindsReturn t u.memory u.cpu.rip frame
+      call_found : FindsOwed t u.memory u.cpu.rip owed
       call_found =
           let z : p.address name label + sizes before ≡ u.cpu.rip = omega (arith, first.rip) in
-          subst (λ a. FindsReturn t u.memory a frame) z
+          subst (λ a. FindsOwed t u.memory a owed) z
           (within_found setting name b is u.memory first.has label i at goes before after
           (call next to) parts)
 
       keeps_called : KeepsShadow t fs u v
       keeps_called =
-          call_keeps_shadow t fs top (top + 8) back others list u v st first.beneath (sp - 8) frame
-          to
-          sp_below up next there_is near after code_there
+          call_keeps_shadow t fs owed top (top + 8) back others list u v st first.beneath (sp - 8)
+          to sp_below next there_is near after code_there
           call_found (enters v.memory) (resumed_found setting name b is v.memory has_called there
           next resumed)
 
@@ -133,7 +134,11 @@ module _ (setting : Setting) where
 
       -- at the callee's first byte the caller is an item of the list
       abbrev from_here : Context
-      from_here = context_below next (sp - 8 + 8) others
+      from_here = context_below next (sp - 8 + 8) (others_of u.cpu.registers)
+
+      owes : IsOwed v.memory from_here owed first.beneath.size back others
+      owes = owed_called t fs owed top (top + 8) back others list u v st first.beneath (sp - 8) to
+          sp_below next there_is near after code_there
 
       record Waits (limit : ℕ) : Type 0 where
         item : StackItem
@@ -144,17 +149,20 @@ module _ (setting : Setting) where
       waits : (limit : ℕ) → limit ≤ top → Waits limit
       waits limit most = by (p.leaf name) refl
         where
-          eight : length others ≡ 8
-          eight = ap (λ (xs : List ℕ). length xs) (sym beneath.others_are)
+          up : sp - 8 + 8 + first.beneath.size ≡ top
+          up = let z = first.beneath.at in let y = sp_below in omega arith
 
-          back_there : word v.memory (sp - 8 + 8 + frame) ≡ Ok back
-          back_there = ap (word v.memory) up ∙ still_beneath.returns
+          whole : first.beneath.size ≡ frame
+          whole = owed_frame setting name b is v.memory from_here first.beneath.size back others
+              owes
 
           by : (leaf : Bool) → p.leaf name ≡ leaf → Waits limit
           by false e =
-              let high = beneath.high in
-              let there_is_room = framed_by_return setting name b is v.memory from_here back e
-              (let n = eight in omega arith) (omega arith) back_there in
+              let high = beneath.above.high in
+              let h = whole in
+              let u' = up in
+              let there_is_room = owed_framed setting name b is v.memory from_here
+              first.beneath.size back others e owes in
               let f = image.frames v.memory name b there from_here back others is e has_called
               resumed there_is_room in
               let z : sp - 8 + 8 + frame + 8 ≡ top + 8 = omega arith in
@@ -166,29 +174,32 @@ module _ (setting : Setting) where
                     f.is_told o in omega arith);
               }
           by true e =
-              let high = beneath.high in
-              let none = (leaf_layout t fs program p q name b e (image.laid_out name b is)).frame in
-              let z : sp - 8 + 8 ≡ sp - 8 + 8 + frame = omega arith in
+              let high = beneath.above.high in
+              let i = (p.entry name).info in
+              let n = at_return v.memory from_here first.beneath.size back others
+              (subst (λ (leaf : Bool). IsOwed v.memory from_here (owed_by i leaf)
+              first.beneath.size back others) e owes) in
+              let flat = n.none in
+              let u' = up in
               let y : sp - 8 + 8 + 8 ≡ top + 8 = omega arith in
               record {
                 item = Leaf back;
                 is_there = image.leaves v.memory name b there from_here back is e resumed
-                    (let n = eight in omega arith) (omega arith)
-                    (ap (word v.memory) z ∙ back_there);
-                same = ap (λ n. context_below back n others) y;
+                    refl (omega arith) n.returns;
+                same = λ k. context_below back (y k) (n.others_are k);
                 owned = λ a o. (let l = o.low in omega arith);
               }
 
       record CalleeFrom (limit : ℕ) (x : State) : Type 0 where
         item : StackItem
-        beneath_it : Beneath t x (sp - 8) limit next others (item ∷ list)
+        beneath_it : Beneath t x nothing_owed (sp - 8) limit next others_here (item ∷ list)
         rip : x.cpu.rip ≡ to
         stack : register x.cpu Rsp ≡ sp - 8
         program_there : HasProgram setting x.memory
 
       pub record CalleeBegins (limit : ℕ) : Type 0 where
         pub item : StackItem
-        pub beneath_it : Beneath t w (sp - 8) limit next others (item ∷ list)
+        pub beneath_it : Beneath t w nothing_owed (sp - 8) limit next others_here (item ∷ list)
         pub rip : w.cpu.rip ≡ to
         pub stack : register w.cpu Rsp ≡ sp - 8
         pub program_there : HasProgram setting w.memory
@@ -198,9 +209,11 @@ module _ (setting : Setting) where
           let i = waits limit most in
           let first_state : CalleeFrom limit v = record {
             item = i.item;
-            beneath_it = beneath_callee t fs top (top + 8) back others list u v st first.beneath
-                (sp - 8) frame to sp_below up next there_is near after code_there i.item limit
-                i.is_there i.same i.owned (omega arith) most;
+            beneath_it = subst (λ (os : List ℕ). Beneath t v nothing_owed (sp - 8) limit next os
+                (i.item ∷ list)) others_same
+                (beneath_callee t fs owed top (top + 8) back others list u v st first.beneath
+                (sp - 8) to sp_below next there_is near after code_there i.item limit
+                i.is_there i.same i.owned (omega arith) most);
             rip = is_called.rip;
             stack = is_called.stack;
             program_there = has_called;
@@ -216,11 +229,11 @@ module _ (setting : Setting) where
 
   -- a thunk leads to its service
   module _ (s w : State) (top from back : ℕ) (others : List ℕ) (list : List StackItem)
-      (beneath : Beneath t s top from back others list) (at_top : register s.cpu Rsp ≡ top)
+      (beneath : Beneath t s nothing_owed top from back others list)
       (at service : ℕ) (here : s.cpu.rip ≡ at) (there : HasThunk s.memory at service)
       (run : StepsTo 1 s w) (to : w.cpu.rip ≡ service)
-      (begins : (m : Memory) → FindsReturn t m at 0)
-      (served : (m : Memory) → FindsReturn t m service 0) where
+      (begins : (m : Memory) → FindsReturn t m at)
+      (served : (m : Memory) → FindsReturn t m service) where
     pub thunk_keeps : AllKeep t fs 1 s
     thunk_keeps =
         let v = run.0 in
@@ -235,19 +248,18 @@ module _ (setting : Setting) where
           index = None;
           displacement = there.away;
         }))) (effect_here s v i [] enc code st.steps) in
-        let b = beneath_stays t s v top from back others list st (ap others_of j.registers)
-        (λ x o. ap (λ (m : Memory). m.byte x) j.memory) beneath in
+        let stack : register v.cpu Rsp ≡ register s.cpu Rsp =
+        ap (λ (r : List ℕ). slice_index r 4) j.registers in
+        let b = beneath_stays t s v nothing_owed top from back others list st stack
+        (ap others_of j.registers) (λ x o. ap (λ (m : Memory). m.byte x) j.memory) beneath in
         let rip : service ≡ v.cpu.rip = sym to ∙ ap (λ (x : State). x.cpu.rip) (sym run.2) in
-        let sp : register v.cpu Rsp ≡ top = ap (λ (r : List ℕ). slice_index r 4) j.registers
-        ∙ at_top in
-        let z : register s.cpu Rsp + 0 ≡ top = omega arith in
-        let y : register v.cpu Rsp + 0 ≡ top = omega arith in
+        let size_is = b.at in
         keep_first t fs 0 s v st.steps
         (straight t fs s v (callers_above t top back others list) st.steps
         (ap is_call (read_here s v i [] enc code))
-        (gives_here t fs top from back others list s 0 beneath
-        (subst (λ a. FindsReturn t s.memory a 0) (sym here) (begins s.memory)) z)
-        (gives_here t fs top from back others list v 0 b
-        (subst (λ a. FindsReturn t v.memory a 0) rip (served v.memory)) y)
+        (gives_above t s nothing_owed top from back others list beneath
+        (subst (λ a. FindsReturn t s.memory a) (sym here) (begins s.memory)))
+        (gives_above t v nothing_owed top from back others list b
+        (subst (λ a. FindsReturn t v.memory a) rip (served v.memory)))
         (let h : register v.cpu Rsp + 8 ≤ top + 8 = omega arith in h))
         tt

@@ -2,12 +2,13 @@
 -- stored.
 use Rattle.std.proofs.Common.{◌≡◌, ℕ, zero, suc, ◌+◌, ◌*◌, ◌^◌, ◌<◌, ◌≤◌, Bool, true, false, Option, Some, None, List, [], ◌∷◌, ◌++◌, length, refl, sym, ap, subst, ◌∙◌, arith, inl, inr, append_assoc}
 use Rattle.std.specs.Prelude.{◌⊎◌, nat_lt, if◌then◌else◌}
-use Rattle.match_bodies.specs.Words.{Reg, Rax, Rsp, Instr, State, register, Functions, Funclet, LinearProgram, LinearBody, BodyName, body_of, Layout, sizes, fetched, local_at, keep_register, HasCode, StackItem, ImagePlan, AllKeep, Sites, begin_of, making_size, HasProgram, IsProgramImage, FindsReturn, LARGEST_FRAME, setting_of, Rdx, temporary_at, parameter_register, stack_parameter, parameter_code, parameters_code, passing_code}
+use Rattle.match_bodies.specs.Words.{Reg, Rax, Rsp, Instr, State, register, Functions, Funclet, LinearProgram, LinearBody, BodyName, body_of, Layout, sizes, fetched, local_at, keep_register, HasCode, StackItem, ImagePlan, AllKeep, Sites, begin_of, making_size, HasProgram, IsProgramImage, FindsOwed, nothing_owed, owed_of, LARGEST_FRAME, setting_of, Rdx, temporary_at, parameter_register, stack_parameter, parameter_code, parameters_code, passing_code}
 use Rattle.template_code.specs.Calls.{arguments_code}
 use Rattle.match_bodies.proofs.Lemmas.{code_split, near}
 use Rattle.match_bodies.specs.CodeSites as sites
 use Rattle.match_bodies.proofs.RoutineWalks.{StepsTo, steps_split, keeps_split, Beneath, IsPlain, AllPlain, Finds, ran}
 use Rattle.match_bodies.proofs.ReturnAddresses.{argument_found}
+use Rattle.match_bodies.proofs.BodyFrames.{codes_above}
 use Rattle.match_bodies.proofs.FrameMaking.{making_steps, frame_there, made_by}
 
 -- ---- what entries and calls are made of
@@ -102,7 +103,7 @@ module _ (t : Functions) (fs : List Funclet) (program : LinearProgram) (p : Imag
     -- its frame is made, and these of its arguments are stored
     pub record EntryRan (n : ℕ) (e w : State) (stored : List Instr) : Type 0 where
       pub keeps : AllKeep t fs n e
-      pub beneath : Beneath t w top from back others list
+      pub beneath : Beneath t w (owed_of p name) top from back others list
       pub has : HasProgram t fs program p q w.memory
       pub rip : w.cpu.rip ≡ begin_of p q name + making_size p q name + sizes stored
       pub stack : register w.cpu Rsp + frame ≡ top
@@ -111,7 +112,7 @@ module _ (t : Functions) (fs : List Funclet) (program : LinearProgram) (p : Imag
         → sites.arguments_code program p name ≡ a ++ c
         → n ≡ making_steps (p.leaf name) frame + length a → StepsTo n e w
         → e.cpu.rip ≡ begin_of p q name → register e.cpu Rsp ≡ top
-        → Beneath t e top from back others list → HasProgram t fs program p q e.memory
+        → Beneath t e nothing_owed top from back others list → HasProgram t fs program p q e.memory
         → frame + 8 ≤ LARGEST_FRAME → LARGEST_FRAME ≤ top → from ≡ top + extra
         → AllPlain frame extra a → EntryRan n e w a
     entry_ran n e w a c extra parts count run here at_top beneath has most low up plain =
@@ -124,13 +125,15 @@ module _ (t : Functions) (fs : List Funclet) (program : LinearProgram) (p : Imag
         let code = code_split u.memory (begin_of p q name + making_size p q name) a c
         (subst (HasCode u.memory (begin_of p q name + making_size p q name)) parts
         (frame_there (setting_of t fs program p q image) name b is some u.memory m.has).1) in
-        let finds : Finds t fs program p q top from back others list u.cpu.rip a frame = λ done left
-        split mem k.
-        subst (λ x. FindsReturn t mem (x + sizes done) frame) (sym m.rip)
+        let finds : Finds t fs program p q (owed_of p name) top from back others list u.cpu.rip a =
+        λ done left split mem k.
+        subst (λ x. FindsOwed t mem (x + sizes done) (owed_of p name)) (sym m.rip)
         (argument_found (setting_of t fs program p q image) name b is mem k some done (left ++ c)
         (parts ∙ ap (λ (xs : List Instr). xs ++ c) split ∙ append_assoc done left c)) in
-        let r = ran t fs program p q top from back others list a u w frame extra h.2 plain
-        (subst (λ x. HasCode u.memory x a) (sym m.rip) code.0) m.has m.beneath m.stack up finds in
+        let r = ran t fs program p q (owed_of p name) top from back others list a u w frame extra
+        h.2 plain
+        (subst (λ x. HasCode u.memory x a) (sym m.rip) code.0) m.has m.beneath m.stack up
+        (codes_above (setting_of t fs program p q image) name b is (register u.cpu Rsp)) finds in
         record {
           keeps = subst (λ k. AllKeep t fs k e) (sym count)
               (keeps_split t fs making (length a) e u h.1 m.keeps r.keeps);

@@ -1,18 +1,21 @@
 -- From a routine's first byte its frame is made, and the shadow is kept.
 use Rattle.std.proofs.Common.{◌≡◌, ℕ, ◌+◌, ◌-◌, ◌^◌, ◌<◌, ◌≤◌, Bool, true, false, List, [], ◌∷◌, ◌++◌, length, Some, refl, sym, ap, subst, ◌∙◌, arith, inl}
 use Rattle.std.specs.Prelude.{nat_le, if◌then◌else◌}
-use Rattle.std.proofs.lemmas.Bool.{lt-ltb, le-leb, lt-leb, leb-true, leb-false}
-use Rattle.match_bodies.specs.Words.{Memory, W32, W64, Rax, Rsp, Instr, is_encodable, State, register, with_rip, word, LinearBody, BodyName, body_of, size, sizes, IsNear, call, enter_code, check_stack, code_from, Steps, HasCode, StackItem, is_call, KeepsShadow, AllKeep, links_of, begin_of, making, making_size, frame_code, arguments_code, entry_code, FindsReturn, LARGEST_FRAME, Setting, W8, R11, opcode_register, above, first_touch, enter_large}
+use Rattle.std.proofs.lemmas.Bool.{lt-ltb, leb-true, leb-false}
+use Rattle.match_bodies.specs.Words.{Memory, executable, W32, W64, Rax, Rsp, Instr, leading, is_encodable, Context, context_of, State, register, with_rip, word, LinearBody, BodyName, body_of, size, sizes, IsNear, call, enter_code, check_stack, code_from, Steps, HasCode, StackItem, is_call, KeepsShadow, AllKeep, links_of, begin_of, making_size, frame_code, arguments_code, entry_code, context_below, FindsReturn, FindsOwed, Owed, IsOwed, nothing_owed, owed_of, owed_by, LARGEST_FRAME, Setting, W8, R11, opcode_register, above, first_touch, enter_large}
 use Rattle.x64_instr.specs.declared.operand.RegisterOrMemory.TheVariants as places
 use Rattle.x64_instr.specs.declared.operand.Operand.TheVariants as operands
 use Rattle.x64_instr.specs.declared.instruction.Operation.TheVariants as arithmetic
 use Rattle.x64_instr.specs.declared.instruction.Instr.TheVariants as instrs
 use Rattle.match_bodies.proofs.Lemmas.{call_size, code_split, near, keep_first}
 use Rattle.match_bodies.proofs.StackTop.{leaf_layout}
-use Rattle.match_bodies.proofs.InstructionEffects.{is_probing, falls, falls_by_rax, puts_rax}
+use Rattle.match_bodies.proofs.InstructionEffects.{others_of, is_probing, Sets, falls, falls_by_rax, puts_rax}
+use Rattle.match_bodies.proofs.BodyFrames.{framed_some, owed_again}
+use Rattle.match_bodies.proofs.FrameCode.{made_small, made_large, IsLarge, large_is}
+use Rattle.match_bodies.proofs.OwedCallers.{at_return}
 use Rattle.match_bodies.proofs.SilentTurns.{program_kept}
 use Rattle.match_bodies.proofs.RoutineWalks.{read_here, effect_here, code_next, StepsTo, Beneath, Finds, ran}
-use Rattle.match_bodies.proofs.ShadowTurns.{shifts, called, beneath_called, call_keeps_shadow, Probing, probes, probe_returns}
+use Rattle.match_bodies.proofs.ShadowTurns.{shifts, called, above_called, owed_called, call_keeps_shadow, Probing, probes, probe_returns}
 use Rattle.match_bodies.proofs.ReturnAddresses.{argument_found}
 use Rattle.match_bodies.specs.Setting.{HasProgram}
 
@@ -40,6 +43,10 @@ module _ (setting : Setting) where
     abbrev frame : ℕ
     frame = (p.layout name).frame
 
+    -- what is to be undone in it
+    abbrev owed : Owed
+    owed = owed_of p name
+
     -- the code that makes it
     pub frame_there : (m : Memory) → HasProgram setting m
         → HasCode m begin (frame_code frame begin q.check_stack (p.leaf name))
@@ -51,7 +58,7 @@ module _ (setting : Setting) where
         code_split m begin (frame_code frame begin q.check_stack (p.leaf name))
         (arguments_code program p name) entry.0
 
-    begin_found : (m : Memory) → FindsReturn t m begin 0
+    begin_found : (m : Memory) → FindsReturn t m begin
     begin_found m = (image.callers name b is).entries m (λ e. some)
 
     kept : (s u : State) → Steps s u → HasProgram setting s.memory → HasProgram setting u.memory
@@ -60,23 +67,50 @@ module _ (setting : Setting) where
 
     -- where arguments are stored
     ready_found : (m : Memory) → HasProgram setting m
-        → FindsReturn t m (begin + making_size p q name) frame
+        → FindsOwed t m (begin + making_size p q name) owed
     ready_found m has = let z : begin + making_size p q name + 0
         ≡ begin + making_size p q name = omega arith in
-        subst (λ a. FindsReturn t m a frame) z
+        subst (λ a. FindsOwed t m a owed) z
         (argument_found setting name b is m has some []
         (arguments_code program p name) refl)
 
     module _ (top from back : ℕ) (others : List ℕ) (list : List StackItem) where
       pub record FrameMade (n : ℕ) (e u : State) : Type 0 where
         pub keeps : AllKeep t fs n e
-        pub beneath : Beneath t u top from back others list
+        pub beneath : Beneath t u owed top from back others list
         pub has : HasProgram setting u.memory
         pub rip : u.cpu.rip ≡ begin + making_size p q name
         pub stack : register u.cpu Rsp + frame ≡ top
 
+      -- RSP falls by the frame
+      frame_made : (e v : State) (next : ℕ) → p.leaf name ≡ false → register e.cpu Rsp ≡ top
+          → Beneath t e nothing_owed top from back others list → frame ≤ top → Steps e v
+          → Sets (with_rip e next) v (top - frame) → HasProgram setting e.memory
+          → is_call (leading (executable e.memory 15 e.cpu.rip)) ≡ false
+          → FindsReturn t e.memory e.cpu.rip → next ≡ begin + making_size p q name
+          → FrameMade 1 e v
+      frame_made e v next framed at_top beneath room st sets has quiet found whole =
+          let high = beneath.above.high in
+          let n = at_return e.memory (context_of e.cpu) beneath.size back others beneath.owed in
+          let up : top - frame + frame ≡ top = omega arith in
+          let c = context_below next (top - frame) (others_of e.cpu.registers) in
+          let owes = owed_again setting name b is e.memory c back others refl
+          (let z : top - frame + frame + 8 < 2 ^ 64 = omega arith in z)
+          (ap (word e.memory) (up ∙ sym at_top) ∙ n.returns) n.others_are in
+          let has' = kept e v st has in
+          let s = shifts t fs nothing_owed top from back others list e v st beneath owed
+          (top - frame) next frame sets up owes quiet found
+          (subst (λ a. FindsOwed t v.memory a owed) (sym whole) (ready_found v.memory has')) in
+          record {
+            keeps = keep_first t fs 0 e v st.steps s.keeps tt;
+            beneath = s.beneath;
+            has = has';
+            rip = s.rip ∙ whole;
+            stack = ap (λ x. x + frame) s.stack ∙ up;
+          }
+
       module _ (e u : State) (at_begin : e.cpu.rip ≡ begin) (at_top : register e.cpu Rsp ≡ top)
-          (beneath : Beneath t e top from back others list)
+          (beneath : Beneath t e nothing_owed top from back others list)
           (has : HasProgram setting e.memory) (room : frame ≤ top) where
         -- ---- a leaf function has none
 
@@ -88,7 +122,8 @@ module _ (setting : Setting) where
             (λ l. sizes (frame_code frame begin q.check_stack l)) leaf in
             subst (FrameMade 0 e) r (record {
               keeps = tt;
-              beneath = beneath;
+              beneath = subst (λ l. Beneath t e (owed_by (p.entry name).info l) top from back others
+                  list) (sym leaf) beneath;
               has = has;
               rip = omega arith;
               stack = omega arith;
@@ -100,36 +135,23 @@ module _ (setting : Setting) where
         small_made framed small r =
             let v = r.0 in
             let st = r.1 in
-            let is_code : frame_code frame begin q.check_stack (p.leaf name)
-            ≡ enter_code frame = ap (frame_code frame begin q.check_stack) framed
-            ∙ ap (making frame begin q.check_stack) (le-leb frame 4096 small) in
+            let is_code = made_small frame begin q.check_stack (p.leaf name) framed
+            (framed_some setting name b is framed) small in
             let code = subst (λ a. HasCode e.memory a (enter_code frame)) (sym at_begin)
             (subst (HasCode e.memory begin) is_code (frame_there e.memory has).0) in
             let i = instrs.Arithmetic arithmetic.Sub W64 (places.Register Rsp)
             (operands.Immediate frame) in
             let enc = near frame (omega arith) in
             let next = e.cpu.rip + size i in
-            let high = beneath.high in
+            let high = beneath.above.high in
             let sets = falls (with_rip e next) v frame (top - frame) beneath.count (omega arith)
             (omega arith) (effect_here e v i [] enc code st.steps) in
             let whole : next ≡ begin + making_size p q name = let z = ap sizes is_code in
             omega arith in
-            let z : register e.cpu Rsp + 0 ≡ top = omega arith in
-            let has' = kept e v st has in
-            let s = shifts t fs top from back others list e v st beneath (top - frame) next 0 frame
-            sets z (omega arith) (ap is_call (read_here e v i [] enc code))
-            (subst (λ a. FindsReturn t e.memory a 0) (sym at_begin) (begin_found e.memory))
-            (subst (λ a. FindsReturn t v.memory a frame) (sym whole)
-            (ready_found v.memory has')) in
             subst (FrameMade 1 e) r.2
-            (record {
-              keeps = keep_first t fs 0 e v st.steps s.keeps tt;
-              beneath = s.beneath;
-              has = has';
-              rip = s.rip ∙ whole;
-              stack = ap (λ x. x + frame) s.stack
-                  ∙ (let y : top - frame + frame ≡ top = omega arith in y);
-            })
+            (frame_made e v next framed at_top beneath room st sets has
+            (ap is_call (read_here e v i [] enc code))
+            (subst (λ a. FindsReturn t e.memory a) (sym at_begin) (begin_found e.memory)) whole)
 
         -- ---- a large one
 
@@ -152,15 +174,23 @@ module _ (setting : Setting) where
 
           is_large : frame_code frame begin q.check_stack (p.leaf name)
               ≡ enter_large frame begin q.check_stack
-          is_large = ap (frame_code frame begin q.check_stack) framed
-              ∙ ap (making frame begin q.check_stack) (lt-leb frame 4096 large)
+          is_large = made_large frame begin q.check_stack (p.leaf name) framed large
 
           large_there : (m : Memory) → HasProgram setting m
               → HasCode m begin (first ∷ second ∷ third ∷ [])
           large_there m h = subst (HasCode m begin) is_large (frame_there m h).0
 
-          probe_found : (m : Memory) → FindsReturn t m (begin + 5) 0 × FindsReturn t m next 0
-          probe_found m = (image.callers name b is).probes m framed large
+          is_three : IsLarge t fs program p q name
+          is_three = large_is t fs program p q name large (image.plans name b is framed)
+
+          probe_at : (m : Memory) (d : ℕ) → d < 13 → FindsReturn t m (begin + d)
+          probe_at m d lt =
+              let size = is_three.size in
+              subst (FindsOwed t m (begin + d)) (is_three.before d lt)
+              ((image.callers name b is).making m d framed (omega arith))
+
+          probe_found : (m : Memory) → FindsReturn t m (begin + 5) × FindsReturn t m next
+          probe_found m = (probe_at m 5 (omega arith), probe_at m 10 (omega arith))
 
           near_check : IsNear next q.check_stack
           near_check =
@@ -173,7 +203,7 @@ module _ (setting : Setting) where
               (omega arith, omega arith, omega arith, omega arith)
 
           check_found : (m : Memory) (d : ℕ) → d < sizes check_stack
-              → FindsReturn t m (q.check_stack + d) 0
+              → FindsReturn t m (q.check_stack + d)
           check_found m d lt = image.callers_outside.check_stack m d lt
 
           third_there : (m : Memory) → HasProgram setting m → HasCode m next (third ∷ [])
@@ -184,13 +214,14 @@ module _ (setting : Setting) where
               subst (λ a. HasCode m a (third ∷ [])) z two.1
 
           -- RSP falls
-          last_made : (v w : State) → Beneath t v top from back others list → v.cpu.rip ≡ next
+          last_made : (v w : State) → Beneath t v nothing_owed top from back others list
+              → v.cpu.rip ≡ next
               → register v.cpu Rsp ≡ top → register v.cpu Rax ≡ frame → Steps v w
               → HasProgram setting v.memory → FrameMade 1 v w
           last_made v w b' at at' rax st has' =
               let code = subst (λ a. HasCode v.memory a (third ∷ [])) (sym at)
               (third_there v.memory has') in
-              let high = b'.high in
+              let high = b'.above.high in
               let to = v.cpu.rip + size third in
               let sets = falls_by_rax (with_rip v to) w frame (top - frame) b'.count rax
               (omega arith) (omega arith) (effect_here v w third [] refl code st.steps) in
@@ -198,33 +229,21 @@ module _ (setting : Setting) where
               let c = call_size next q.check_stack in
               let whole : to ≡ begin + making_size p q name = let z = ap sizes is_large in
               omega arith in
-              let z : register v.cpu Rsp + 0 ≡ top = omega arith in
-              let has'' = kept v w st has' in
-              let s = shifts t fs top from back others list v w st b' (top - frame) to 0 frame sets
-              z (omega arith) (ap is_call (read_here v w third [] refl code))
-              (subst (λ a. FindsReturn t v.memory a 0) (sym at) (probe_found v.memory).1)
-              (subst (λ a. FindsReturn t w.memory a frame) (sym whole)
-              (ready_found w.memory has'')) in
-              record {
-                keeps = keep_first t fs 0 v w st.steps s.keeps tt;
-                beneath = s.beneath;
-                has = has'';
-                rip = s.rip ∙ whole;
-                stack = ap (λ x. x + frame) s.stack
-                    ∙ (let y : top - frame + frame ≡ top = omega arith in y);
-              }
+              frame_made v w to framed at' b' room st sets has'
+              (ap is_call (read_here v w third [] refl code))
+              (subst (λ a. FindsReturn t v.memory a) (sym at) (probe_found v.memory).1) whole
 
           -- in `__chkstk`, after these instructions
           pub record Checking (v : State) (d : ℕ) (left : List Instr) : Type 0 where
-            pub probing : Probing t fs top from back others list v next frame
+            pub probing : Probing t fs nothing_owed top from back others list v next frame
             pub rip : v.cpu.rip ≡ q.check_stack + d
             pub code : HasCode v.memory v.cpu.rip left
             pub program_there : HasProgram setting v.memory
             pub inside : d < sizes check_stack
 
           here_found : (v : State) (d : ℕ) (left : List Instr) → Checking v d left
-              → FindsReturn t v.memory v.cpu.rip 0
-          here_found v d left k = subst (λ a. FindsReturn t v.memory a 0) (sym k.rip)
+              → FindsReturn t v.memory v.cpu.rip
+          here_found v d left k = subst (λ a. FindsReturn t v.memory a) (sym k.rip)
               (check_found v.memory d k.inside)
 
           pub record Checked (v w : State) (d : ℕ) (left : List Instr) : Type 0 where
@@ -236,9 +255,9 @@ module _ (setting : Setting) where
               → Checking v d (i ∷ left) → Checked v w (d + size i) left
           checks v w d i left probing enc inside st k =
               let z : q.check_stack + (d + size i) ≡ v.cpu.rip + size i = omega (arith, k.rip) in
-              let p' = probes t fs top from back others list v w next frame st k.probing
-              (here_found v d (i ∷ left) k) (λ m. (probe_found m).1) i left probing enc k.code
-              (subst (λ a. FindsReturn t w.memory a 0) z
+              let p' = probes t fs nothing_owed top from back others list v w next frame st
+              k.probing (here_found v d (i ∷ left) k) (λ m. (probe_found m).1) i left probing enc k.code
+              (subst (λ a. FindsReturn t w.memory a) z
               (check_found w.memory (d + size i) inside)) in
               record {
                 keeps = p'.keeps;
@@ -281,10 +300,15 @@ module _ (setting : Setting) where
               let c4 = checks v3 v4 (0 + size i1 + size i2 + size i3) i4 (instrs.Return ∷ []) refl
               refl (omega arith) r4.1 c3.after in
               let k4 = c4.after in
-              let back' = probe_returns t fs top from back others list v4 v5 next frame r5.1
-              k4.probing (here_found v4 _ _ k4) (λ m. (probe_found m).1) [] k4.code in
+              let at4 = k4.probing.at in
+              let none4 = (at_return v4.memory (context_below next (register v4.cpu Rsp + 8)
+              (others_of v4.cpu.registers)) k4.probing.size back others k4.probing.owed).none in
+              let back' = probe_returns t fs nothing_owed top from back others list v4 v5 next
+              frame r5.1 k4.probing (here_found v4 _ _ k4) (λ m. (probe_found m).1) [] k4.code in
               let has5 = kept v4 v5 r5.1 k4.program_there in
-              let last = last_made v5 v6 back'.beneath back'.rip back'.stack back'.rax r6.1 has5 in
+              let up : register v4.cpu Rsp + 8 ≡ top = omega arith in
+              let last = last_made v5 v6 back'.beneath back'.rip (back'.stack ∙ up) back'.rax r6.1
+              has5 in
               subst (FrameMade 6 v) r6.2
               (record {
                 keeps = keep_first t fs 5 v v1 r.1.steps c1.keeps
@@ -305,18 +329,18 @@ module _ (setting : Setting) where
               let v2 = after_first.0 in
               let st1 = r.1 in
               let st2 = after_first.1 in
-              let high = beneath.high in
-              let past = beneath.past in
+              let high = beneath.above.high in
+              let past = beneath.above.past in
               let a = move_size frame in
               let code = subst (λ x. HasCode e.memory x (first ∷ second ∷ third ∷ []))
               (sym at_begin) (large_there e.memory has) in
               let five : e.cpu.rip + 5 ≡ begin + 5 = omega arith in
-              let finds : Finds t fs program p q top from back others list e.cpu.rip (first ∷ [])
-              0 = λ done left parts m h. first_found m done left parts in
-              let one = ran t fs program p q top from back others list (first ∷ []) e v1 0
-              (from - top) (v1, st1, refl) ((first_encodable, inl refl), tt)
+              let finds : Finds t fs program p q nothing_owed top from back others list e.cpu.rip
+              (first ∷ []) = λ done left parts m h. first_found m done left parts in
+              let one = ran t fs program p q nothing_owed top from back others list (first ∷ []) e
+              v1 0 (from - top) (v1, st1, refl) ((first_encodable, inl refl), tt)
               (code_split e.memory e.cpu.rip (first ∷ []) (second ∷ third ∷ []) code).0 has
-              beneath (omega arith) (omega arith) finds in
+              beneath (omega arith) (omega arith) (omega arith) finds in
               let rax = puts_rax (with_rip e (e.cpu.rip + size first)) v1 frame beneath.count
               (omega arith) (effect_here e v1 first (second ∷ third ∷ []) first_encodable code
               st1.steps) in
@@ -325,27 +349,37 @@ module _ (setting : Setting) where
               let at1 : v1.cpu.rip ≡ begin + 5 = omega arith in
               let code1 = code_next e v1 first (second ∷ third ∷ []) first_encodable code st1
               (omega arith) in
-              let here1 = subst (λ x. FindsReturn t v1.memory x 0) (sym at1)
+              let here1 = subst (λ x. FindsReturn t v1.memory x) (sym at1)
               (probe_found v1.memory).0 in
               let below : register v1.cpu Rsp ≡ top - 8 + 8 = omega arith in
               let z : q.check_stack + 0 ≡ q.check_stack = omega arith in
               let n = return_size in
-              let c = called t fs top from back others list v1 v2 st2 one.beneath (top - 8) 0
-              q.check_stack below (omega arith) next (omega arith) near_check (third ∷ [])
+              let c = called t fs nothing_owed top from back others list v1 v2 st2 one.beneath
+              (top - 8) q.check_stack below next (omega arith) near_check (third ∷ []) code1 in
+              let above2 = above_called t fs nothing_owed top from back others list v1 v2 st2
+              one.beneath (top - 8) q.check_stack below next (omega arith) near_check (third ∷ [])
               code1 in
-              let b2 = beneath_called t fs top from back others list v1 v2 st2 one.beneath (top - 8)
-              0 q.check_stack below (omega arith) next (omega arith) near_check (third ∷ [])
+              let owed2 = owed_called t fs nothing_owed top from back others list v1 v2 st2
+              one.beneath (top - 8) q.check_stack below next (omega arith) near_check (third ∷ [])
               code1 in
-              let keep2 = call_keeps_shadow t fs top from back others list v1 v2 st2 one.beneath
-              (top - 8) 0 q.check_stack below (omega arith) next (omega arith) near_check
+              let keep2 = call_keeps_shadow t fs nothing_owed top from back others list v1 v2 st2
+              one.beneath (top - 8) q.check_stack below next (omega arith) near_check
               (third ∷ []) code1 here1
-              (subst (λ x. FindsReturn t v2.memory x 0) z (check_found v2.memory 0 (omega arith)))
+              (subst (λ x. FindsReturn t v2.memory x) z (check_found v2.memory 0 (omega arith)))
               (probe_found v2.memory).1 in
               let has2 = kept v1 v2 st2 one.has in
+              let size1 = one.beneath.at in
+              let same2 : context_below next (top - 8 + 8) (others_of v1.cpu.registers)
+              ≡ context_below next (register v2.cpu Rsp + 8) (others_of v2.cpu.registers) =
+              λ k. context_below next (sym c.stack k + 8) (sym c.others k) in
               let checking : Checking v2 0 check_stack = record {
                 probing = record {
-                  beneath = b2;
-                  stack = omega (arith, c.stack);
+                  above = above2;
+                  count = c.count ∙ one.beneath.count;
+                  size = one.beneath.size;
+                  at = omega (arith, c.stack);
+                  owed = subst (λ (k : Context). IsOwed v2.memory k nothing_owed one.beneath.size
+                      back others) same2 owed2;
                   pushed = ap (word v2.memory) c.stack ∙ c.pushed;
                   rax = c.rax ∙ rax;
                 };
@@ -369,9 +403,9 @@ module _ (setting : Setting) where
               nothing (i ∷ left) e = absurd (omega arith)
 
               first_found : (m : Memory) (done left : List Instr) → first ∷ [] ≡ done ++ left
-                  → FindsReturn t m (e.cpu.rip + sizes done) 0
+                  → FindsReturn t m (e.cpu.rip + sizes done)
               first_found m [] left parts = let z : begin ≡ e.cpu.rip + 0 = omega arith in
-                  subst (λ x. FindsReturn t m x 0) z (begin_found m)
+                  subst (λ x. FindsReturn t m x) z (begin_found m)
               first_found m (i ∷ []) left parts =
                   let same = ap (λ (xs : List Instr). sizes xs) parts in
                   let none = ap (λ (xs : List Instr). length xs) parts in
@@ -379,7 +413,7 @@ module _ (setting : Setting) where
                   let empty = nothing left (omega arith) in
                   let w : begin + 5 ≡ e.cpu.rip + sizes (i ∷ []) = let y = ap sizes empty in
                   omega arith in
-                  subst (λ x. FindsReturn t m x 0) w (probe_found m).0
+                  subst (λ x. FindsReturn t m x) w (probe_found m).0
               first_found m (i ∷ j ∷ done) left parts = let n = ap (λ (xs : List Instr). length xs)
                   parts in absurd (omega arith)
 

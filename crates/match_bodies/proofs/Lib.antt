@@ -2,12 +2,13 @@ mod Lemmas
 pub mod StackWalks
 pub mod UnwindWalks
 pub mod InstructionEffects
+pub mod FrameCode
 pub mod SilentTurns
 pub mod RoutineWalks
 pub mod ShadowTurns
 pub mod StackTop
-pub mod BodyFrames
 pub mod OwedCallers
+pub mod BodyFrames
 pub mod BodyResumption
 pub mod TemplateSizes
 pub mod ReturnAddresses

@@ -1,11 +1,11 @@
 -- The next instruction of a body begins, in the memory that a template leaves.
 use Rattle.std.proofs.Common.{◌≡◌, ℕ, ◌+◌, ◌*◌, ◌<◌, ◌≤◌, true, Option, Some, None, Ok, List, [], ◌∷◌, length, refl, sym, ap, subst, ◌∙◌, arith, inl, inr}
-use Rattle.std.specs.Prelude.{◌⊎◌, slice_get, slice_index, drop}
-use Rattle.match_bodies.specs.Words.{STACK_START, STACK_END, Event, Memory, Rax, Rsp, kept_of, State, register, word, Local, Temporary, BodyState, LinearBody, BodyName, FunctionBody, FuncletBody, body_of, Item, Waits, Searches, Unwinds, Configuration, Context, Layout, FrameHolds, context_of, get, regions_of, InCode, context_below, Activation, locals_of, activations_below, HoldsWords, IsActivation, HasActivation, HasPointers, IsAbove, BodyWaits, HasSpace, below_end, home_end, IsLinkedStack, IsData, On, IsWellFormed, IsFunctionLayout, IsLayoutIf, slots_end, counts_of, frame_at, with_values, KeepsStackBut, OwnerHasFrame, InTemporaries, InLocals, last_temporary, Setting, RepresentsAt}
+use Rattle.std.specs.Prelude.{◌⊎◌, slice_get, slice_index}
+use Rattle.match_bodies.specs.Words.{STACK_START, STACK_END, Event, Memory, Rax, Rsp, kept_of, HasFrame, frame_of, State, register, word, Local, Temporary, BodyState, LinearBody, BodyName, FunctionBody, FuncletBody, body_of, Item, Waits, Searches, Unwinds, Configuration, Context, Layout, FrameHolds, context_of, get, regions_of, InCode, context_below, Activation, locals_of, activations_below, HoldsWords, IsActivation, HasActivation, HasPointers, IsAbove, BodyWaits, HasSpace, below_end, home_end, IsLinkedStack, IsData, On, IsWellFormed, IsFunctionLayout, IsLayoutIf, slots_end, counts_of, frame_at, with_values, KeepsStackBut, OwnerHasFrame, InTemporaries, InLocals, last_temporary, Setting, RepresentsAt}
 use Rattle.virtual_unwind.specs.Undone.{Answer}
 use Rattle.match_bodies.proofs.Lemmas.{kept_by_other_memories}
 use Rattle.match_bodies.proofs.BodyResumption.{above_same}
-use Rattle.match_bodies.proofs.BodyFrames.{body_return, has_frame}
+use Rattle.match_bodies.proofs.BodyFrames.{frame_stays}
 use Rattle.match_bodies.proofs.ProgramKeeping.{program_stays}
 use Rattle.match_bodies.proofs.HomeSpace.{CallerHasFrame, home_is_free}
 use Rattle.match_bodies.proofs.SlotPlaces.{KeepsSlot, SlotsPlaced}
@@ -210,17 +210,26 @@ module _ (setting : Setting) where
             ])
           ]
 
-      -- the return address
-      pub returns : word u.memory (sp + y.frame) ≡ Ok b.body.back
-      returns = kept_word (sp + y.frame) b.body.back (let l = low in omega arith) (let h = top in
-          omega arith)
-          (elim (kind setting s c b counted) [
-            | inl f ↦ function_beside f
-            | inr (inl f) ↦ leaf_beside
-                f
-            | inr (inr f) ↦ funclet_beside f y.frame (inr refl)
-          ])
-          (body_return setting s c b.body).returns
+      own_beside : Beside y.frame
+      own_beside = elim (kind setting s c b counted) [
+        | inl f ↦ function_beside f
+        | inr (inl f) ↦ leaf_beside f
+        | inr (inr f) ↦ funclet_beside f y.frame (inr refl)
+      ]
+
+      -- the frame's words are above its slots
+      pub frame_after : HasFrame u (p.leaf c.frame.body)
+          (frame_of p c.frame.body b.body.back b.body.others)
+      frame_after =
+          let l = low in
+          let h = top in
+          frame_stays setting c.frame.body code b.body.slots.body s u b.body.back b.body.others
+          r.kept (λ a v from to w.
+          (let same : sp + y.frame ≡ a = omega arith in
+          kept_word a v (omega arith) (omega arith)
+          (subst (λ n. (x : ℕ) → n ≤ x → x < n + 8 → InTemporaries y (counts_of code) sp x
+          ⊎ InLocals y (counts_of code) here.base x → ⊥) same own_beside) w))
+          b.body.frame
 
       abbrev Held : ℕ → BodyName → Type 0
       Held size name = HasActivation u.memory now registers y sp size c.frame.activation
@@ -478,14 +487,7 @@ module _ (setting : Setting) where
             others = b.body.others;
             eight = b.body.eight;
             small = b.body.small;
-            frame = has_frame setting c.frame.body code b.body.slots.body u b.body.back
-                b.body.others (let e = stack_there in let h = top in omega arith)
-                (record {
-                  returns = subst (λ x. word u.memory (x + y.frame) ≡ Ok b.body.back)
-                      (sym stack_there) returns;
-                  others_are = ap (λ (ks : List ℕ). drop 1 ks) r.kept
-                      ∙ (body_return setting s c b.body).others_are;
-                });
+            frame = frame_after;
             is = b.body.is;
             below = subst (λ x. On t fs program p u.memory
                 (context_below b.body.back (x + y.frame + 8) b.body.others) b.body.is c.below

@@ -1,79 +1,131 @@
--- Where an allocation alone is still to be undone, or nothing, the walk finds the caller by the
--- return address above it, with the registers that are there.
-use Rattle.std.proofs.Common.{◌≡◌, ℕ, zero, suc, ◌+◌, ◌^◌, ◌<◌, true, Ok, List, [], ◌∷◌, length, drop, refl, sym, subst, ◌∙◌, arith}
-use Rattle.match_bodies.specs.Words.{Memory, Context, rsp, Functions, word, caller_above, HasCaller, FindsReturn}
-use Rattle.virtual_unwind.specs.Contexts.{get}
-use Rattle.frame_rules.specs.Codes.{are_allowed}
-use Rattle.frame_rules.specs.Frame.{IsWord}
+-- Codes that are still to be undone: what they rest on, and that a walk finds the caller by the
+-- return address at RSP where there are none.
+use Rattle.std.specs.Prelude.{slice_set}
+use Rattle.std.proofs.Common.{◌≡◌, ℕ, ◌+◌, ◌^◌, ◌<◌, ◌≤◌, Bool, false, Ok, List, [], ◌∷◌, length, drop, refl, sym, ap, subst, ◌∙◌, arith}
+use Rattle.match_bodies.specs.Words.{Memory, Protection, with_bytes, Context, rsp, get, Functions, word, caller_above, caller_owed, HasCaller, FindsReturn, Owed, IsOwed, nothing_owed, owed_by, owed_of, ImagePlan, BodyName, StackFrame, IsAsTold}
+use Rattle.eh_tables.specs.Tables.{Entry}
+use Rattle.eh_tables.specs.declared.code.UnwindOperation.{UnwindOperation}
+use Rattle.eh_tables.specs.declared.code.UnwindOperation.TheVariants.{Push, Allocate, SetFrame, Save, SaveVector, MachineFrame}
+use Rattle.frame_rules.specs.Codes.{depth}
 use Rattle.frame_rules.specs.Frame as rules
-use Rattle.match_bodies.specs.Callers.{caller_owed, allocated}
+use Rattle.match_stack.specs.Stack.{AreAbove, IsSavedAt}
+use Rattle.match_stack.proofs.FrameWords.{saved_low, saved_high, stack_same}
+use Rattle.frame_rules.proofs.Undoing.{stack_depth, return_word}
 use Rattle.match_bodies.proofs.Lemmas.{word-is, is_word, others_same, rest_numbers, eight_numbers}
-use Rattle.match_bodies.proofs.BodyFrames.{rest_length, first_set}
 
-all_allowed : (size : ℕ) → are_allowed 0 (allocated size) ≡ true
-all_allowed zero = refl
-all_allowed (suc size) = refl
+-- ---- registers of a context
 
--- the return address is there
-returned : (m : Memory) (old : ℕ → ℕ) (at back size : ℕ) → old 4 ≡ at + size
-    → IsWord m (at + size) back → rules.Stack m old back at at (allocated size)
-returned m old at back zero e w =
-    let z : at + 0 ≡ at = omega arith in
-    (sym z ∙ sym e, subst (λ a. IsWord m a back) z w)
-returned m old at back (suc size) e w = (sym e, w)
+-- the registers of a context beside RSP
+pub rest_length : (ks : List ℕ) → length ks ≡ 9 → length (drop 1 ks) ≡ 8
+rest_length [] n = absurd (omega arith)
+rest_length (k ∷ ks) n = omega arith
 
-not_framed : (now : ℕ → ℕ) (at size : ℕ) → rules.Framed 0 0 now at (allocated size)
-not_framed now at zero = tt
-not_framed now at (suc size) = tt
+-- a context with another RSP
+pub first_set : (ks : List ℕ) (v : ℕ) → length ks ≡ 9 → v ∷ drop 1 ks ≡ slice_set ks 0 v
+first_set [] v n = absurd (omega arith)
+first_set (k ∷ ks) v n = refl
 
-unsaved : (old now : ℕ → ℕ) (size : ℕ) → rules.Others old now []
-    → rules.Others old now (allocated size)
-unsaved old now zero h = h
-unsaved old now (suc size) h = λ r nv ne z. h r nv ne refl
+-- ---- the same elsewhere
 
--- so it is enough that the return address is there
-pub finds_return : (t : Functions) (m : Memory) (rip size : ℕ) → FindsReturn t m rip size
-    → (c : Context) (back : ℕ) → c.rip ≡ rip → length c.kept ≡ 9 → rsp c + size + 8 < 2 ^ 64
-    → word m (rsp c + size) ≡ Ok back → HasCaller t m c (caller_above c size back)
-finds_return t m rip size finds c back at kept room w =
-    let others = drop 1 c.kept in
+-- where the nonvolatile registers are the same
+pub owed_with : (m : Memory) (c c' : Context) (o : Owed) (size back : ℕ) (others : List ℕ)
+    → c'.kept ≡ c.kept → IsOwed m c o size back others → IsOwed m c' o size back others
+owed_with m c c' o size back others e h = subst (λ (ks : List ℕ).
+    let x : Context = record { rip = c'.rip; kept = ks } in IsOwed m x o size back others) (sym e)
+    (record {
+      kept = h.kept;
+      eight = h.eight;
+      room = h.room;
+      small = h.small;
+      allowed = h.allowed;
+      stack = h.stack;
+      framed = h.framed;
+      unsaved = h.unsaved;
+    })
+
+-- where the words are the same
+pub owed_in : (m m' : Memory) (c : Context) (o : Owed) (size back : ℕ) (others : List ℕ)
+    → m'.protection ≡ m.protection
+    → ((a : ℕ) → IsSavedAt (rsp c) (rsp c) o.codes a → m'.byte a ≡ m.byte a)
+    → IsOwed m c o size back others → IsOwed m' c o size back others
+owed_in m m' c o size back others protection bytes h =
     let old = get (caller_owed c size back others) in
-    let h = finds c size back others at (record {
-      kept = kept;
-      eight = rest_length c.kept kept;
-      room = room;
-      small = omega arith;
-      allowed = all_allowed size;
-      stack = returned m old (rsp c) back size refl
-          (is_word m (rsp c + size) back (omega arith) w);
-      framed = not_framed (get c) (rsp c) size;
-      unsaved = unsaved old (get c) size
-          (λ r nv ne z. others_same c back (rsp c + size) r (omega arith) nv ne);
-    }) in
-    subst (λ (ks : List ℕ). let x : Context = record { rip = back; kept = ks } in HasCaller t m c x)
-    (first_set c.kept (rsp c + size + 8) kept) h
-
--- and nothing else is owed there
-record Owes (m : Memory) (c : Context) (size far back : ℕ) : Type 0 where
-  same : far ≡ size
-  is_there : IsWord m (rsp c + size) back
-
-owes : (m : Memory) (c : Context) (old : ℕ → ℕ) (back size far : ℕ) → old 4 ≡ rsp c + far
-    → rules.Stack m old back (rsp c) (rsp c) (allocated size) → Owes m c size far back
-owes m c old back zero far e s =
-    let z : rsp c ≡ rsp c + 0 = omega arith in
+    let is_m : with_bytes m m'.byte ≡ m' = ap (λ (f : ℕ → Protection).
+    let x : Memory = record { protection = f; byte = m'.byte } in x) (sym protection) in
     record {
-      same = omega (arith, e, s.0);
-      is_there = subst (λ a. IsWord m a back) z s.1;
+      kept = h.kept;
+      eight = h.eight;
+      room = h.room;
+      small = h.small;
+      allowed = h.allowed;
+      stack = subst (λ (x : Memory). rules.Stack x old back (rsp c) (rsp c) o.codes) is_m
+          (stack_same m m old back m'.byte (rsp c) (rsp c) o.codes bytes h.stack);
+      framed = h.framed;
+      unsaved = h.unsaved;
     }
-owes m c old back (suc size) far e s = record { same = omega (arith, e, s.0); is_there = s.1 }
 
-no_saved : (old now : ℕ → ℕ) (size : ℕ) → rules.Others old now (allocated size)
-    → rules.Others old now []
-no_saved old now zero h = h
-no_saved old now (suc size) h = λ r nv ne z. h r nv ne refl
+-- ---- where the words are
 
-same_others : (c : Context) (size back : ℕ) (others : List ℕ) → length c.kept ≡ 9
+above_low : (low base at : ℕ) (ops : List UnwindOperation) → low ≤ base → low ≤ at
+    → AreAbove low base at ops
+above_low low base at [] le up = up
+above_low low base at (Push r ∷ ops) le up = (up, above_low low base (at + 8) ops le (omega arith))
+above_low low base at (Allocate n ∷ ops) le up = above_low low base (at + n) ops le (omega arith)
+above_low low base at (SetFrame ∷ ops) le up = above_low low base at ops le up
+above_low low base at (Save r n ∷ ops) le up = (omega arith, above_low low base at ops le up)
+above_low low base at (SaveVector r n ∷ ops) le up = above_low low base at ops le up
+above_low low base at (MachineFrame n ∷ ops) le up = above_low low base at ops le up
+
+module _ (m : Memory) (c : Context) (o : Owed) (size back : ℕ) (others : List ℕ)
+    (h : IsOwed m c o size back others) where
+  abbrev old : ℕ → ℕ
+  old = get (caller_owed c size back others)
+
+  -- they lead up to the return address
+  pub owed_depth : rsp c + depth o.codes ≡ rsp c + size
+  owed_depth = stack_depth m old back (rsp c) (rsp c) o.codes h.stack
+
+  pub owed_low : (a : ℕ) → IsSavedAt (rsp c) (rsp c) o.codes a → rsp c ≤ a
+  owed_low a s =
+      let le : rsp c ≤ rsp c = omega arith in
+      saved_low (rsp c) (rsp c) (rsp c) o.codes a (above_low (rsp c) (rsp c) (rsp c) o.codes le le)
+      s
+
+  pub owed_high : (a : ℕ) → IsSavedAt (rsp c) (rsp c) o.codes a → a < rsp c + size + 8
+  owed_high a s =
+      let d = owed_depth in
+      let e = saved_high o.register (rsp c) (rsp c) o.codes a h.allowed (omega arith) s in
+      omega arith
+
+  -- the return address is there
+  pub owed_return : word m (rsp c + size) ≡ Ok back
+  owed_return = word-is m (rsp c + size) back
+      (return_word m old back (rsp c) (rsp c) o.codes h.stack)
+
+-- of a body that waits the codes of its frame are owed
+pub frame_is_owed : (p : ImagePlan) (name : BodyName) (m : Memory) (c : Context) (f : StackFrame)
+    → p.leaf name ≡ false → f.entry ≡ p.entry name → length c.kept ≡ 9 → length f.others ≡ 8
+    → rsp c + f.size + 8 < 2 ^ 64 → IsAsTold m c f
+    → IsOwed m c (owed_of p name) f.size f.return_address f.others
+frame_is_owed p name m c f framed entry kept eight room h =
+    subst (λ (leaf : Bool). IsOwed m c (owed_by (p.entry name).info leaf) f.size f.return_address
+    f.others) (sym framed)
+    (subst (λ (e : Entry). IsOwed m c (owed_by e.info false) f.size f.return_address f.others) entry
+    (record {
+      kept = kept;
+      eight = eight;
+      room = room;
+      small = h.offset;
+      allowed = h.allowed;
+      stack = h.stack;
+      framed = h.framed;
+      unsaved = h.others;
+    }))
+
+-- ---- where nothing is left
+
+-- the caller has the registers that are there
+pub same_others : (c : Context) (size back : ℕ) (others : List ℕ) → length c.kept ≡ 9
     → length others ≡ 8 → rules.Others (get (caller_owed c size back others)) (get c) []
     → drop 1 c.kept ≡ others
 same_others c size back others kept eight o = rest_numbers c.kept kept
@@ -87,18 +139,45 @@ same_others c size back others kept eight o = rest_numbers c.kept kept
     ∷ o 15 refl (λ e. absurd (omega arith)) refl i ∷ [])
     ∙ eight_numbers others eight
 
--- and where the return address is enough, the walk finds the caller by the codes
-pub return_finds : (t : Functions) (m : Memory) (rip size : ℕ)
-    → ((c : Context) (back : ℕ) → c.rip ≡ rip → length c.kept ≡ 9 → rsp c + size + 8 < 2 ^ 64
-    → word m (rsp c + size) ≡ Ok back → HasCaller t m c (caller_above c size back))
-    → FindsReturn t m rip size
-return_finds t m rip size by c far back others at o =
-    let w = owes m c (get (caller_owed c far back others)) back size far refl o.stack in
-    let e = w.same in
-    let room = o.room in
-    let h = by c back at o.kept (omega arith) (word-is m (rsp c + size) back w.is_there) in
-    let same = same_others c far back others o.kept o.eight
-    (no_saved (get (caller_owed c far back others)) (get c) size o.unsaved) in
+pub record AtReturn (m : Memory) (c : Context) (size back : ℕ) (others : List ℕ) : Type 0 where
+  pub none : rsp c + size ≡ rsp c
+  pub returns : word m (rsp c) ≡ Ok back
+  pub others_are : drop 1 c.kept ≡ others
+
+pub at_return : (m : Memory) (c : Context) (size back : ℕ) (others : List ℕ)
+    → IsOwed m c nothing_owed size back others → AtReturn m c size back others
+at_return m c size back others h =
+    let at : rsp c ≡ rsp c + size = h.stack.0 in
+    record {
+      none = sym at;
+      returns = word-is m (rsp c) back h.stack.1;
+      others_are = same_others c size back others h.kept h.eight h.unsaved;
+    }
+
+-- the return address alone is at RSP
+pub returns_alone : (m : Memory) (c : Context) (back : ℕ) → length c.kept ≡ 9
+    → rsp c + 8 < 2 ^ 64 → word m (rsp c) ≡ Ok back
+    → IsOwed m c nothing_owed 0 back (drop 1 c.kept)
+returns_alone m c back kept room w =
+    let at : rsp c ≡ rsp c + 0 = omega arith in
+    record {
+      kept = kept;
+      eight = rest_length c.kept kept;
+      room = omega arith;
+      small = omega arith;
+      allowed = refl;
+      stack = (at, is_word m (rsp c) back (omega arith) w);
+      framed = tt;
+      unsaved = λ r nv ne z. others_same c back (rsp c + 0) r (omega arith) nv ne;
+    }
+
+-- so it is enough that the return address is there
+pub finds_return : (t : Functions) (m : Memory) (rip : ℕ) → FindsReturn t m rip
+    → (c : Context) (back : ℕ) → c.rip ≡ rip → length c.kept ≡ 9 → rsp c + 0 + 8 < 2 ^ 64
+    → word m (rsp c + 0) ≡ Ok back → HasCaller t m c (caller_above c 0 back)
+finds_return t m rip finds c back at kept room w =
+    let flat : rsp c + 0 ≡ rsp c = omega arith in
+    let h = finds c 0 back (drop 1 c.kept) at
+    (returns_alone m c back kept (omega arith) (sym (ap (word m) flat) ∙ w)) in
     subst (λ (ks : List ℕ). let x : Context = record { rip = back; kept = ks } in HasCaller t m c x)
-    (sym (first_set c.kept (rsp c + size + 8) o.kept)
-    ∙ (λ i. (rsp c + sym e i + 8) ∷ same i)) h
+    (first_set c.kept (rsp c + 0 + 8) kept) h

@@ -1,14 +1,13 @@
 -- Where an image's code is, a walk finds the return address of its routine.
-use Rattle.std.proofs.Common.{◌≡◌, ℕ, ◌+◌, ◌^◌, ◌<◌, ◌≤◌, Bool, true, false, Some, Ok, List, [], ◌∷◌, ◌++◌, length, drop, get_or, refl, sym, ap, subst, ◌∙◌, arith, inl, inr}
+use Rattle.std.proofs.Common.{◌≡◌, ℕ, ◌+◌, ◌<◌, ◌≤◌, Bool, true, false, Some, List, [], ◌∷◌, ◌++◌, length, get_or, refl, sym, ap, subst, ◌∙◌, arith, inl, inr}
 use Rattle.std.specs.Prelude.{slice_get, slice_set}
 use Rattle.std.proofs.lemmas.Option.{slice_get_cases, slice_get_within, get_or_from_slice_get}
 use Rattle.std.proofs.lemmas.List.{append-nil}
-use Rattle.match_bodies.specs.Words.{Memory, Rax, Instr, Context, rsp, word, Instruction, LinearBody, BodyName, body_of, sizes, fetch, template, offset_of, code_from, IsReturn, HasCode, after_frame, after_leaf, links_of, begin_of, making_size, frame_code, arguments_code, entry_code, frame_of, caller_above, HasCaller, FindsReturn, Setting, IsResumed}
+use Rattle.match_bodies.specs.Words.{Memory, Rax, Instr, Context, rsp, Instruction, LinearBody, BodyName, body_of, sizes, fetch, template, offset_of, code_from, IsReturn, HasCode, after_frame, after_leaf, links_of, begin_of, making_size, frame_code, arguments_code, entry_code, frame_of, caller_left, HasCaller, FindsOwed, IsOwed, owed_of, owed_by, Setting, IsResumed}
 use Rattle.linear_code.specs.declared.instruction.Instruction.TheVariants as instructions
 use Rattle.match_bodies.proofs.Lemmas.{sizes_append, template_sizes, code_split, template_placed, frame_is_visited, leaf_is_visited}
-use Rattle.match_bodies.proofs.StackTop.{leaf_layout}
-use Rattle.match_bodies.proofs.BodyFrames.{framed_by_return, first_set}
-use Rattle.match_bodies.proofs.OwedCallers.{return_finds}
+use Rattle.match_bodies.proofs.BodyFrames.{owed_framed, owed_frame}
+use Rattle.match_bodies.proofs.OwedCallers.{first_set, at_return}
 use Rattle.match_bodies.proofs.TemplateSizes.{template_some}
 use Rattle.match_bodies.specs.Setting.{HasProgram}
 
@@ -28,11 +27,11 @@ module _ (setting : Setting) where
       (has : HasProgram setting m) where
     -- where a body waits, or is within an instruction that isn't a return
     pub resumed_found : (label rip : ℕ) → IsResumed setting name b label rip
-        → FindsReturn t m rip (p.layout name).frame
-    resumed_found label rip r = return_finds t m rip (p.layout name).frame found
+        → FindsOwed t m rip (owed_of p name)
+    resumed_found label rip r c size back others at o = by (p.leaf name) refl
       where
-        here_at : (c : Context) → c.rip ≡ rip → IsResumed setting name b label c.rip
-        here_at c at = record {
+        here_at : IsResumed setting name b label c.rip
+        here_at = record {
           instruction = r.instruction;
           there = r.there;
           continues = r.continues;
@@ -43,44 +42,38 @@ module _ (setting : Setting) where
           here = at ∙ r.here;
         }
 
-        by : (c : Context) (back : ℕ) → c.rip ≡ rip → length c.kept ≡ 9
-            → rsp c + (p.layout name).frame + 8 < 2 ^ 64
-            → word m (rsp c + (p.layout name).frame) ≡ Ok back → (leaf : Bool) → p.leaf name ≡ leaf
-            → HasCaller t m c (caller_above c (p.layout name).frame back)
-        by c back at nine room w false e =
-            let others = drop 1 c.kept in
-            let f = image.frames m name b label c back others is e has (here_at c at)
-            (framed_by_return setting name b is m c back e nine room w) in
+        by : (leaf : Bool) → p.leaf name ≡ leaf → HasCaller t m c (caller_left c size back others)
+        by false e =
+            let framed = owed_framed setting name b is m c size back others e o in
+            let deep = owed_frame setting name b is m c size back others o in
+            let f = image.frames m name b label c back others is e has here_at framed in
             let k : HasCaller t m c (after_frame c (frame_of p name back others)) = record {
               frame = _;
               visits = frame_is_visited t m c 0 (frame_of p name back others) f;
               context = refl;
             } in
-            subst (λ (ks : List ℕ). let x : Context = record { rip = back; kept = ks } in
-            HasCaller t m c x) (first_set c.kept (rsp c + (p.layout name).frame + 8) nine) k
-        by c back at nine room w true e =
-            let none = leaf_layout t fs program p q name b e (image.laid_out name b is) in
-            let zero_frame = none.frame in
-            let z : rsp c + (p.layout name).frame ≡ rsp c = omega arith in
-            let up : rsp c + 8 ≡ rsp c + (p.layout name).frame + 8 = omega arith in
-            let l = image.leaves m name b label c back is e (here_at c at) nine (omega arith)
-            (ap (word m) (sym z) ∙ w) in
+            subst (λ n. HasCaller t m c (caller_left c n back others)) (sym deep) k
+        by true e =
+            let i = (p.entry name).info in
+            let n = at_return m c size back others (subst (λ (leaf : Bool).
+            IsOwed m c (owed_by i leaf) size back others) e o) in
+            let room = o.room in
+            let flat = n.none in
+            let up : rsp c + 8 ≡ rsp c + size + 8 = omega arith in
+            let l = image.leaves m name b label c back is e here_at o.kept (omega arith)
+            n.returns in
             let k : HasCaller t m c (after_leaf c back) =
             record { frame = _; visits = leaf_is_visited t m c 0 back l; context = refl } in
-            subst (λ n. let x : Context = record { rip = back; kept = slice_set c.kept 0 n } in
-            HasCaller t m c x) up k
-
-        found : (c : Context) (back : ℕ) → c.rip ≡ rip → length c.kept ≡ 9
-            → rsp c + (p.layout name).frame + 8 < 2 ^ 64
-            → word m (rsp c + (p.layout name).frame) ≡ Ok back
-            → HasCaller t m c (caller_above c (p.layout name).frame back)
-        found c back at nine room w = by c back at nine room w (p.leaf name) refl
+            subst (λ (ks : List ℕ). let x : Context = record { rip = back; kept = ks } in
+            HasCaller t m c x)
+            (ap (slice_set c.kept 0) up ∙ sym (first_set c.kept (rsp c + size + 8) o.kept)
+            ∙ ap (λ (os : List ℕ). (rsp c + size + 8) ∷ os) n.others_are) k
 
     pub within_found : (label : ℕ) (i : Instruction) → slice_get b.code label ≡ Some i
         → (IsReturn i → ⊥) → (done left : List Instr) (item : Instr)
         → template (links_of p q name) (p.layout name) (p.address name label) i
         ≡ done ++ (item ∷ left)
-        → FindsReturn t m (p.address name label + sizes done) (p.layout name).frame
+        → FindsOwed t m (p.address name label + sizes done) (owed_of p name)
     within_found label i at continues done left item parts =
         resumed_found label (p.address name label + sizes done)
         (record {
@@ -96,10 +89,10 @@ module _ (setting : Setting) where
 
     -- where an instruction begins
     pub label_found : (label : ℕ) (i : Instruction) → slice_get b.code label ≡ Some i
-        → FindsReturn t m (p.address name label) (p.layout name).frame
+        → FindsOwed t m (p.address name label) (owed_of p name)
     label_found label (instructions.Return from) at =
         let z : p.address name label + 0 ≡ p.address name label = omega arith in
-        subst (λ a. FindsReturn t m a (p.layout name).frame) z
+        subst (λ a. FindsOwed t m a (owed_of p name)) z
         ((image.callers name b is).returns m label from [] (fetch (p.layout name) Rax from) has at
         refl)
     label_found label i at =
@@ -110,14 +103,13 @@ module _ (setting : Setting) where
         let size = template_sizes k y a i in
         let f = first_of (template k y a i) (omega arith) in
         let z : a + 0 ≡ a = omega arith in
-        subst (λ x. FindsReturn t m x y.frame) z
+        subst (λ x. FindsOwed t m x (owed_of p name)) z
         (within_found label i at (λ h. h) [] f.left f.item f.parts)
 
     -- where arguments are stored, up to the first instruction
     pub argument_found : 0 < length b.code → (done left : List Instr)
         → arguments_code program p name ≡ done ++ left
-        → FindsReturn t m (begin_of p q name + making_size p q name + sizes done)
-        (p.layout name).frame
+        → FindsOwed t m (begin_of p q name + making_size p q name + sizes done) (owed_of p name)
     argument_found some done (item ∷ left) parts = (image.callers name b is).arguments m done left
         item has parts
     argument_found some done [] parts =
@@ -129,7 +121,7 @@ module _ (setting : Setting) where
         let z : p.address name 0 ≡ begin_of p q name + making_size p q name
         + sizes done = omega (arith, sizes_append making (arguments_code program p name)) in
         elim (slice_get_cases b.code 0).1 [
-          | inl x ↦ subst (λ a. FindsReturn t m a (p.layout name).frame) z (label_found 0 x.0 x.2)
+          | inl x ↦ subst (λ a. FindsOwed t m a (owed_of p name)) z (label_found 0 x.0 x.2)
           | inr x ↦ let le = x.0 in absurd (omega arith)
         ]
 

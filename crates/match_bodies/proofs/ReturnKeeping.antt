@@ -1,13 +1,15 @@
 -- A body returns: its result is fetched, its frame is given back, and the return is made; the
 -- shadow is kept.
-use Rattle.std.proofs.Common.{◌≡◌, ℕ, zero, suc, ◌+◌, ◌^◌, ◌<◌, Option, Some, None, List, [], ◌∷◌, length, refl, sym, ap, subst, ◌∙◌, arith, inl, length-append}
+use Rattle.std.proofs.Common.{◌≡◌, ℕ, zero, suc, ◌+◌, ◌^◌, ◌<◌, Option, Some, None, true, Ok, List, [], ◌∷◌, length, refl, sym, ap, subst, ◌∙◌, arith, inl, length-append}
 use Rattle.std.specs.Prelude.{slice_get}
 use Rattle.std.proofs.lemmas.List.{append-nil}
-use Rattle.match_bodies.specs.Words.{Memory, Rax, Rsp, Instr, State, register, with_rip, Slot, Local, Temporary, LinearBody, BodyName, body_of, Layout, size, sizes, fetch, fetch_local, local_at, epilogue, HasCode, StackItem, is_call, AllKeep, FindsReturn, Setting, return_code, give_back}
+use Rattle.match_bodies.specs.Words.{Memory, Rax, Rsp, Instr, State, register, with_rip, Slot, Local, Temporary, LinearBody, BodyName, body_of, Layout, size, sizes, fetch, fetch_local, local_at, epilogue, HasCode, StackItem, is_call, AllKeep, context_of, context_below, word, FindsReturn, FindsOwed, Owed, IsOwed, nothing_owed, owed_of, owed_by, Setting, return_code, give_back}
 use Rattle.x64_instr.specs.declared.instruction.Instr.TheVariants as instrs
 use Rattle.linear_code.specs.declared.instruction.Instruction.TheVariants as instructions
 use Rattle.match_bodies.proofs.Lemmas.{code_split, Fine, near, keep_first}
-use Rattle.match_bodies.proofs.InstructionEffects.{rises}
+use Rattle.match_bodies.proofs.InstructionEffects.{others_of, rises}
+use Rattle.match_bodies.proofs.BodyFrames.{codes_above, told_again, no_frame}
+use Rattle.match_bodies.proofs.OwedCallers.{returns_alone}
 use Rattle.match_bodies.proofs.SilentTurns.{program_kept}
 use Rattle.match_bodies.proofs.RoutineWalks.{read_here, effect_here, code_next, StepsTo, steps_split, keeps_split, Beneath, AllPlain, Finds, Ran, ran}
 use Rattle.match_bodies.proofs.ShadowTurns.{shifts, return_keeps_shadow}
@@ -32,7 +34,7 @@ module _ (setting : Setting) where
       (from : Slot) (at : slice_get b.code label ≡ Some (instructions.Return from))
       (s w : State) (top back : ℕ) (others : List ℕ) (list : List StackItem)
       (here : s.cpu.rip ≡ p.address name label)
-      (beneath : Beneath t s top (top + 8) back others list)
+      (beneath : Beneath t s (owed_of p name) top (top + 8) back others list)
       (below : register s.cpu Rsp + (p.layout name).frame ≡ top)
       (has : HasProgram setting s.memory) (small : (p.layout name).frame < 2 ^ 31)
       (plain : AllPlain (p.layout name).frame 8 (fetch (p.layout name) Rax from))
@@ -55,63 +57,75 @@ module _ (setting : Setting) where
     codes m h = code_split m (p.address name label) fetching (epilogue y.frame)
         (template_there setting name b is m h label (instructions.Return from) at)
 
-    finds : Finds t fs program p q top (top + 8) back others list s.cpu.rip fetching y.frame
-    finds done left split m h = subst (λ a. FindsReturn t m (a + sizes done) y.frame) (sym here)
+    abbrev owed : Owed
+    owed = owed_of p name
+
+    finds : Finds t fs program p q owed top (top + 8) back others list s.cpu.rip fetching
+    finds done left split m h = subst (λ a. FindsOwed t m (a + sizes done) owed) (sym here)
         ((image.callers name b is).returns m label from done left h at split)
 
-    first : Ran t fs program p q top (top + 8) back others list s u fetching
-    first = ran t fs program p q top (top + 8) back others list fetching s u y.frame 8 halves.1
+    first : Ran t fs program p q owed top (top + 8) back others list s u fetching
+    first = ran t fs program p q owed top (top + 8) back others list fetching s u y.frame 8 halves.1
         plain (subst (λ a. HasCode s.memory a fetching) (sym here) (codes s.memory has).0) has
-        beneath
-        below refl finds
+        beneath below refl (codes_above setting name b is (register s.cpu Rsp)) finds
 
     there_is : p.address name label + sizes fetching ≡ u.cpu.rip
     there_is = omega (arith, first.rip)
 
-    epilogue_found : FindsReturn t u.memory u.cpu.rip y.frame
-    epilogue_found = subst (λ a. FindsReturn t u.memory a y.frame) there_is
+    epilogue_found : FindsOwed t u.memory u.cpu.rip owed
+    epilogue_found = subst (λ a. FindsOwed t u.memory a owed) there_is
         ((image.callers name b is).returns u.memory label from fetching [] first.has at
         (sym (append-nil fetching)))
 
     -- the return itself
-    last_keeps : (v : State) → Beneath t v top (top + 8) back others list → register v.cpu Rsp ≡ top
-        → FindsReturn t v.memory v.cpu.rip 0 → HasCode v.memory v.cpu.rip (instrs.Return ∷ [])
+    last_keeps : (v : State) → Beneath t v nothing_owed top (top + 8) back others list
+        → FindsReturn t v.memory v.cpu.rip → HasCode v.memory v.cpu.rip (instrs.Return ∷ [])
         → StepsTo 1 v w → AllKeep t fs 1 v
-    last_keeps v b' up found code r = keep_first t fs 0 v r.0 r.1.steps
-        (return_keeps_shadow t fs top (top + 8) back others list v r.0 r.1 b' up [] code found) tt
+    last_keeps v b' found code r = keep_first t fs 0 v r.0 r.1.steps
+        (return_keeps_shadow t fs top (top + 8) back others list v r.0 r.1 b' [] code found) tt
+
+    -- what the caller's registers are, and its return address
+    tells : (word u.memory top ≡ Ok back) × (others_of u.cpu.registers ≡ others)
+    tells = told_again setting name b is u.memory (context_of u.cpu) first.beneath.size top back
+        others first.beneath.at first.beneath.owed
 
     epilogue_keeps : (n : ℕ) → y.frame ≡ n → StepsTo (length (epilogue n)) u w
         → HasCode u.memory u.cpu.rip (epilogue n) → AllKeep t fs (length (epilogue n)) u
     epilogue_keeps zero e r code =
-        let z = first.stack in
-        last_keeps u first.beneath (omega arith)
-        (subst (λ n. FindsReturn t u.memory u.cpu.rip n) e epilogue_found) code r
+        let leaf : p.leaf name ≡ true = no_frame setting name b is e in
+        let same : owed ≡ nothing_owed = ap (owed_by (p.entry name).info) leaf in
+        last_keeps u
+        (subst (λ (o : Owed). Beneath t u o top (top + 8) back others list) same first.beneath)
+        (subst (λ (o : Owed). FindsOwed t u.memory u.cpu.rip o) same epilogue_found) code r
     epilogue_keeps (suc n) e r code =
         let i = give_back (suc n) in
         let v = r.0 in
         let st = r.1 in
         let enc = near (suc n) (omega arith) in
         let next = u.cpu.rip + size i in
-        let high = first.beneath.high in
+        let high = first.beneath.above.high in
         let z = first.stack in
         let at_top : register u.cpu Rsp + suc n ≡ top = omega arith in
-        let below' : register u.cpu Rsp + y.frame ≡ top = omega arith in
         let up : top + 0 ≡ top = omega arith in
         let sets = rises (with_rip u next) v (suc n) top first.beneath.count at_top (omega arith)
         (effect_here u v i (instrs.Return ∷ []) enc code st.steps) in
         let has' = program_kept t fs program p q u.memory v.memory
         (record { protection = st.protection; fixed = st.fixed }) first.has in
-        let found : (m : Memory) → HasProgram setting m → FindsReturn t m next 0 = λ m h.
+        let found : (m : Memory) → HasProgram setting m → FindsReturn t m next = λ m h.
         (let f = (image.callers name b is).ends m label from n h at e in
         let same : p.address name label + sizes fetching + size (give_back y.frame)
         ≡ next = ap (λ k. p.address name label + sizes fetching + size (give_back k)) e
         ∙ ap (λ k. k + size i) there_is in
-        subst (λ a. FindsReturn t m a 0) same f) in
-        let k = shifts t fs top (top + 8) back others list u v st first.beneath top next y.frame 0
-        sets below' up (ap is_call (read_here u v i (instrs.Return ∷ []) enc code)) epilogue_found
-        (found v.memory has') in
+        subst (λ a. FindsReturn t m a) same f) in
+        let owes = subst (IsOwed u.memory (context_below next top (others_of u.cpu.registers))
+        nothing_owed 0 back) tells.1
+        (returns_alone u.memory (context_below next top (others_of u.cpu.registers)) back refl
+        (let w : top + 8 < 2 ^ 64 = omega arith in w) tells.0) in
+        let k = shifts t fs owed top (top + 8) back others list u v st first.beneath nothing_owed
+        top next 0 sets up owes (ap is_call (read_here u v i (instrs.Return ∷ []) enc code))
+        epilogue_found (found v.memory has') in
         keep_first t fs 1 u v st.steps k.keeps
-        (last_keeps v k.beneath k.stack (subst (λ a. FindsReturn t v.memory a 0) (sym k.rip)
+        (last_keeps v k.beneath (subst (λ a. FindsReturn t v.memory a) (sym k.rip)
         (found v.memory has')) (code_next u v i (instrs.Return ∷ []) enc code st k.rip) r.2)
 
     pub returns_keep : AllKeep t fs (length (return_code y from)) s

@@ -2,12 +2,14 @@
 use Rattle.std.proofs.Common.{◌≡◌, ℕ, zero, suc, ◌+◌, ◌%◌, ◌^◌, ◌<◌, ◌≤◌, Bool, true, false, List, [], ◌∷◌, ◌++◌, length, Option, Some, None, Ok, refl, sym, ap, subst, ◌∙◌, arith, inl, inr}
 use Rattle.std.specs.Prelude.{◌⊎◌, slice_index}
 use Rattle.std.proofs.lemmas.Bool.{cases_lt}
-use Rattle.match_bodies.specs.Words.{Protection, is_readable, is_writable, Memory, executable, may_read, may_write, first_refused, number_at, with_bytes, access, Reg, Rsp, Instr, leading, chosen, is_encodable, Context, context_of, State, register, with_rip, effect, rsp, Functions, word, readable, Funclet, LinearProgram, spelled, size, sizes, keep_register, Steps, Reaches, Enters, HasCode, StackItem, IsStack, Owned, context_below, state, ImagePlan, is_call, GivesCallers, WalkGives, AllKeep, Sites, HasProgram, caller_above, HasCaller, FindsReturn, Agree, calls}
-use Rattle.match_bodies.proofs.Lemmas.{longest, same_number, bytes_kept, outside_page, bytes_split, spells, reads, kept_by_other_stores, nothing_below_is_owned, past_frame, straight, keep_first}
+use Rattle.match_bodies.specs.Words.{Protection, is_writable, Memory, executable, may_read, may_write, first_refused, number_at, with_bytes, access, Reg, Rsp, Instr, leading, chosen, is_encodable, Context, context_of, State, register, with_rip, effect, rsp, Functions, word, readable, Funclet, LinearProgram, spelled, size, sizes, keep_register, Steps, Reaches, Enters, HasCode, StackItem, IsStack, Owned, context_below, state, ImagePlan, is_call, GivesCallers, WalkGives, AllKeep, Sites, HasProgram, caller_left, HasCaller, FindsOwed, Owed, IsOwed, Agree, calls}
+use Rattle.match_bodies.proofs.Lemmas.{longest, bytes_kept, outside_page, bytes_split, spells, reads, kept_by_other_stores, nothing_below_is_owned, past_frame, straight, keep_first}
 use Rattle.x64_machine.specs.Effect.{step}
 use Rattle.match_bodies.proofs.StackWalks.{callers, on_stack}
 use Rattle.match_bodies.proofs.InstructionEffects.{others_of, is_idle, idle_leaves, idle_calls_nothing, store_leaves}
-use Rattle.match_bodies.proofs.OwedCallers.{finds_return}
+use Rattle.match_stack.specs.Stack.{AreAbove, IsSavedAt}
+use Rattle.match_stack.proofs.FrameWords.{saved_low}
+use Rattle.match_bodies.proofs.OwedCallers.{owed_with, owed_in, owed_high}
 use Rattle.match_bodies.proofs.SilentTurns.{program_kept}
 
 -- ---- the instruction at RIP is run
@@ -98,38 +100,39 @@ word_number m at v e = by (first_refused (may_read m) 8 at) e
     by None is = cc
     by (Some a) is = absurd cc
 
--- and is read again in bytes that are the same
-pub word_stays : (m m' : Memory) (at v : ℕ) → at + 8 < 2 ^ 64 → m'.protection ≡ m.protection
-    → ((a : ℕ) → at ≤ a → a < at + 8 → m'.byte a ≡ m.byte a) → word m at ≡ Ok v → word m' at ≡ Ok v
-word_stays m m' at v lt same bytes e =
-    let n : number_at m'.byte 8 at ≡ number_at m.byte 8 at = same_number m'.byte m.byte 8 at lt
-    bytes in
-    ap (λ (f : ℕ → Protection). readable at (access false
-    (first_refused (λ a. is_readable (f a).rights) 8 at) (number_at m'.byte 8 at))) same
-    ∙ ap (λ x. readable at (access false (first_refused (may_read m) 8 at) x)) n
-    ∙ e
-
 -- ---- below a return address
 
+-- the context of a state, by its parts
+pub context_is : (s : State) (rip sp : ℕ) (others : List ℕ) → s.cpu.rip ≡ rip
+    → register s.cpu Rsp ≡ sp → others_of s.cpu.registers ≡ others
+    → context_of s.cpu ≡ context_below rip sp others
+context_is s rip sp others a b c = λ i. context_below (a i) (b i) (c i)
+
+pub kept_same : (s u : State) → register u.cpu Rsp ≡ register s.cpu Rsp
+    → others_of u.cpu.registers ≡ others_of s.cpu.registers
+    → (context_of u.cpu).kept ≡ (context_of s.cpu).kept
+kept_same s u stack others = λ i. stack i ∷ others i
+
 module _ (t : Functions) where
-  -- RSP and a routine's return address aren't above `top`; from there on is the list for these
-  -- nonvolatile registers, and no byte below `from` is owned by it
-  pub record Beneath (s : State) (top from back : ℕ) (others : List ℕ) (is : List StackItem) : Type
-      0 where
-    pub others_are : others_of s.cpu.registers ≡ others
-    pub count : length s.cpu.registers ≡ 16
-    pub returns : word s.memory top ≡ Ok back
-    pub list : IsStack t s.memory (context_below back (top + 8) others) is
+  -- above a routine's return address is the list, for the registers that its caller has, and no
+  -- byte below `from` is owned by it
+  pub record ListAbove (m : Memory) (top from back : ℕ) (others : List ℕ) (is : List StackItem) :
+      Type 0 where
+    pub list : IsStack t m (context_below back (top + 8) others) is
     pub owned : (a : ℕ) → Owned (context_below back (top + 8) others) is a → from ≤ a
     pub past : top + 8 ≤ from
     pub high : top + 8 < 2 ^ 63
     pub limit : from < 2 ^ 63
-    pub no_code : (a : ℕ) → may_write s.memory a ≡ true → (s.memory.protection a).execute ≡ false
+    pub no_code : (a : ℕ) → may_write m a ≡ true → (m.protection a).execute ≡ false
 
-  -- bytes that a step leaves
-  abbrev pub Stays : State → State → ℕ → ℕ → Type 0
-  Stays s u top from = (a : ℕ) → ((top ≤ a) × (a < top + 8)) ⊎ (from ≤ a)
-      → u.memory.byte a ≡ s.memory.byte a
+  -- a routine runs below it, and these codes are still to be undone
+  pub record Beneath (s : State) (o : Owed) (top from back : ℕ) (others : List ℕ)
+      (is : List StackItem) : Type 0 where
+    pub above : ListAbove s.memory top from back others is
+    pub count : length s.cpu.registers ≡ 16
+    pub size : ℕ
+    pub at : register s.cpu Rsp + size ≡ top
+    pub owed : IsOwed s.memory (context_of s.cpu) o size back others
 
   fixed_code : (m : Memory) (a : ℕ) (b : Bool) → may_write m a ≡ b
       → ((a : ℕ) → may_write m a ≡ true → (m.protection a).execute ≡ false)
@@ -137,11 +140,11 @@ module _ (t : Functions) where
   fixed_code m a true w alone e = let z : true ≡ false = sym e ∙ alone a w in absurd cc
   fixed_code m a false w alone e = w
 
-  pub beneath_stays : (s u : State) (top from back : ℕ) (others : List ℕ) (is : List StackItem)
-      → Steps s u → others_of u.cpu.registers ≡ others_of s.cpu.registers → Stays s u top from
-      → Beneath s top from back others is → Beneath u top from back others is
-  beneath_stays s u top from back others is st same stays b =
-      let high = b.high in
+  -- a step that leaves what is above leaves the list
+  pub above_stays : (s u : State) (top from back : ℕ) (others : List ℕ) (is : List StackItem)
+      → Steps s u → ((a : ℕ) → from ≤ a → u.memory.byte a ≡ s.memory.byte a)
+      → ListAbove s.memory top from back others is → ListAbove u.memory top from back others is
+  above_stays s u top from back others is st stays b =
       let m : Memory = with_bytes s.memory u.memory.byte in
       let is_m : m ≡ u.memory = ap (λ (f : ℕ → Protection).
       let x : Memory = record { protection = f; byte = u.memory.byte } in x)
@@ -149,13 +152,9 @@ module _ (t : Functions) where
       let agree : Agree s.memory u.memory.byte
       (Owned (context_below back (top + 8) others) is) = record {
         code = λ a e. st.fixed a (fixed_code s.memory a (may_write s.memory a) refl b.no_code e);
-        owned = λ a o. stays a (inr (b.owned a o));
+        owned = λ a o. stays a (b.owned a o);
       } in
       record {
-        others_are = same ∙ b.others_are;
-        count = st.count ∙ b.count;
-        returns = word_stays s.memory u.memory top back (omega arith) st.protection
-            (λ a l h. stays a (inl (l, h))) b.returns;
         list = subst (λ (x : Memory). IsStack t x (context_below back (top + 8) others) is) is_m
             (kept_by_other_stores t s.memory u.memory.byte (context_below back (top + 8) others) is
             agree b.list);
@@ -168,28 +167,52 @@ module _ (t : Functions) where
             ∙ w);
       }
 
+  -- bytes that a step leaves
+  abbrev pub Stays : State → State → Owed → ℕ → Type 0
+  Stays s u o from = (a : ℕ)
+      → (IsSavedAt (register s.cpu Rsp) (register s.cpu Rsp) o.codes a) ⊎ (from ≤ a)
+      → u.memory.byte a ≡ s.memory.byte a
+
+  pub beneath_stays : (s u : State) (o : Owed) (top from back : ℕ) (others : List ℕ)
+      (is : List StackItem) → Steps s u → register u.cpu Rsp ≡ register s.cpu Rsp
+      → others_of u.cpu.registers ≡ others_of s.cpu.registers → Stays s u o from
+      → Beneath s o top from back others is → Beneath u o top from back others is
+  beneath_stays s u o top from back others is st stack same stays b = record {
+    above = above_stays s u top from back others is st (λ a le. stays a (inr le)) b.above;
+    count = st.count ∙ b.count;
+    size = b.size;
+    at = ap (λ x. x + b.size) stack ∙ b.at;
+    owed = owed_with u.memory (context_of s.cpu) (context_of u.cpu) o b.size back others
+        (kept_same s u stack same)
+        (owed_in s.memory u.memory (context_of s.cpu) o b.size back others st.protection
+        (λ a w. stays a (inl w)) b.owed);
+  }
+
   -- the callers there
   abbrev pub callers_above : (top back : ℕ) → List ℕ → List StackItem → List Context
   callers_above top back others is = context_below back (top + 8) others
       ∷ callers (context_below back (top + 8) others) is
 
-  -- a walk gives them, where it finds the return address
-  pub gives_above : (s : State) (top from back : ℕ) (others : List ℕ) (is : List StackItem) (d : ℕ)
-      → Beneath s top from back others is → FindsReturn t s.memory s.cpu.rip d
-      → register s.cpu Rsp + d ≡ top → WalkGives t s (callers_above top back others is)
-  gives_above s top from back others is d b finds at =
-      let high = b.high in
-      let c = context_of s.cpu in
+  -- a walk gives them, where it finds the caller by the codes that are still to be undone
+  pub gives_owed : (m : Memory) (c : Context) (o : Owed) (size top back : ℕ) (others : List ℕ)
+      (is : List StackItem) → FindsOwed t m c.rip o → IsOwed m c o size back others
+      → rsp c + size ≡ top → IsStack t m (context_below back (top + 8) others) is
+      → GivesCallers t m (state c 0) (callers_above top back others is)
+  gives_owed m c o size top back others is finds owed at list =
       let above = context_below back (top + 8) others in
-      let h = finds_return t s.memory s.cpu.rip d finds c back refl refl
-      (let z : rsp c + d + 8 < 2 ^ 64 = omega arith in z)
-      (ap (word s.memory) at ∙ b.returns) in
-      let same : caller_above c d back ≡ above = λ i. context_below back (at i + 8)
-      (b.others_are i) in
-      let k = subst (HasCaller t s.memory c) same h in
-      subst (λ x. GivesCallers t s.memory (state c 0) (x ∷ callers above is)) k.context
-      (past_frame t s.memory (state c 0) k.frame (state above 0) (callers above is) k.visits
-      (on_stack t s.memory above 0 is b.list))
+      let same : caller_left c size back others
+      ≡ above = ap (λ n. context_below back (n + 8) others) at in
+      let k = subst (HasCaller t m c) same (finds c size back others refl owed) in
+      subst (λ x. GivesCallers t m (state c 0) (x ∷ callers above is)) k.context
+      (past_frame t m (state c 0) k.frame (state above 0) (callers above is) k.visits
+      (on_stack t m above 0 is list))
+
+  pub gives_above : (s : State) (o : Owed) (top from back : ℕ) (others : List ℕ)
+      (is : List StackItem) → Beneath s o top from back others is
+      → FindsOwed t s.memory s.cpu.rip o → WalkGives t s (callers_above top back others is)
+  gives_above s o top from back others is b finds =
+      gives_owed s.memory (context_of s.cpu) o b.size top back others is finds b.owed b.at
+      b.above.list
 
 -- ---- straight code
 
@@ -215,18 +238,24 @@ plain_calls_nothing d e i (inr k) = ap calls k.is
 
 module _ (t : Functions) (fs : List Funclet) (program : LinearProgram) (p : ImagePlan) (q : Sites)
   where
-    module _ (top from back : ℕ) (others : List ℕ) (is : List StackItem) where
+    module _ (o : Owed) (top from back : ℕ) (others : List ℕ) (is : List StackItem) where
       -- after an instruction that isn't a jump
       pub record Moved (s u : State) (i : Instr) : Type 0 where
-        pub beneath : Beneath t u top from back others is
+        pub beneath : Beneath t u o top from back others is
         pub rip : u.cpu.rip ≡ s.cpu.rip + size i
         pub stack : register u.cpu Rsp ≡ register s.cpu Rsp
+        pub keeps_others : others_of u.cpu.registers ≡ others_of s.cpu.registers
+
+      -- the words of the codes are so far above RSP at least
+      abbrev pub AreBeyond : State → ℕ → Type 0
+      AreBeyond s d = AreAbove (register s.cpu Rsp + d) (register s.cpu Rsp) (register s.cpu Rsp)
+          o.codes
 
       pub plain_step : (s u : State) (d e : ℕ) (i : Instr) (more : List Instr) → IsPlain d e i
-          → HasCode s.memory s.cpu.rip (i ∷ more) → Steps s u → Beneath t s top from back others is
-          → register s.cpu Rsp + d ≡ top → from ≡ top + e → Moved s u i
-      plain_step s u d e i more plain code st b at up =
-          let high = b.limit in
+          → HasCode s.memory s.cpu.rip (i ∷ more) → Steps s u
+          → Beneath t s o top from back others is
+          → register s.cpu Rsp + d ≡ top → from ≡ top + e → AreBeyond s d → Moved s u i
+      plain_step s u d e i more plain code st b at up far =
           let effect' = effect_here s u i more plain.0 code st.steps in
           by plain.1 effect'
         where
@@ -237,89 +266,101 @@ module _ (t : Functions) (fs : List Funclet) (program : LinearProgram) (p : Imag
           by (inl idle) ef =
               let l = idle_leaves a u i idle ef in
               record {
-                beneath = beneath_stays t s u top from back others is st l.others
-                    (λ x o. ap (λ (m : Memory). m.byte x) l.memory) b;
+                beneath = beneath_stays t s u o top from back others is st l.stack l.others
+                    (λ x w. ap (λ (m : Memory). m.byte x) l.memory) b;
                 rip = l.rip;
                 stack = l.stack;
+                keeps_others = l.others;
               }
           by (inr k) ef =
+              let high = b.above.limit in
               let sp = register s.cpu Rsp in
+              let size_is = b.at in
               let inside = k.inside in
               let l = store_leaves a u k.offset k.kept
               (elim inside [ inl x ↦ omega arith | inr x ↦ (let z = x.1 in omega arith) ])
               (subst (λ j. effect a j ≡ Ok u) k.is ef) in
+              let stack : register u.cpu Rsp ≡ sp = ap (λ (r : List ℕ). slice_index r 4)
+              l.registers in
               record {
-                beneath = beneath_stays t s u top from back others is st (ap others_of l.registers)
-                    (λ x o. l.beside x (elim inside [
-                      | inl z ↦ inr (elim o [
-                        | inl w ↦ (let w0 = w.0 in omega arith)
-                        | inr w ↦ omega
-                            arith
-                      ])
-                      | inr z ↦ (let z0 = z.0 in let z1 = z.1 in
-                          elim o [
-                            | inl w ↦ (let w1 = w.1 in inl (omega arith))
-                            | inr w ↦ inr
-                                (omega arith)
+                beneath = beneath_stays t s u o top from back others is st stack
+                    (ap others_of l.registers)
+                    (λ x w. l.beside x (elim w [
+                      | inl own ↦
+                          (let low = saved_low (sp + d) sp sp o.codes x far own in
+                          let most = owed_high s.memory (context_of s.cpu) o b.size back others
+                          b.owed x own in
+                          elim inside [
+                            | inl z ↦ inr (omega arith)
+                            | inr z ↦ (let z0 = z.0 in inl (omega arith))
+                          ])
+                      | inr above ↦
+                          inr (elim inside [
+                            | inl z ↦ omega arith
+                            | inr z ↦ (let z1 = z.1 in omega arith)
                           ])
                     ]))
                     b;
                 rip = l.rip;
-                stack = ap (λ (r : List ℕ). slice_index r 4) l.registers;
+                stack = stack;
+                keeps_others = ap others_of l.registers;
               }
 
       -- where straight code comes to
       pub record Ran (s w : State) (code : List Instr) : Type 0 where
         pub keeps : AllKeep t fs (length code) s
-        pub beneath : Beneath t w top from back others is
+        pub beneath : Beneath t w o top from back others is
         pub has : HasProgram t fs program p q w.memory
         pub rip : w.cpu.rip ≡ s.cpu.rip + sizes code
         pub stack : register w.cpu Rsp ≡ register s.cpu Rsp
+        pub keeps_others : others_of w.cpu.registers ≡ others_of s.cpu.registers
 
-      -- a walk finds the return address at each of its instructions
-      abbrev pub Finds : ℕ → List Instr → ℕ → Type 0
-      Finds rip code d = (done left : List Instr) → code ≡ done ++ left → (m : Memory)
-          → HasProgram t fs program p q m → FindsReturn t m (rip + sizes done) d
+      -- a walk finds the caller at each of its instructions
+      abbrev pub Finds : ℕ → List Instr → Type 0
+      Finds rip code = (done left : List Instr) → code ≡ done ++ left → (m : Memory)
+          → HasProgram t fs program p q m → FindsOwed t m (rip + sizes done) o
 
       pub ran : (code : List Instr) (s w : State) (d e : ℕ) → StepsTo (length code) s w
           → AllPlain d e code → HasCode s.memory s.cpu.rip code → HasProgram t fs program p q
           s.memory
-          → Beneath t s top from back others is
-          → register s.cpu Rsp + d ≡ top → from ≡ top + e → Finds s.cpu.rip code d → Ran s w code
-      ran [] s w d e r plain code has b at up finds =
+          → Beneath t s o top from back others is
+          → register s.cpu Rsp + d ≡ top → from ≡ top + e → AreBeyond s d → Finds s.cpu.rip code
+          → Ran s w code
+      ran [] s w d e r plain code has b at up far finds =
           subst (λ (x : State). Ran s x []) r (record {
             keeps = tt;
             beneath = b;
             has = has;
             rip = (let z : s.cpu.rip ≡ s.cpu.rip + 0 = omega arith in z);
             stack = refl;
+            keeps_others = refl;
           })
-      ran (i ∷ code) s w d e r plain code' has b at up finds =
+      ran (i ∷ code) s w d e r plain code' has b at up far finds =
           let u = r.0 in
           let st = r.1 in
-          let first = plain_step s u d e i code plain.0 code' st b at up in
+          let first = plain_step s u d e i code plain.0 code' st b at up far in
           let has' = program_kept t fs program p q s.memory u.memory
           (record { protection = st.protection; fixed = st.fixed }) has in
           let at' : register u.cpu Rsp + d ≡ top = omega (arith, first.stack) in
           let z : s.cpu.rip + 0 ≡ s.cpu.rip = omega arith in
           let next : s.cpu.rip + (size i + 0) ≡ u.cpu.rip = omega (arith, first.rip) in
-          let before = gives_above t s top from back others is d b
-          (subst (λ a. FindsReturn t s.memory a d) z (finds [] (i ∷ code) refl s.memory has)) at in
-          let after = gives_above t u top from back others is d first.beneath
-          (subst (λ a. FindsReturn t u.memory a d) next (finds (i ∷ []) code refl u.memory has'))
-          at' in
+          let before = gives_above t s o top from back others is b
+          (subst (λ a. FindsOwed t s.memory a o) z (finds [] (i ∷ code) refl s.memory has)) in
+          let after = gives_above t u o top from back others is first.beneath
+          (subst (λ a. FindsOwed t u.memory a o) next (finds (i ∷ []) code refl u.memory has')) in
           let quiet = ap is_call (read_here s u i code plain.0.0 code')
           ∙ plain_calls_nothing d e i plain.0.1 in
           let keep = straight t fs s u (callers_above t top back others is) st.steps quiet before
           after (let h : register u.cpu Rsp + 8 ≤ top + 8 = omega arith in h) in
-          let finds' : Finds u.cpu.rip code d = λ done left parts m h.
+          let finds' : Finds u.cpu.rip code = λ done left parts m h.
           (let same : s.cpu.rip + (size i + sizes done)
           ≡ u.cpu.rip + sizes done = omega (arith, first.rip) in
-          subst (λ a. FindsReturn t m a d) same
+          subst (λ a. FindsOwed t m a o) same
           (finds (i ∷ done) left (ap (λ (xs : List Instr). i ∷ xs) parts) m h)) in
           let rest = ran code u w d e r.2 plain.1 (code_next s u i code plain.0.0 code' st
           first.rip)
-          has' first.beneath at' up finds' in
+          has' first.beneath at' up
+          (subst (λ x. AreAbove (x + d) x x o.codes) (sym first.stack) far) finds' in
           record {
             keeps = keep_first t fs (length code) s u st.steps keep rest.keeps;
             beneath = rest.beneath;
@@ -327,30 +368,32 @@ module _ (t : Functions) (fs : List Funclet) (program : LinearProgram) (p : Imag
             rip = rest.rip ∙ (let same : u.cpu.rip + sizes code
                 ≡ s.cpu.rip + (size i + sizes code) = omega (arith, first.rip) in same);
             stack = rest.stack ∙ first.stack;
+            keeps_others = rest.keeps_others ∙ first.keeps_others;
           }
 
 -- ---- where a list is above a return address
 
-pub beneath_by : (t : Functions) (s : State) (top back : ℕ) (is : List StackItem)
-    → length s.cpu.registers ≡ 16 → word s.memory top ≡ Ok back
-    → IsStack t s.memory (context_below back (top + 8) (others_of s.cpu.registers)) is
-    → top + 8 < 2 ^ 62
+pub beneath_by : (t : Functions) (s : State) (o : Owed) (size top back : ℕ) (others : List ℕ)
+    (is : List StackItem) → length s.cpu.registers ≡ 16 → register s.cpu Rsp + size ≡ top
+    → IsOwed s.memory (context_of s.cpu) o size back others
+    → IsStack t s.memory (context_below back (top + 8) others) is → top + 8 < 2 ^ 62
     → ((a : ℕ) → may_write s.memory a ≡ true → (s.memory.protection a).execute ≡ false)
-    → Beneath t s top (top + 8) back (others_of s.cpu.registers) is
-beneath_by t s top back is count returns list high no_code = record {
-  others_are = refl;
+    → Beneath t s o top (top + 8) back others is
+beneath_by t s o size top back others is count at owed list high no_code = record {
+  above = record {
+    list = list;
+    owned = λ a w. elim (cases_lt a (top + 8)) [
+      | inl lt ↦ absurd
+          (nothing_below_is_owned t s.memory (context_below back (top + 8) others) is a list lt w)
+      | inr ge ↦ ge
+    ];
+    past = (let z : top + 8 ≤ top + 8 = omega arith in z);
+    high = omega arith;
+    limit = omega arith;
+    no_code = no_code;
+  };
   count = count;
-  returns = returns;
-  list = list;
-  owned = λ a o. elim (cases_lt a (top + 8)) [
-    | inl lt ↦ absurd
-        (nothing_below_is_owned t s.memory (context_below back (top + 8)
-        (others_of s.cpu.registers))
-        is a list lt o)
-    | inr ge ↦ ge
-  ];
-  past = (let z : top + 8 ≤ top + 8 = omega arith in z);
-  high = omega arith;
-  limit = omega arith;
-  no_code = no_code;
+  size = size;
+  at = at;
+  owed = owed;
 }

@@ -2,14 +2,15 @@
 -- funclet begins with an instruction that makes its frame.
 use Rattle.std.proofs.Common.{◌≡◌, ◌≢◌, ℕ, zero, suc, ◌+◌, ◌<◌, ◌≤◌, Bool, true, false, List, [], ◌∷◌, length, Option, Some, None, refl, sym, ap, subst, ◌∙◌, arith, inl, inr}
 use Rattle.std.specs.Prelude.{slice_get}
-use Rattle.std.proofs.lemmas.Bool.{le-leb, ne_eqb}
+use Rattle.std.proofs.lemmas.Bool.{ne_eqb}
 use Rattle.std.proofs.lemmas.Option.{slice_get_cases}
-use Rattle.match_bodies.specs.Words.{W64, Event, Service, address_of, Protection, is_readable, is_writable, Memory, executable, may_write, Rsp, Instr, leading, chosen, State, Functions, distance, Funclet, arrivals, LinearProgram, LinearFunclet, FuncletBody, body_of, spelled, thunk, enter_code, check_stack, code_from, Steps, Reaches, Enters, HasCode, HasThunk, ImagePlan, AllKeep, Comes, Sites, begin_of, making, frame_code, arguments_code, entry_code, links_of, code_of, service_of, HasService, HasProgram, IsProgramImage, funclet_body, takes_frame, Runs, IsLive}
+use Rattle.match_bodies.specs.Words.{W64, Event, Service, address_of, Protection, is_readable, is_writable, Memory, executable, may_write, Rsp, Instr, leading, chosen, State, Functions, distance, Funclet, arrivals, LinearProgram, LinearFunclet, FuncletBody, body_of, spelled, thunk, enter_code, check_stack, code_from, Steps, Reaches, Enters, HasCode, HasThunk, ImagePlan, AllKeep, Comes, Sites, begin_of, frame_code, arguments_code, entry_code, links_of, code_of, service_of, HasService, HasProgram, IsProgramImage, funclet_body, takes_frame, Runs, IsLive}
 use Rattle.host_layout.specs.declared.service.Service.TheVariants as services
 use Rattle.x64_instr.specs.declared.operand.RegisterOrMemory.TheVariants as places
 use Rattle.x64_instr.specs.declared.operand.Operand.TheVariants as operands
 use Rattle.x64_instr.specs.declared.instruction.Operation.TheVariants as operations
 use Rattle.x64_instr.specs.declared.instruction.Instr.TheVariants as instrs
+use Rattle.match_bodies.proofs.FrameCode.{made_small}
 use Rattle.match_bodies.proofs.Lemmas.{longest, bytes_kept, bytes_split, spells, reads, same_number, code_split, near}
 use Rattle.x64_machine.specs.declared.cpu.Cpu.{Cpu}
 use Rattle.host_model.specs.Dispatch.{no_flags}
@@ -73,11 +74,6 @@ module _ (t : Functions) (fs : List Funclet) (program : LinearProgram) (p : Imag
 
     -- ---- a funclet's first instruction
 
-    made_first : (size at check : ℕ) (leaf : Bool) → leaf ≡ false → size ≤ 4096
-        → frame_code size at check leaf ≡ enter_code size
-    made_first size at check leaf e small = ap (frame_code size at check) e
-        ∙ ap (making size at check) (le-leb size 4096 small)
-
     abbrev taking : Option (Instr × ℕ) → Bool
     taking None = true
     taking (Some x) = takes_frame x.0
@@ -123,8 +119,10 @@ module _ (t : Functions) (fs : List Funclet) (program : LinearProgram) (p : Imag
           (code_from (links_of p q name) y (p.address name 0) f.body.code) all in
           let frame = code_split m (p.funclet k) first (arguments_code program p name) entry.0 in
           entered_by m (p.funclet k) y.frame j n (omega arith)
-          (subst (HasCode m (p.funclet k)) (made_first y.frame (p.funclet k) q.check_stack
-          (p.leaf name) plan.framed (omega arith)) frame.0) e quiet
+          (subst (HasCode m (p.funclet k)) (made_small y.frame (p.funclet k) q.check_stack
+          (p.leaf name) plan.framed
+          (let a = plan.layout.passed in let b = plan.layout.kept in
+          let c = plan.layout.temporaries in omega arith) (omega arith)) frame.0) e quiet
 
       elsewhere : (s u : State) → Runs s u → HasProgram t fs program p q s.memory → (k : ℕ)
           → k < length program.funclets → s.cpu.rip ≢ p.funclet k

@@ -1,7 +1,7 @@
 -- A piece of a body's template keeps the shadow.
-use Rattle.std.proofs.Common.{◌≡◌, ℕ, ◌+◌, ◌^◌, ◌<◌, Some, List, ◌∷◌, ◌++◌, length, get_or, refl, sym, ap, subst, ◌∙◌, arith, append_assoc}
+use Rattle.std.proofs.Common.{◌≡◌, ℕ, ◌+◌, ◌^◌, ◌<◌, Some, List, ◌∷◌, ◌++◌, length, get_or, sym, ap, subst, ◌∙◌, arith, append_assoc}
 use Rattle.std.specs.Prelude.{slice_get}
-use Rattle.match_bodies.specs.Words.{Memory, Rsp, Instr, Context, kept_of, State, register, Instruction, LinearBody, BodyName, body_of, sizes, template, Reaches, HasCode, IsReturn, AllKeep, links_of, FindsReturn, Setting}
+use Rattle.match_bodies.specs.Words.{Memory, Rsp, Instr, Context, kept_of, State, register, Instruction, LinearBody, BodyName, body_of, sizes, template, Reaches, HasCode, IsReturn, AllKeep, links_of, FindsOwed, owed_of, Setting}
 use Rattle.match_bodies.proofs.Lemmas.{sizes_append, code_split, IsFlow}
 use Rattle.match_bodies.proofs.ReturnAddresses.{within_found, template_there}
 use Rattle.match_bodies.proofs.FlowKeeping.{IsBelow, from_state, flow_keeps}
@@ -19,14 +19,14 @@ module _ (setting : Setting) (name : BodyName) (b : LinearBody) (label : ℕ) (i
     -- a walk finds the return address at each of its instructions
     pub piece_finds : (m : Memory) (a : ℕ) (done left : List Instr) (item : Instr)
         → a ≡ p.address name label + sizes before → HasProgram setting m
-        → code ≡ done ++ (item ∷ left) → FindsReturn t m (a + sizes done) (p.layout name).frame
+        → code ≡ done ++ (item ∷ left) → FindsOwed t m (a + sizes done) (owed_of p name)
     piece_finds m a done left item e has split =
         let all = parts ∙ ap (λ (xs : List Instr). before ++ (xs ++ after)) split
         ∙ ap (λ (xs : List Instr). before ++ xs) (append_assoc done (item ∷ left) after)
         ∙ sym (append_assoc before done ((item ∷ left) ++ after)) in
         let here : p.address name label + sizes (before ++ done)
         ≡ a + sizes done = omega (arith, sizes_append before done) in
-        subst (λ x. FindsReturn t m x (p.layout name).frame) here
+        subst (λ x. FindsOwed t m x (owed_of p name)) here
         (within_found setting name b there m has label i at goes (before ++ done) (left ++ after)
         item all)
 
@@ -41,15 +41,18 @@ module _ (setting : Setting) (name : BodyName) (b : LinearBody) (label : ℕ) (i
 
     -- a run over the piece, with the frame as it was and what lies above it in both memories, and
     -- to where a walk finds the return address too
-    pub piece_keeps : (u w : State) (kept : List ℕ) (back : ℕ) (cs : List Context) → IsFlow code
-        → Reaches (length code) u w
+    pub piece_keeps : (u w : State) (kept : List ℕ) (back : ℕ) (others : List ℕ)
+        (cs : List Context) → IsFlow code → Reaches (length code) u w
         → u.cpu.rip ≡ p.address name label + sizes before → kept_of u.cpu.registers ≡ kept
         → kept_of w.cpu.registers ≡ kept → get_or kept 0 0 + (p.layout name).frame + 8 < 2 ^ 64
-        → IsBelow t fs program p q u.memory kept (p.layout name).frame back cs
-        → IsBelow t fs program p q w.memory kept (p.layout name).frame back cs
-        → FindsReturn t w.memory w.cpu.rip (p.layout name).frame → AllKeep t fs (length code) u
-    piece_keeps u w kept back cs flow r here same_begin same_end room begin end finds =
+        → IsBelow t fs program p q (owed_of p name) u.memory kept (p.layout name).frame back others
+        cs
+        → IsBelow t fs program p q (owed_of p name) w.memory kept (p.layout name).frame back others
+        cs
+        → FindsOwed t w.memory w.cpu.rip (owed_of p name) → AllKeep t fs (length code) u
+    piece_keeps u w kept back others cs flow r here same_begin same_end room begin end finds =
         let size = (p.layout name).frame in
+        let o = owed_of p name in
         let own = kept_of u.cpu.registers in
         let back_to = sym same_begin in
         let same : kept_of w.cpu.registers ≡ own = same_end ∙ back_to in
@@ -57,12 +60,12 @@ module _ (setting : Setting) (name : BodyName) (b : LinearBody) (label : ℕ) (i
         same in
         let enough : register u.cpu Rsp + size + 8
         < 2 ^ 64 = subst (λ (ks : List ℕ). get_or ks 0 0 + size + 8 < 2 ^ 64) back_to room in
-        let first = subst (λ (ks : List ℕ). IsBelow t fs program p q u.memory ks size back cs)
-        back_to begin in
-        let last = subst (λ (ks : List ℕ). IsBelow t fs program p q w.memory ks size back cs)
-        back_to end in
-        let gives = from_state t fs program p q w own size back cs finds same refl enough last in
-        flow_keeps t fs program p q code u w size back cs enough
+        let first = subst (λ (ks : List ℕ). IsBelow t fs program p q o u.memory ks size back others
+        cs) back_to begin in
+        let last = subst (λ (ks : List ℕ). IsBelow t fs program p q o w.memory ks size back others
+        cs) back_to end in
+        let gives = from_state t fs program p q o w own size back others cs finds same last in
+        flow_keeps t fs program p q o code u w size back others cs enough
         (λ m done left item has split. piece_finds m u.cpu.rip done left item here has split)
         first last
         flow.spelling flow.flow flow.once (subst (λ a. HasCode u.memory a code) (sym here)

@@ -4,7 +4,7 @@ use Rattle.std.proofs.Common.{◌≡◌, ℕ, suc, ◌+◌, ◌^◌, ◌<◌, �
 use Rattle.std.specs.Prelude.{slice_get, slice_index}
 use Rattle.std.proofs.lemmas.List.{append-nil}
 use Rattle.std.proofs.lemmas.Option.{slice_get_within, get_or_from_slice_get}
-use Rattle.match_bodies.specs.Words.{Memory, Rsp, Instr, Context, kept_of, State, register, Instruction, BodyState, LinearBody, FuncletBody, Configuration, is_reserved, Layout, sizes, template, template_size, Agrees, IsBytes, Reaches, IsReturn, WalkGives, AllKeep, IsStack, context_below, links_of, FindsReturn, counts_of, state_of, OwnerHasFrame, Setting, RepresentsAt}
+use Rattle.match_bodies.specs.Words.{Memory, Rsp, Instr, Context, context_of, kept_of, State, register, Instruction, BodyState, LinearBody, FuncletBody, Configuration, is_reserved, Layout, sizes, template, template_size, Agrees, IsBytes, Reaches, IsReturn, WalkGives, AllKeep, links_of, FindsOwed, Owed, owed_of, counts_of, state_of, OwnerHasFrame, Setting, RepresentsAt}
 use Rattle.linear_code.specs.declared.instruction.Instruction.TheVariants as instructions
 use Rattle.match_bodies.proofs.Lemmas.{offset_next, IsFlow, LabelsNear, body_most, labels_near}
 use Rattle.x64_templates.proofs.Bodies.{holds_same, changes_same}
@@ -13,11 +13,12 @@ use Rattle.match_bodies.proofs.SilentTurns.{program_kept}
 use Rattle.match_bodies.proofs.BodyCallers.{begin_finds}
 use Rattle.match_bodies.proofs.FlowKeeping.{caller_by, IsBelow, from_state}
 use Rattle.match_bodies.proofs.TemplatePieces.{piece_finds, piece_keeps}
-use Rattle.match_bodies.proofs.BodyFrames.{body_return, below_here}
+use Rattle.match_bodies.proofs.BodyFrames.{body_owed, frame_owed}
+use Rattle.match_bodies.proofs.OwedCallers.{owed_with}
 use Rattle.match_bodies.proofs.HomeSpace.{CallerHasFrame}
 use Rattle.match_bodies.proofs.ChainKeeping.{Keeps}
 use Rattle.match_bodies.proofs.BodyViews.{IsCounted, placed, count, frame_top, room_here, holds_here, slots_here, locals_here}
-use Rattle.match_bodies.proofs.NextInstruction.{Ran, returns, new_on}
+use Rattle.match_bodies.proofs.NextInstruction.{Ran, frame_after, new_on}
 
 some_length : (code : List Instr) → 1 ≤ length code
     → (item : Instr) × (left : List Instr) × (code ≡ item ∷ left)
@@ -49,13 +50,18 @@ module _ (setting : Setting) (s : State) (c : Configuration)
 
   -- what the body's caller continues with, and the callers beyond it
   abbrev pub caller_here : Context
-  caller_here = caller_by kept_here layout_here.frame b.body.back
+  caller_here = caller_by kept_here layout_here.frame b.body.back b.body.others
 
   abbrev pub beyond_here : List Context
   beyond_here = callers caller_here b.body.is
 
+  -- the codes of its frame
+  abbrev pub owed_here : Owed
+  owed_here = owed_of p c.frame.body
+
   abbrev pub Below : Memory → Type 0
-  Below m = IsBelow t fs program p q m kept_here layout_here.frame b.body.back beyond_here
+  Below m = IsBelow t fs program p q owed_here m kept_here layout_here.frame b.body.back
+      b.body.others beyond_here
 
   enough : get_or kept_here 0 0 + layout_here.frame + 8 < 2 ^ 64
   enough = let h = frame_top setting s c b counted in omega arith
@@ -63,9 +69,10 @@ module _ (setting : Setting) (s : State) (c : Configuration)
   pub is_here : Below s.memory
   is_here = record {
     program_there = b.memory.code;
-    returns = (body_return setting s c b.body).returns;
-    beyond = on_stack t s.memory caller_here 0 b.body.is
-        (below_here setting s c b.body).is_there.stack;
+    owed = λ rip. owed_with s.memory (context_of s.cpu) (record { rip = rip; kept = kept_here })
+        owed_here layout_here.frame b.body.back b.body.others refl
+        (body_owed setting s c b.body (let e = enough in omega arith));
+    beyond = on_stack t s.memory caller_here 0 b.body.is b.body.below.is_there.stack;
   }
 
   -- after a run of a template
@@ -78,12 +85,18 @@ module _ (setting : Setting) (s : State) (c : Configuration)
     program_there = program_kept t fs program p q s.memory u.memory
         (record { protection = r.changed.keeps.protection; fixed = r.changed.keeps.fixed })
         b.memory.code;
-    returns = returns setting s c b counted u d values ts r;
+    owed = λ rip.
+        (let up : register u.cpu Rsp ≡ register s.cpu Rsp =
+        ap (λ (ks : List ℕ). slice_index ks 0) r.kept in
+        let e = enough in
+        owed_with u.memory (context_of u.cpu) (record { rip = rip; kept = kept_here }) owed_here
+        layout_here.frame b.body.back b.body.others (sym r.kept)
+        (frame_owed setting c.frame.body code_here b.body.slots.body u b.body.back b.body.others
+        b.body.eight
+        (let z : register u.cpu Rsp + layout_here.frame + 8 < 2 ^ 64 = omega arith in z)
+        (frame_after setting s c b counted u d values ts r)));
     beyond = on_stack t u.memory caller_here 0 b.body.is
-        (subst (λ (os : List ℕ). IsStack t u.memory (context_below b.body.back
-        (register s.cpu Rsp + layout_here.frame + 8) os) b.body.is)
-        (sym (body_return setting s c b.body).others_are)
-        (new_on setting s c b counted u d values ts r caller owner).is_there.stack);
+        (new_on setting s c b counted u d values ts r caller owner).is_there.stack;
   }
 
   -- where no reserved byte has changed the slots are as they were
@@ -128,7 +141,7 @@ module _ (setting : Setting) (s : State) (c : Configuration)
   pub record Ends (u : State) : Type 0 where
     pub registers : kept_of u.cpu.registers ≡ kept_here
     pub is_there : Below u.memory
-    pub finds : FindsReturn t u.memory u.cpu.rip layout_here.frame
+    pub finds : FindsOwed t u.memory u.cpu.rip owed_here
 
   -- at an instruction of the body
   pub ends_at : (u : State) (label : ℕ) → u.cpu.rip ≡ p.address c.frame.body label
@@ -137,7 +150,7 @@ module _ (setting : Setting) (s : State) (c : Configuration)
   ends_at u label rip lt registers is_there = record {
     registers = registers;
     is_there = is_there;
-    finds = subst (λ a. FindsReturn t u.memory a layout_here.frame) (sym rip)
+    finds = subst (λ a. FindsOwed t u.memory a owed_here) (sym rip)
         (begin_finds t fs program p q image u.memory c.frame.body code_here label b.body.slots.body
         is_there.program_there lt);
   }
@@ -145,9 +158,8 @@ module _ (setting : Setting) (s : State) (c : Configuration)
   -- there the walk gives these callers
   pub ends_gives : (u : State) → Ends u → WalkGives t u (caller_here ∷ beyond_here)
   ends_gives u e =
-      let nine : length kept_here ≡ 9 = refl in
-      from_state t fs program p q u kept_here layout_here.frame b.body.back beyond_here e.finds
-      e.registers nine enough e.is_there
+      from_state t fs program p q owed_here u kept_here layout_here.frame b.body.back b.body.others
+      beyond_here e.finds e.registers e.is_there
 
   -- each turn of a run that ends so keeps the shadow
   abbrev pub RunsKeep : ℕ → State → Type 0
@@ -173,8 +185,8 @@ module _ (setting : Setting) (s : State) (c : Configuration)
     one_piece before code x parts flow past u r ends =
         piece_keeps setting c.frame.body code_here c.frame.next i b.body.slots.body at goes before
         code [] (parts ∙ ap (λ (xs : List Instr). before ++ xs) (sym (append-nil code))) x u
-        kept_here b.body.back beyond_here flow r past.rip past.registers ends.registers enough
-        past.is_there ends.is_there ends.finds
+        kept_here b.body.back b.body.others beyond_here flow r past.rip past.registers
+        ends.registers enough past.is_there ends.is_there ends.finds
 
     -- where another instruction of the template is left, the walk finds the return address
     pub past_ends : (before left : List Instr) (x : State) → whole ≡ before ++ left
@@ -191,7 +203,7 @@ module _ (setting : Setting) (s : State) (c : Configuration)
         record {
           registers = past.registers;
           is_there = past.is_there;
-          finds = subst (λ a. FindsReturn t x.memory a layout_here.frame) (none ∙ sym past.rip)
+          finds = subst (λ a. FindsOwed t x.memory a owed_here) (none ∙ sym past.rip)
               finds;
         }
 
@@ -204,7 +216,7 @@ module _ (setting : Setting) (s : State) (c : Configuration)
         let ends = past_ends (before ++ first) second mid
         (parts ∙ sym (append_assoc before first second)) some there in
         piece_keeps setting c.frame.body code_here c.frame.next i b.body.slots.body at goes before
-        first second parts x mid kept_here b.body.back beyond_here flow comes past.rip
+        first second parts x mid kept_here b.body.back b.body.others beyond_here flow comes past.rip
         past.registers ends.registers enough past.is_there ends.is_there ends.finds
 
     -- and with them, where they do so too

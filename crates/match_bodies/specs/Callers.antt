@@ -1,17 +1,20 @@
 -- Where a walk finds the caller of code that runs.
-use Rattle.std.specs.Prelude.{◌≡◌, ℕ, zero, suc, ◌+◌, ◌^◌, ◌<◌, ◌≤◌, true, List, [], ◌∷◌, length, slice_set}
+use Rattle.std.specs.Prelude.{◌≡◌, ℕ, ◌+◌, ◌^◌, ◌<◌, ◌≤◌, Bool, true, false, List, [], ◌∷◌, length, slice_set}
 use Rattle.flat_memory.specs.Memory.{Memory}
 use Rattle.x64_machine.specs.declared.context.Context.{Context}
 use Rattle.x64_machine.specs.Contexts.{context_of}
 use Rattle.eh_tables.specs.declared.code.UnwindOperation.{UnwindOperation}
-use Rattle.eh_tables.specs.declared.code.UnwindOperation.TheVariants.{Allocate}
+use Rattle.eh_tables.specs.Infos.{Info}
 use Rattle.virtual_unwind.specs.Contexts.{get, rsp}
 use Rattle.frame_rules.specs.Codes.{are_allowed}
 use Rattle.frame_rules.specs.Frame as rules
-use Rattle.virtual_unwind.specs.CallerOf.{Functions, CallerFrame}
+use Rattle.virtual_unwind.specs.CallerOf.{Functions, CallerFrame, run_by}
+use Rattle.virtual_unwind.specs.Undone.{operations}
+use Rattle.linear_machine.specs.Frames.{BodyName}
 use Rattle.seh_walk.specs.Walk as walk
 use Rattle.seh_walk.specs.Walk.{visited}
 use Rattle.match_stack.specs.Stack.{StackItem, Framed, Leaf, Searching, Unwinding, after_frame, after_leaf}
+use Rattle.match_stack.specs.ImagePlan.{ImagePlan}
 use Rattle.match_stack.specs.PlainWalks.{state}
 
 -- the callers of a list of stack items, past its records
@@ -40,31 +43,57 @@ pub record HasCaller (t : Functions) (m : Memory) (c caller : Context) : Type 0 
   pub visits : visited t m (state c 0) ≡ walk.Frame frame (state caller 0)
   pub context : frame.context ≡ caller
 
--- these codes are still to be undone: the return address is so far above RSP, and the caller has
--- these registers beside RSP
-pub record IsOwed (m : Memory) (c : Context) (register offset : ℕ) (ops : List UnwindOperation)
-    (size back : ℕ) (others : List ℕ) : Type 0 where
-  pub kept : length c.kept ≡ 9
-  pub eight : length others ≡ 8
-  pub room : rsp c + size + 8 < 2 ^ 64
-  pub small : offset ≤ 2 ^ 64
-  pub allowed : are_allowed register ops ≡ true
-  pub stack : rules.Stack m (get (caller_owed c size back others)) back (rsp c) (rsp c) ops
-  pub framed : rules.Framed register offset (get c) (rsp c) ops
-  pub unsaved : rules.Others (get (caller_owed c size back others)) (get c) ops
+-- codes that are still to be undone, with the frame register and how far it is above RSP
+pub record Owed : Type 0 where
+  pub register : ℕ
+  pub offset : ℕ
+  pub codes : List UnwindOperation
 
--- at an address: it does so by the codes that are still to be undone there
-abbrev pub FindsOwed : Functions → Memory → (rip register offset : ℕ) → List UnwindOperation
-    → Type 0
-FindsOwed t m rip register offset ops =
-    (c : Context) (size back : ℕ) (others : List ℕ)
-    → c.rip ≡ rip → IsOwed m c register offset ops size back others
+-- none: the return address is at RSP
+abbrev pub nothing_owed : Owed
+nothing_owed = record { register = 0; offset = 0; codes = [] }
+
+-- they are still to be undone: the return address is so far above RSP, and the caller has these
+-- registers beside RSP
+pub record IsOwed (m : Memory) (c : Context) (o : Owed) (size back : ℕ) (others : List ℕ) : Type 0
+  where
+    pub kept : length c.kept ≡ 9
+    pub eight : length others ≡ 8
+    pub room : rsp c + size + 8 < 2 ^ 64
+    pub small : o.offset ≤ 2 ^ 64
+    pub allowed : are_allowed o.register o.codes ≡ true
+    pub stack : rules.Stack m (get (caller_owed c size back others)) back (rsp c) (rsp c) o.codes
+    pub framed : rules.Framed o.register o.offset (get c) (rsp c) o.codes
+    pub unsaved : rules.Others (get (caller_owed c size back others)) (get c) o.codes
+
+-- at an address a walk finds the caller by the codes that are still to be undone there
+abbrev pub FindsOwed : Functions → Memory → ℕ → Owed → Type 0
+FindsOwed t m rip o =
+    (c : Context) (size back : ℕ) (others : List ℕ) → c.rip ≡ rip → IsOwed m c o size back others
     → HasCaller t m c (caller_left c size back others)
 
--- an allocation alone, or nothing
-abbrev pub allocated : ℕ → List UnwindOperation
-allocated zero = []
-allocated (suc size) = Allocate (suc size) ∷ []
+-- by the return address at RSP
+abbrev pub FindsReturn : Functions → Memory → ℕ → Type 0
+FindsReturn t m rip = FindsOwed t m rip nothing_owed
 
-abbrev pub FindsReturn : Functions → Memory → ℕ → ℕ → Type 0
-FindsReturn t m rip size = FindsOwed t m rip 0 0 (allocated size)
+-- what a body's codes tell, past its prologue; a leaf function has none
+abbrev pub owed_by : Info → Bool → Owed
+owed_by i true = nothing_owed
+owed_by i false =
+    record {
+      register = i.frame_register;
+      offset = i.frame_offset;
+      codes = operations i.codes;
+    }
+
+-- so many bytes from a function's first byte on: the codes of the instructions that have been run
+abbrev pub owed_after : Info → ℕ → Owed
+owed_after i d =
+    record {
+      register = i.frame_register;
+      offset = i.frame_offset;
+      codes = operations (run_by d i.codes);
+    }
+
+abbrev pub owed_of : ImagePlan → BodyName → Owed
+owed_of p name = owed_by (p.entry name).info (p.leaf name)

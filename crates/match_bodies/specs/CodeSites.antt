@@ -1,7 +1,6 @@
 -- Where the code of a program's parts begins, and what comes before a body.
-use Rattle.std.specs.Prelude.{ℕ, Bool, true, false, nat_le, List, [], ◌∷◌, ◌++◌, slice_get, Option, Some, None}
+use Rattle.std.specs.Prelude.{ℕ, ◌+◌, Bool, true, false, List, [], ◌∷◌, ◌++◌, slice_get, Option, Some, None}
 use Rattle.seh_num.specs.declared.width.Width.TheVariants.{W32, W64}
-use Rattle.host_layout.specs.declared.range.TheConstants.{PAGE}
 use Rattle.x64_instr.specs.declared.register.Reg.TheVariants.{Rax, Rcx, Rsp}
 use Rattle.x64_instr.specs.declared.operand.RegisterOrMemory.TheVariants as places
 use Rattle.x64_instr.specs.declared.operand.Operand.TheVariants as operands
@@ -19,9 +18,11 @@ use Rattle.template_code.specs.Bytes.{sizes}
 use Rattle.template_code.specs.Operations.{move}
 use Rattle.template_code.specs.Slots.{keep}
 use Rattle.template_code.specs.Calls as calls
-use Rattle.template_code.specs.Calls.{enter_code, keep_register, parameters_code}
-use Rattle.template_code.specs.Probing.{enter_large}
+use Rattle.template_code.specs.Calls.{keep_register, parameters_code}
+use Rattle.template_code.specs.Jumps.{distance}
 use Rattle.template_code.specs.Template.{Links, code_from}
+use Rattle.frame_rules.specs.Bytes.{prologue_code}
+use Rattle.frame_rules.specs.Plan.{FramePlan}
 use Rattle.match_stack.specs.ImagePlan.{ImagePlan}
 
 -- the first bytes of functions, the thunks of the built-in functions and of `_local_unwind`, and
@@ -50,15 +51,22 @@ begin_of p q (FuncletBody k) = p.funclet k
 
 -- ---- what comes before the first instruction
 
--- the frame is made: a leaf function has none, and one above a page is probed
-abbrev pub making : ℕ → ℕ → ℕ → Bool → List Instr
-making size at check true = enter_code size
-making size at check false = enter_large size at check
+-- a frame that saves nothing and has no frame register, as a frame of the rules, with the
+-- displacement of the call of `__chkstk`
+abbrev pub frame_plan : ℕ → ℕ → FramePlan
+frame_plan size probe =
+    record { pushes = []; size = size; frame = 0; distance = 0; saves = []; probe = probe }
 
--- the code that makes a frame; a leaf function has none
+-- the code that makes a frame is its prologue, in which the call ends ten bytes from the begin; a
+-- leaf function has none
 abbrev pub frame_code : ℕ → ℕ → ℕ → Bool → List Instr
 frame_code size at check true = []
-frame_code size at check false = making size at check (nat_le size PAGE)
+frame_code size at check false = prologue_code (frame_plan size (distance (at + 10) check))
+
+-- the plan of a body's frame
+abbrev pub body_plan : ImagePlan → Sites → BodyName → FramePlan
+body_plan p q name =
+    frame_plan (p.layout name).frame (distance (begin_of p q name + 10) q.check_stack)
 
 -- how many bytes that takes
 abbrev pub making_size : ImagePlan → Sites → BodyName → ℕ

@@ -1,6 +1,6 @@
 -- What an image has of a linear program: its code in memory, and what is known of its addresses.
 use Rattle.std.specs.Prelude.{◌≡◌, ◌≢◌, ℕ, suc, ◌+◌, ◌^◌, ◌<◌, ◌≤◌, Bool, true, false, List, [], ◌∷◌, ◌++◌, length, drop, slice_get, Some, None, Ok}
-use Rattle.host_layout.specs.declared.range.TheConstants.{IMAGE_BASE, IMAGE_RANGE_END, STACK_START, STACK_END, PAGE}
+use Rattle.host_layout.specs.declared.range.TheConstants.{IMAGE_BASE, IMAGE_RANGE_END, STACK_START, STACK_END}
 use Rattle.host_layout.specs.Ranges.{in_arena}
 use Rattle.host_layout.specs.declared.service.Service.{Service}
 use Rattle.host_layout.specs.declared.service.Service.TheVariants as services
@@ -13,7 +13,6 @@ use Rattle.x64_machine.specs.declared.context.Context.{Context}
 use Rattle.x64_instr.specs.declared.register.Reg.TheVariants.{Rax, Rcx, Rdx}
 use Rattle.x64_machine.specs.declared.cpu.Cpu.{Cpu}
 use Rattle.x64_machine.specs.Effect.{register}
-use Rattle.eh_tables.specs.declared.code.UnwindOperation.TheVariants.{Allocate}
 use Rattle.virtual_unwind.specs.Contexts.{rsp}
 use Rattle.virtual_unwind.specs.CallerOf.{Functions, distance}
 use Rattle.virtual_unwind.specs.Undone.{word}
@@ -47,9 +46,11 @@ use Rattle.match_stack.specs.Stack.{StackFrame, FrameIsAt, LeafIsAt, IsAsTold}
 use Rattle.match_stack.specs.ImagePlan.{ImagePlan, Gives}
 use Rattle.match_stack.specs.StackRecords.{IsData}
 use Rattle.seh_walk.specs.Walk.{filter_return, finally_return}
-use Rattle.match_bodies.specs.CodeSites.{Sites, links_of, begin_of, making_size, give_back, arguments_code, entry_code, code_of}
+use Rattle.frame_rules.specs.Bytes.{spell}
+use Rattle.frame_rules.specs.Plan as rules
+use Rattle.match_bodies.specs.CodeSites.{Sites, body_plan, links_of, begin_of, making_size, give_back, arguments_code, entry_code, code_of}
 use Rattle.match_bodies.specs.Layouts.{AreLaidOut}
-use Rattle.match_bodies.specs.Callers.{FindsReturn}
+use Rattle.match_bodies.specs.Callers.{FindsReturn, FindsOwed, owed_after, owed_of}
 
 -- the service of a built-in function
 abbrev pub service_of : BuiltIn → Service
@@ -161,14 +162,13 @@ module _ (t : Functions) (fs : List Funclet) (program : LinearProgram) (p : Imag
       → IsResumed name b label c.rip → IsFramed p m name c back others
       → FrameIsAt t m c (frame_of p name back others)
 
-  -- the unwind codes of an entry are the allocation of its body's frame, and there is no frame
-  -- register
-  pub record HasAllocation (name : BodyName) : Type 0 where
-    pub offset : ℕ
-    pub codes : (p.entry name).info.codes
-        ≡ record { offset = offset; operation = Allocate (p.layout name).frame } ∷ []
-    pub no_register : (p.entry name).info.frame_register ≡ 0
-    pub no_offset : (p.entry name).info.frame_offset ≡ 0
+  -- the unwind info of an entry tells of the prologue of its body's plan
+  pub record IsPlanned (name : BodyName) : Type 0 where
+    pub codes : (p.entry name).info.codes ≡ (rules.unwind_of spell (body_plan p q name)).codes
+    pub frame_register : (p.entry name).info.frame_register ≡ (body_plan p q name).frame
+    pub frame_offset : (p.entry name).info.frame_offset ≡ (body_plan p q name).distance
+    pub prologue_size : (p.entry name).info.prologue_size
+        ≡ (rules.unwind_of spell (body_plan p q name)).prologue_size
 
   -- a leaf function has no entry
   abbrev pub LeavesAreWaiting : Type 0
@@ -230,39 +230,39 @@ module _ (t : Functions) (fs : List Funclet) (program : LinearProgram) (p : Imag
 
   -- ---- where a walk finds callers
 
-  -- until a frame is made the return address is at RSP, in it above the frame, and at RSP again
-  -- once the frame is given back
+  -- at a routine's first byte the return address is at RSP; while its frame is made the codes of
+  -- the instructions that have been run are still to be undone, in it all codes; and once it is
+  -- given back the return address is at RSP again
   pub record FindsCallers (name : BodyName) (b : LinearBody) : Type 0 where
     pub entries : (m : Memory) → (p.leaf name ≡ true → 0 < length b.code)
-        → FindsReturn t m (begin_of p q name) 0
-    pub probes : (m : Memory) → p.leaf name ≡ false → PAGE < (p.layout name).frame
-        → FindsReturn t m (begin_of p q name + 5) 0 × FindsReturn t m (begin_of p q name + 10) 0
+        → FindsReturn t m (begin_of p q name)
+    pub making : (m : Memory) (d : ℕ) → p.leaf name ≡ false → d < (p.entry name).info.prologue_size
+        → FindsOwed t m (begin_of p q name + d) (owed_after (p.entry name).info d)
     pub arguments :
         (m : Memory) (done left : List Instr) (item : Instr)
         → HasProgram m → arguments_code program p name ≡ done ++ (item ∷ left)
-        → FindsReturn t m (begin_of p q name + making_size p q name + sizes done)
-        (p.layout name).frame
+        → FindsOwed t m (begin_of p q name + making_size p q name + sizes done) (owed_of p name)
     pub returns :
         (m : Memory) (label : ℕ) (from : Slot) (done left : List Instr)
         → HasProgram m → slice_get b.code label ≡ Some (instructions.Return from)
         → fetch (p.layout name) Rax from ≡ done ++ left
-        → FindsReturn t m (p.address name label + sizes done) (p.layout name).frame
+        → FindsOwed t m (p.address name label + sizes done) (owed_of p name)
     pub ends :
         (m : Memory) (label : ℕ) (from : Slot) (n : ℕ)
         → HasProgram m → slice_get b.code label ≡ Some (instructions.Return from)
         → (p.layout name).frame ≡ suc n
         → FindsReturn t m (p.address name label + sizes (fetch (p.layout name) Rax from)
-        + size (give_back (p.layout name).frame)) 0
+        + size (give_back (p.layout name).frame))
 
   -- so it is where no entry of the function table is: in thunks, in `__chkstk`, and at the host's
   -- services
   pub record FindsCallersOutside : Type 0 where
-    pub thunks : (m : Memory) (f : BuiltIn) → FindsReturn t m (q.thunk f) 0
-    pub local_unwind : (m : Memory) → FindsReturn t m q.local_unwind 0
+    pub thunks : (m : Memory) (f : BuiltIn) → FindsReturn t m (q.thunk f)
+    pub local_unwind : (m : Memory) → FindsReturn t m q.local_unwind
     pub check_stack : (m : Memory) (d : ℕ) → d < sizes check_stack
-        → FindsReturn t m (q.check_stack + d) 0
+        → FindsReturn t m (q.check_stack + d)
     pub services : (m : Memory) (a : ℕ) → 0 < a → a < LEAST_BASE → a ≢ filter_return
-        → a ≢ finally_return → FindsReturn t m a 0
+        → a ≢ finally_return → FindsReturn t m a
 
   -- ---- all of it
 
@@ -278,8 +278,8 @@ module _ (t : Functions) (fs : List Funclet) (program : LinearProgram) (p : Imag
         → label < length b.code → p.lands name label ≡ true
     pub landings : (name : BodyName) (b : LinearBody) (label : ℕ) → body_of program name ≡ Some b
         → p.lands name label ≡ true → label < length b.code
-    pub allocations : (name : BodyName) (b : LinearBody) → body_of program name ≡ Some b
-        → p.leaf name ≡ false → HasAllocation name
+    pub plans : (name : BodyName) (b : LinearBody) → body_of program name ≡ Some b
+        → p.leaf name ≡ false → IsPlanned name
     pub frames : FramesAreWaiting
     pub leaves : LeavesAreWaiting
     pub funclets : FuncletsBegin

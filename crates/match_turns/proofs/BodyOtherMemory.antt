@@ -1,7 +1,7 @@
 -- The same body in another memory, whose stack is the same from RSP up.
-use Rattle.std.proofs.Common.{◌≡◌, ℕ, ◌+◌, ◌≤◌, false, sym, ap, ◌∙◌, arith}
+use Rattle.std.proofs.Common.{◌≡◌, ℕ, ◌+◌, ◌≤◌, false, sym, ap, ◌∙◌, arith, refl}
 use Rattle.match_turns.specs.Words.{STACK_START, STACK_END, Memory, Rsp, context_of, get, State, register, Configuration, context_below, activations_below, BodyWaits, temporaries_end, KeepsStack, slots_end, last_temporary, Setting, IsMachineMemory, RepresentsAt}
-use Rattle.match_turns.proofs.Lemmas.{end_within, reads_other, kept_by_other_memories, body_return, has_frame, IsCounted, sp_low, frame_top, some_is}
+use Rattle.match_turns.proofs.Lemmas.{end_within, reads_other, kept_by_other_memories, frame_stays, IsCounted, sp_low, frame_top, some_is}
 use Rattle.match_stack.proofs.ListMemories.{ReadsSame, body_kept, pointers_kept}
 
 -- the stack from further up
@@ -100,12 +100,9 @@ module _ (setting : Setting) (s : State) (c : Configuration)
           others = b.body.others;
           eight = b.body.eight;
           small = b.body.small;
-          frame = has_frame setting c.frame.body b.body.slots.code b.body.slots.body elsewhere
-              b.body.back b.body.others (omega arith) (record {
-                returns = reads.words (sp + frame) b.body.back (omega arith) h
-                    (body_return setting s c b.body).returns;
-                others_are = (body_return setting s c b.body).others_are;
-              });
+          frame = frame_stays setting c.frame.body b.body.slots.code b.body.slots.body s elsewhere
+              b.body.back b.body.others refl
+              (λ a v from to w. reads.words a v (omega arith) (omega arith) w) b.body.frame;
           is = b.body.is;
           below = record {
             is_there = kept_by_other_memories t fs program p s.memory m

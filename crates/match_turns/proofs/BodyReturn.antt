@@ -1,12 +1,12 @@
 -- A body returns: RAX has the number of its slot, and RIP and RSP are those of its return address.
 use Rattle.match_turns.proofs.KeptRegisters.{kept_moved}
-use Rattle.std.proofs.Common.{◌≡◌, ℕ, zero, suc, ◌+◌, ◌≤◌, true, Option, Some, None, List, ◌∷◌, length, refl, sym, ap, subst, ◌∙◌, arith, length-append}
+use Rattle.std.proofs.Common.{◌≡◌, ℕ, zero, suc, ◌+◌, ◌^◌, ◌<◌, ◌≤◌, true, Option, Some, None, List, ◌∷◌, length, refl, sym, ap, subst, ◌∙◌, arith, length-append}
 use Rattle.std.specs.Prelude.{slice_get}
 use Rattle.std.proofs.lemmas.List.{length-drop}
-use Rattle.match_turns.specs.Words.{kept_of, Rax, Rsp, State, register, Slot, Local, Temporary, IsSlot, Configuration, read, Layout, return_code, epilogue, fetch, local_at, fetch_local, MachineView, machine, HasBack, with_sp, moved, Returned, HaveRoom, IsWellFormed, AllKeep, counts_of, Setting, RepresentsAt}
+use Rattle.match_turns.specs.Words.{kept_of, context_of, Rax, Rsp, State, register, Slot, Local, Temporary, IsSlot, Configuration, read, Layout, return_code, epilogue, fetch, local_at, fetch_local, MachineView, machine, HasBack, with_sp, moved, Returned, HaveRoom, IsWellFormed, AllKeep, counts_of, owed_of, Setting, RepresentsAt}
 use Rattle.x64_templates.specs.Runs.{Reaches}
 use Rattle.linear_code.specs.declared.instruction.Instruction.TheVariants as instructions
-use Rattle.match_turns.proofs.Lemmas.{body_return, number_small, fetch_fine, sp_moved, return_run, others_of, reaches_steps, may_read_written, word_is, reaches_keeps, stays_well_formed, IsCounted, sp_low, frame_top, room_here, holds_here, slots_here, v, frame, slots, same_state, template_here, has_slots, sp_is, index_of}
+use Rattle.match_turns.proofs.Lemmas.{body_return, body_owed, owed_return, number_small, fetch_fine, sp_moved, return_run, reaches_steps, may_read_written, word_is, reaches_keeps, stays_well_formed, IsCounted, sp_low, frame_top, room_here, holds_here, slots_here, v, frame, slots, same_state, template_here, has_slots, sp_is, index_of}
 use Rattle.match_bodies.proofs.ReturnKeeping.{fetch_plain, returns_keep}
 use Rattle.match_turns.proofs.ReturnAddressPlace.{top_of, begins_beneath}
 
@@ -59,7 +59,9 @@ module _ (setting : Setting) (roomy : HaveRoom setting.program) where
         let low = sp_low setting s c b counted in
         let top = frame_top setting s c b counted in
         let r = word_is s.memory (sp + layout.frame) back
-        (body_return setting s c b.body).returns in
+        (owed_return s.memory (context_of s.cpu) (owed_of p c.frame.body) layout.frame back
+        b.body.others (body_owed setting s c b.body
+        (let z : sp + layout.frame + 8 < 2 ^ 64 = omega arith in z))) in
         let small = number_small s.memory 8 (sp + layout.frame) b.memory.data_alone.bytes in
         record {
           number = r;
@@ -135,7 +137,7 @@ module _ (setting : Setting) (roomy : HaveRoom setting.program) where
         let low = sp_low setting s c b counted in
         let f = frame setting roomy s c b counted in
         returns_keep setting c.frame.body b.body.slots.code b.body.slots.body c.frame.next from at s
-        after (top_of setting s c b counted) b.body.back (others_of s.cpu.registers) b.body.is b.rip
+        after (top_of setting s c b counted) b.body.back b.body.others b.body.is b.rip
         (begins_beneath setting s c b counted) refl b.memory.code (omega arith)
         (fetch_plain layout.frame 8 layout from
         (fetch_fine f.layout f.counts f.sp f.base true from

@@ -14,7 +14,7 @@ clear_size = refl
 module _ (setting : Setting) (roomy : HaveRoom setting.program) where
   open setting use {functions as t, funclets as fs, plan as p, sites as q, image}
 
-  service_found : (f : BuiltIn) (m : Memory) → FindsReturn t m (address_of (service_of f)) 0
+  service_found : (f : BuiltIn) (m : Memory) → FindsReturn t m (address_of (service_of f))
   service_found Put m = image.callers_outside.services m (address_of (service_of Put)) (omega arith)
       (omega arith) (λ e. absurd (omega arith)) (λ e. absurd (omega arith))
   service_found Protect m = image.callers_outside.services m (address_of (service_of Protect))
@@ -79,14 +79,14 @@ module _ (setting : Setting) (roomy : HaveRoom setting.program) where
     called : CalleeBegins setting c.frame.body b.body.slots.code b.body.slots.body c.frame.next
         (instructions.CallBuiltIn f first) at (λ h. h) before after next (q.thunk f) refl next_is
         near c.frame.next resumed (λ m. image.callers_outside.thunks m f) s halves.0
-        (top_of setting s c b counted) b.body.back (others_of s.cpu.registers) b.body.is b.rip
+        (top_of setting s c b counted) b.body.back b.body.others b.body.is b.rip
         (begins_beneath setting s c b counted) refl
         (let l = sp_low setting s c b counted in omega arith) b.memory.code plain halves.1 sp
     called =
         callee_begins setting c.frame.body b.body.slots.code b.body.slots.body c.frame.next
         (instructions.CallBuiltIn f first) at (λ h. h) before after next (q.thunk f) refl next_is
         near c.frame.next resumed (λ m. image.callers_outside.thunks m f) s halves.0
-        (top_of setting s c b counted) b.body.back (others_of s.cpu.registers) b.body.is b.rip
+        (top_of setting s c b counted) b.body.back b.body.others b.body.is b.rip
         (begins_beneath setting s c b counted) refl
         (let l = sp_low setting s c b counted in omega arith) b.memory.code plain halves.1 sp
         (omega arith) (omega arith)
@@ -97,10 +97,10 @@ module _ (setting : Setting) (roomy : HaveRoom setting.program) where
         (calls_keep setting c.frame.body b.body.slots.code b.body.slots.body c.frame.next
         (instructions.CallBuiltIn f first) at (λ h. h) before after next (q.thunk f) refl next_is
         near c.frame.next resumed (λ m. image.callers_outside.thunks m f) s halves.0
-        (top_of setting s c b counted) b.body.back (others_of s.cpu.registers) b.body.is b.rip
+        (top_of setting s c b counted) b.body.back b.body.others b.body.is b.rip
         (begins_beneath setting s c b counted) refl
         (let l = sp_low setting s c b counted in omega arith) b.memory.code plain halves.1)
         (thunk_keeps setting halves.0 w (sp - 8) sp next (others_of s.cpu.registers) _
-        called.beneath_it called.stack (q.thunk f) (address_of (service_of f)) called.rip
+        called.beneath_it (q.thunk f) (address_of (service_of f)) called.rip
         (called.program_there.thunks f).thunk halves.2 there
         (λ m. image.callers_outside.thunks m f) (service_found f))

@@ -5,11 +5,11 @@ use Rattle.std.specs.Prelude.{nat_lt, slice_get, drop}
 use Rattle.std.proofs.lemmas.Bool.{cases_lt, lt-ltb}
 use Rattle.std.proofs.lemmas.Option.{slice_get_within}
 use Rattle.std.proofs.lemmas.List.{append-nil, length-drop, length-take}
-use Rattle.match_turns.specs.Words.{STACK_START, STACK_END, Memory, may_write, number_at, Protection, Rsp, Instr, State, register, distance, arrivals, Temporary, LinearBody, FunctionBody, body_of, Waits, Configuration, instruction_in, waiting, Layout, sizes, put_back, keep, temporary_at, IsNear, call, return_at, passing_code, parameters_code, passing_call_code, context_below, home_end, HoldsWords, return_of, ReturnsTo, On, AllKeep, Comes, function_arguments, FindsReturn, IsLayoutIf, turns_left, slots_end, KeepsStackBut, begun, LARGEST_FRAME, Setting, IsMachineMemory, IsResumed, RepresentsAt, arguments_code}
+use Rattle.match_turns.specs.Words.{STACK_START, STACK_END, Memory, may_write, number_at, Protection, Rsp, Instr, State, register, distance, arrivals, Temporary, LinearBody, FunctionBody, body_of, Waits, Configuration, instruction_in, waiting, Layout, sizes, put_back, keep, temporary_at, IsNear, call, return_at, passing_code, parameters_code, passing_call_code, context_of, context_below, home_end, HoldsWords, return_of, ReturnsTo, On, AllKeep, Comes, function_arguments, FindsReturn, IsLayoutIf, turns_left, slots_end, KeepsStackBut, begun, LARGEST_FRAME, Setting, IsMachineMemory, IsResumed, RepresentsAt, arguments_code}
 use Rattle.virtual_unwind.specs.Undone.{word}
 use Rattle.lowering_invariants.specs.SmallNumbers.{AreSmall}
 use Rattle.linear_code.specs.declared.instruction.Instruction.TheVariants as instructions
-use Rattle.match_turns.proofs.Lemmas.{sizes_append, call_size, same_number, pushed_back, comes_then, others_of, StepsTo, reaches_steps, enters_steps, AllPlain, plain_both, arguments_plain, passing_plain, parameters_plain, EntryRan, entry_ran, calls_keep, CalleeBegins, reaches_silently, enters_silently, program_reaches, locals_count, KeepsImage, Keeps, keeps_then, enters_keeps, stays_well_formed, stack_is_reserved, room_here, slots_here, may_read_written, word_of}
+use Rattle.match_turns.proofs.Lemmas.{sizes_append, call_size, same_number, pushed_back, comes_then, others_of, StepsTo, reaches_steps, enters_steps, AllPlain, plain_both, arguments_plain, passing_plain, parameters_plain, EntryRan, entry_ran, calls_keep, CalleeBegins, told_again, reaches_silently, enters_silently, program_reaches, locals_count, KeepsImage, Keeps, keeps_then, enters_keeps, stays_well_formed, stack_is_reserved, room_here, slots_here, may_read_written, word_of}
 use Rattle.match_bodies.specs.CodeSites as sites
 use Rattle.match_bodies.proofs.CallKeeping.{callee_begins as callee_entered}
 use Rattle.match_bodies.proofs.MemoryKeeping.{memory_stays}
@@ -163,7 +163,7 @@ module _ {setting : Setting} (at_call : AtCall setting) where
       (passing_plain y.frame 8 y first 4 (count - 4) (omega arith) (omega arith) (omega arith))
       (arguments_plain y.frame 8 y first (omega arith))
 
-  abbrev callee_found : (m : Memory) → FindsReturn t m (q.function f) 0
+  abbrev callee_found : (m : Memory) → FindsReturn t m (q.function f)
   callee_found m = (image.callers (FunctionBody f) o there).entries m (λ e. some)
 
   count_call : called_in ≡ length before + 1
@@ -179,14 +179,14 @@ module _ {setting : Setting} (at_call : AtCall setting) where
       (calls_keep setting c.frame.body b.body.slots.code b.body.slots.body c.frame.next
       (instructions.Call f first count) at (λ h. h) before rest next (q.function f) parts next_is
       near_next c.frame.next resumed callee_found s at_callee (top_of setting s c b counted)
-      b.body.back (others_of s.cpu.registers) b.body.is b.rip (begins_beneath setting s c b counted)
+      b.body.back b.body.others b.body.is b.rip (begins_beneath setting s c b counted)
       refl (let l = low in omega arith) b.memory.code plain steps_there)
 
   -- and those of the callee's entry, which may store its arguments in the caller's home space
   callee_there : CalleeBegins setting c.frame.body b.body.slots.code b.body.slots.body c.frame.next
       (instructions.Call f first count) at (λ h. h) before rest next (q.function f) parts next_is
       near_next c.frame.next resumed callee_found s at_callee (top_of setting s c b counted)
-      b.body.back (others_of s.cpu.registers) b.body.is b.rip (begins_beneath setting s c b counted)
+      b.body.back b.body.others b.body.is b.rip (begins_beneath setting s c b counted)
       refl (let l = low in omega arith) b.memory.code plain steps_there (caller + 32)
   callee_there =
       let z = calling.bottom at_call in
@@ -195,7 +195,7 @@ module _ {setting : Setting} (at_call : AtCall setting) where
       callee_entered setting c.frame.body b.body.slots.code b.body.slots.body c.frame.next
       (instructions.Call f first count) at (λ h. h) before rest next (q.function f) parts next_is
       near_next c.frame.next resumed callee_found s at_callee (top_of setting s c b counted)
-      b.body.back (others_of s.cpu.registers) b.body.is b.rip (begins_beneath setting s c b counted)
+      b.body.back b.body.others b.body.is b.rip (begins_beneath setting s c b counted)
       refl (let l = low in omega arith) b.memory.code plain steps_there (caller + 32) (omega arith)
       (omega arith)
 
@@ -245,7 +245,10 @@ module _ {setting : Setting} (at_call : AtCall setting) where
 
   -- the nonvolatile registers are those of the call
   others_there : others_of after.cpu.registers ≡ others_of s.cpu.registers
-  others_there = entry_run.beneath.others_are
+  others_there =
+      let e = entry_run.beneath in
+      (told_again setting (FunctionBody f) o there after.memory (context_of after.cpu) e.size
+      (caller - 8) next (others_of s.cpu.registers) e.at e.owed).1
 
   pub comes : Comes t fs turns s [] after
   unfolding turns

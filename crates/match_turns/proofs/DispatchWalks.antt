@@ -2,10 +2,10 @@
 -- where it lands, and at its services.
 use Rattle.std.proofs.Common.{◌≡◌, ◌≢◌, ℕ, ◌+◌, ◌%◌, ◌^◌, ◌<◌, true, false, Option, Some, None, Ok, List, [], ◌∷◌, length, refl, sym, ap, subst, ◌∙◌, arith}
 use Rattle.std.specs.Prelude.{Result, slice_get, slice_set}
-use Rattle.match_turns.specs.Words.{W64, RefusedAccess, Memory, loaded, Rdx, Rsp, Rbx, Rbp, Rsi, Rdi, R12, R13, R14, R15, Cpu, Context, kept_of, context_of, State, register, rsp, readable, DispatchRecord, filter_return, finally_return, steps, Turn, at_landing, back, Exception, LinearFunclet, BodyName, FuncletBody, funclet_body, Handler, Resumption, Item, Configuration, StackItem, Framed, IsStack, after_frame, context_below, state, parent_body, IsFunclet, Activation, Arrives, FilterBegins, Unwound, BlockBegins, LandsThere, IsUnwinding, drop_below, GivesCallers, WalkGives, caller_at, callers, caller_above, FindsReturn, Setting, IsMachineMemory, WalkContinues}
+use Rattle.match_turns.specs.Words.{W64, RefusedAccess, Memory, loaded, Rdx, Rsp, Rbx, Rbp, Rsi, Rdi, R12, R13, R14, R15, Cpu, Context, kept_of, context_of, State, register, rsp, readable, DispatchRecord, filter_return, finally_return, steps, Turn, at_landing, back, Exception, LinearFunclet, BodyName, FuncletBody, funclet_body, Handler, Resumption, Item, Configuration, StackItem, Framed, IsStack, after_frame, context_below, state, parent_body, IsFunclet, Activation, Arrives, FilterBegins, Unwound, BlockBegins, LandsThere, IsUnwinding, drop_below, GivesCallers, WalkGives, caller_at, callers, caller_above, FindsReturn, owed_of, Setting, IsMachineMemory, WalkContinues}
 use Rattle.virtual_unwind.specs.Undone.{word}
 use Rattle.seh_num.specs.declared.event.Event.TheVariants as events
-use Rattle.match_turns.proofs.Lemmas.{finds_return, nine_numbers, first_set, waiting_allocated, few_items, none_below, frame_size, on_stack, gives_caller, begin_finds, word_is}
+use Rattle.match_turns.proofs.Lemmas.{finds_return, frame_is_owed, owed_with, nine_numbers, few_items, none_below, on_stack, gives_caller, begin_finds, word_is}
 use Rattle.match_bodies.proofs.UnwindWalks.{block_callers, landing_callers}
 
 -- the nonvolatile registers, with another stack pointer
@@ -28,11 +28,11 @@ module _ (setting : Setting) where
   -- ---- at a funclet's first byte
 
   funclet_finds : (m : Memory) (k : ℕ) (name : BodyName) → IsFunclet t fs program p name k
-      → FindsReturn t m (p.funclet k) 0
+      → FindsReturn t m (p.funclet k)
   funclet_finds m k name f = by (slice_get program.funclets k) refl f.parent
     where
       by : (o : Option LinearFunclet) → slice_get program.funclets k ≡ o → parent_body o ≡ Some name
-          → FindsReturn t m (p.funclet k) 0
+          → FindsReturn t m (p.funclet k)
       by None e h = absurd cc
       by (Some g) e h =
           let is = ap funclet_body e in
@@ -51,7 +51,7 @@ module _ (setting : Setting) where
       let small = a.at_small in
       let here : sp + 0 ≡ sp = omega arith in
       let up : a.at ≡ sp + 0 + 8 = omega arith in
-      let found = finds_return t u.memory (p.funclet k) 0
+      let found = finds_return t u.memory (p.funclet k)
       (funclet_finds u.memory k a.name a.funclet) (context_of u.cpu) a.back a.rip refl
       (omega arith) (ap (word u.memory) here ∙ a.returns) in
       let below : GivesCallers t u.memory (state (context_below a.back a.at others) 0) cs = subst
@@ -120,33 +120,19 @@ module _ (setting : Setting) where
         let f = l.framed in
         let is_there = l.on.is_there.stack.0 in
         let waits = l.on.is_there.linked.0 in
-        let y = p.layout l.body.body in
-        let size : f.size ≡ y.frame = frame_size t fs program p q image s.memory l.to f l.body.body
-        waits.waits.code waits.waits.body waits.framed waits.entry is_there in
-        let room = is_there.room in
-        let told = waiting_allocated t fs program p q image s.memory l.to f l.body.body
-        waits.waits.code waits.waits.body waits.framed waits.entry is_there in
+        let name = l.body.body in
         let d : Context = record { rip = r.target; kept = l.to.kept } in
         let cs = callers (after_frame l.to f) l.is in
-        let found = finds_return t s.memory (p.address l.body.body w.target.label) y.frame
-        (begin_finds t fs program p q image s.memory l.body.body waits.waits.code w.target.label
-        waits.waits.body memory.code (image.landings l.body.body waits.waits.code w.target.label
-        waits.waits.body l.lands))
-        d f.return_address l.at_address is_there.kept (omega arith)
-        (ap (λ n. word s.memory (rsp l.to + n)) (sym size) ∙ told.returns) in
-        let caller : caller_above d y.frame f.return_address
-        ≡ after_frame l.to f = ap (λ n. let x : Context =
-        record { rip = f.return_address; kept = slice_set l.to.kept 0 (rsp l.to + n + 8) } in x)
-        (sym size)
-        ∙ ap (λ (ks : List ℕ). let x : Context = record { rip = f.return_address; kept = ks } in x)
-        (sym (first_set l.to.kept (rsp l.to + f.size + 8) is_there.kept)
-        ∙ ap (λ (os : List ℕ). (rsp l.to + f.size + 8) ∷ os) told.others) in
-        let rest : GivesCallers t s.memory (state (caller_above d y.frame f.return_address) 0)
-        cs = subst (λ (x : Context). GivesCallers t s.memory (state x 0) cs) (sym caller)
+        let owes = frame_is_owed p name s.memory l.to f waits.framed waits.entry is_there.kept
+        is_there.eight is_there.room is_there.is_told in
+        let found = begin_finds t fs program p q image s.memory name waits.waits.code
+        w.target.label waits.waits.body memory.code
+        (image.landings name waits.waits.code w.target.label waits.waits.body l.lands)
+        d f.size f.return_address f.others l.at_address
+        (owed_with s.memory l.to d (owed_of p name) f.size f.return_address f.others refl owes) in
+        let here : GivesCallers t s.memory (state d 0) (after_frame l.to f ∷ cs) =
+        gives_caller t s.memory d (after_frame l.to f) cs found
         (on_stack t s.memory (after_frame l.to f) 0 l.is l.on.is_there.stack.1) in
-        let here : GivesCallers t s.memory (state d 0) (after_frame l.to f ∷ cs) = subst
-        (λ (x : Context). GivesCallers t s.memory (state d 0) (x ∷ cs)) caller
-        (gives_caller t s.memory d (caller_above d y.frame f.return_address) cs found rest) in
         let landed : WalkGives t (at_landing s l.to rax r.target) (after_frame l.to f ∷ cs) = subst
         (λ (ks : List ℕ). GivesCallers t s.memory (state (record { rip = r.target; kept = ks }) 0)
         (after_frame l.to f ∷ cs)) (sym (nine_numbers l.to.kept is_there.kept)) here in
@@ -178,7 +164,7 @@ module _ (setting : Setting) where
       } in x) up in
       let returns : word s.memory (sp + 0) ≡ Ok ret = ap (word s.memory) flat
       ∙ ap (λ (x : Result ℕ RefusedAccess). readable sp x) w in
-      let found = finds_return t s.memory a 0
+      let found = finds_return t s.memory a
       (image.callers_outside.services s.memory a low high other another) (context_of s.cpu)
       ret here refl (omega arith) returns in (
         c,

@@ -163,7 +163,7 @@ module _ (setting : Setting) (roomy : HaveRoom setting.program)
         (subst (λ a. IsNear a (p.funclet k)) back_next back_near) (c.frame.next + 1) next_resumed
         (λ m. (image.callers (FuncletBody k) block.funclet.body target_there).entries m
         (λ e. absurd (let z : true ≡ false = sym e ∙ block_framed in cc)))
-        s called (top_of setting s c b counted) b.body.back (others_of s.cpu.registers) b.body.is
+        s called (top_of setting s c b counted) b.body.back b.body.others b.body.is
         b.rip (begins_beneath setting s c b counted) refl (let l = low in omega arith) b.memory.code
         ((refl, inl refl), ((refl, inl refl), tt)) (reaches_steps 3 s called reaches)
       where

@@ -1,14 +1,15 @@
 -- A `__finally` block begins: base and flag are kept, and its first instruction follows.
-use Rattle.std.proofs.Common.{◌≡◌, ℕ, ◌+◌, ◌*◌, ◌<◌, ◌≤◌, Bool, true, false, Some, None, List, [], ◌∷◌, ◌++◌, length, refl, sym, ap, subst, ◌∙◌, arith, inl, inr, append_assoc, drop}
+use Rattle.std.proofs.Common.{◌≡◌, ℕ, ◌+◌, ◌*◌, ◌^◌, ◌<◌, ◌≤◌, Bool, true, false, Some, None, List, [], ◌∷◌, ◌++◌, length, refl, sym, ap, subst, ◌∙◌, arith, inl, inr, append_assoc, drop}
 use Rattle.std.specs.Prelude.{slice_get, slice_index, slice_set}
 use Rattle.std.proofs.lemmas.Option.{slice_get_within, slice_get_cases}
 use Rattle.std.proofs.lemmas.List.{append-nil}
-use Rattle.match_turns.specs.Words.{kept_of, IsStack, context_below, STACK_START, STACK_END, W32, low, Event, Memory, number_at, Rax, Rcx, Rdx, Rsp, Instr, State, register, of_test, no_exception, Local, BodyState, with_slot, LinearBody, LinearFunclet, BodyName, FuncletBody, funclet_body, Item, Store, Configuration, flag_of, Layout, sizes, move, put_back, keep, local_at, keep_local, fetched, machine, HasCode, Enters, FramePlace, ReachesBody, Steps, StackItem, is_encodable, IsFinallyKind, parent_of, function_of, owner_of, IsFuncletOf, owners_of, by_parent, Activation, locals_of, IsActivation, HasSpace, below_end, record_room, HasPointers, FuncletIsAbove, IsWellFormed, KeepsShadow, AllKeep, is_call, LeadsTo, parent_base, keep_argument, begin_of, making_size, FindsReturn, with_values, OwnerHasFrame, IsKnown, entry_turns, FlagsFit, LARGEST_FRAME, Setting, HasProgram, IsMachineMemory, RepresentsAt, frame_at, state_of}
+use Rattle.match_turns.specs.Words.{kept_of, STACK_START, STACK_END, W32, low, Event, Memory, number_at, Rax, Rcx, Rdx, Rsp, Instr, State, register, of_test, no_exception, Local, BodyState, with_slot, LinearBody, LinearFunclet, BodyName, FuncletBody, funclet_body, Item, Store, Configuration, flag_of, Layout, sizes, move, put_back, keep, local_at, keep_local, fetched, machine, HasCode, Enters, FramePlace, ReachesBody, Steps, StackItem, is_encodable, IsFinallyKind, parent_of, function_of, owner_of, IsFuncletOf, owners_of, by_parent, Activation, locals_of, IsActivation, HasSpace, below_end, record_room, HasPointers, FuncletIsAbove, IsWellFormed, KeepsShadow, AllKeep, is_call, LeadsTo, parent_base, keep_argument, begin_of, making_size, context_of, FindsOwed, Owed, owed_of, with_values, OwnerHasFrame, IsKnown, entry_turns, FlagsFit, LARGEST_FRAME, Setting, HasProgram, IsMachineMemory, RepresentsAt, frame_at, state_of}
 use Rattle.match_bodies.specs.CodeSites.{arguments_code}
 use Rattle.linear_code.specs.declared.program.FuncletKind.TheVariants as funclets
 use Rattle.linear_machine.specs.Frames as linear
-use Rattle.match_turns.proofs.Lemmas.{sizes_append, code_split, near, enters_then, flag_run, Within, straight, keep_first, others_of, program_kept, enters_silently, read_here, StepsTo, reaches_steps, enters_steps, keeps_split, Beneath, beneath_by, callers_above, Finds, ran, label_found, argument_found, frame_there, EntryRan, locals_count, activated, reaches_keeps, enters_keeps, stays_well_formed, SlotsPlaced, IsCounted, frame_top, room_here, holds_here, slots_here, locals_here, Leaves, Ran, returns, new_on, represents_next, set_length, local_after, gives_here, body_return}
+use Rattle.match_turns.proofs.Lemmas.{sizes_append, code_split, near, enters_then, flag_run, Within, straight, keep_first, others_of, program_kept, enters_silently, read_here, StepsTo, reaches_steps, enters_steps, keeps_split, Beneath, beneath_by, callers_above, Finds, ran, label_found, argument_found, frame_there, EntryRan, locals_count, activated, reaches_keeps, enters_keeps, stays_well_formed, SlotsPlaced, IsCounted, frame_top, room_here, holds_here, slots_here, locals_here, Leaves, Ran, frame_after, new_on, represents_next, set_length, local_after, gives_above, owed_with, frame_owed}
 use Rattle.match_bodies.proofs.RoutineWalks.{Ran as MidRan}
+use Rattle.match_bodies.proofs.BodyFrames.{codes_above}
 use Rattle.match_bodies.proofs.BodyViews.{placed, count}
 use Rattle.match_turns.proofs.FuncletPrologue.{LeadsBy}
 use Rattle.match_turns.proofs.FuncletFrame.{ArrivesBelow, IsPlanned, funclet_planned, HasFrame, first_frame, beginning, begins}
@@ -355,21 +356,21 @@ module _ (setting : Setting) where
     list1 = b1.body.is
 
     abbrev others1 : List ℕ
-    others1 = others_of s1.cpu.registers
+    others1 = b1.body.others
 
-    beneath_1 : Beneath t y1 top1 (top1 + 8) b1.body.back others1 list1
+    abbrev owed : Owed
+    owed = owed_of p (FuncletBody k)
+
+    beneath_1 : Beneath t y1 owed top1 (top1 + 8) b1.body.back others1 list1
     beneath_1 =
         let g = begins_beneath setting s1 c1 b1 counted in
         record {
-          others_are = g.others_are;
+          above = g.above;
           count = g.count;
-          returns = g.returns;
-          list = g.list;
-          owned = g.owned;
-          past = g.past;
-          high = g.high;
-          limit = g.limit;
-          no_code = g.no_code;
+          size = g.size;
+          at = g.at;
+          owed = owed_with y1.memory (context_of s1.cpu) (context_of y1.cpu) owed g.size
+              b1.body.back others1 refl g.owed;
         }
 
     run_3 : StepsTo 3 y1 u
@@ -393,11 +394,11 @@ module _ (setting : Setting) where
     codes m h = code_split m begin (base ++ mid) (storing ∷ []) (subst (HasCode m begin) all_parts
         (frame_there setting (FuncletBody k) f.body (ap funclet_body l.there) some m h).1)
 
-    finds : Finds t fs program p q top1 (top1 + 8) b1.body.back others1 list1 y1.cpu.rip mid y.frame
+    finds : Finds t fs program p q owed top1 (top1 + 8) b1.body.back others1 list1 y1.cpu.rip mid
     finds done left split m h =
         let z : begin + sizes (base ++ done) ≡ y1.cpu.rip + sizes done =
         omega (arith, kept_base.rip, sizes_append base done) in
-        subst (λ n. FindsReturn t m n y.frame) z
+        subst (λ n. FindsOwed t m n owed) z
         (argument_found setting (FuncletBody k) f.body (ap funclet_body l.there) m h some
         (base ++ done) (left ++ (storing ∷ []))
         (all_parts ∙ ap (λ (xs : List Instr). (base ++ xs) ++ (storing ∷ [])) split
@@ -407,7 +408,7 @@ module _ (setting : Setting) where
         assoc a b c d = ap (λ (xs : List Instr). xs ++ d) (sym (append_assoc a b c))
             ∙ append_assoc (a ++ b) c d
 
-    middle : MidRan t fs program p q top1 (top1 + 8) b1.body.back others1 list1 y1 x mid
+    middle : MidRan t fs program p q owed top1 (top1 + 8) b1.body.back others1 list1 y1 x mid
     middle =
         let place : begin + sizes base ≡ y1.cpu.rip = sym kept_base.rip in
         let code = (code_split y1.memory (begin + sizes base) mid []
@@ -416,27 +417,28 @@ module _ (setting : Setting) where
         let small = l.plan.layout.small in
         let kept = l.plan.layout.kept in
         let at = l.plan.layout.temporaries in
-        ran t fs program p q top1 (top1 + 8) b1.body.back others1 list1 mid y1 x y.frame 8
+        ran t fs program p q owed top1 (top1 + 8) b1.body.back others1 list1 mid y1 x y.frame 8
         (run_3.0, run_3.1, (x, run_2.1, refl))
         ((refl, inl refl), ((near slot (omega arith), inl refl), tt))
         (subst (λ n. HasCode y1.memory n mid) place code) kept_base.has beneath_1 refl refl
-        finds
+        (codes_above setting (FuncletBody k) f.body (ap funclet_body l.there)
+        (register y1.cpu Rsp)) finds
 
     -- the store leads to another memory, in which the same list is
-    others_there : others_of u.cpu.registers ≡ others1
-    others_there = ap (λ (xs : List ℕ). others_of (0 ∷ 0 ∷ 0 ∷ xs)) r.rest
+    stack_there : register u.cpu Rsp + y.frame ≡ top1
+    stack_there = ap (λ (xs : List ℕ). slice_index xs 1 + y.frame) r.rest
 
-    beneath_u : Beneath t u top1 (top1 + 8) b1.body.back others1 list1
+    beneath_u : Beneath t u owed top1 (top1 + 8) b1.body.back others1 list1
     beneath_u =
         let h = frame_top setting s1 c1 b1 counted in
         let on = new_on setting s1 c1 b1 counted u d values [] ran_here (λ z. let w : true ≡ false =
         sym z ∙ l.plan.framed in absurd cc) (λ j z. framed_owner) in
-        let same = sym (body_return setting s1 c1 b1.body).others_are ∙ sym others_there in
-        subst (λ o. Beneath t u top1 (top1 + 8) b1.body.back o list1) others_there
-        (beneath_by t u top1 b1.body.back list1 well_formed_here.count (returns setting s1 c1 b1
-        counted u d values [] ran_here)
-        (subst (λ (os : List ℕ). IsStack t u.memory (context_below b1.body.back (top1 + 8) os)
-        list1) same on.is_there.stack) (omega arith) on.data_alone.no_code)
+        let at = stack_there in
+        beneath_by t u owed y.frame top1 b1.body.back others1 list1 well_formed_here.count at
+        (frame_owed setting (FuncletBody k) f.body (ap funclet_body l.there) u b1.body.back others1
+        b1.body.eight (let z : register u.cpu Rsp + y.frame + 8 < 2 ^ 64 = omega arith in z)
+        (frame_after setting s1 c1 b1 counted u d values [] ran_here))
+        on.is_there.stack (omega arith) on.data_alone.no_code
 
     last_step : Steps x u
     last_step = subst (Steps x) run_1.2 run_1.1
@@ -451,24 +453,21 @@ module _ (setting : Setting) where
         let near_local = z.locals in
         let fitting = flag_fits in
         let enc : is_encodable storing ≡ true = near (local_at y flag) (omega arith) in
-        let found_x = subst (λ n. FindsReturn t x.memory n y.frame) (sym middle.rip)
+        let found_x = subst (λ n. FindsOwed t x.memory n owed) (sym middle.rip)
         (finds mid [] (sym (append-nil mid)) x.memory middle.has) in
         let has_u = program_kept t fs program p q x.memory u.memory
         (record { protection = last_step.protection; fixed = last_step.fixed }) middle.has in
-        let found_u = subst (λ n. FindsReturn t u.memory n y.frame) (sym rip_here)
+        let found_u = subst (λ n. FindsOwed t u.memory n owed) (sym rip_here)
         (first_found u.memory has_u) in
-        let at_x = middle.stack in
-        let up : register u.cpu Rsp + y.frame ≡ top1 =
-        ap (λ (xs : List ℕ). slice_index xs 1 + y.frame) r.rest in
+        let up = stack_there in
         straight t fs x u (callers_above t top1 b1.body.back others1 list1) last_step.steps
         (ap is_call (read_here x u storing [] enc code))
-        (gives_here t fs top1 (top1 + 8) b1.body.back others1 list1 x y.frame middle.beneath found_x
-        (ap (λ n. n + y.frame) at_x))
-        (gives_here t fs top1 (top1 + 8) b1.body.back others1 list1 u y.frame beneath_u found_u up)
+        (gives_above t x owed top1 (top1 + 8) b1.body.back others1 list1 middle.beneath found_x)
+        (gives_above t u owed top1 (top1 + 8) b1.body.back others1 list1 beneath_u found_u)
         (let h : register u.cpu Rsp + 8 ≤ top1 + 8 = omega arith in h)
       where
-        first_found : (m : Memory) → HasProgram setting m → FindsReturn t m
-            (p.address (FuncletBody k) 0) y.frame
+        first_found : (m : Memory) → HasProgram setting m → FindsOwed t m
+            (p.address (FuncletBody k) 0) owed
         first_found m h = elim (slice_get_cases f.body.code 0).1 [
           | inl i ↦ label_found setting (FuncletBody k) f.body (ap funclet_body l.there) m h 0 i.0
               i.2

@@ -1,14 +1,15 @@
 -- Where an instruction is that makes no frame, no funclet begins.
-use Rattle.std.proofs.Common.{◌≡◌, ℕ, ◌^◌, ◌<◌, ◌≤◌, Bool, true, false, [], ◌∷◌, length, Option, Some, None, refl, sym, ap, subst, ◌∙◌, arith, inl, inr}
+use Rattle.std.proofs.Common.{◌≡◌, ℕ, ◌^◌, ◌<◌, Bool, true, false, [], ◌∷◌, length, Option, Some, None, refl, sym, ap, subst, ◌∙◌, arith, inl, inr}
 use Rattle.std.specs.Prelude.{slice_get}
-use Rattle.std.proofs.lemmas.Bool.{le-leb}
 use Rattle.std.proofs.lemmas.Option.{slice_get_cases}
-use Rattle.match_turns.specs.Words.{W64, Memory, executable, Rsp, Instr, leading, chosen, is_encodable, Cpu, State, distance, arrivals, no_flags, LinearFunclet, FuncletBody, body_of, funclet_body, size, enter_code, code_from, HasCode, making, frame_code, entry_code, links_of, IsFuncletPlan, Setting, HasProgram, takes_frame}
+use Rattle.match_turns.specs.Words.{W64, Memory, executable, Rsp, Instr, leading, chosen, is_encodable, Cpu, State, distance, arrivals, no_flags, LinearFunclet, FuncletBody, body_of, funclet_body, size, code_from, HasCode, frame_code, entry_code, links_of, IsFuncletPlan, Setting, HasProgram, takes_frame}
 use Rattle.match_bodies.specs.CodeSites.{arguments_code}
 use Rattle.x64_instr.specs.declared.operand.RegisterOrMemory.TheVariants as places
 use Rattle.x64_instr.specs.declared.operand.Operand.TheVariants as operands
 use Rattle.x64_instr.specs.declared.instruction.Operation.TheVariants as operations
 use Rattle.x64_instr.specs.declared.instruction.Instr.TheVariants as instrs
+use Rattle.match_bodies.proofs.BodyFrames.{framed_some}
+use Rattle.match_bodies.proofs.FrameCode.{made_small}
 use Rattle.match_turns.proofs.Lemmas.{longest, bytes_split, spells, reads, code_split, near}
 
 -- the first instruction of code that is somewhere is read there
@@ -35,11 +36,6 @@ never_both : (i j : Instr) (m n : ℕ) → ◌≡◌ {A = Option (Instr × ℕ)}
 never_both i j m n e makes silent = let z : true ≡ false = sym makes ∙ ap taking e ∙ silent in
     absurd cc
 
-made_at_once : (size at check : ℕ) (leaf : Bool) → leaf ≡ false → size ≤ 4096
-    → frame_code size at check leaf ≡ enter_code size
-made_at_once size at check leaf e small = ap (frame_code size at check) e
-    ∙ ap (making size at check) (le-leb size 4096 small)
-
 module _ (setting : Setting) where
   open setting use {functions as t, funclets as fs, program, plan as p, sites as q, image}
 
@@ -61,7 +57,8 @@ module _ (setting : Setting) where
       let i = instrs.Arithmetic operations.Sub W64 (places.Register Rsp)
       (operands.Immediate y.frame) in
       let made : HasCode m (p.funclet k) (i ∷ []) = subst (HasCode m (p.funclet k))
-      (made_at_once y.frame (p.funclet k) q.check_stack (p.leaf name) plan.framed small)
+      (made_small y.frame (p.funclet k) q.check_stack (p.leaf name) plan.framed
+      (framed_some setting name f.body is plan.framed) small)
       frame.0 in
       never_both i j (length (chosen i)) (length (chosen j))
       (sym (reads_first m (p.funclet k) i (near y.frame (omega arith)) made)

@@ -2,9 +2,10 @@
 use Rattle.match_turns.proofs.KeptRegisters.{kept_moved}
 use Rattle.std.proofs.Common.{◌≡◌, ℕ, ◌+◌, ◌-◌, ◌*◌, ◌^◌, ◌<◌, ◌≤◌, Some, None, List, [], ◌∷◌, ◌++◌, length, sym, ap, subst, ◌∙◌, arith}
 use Rattle.std.specs.Prelude.{slice_index, drop}
-use Rattle.std.proofs.lemmas.Bool.{le-leb}
-use Rattle.match_turns.specs.Words.{kept_of, STACK_START, STACK_END, Memory, number_at, Rcx, Rdx, Rsp, Instr, Flags, State, register, distance, arrivals, FuncletBody, body_of, funclet_body, Item, Layout, sizes, enter_code, code_from, MachineView, machine, sp_of, HasCode, Enters, Activation, below_end, record_room, links_of, making, frame_code, parent_base, keep_argument, funclet_arguments, entry_code, seen_by_templates, LARGEST_FRAME, Setting, HasProgram, IsMachineMemory}
+use Rattle.match_turns.specs.Words.{kept_of, STACK_START, STACK_END, Memory, number_at, Rcx, Rdx, Rsp, Instr, Flags, State, register, distance, arrivals, FuncletBody, body_of, funclet_body, Item, Layout, sizes, enter_code, code_from, MachineView, machine, sp_of, HasCode, Enters, Activation, below_end, record_room, links_of, parent_base, keep_argument, funclet_arguments, entry_code, seen_by_templates, LARGEST_FRAME, Setting, HasProgram, IsMachineMemory}
 use Rattle.match_bodies.specs.CodeSites.{arguments_code}
+use Rattle.match_bodies.proofs.BodyFrames.{framed_some}
+use Rattle.match_bodies.proofs.FrameCode.{made_small}
 use Rattle.match_turns.proofs.Lemmas.{others_of, sizes_append, code_split, Within, within_keeps_code, in_stack, activations_are_at, is_machine, index_of, sp_seen}
 use Rattle.match_bodies.specs.CodeSites as sites
 use Rattle.match_turns.proofs.FuncletPrologue.{LeadsBy, first_code, Made, HasRoom, made}
@@ -40,10 +41,9 @@ module _ (setting : Setting) where
 
     entry_is : entry_code program p q (FuncletBody k) ≡ front ++ last
     entry_is =
-        ap (λ f. frame_code y.frame (p.funclet k) q.check_stack f
-        ++ arguments_code program p (FuncletBody k)) l.plan.framed
-        ∙ ap (λ b. making y.frame (p.funclet k) q.check_stack b
-        ++ arguments_code program p (FuncletBody k)) (le-leb y.frame 4096 frame_small)
+        ap (λ (xs : List Instr). xs ++ arguments_code program p (FuncletBody k))
+        (made_small y.frame (p.funclet k) q.check_stack (p.leaf (FuncletBody k)) l.plan.framed
+        (framed_some setting (FuncletBody k) l.funclet.body is l.plan.framed) frame_small)
         ∙ ap (λ o. enter_code y.frame ++ funclet_arguments p y o) l.there
         ∙ ap (λ o. enter_code y.frame ++ (sites.keep_base (parent_base p l.funclet.parent)
         (elim o [ Some b ↦ b | None ↦ 0 ]) ++ last)) l.plan.layout.base

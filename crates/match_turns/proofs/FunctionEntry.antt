@@ -1,8 +1,9 @@
 -- A function is entered after its call, whatever its frame is.
 use Rattle.std.proofs.Common.{◌≡◌, ℕ, ◌+◌, ◌-◌, ◌<◌, ◌≤◌, Bool, true, false, Some, List, length, refl, sym, ap, subst, ◌∙◌, arith, inl, inr}
 use Rattle.std.specs.Prelude.{nat_le, if◌then◌else◌}
-use Rattle.std.proofs.lemmas.Bool.{cases_lt, le-leb}
-use Rattle.match_turns.specs.Words.{STACK_START, STACK_END, Rsp, Instr, register, LinearBody, FunctionBody, body_of, Layout, sizes, spelled, enter_code, parameters_code, check_stack, enter_large, HasBelow, HasCode, making, IsFunctionLayout, IsLeafLayout, IsLayoutIf, Setting}
+use Rattle.std.proofs.lemmas.Bool.{cases_lt, le-leb, leb-true}
+use Rattle.match_turns.specs.Words.{STACK_START, STACK_END, Rsp, Instr, register, LinearBody, FunctionBody, body_of, Layout, sizes, spelled, enter_code, parameters_code, check_stack, enter_large, HasBelow, HasCode, IsFunctionLayout, IsLeafLayout, IsLayoutIf, Setting}
+use Rattle.match_bodies.proofs.FrameCode.{made_small, made_large}
 use Rattle.match_turns.proofs.Lemmas.{bytes_kept, making_steps, may_read_written}
 use Rattle.match_turns.proofs.CallArguments as calling
 use Rattle.match_turns.proofs.FunctionParameters.{with_home, home_parameters}
@@ -181,8 +182,10 @@ module _ {setting : Setting} (at_call : AtCall setting) where
         let x = low in
         let z = top in
         let k = l.small in
-        let is : making_frame p q f false ≡ enter_code frame = ap
-        (making frame target q.check_stack) e in
+        let some = l.passed in
+        let is : making_frame p q f false ≡ enter_code frame =
+        made_small frame target q.check_stack false refl
+        (let a = l.temporaries in let b = l.locals in omega arith) (leb-true frame 4096 e) in
         framed_entered (enter_code frame) 1 is (ap (λ x. if x then 1 else 8) e)
         (small_frame (entering.called at_call) target (entering.flags at_call) (caller - 8)
         (entering.arguments at_call) (calling.called_sp at_call) (calling.called_count at_call)
@@ -195,8 +198,8 @@ module _ {setting : Setting} (at_call : AtCall setting) where
         let x = low in
         let z = top in
         let k = l.small in
-        let is : making_frame p q f false ≡ enter_large frame target q.check_stack = ap
-        (making frame target q.check_stack) e in
+        let is : making_frame p q f false ≡ enter_large frame target q.check_stack =
+        made_large frame target q.check_stack false refl big in
         let a = image.addresses (FunctionBody f) o there in
         let begin = a.first in
         let a1 = a.inside.low in

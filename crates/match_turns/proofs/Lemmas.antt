@@ -31,7 +31,7 @@ pub use Rattle.match_stack.proofs.ListKeeping.{reads_other, kept_by_other_memori
 pub use Rattle.match_bodies.proofs.ActivationPlaces.{locals_count, got_before, got_last, activations_are_at}
 pub use Rattle.match_bodies.proofs.ActivationStores.{same_activations, activated}
 pub use Rattle.match_bodies.proofs.BodyCallers.{gives_caller, begin_finds}
-pub use Rattle.match_bodies.proofs.BodyFrames.{body_return, below_here, has_frame, frame_with, first_set, small_others}
+pub use Rattle.match_bodies.proofs.BodyFrames.{body_return, body_owed, frame_owed, frame_stays, told_again, has_frame, frame_with, small_others}
 pub use Rattle.match_bodies.proofs.BodyResumption.{IsFront, waits_in_body, frame_size, waiting_allocated, all_front, no_front}
 pub use Rattle.match_bodies.proofs.BodyViews.{IsCounted, sp_low, frame_top, room_here, holds_here, slots_here, AsFunction, AsFunclet, kind, is_machine, locals_here}
 pub use Rattle.match_bodies.proofs.CallKeeping.{calls_keep, CalleeBegins, callee_begins, thunk_keeps}
@@ -40,13 +40,12 @@ pub use Rattle.match_bodies.proofs.ComputeStep.{stored, writes, leaves_stored, f
 pub use Rattle.match_bodies.proofs.EntryKeeping.{arguments_plain, plain_both, passing_plain, parameters_plain, entry_ran, kept_plain, EntryRan, base_plain}
 pub use Rattle.match_bodies.proofs.FrameMaking.{frame_there, making_steps}
 pub use Rattle.match_bodies.proofs.InstructionEffects.{others_of}
-pub use Rattle.match_bodies.proofs.NextInstruction.{Ran, represents_next, returns, new_on, further}
-pub use Rattle.match_bodies.proofs.OwedCallers.{finds_return}
+pub use Rattle.match_bodies.proofs.NextInstruction.{Ran, represents_next, frame_after, new_on, further}
+pub use Rattle.match_bodies.proofs.OwedCallers.{finds_return, frame_is_owed, owed_return, owed_with, returns_alone}
 pub use Rattle.match_bodies.proofs.PlainSteps.{GoesInside, from_here, label_small, moves_to, at_other, is_read}
 pub use Rattle.match_bodies.proofs.ProgramKeeping.{program_stays, KeepsImage}
 pub use Rattle.match_bodies.proofs.ReturnAddresses.{label_found, argument_found, template_there}
-pub use Rattle.match_bodies.proofs.RoutineWalks.{reaches_steps, StepsTo, steps_split, keeps_split, AllPlain, enters_steps, read_here, Beneath, beneath_by, callers_above, Finds, ran}
-pub use Rattle.match_bodies.proofs.ShadowTurns.{gives_here}
+pub use Rattle.match_bodies.proofs.RoutineWalks.{reaches_steps, StepsTo, steps_split, keeps_split, AllPlain, enters_steps, read_here, Beneath, beneath_by, callers_above, gives_above, Finds, ran}
 pub use Rattle.match_bodies.proofs.SilentTurns.{reaches_silently, enters_silently, program_reaches, KeepsCode, program_kept, reaches_comes, funclet_makes, silent_here}
 pub use Rattle.match_bodies.proofs.SlotPlaces.{KeepsSlot, stack_is_reserved, SlotsPlaced}
 pub use Rattle.match_bodies.proofs.SlotWrites.{locals_after, temporaries_after, FitsAfter, one_more, set_length, local_after}

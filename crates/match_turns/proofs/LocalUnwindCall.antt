@@ -252,14 +252,14 @@ module _ (setting : Setting) (made : IsWellMade setting.program setting.plan)
     called : CalleeBegins setting c.frame.body body b.body.slots.body c.frame.next i here (λ h. h)
         before [] back q.local_unwind refl before_size near_thunk (c.frame.next + 1) resumed
         (λ m. image.callers_outside.local_unwind m) s halves.0 (top_of setting s c b counted)
-        b.body.back (others_of s.cpu.registers) b.body.is b.rip
+        b.body.back b.body.others b.body.is b.rip
         (begins_beneath setting s c b counted) refl (let l = low in omega arith) b.memory.code plain
         halves.1 sp
     called =
         callee_begins setting c.frame.body body b.body.slots.body c.frame.next i here (λ h. h)
         before [] back q.local_unwind refl before_size near_thunk (c.frame.next + 1) resumed
         (λ m. image.callers_outside.local_unwind m) s halves.0 (top_of setting s c b counted)
-        b.body.back (others_of s.cpu.registers) b.body.is b.rip
+        b.body.back b.body.others b.body.is b.rip
         (begins_beneath setting s c b counted) refl (let l = low in omega arith) b.memory.code plain
         halves.1 sp (omega arith) (omega arith)
 
@@ -269,10 +269,10 @@ module _ (setting : Setting) (made : IsWellMade setting.program setting.plan)
         (calls_keep setting c.frame.body body b.body.slots.body c.frame.next i here (λ h. h) before
         [] back q.local_unwind refl before_size near_thunk (c.frame.next + 1) resumed
         (λ m. image.callers_outside.local_unwind m) s halves.0 (top_of setting s c b counted)
-        b.body.back (others_of s.cpu.registers) b.body.is b.rip
+        b.body.back b.body.others b.body.is b.rip
         (begins_beneath setting s c b counted) refl (let l = low in omega arith) b.memory.code plain
         halves.1) (thunk_keeps setting halves.0 state (sp - 8) sp back (others_of s.cpu.registers) _
-        called.beneath_it called.stack q.local_unwind service called.rip
+        called.beneath_it q.local_unwind service called.rip
         called.program_there.local_unwind.thunk halves.2 refl
         (λ m. image.callers_outside.local_unwind m)
         (λ m. image.callers_outside.services m service (omega arith) (omega arith)

@@ -2,10 +2,10 @@
 -- the body again.
 use Rattle.std.proofs.Common.{◌≡◌, ℕ, ◌+◌, ◌^◌, ◌<◌, ◌≤◌, List, [], ◌∷◌, Ok, Err, refl, ap, subst, ◌∙◌, arith}
 use Rattle.std.specs.Prelude.{Result, if◌then◌else◌}
-use Rattle.match_turns.specs.Words.{W64, RefusedAccess, address_of, service_at, in_host_page, Memory, executable, loaded, Rsp, leading, Context, context_of, State, register, hosted, execute, step, rsp, distance, readable, filter_return, finally_return, arrivals, BuiltIn, Put, Protect, RaiseException, Configuration, state, activations_below, KeepsStack, drop_below, started, served, GivesCallers, WalkGives, KeepsShadow, caller_above, service_of, Setting, HasProgram, RepresentsAt}
+use Rattle.match_turns.specs.Words.{W64, RefusedAccess, address_of, service_at, in_host_page, Memory, executable, loaded, Rsp, leading, Context, context_of, State, register, hosted, execute, step, rsp, distance, readable, filter_return, finally_return, arrivals, BuiltIn, Put, Protect, RaiseException, Configuration, state, activations_below, KeepsStack, drop_below, started, served, GivesCallers, WalkGives, KeepsShadow, caller_above, owed_of, service_of, Setting, HasProgram, RepresentsAt}
 use Rattle.virtual_unwind.specs.Undone.{word}
 use Rattle.x64_machine.specs.declared.outcome.Stop.TheVariants as stops
-use Rattle.match_turns.proofs.Lemmas.{finds_return, body_return, below_here, reads_other, kept_by_other_memories, none_below, one_below, host_keeps, on_stack, gives_caller, IsCounted, sp_low, frame_top, caller_here, Below}
+use Rattle.match_turns.proofs.Lemmas.{finds_return, owed_with, frame_owed, frame_stays, kept_here, reads_other, kept_by_other_memories, none_below, one_below, host_keeps, on_stack, gives_caller, IsCounted, sp_low, frame_top, caller_here, Below}
 use Rattle.match_turns.proofs.BodyOtherMemory.{higher_stack}
 
 -- at a service of a built-in function the host continues
@@ -66,15 +66,22 @@ module _ (setting : Setting) where
         no_more_code = keeps.no_more_code;
       }) (omega arith) (omega arith) in
       let caller = caller_here setting s c b counted in
-      let below = body_return setting s c b.body in
       let list = kept_by_other_memories t fs program p s.memory m caller b.body.is c.below
       (activations_below c.frame.body b.body.acts)
       (higher_stack s.memory m sp (sp + frame + 8) (omega arith) keeps) (omega arith)
-      (below_here setting s c b.body).is_there in
+      b.body.below.is_there in
       record {
         program_there = has;
-        returns = reads.words (sp + frame) b.body.back (omega arith)
-            (omega arith) below.returns;
+        owed = λ rip.
+            (let u : State = record { cpu = s.cpu; memory = m } in
+            owed_with m (context_of s.cpu)
+            (record { rip = rip; kept = kept_here setting s c b counted }) (owed_of p c.frame.body)
+            frame b.body.back b.body.others refl
+            (frame_owed setting c.frame.body b.body.slots.code b.body.slots.body u b.body.back
+            b.body.others b.body.eight (let z : sp + frame + 8 < 2 ^ 64 = omega arith in z)
+            (frame_stays setting c.frame.body b.body.slots.code b.body.slots.body s u b.body.back
+            b.body.others refl
+            (λ a v from to w. reads.words a v (omega arith) (omega arith) w) b.body.frame)));
         beyond = on_stack t m caller 0 b.body.is list.stack;
       }
 
@@ -93,7 +100,7 @@ module _ (setting : Setting) where
       let flat : register s.cpu Rsp + 0 ≡ register s.cpu Rsp = omega arith in
       let there : word s.memory (register s.cpu Rsp + 0) ≡ Ok back = ap (word s.memory) flat
       ∙ ap (λ (x : Result ℕ RefusedAccess). readable (register s.cpu Rsp) x) returns in
-      let found = finds_return t s.memory (address_of (service_of f)) 0
+      let found = finds_return t s.memory (address_of (service_of f))
       (image.callers_outside.services s.memory (address_of (service_of f)) at.0 at.1 at.2 at.3)
       (context_of s.cpu) back here refl (omega arith) there in
       let gives : WalkGives t s (c ∷ d ∷ cs) = gives_caller t s.memory (context_of s.cpu) c (d ∷ cs)

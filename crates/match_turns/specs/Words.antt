@@ -108,8 +108,8 @@ pub use Rattle.match_stack.specs.UnwindOutcomes.{Unwound, BlockBegins, LandsTher
 pub use Rattle.match_stack.specs.WalkLaws.{context_below}
 pub use Rattle.match_bodies.specs.Bodies.{slots_end, last_temporary, turns_left, held_below}
 pub use Rattle.match_bodies.specs.BodyViews.{counts_of, seen_by_templates, frame_at, state_of}
-pub use Rattle.match_bodies.specs.Callers.{FindsReturn, callers, caller_above}
-pub use Rattle.match_bodies.specs.CodeSites.{Sites, links_of, function_arguments, parent_base, keep_argument, begin_of, making_size, making, frame_code, entry_code, funclet_arguments, keep_base}
+pub use Rattle.match_bodies.specs.Callers.{FindsReturn, FindsOwed, Owed, IsOwed, nothing_owed, owed_by, owed_of, callers, caller_above, caller_left}
+pub use Rattle.match_bodies.specs.CodeSites.{Sites, links_of, function_arguments, parent_base, keep_argument, begin_of, making_size, frame_code, entry_code, funclet_arguments, keep_base}
 pub use Rattle.match_bodies.specs.ConfigurationFacts.{IsWellMade, IsKnown, KnownNext}
 pub use Rattle.match_bodies.specs.Layouts.{IsLayoutIf, IsFuncletPlan, IsFunctionLayout, IsLeafLayout, IsLaidOut, IsFuncletLayout}
 pub use Rattle.match_bodies.specs.ProgramImages.{frame_of, service_of, WorksAgain, IsProgramImage, is_finally, view_of, ReturnsThere}

@@ -1,5 +1,9 @@
+pub mod ImportCount
 pub mod Imported
+pub mod ImportsRead
 pub mod Inserted
+pub mod NameRows
+pub mod LastBound
 pub mod Named
 pub mod Sections
 pub mod Stored

@@ -82,6 +82,12 @@ module _ (ss : List Section) (up : AreAscending 0 ss) (at : ℕ) (bytes : List �
       (leb 2 (length bytes))) (ended (Some len) e)
       ∙ ap (unless_short (Some (take len (drop 2 bytes)))) (le-leb 2 (length bytes) (omega arith)))
 
+  pub name_ends : (len k : ℕ) → Some len ≡ position is_zero
+      (stored_in (at + 2) (section_at (at + 2) ss)) → k ≡ len → EndsAt ss (at + 2) (at + 2 + k)
+  name_ends len k e same =
+      let left : len ≡ at + 2 + k - (at + 2) = omega (arith, same) in
+      record { above = omega arith; first = sym e ∙ ap (λ (n : ℕ). Some n) left }
+
   pub unnamed : None ≡ position is_zero (stored_in (at + 2) (section_at (at + 2) ss))
       → None ≡ name_at ss at
   unnamed e =

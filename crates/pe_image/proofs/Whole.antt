@@ -1,5 +1,5 @@
 -- What the checks of the headers, of the sections and of the imports say of the whole reading.
-use Rattle.std.proofs.Common.{◌≡◌, ℕ, List, Result, Ok, Err, ap, sym, subst, ◌∙◌}
+use Rattle.std.proofs.Common.{◌≡◌, ℕ, List, Result, Ok, Err, refl, ap, sym, subst, ◌∙◌}
 use Rattle.pe_image.specs.declared.directory.DataDirectory.{DataDirectory}
 use Rattle.pe_image.specs.declared.refusal.ImageErr.{ImageErr}
 use Rattle.pe_image.specs.declared.refusal.ImageErr.TheVariants as refusals
@@ -7,7 +7,7 @@ use Rattle.seh_num.specs.Answers.{◌>>=◌}
 use Rattle.pe_image.specs.Answer.{Refuses}
 use Rattle.pe_image.specs.Image.{Section, Image}
 use Rattle.pe_image.specs.Imports.{Import, imports, imports_in}
-use Rattle.pe_image.specs.Reading.{image_base, entry_point, image_size, directory, headers, section_count, sections_at, image_end, headers_from, sections_of, image_with, outline, reading, ImageIsRefused}
+use Rattle.pe_image.specs.Reading.{image_base, entry_point, image_size, directory, headers, section_count, sections_at, image_end, headers_from, sections_of, image_with, outline, unimported, outline_alone, reading, ImageIsRefused}
 
 abbrev table : List ℕ → Result (List Section) ImageErr
 table bytes = sections_of bytes (image_end bytes)
@@ -109,3 +109,52 @@ module _ (bytes : List ℕ) (ss items : List Section) (dir : DataDirectory)
   pub imports_read : (xs : List Import) → imports_in items dir ≡ Ok xs
       → reading bytes ≡ Ok (image_with bytes ss)
   imports_read xs h = whole_read bytes (image_with bytes ss) xs ok (sym same_imports ∙ h)
+
+-- ---- without its imports
+
+refuses : (e : ImageErr) (r : Result Image ImageErr) → r ≡ Err e → Refuses e r
+refuses refusals.Memory r h = tt
+refuses e r h = h
+
+abbrev alone : Result Image ImageErr → Result Image ImageErr
+alone r = r >>= λ image. Ok (unimported image)
+
+pub outline_by_headers : (bytes : List ℕ) (e : ImageErr) → headers bytes ≡ Err e
+    → Refuses e (outline_alone bytes)
+unfolding outline
+outline_by_headers bytes e h = refuses e (outline_alone bytes)
+    (ap (λ (r : Result Unit ImageErr). alone (r >>= λ _. finished bytes (table bytes))) h)
+
+pub outline_by_sections : (bytes : List ℕ) (e : ImageErr) (end count at : ℕ)
+    → headers bytes ≡ Ok tt → end ≡ image_end bytes → count ≡ section_count bytes
+    → at ≡ sections_at bytes → Refuses e (sections_of bytes end (headers_from bytes count at))
+    → Refuses e (outline_alone bytes)
+outline_by_sections bytes refusals.Memory end count at ok e1 e2 e3 h = tt
+outline_by_sections bytes e end count at ok e1 e2 e3 h = refuses e (outline_alone bytes)
+    (ap alone (after_headers bytes ok ∙ ap (finished bytes)
+    (sym (same_table bytes end count at e1 e2 e3) ∙ h)))
+
+-- no import is refused where there is none
+pub no_import_is_refused : (e : ImageErr) (xs : List Import) (r : Result Image ImageErr)
+    → Refuses {Y = List Import} e (Ok xs) → Refuses e r
+no_import_is_refused refusals.Memory xs r h = tt
+no_import_is_refused e xs r h = absurd cc
+
+pub outline_read : (bytes : List ℕ) (ss : List Section) (end count at base entry size : ℕ)
+    (exceptions : DataDirectory) → headers bytes ≡ Ok tt → end ≡ image_end bytes
+    → count ≡ section_count bytes → at ≡ sections_at bytes
+    → sections_of bytes end (headers_from bytes count at) ≡ Ok ss
+    → base ≡ image_base bytes → entry ≡ entry_point bytes → size ≡ image_size bytes
+    → exceptions ≡ directory bytes 3
+    → outline_alone bytes ≡ Ok (record {
+      base = base;
+      entry = entry;
+      size = size;
+      sections = ss;
+      imports = record { rva = 0; size = 0 };
+      exceptions = exceptions;
+    })
+outline_read bytes ss end count at base entry size exceptions ok e1 e2 e3 h e4 e5 e6 e7 =
+    ap alone (read_whole bytes ss end count at ok e1 e2 e3 h)
+    ∙ ap (λ (image : Image). Ok (unimported image))
+    (same_image bytes ss base entry size (directory bytes 1) exceptions e4 e5 e6 refl e7)

@@ -117,6 +117,11 @@ imports_in ss d = unless_none (libraries max_count ss 0 d.rva) (d.size == 0)
 abbrev pub imports : Image → Result (List Import) ImageErr
 imports image = imports_in image.sections image.imports
 
+-- how many there are, after so many of other libraries
+abbrev pub counted : ℕ → Result (List Import) ImageErr → Result ℕ ImageErr
+counted n (Ok xs) = Ok (n + length xs)
+counted n (Err e) = Err e
+
 -- those of an image that is read
 abbrev pub or_none : Result (List Import) ImageErr → List Import
 or_none (Ok xs) = xs

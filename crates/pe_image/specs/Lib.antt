@@ -3,6 +3,8 @@ pub mod Bound
 pub mod Field
 pub mod Image
 pub mod Imports
+pub mod NameRows
+pub mod ImportsLeft
 pub mod Names
 pub mod Reading
 pub mod Numbers

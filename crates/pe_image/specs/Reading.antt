@@ -177,6 +177,15 @@ outline bytes = do
       (headers_from bytes (section_count bytes) (sections_at bytes))
   Ok (image_with bytes sections)
 
+-- the same image, whose imports aren't looked at: it imports nothing
+abbrev pub unimported : Image → Image
+unimported image = record image { imports = record { rva = 0; size = 0 } }
+
+abbrev pub outline_alone : List ℕ → Result Image ImageErr
+outline_alone bytes = do
+  image ← outline bytes
+  Ok (unimported image)
+
 -- whose imports can be read
 unfoldable pub reading : List ℕ → Result Image ImageErr
 reading bytes = do

@@ -7,3 +7,6 @@ pub struct DataDirectory {
     /// Its size in bytes.
     pub size: u32,
 }
+
+/// No table.
+pub const NO_TABLE: DataDirectory = DataDirectory { rva: 0, size: 0 };

@@ -120,3 +120,19 @@ pub const HINT_SIZE: usize = 2;
 /// How many addresses there are, relative to an image base: no lookup table has more entries, and
 /// no image more libraries.
 pub const ADDRESS_COUNT: u64 = 0x1_0000_0000;
+
+/// The size of the count in front of the rows of a table of names (own).
+pub const NAME_COUNT_SIZE: usize = 4;
+
+/// The size of a row of that table: four numbers of 32 bits, of which the first is where a range of
+/// code begins.
+pub const NAME_ROW_SIZE: usize = 16;
+
+/// The second: where that range ends.
+pub const NAME_ROW_END: usize = 4;
+
+/// The third: the function's number.
+pub const NAME_ROW_NUMBER: usize = 8;
+
+/// The last: the address of the function's name.
+pub const NAME_ROW_NAME: usize = 12;

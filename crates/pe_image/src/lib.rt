@@ -10,10 +10,15 @@
 //! Proved: the view is the image that the bytes are (`specs/Reading.antt`, where to begin).
 #![tactic(auto)]
 
+mod descriptor;
 mod directory;
 pub mod fields;
+mod import;
+mod import_check;
+mod import_place;
 mod imports;
 pub mod layout;
+mod name_table;
 mod names;
 mod reading;
 mod refusal;
@@ -22,7 +27,9 @@ mod table;
 mod view;
 
 pub use directory::DataDirectory;
-pub use imports::Import;
+pub use import::Import;
+pub use imports::Imports;
+pub use name_table::{NameErr, NameTable};
 pub use refusal::ImageErr;
 pub use section::SectionView;
 pub use view::ImageView;

@@ -1,11 +1,11 @@
 //! Names that are ended by 0. Bytes that many names share are looked at once.
 
-ghost use Rattle.std.specs.Prelude.{◌≡◌, ◌≤◌, ◌<◌, ◌+◌, ◌-◌, ◌^◌, ◌==◌, Some, length, drop, position, option_map, IfSome, IfOk, OnOk};
+ghost use Rattle.std.specs.Prelude.{◌≡◌, ◌≤◌, ◌<◌, ◌+◌, ◌-◌, ◌^◌, ◌==◌, List, Some, length, drop, position, option_map, IfSome, OnOk};
 ghost use Rattle.std.specs.Ordering.{nat_cmp};
 ghost use Rattle.std.specs.BTreeMap.{get};
-ghost use Rattle.pe_image.specs.Image.{AreAscending, section_at, stored_in};
+ghost use Rattle.pe_image.specs.Image.{Section, AreAscending, section_at, stored_in};
 ghost use Rattle.pe_image.specs.Imports as spec;
-ghost use Rattle.pe_image.specs.Names.{AreEnds};
+ghost use Rattle.pe_image.specs.Names.{EndsAt, AreEnds};
 
 use crate::layout::HINT_SIZE;
 use crate::section::{SectionView, stored_from};
@@ -20,7 +20,7 @@ struct Stretch {
 }
 
 /// The place of the first 0.
-fn first_zero(bytes: &[u8]) -> Option<usize>
+pub fn first_zero(bytes: &[u8]) -> Option<usize>
     ensures place { result ≡ position (λ b. b == 0) bytes.now }
     ensures within { IfSome result (λ n. n < length bytes.now) }
 {
@@ -57,53 +57,56 @@ fn known_stretch(ends: &BTreeMap<u64, u64>, at: u64) -> Option<Stretch>
     })
 }
 
-/// How many bytes come before the first 0 of what is stored from an address on. The stretch that
-/// was read is kept.
-fn name_len(
-    ends: &mut BTreeMap<u64, u64>,
-    sections: &[SectionView<'_>],
-    at: u64,
-) -> Result<Option<usize>, AllocError>
+/// How many bytes come before the first 0 of what is stored from an address on.
+fn name_len(ends: &BTreeMap<u64, u64>, sections: &[SectionView<'_>], at: u64) -> Option<usize>
     requires ascending { AreAscending 0 sections.now }
-    requires ends { AreEnds sections.now ends.old }
+    requires ends { AreEnds sections.now ends.now }
     requires low { at ≤ 2 ^ 63 + 1 }
-    ensures place { IfOk result (λ n. n
-        ≡ position (λ b. b == 0) (stored_in at (section_at at sections.now))) }
-    ensures ends { OnOk result (AreEnds sections.now ends.new) }
+    ensures { result ≡ position (λ b. b == 0) (stored_in at (section_at at sections.now)) }
 {
     let bytes = stored_from(sections, at);
-    let found = match known_stretch(ends, at) {
-        Some(known) if known.from <= at => return Ok(Some((known.end - at) as usize)),
+    match known_stretch(ends, at) {
+        Some(known) if known.from <= at => Some((known.end - at) as usize),
         Some(known) => first_zero_before(bytes, known.from - at, known.end - at),
         None => first_zero(bytes),
-    };
-    let Some(len) = found else {
-        return Ok(None);
-    };
-    ends.insert(at + len as u64, at)?;
-    Ok(Some(len))
+    }
 }
 
 /// The name after a hint at an address.
 pub fn read_name<'a>(
-    ends: &mut BTreeMap<u64, u64>,
+    ends: &BTreeMap<u64, u64>,
     sections: &[SectionView<'a>],
     at: u64,
-) -> Result<Option<&'a [u8]>, AllocError>
+) -> Option<&'a [u8]>
     requires ascending { AreAscending 0 sections.now }
-    requires ends { AreEnds sections.now ends.old }
+    requires ends { AreEnds sections.now ends.now }
     requires low { at < 2 ^ 63 }
-    ensures name { IfOk result
-        (λ name. option_map (λ b. b.now) name ≡ spec.name_at sections.now at) }
-    ensures ends { OnOk result (AreEnds sections.now ends.new) }
+    ensures name { option_map (λ b. b.now) result ≡ spec.name_at sections.now at }
+    ensures end { IfSome result (λ name. EndsAt sections.now (at + HINT_SIZE)
+        (at + HINT_SIZE + length name.now)) }
+    ensures fits { IfSome result (λ name. at + HINT_SIZE + length name.now < 2 ^ 64) }
 {
     let hinted = stored_from(sections, at);
     if hinted.len() <= HINT_SIZE {
-        return Ok(None);
+        return None;
     }
     let bytes = &hinted[HINT_SIZE..];
-    match name_len(ends, sections, at + HINT_SIZE as u64)? {
-        Some(len) => Ok(Some(&bytes[..len])),
-        None => Ok(None),
+    match name_len(ends, sections, at + HINT_SIZE as u64) {
+        Some(len) => Some(&bytes[..len]),
+        None => None,
     }
+}
+
+/// Keeps where bytes other than 0 end, with the lowest address from which on they are known.
+pub fn keep_end(ends: &mut BTreeMap<u64, u64>, from: u64, end: u64) -> Result<(), AllocError>
+    ensures { OnOk result ((ss : List Section) → AreEnds ss ends.old → EndsAt ss from end
+        → AreEnds ss ends.new) }
+{
+    match ends.get(&end) {
+        Some(known) if *known <= from => {}
+        _ => {
+            ends.insert(end, from)?;
+        }
+    }
+    Ok(())
 }

@@ -1,20 +1,23 @@
 //! An image that was read.
 
-ghost use Rattle.std.specs.Prelude.{◌≡◌, ◌<◌, ◌^◌, option_map, IfOk, IfErr};
-ghost use Rattle.pe_image.specs.Image.{AreAscending, stored};
+ghost use Rattle.std.specs.Prelude.{◌≡◌, ◌<◌, ◌^◌, Ok, length, option_map, IfOk, IfErr};
+ghost use Rattle.pe_image.specs.Image.{AreAscending, section_at, stored, stored_in};
 ghost use Rattle.pe_image.specs.Bound.{bound_name};
 ghost use Rattle.pe_image.specs.Imports.{imports, imports_of};
-ghost use Rattle.pe_image.specs.Reading.{IsImage, ImageIsRefused};
+ghost use Rattle.pe_image.specs.Answer.{Refuses};
+ghost use Rattle.pe_image.specs.Reading.{IsImage, ImageIsRefused, outline_alone};
 
-use crate::directory::DataDirectory;
-use crate::imports::{Import, bound_names, read_imports, stored};
+use crate::directory::{DataDirectory, NO_TABLE};
+use crate::import::stored;
+use crate::import_check::check_imports;
+use crate::imports::{Imports, bound_names};
 use crate::layout::{IMAGE_DIRECTORY_ENTRY_EXCEPTION, IMAGE_DIRECTORY_ENTRY_IMPORT};
 use crate::reading::{
     check_headers, directory, entry_point, image_base, image_end, image_size, section_count,
     sections_at,
 };
 use crate::refusal::ImageErr;
-use crate::section::SectionView;
+use crate::section::{SectionView, stored_from};
 use crate::table::sections;
 use std::alloc::Global;
 use std::collections::BTreeMap;
@@ -29,17 +32,18 @@ pub struct ImageView<'a> {
     sections: Vec<SectionView<'a>>,
     import_directory: DataDirectory,
     exceptions: DataDirectory,
-    imports: Vec<Import<'a>>,
+    name_ends: BTreeMap<u64, u64>,
     names: BTreeMap<u64, &'a [u8]>,
 }
 
 impl<'a> Model for ImageView<'a> {
-    ghost use Rattle.std.specs.Prelude.{◌≡◌, ℕ, Ok, option_map};
+    ghost use Rattle.std.specs.Prelude.{◌≡◌, ℕ, IsOk, option_map};
     ghost use Rattle.std.specs.Ordering.{nat_cmp};
     ghost use Rattle.std.specs.BTreeMap.{get};
     ghost use Rattle.pe_image.specs.Bound.{bound_name};
     ghost use Rattle.pe_image.specs.Image.{Image, AreAscending};
-    ghost use Rattle.pe_image.specs.Imports.{imports_in};
+    ghost use Rattle.pe_image.specs.Imports.{imports_in, or_none};
+    ghost use Rattle.pe_image.specs.Names.{AreEnds};
 
     ghost Value = { Image };
 
@@ -53,9 +57,10 @@ impl<'a> Model for ImageView<'a> {
     } };
 
     ghost invariant = { λ v. (AreAscending 0 v.sections.items)
-        × (imports_in v.sections.items v.import_directory ≡ Ok v.imports.items)
+        × (IsOk (imports_in v.sections.items v.import_directory))
+        × (AreEnds v.sections.items v.name_ends)
         × ((slot : ℕ) → option_map (λ b. b.now) (get nat_cmp v.names slot)
-        ≡ bound_name slot v.imports.items) };
+        ≡ bound_name slot (or_none (imports_in v.sections.items v.import_directory))) };
 }
 
 impl<'a> ImageView<'a> {
@@ -74,8 +79,9 @@ impl<'a> ImageView<'a> {
         let end = image_end(bytes);
         let sections = sections(alloc, bytes, at, count, end)?;
         let import_directory = directory(bytes, IMAGE_DIRECTORY_ENTRY_IMPORT);
-        let imports = read_imports(alloc, &sections, import_directory)?;
-        let names = bound_names(alloc, &imports)?;
+        let name_ends = check_imports(alloc, &sections, import_directory)?;
+        let imports = Imports::new(&sections, &name_ends, import_directory);
+        let names = bound_names(alloc, imports)?;
         Ok(ImageView {
             base: image_base(bytes),
             entry: entry_point(bytes),
@@ -83,7 +89,33 @@ impl<'a> ImageView<'a> {
             sections,
             import_directory,
             exceptions: directory(bytes, IMAGE_DIRECTORY_ENTRY_EXCEPTION),
-            imports,
+            name_ends,
+            names,
+        })
+    }
+
+    /// Reads the bytes of a file without what it imports: the view imports nothing. The checks are
+    /// those of [`ImageView::read`] up to the last section, so that no import is refused.
+    pub fn read_outline(alloc: Global, bytes: &'a [u8]) -> Result<ImageView<'a>, ImageErr>
+        ensures image { IfOk result (λ view. outline_alone bytes.now ≡ Ok view) }
+        ensures refusal { IfErr result (λ e. Refuses e (outline_alone bytes.now)) }
+    {
+        check_headers(bytes)?;
+        let at = sections_at(bytes);
+        let count = section_count(bytes);
+        let end = image_end(bytes);
+        let sections = sections(alloc, bytes, at, count, end)?;
+        let name_ends = check_imports(alloc, &sections, NO_TABLE)?;
+        let imports = Imports::new(&sections, &name_ends, NO_TABLE);
+        let names = bound_names(alloc, imports)?;
+        Ok(ImageView {
+            base: image_base(bytes),
+            entry: entry_point(bytes),
+            size: image_size(bytes),
+            sections,
+            import_directory: NO_TABLE,
+            exceptions: directory(bytes, IMAGE_DIRECTORY_ENTRY_EXCEPTION),
+            name_ends,
             names,
         })
     }
@@ -120,11 +152,12 @@ impl<'a> ImageView<'a> {
 
     /// The names that it imports with their slots, library by library. The names of libraries
     /// aren't looked at.
-    pub fn imports(&self) -> &[Import<'a>]
-        ensures value { result.now ≡ imports_of self.now }
-        ensures read { imports self.now ≡ Ok result.now }
+    pub fn imports(&self) -> Imports<'_, 'a>
+        ensures value { result ≡ imports_of self.now }
+        ensures read { imports self.now ≡ Ok result }
+        ensures fits { length result < 2 ^ 64 }
     {
-        &self.imports
+        Imports::new(&self.sections, &self.name_ends, self.import_directory)
     }
 
     /// The name that a slot is bound to: that of the last import that has the slot.
@@ -155,5 +188,13 @@ impl<'a> ImageView<'a> {
         ensures { option_map (λ b. b.now) result ≡ stored self.now.sections rva len }
     {
         stored(&self.sections, rva, len)
+    }
+
+    /// The bytes from an address on that one section stores, below its size.
+    pub fn bytes_from(&self, rva: u64) -> &'a [u8]
+        ensures value { result.now ≡ stored_in rva (section_at rva self.now.sections) }
+        ensures ascending { AreAscending 0 self.now.sections }
+    {
+        stored_from(&self.sections, rva)
     }
 }

@@ -1,5 +1,6 @@
 -- Without faults, what a call gives is what its command gives.
 use Rattle.std.proofs.Common.{◌≡◌, ◌⊎◌, inl, inr, ℕ, ◌<◌, ◌≤◌, List, length, Option, Some, Result, Ok, Err, refl, sym, ap, subst, ◌∙◌, arith}
+use Rattle.seh_num.specs.declared.end.RunEnd.{RunEnd}
 use Rattle.seh_io.specs.Streams.{Rose, Grew}
 use Rattle.c_syntax.specs.Program.{ExternalDeclaration}
 use Rattle.c_checked.specs.Program.{Program}
@@ -32,17 +33,18 @@ use Rattle.command_line.specs.declared.command.CheckReport.TheVariants.{Whole}
 use Rattle.command_line.specs.declared.command.Command.{Command}
 use Rattle.command_line.specs.declared.command.Command.TheVariants.{Compile, Exec, Run, Meaning, Show, Check}
 use Rattle.command_line.specs.declared.command.RunOptions.{RunOptions}
+use Rattle.command_line.specs.Lines.{IsLine}
 use Rattle.command_line.proofs.OneCommand.{line_once}
 use Rattle.seh.specs.declared.outcome.CommandOutcome.{CommandOutcome}
 use Rattle.seh.specs.declared.outcome.CommandOutcome.TheVariants.{Compiled, Ran, Meant, Viewed, Checked}
 use Rattle.seh.specs.declared.refusal.Refusal.{Refusal}
 use Rattle.seh.specs.declared.refusal.Refusal.TheVariants as refusals
 use Rattle.seh.specs.declared.status.Status.TheVariants as statuses
-use Rattle.seh.specs.Answers.{text_limit, image_limit, Judged, FromInput, Loads, IsInputAnswer, IsCompileAnswer, IsRunAnswer, IsTextRunAnswer, IsShowAnswer, end_by, text_by}
+use Rattle.seh.specs.Answers.{text_limit, image_limit, Judged, FromInput, Loads, IsInputAnswer, IsCompileAnswer, IsWrittenRun, IsRunAnswer, IsImageAnswer, IsTextRunAnswer, IsShowAnswer, end_by, text_by}
 use Rattle.seh.specs.Checks.{IsChecked, IsCheckAnswer, verdict_line}
 use Rattle.seh.specs.CheckLaws.{DoneIsYes}
 use Rattle.seh.specs.Calls.{Call, HadNoFault, Asks, Gave, WantedMemory, CompileIsComplete, RunIsComplete, MeaningIsComplete, ShowIsComplete, CheckIsComplete, ExecIsComplete, TextsHaveOneImage}
-use Rattle.seh.specs.Commands.{IsAnswer, IsCommandAnswer}
+use Rattle.seh.specs.Commands.{Answers, IsAnswer, IsCommandAnswer}
 use Rattle.seh.specs.Images.{IsCompiled}
 use Rattle.seh.specs.Meanings.{IsProgramOf, IsMeaningAnswer, IsMeaningInputAnswer, shown_of, text_of}
 use Rattle.seh.specs.Refusals.{Reported, refusal_status}
@@ -115,26 +117,33 @@ pub record Came (command : Command) (call : Call) : Type 0 where
   pub is : IsCommandAnswer command call.source call.source_after call.out call.out_after answer
   pub reported : Reported answer call.err call.err_after call.status
 
-pub came : (command : Command) (held : List ℕ) (call : Call) → Asks command held call
+pub came_of : (command : Command) (call : Call)
+    → Answers call.words call.source call.source_after call.out call.out_after call.err
+    call.err_after call.status
+    → IsLine call.words command → HadNoFault call.err call.err_after
     → WantedMemory call ⊎ Came command call
-came command held call asks = by asks.answers.answer asks.answers.reported asks.answers.cause
+came_of command call answers line err = by answers.answer answers.reported answers.cause
   where
     by : (answer : Result CommandOutcome Refusal)
         → Reported answer call.err call.err_after call.status
         → IsAnswer call.words call.source call.source_after call.out call.out_after answer
         → WantedMemory call ⊎ Came command call
-    by answer reported (inl usage) = absurd (usage.1 command asks.line)
-    by answer reported (inr (inl line)) =
-        let same = line_once call.words line.0 command line.1 asks.line in
+    by answer reported (inl usage) = absurd (usage.1 command line)
+    by answer reported (inr (inl found)) =
+        let same = line_once call.words found.0 command found.1 line in
         inr (record {
           answer = answer;
           is = subst (λ c. IsCommandAnswer c call.source call.source_after call.out
-              call.out_after answer) same line.2;
+              call.out_after answer) same found.2;
           reported = reported;
         })
     by answer reported (inr (inr none)) =
-        inl (of_refusal refusals.NoMemory call asks.err
+        inl (of_refusal refusals.NoMemory call err
         (subst (λ a. Reported a call.err call.err_after call.status) none.0 reported))
+
+pub came : (command : Command) (held : List ℕ) (call : Call) → Asks command held call
+    → WantedMemory call ⊎ Came command call
+came command held call asks = came_of command call asks.answers asks.line asks.err
 
 -- ---- what was read
 
@@ -210,56 +219,56 @@ module _ (call : Call) (out : HadNoFault call.out call.out_after)
   compiled text whole accepted (Err refusals.NoMemory) told h = inl (wanted _ refl told)
   compiled text whole accepted (Err r) told h = absurd h
 
-  ran : (options : RunOptions) (bytes : List ℕ) → Loads bytes
-      → (answer : Result CommandOutcome Refusal) → Tells answer
-      → IsRunAnswer options bytes call.out call.out_after answer
-      → WantedMemory call ⊎ Gave (status_of (end_by options bytes)) (text_by options bytes) call
-  ran options bytes loads (Ok (Ran end)) told (also, same, grew) =
-      inr (record { ended = told.0 ∙ ap status_of same; wrote = grew; silent = told.1 })
-  ran options bytes loads (Ok done) told h = absurd h
-  ran options bytes loads (Err (refusals.Image e)) told (refused, kept) =
-      inl (image_wanted bytes loads.image e loads.is refused told)
-  ran options bytes loads (Err (refusals.Load e)) told (refused, kept) =
-      inl (of_refusal (refusals.Load e) call err told
-      ∙ ap (λ x. refusal_status (refusals.Load x))
-      (load_refused bytes loads.image e loads.is loads.loads refused))
-  ran options bytes loads (Err refusals.WriteFault) told (also, off) = cut off.0
-  ran options bytes loads (Err r) told h = absurd h
+  -- the run of an image, of which this text is written, with this end
+  module _ (text_of : List ℕ → List ℕ) (end_of : List ℕ → RunEnd) where
+    abbrev GaveRun : List ℕ → Type 0
+    GaveRun image = Gave (status_of (end_of image)) (text_of image) call
 
-  abbrev RanText : RunOptions → List ℕ → Type 0
-  RanText options text =
-      WantedMemory call
-      ⊎ ((image : List ℕ) × IsCompiled text image
-      × Gave (status_of (end_by options image)) (text_by options image) call)
+    pub ran : (bytes : List ℕ) → Loads bytes → (answer : Result CommandOutcome Refusal)
+        → Tells answer → IsWrittenRun text_of end_of bytes call.out call.out_after answer
+        → WantedMemory call ⊎ GaveRun bytes
+    ran bytes loads (Ok (Ran end)) told (also, same, grew) =
+        inr (record { ended = told.0 ∙ ap status_of same; wrote = grew; silent = told.1 })
+    ran bytes loads (Ok done) told h = absurd h
+    ran bytes loads (Err (refusals.Image e)) told (refused, kept) =
+        inl (image_wanted bytes loads.image e loads.is refused told)
+    ran bytes loads (Err (refusals.Load e)) told (refused, kept) =
+        inl (of_refusal (refusals.Load e) call err told
+        ∙ ap (λ x. refusal_status (refusals.Load x))
+        (load_refused bytes loads.image e loads.is loads.loads refused))
+    ran bytes loads (Err refusals.WriteFault) told (also, off) = cut off.0
+    ran bytes loads (Err r) told h = absurd h
 
-  ran_image : (options : RunOptions) (text : List ℕ) (answer : Result CommandOutcome Refusal)
-      → Tells answer → (image : List ℕ) → IsCompiled text image
-      → IsRunAnswer options image call.out call.out_after answer → RanText options text
-  ran_image options text answer told image is h = by (ran options image (image_loads text image is)
-      answer told h)
-    where
-      by : WantedMemory call ⊎ Gave (status_of (end_by options image)) (text_by options image) call
-          → RanText options text
-      by (inl w) = inl w
-      by (inr gave) = inr (image, is, gave)
+    abbrev pub RanText : List ℕ → Type 0
+    RanText text =
+        WantedMemory call ⊎ ((image : List ℕ) × IsCompiled text image × GaveRun image)
 
-  ran_text : (options : RunOptions) (text : List ℕ) (whole : List ExternalDeclaration)
-      → IsAccepted text whole → (answer : Result CommandOutcome Refusal) → Tells answer
-      → IsTextRunAnswer options text call.out call.out_after answer → RanText options text
-  ran_text options text whole accepted (Err (refusals.Text e)) told (refused, kept) =
-      inl (text_wanted text whole e accepted refused told)
-  ran_text options text whole accepted (Err refusals.NoMemory) told h = inl (wanted _ refl told)
-  ran_text options text whole accepted (Ok done) told h =
-      ran_image options text (Ok done) told h.0 h.1 h.2
-  ran_text options text whole accepted (Err (refusals.Image e)) told h =
-      ran_image options text (Err (refusals.Image e)) told h.0 h.1 h.2
-  ran_text options text whole accepted (Err (refusals.Load e)) told h =
-      ran_image options text (Err (refusals.Load e)) told h.0 h.1 h.2
-  ran_text options text whole accepted (Err refusals.WriteFault) told h =
-      ran_image options text (Err refusals.WriteFault) told h.0 h.1 h.2
-  ran_text options text whole accepted (Err refusals.Usage) told h = absurd h.2
-  ran_text options text whole accepted (Err refusals.ReadFault) told h = absurd h.2
-  ran_text options text whole accepted (Err (refusals.TooLong most)) told h = absurd h.2
+    ran_image : (text : List ℕ) (answer : Result CommandOutcome Refusal) → Tells answer
+        → (image : List ℕ) → IsCompiled text image
+        → IsWrittenRun text_of end_of image call.out call.out_after answer → RanText text
+    ran_image text answer told image is h = by (ran image (image_loads text image is) answer told h)
+      where
+        by : WantedMemory call ⊎ GaveRun image → RanText text
+        by (inl w) = inl w
+        by (inr gave) = inr (image, is, gave)
+
+    pub ran_text : (text : List ℕ) (whole : List ExternalDeclaration) → IsAccepted text whole
+        → (answer : Result CommandOutcome Refusal) → Tells answer
+        → IsImageAnswer (IsWrittenRun text_of end_of) text call.out call.out_after answer
+        → RanText text
+    ran_text text whole accepted (Err (refusals.Text e)) told (refused, kept) =
+        inl (text_wanted text whole e accepted refused told)
+    ran_text text whole accepted (Err refusals.NoMemory) told h = inl (wanted _ refl told)
+    ran_text text whole accepted (Ok done) told h = ran_image text (Ok done) told h.0 h.1 h.2
+    ran_text text whole accepted (Err (refusals.Image e)) told h =
+        ran_image text (Err (refusals.Image e)) told h.0 h.1 h.2
+    ran_text text whole accepted (Err (refusals.Load e)) told h =
+        ran_image text (Err (refusals.Load e)) told h.0 h.1 h.2
+    ran_text text whole accepted (Err refusals.WriteFault) told h =
+        ran_image text (Err refusals.WriteFault) told h.0 h.1 h.2
+    ran_text text whole accepted (Err refusals.Usage) told h = absurd h.2
+    ran_text text whole accepted (Err refusals.ReadFault) told h = absurd h.2
+    ran_text text whole accepted (Err (refusals.TooLong most)) told h = absurd h.2
 
   shown : (bytes : List ℕ) (image : Image) → IsImage bytes image
       → (answer : Result CommandOutcome Refusal) → Tells answer
@@ -375,11 +384,12 @@ run_is_complete source whole options call short accepted asks =
     by (came (Run options) source call asks)
   where
     by : WantedMemory call ⊎ Came (Run options) call
-        → RanText call asks.out asks.err options source
+        → RanText call asks.out asks.err (text_by options) (end_by options) source
     by (inl w) = inl w
     by (inr c) = judged_by text_limit (IsTextRunAnswer options) source call asks.source asks.err
         asks.holds short c.answer c.reported c.is
-        (ran_text call asks.out asks.err options source whole accepted c.answer c.reported)
+        (ran_text call asks.out asks.err (text_by options) (end_by options) source whole accepted
+        c.answer c.reported)
 
 pub exec_is_complete : ExecIsComplete
 exec_is_complete bytes options call short loads asks = by (came (Exec options) bytes call asks)
@@ -389,7 +399,8 @@ exec_is_complete bytes options call short loads asks = by (came (Exec options) b
     by (inl w) = inl w
     by (inr c) = judged_by image_limit (IsRunAnswer options) bytes call asks.source asks.err
         asks.holds short c.answer c.reported c.is
-        (ran call asks.out asks.err options bytes loads c.answer c.reported)
+        (ran call asks.out asks.err (text_by options) (end_by options) bytes loads c.answer
+        c.reported)
 
 pub check_is_complete : CheckIsComplete
 check_is_complete bytes image entries call short is whole asks =

@@ -1,6 +1,6 @@
 -- A run with more turns than a program's steps need shows what the program means.
 use Rattle.std.proofs.Common.{◌≡◌, ◌+◌, ◌*◌, ◌-◌, ℕ, ℤ, pos, Some, None, ap, sym, subst, ◌∙◌, arith}
-use Rattle.seh.specs.Words.{RunEnd, Shown, text, machine, end_within, Ended, meaning, resolve, run_end, run_end_of, shown_by, end_by, status_of, meaning_status, Headline, NothingMore, Walks}
+use Rattle.seh.specs.Words.{no_names, RunEnd, Shown, text, machine, end_within, Ended, meaning, resolve, run_end, run_end_of, shown_by, end_by, status_of, meaning_status, Headline, NothingMore, Walks}
 use Rattle.seh_num.specs.declared.end.RunEnd.TheVariants as ends
 use Rattle.host_model.specs.Laws.{Covers}
 use Rattle.host_model.proofs.Longer.{covers_then, images_cover}
@@ -39,7 +39,7 @@ headline source image compiled options arg n low enough =
       covers = covers;
       ended = ended;
       whole = λ e is. ap (λ (x : Shown RunEnd). text x.events (end_within options.turns x.end)
-          options.trace) (covers.ends e is);
+          options.trace no_names) (covers.ends e is);
       status = λ last e is end_is.
           ap status_of (ended e (ap run_end_of is ∙ end_is)) ∙ same_status last e end_is;
     }

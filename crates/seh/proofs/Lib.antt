@@ -19,3 +19,5 @@ pub mod CompiledFrames
 pub mod EntryCalls
 pub mod OneTextOfEntries
 pub mod OneStatus
+pub mod Summaries
+pub mod SelftestCalls

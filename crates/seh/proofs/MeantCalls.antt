@@ -1,6 +1,6 @@
 -- What is compiled and run is what the text means, call by call.
 use Rattle.std.proofs.Common.{◌≡◌, ◌⊎◌, inl, inr, ◌≤◌, ℕ, pos, length, List, [], ◌∷◌, ◌++◌, Bool, Option, Some, None, refl, sym, ap, subst, ◌∙◌}
-use Rattle.seh.specs.Words.{text_limit, Shown, RunEnd, Grew, text, lines, end_line, Program, resolve, meaning, Ended, run_end, run_end_of, RunOptions, end_by, text_by, Call, Asks, Gave, WantedMemory, EndsWithin, GaveMeaning, LastLinesAgree, CompiledIsMeant, RunIsMeant, AreEnough, ShowsMeaning, IsCompiled, IsProgramOf, status_of, meaning_status}
+use Rattle.seh.specs.Words.{no_names, text_limit, Shown, RunEnd, Grew, text, lines, end_line, Program, resolve, meaning, Ended, run_end, run_end_of, RunOptions, end_by, text_by, Call, Asks, Gave, WantedMemory, EndsWithin, GaveMeaning, LastLinesAgree, CompiledIsMeant, RunIsMeant, AreEnough, ShowsMeaning, IsCompiled, IsProgramOf, status_of, meaning_status}
 use Rattle.seh_num.specs.declared.end.RunEnd.TheVariants as run_ends
 use Rattle.c_meaning.specs.Texts as meanings
 use Rattle.source_meaning.specs.declared.ended.Ended.TheVariants as meant
@@ -18,11 +18,11 @@ last_lines_agree (meant.Deep d) e h = let q : None ≡ Some e = h in absurd cc
 last_lines_agree (meant.OutOfSteps n) e h = let q : None ≡ Some e = h in absurd cc
 
 -- so the texts are the same
-same_text : (trace : Bool) (n : ℕ) (shown : Shown Ended) (ended : Ended) (e : RunEnd)
+pub same_text : (trace : Bool) (n : ℕ) (shown : Shown Ended) (ended : Ended) (e : RunEnd)
     → shown.end ≡ Some ended → run_end ended ≡ Some e
-    → text shown.events e trace ≡ meanings.text trace n shown
+    → text shown.events e trace no_names ≡ meanings.text trace n shown
 same_text trace n shown ended e is runs =
-    let front = lines trace shown.events in
+    let front = lines trace shown.events no_names in
     sym (ap (λ (x : Option Ended). front ++ meanings.ended_line (meanings.ended_within n x)) is
     ∙ ap (λ line. front ++ line) (last_lines_agree ended e runs))
 

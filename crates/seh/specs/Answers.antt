@@ -6,6 +6,7 @@ use Rattle.seh_num.specs.Shown.{Shown}
 use Rattle.host_layout.specs.declared.limit.TheConstants.{MOST_TEXT, MOST_IMAGE}
 use Rattle.seh_io.specs.Streams.{Rose, Grew}
 use Rattle.seh_io.specs.Reading.{LostAtMost}
+use Rattle.seh_io.specs.Names.{no_names}
 use Rattle.seh_io.specs.Text.{text}
 use Rattle.seh_io.specs.Writer.{TookPart}
 use Rattle.pe_image.specs.Image.{Image}
@@ -48,7 +49,8 @@ abbrev pub end_by : RunOptions → List ℕ → RunEnd
 end_by options bytes = end_within options.turns (shown_by options bytes).end
 
 abbrev pub text_by : RunOptions → List ℕ → List ℕ
-text_by options bytes = text (shown_by options bytes).events (end_by options bytes) options.trace
+text_by options bytes =
+    text (shown_by options bytes).events (end_by options bytes) options.trace no_names
 
 -- the bytes are an image that loads
 pub record Loads (bytes : List ℕ) : Type 0 where
@@ -75,18 +77,23 @@ IsCutOff text out out' =
 abbrev pub Judged : Type 1
 Judged = List ℕ → Stream → Stream → Result CommandOutcome Refusal → Type 0
 
--- what comes of an image's bytes: the whole text of the run of an image that loads, with its end;
--- the first check that fails, or the load's; or a part of the text, where the sink had a fault
-abbrev pub IsRunAnswer : RunOptions → Judged
-IsRunAnswer options bytes out out' (Ok (Ran end)) =
-    Loads bytes × (end ≡ end_by options bytes) × Grew out.bytes (text_by options bytes) out'.bytes
-IsRunAnswer options bytes out out' (Err (refusals.Image e)) = ImageIsRefused bytes e
+-- what comes of an image's bytes, of whose run this text is to be written, with this end: the
+-- whole text, where the image loads; the first check that fails, or the load's; or a part of the
+-- text, where the sink had a fault
+abbrev pub IsWrittenRun : (List ℕ → List ℕ) → (List ℕ → RunEnd) → Judged
+IsWrittenRun text_of end_of bytes out out' (Ok (Ran end)) =
+    Loads bytes × (end ≡ end_of bytes) × Grew out.bytes (text_of bytes) out'.bytes
+IsWrittenRun text_of end_of bytes out out' (Err (refusals.Image e)) = ImageIsRefused bytes e
     × Unwritten out out'
-IsRunAnswer options bytes out out' (Err (refusals.Load e)) =
+IsWrittenRun text_of end_of bytes out out' (Err (refusals.Load e)) =
     IsRefusedLoad bytes e × Unwritten out out'
-IsRunAnswer options bytes out out' (Err refusals.WriteFault) =
-    Loads bytes × IsCutOff (text_by options bytes) out out'
-IsRunAnswer options bytes out out' answer = ⊥
+IsWrittenRun text_of end_of bytes out out' (Err refusals.WriteFault) =
+    Loads bytes × IsCutOff (text_of bytes) out out'
+IsWrittenRun text_of end_of bytes out out' answer = ⊥
+
+-- what comes of an image's bytes that are run
+abbrev pub IsRunAnswer : RunOptions → Judged
+IsRunAnswer options = IsWrittenRun (text_by options) (end_by options)
 
 -- ---- showing
 
@@ -115,14 +122,18 @@ IsCompileAnswer text out out' answer = ⊥
 
 -- ---- compiling and running at once
 
--- what comes of a text that is compiled in memory and run: what comes of its image, or the refusal
--- of the text
-abbrev pub IsTextRunAnswer : RunOptions → Judged
-IsTextRunAnswer options text out out' (Err (refusals.Text e)) =
+-- what comes of a text that is compiled in memory: what comes of its image, or the refusal of the
+-- text
+abbrev pub IsImageAnswer : Judged → Judged
+IsImageAnswer judged text out out' (Err (refusals.Text e)) =
     IsRefusedText text e × Unwritten out out'
-IsTextRunAnswer options text out out' (Err refusals.NoMemory) = Unwritten out out'
-IsTextRunAnswer options text out out' answer =
-    (image : List ℕ) × IsCompiled text image × IsRunAnswer options image out out' answer
+IsImageAnswer judged text out out' (Err refusals.NoMemory) = Unwritten out out'
+IsImageAnswer judged text out out' answer =
+    (image : List ℕ) × IsCompiled text image × judged image out out' answer
+
+-- what comes of a text that is compiled in memory and run
+abbrev pub IsTextRunAnswer : RunOptions → Judged
+IsTextRunAnswer options = IsImageAnswer (IsRunAnswer options)
 
 -- ---- the input
 

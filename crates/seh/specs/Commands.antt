@@ -2,7 +2,8 @@
 use Rattle.std.specs.Prelude.{◌≡◌, ◌⊎◌, ℕ, List, Result, Err}
 use Rattle.command_line.specs.declared.command.Command.{Command}
 use Rattle.command_line.specs.declared.command.CheckReport.TheVariants.{Whole, Each}
-use Rattle.command_line.specs.declared.command.Command.TheVariants.{Compile, Exec, Run, Meaning, Show, Check}
+use Rattle.command_line.specs.declared.command.Command.TheVariants.{Compile, Exec, Run, Meaning, Show, Check, Selftest}
+use Rattle.command_line.specs.declared.reading.TheConstants.{DEFAULT_TURNS}
 use Rattle.command_line.specs.Lines.{IsLine, IsNoLine}
 use Rattle.seh.specs.declared.outcome.CommandOutcome.{CommandOutcome}
 use Rattle.seh.specs.declared.status.Status.{Status}
@@ -13,7 +14,12 @@ use Rattle.seh.specs.Checks.{IsCheckAnswer}
 use Rattle.seh.specs.EntryChecks.{IsEntriesAnswer}
 use Rattle.seh.specs.Meanings.{IsMeaningInputAnswer}
 use Rattle.seh.specs.Refusals.{Reported}
+use Rattle.seh.specs.Selftests.{IsSelftestAnswer}
 use Rattle.seh.specs.Streams.{Stream}
+
+-- nothing was read
+abbrev pub IsUnread : Stream → Stream → Type 0
+IsUnread source source' = source' ≡ source
 
 abbrev pub IsCommandAnswer : Command → Stream → Stream → Stream → Stream
     → Result CommandOutcome Refusal
@@ -32,10 +38,12 @@ IsCommandAnswer (Run options) source source' out out' answer =
     IsInputAnswer text_limit (IsTextRunAnswer options) source source' out out' answer
 IsCommandAnswer (Meaning options) source source' out out' answer =
     IsMeaningInputAnswer options source source' out out' answer
+IsCommandAnswer (Selftest n) source source' out out' answer =
+    IsUnread source source' × IsSelftestAnswer DEFAULT_TURNS n out out' answer
 
 -- nothing was read, and nothing was written
 abbrev pub Untouched : Stream → Stream → Stream → Stream → Type 0
-Untouched source source' out out' = (source' ≡ source) × Unwritten out out'
+Untouched source source' out out' = IsUnread source source' × Unwritten out out'
 
 -- the words are no line of the command set, or mean a command that has this answer; or there was no
 -- memory to read them

@@ -2,6 +2,7 @@
 use Rattle.std.specs.Prelude.{◌≡◌, ℕ, ◌+◌, ◌*◌, ◌^◌, ◌<◌, ◌≤◌, true, List, pos, Some, None}
 use Rattle.seh_num.specs.declared.end.RunEnd.{RunEnd}
 use Rattle.seh_num.specs.Shown.{Shown}
+use Rattle.seh_io.specs.Names.{no_names}
 use Rattle.seh_io.specs.Text.{text}
 use Rattle.source_meaning.specs.declared.ended.Ended.{Ended}
 use Rattle.host_model.specs.Laws.{Covers}
@@ -27,7 +28,7 @@ pub record ShowsMeaning (meant : Shown Ended) (image : List ℕ) (options : RunO
   pub covers : Covers meant.events (run_end_of meant.end) (shown_by options image)
   pub ended : (e : RunEnd) → run_end_of meant.end ≡ Some e → end_by options image ≡ e
   pub whole : (e : RunEnd) → run_end_of meant.end ≡ Some e
-      → text_by options image ≡ text meant.events e options.trace
+      → text_by options image ≡ text meant.events e options.trace no_names
   pub status :
       (ended : Ended) (e : RunEnd) → meant.end ≡ Some ended → run_end ended ≡ Some e
       → status_of (end_by options image) ≡ meaning_status ended

@@ -4,6 +4,7 @@ pub mod Refusals
 pub mod UncoveredCode
 pub mod Images
 pub mod Answers
+pub mod Selftests
 pub mod Checks
 pub mod EntryChecks
 pub mod Headline
@@ -18,3 +19,4 @@ pub mod Existence
 pub mod CompiledChecks
 pub mod CompiledFrames
 pub mod EntryCheckLaws
+pub mod SelftestLaws

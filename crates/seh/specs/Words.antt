@@ -2,6 +2,7 @@
 pub use Rattle.seh_num.specs.Shown.{Shown}
 pub use Rattle.seh_num.specs.declared.end.RunEnd.{RunEnd}
 pub use Rattle.seh_io.specs.Streams.{Rose, Grew, last_count}
+pub use Rattle.seh_io.specs.Names.{no_names}
 pub use Rattle.seh_io.specs.Text.{text, lines, end_line, ended}
 pub use Rattle.seh_io.specs.Writer.{TookPart}
 pub use Rattle.command_line.specs.declared.command.RunOptions.{RunOptions}
@@ -22,12 +23,14 @@ pub use Rattle.seh_host.specs.Running.{Running, first_running, run_of, running_o
 pub use Rattle.seh_host.specs.Turns.{end_within, taken_before}
 pub use Rattle.match_runs.specs.Ends.{run_end, run_end_of}
 pub use Rattle.image_link.specs.Linked.{linked}
-pub use Rattle.seh.specs.Answers.{text_limit, image_limit, Judged, FromInput, Loads, IsInputAnswer, IsCompileAnswer, IsRunAnswer, IsTextRunAnswer, IsShowAnswer, end_by, text_by, IsRefusedLoad, shown_by, IsInput, LostFew, IsInputRefusal}
+pub use Rattle.seh.specs.Answers.{text_limit, image_limit, Judged, FromInput, Loads, IsInputAnswer, IsCompileAnswer, IsWrittenRun, IsRunAnswer, IsImageAnswer, IsTextRunAnswer, IsShowAnswer, end_by, text_by, IsRefusedLoad, shown_by, IsInput, LostFew, IsInputRefusal}
 pub use Rattle.seh.specs.Calls.{Call, HadNoFault, Asks, Gave, WantedMemory, CompileIsComplete, RunIsComplete, MeaningIsComplete, ShowIsComplete, ExecIsComplete, TextsHaveOneImage, EndsWithin, GaveMeaning, LastLinesAgree, CompiledIsMeant, RunIsMeant}
 pub use Rattle.seh.specs.Headline.{Headline, NothingMore, Walks, AreEnough, ShowsMeaning}
 pub use Rattle.seh.specs.Images.{IsCompiled, IsTextRefusal, steps_per_turn}
 pub use Rattle.seh.specs.Meanings.{IsProgramOf, IsMeaningAnswer, IsMeaningInputAnswer, shown_of, text_of, TookMeaningFront}
 pub use Rattle.seh.specs.Refusals.{Reported, refusal_status, refusal_text}
+pub use Rattle.seh.specs.SelftestLaws.{AsksSelftest, GaveSummary, SelftestReadsNothing, SelftestIsComplete, SelftestIsMeant, meant_summary}
+pub use Rattle.seh.specs.Selftests.{IsSummaryAnswer, IsSelftestAnswer, events_line, selftest_options, summary, summary_by, summary_of}
 pub use Rattle.seh.specs.Statuses.{status_of, meaning_status}
 pub use Rattle.seh.specs.Streams.{Stream, stream}
 pub use Rattle.seh.specs.declared.outcome.CommandOutcome.{CommandOutcome}

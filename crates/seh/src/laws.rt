@@ -8,6 +8,7 @@ ghost use Rattle.seh.specs.EntryCheckLaws.{EntryCheckIsComplete, EntriesHaveOneV
 ghost use Rattle.seh.specs.Completeness.{AcceptedTextsCompile, CompiledImagesRun};
 ghost use Rattle.seh.specs.Existence.{ImagesExist};
 ghost use Rattle.seh.specs.Headline.{Headline, NothingMore, Walks};
+ghost use Rattle.seh.specs.SelftestLaws.{SelftestReadsNothing, SelftestIsComplete, SelftestIsMeant};
 ghost use Rattle.seh.specs.TamePrograms.{TameProgramsWalk, TameProgramsEnd};
 
 /// The headline: where `compile` answered with an image for a text, each run of `exec` on it with
@@ -124,4 +125,15 @@ pub fn compiled_frames()
 pub fn checked_entries()
     ensures one_verdict_each { EntriesHaveOneVerdictEach }
     ensures statuses { StatusesAgree }
+{}
+
+/// What `selftest N` gives, where no sink has a fault and memory isn't wanting: where the text of
+/// the generated program is accepted, the whole summary of the run of its image, with the status of
+/// the run's end. Where the program ends within n steps by a return of `main` or an unhandled
+/// exception, and `256 * n + 256` is at most 10,000,000, that is the summary of what it means, and
+/// the status is the one of its end. Nothing is read.
+pub fn selftest_calls()
+    ensures unread { SelftestReadsNothing }
+    ensures complete { SelftestIsComplete }
+    ensures meant { SelftestIsMeant }
 {}

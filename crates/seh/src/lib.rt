@@ -17,6 +17,7 @@ pub mod meaning;
 pub mod outcome;
 pub mod refusal;
 pub mod run;
+pub mod selftest;
 pub mod show;
 pub mod status;
 pub mod top;

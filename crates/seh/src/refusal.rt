@@ -68,7 +68,7 @@ fn text_status(error: &TextErr) -> Status
 }
 
 /// A name and a number after it.
-fn named(line: &mut Line, name: &[u8], number: u64)
+pub fn named(line: &mut Line, name: &[u8], number: u64)
     requires { length line.old + length name.now ≤ 43 }
     ensures value { line.new ≡ line.old ++ named name.now number }
     ensures len { length line.new ≤ 63 }

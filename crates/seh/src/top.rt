@@ -13,10 +13,11 @@ use crate::meaning::meaning;
 use crate::outcome::CommandOutcome;
 use crate::refusal::{Refusal, report};
 use crate::run::run;
+use crate::selftest::selftest;
 use crate::show::show;
 use crate::status::Status;
 use command_line::command::{CheckReport, Command};
-use command_line::reading::{WordsErr, command_of};
+use command_line::reading::{DEFAULT_TURNS, WordsErr, command_of};
 use seh_io::sink::Sink;
 use seh_io::source::Source;
 use std::alloc::Global;
@@ -40,6 +41,7 @@ fn answer<S: Source, O: Sink>(
         Ok(Command::Exec(options)) => exec(alloc, options, src, out),
         Ok(Command::Run(options)) => run(alloc, options, src, out),
         Ok(Command::Meaning(options)) => meaning(alloc, options, src, out),
+        Ok(Command::Selftest(number)) => selftest(alloc, DEFAULT_TURNS, number, out),
         Err(WordsErr::Usage) => Err(Refusal::Usage),
         Err(WordsErr::Memory) => Err(Refusal::NoMemory),
     }
@@ -67,6 +69,11 @@ fn answer<S: Source, O: Sink>(
 /// entry: `yes` with the entry's index and the address of its first byte where no rule fails in
 /// it, else `no` as for the first; and last how many entries are without a fault of how many, with
 /// the status `Done` where all are, else `No`.
+///
+/// `selftest N` reads nothing. It compiles the generated program of the number N in memory and runs
+/// its image, with the argument 0 for at most 10,000,000 turns. It writes `selftest N`, the text of
+/// the run without trace, and `events E`, with E the number of events of all kinds that the run
+/// shows, at most 2^64 - 1; the status is that of the run's end.
 ///
 /// A refusal writes one line to `err` and nothing to `out`, but for a write fault, and for `no
 /// memory` of `meaning`, after which `out` has taken a part of the text from the front. Where the

@@ -1,6 +1,5 @@
 -- What is counted of turns, one after another.
-use Rattle.std.proofs.Common.{◌≡◌, ℕ, ◌+◌, ◌≤◌, ◌<◌, Bool, true, false, ◌++◌, length, length-append, add-zero, min, refl, sym, ap, subst, ◌∙◌, arith}
-use Rattle.std.proofs.lemmas.Bool.{true≢false}
+use Rattle.std.proofs.Common.{◌≡◌, ℕ, ◌+◌, ◌<◌, length, length-append, add-zero, min, refl, sym, ap, subst, ◌∙◌, arith}
 use Rattle.seh_io.specs.Streams.{HasCount, last_count}
 use Rattle.host_model.specs.Laws.{shown_in_turns}
 use Rattle.seh_host.specs.Words.{Running, made, shown_made, after_turn, shown_of, answer_of}

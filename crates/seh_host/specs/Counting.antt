@@ -1,5 +1,5 @@
 -- How many events there were.
-use Rattle.std.proofs.Common.{◌≡◌, ℕ, ◌+◌, ◌≤◌, List, [], ◌++◌, length, length-append, add-zero, min, arith, refl, sym, ap, ◌∙◌}
+use Rattle.std.proofs.Common.{◌≡◌, ◌+◌, List, [], ◌++◌, length, length-append, add-zero, min, arith, refl, sym, ap, ◌∙◌}
 use Rattle.seh_num.specs.declared.event.Event.{Event}
 use Rattle.seh_io.specs.Streams.{HasCount, last_count}
 use Rattle.seh_host.specs.declared.counting.Counting.{Counting}

@@ -2,6 +2,7 @@
 pub use Rattle.seh_num.specs.declared.end.RunEnd.{RunEnd}
 pub use Rattle.flat_memory.specs.Memory.{Memory, distance, with_bytes}
 unfoldable pub use Rattle.flat_memory.specs.Memory.{with_number}
+pub use Rattle.seh_io.specs.Names.{no_names, none_named}
 pub use Rattle.seh_io.specs.Text.{lines, end_line, text}
 pub use Rattle.seh_io.specs.Writer.{Writer, writer_of, Wrote, TookEvents, TookPart}
 pub use Rattle.pe_image.specs.Image.{Section, Image, AreAscending, is_readable, is_writable, is_executable, stores_byte, section_or, section_at, stored_in}

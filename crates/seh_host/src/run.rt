@@ -3,6 +3,7 @@
 ghost use Rattle.std.specs.Prelude.{◌≡◌, ◌≤◌, ◌+◌, ℕ, List, [], ◌∷◌, false, IfOk, IfErr, OnOk, OnErr, length};
 ghost use Rattle.seh_num.specs.declared.event.Event.{Event as Event'};
 ghost use Rattle.seh_io.specs.Streams.{Rose, Grew, HasCount};
+ghost use Rattle.seh_io.specs.Names.{no_names};
 ghost use Rattle.seh_io.specs.Text.{text};
 ghost use Rattle.seh_io.specs.Writer.{TookPart, writer_of};
 ghost use Rattle.host_model.specs.HostStep as model;
@@ -15,6 +16,7 @@ use crate::RunEnd;
 use crate::counting::Counting;
 use crate::host::{Host, Turn};
 use seh_dispatch::advancing::advance;
+use seh_io::names::NoNames;
 use seh_io::receiver::{Events, Lines};
 use seh_io::sink::Sink;
 
@@ -97,7 +99,7 @@ pub fn run<O: Sink>(
 ) -> Result<RunEnd, RunErr>
     ensures end { IfOk result (λ e. e ≡ end_within turns (run_of turns (running_of host.old)).end) }
     ensures text { IfOk result (λ e. Grew (O.taken sink.old)
-        (text (run_of turns (running_of host.old)).events e trace) (O.taken sink.new)) }
+        (text (run_of turns (running_of host.old)).events e trace no_names) (O.taken sink.new)) }
     ensures part { IfErr result (λ e. TookPart (O.taken sink.old)
         (run_text turns trace (running_of host.old)) (O.taken sink.new) (taken_before e)) }
     ensures host { IfOk result (λ _. running_of host.new ≡ made turns (running_of host.old)) }
@@ -112,7 +114,7 @@ pub fn run<O: Sink>(
         (event_count host.old + length (run_of turns (running_of host.old)).events)
         (event_count host.new)) }
 {
-    let mut lines = Lines::new(sink, trace);
+    let mut lines = Lines::new(sink, trace, &NoNames);
     write_turns(host, turns, &mut lines);
     let end = host.end.unwrap_or(RunEnd::OutOfTurns { turns });
     match lines.end(&end) {

@@ -5,25 +5,26 @@ use Rattle.std.specs.Fmt.{digits}
 use Rattle.seh_num.specs.declared.event.Event.TheVariants.{Put, Raise, Filter, Answer, Finally, Except}
 use Rattle.seh_num.specs.declared.end.Reason.TheVariants.{Illegal, BadRecord, Unreadable, Backward, LostFrame}
 use Rattle.seh_num.specs.declared.end.RunEnd.TheVariants.{Exit, Unhandled, StackLimit, OutOfTurns, Stopped}
+use Rattle.seh_io.specs.Names.{no_names}
 use Rattle.seh_io.specs.Text.{hexadecimal, text, line, end_line}
 
 -- a line feed after the text
 fed : List ℕ → List ℕ
 fed line = line ++ 10 ∷ []
 
-put_and_exit : text (Put (pos 14) ∷ []) (Exit (pos 7)) false
+put_and_exit : text (Put (pos 14) ∷ []) (Exit (pos 7)) false no_names
     ≡ 49 ∷ 52 ∷ 10 ∷ 101 ∷ 120 ∷ 105 ∷ 116 ∷ 32 ∷ 55 ∷ 10 ∷ []
 unfolding digits
 put_and_exit = refl
 
 -- without a trace only what is put is shown
-untraced : text (Filter 1 ∷ Answer (pos 1) ∷ Put (negsuc 4) ∷ []) (Exit (negsuc 0)) false ≡ fed
-    (codes "-5") ++ fed (codes "exit -1")
+untraced : text (Filter 1 ∷ Answer (pos 1) ∷ Put (negsuc 4) ∷ []) (Exit (negsuc 0)) false no_names
+    ≡ fed (codes "-5") ++ fed (codes "exit -1")
 unfolding digits fed
 untraced = refl
 
 traced : text (Filter 1 ∷ Answer (negsuc 0) ∷ Finally 20 true ∷ Finally 3 false ∷ Put (pos 0)
-    ∷ []) (OutOfTurns 10000000) true ≡ fed (codes "filter 1") ++ fed (codes "answer -1")
+    ∷ []) (OutOfTurns 10000000) true no_names ≡ fed (codes "filter 1") ++ fed (codes "answer -1")
     ++ fed (codes "finally 20 1") ++ fed (codes "finally 3 0") ++ fed (codes "0")
     ++ fed (codes "out of turns 10000000")
 unfolding digits fed
@@ -34,7 +35,8 @@ raises : text (Raise (record { 0 = 0xC000_0005 }) false (Some (true, 0x7000_0000
     ∷ Raise (record { 0 = 0xC000_0005 }) false (Some (false, 0x0012_3456_789A_BCDE))
     ∷ Raise (record { 0 = 0xC000_0005 }) true None
     ∷ Raise (record { 0 = 0xE000_0001 }) true (Some (true, 16))
-    ∷ Except (record { 0 = 0xE000_0001 }) ∷ []) (Unhandled (record { 0 = 0xC000_0094 })) true
+    ∷ Except (record { 0 = 0xE000_0001 }) ∷ [])
+    (Unhandled (record { 0 = 0xC000_0094 })) true no_names
     ≡ fed (codes "raise C0000005 0 write 0000000070000000")
     ++ fed (codes "raise C0000005 0 read 00123456789ABCDE") ++ fed (codes "raise C0000005 1")
     ++ fed (codes "raise E0000001 1") ++ fed (codes "except E0000001")

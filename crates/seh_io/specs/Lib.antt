@@ -1,4 +1,5 @@
 pub mod Lengths
+pub mod Names
 pub mod Streams
 pub mod Reading
 pub mod Text

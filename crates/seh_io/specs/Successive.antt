@@ -78,32 +78,42 @@ module _ (x y z : Writer) (t u : List ℕ) (p : Wrote x t y) (q : Wrote y u z) w
   wrote_more = elim (cases_Bool y.failed) [ inl was ↦ after_part was | inr is ↦ after_whole is ]
 
 -- the lines of some events and of more are those of all
-pub lines_append : (trace : Bool) (es fs : List Event)
-    → lines trace (es ++ fs) ≡ lines trace es ++ lines trace fs
-lines_append trace [] fs = refl
-lines_append trace (e ∷ es) fs =
-    ap (λ t. line trace e ++ t) (lines_append trace es fs)
-    ∙ sym (append_assoc (line trace e) (lines trace es) (lines trace fs))
+pub lines_append : (trace : Bool) (es fs : List Event) (names : ℕ → Option (List ℕ))
+    → lines trace (es ++ fs) names ≡ lines trace es names ++ lines trace fs names
+lines_append trace [] fs names = refl
+lines_append trace (e ∷ es) fs names =
+    ap (λ t. line trace e names ++ t) (lines_append trace es fs names)
+    ∙ sym (append_assoc (line trace e names) (lines trace es names) (lines trace fs names))
 
 -- no event changes nothing
-pub took_none : {X : Type 0} (taken : X → Option (List ℕ)) (faults : X → ℕ) (x : Lines X)
-    → TookEvents taken faults x [] x
-took_none taken faults x =
-    record { wrote = wrote_none (writer_of taken faults x); trace = refl; same_reference = refl }
+pub took_none : {X N : Type 0} (taken : X → Option (List ℕ)) (faults : X → ℕ)
+    (named : N → ℕ → Option (List ℕ)) (x : Lines X N) → TookEvents taken faults named x [] x
+took_none taken faults named x =
+    record {
+      wrote = wrote_none (writer_of taken faults x);
+      trace = refl;
+      names = refl;
+      same_reference = refl;
+    }
 
 -- events and then more are all of them
-pub took_more : {X : Type 0} (taken : X → Option (List ℕ)) (faults : X → ℕ) (x y z : Lines X)
-    (es fs : List Event) → TookEvents taken faults x es y → TookEvents taken faults y fs z
-    → TookEvents taken faults x (es ++ fs) z
-took_more taken faults x y z es fs p q =
+pub took_more : {X N : Type 0} (taken : X → Option (List ℕ)) (faults : X → ℕ)
+    (named : N → ℕ → Option (List ℕ)) (x y z : Lines X N) (es fs : List Event)
+    → TookEvents taken faults named x es y → TookEvents taken faults named y fs z
+    → TookEvents taken faults named x (es ++ fs) z
+took_more taken faults named x y z es fs p q =
     let x' = writer_of taken faults x in
     let y' = writer_of taken faults y in
     let z' = writer_of taken faults z in
-    let q' = subst (λ (b : Bool). Wrote y' (lines b fs) z') p.trace q.wrote in
+    let names = named x.names.now in
+    let same : lines y.trace fs (named y.names.now) ≡ lines x.trace fs names =
+    λ i. lines (p.trace i) fs (named (p.names i)) in
+    let q' = subst (λ t. Wrote y' t z') same q.wrote in
     record {
-      wrote = subst (λ t. Wrote x' t z') (sym (lines_append x.trace es fs))
-          (wrote_more x' y' z' (lines x.trace es) (lines x.trace fs) p.wrote q');
+      wrote = subst (λ t. Wrote x' t z') (sym (lines_append x.trace es fs names))
+          (wrote_more x' y' z' (lines x.trace es names) (lines x.trace fs names) p.wrote q');
       trace = q.trace ∙ p.trace;
+      names = q.names ∙ p.names;
       same_reference = q.same_reference ∙ p.same_reference;
     }
 

@@ -52,10 +52,10 @@ abbrev pub ended : List ℕ → List ℕ
 ended text = text ++ 10 ∷ []
 
 -- without a trace only what is put is shown
-abbrev pub line : Bool → Event → List ℕ
-line trace (Put v) = ended (event_text (Put v))
-line true event = ended (event_text event)
-line false event = []
+abbrev pub line : Bool → Event → (ℕ → Option (List ℕ)) → List ℕ
+line trace (Put v) names = ended (event_text (Put v))
+line true event names = ended (event_text event)
+line false event names = []
 
 abbrev pub reason_text : Reason → List ℕ
 reason_text Illegal = codes "Illegal"
@@ -75,9 +75,10 @@ end_text (Stopped why address) =
 abbrev pub end_line : RunEnd → List ℕ
 end_line end = ended (end_text end)
 
-abbrev pub lines : Bool → List Event → List ℕ
-lines trace [] = []
-lines trace (event ∷ events) = line trace event ++ lines trace events
+abbrev pub lines : Bool → List Event → (ℕ → Option (List ℕ)) → List ℕ
+lines trace [] names = []
+lines trace (event ∷ events) names = line trace event names ++ lines trace events names
 
-abbrev pub text : List Event → RunEnd → Bool → List ℕ
-text events end trace = lines trace events ++ end_line end
+-- the names are those of the functions of the image or the program that ran
+abbrev pub text : List Event → RunEnd → Bool → (ℕ → Option (List ℕ)) → List ℕ
+text events end trace names = lines trace events names ++ end_line end

@@ -18,7 +18,7 @@ writer failed count taken faults =
     record { failed = failed; count = count; taken = taken; faults = faults }
 
 -- what `Lines` is, over a sink with these ghost functions
-abbrev pub writer_of : {X : Type 0} → (X → Option (List ℕ)) → (X → ℕ) → Lines X → Writer
+abbrev pub writer_of : {X N : Type 0} → (X → Option (List ℕ)) → (X → ℕ) → Lines X N → Writer
 writer_of taken faults lines =
     writer lines.failed lines.taken (taken lines.sink.now) (faults lines.sink.now)
 
@@ -35,18 +35,20 @@ pub record Wrote (old : Writer) (text : List ℕ) (new : Writer) : Type 0 where
   pub counted : HasCount (old.count + length part) new.count
 
 -- what became of a text that a `Lines` was given, over a sink with these ghost functions
-abbrev pub PutText : {X : Type 0} → (X → Option (List ℕ)) → (X → ℕ) → Lines X → List ℕ → Lines X
-    → Type 0
+abbrev pub PutText : {X N : Type 0} → (X → Option (List ℕ)) → (X → ℕ) → Lines X N → List ℕ
+    → Lines X N → Type 0
 PutText taken faults old text new =
     Wrote (writer_of taken faults old) text (writer_of taken faults new)
 
 -- what a receiver that writes lines did with events: it wrote their lines, and is the same
 -- otherwise
-pub record TookEvents {X : Type 0} (taken : X → Option (List ℕ)) (faults : X → ℕ) (old : Lines X)
-    (events : List Event) (new : Lines X) : Type 0 where
-  pub wrote : Wrote (writer_of taken faults old) (lines old.trace events)
+pub record TookEvents {X N : Type 0} (taken : X → Option (List ℕ)) (faults : X → ℕ)
+    (named : N → ℕ → Option (List ℕ)) (old : Lines X N) (events : List Event) (new : Lines X N)
+    : Type 0 where
+  pub wrote : Wrote (writer_of taken faults old) (lines old.trace events (named old.names.now))
       (writer_of taken faults new)
   pub trace : new.trace ≡ old.trace
+  pub names : new.names.now ≡ old.names.now
   pub same_reference : new.sink.ghost_name ≡ old.sink.ghost_name
 
 -- the sink took a part of the text from the front, of so many bytes

@@ -10,6 +10,7 @@
 #![tactic(auto)]
 
 pub mod line;
+pub mod names;
 pub mod plain;
 pub mod planned;
 pub mod reading;

@@ -7,6 +7,7 @@ ghost use Rattle.seh_io.specs.Text.{line, end_line, lines, text};
 ghost use Rattle.seh_io.specs.Writer.{PutText, TookPart, TookEvents, Kept};
 ghost use Rattle.seh_io.specs.Successive.{took_none, took_more, kept_none, kept_more};
 
+use crate::names::{Names, NoNames};
 use crate::sink::Sink;
 use crate::text::{end_line, event_line};
 use crate::writing::{WriteFault, put_all};
@@ -41,42 +42,47 @@ pub fn replay<V: Events>(to: &mut V, events: &[Event])
 
 /// A receiver that writes the lines of a run's text to a sink. It keeps its first fault, and writes
 /// nothing after it.
-pub struct Lines<'a, O> {
+pub struct Lines<'a, O, N = NoNames> {
     /// Where the lines are written.
     pub sink: &'a mut O,
     /// Whether all events are shown, or only what is put.
     pub trace: bool,
+    /// The names of the functions of what runs.
+    pub names: &'a N,
     /// Whether a write has failed.
     pub failed: bool,
     /// How many bytes the sink has taken from this writer in all; it stays at 2^64 - 1.
     pub taken: u64,
 }
 
-impl<O> Drop for Lines<'_, O> {
+impl<O, N> Drop for Lines<'_, O, N> {
     fn drop(self)
         ensures { self.exit.0.now ≡ self.entry.sink.now }
     {
         let Lines {
             sink: _,
             trace: _,
+            names: _,
             failed: _,
             taken: _,
         } = self;
     }
 }
 
-impl<'a, O: Sink> Lines<'a, O> {
+impl<'a, O: Sink, N> Lines<'a, O, N> {
     /// A writer that has written nothing.
-    pub fn new(sink: &'a mut O, trace: bool) -> Lines<'a, O>
+    pub fn new(sink: &'a mut O, trace: bool, names: &'a N) -> Lines<'a, O, N>
         ensures same_reference { result.sink.ghost_name ≡ sink.entry.ghost_name }
         ensures sink { result.sink.now ≡ sink.old }
         ensures trace { result.trace ≡ trace }
+        ensures names { result.names.now ≡ names.now }
         ensures failed { result.failed ≡ false }
         ensures taken { result.taken ≡ 0 }
     {
         Lines {
             sink,
             trace,
+            names,
             failed: false,
             taken: 0,
         }
@@ -86,6 +92,7 @@ impl<'a, O: Sink> Lines<'a, O> {
     pub fn put(&mut self, piece: &[u8])
         ensures same_reference { self.new.sink.ghost_name ≡ self.old.sink.ghost_name }
         ensures trace { self.new.trace ≡ self.old.trace }
+        ensures names { self.new.names.now ≡ self.old.names.now }
         ensures wrote { PutText O.taken O.faults self.old piece.now self.new }
     {
         if self.failed {
@@ -116,6 +123,7 @@ impl<'a, O: Sink> Lines<'a, O> {
     pub fn end(&mut self, end: &RunEnd) -> Result<(), WriteFault>
         ensures same_reference { self.new.sink.ghost_name ≡ self.old.sink.ghost_name }
         ensures trace { self.new.trace ≡ self.old.trace }
+        ensures names { self.new.names.now ≡ self.old.names.now }
         ensures wrote { PutText O.taken O.faults self.old (end_line end.now) self.new }
         ensures outcome { MatchResult result (λ _. self.new.failed ≡ false)
             (λ e. (self.new.failed ≡ true) × (e.taken ≡ self.new.taken)) }
@@ -125,12 +133,12 @@ impl<'a, O: Sink> Lines<'a, O> {
     }
 }
 
-impl<O: Sink> Events for Lines<'_, O> {
-    ghost took = { λ x es y. TookEvents O.taken O.faults x es y };
+impl<O: Sink, N: Names> Events for Lines<'_, O, N> {
+    ghost took = { λ x es y. TookEvents O.taken O.faults N.named x es y };
 
-    ghost none = { λ x. took_none O.taken O.faults x };
+    ghost none = { λ x. took_none O.taken O.faults N.named x };
 
-    ghost more = { λ x y z es fs p q. took_more O.taken O.faults x y z es fs p q };
+    ghost more = { λ x y z es fs p q. took_more O.taken O.faults N.named x y z es fs p q };
 
     fn take(&mut self, event: &Event) {
         let line = event_line(self.trace, event);
@@ -142,21 +150,21 @@ impl<O: Sink> Events for Lines<'_, O> {
 ///
 /// After a fault the sink has taken a part of the text from the front, of `taken` bytes; that count
 /// stays at 2^64 - 1.
-pub fn put_text<O: Sink>(
+pub fn put_text<O: Sink, N: Names>(
     sink: &mut O,
     trace: bool,
     events: &[Event],
     end: &RunEnd,
+    names: &N,
 ) -> Result<(), WriteFault>
-    ensures ok { OnOk result
-        (Grew (O.taken sink.old) (text events.now end.now trace) (O.taken sink.new)) }
-    ensures part { IfErr result
-        (λ e. TookPart (O.taken sink.old) (text events.now end.now trace)
-        (O.taken sink.new) e.taken) }
+    ensures ok { OnOk result (Grew (O.taken sink.old)
+        (text events.now end.now trace (N.named names.now)) (O.taken sink.new)) }
+    ensures part { IfErr result (λ e. TookPart (O.taken sink.old)
+        (text events.now end.now trace (N.named names.now)) (O.taken sink.new) e.taken) }
     ensures cause { OnErr result (Rose (O.faults sink.old) (O.faults sink.new)) }
     ensures faults { O.faults sink.old ≤ O.faults sink.new }
 {
-    let mut lines = Lines::new(sink, trace);
+    let mut lines = Lines::new(sink, trace, names);
     replay(&mut lines, events);
     lines.end(end)
 }

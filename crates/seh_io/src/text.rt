@@ -1,12 +1,13 @@
 //! The lines of a run's text.
 
-ghost use Rattle.std.specs.Prelude.{◌≡◌, ◌+◌, ◌<◌, ◌≤◌, ◌++◌, length, take, OnOk, OnErr, IfErr};
+ghost use Rattle.std.specs.Prelude.{◌≡◌, ℕ, ◌+◌, ◌<◌, ◌≤◌, List, ◌++◌, length, take, Option, OnOk, OnErr, IfErr};
 ghost use Rattle.seh_io.specs.Streams.{Rose, Grew};
 ghost use Rattle.seh_io.specs.Lengths.{longest_access, longest_reason};
 ghost use Rattle.seh_io.specs.declared.line.TheConstants.{LONGEST_LINE, CODE_DIGITS, ADDRESS_DIGITS};
 ghost use Rattle.seh_io.specs.Text.{line, end_line, text, flag_text, code_text, address_text, access_text, reason_text, event_text};
 
 use crate::line::{ADDRESS_DIGITS, CODE_DIGITS, Line};
+use crate::names::Names;
 use crate::sink::Sink;
 use crate::writing::{WriteFault, put_all};
 use seh_num::code::ACCESS_VIOLATION;
@@ -110,7 +111,7 @@ fn event_text(event: &Event) -> Line
 
 /// An event's line, with its line feed; empty for an event other than `Put` without a trace.
 pub fn event_line(trace: bool, event: &Event) -> Line
-    ensures { result ≡ line trace event.now }
+    ensures { (names : ℕ → Option (List ℕ)) → result ≡ line trace event.now names }
 {
     let shown = match event {
         Event::Put(_) => true,
@@ -157,12 +158,20 @@ pub fn end_line(end: &RunEnd) -> Line
     line
 }
 
-/// Writes an event's line, or nothing for an event other than `Put` without a trace.
-pub fn put_event<O: Sink>(sink: &mut O, trace: bool, event: &Event) -> Result<(), WriteFault>
-    ensures ok { OnOk result (Grew (O.taken sink.old) (line trace event.now) (O.taken sink.new)) }
-    ensures part { IfErr result
-        (λ e. Grew (O.taken sink.old) (take e.taken (line trace event.now)) (O.taken sink.new)) }
-    ensures short { IfErr result (λ e. e.taken < length (line trace event.now)) }
+/// Writes an event's line, or nothing for an event other than `Put` without a trace. The names are
+/// those of the functions of what runs.
+pub fn put_event<O: Sink, N: Names>(
+    sink: &mut O,
+    trace: bool,
+    event: &Event,
+    _names: &N,
+) -> Result<(), WriteFault>
+    ensures ok { OnOk result (Grew (O.taken sink.old)
+        (line trace event.now (N.named _names.now)) (O.taken sink.new)) }
+    ensures part { IfErr result (λ e. Grew (O.taken sink.old)
+        (take e.taken (line trace event.now (N.named _names.now))) (O.taken sink.new)) }
+    ensures short { IfErr result
+        (λ e. e.taken < length (line trace event.now (N.named _names.now))) }
     ensures cause { OnErr result (Rose (O.faults sink.old) (O.faults sink.new)) }
     ensures faults { O.faults sink.old ≤ O.faults sink.new }
 {

@@ -272,10 +272,10 @@ operated_decreases m o a b p (performing.Gives v memory) = omega arith
 operated_decreases m o a b p (performing.Raises code access) = omega arith
 operated_decreases m o a b p (performing.Undefined a') = omega arith
 
-entered_decreases : (m : Machine) (f : Option Function) (vs : List ℕ)
-    → distance (entered m f vs) < at_worth m 23
-entered_decreases m None vs = omega arith
-entered_decreases m (Some f) vs = deeper (is_deep m.state 1) m _ 23 (lit< tt) (omega arith)
+entered_decreases : (m : Machine) (number : ℕ) (f : Option Function) (vs : List ℕ)
+    → distance (entered m number f vs) < at_worth m 23
+entered_decreases m number None vs = omega arith
+entered_decreases m number (Some f) vs = deeper (is_deep m.state 1) m _ 23 (lit< tt) (omega arith)
 
 built_in_decreases : (m : Machine) (k : BuiltIn) (vs : List ℕ) (p : Place)
     → distance (built_in m k vs p) < at_worth m 23
@@ -287,7 +287,7 @@ built_in_decreases m RaiseException vs p = omega arith
 called_decreases : (program : Program) (m : Machine) (callee : Callee) (vs : List ℕ) (p : Place)
     → distance (called program m callee vs p) < at_worth m 23
 called_decreases program m (frames.Defined f) vs p =
-    entered_decreases m (slice_get program.functions f) vs
+    entered_decreases m f (slice_get program.functions f) vs
 called_decreases program m (frames.BuiltInOf k) vs p = built_in_decreases m k vs p
 
 declared_decreases : (m : Machine) (e : Declared) (p : Place)

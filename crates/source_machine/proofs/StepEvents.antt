@@ -114,10 +114,11 @@ operated_shows m o a b p (performing.Gives v memory) = prefix_self m.state.event
 operated_shows m o a b p (performing.Raises code access) = prefix_self m.state.events
 operated_shows m o a b p (performing.Undefined a') = prefix_self m.state.events
 
-entered_shows : (m : Machine) (f : Option Function) (vs : List ℕ)
-    → Shows m.state.events (entered m f vs)
-entered_shows m None vs = prefix_self m.state.events
-entered_shows m (Some f) vs = unless_shows (is_deep m.state 1) m _ (prefix_self m.state.events)
+entered_shows : (m : Machine) (number : ℕ) (f : Option Function) (vs : List ℕ)
+    → Shows m.state.events (entered m number f vs)
+entered_shows m number None vs = prefix_self m.state.events
+entered_shows m number (Some f) vs =
+    unless_shows (is_deep m.state 1) m _ (prefix_self m.state.events)
 
 built_in_shows : (m : Machine) (k : BuiltIn) (vs : List ℕ) (p : Place)
     → Shows m.state.events (built_in m k vs p)
@@ -127,7 +128,8 @@ built_in_shows m RaiseException vs p = prefix_self m.state.events
 
 called_shows : (program : Program) (m : Machine) (callee : Callee) (vs : List ℕ) (p : Place)
     → Shows m.state.events (called program m callee vs p)
-called_shows program m (frames.Defined f) vs p = entered_shows m (slice_get program.functions f) vs
+called_shows program m (frames.Defined f) vs p = entered_shows m f (slice_get program.functions f)
+    vs
 called_shows program m (frames.BuiltInOf k) vs p = built_in_shows m k vs p
 
 asked_by_shows : (m : Machine) (f : Filter) (h : Handler) (level : ℕ) (exc : Exception) (p : Place)

@@ -68,12 +68,12 @@ module _ (program : Program) (d : Does) where
       (λ v st. each d es (context_at m.handlers p) st
       (λ ws st. call program d callee (append_assoc vs (v ∷ []) ws i) m.handlers p st)))
 
-  entered_keeps : (m : Machine) (f : Option Function) (vs : List ℕ) (p : Place)
-      → comes program d (entered m f vs) ≡ from program d m
-      (enter d f vs (context_at m.handlers p) m.state)
+  entered_keeps : (m : Machine) (number : ℕ) (f : Option Function) (vs : List ℕ) (p : Place)
+      → comes program d (entered m number f vs) ≡ from program d m
+      (enter d number f vs (context_at m.handlers p) m.state)
   unfolding deeper ended_call
-  entered_keeps m None vs p = refl
-  entered_keeps m (Some f) vs p = deep_keeps program d (is_deep m.state 1) m _ _ refl
+  entered_keeps m number None vs p = refl
+  entered_keeps m number (Some f) vs p = deep_keeps program d (is_deep m.state 1) m _ _ refl
 
   built_in_keeps : (m : Machine) (k : BuiltIn) (vs : List ℕ) (p : Place)
       → comes program d (built_in m k vs p) ≡ from program d m
@@ -86,7 +86,7 @@ module _ (program : Program) (d : Does) where
   called_keeps : (m : Machine) (callee : Callee) (vs : List ℕ) (p : Place)
       → comes program d (called program m callee vs p)
       ≡ from program d m (call program d callee vs m.handlers p m.state)
-  called_keeps m (frames.Defined f) vs p = entered_keeps m (slice_get program.functions f) vs p
+  called_keeps m (frames.Defined f) vs p = entered_keeps m f (slice_get program.functions f) vs p
   called_keeps m (frames.BuiltInOf k) vs p = built_in_keeps m k vs p
 
   proceed_keeps : (m : Machine) (ss : Statements) (p : Place)

@@ -104,10 +104,10 @@ module _ (l : ℕ) where
   operate m o a b p (performing.Raises code access) = refl
   operate m o a b p (performing.Undefined a') = refl
 
-  enter : (m : Machine) (f : Option Function) (vs : List ℕ)
-      → entered (with_left l m) f vs ≡ with_left l (entered m f vs)
-  enter m None vs = refl
-  enter m (Some f) vs = unless (is_deep m.state 1) m _
+  enter : (m : Machine) (number : ℕ) (f : Option Function) (vs : List ℕ)
+      → entered (with_left l m) number f vs ≡ with_left l (entered m number f vs)
+  enter m number None vs = refl
+  enter m number (Some f) vs = unless (is_deep m.state 1) m _
 
   built : (m : Machine) (k : BuiltIn) (vs : List ℕ) (p : Place)
       → built_in (with_left l m) k vs p ≡ with_left l (built_in m k vs p)
@@ -117,7 +117,7 @@ module _ (l : ℕ) where
 
   calls : (program : Program) (m : Machine) (callee : Callee) (vs : List ℕ) (p : Place)
       → called program (with_left l m) callee vs p ≡ with_left l (called program m callee vs p)
-  calls program m (frames.Defined f) vs p = enter m (slice_get program.functions f) vs
+  calls program m (frames.Defined f) vs p = enter m f (slice_get program.functions f) vs
   calls program m (frames.BuiltInOf k) vs p = built m k vs p
 
   ask_by : (m : Machine) (f : Filter) (h : Handler) (level : ℕ) (exc : Exception) (p : Place)

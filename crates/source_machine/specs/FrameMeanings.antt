@@ -42,7 +42,7 @@ below (suc k) hs = found (slice_get hs k) (below k hs)
 module _ (program : Program) (d : Does) where
   abbrev pub call : Callee → List ℕ → List Handler → Place → State → Outcome
   call (frames.Defined f) vs hs p st =
-      enter d (slice_get program.functions f) vs (context_at hs p) st
+      enter d f (slice_get program.functions f) vs (context_at hs p) st
   call (frames.BuiltInOf k) vs hs p st = call_built_in d k vs (context_at hs p) st
 
   abbrev pub iterate_for : ForLoop → List Handler → Place → State → Outcome

@@ -18,7 +18,7 @@ use Rattle.source_meaning.specs.declared.ended.Ended.TheVariants.{Unhandled, Und
 use Rattle.source_meaning.specs.Source.{is_reserved}
 use Rattle.source_meaning.specs.State.{Exception, State, Result, Value, Normal, Returned, Broke, Continued}
 use Rattle.source_meaning.specs.State.{LeftTry, Target, End, local_of, set_local, set_memory, emit, hold}
-use Rattle.source_meaning.specs.State.{let_go, depth}
+use Rattle.source_meaning.specs.State.{let_go, depth, with_activation, with_outermost}
 use Rattle.source_meaning.specs.Tasks as tasks
 use Rattle.source_meaning.specs.Tasks.{Handler, Task}
 use Rattle.source_meaning.specs.Expressions.{of_test, no_exception, raised}
@@ -126,15 +126,12 @@ operated m o a b p (performing.Undefined a') = over m (End (Some (Undefined a'))
 
 -- ---- calls
 
-abbrev pub entered : Machine → Option Function → List ℕ → Machine
-entered m None vs = with_next m (Give (Value 0))
-entered m (Some f) vs =
+abbrev pub entered : Machine → ℕ → Option Function → List ℕ → Machine
+entered m number None vs = with_next m (Give (Value 0))
+entered m number (Some f) vs =
     let n = length m.state.frames in
     unless_deep (is_deep m.state 1) m
-    (follow (at_state m (record m.state {
-      frames = m.state.frames
-          ++ (vs ++ replicate (length f.locals) 0) ∷ [];
-    }))
+    (follow (at_state m (with_activation number (vs ++ replicate (length f.locals) 0) m.state))
     (Push (EndsCall n) (frames.Proceed f.body (record {
       activation = n;
       exception = no_exception;
@@ -154,7 +151,7 @@ built_in m RaiseException vs p =
     (Start (tasks.Raise (raised (get_or vs 0 0) (get_or vs 1 0))) p))
 
 abbrev pub called : Program → Machine → Callee → List ℕ → Place → Machine
-called program m (frames.Defined f) vs p = entered m (slice_get program.functions f) vs
+called program m (frames.Defined f) vs p = entered m f (slice_get program.functions f) vs
 called program m (frames.BuiltInOf k) vs p = built_in m k vs p
 
 -- ---- statements
@@ -216,12 +213,12 @@ finished m k last p how =
     follow m (Push (Sequel (frames.GivesResult how)) (Start (tasks.RunFinally k last true) p))
 
 abbrev pub with_activations : Machine → ℕ → Machine
-with_activations m n = at_state m (record m.state { frames = take n m.state.frames })
+with_activations m n = at_state m (with_outermost n m.state)
 
 -- an activation that a target leaves counts in the depth until that lands
 abbrev pub left_by_target : Machine → ℕ → Machine
 left_by_target m n =
-    at_state m (record m.state { frames = take n m.state.frames; held = m.state.held + 1 })
+    at_state m (with_outermost n (record m.state { held = m.state.held + 1 }))
 
 abbrev pub left_call : Machine → ℕ → Result → Machine
 left_call m n (End e) = with_next m (Give (End e))

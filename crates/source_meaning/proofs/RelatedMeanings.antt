@@ -80,10 +80,10 @@ module _ (R : Relation) (program : Program) (f g : Does) (alike : Related R f g)
   all_go (Then s ss) context =
       λ a st l n. then_go R _ _ (all_go ss context) a _ _ _ (alike (Run s) context a st l n)
 
-  pub enter_go : (fn : Option Function) (vs : List ℕ) (context : Context)
-      → Go R (enter f fn vs context) (enter g fn vs context)
-  enter_go None vs context = give R (Value 0)
-  enter_go (Some fn) vs context = λ a st l n.
+  pub enter_go : (number : ℕ) (fn : Option Function) (vs : List ℕ) (context : Context)
+      → Go R (enter f number fn vs context) (enter g number fn vs context)
+  enter_go number None vs context = give R (Value 0)
+  enter_go number (Some fn) vs context = λ a st l n.
       deeper_go R 1 _ _ (λ a st l n. ended_go R (length st.frames) a _ _ _
       (all_go fn.body _ a _ l n)) a st l n
 
@@ -143,7 +143,7 @@ module _ (R : Relation) (program : Program) (f g : Does) (alike : Related R f g)
       λ a st l n. value_go R _ _ (λ x. alike (Eval e') context) a _ _ _
       (alike (Eval e) context a st l n)
   node_go (nodes.Call fn es) context =
-      each_go es context _ _ (λ vs. enter_go (slice_get program.functions fn) vs context)
+      each_go es context _ _ (λ vs. enter_go fn (slice_get program.functions fn) vs context)
   node_go (nodes.CallBuiltIn k es) context = each_go es context _ _ (λ vs. built_in_go k vs context)
   node_go nodes.ExceptionCode context = give R (Value _)
   node_go (nodes.Information field) context = give R (Value _)

@@ -1,8 +1,8 @@
 -- A relation between what two meanings come to, from states that differ in the steps that are left,
 -- and how it goes through what is done with an outcome.
 use Rattle.std.proofs.Common.{◌≡◌, ℕ, ◌+◌, List, [], ◌∷◌, ◌++◌, Some, None, refl}
-use Rattle.std.specs.Prelude.{Bool, true, false, nat_lt, nat_eq, take}
-use Rattle.source_meaning.specs.Words.{Event, Deep, Exception, State, Result, Value, Normal, Returned, Broke, Continued, LeftTry, Target, End, Outcome, Gives, choose, depth, deeper, with_value, and_then, ended_call, in_loop, landing, finally_after}
+use Rattle.std.specs.Prelude.{Bool, true, false, nat_lt, nat_eq}
+use Rattle.source_meaning.specs.Words.{Event, Deep, Exception, State, Result, Value, Normal, Returned, Broke, Continued, LeftTry, Target, End, Outcome, Gives, choose, depth, deeper, with_value, and_then, ended_call, in_loop, landing, finally_after, with_outermost}
 
 abbrev pub with_left : ℕ → State → State
 with_left l st = record st { steps_left = l }
@@ -131,12 +131,11 @@ module _ (R : Relation) where
       → R.out a st.events (ended_call d (Gives how st)) (ended_call d (Gives how (with_left l st)))
   unfolding ended_call
   ended_cases d a (End e) st l n = give (End e) a st l n
-  ended_cases d a Normal st l n = give (Value 0) a (record st { frames = take d st.frames }) l n
-  ended_cases d a (Returned v) st l n =
-      give (Value v) a (record st { frames = take d st.frames }) l n
+  ended_cases d a Normal st l n = give (Value 0) a (with_outermost d st) l n
+  ended_cases d a (Returned v) st l n = give (Value v) a (with_outermost d st) l n
   ended_cases d a (Target to exc) st l n =
-      give (Target to exc) a (record st { frames = take d st.frames; held = st.held + 1 }) l n
-  ended_cases d a how st l n = give how a (record st { frames = take d st.frames }) l n
+      give (Target to exc) a (with_outermost d (record st { held = st.held + 1 })) l n
+  ended_cases d a how st l n = give how a (with_outermost d st) l n
 
   pub ended_go : (d : ℕ) (a : Bool) (es : List Event) (o o' : Outcome) → R.out a es o o'
       → R.out a es (ended_call d o) (ended_call d o')

@@ -130,14 +130,15 @@ never_rises program task context st =
     context st (omega arith)).low
 
 -- a whole call under a bound above the steps that are left
-pub enters_within : (program : Program) (m : ℕ) (fn : Option Function) (vs : List ℕ)
+pub enters_within : (program : Program) (m number : ℕ) (fn : Option Function) (vs : List ℕ)
     (context : Context) (st : State) → st.steps_left ≤ m
-    → enter (does program) fn vs context st ≡ enter (within program m) fn vs context st
+    → enter (does program) number fn vs context st
+    ≡ enter (within program m) number fn vs context st
 unfolding same_relation
-enters_within program m fn vs context st low =
+enters_within program m number fn vs context st low =
     (enter_go (same_relation m) program (does program) (within program m)
-    (alike_of m (does program) (within program m) does_within) fn vs context true st st.steps_left
-    (refl, low)).eq
+    (alike_of m (does program) (within program m) does_within) number fn vs context true st
+    st.steps_left (refl, low)).eq
   where
     does_within : SameDoes m (does program) (within program m)
     does_within task context st low =

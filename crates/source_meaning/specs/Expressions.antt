@@ -1,7 +1,7 @@
 -- What expressions do, given what the tasks inside them do (C11, 6.5). Operands are evaluated from
 -- left to right.
 use Rattle.std.specs.Prelude.{ℕ, ◌+◌, ◌*◌, ◌%◌, Bool, false, not, nat_eq, if◌then◌else◌, List}
-use Rattle.std.specs.Prelude.{[], ◌∷◌, ◌++◌, length, slice_get, get_or, take, replicate, pos}
+use Rattle.std.specs.Prelude.{[], ◌∷◌, ◌++◌, length, slice_get, get_or, replicate, pos}
 use Rattle.std.specs.Prelude.{int_div, Option, Some, None, is_some}
 use Rattle.seh_num.specs.declared.width.Width.{Width}
 use Rattle.seh_num.specs.declared.width.Width.TheVariants.{W8, W16, W32, W64}
@@ -33,7 +33,7 @@ use Rattle.source_meaning.specs.declared.ended.Ended.TheVariants.{Undefined}
 use Rattle.source_meaning.specs.Source.{is_reserved}
 use Rattle.source_meaning.specs.State.{Exception, State, Value, Normal, Returned, Target, End, Outcome}
 use Rattle.source_meaning.specs.State.{Gives, choose, local_of, set_local, set_memory, emit, deeper}
-use Rattle.source_meaning.specs.State.{with_value, and_then}
+use Rattle.source_meaning.specs.State.{with_value, and_then, with_activation, with_outermost}
 use Rattle.source_meaning.specs.Tasks.{Context, Eval, Locate, Run, Raise, Retry, Does}
 
 -- ---- values
@@ -151,20 +151,20 @@ all does (Then s ss) context st = and_then (does (Run s) context st) (λ st. all
 -- until that lands; an end of the program goes out at once
 unfoldable pub ended_call : ℕ → Outcome → Outcome
 ended_call n (Gives (End e) st) = Gives (End e) st
-ended_call n (Gives Normal st) = Gives (Value 0) (record st { frames = take n st.frames })
-ended_call n (Gives (Returned v) st) = Gives (Value v) (record st { frames = take n st.frames })
+ended_call n (Gives Normal st) = Gives (Value 0) (with_outermost n st)
+ended_call n (Gives (Returned v) st) = Gives (Value v) (with_outermost n st)
 ended_call n (Gives (Target to exc) st) =
-    Gives (Target to exc) (record st { frames = take n st.frames; held = st.held + 1 })
-ended_call n (Gives how st) = Gives how (record st { frames = take n st.frames })
+    Gives (Target to exc) (with_outermost n (record st { held = st.held + 1 }))
+ended_call n (Gives how st) = Gives how (with_outermost n st)
 
 abbrev pub no_exception : Exception
 no_exception = record { code = 0; flag = false; access = None }
 
--- a function's body under the handlers of the call, in an activation of its own, whose locals are 0
--- beside the parameters
-abbrev pub enter : Does → Option Function → List ℕ → Context → State → Outcome
-enter does None vs context st = Gives (Value 0) st
-enter does (Some f) vs context st =
+-- the body of the function of this number, under the handlers of the call, in an activation of its
+-- own, whose locals are 0 beside the parameters
+abbrev pub enter : Does → ℕ → Option Function → List ℕ → Context → State → Outcome
+enter does number None vs context st = Gives (Value 0) st
+enter does number (Some f) vs context st =
     deeper 1 st (λ st. ended_call (length st.frames) (all does f.body
     (record {
       handlers = context.handlers;
@@ -172,7 +172,7 @@ enter does (Some f) vs context st =
       exception = no_exception;
       abnormal = false;
     })
-    (record st { frames = st.frames ++ (vs ++ replicate (length f.locals) 0) ∷ [] })))
+    (with_activation number (vs ++ replicate (length f.locals) 0) st)))
 
 abbrev pub call_built_in : Does → BuiltIn → List ℕ → Context → State → Outcome
 call_built_in does Put vs context st =
@@ -236,7 +236,7 @@ node program does (nodes.Conditional c e f) context st =
 node program does (nodes.Comma e f) context st =
     with_value (does (Eval e) context st) (λ x st. does (Eval f) context st)
 node program does (nodes.Call f es) context st =
-    each does es context st (λ vs st. enter does (slice_get program.functions f) vs context st)
+    each does es context st (λ vs st. enter does f (slice_get program.functions f) vs context st)
 node program does (nodes.CallBuiltIn k es) context st =
     each does es context st (λ vs st. call_built_in does k vs context st)
 node program does nodes.ExceptionCode context st = Gives (Value context.exception.code) st

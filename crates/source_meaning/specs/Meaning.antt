@@ -51,6 +51,7 @@ start program n =
       steps_left = n;
       memory = first_memory program.globals;
       frames = [];
+      functions = [];
       held = 0;
       events = [];
     }
@@ -70,7 +71,7 @@ main_arguments (Some f) arg = for_parameters f.parameters (wrapped W64 arg)
 abbrev pub ran : Program → ℤ → ℕ → Outcome
 ran program arg n =
     let main = slice_get program.functions program.main in
-    enter (does program) main (main_arguments main arg) outside (start program n)
+    enter (does program) program.main main (main_arguments main arg) outside (start program n)
 
 -- the events within some steps, and the end, if it is within them too
 abbrev pub shows : Outcome → Shown Ended

@@ -1,5 +1,5 @@
 -- The states that a program goes through, and what a part of it comes to.
-use Rattle.std.specs.Prelude.{ℕ, ◌+◌, ◌-◌, Bool, true, false, nat_lt, List, [], ◌∷◌, ◌++◌, length}
+use Rattle.std.specs.Prelude.{ℕ, ◌+◌, ◌-◌, Bool, true, false, nat_lt, List, [], ◌∷◌, ◌++◌, length, take}
 use Rattle.std.specs.Prelude.{slice_index, slice_set, slice_get, Option, Some, None}
 use Rattle.seh_num.specs.declared.event.Event.{Event}
 use Rattle.flat_memory.specs.Memory.{Memory}
@@ -14,13 +14,15 @@ pub record Exception : Type 0 where
   pub flag : Bool
   pub access : Option (Bool × ℕ)
 
--- the steps that are left; memory; the live activations' locals, outermost first; what is held of
--- the depth beside them: 2 for each filter and `__finally` block that runs, or that a target has
--- left, and 1 for each activation that a target has left, until the target lands; the events so far
+-- the steps that are left; memory; the live activations' locals, outermost first, and their
+-- functions; what is held of the depth beside them: 2 for each filter and `__finally` block that
+-- runs, or that a target has left, and 1 for each activation that a target has left, until the
+-- target lands; the events so far
 pub record State : Type 0 where
   pub steps_left : ℕ
   pub memory : Memory
   pub frames : List (List ℕ)
+  pub functions : List ℕ
   pub held : ℕ
   pub events : List Event
 
@@ -53,6 +55,15 @@ local_of st k x = slice_index (frame_of st k) x
 
 abbrev pub set_local : State → ℕ → ℕ → ℕ → State
 set_local st k x v = record st { frames = slice_set st.frames k (slice_set (frame_of st k) x v) }
+
+-- with an activation of this function, with these locals
+abbrev pub with_activation : ℕ → List ℕ → State → State
+with_activation f locals st =
+    record st { frames = st.frames ++ locals ∷ []; functions = st.functions ++ f ∷ [] }
+
+-- with the outermost so many activations alone
+abbrev pub with_outermost : ℕ → State → State
+with_outermost n st = record st { frames = take n st.frames; functions = take n st.functions }
 
 abbrev pub set_memory : State → Memory → State
 set_memory st memory = record st { memory = memory }

@@ -6,7 +6,7 @@ unfoldable pub use Rattle.source_meaning.specs.Expressions.{ended_call}
 pub use Rattle.source_meaning.specs.Laws.{IsPrefixOf, ShowsMore, EndStays, CalmBefore, EventsGrow, DoesIs, NeverRises}
 pub use Rattle.source_meaning.specs.Meaning.{perform, within, start, outside, main_arguments, ran, shows, meaning, is_calm, does}
 unfoldable pub use Rattle.source_meaning.specs.Meaning.{computed}
-pub use Rattle.source_meaning.specs.State.{State, Result, Value, End, Outcome, Gives, how_of, state_of, Exception, Normal, Returned, Broke, Continued, LeftTry, Target, set_memory, depth}
+pub use Rattle.source_meaning.specs.State.{State, Result, Value, End, Outcome, Gives, how_of, state_of, Exception, Normal, Returned, Broke, Continued, LeftTry, Target, set_memory, depth, with_activation, with_outermost}
 unfoldable pub use Rattle.source_meaning.specs.State.{choose, deeper, with_value, and_then}
 pub use Rattle.source_meaning.specs.Statements.{optional, declare, declare_each, statement, for_iteration, do_iteration}
 unfoldable pub use Rattle.source_meaning.specs.Statements.{in_loop, landing, finally_after}

@@ -5,7 +5,7 @@ ghost use Rattle.seh_num.specs.Widths.{limit, low};
 ghost use Rattle.c_operations.specs.Numbers as spec;
 
 use c_operations::operation::{Pure, Relation, Signedness, Size};
-use seh_num::extension::{sign_extend, wrap, zero_extend};
+use seh_num::extension::{sign_extend, truncate, wrap, zero_extend};
 use seh_num::width::Width;
 
 /// The width of a size.
@@ -28,13 +28,6 @@ pub fn extended(signedness: Signedness, from: Width, to: Width, number: u64) -> 
     }
 }
 
-/// A number modulo 2 to the width.
-fn kept(width: Width, number: u128) -> u64
-    ensures { result ≡ low width number }
-{
-    (number % width.limit()) as u64
-}
-
 fn complement(width: Width, number: u64) -> u64
     requires { number < limit width }
     ensures { result ≡ limit width - 1 - number }
@@ -45,14 +38,14 @@ fn complement(width: Width, number: u64) -> u64
 fn sum(width: Width, first: u64, second: u64) -> u64
     ensures { result ≡ low width (first + second) }
 {
-    kept(width, u128::from(first) + u128::from(second))
+    truncate(width, u128::from(first) + u128::from(second))
 }
 
 fn difference(width: Width, first: u64, second: u64) -> u64
     requires { second < limit width }
     ensures { result ≡ low width (first + (limit width - second)) }
 {
-    kept(
+    truncate(
         width,
         u128::from(first) + (width.limit() - u128::from(second)),
     )
@@ -61,7 +54,7 @@ fn difference(width: Width, first: u64, second: u64) -> u64
 fn product(width: Width, first: u64, second: u64) -> u64
     ensures { result ≡ low width (first * second) }
 {
-    kept(width, u128::from(first) * u128::from(second))
+    truncate(width, u128::from(first) * u128::from(second))
 }
 
 /// A count of bits, modulo those of a size.
@@ -88,7 +81,7 @@ fn shifted_left(width: Width, number: u64, count: u64) -> u64
     requires { count < 64 }
     ensures { result ≡ low width (number * 2 ^ count) }
 {
-    kept(width, u128::from(number) * power(count))
+    truncate(width, u128::from(number) * power(count))
 }
 
 fn shifted_right(signedness: Signedness, width: Width, number: u64, count: u64) -> u64
@@ -104,7 +97,7 @@ fn shifted_right(signedness: Signedness, width: Width, number: u64, count: u64) 
             if u128::from(number) < limit / 2 {
                 quotient as u64
             } else {
-                kept(width, quotient + (limit - limit / divisor))
+                truncate(width, quotient + (limit - limit / divisor))
             }
         }
     }

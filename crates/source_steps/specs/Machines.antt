@@ -18,6 +18,7 @@ state_of m es =
       steps_left = m.steps_left;
       memory = memory_of m.memory;
       frames = frames_of m.activations;
+      functions = m.functions.items;
       held = m.held;
       events = es;
     }

@@ -60,9 +60,14 @@ fn raised(code: u64, flags: u64) -> Exception
 }
 
 impl<'p> Machine<'p> {
-    /// A function's body in an activation of its own.
-    fn enter(&mut self, function: &'p Function, values: Vec<u64>) -> Result<Next<'p>, AllocError>
-        ensures { IfOk result (Moved self.old self.new (λ m. model.entered m (Some
+    /// The body of the function of this number, in an activation of its own.
+    fn enter(
+        &mut self,
+        number: u64,
+        function: &'p Function,
+        values: Vec<u64>,
+    ) -> Result<Next<'p>, AllocError>
+        ensures { IfOk result (Moved self.old self.new (λ m. model.entered m number (Some
             (programs.function function.now)) values.items)) }
     {
         if self.is_deep(1) {
@@ -71,6 +76,7 @@ impl<'p> Machine<'p> {
         let activation = self.activations.len();
         let locals = with_zeros(values, function.locals.len())?;
         self.activations.push(locals)?;
+        self.functions.push(number)?;
         self.push(ContinuationFrame::Waits(Waiting::EndsCall(activation)))?;
         let place = Place {
             activation,
@@ -125,7 +131,7 @@ impl<'p> Machine<'p> {
             Callee::BuiltIn(function) => self.call_built_in(function, &values, place),
             Callee::Defined(index) => match program.functions.get(index as usize) {
                 None => Ok(silent(Next::Does(Action::Give(Completion::Value(0))))),
-                Some(function) => Ok(silent(self.enter(function, values)?)),
+                Some(function) => Ok(silent(self.enter(index, function, values)?)),
             },
         }
     }

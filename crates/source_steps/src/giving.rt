@@ -64,6 +64,7 @@ impl<'p> Machine<'p> {
             (views.result_of how))) }
     {
         self.activations.truncate(count);
+        self.functions.truncate(count);
         match how {
             Completion::Normal => Ok(Next::Does(Action::Give(Completion::Value(0)))),
             Completion::Returned(value) => Ok(Next::Does(Action::Give(Completion::Value(value)))),

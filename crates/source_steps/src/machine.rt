@@ -30,6 +30,8 @@ pub struct Machine<'p> {
     pub memory: PageMap,
     /// The locals of the live activations, the outermost first.
     pub activations: Activations,
+    /// The function of each of them, by its number.
+    pub functions: Vec<u64>,
     /// What is held of the depth beside the live activations: 2 for each filter and `__finally`
     /// block that runs, or that a target has left, and 1 for each activation that one has left,
     /// until it lands.

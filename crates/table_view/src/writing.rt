@@ -16,6 +16,7 @@ use arrayvec::ArrayVec;
 use eh_tables::{Entry, Info, MOST_INFO_BYTES, TableErr, Tables};
 use pe_image::ImageView;
 use seh_io::line::Line;
+use seh_io::names::NoNames;
 use seh_io::receiver::Lines;
 use seh_io::sink::Sink;
 use seh_io::writing::WriteFault;
@@ -174,7 +175,7 @@ pub fn view<O: Sink>(image: &ImageView<'_>, sink: &mut O) -> Result<(), WriteFau
     ensures cause { OnErr result (Rose (O.faults sink.old) (O.faults sink.new)) }
     ensures faults { O.faults sink.old ≤ O.faults sink.new }
 {
-    let mut lines = Lines::new(sink, false);
+    let mut lines = Lines::new(sink, false, &NoNames);
     put_table(&mut lines, image);
     lines.outcome()
 }

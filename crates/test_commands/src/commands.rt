@@ -23,6 +23,13 @@ exec --trace --trace
 exec --arg 1 --arg 1
 exec --loud
 exec -h
+selftest
+selftest one
+selftest -1
+selftest 01
+selftest 9223372036854775808
+selftest 1 2
+selftest 1 --turns 1
 --help
 help
 --version

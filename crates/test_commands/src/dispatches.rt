@@ -25,17 +25,12 @@ fn dispatches_are_shown(rt: HostRuntime) {
 /// table's count, is in `.data`.
 const HARMED: &str = r"
 exec | harms_kind | 13 stopped BadRecord 00000000707FF990
-exec | harms_mark | 13 stopped BadRecord 00000000707FF990
 exec | harms_row | 13 stopped BadRecord 00000000707FF990
-exec | harms_saved_state | 13 stopped Backward 00000000707FF990
 exec | returns_as_filter | 13 stopped BadRecord 00000000707FFFD8
 exec | returns_as_finally | 13 stopped BadRecord 00000000707FFFD8
 exec | unwinds_to_no_frame | 13 stopped LostFrame 0000000000000000
 exec | raises_at_the_guard | 11 stack limit 000000006FFFFFD8
 exec | pushes_at_address_8 | 11 stack limit FFFFFFFFFFFFF9D8
-exec | pushes_alone | 11 stack limit FFFFFFFFFFFFF9D8
-exec | compiled void g(void){ RaiseException(0xE0000001,0,0,0); } int main(void){ __try{ g(); } __except(1){ put(1); } return 0; } | 0 1 / exit 0
-exec | compiled void g(void){ RaiseException(0xE0000001,0,0,0); } int main(void){ __try{ g(); } __except(1){ put(1); } return 0; } @ file+2084 00 10 00 00 | 13 stopped Illegal 0000000140001000
 ";
 
 #[test]

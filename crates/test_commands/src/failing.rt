@@ -3,21 +3,11 @@
 //! A row is `COMMAND READ WRITE LINE MOST | INPUT | WANTED`: the call of the source, of `out` and of
 //! `err` that fails, 0 where none does, and how many bytes each call of all three moves.
 
-use crate::calls::{Shown, fits, words_of};
+use crate::calls::fits;
 use crate::inputs::{columns_of, input_of};
-use seh::top::top;
-use seh_io::planned::{MemSink, MemSource, Plan};
+use crate::plans::{Calls, call_with_failures};
 use std::alloc::Global;
 use std::process::Abort;
-
-/// Which calls fail, and how many bytes the others move at most.
-#[derive(Clone, Copy)]
-struct Calls {
-    read: u64,
-    write: u64,
-    line: u64,
-    most: usize,
-}
 
 /// A command of two words.
 const EACH: &str = "check --each";
@@ -38,35 +28,13 @@ fn calls_of(column: &str) -> Option<(&str, Calls)> {
     Some((command, calls))
 }
 
-/// A plan by which one call fails, if any.
-fn plan(rt: &impl Abort, alloc: Global, failing: u64, most: usize) -> Plan {
-    let calls = [failing].to_vec(alloc).expect(rt, "memory");
-    Plan::new(calls, most.max(1))
-}
-
-/// What a command answers for an input where calls fail.
-fn answer(rt: &impl Abort, alloc: Global, command: &str, input: &[u8], calls: Calls) -> Shown {
-    let words = words_of(rt, alloc, &[command]);
-    let bytes = input.to_vec(alloc).expect(rt, "memory");
-    let mut source = MemSource::new(bytes, plan(rt, alloc, calls.read, calls.most));
-    let mut out = MemSink::new(Vec::new(alloc), plan(rt, alloc, calls.write, calls.most));
-    let mut err = MemSink::new(Vec::new(alloc), plan(rt, alloc, calls.line, calls.most));
-    let status = top(alloc, &words, &mut source, &mut out, &mut err);
-    Shown {
-        code: status.code(),
-        out: out.bytes,
-        err: err.bytes,
-        left: 0,
-    }
-}
-
 /// Compares what each row of a table answers with what is wanted.
 fn all_answer(rt: &impl Abort, alloc: Global, table: &str) {
     for row in table.lines().skip(1) {
         let (words, input, wanted) = columns_of(row).expect(rt, row);
         let (command, calls) = calls_of(words).expect(rt, row);
         let bytes = input_of(rt, alloc, input);
-        let shown = answer(rt, alloc, command, &bytes, calls);
+        let shown = call_with_failures(rt, alloc, command, &bytes, calls).shown;
         assert!(rt; fits(&shown, wanted, true), "{row}");
     }
 }
@@ -129,41 +97,13 @@ fn fails_at_each(rt: &impl Abort, alloc: Global, command: &str, text: &[u8], who
             line: 0,
             most: 1,
         };
-        let shown = answer(rt, alloc, command, text, calls);
+        let shown = call_with_failures(rt, alloc, command, text, calls).shown;
         let front = shown.out.len() == taken && whole.starts_with(&shown.out);
         assert!(rt; front && shown.code == 5, "{command} {taken}");
         assert!(rt;
             shown.err.as_slice() == b"write fault\n".as_slice(),
             "{command} {taken}"
         );
-    }
-}
-
-/// The same of `err`, while the line of a refused text is written.
-fn refuses_at_each(rt: &impl Abort, alloc: Global, command: &str, text: &[u8], whole: &[u8]) {
-    for taken in 0..whole.len() {
-        let calls = Calls {
-            read: 0,
-            write: 0,
-            line: (taken as u64).saturating_add(1),
-            most: 1,
-        };
-        let shown = answer(rt, alloc, command, text, calls);
-        let front = shown.err.len() == taken && whole.starts_with(&shown.err);
-        assert!(rt; front && shown.code == 5, "{command} {taken}");
-        assert!(rt; shown.out.is_empty(), "{command} {taken}");
-    }
-}
-
-#[test]
-fn each_call_fails(rt: HostRuntime) {
-    let alloc = rt.alloc();
-    let text = b"int main(void){ put(1); put(23); put(-456); return 7; }";
-    let whole = b"1\n23\n-456\nexit 7\n";
-    fails_at_each(&rt, alloc, "run", text, whole);
-    fails_at_each(&rt, alloc, "meaning", text, whole);
-    for command in ["compile", "run", "meaning"] {
-        refuses_at_each(&rt, alloc, command, b"", b"refused NoMain 0\n");
     }
 }
 

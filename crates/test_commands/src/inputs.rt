@@ -2,7 +2,8 @@
 //!
 //! A row is `WORDS | INPUT | WANTED`. An input is `text` with a text of C, `compiled` with a text,
 //! for the image of it, `bytes` with bytes, `code` with the bytes of the code of an image of one
-//! section, or the name of an image. After it come changes, each after ` @ `: `cut` with the length
+//! section, `infos` with the bytes of unwind infos, which are at 0x3000, and `chain` with the number
+//! of such infos, of which each but the last is chained to the next one; or the name of an image. After it come changes, each after ` @ `: `cut` with the length
 //! to which it is cut, or a place `PART+DISTANCE`, the distance in decimal, and the bytes that are
 //! put there. A word of bytes is two digits, `TIMES*BYTE`, or a name after `'`; what comes after any
 //! other word on a line isn't read.
@@ -17,7 +18,7 @@ use test_tables::forged::{
 };
 use test_tables::handled::{continued_access, filter_and_finally, raise_in_finally};
 use test_tables::one_section::{ENDLESS, FOURTEEN, OPTIONAL, PLAIN, SIGNATURE, TABLE, image};
-use test_tables::tables::put;
+use test_tables::tables::{ENTRY, put, table_image};
 
 /// An image of three unwind infos, which are at 0x3000, each of eight bytes, and after them, at
 /// 0x3018, a function table that counts the first two of three entries.
@@ -139,6 +140,19 @@ fn spelled(rt: &impl Abort, alloc: Global, text: &str) -> Vec<u8> {
     bytes
 }
 
+/// So many infos, of which each but the last is chained to the next one. Each of those has 16 bytes.
+fn chain(rt: &impl Abort, alloc: Global, count: &str) -> Vec<u8> {
+    let mut infos = Vec::new(alloc);
+    for next in 1..count.parse::<u8>().unwrap_or(1) {
+        let begin = [0x21, 0, 0, 0, 0, 0x20, 0, 0, 0x20, 0x20, 0, 0];
+        let parent = [next % 16 * 16, 0x30 + next / 16, 0, 0];
+        infos.extend_from_slice(&begin).expect(rt, "memory");
+        infos.extend_from_slice(&parent).expect(rt, "memory");
+    }
+    infos.extend_from_slice(&[1, 0, 0, 0]).expect(rt, "memory");
+    infos
+}
+
 /// The image of this name whose code harms the records of the dispatcher.
 fn forged(alloc: Global, name: &str) -> Result<Vec<u8>, AllocError> {
     match name {
@@ -179,6 +193,8 @@ fn unchanged(rt: &impl Abort, alloc: Global, input: &str) -> Vec<u8> {
         "framed" => spelled(rt, alloc, FRAMED),
         "foreign" => spelled(rt, alloc, FOREIGN),
         "importing" => spelled(rt, alloc, IMPORTING),
+        "infos" => table_image(alloc, &spelled(rt, alloc, rest), &ENTRY).expect(rt, "memory"),
+        "chain" => table_image(alloc, &chain(rt, alloc, rest), &ENTRY).expect(rt, "memory"),
         "code" => image(alloc, PLAIN, &spelled(rt, alloc, rest)).expect(rt, "memory"),
         _ => named(alloc, kind).expect(rt, "memory"),
     }
@@ -223,12 +239,16 @@ pub fn columns_of(row: &str) -> Option<(&str, &str, &str)> {
     Some((words, input, wanted))
 }
 
-/// Compares what the words of each row of a table answer for its input with what is wanted. The
-/// table is one text, with a row in each line after its first.
+/// Compares what the words of a row answer for its input with what is wanted.
+pub fn row_answers(rt: &impl Abort, alloc: Global, row: &str) {
+    let (words, input, wanted) = columns_of(row).expect(rt, row);
+    let bytes = input_of(rt, alloc, input);
+    answers(rt, alloc, words, &bytes, wanted);
+}
+
+/// The same of each row of a table. The table is one text, with a row in each line after its first.
 pub fn all_answer(rt: &impl Abort, alloc: Global, table: &str) {
     for row in table.lines().skip(1) {
-        let (words, input, wanted) = columns_of(row).expect(rt, row);
-        let bytes = input_of(rt, alloc, input);
-        answers(rt, alloc, words, &bytes, wanted);
+        row_answers(rt, alloc, row);
     }
 }

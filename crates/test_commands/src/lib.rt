@@ -11,7 +11,11 @@ mod checks;
 #[cfg(test)]
 mod commands;
 #[cfg(test)]
+mod damaged;
+#[cfg(test)]
 mod dispatches;
+#[cfg(test)]
+mod each_call;
 #[cfg(test)]
 mod failing;
 #[cfg(test)]
@@ -19,7 +23,11 @@ mod images;
 #[cfg(test)]
 mod inputs;
 #[cfg(test)]
+mod plans;
+#[cfg(test)]
 mod runs;
+#[cfg(test)]
+mod selftests;
 #[cfg(test)]
 mod texts;
 #[cfg(test)]

@@ -2,7 +2,7 @@
 //! what it compares is proved anew wherever it stands, so that each kind stands once here.
 
 use crate::rows::{bytes_of, number};
-use pe_image::Import;
+use pe_image::Imports;
 use std::alloc::Global;
 use std::fmt::Debug;
 use std::process::Abort;
@@ -56,7 +56,7 @@ pub fn are_bytes(rt: &impl Abort, alloc: Global, found: &[u8], digits: &str) {
 
 /// Compares imports with a table, `NAME | 1 SLOT`, whose slots are relative to a base. The 1 says
 /// that the name is that one.
-pub fn are_imports(rt: &impl Abort, found: &[Import<'_>], base: u64, table: &str) {
+pub fn are_imports(rt: &impl Abort, found: Imports<'_, '_>, base: u64, table: &str) {
     let mut rows = table.lines().skip(1);
     for import in found {
         let columns = columns_of(rows.next().unwrap_or("no row"));

@@ -75,7 +75,7 @@ fn has_fields(rt: &impl Abort, view: &ImageView<'_>) {
         imports.size as u64,
         exceptions.rva as u64,
         exceptions.size as u64,
-        view.imports().len() as u64,
+        view.imports().count() as u64,
         view.sections().len() as u64,
     ];
     are(rt, &numbers, FIELDS);

@@ -8,6 +8,8 @@ mod entries;
 #[cfg(test)]
 mod headers;
 #[cfg(test)]
+mod names;
+#[cfg(test)]
 mod rows;
 #[cfg(test)]
 mod tables;

@@ -2,6 +2,7 @@
 
 ghost use Rattle.std.specs.Prelude.{◌<◌};
 
+use seh_io::names::NoNames;
 use seh_io::plain::{SliceSource, VecSink};
 use seh_io::planned::{MemSink, MemSource, Plan};
 use seh_io::reading::{ReadErr, read_all};
@@ -67,7 +68,12 @@ fn is_written(
     text: &[u8],
 ) {
     let mut out = VecSink::new(alloc);
-    same(rt, put_text(&mut out, trace, events, end), Ok(()), "a text");
+    same(
+        rt,
+        put_text(&mut out, trace, events, end, &NoNames),
+        Ok(()),
+        "a text",
+    );
     same_bytes(rt, &out.bytes, text);
 }
 
@@ -248,7 +254,7 @@ fn as_long_as_the_limit(rt: HostRuntime) {
 #[test]
 fn sink_that_takes_two_bytes(rt: HostRuntime) -> Result<(), Fail> {
     let mut out = sink(rt.alloc(), &[2], 2)?;
-    let written = put_text(&mut out, false, &EVENTS[8..], &RunEnd::Exit(7));
+    let written = put_text(&mut out, false, &EVENTS[8..], &RunEnd::Exit(7), &NoNames);
     same(&rt, written, Err(WriteFault { taken: 2 }), "a text");
     same_bytes(&rt, &out.bytes, b"14");
     same(&rt, out.plan.faults, 1, "faults");
@@ -263,7 +269,7 @@ fn has_taken(rt: &impl Abort, out: &MemSink, want: &[u8], calls: u64) {
 
 /// Gives a sink whose second call fails three events and an end.
 fn takes_no_more(rt: &impl Abort, out: &mut MemSink) {
-    let mut lines = Lines::new(out, false);
+    let mut lines = Lines::new(out, false, &NoNames);
     lines.take(&Event::Put(1));
     lines.take(&Event::Put(2));
     assert!(rt; lines.failed);
@@ -283,14 +289,14 @@ fn nothing_after_a_fault(rt: HostRuntime) -> Result<(), Fail> {
     has_taken(&rt, &out, b"1\n", 2);
     same(
         &rt,
-        put_event(&mut out, false, &Event::Filter(1)),
+        put_event(&mut out, false, &Event::Filter(1), &NoNames),
         Ok(()),
         "no line",
     );
     has_taken(&rt, &out, b"1\n", 2);
     same(
         &rt,
-        put_event(&mut out, true, &Event::Filter(1)),
+        put_event(&mut out, true, &Event::Filter(1), &NoNames),
         Ok(()),
         "a line",
     );

@@ -1,6 +1,7 @@
 -- The entries of a table that was read whole, one by one.
-use Rattle.std.proofs.Common.{◌≡◌, ℕ, zero, suc, ◌+◌, ◌^◌, ◌<◌, ◌≤◌, Bool, true, false, Option, Ok, Err, List, [], ◌∷◌, ◌++◌, length, take, drop, get_or, refl, sym, ap, subst, ◌∙◌, arith}
+use Rattle.std.proofs.Common.{◌≡◌, ℕ, zero, suc, ◌+◌, ◌^◌, ◌<◌, ◌≤◌, Bool, true, false, Option, Some, None, Ok, Err, List, [], ◌∷◌, ◌++◌, length, take, drop, get_or, refl, sym, ap, subst, ◌∙◌, arith}
 use Rattle.std.specs.Prelude.{nat_le, nat_lt}
+use Rattle.std.specs.Result.{result_ok}
 use Rattle.std.proofs.lemmas.Bool.{ltb-true}
 use Rattle.std.proofs.lemmas.List.Elements.{All-append, All-nil, All-cons}
 use Rattle.eh_tables.specs.declared.range.RuntimeFunction.{RuntimeFunction}
@@ -212,11 +213,22 @@ one_more c es k e is all keeps =
     (All-append (IsKept c) (take k es) (e ∷ []) all
     (All-cons (IsKept c) e [] keeps (All-nil (IsKept c))))
 
-pub entry_refused : (t : Tables) (k : ℕ) (x : TableErr) → TablesAreWhole t → k < length t.ranges
-    → Err x ≡ entry_at t k → ⊥
-entry_refused t k x w lt is = let s = at t k w lt in never (sym s.is ∙ sym is)
+-- what a look-up in a table that was read whole answers
+pub known_is : (t : Tables) (k : ℕ) (e : Entry) → Some e ≡ result_ok (entry_at t k)
+    → Ok e ≡ entry_at t k
+known_is t k e h = go (entry_at t k) h
   where
-    never : {e : Entry} → (let t : Table Entry = Ok e in t) ≡ Err x → ⊥
+    go : (r : Table Entry) → Some e ≡ result_ok r → (let u : Table Entry = Ok e in u) ≡ r
+    go (Ok x) h =
+        let same : e ≡ x = cc in
+        ap (λ (y : Entry). (let u : Table Entry = Ok y in u)) same
+    go (Err x) h = absurd cc
+
+pub none_missing : (t : Tables) (k : ℕ) → TablesAreWhole t → k < length t.ranges
+    → None ≡ result_ok (entry_at t k) → ⊥
+none_missing t k w lt is = let s = at t k w lt in never (is ∙ ap result_ok s.is)
+  where
+    never : {e : Entry} → (let o : Option Entry = None in o) ≡ Some e → ⊥
     never h = cc
 
 -- past the last

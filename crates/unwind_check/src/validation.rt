@@ -56,7 +56,7 @@ pub fn validate<S: CodeSpace>(
     }) (entries_of tables.now) v) }
 {
     for index in 0..tables.len() {
-        let Ok(entry) = tables.entry(index) else {
+        let Some(entry) = tables.known_entry(index) else {
             continue;
         };
         let verdict = entry_verdict(alloc, space, probe, &entry)?;
@@ -86,7 +86,7 @@ pub fn validate_entries<S: CodeSpace>(
 {
     let mut verdicts = Vec::new(alloc);
     for index in 0..tables.len() {
-        let Ok(entry) = tables.entry(index) else {
+        let Some(entry) = tables.known_entry(index) else {
             continue;
         };
         let verdict = entry_verdict(alloc, space, probe, &entry)?;

@@ -1,6 +1,8 @@
 //! The caller of a frame.
 
-ghost use Rattle.std.specs.Prelude.{◌≡◌, option_map};
+ghost use Rattle.std.specs.Prelude.{◌≡◌, Some, option_map};
+ghost use Rattle.seh_num.specs.Answers as answers;
+ghost use Rattle.eh_tables.specs.Covering.{unchained};
 ghost use Rattle.eh_tables.specs.Found.{function_entry};
 ghost use Rattle.eh_tables.specs.Tables.{TablesAreWhole, entries_of, holding};
 ghost use Rattle.virtual_unwind.specs.CallerOf as spec;
@@ -283,4 +285,37 @@ pub fn caller_found<S: ReadSpace>(
 {
     let rva = context.rip.wrapping_sub(tables.base());
     rising(context, of_found(tables, space, found, rva, context))
+}
+
+/// The same by an entry that is given, whose range covers `rva`, the address of RIP relative to the
+/// image base; where none is given, as of a leaf function.
+#[tactic(auto, using(crate::proofs::Past::risen_shown))]
+pub fn caller_by_entry<S: ReadSpace>(
+    space: &S,
+    entry: Option<&Entry>,
+    rva: u64,
+    context: &Context,
+) -> Result<Caller, UnwindErr>
+    ensures { result ≡ shown (answers.◌>>=◌ (spec.of_entry (S.memory space.now) context.now rva
+        (option_map (λ e. e.now) entry.entry)) (spec.rising context.now)) }
+{
+    rising(context, of_entry(space, entry, rva, context))
+}
+
+/// The same by an entry of which the own info is given, which is chained to none.
+#[tactic(auto, using(crate::proofs::Past::risen_shown))]
+pub fn caller_by_function<S: ReadSpace>(
+    space: &S,
+    function: &FunctionEntry,
+    rva: u64,
+    context: &Context,
+) -> Result<Caller, UnwindErr>
+    ensures { result ≡ shown (answers.◌>>=◌ (spec.of_entry (S.memory space.now) context.now rva
+        (Some (unchained function.now))) (spec.rising context.now)) }
+{
+    let distance = rva.saturating_sub(function.range.begin as u64);
+    rising(
+        context,
+        in_entry(space, &function.info, &[], distance, context),
+    )
 }

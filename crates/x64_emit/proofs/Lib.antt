@@ -2,3 +2,4 @@ mod Lemmas
 pub mod Rooms
 pub mod Nearby
 pub mod CheckStack
+pub mod StackWords

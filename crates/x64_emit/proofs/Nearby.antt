@@ -159,3 +159,18 @@ grown_to k y at i old new e = let l = ap length e in let t = template_sizes k y 
       length-append old (spelled (template k y at i)),
       sizes_spelled (template k y at i),
     )
+
+-- the template of one instruction, put alone
+pub one_template : (k : Links) (y : Layout) (body : List Instruction) (i at : ℕ)
+    (old new : List ℕ) → AllByRecursion (IsInstructionNear y) body → i < length body
+    → IsNear (at + code_room (drop i body)) → old ≡ []
+    → new ≡ old ++ spelled (template k y 0 (get_or body i some_instruction))
+    → IsNear (at + length new)
+one_template k y body i at old new near lt room none e =
+    let x = get_or body i some_instruction in
+    let small = instruction_in_room y x
+    (all_at (IsInstructionNear y) body i some_instruction near lt) in
+    let next = code_room_next i body some_instruction lt in
+    let g = grown_to k y 0 x old new e in
+    let z = ap length none in
+    omega arith

@@ -4,4 +4,5 @@ pub mod Linking
 pub mod Entries
 pub mod Rooms
 pub mod Bodies
+pub mod StackWords
 pub mod Words

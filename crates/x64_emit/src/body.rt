@@ -28,16 +28,16 @@ pub fn labels_of(
     ensures end { IfOk result (λ l. l.end ≡ start + body_size layout.now body.now) }
 {
     let links = Links::new(&[], 0, &[], &[], NO_THUNKS);
-    let mut scratch = Vec::new(alloc);
-    let mut starts = Vec::new(alloc);
+    let mut template = Vec::new(alloc);
+    let mut starts = Vec::with_capacity(alloc, body.len())?;
+    let mut at = start;
     for instruction in body {
-        starts.push(start + scratch.len() as u32)?;
-        put_instruction(&mut scratch, &links, layout, 0, instruction)?;
+        starts.push(at)?;
+        template.clear();
+        put_instruction(&mut template, &links, layout, 0, instruction)?;
+        at += template.len() as u32;
     }
-    Ok(Labels {
-        starts,
-        end: start + scratch.len() as u32,
-    })
+    Ok(Labels { starts, end: at })
 }
 
 /// Where the instructions of a body begin, and where it ends.

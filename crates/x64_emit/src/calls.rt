@@ -10,8 +10,9 @@ ghost use Rattle.template_code.specs.Operations as operations;
 ghost use Rattle.template_code.specs.Bytes.{spelled};
 ghost use Rattle.x64_emit.specs.Appending.{Appended};
 
-use crate::put::{RAX, above, copy, load, put, set, store};
+use crate::put::{RAX, above, copy, load, put, set};
 use crate::slots::{put_fetch, put_keep};
+use crate::stack_words::{put_load, put_store};
 use c_operations::field::Field;
 use linear_code::slot::Slot;
 use seh_num::width::Width;
@@ -106,10 +107,10 @@ fn put_arguments(code: &mut Vec<u8>, layout: &Layout, first: u64) -> Result<(), 
     ensures { OnOk result (Appended code.old (spec.arguments_code layout.now first) code.new) }
 {
     let from = layout.temporaries + 8 * first;
-    put(code, &load(Reg::Rcx, Reg::Rsp, from))?;
-    put(code, &load(Reg::Rdx, Reg::Rsp, from + 8))?;
-    put(code, &load(Reg::R8, Reg::Rsp, from + 16))?;
-    put(code, &load(Reg::R9, Reg::Rsp, from + 24))
+    put_load(code, Reg::Rcx, from)?;
+    put_load(code, Reg::Rdx, from + 8)?;
+    put_load(code, Reg::R8, from + 16)?;
+    put_load(code, Reg::R9, from + 24)
 }
 
 /// Adds what brings the arguments past the fourth to their places above the home space.
@@ -125,8 +126,8 @@ fn put_passing(
 {
     for i in 4..count {
         let from = layout.temporaries + 8 * (first + i);
-        put(code, &load(Reg::Rax, Reg::Rsp, from))?;
-        put(code, &store(Reg::Rsp, 8 * i, Reg::Rax))?;
+        put_load(code, Reg::Rax, from)?;
+        put_store(code, 8 * i, Reg::Rax)?;
     }
     Ok(())
 }
@@ -323,7 +324,7 @@ pub fn put_information(
     requires field { IsFieldNear field }
     ensures { OnOk result (Appended code.old (spec.information_code layout.now to field) code.new) }
 {
-    put(code, &load(Reg::Rax, Reg::Rsp, layout.pointers))?;
+    put_load(code, Reg::Rax, layout.pointers)?;
     put(code, &load(Reg::Rax, Reg::Rax, 0))?;
     put(code, &field_load(field))?;
     put_keep(code, layout, to)

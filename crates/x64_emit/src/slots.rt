@@ -7,6 +7,7 @@ ghost use Rattle.template_code.specs.Slots as spec;
 
 use crate::operations::{put_before, put_work};
 use crate::put::{load, put, store};
+use crate::stack_words::{put_load, put_store};
 use c_operations::operation::Operation;
 use linear_code::slot::Slot;
 use std::alloc::AllocError;
@@ -19,13 +20,13 @@ pub fn put_fetch(code: &mut Vec<u8>, layout: &Layout, to: Reg, slot: Slot) -> Re
     ensures { OnOk result (Appended code.old (spec.fetch layout.now to slot) code.new) }
 {
     match slot {
-        Slot::Temporary(i) => put(code, &load(to, Reg::Rsp, layout.temporaries + 8 * i)),
+        Slot::Temporary(i) => put_load(code, to, layout.temporaries + 8 * i),
         Slot::Local(i) => {
             let displacement = layout.locals + 8 * i;
             match layout.base {
-                None => put(code, &load(to, Reg::Rsp, displacement)),
+                None => put_load(code, to, displacement),
                 Some(base) => {
-                    put(code, &load(to, Reg::Rsp, base))?;
+                    put_load(code, to, base)?;
                     put(code, &load(to, to, displacement))
                 }
             }
@@ -40,13 +41,13 @@ pub fn put_keep(code: &mut Vec<u8>, layout: &Layout, slot: Slot) -> Result<(), A
     ensures { OnOk result (Appended code.old (spec.keep layout.now slot) code.new) }
 {
     match slot {
-        Slot::Temporary(i) => put(code, &store(Reg::Rsp, layout.temporaries + 8 * i, Reg::Rax)),
+        Slot::Temporary(i) => put_store(code, layout.temporaries + 8 * i, Reg::Rax),
         Slot::Local(i) => {
             let displacement = layout.locals + 8 * i;
             match layout.base {
-                None => put(code, &store(Reg::Rsp, displacement, Reg::Rax)),
+                None => put_store(code, displacement, Reg::Rax),
                 Some(base) => {
-                    put(code, &load(Reg::Rcx, Reg::Rsp, base))?;
+                    put_load(code, Reg::Rcx, base)?;
                     put(code, &store(Reg::Rcx, displacement, Reg::Rax))
                 }
             }

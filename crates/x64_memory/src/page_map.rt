@@ -6,7 +6,7 @@ ghost use Rattle.x64_memory.specs.Regions.{AreAscending, IsWholeRegion, HoldsAre
 ghost use Rattle.x64_memory.specs.Stretches.{AreOrdered, AreOrdered-prop, count_from, end_from, index_of, page_numbered};
 
 use crate::page::Page;
-use crate::paged::{self, Paged};
+use crate::paged::{self, Paged, ReadPages};
 use crate::region::Region;
 use crate::space::{AddressSpace, CodeSpace, ReadSpace};
 use crate::stretch::{self, Stretch};
@@ -199,7 +199,7 @@ impl PageMap {
     }
 }
 
-impl Paged for PageMap {
+impl ReadPages for PageMap {
     ghost memory = { λ s. paged (page_numbered s.stretches.items s.pages.items) };
 
     #[inline(always)]
@@ -212,7 +212,9 @@ impl Paged for PageMap {
             }
         }
     }
+}
 
+impl Paged for PageMap {
     fn put(&mut self, at: u64, width: Width, value: u64) {
         if let Some(index) = self.index(at) {
             let page = &mut self.pages[index];

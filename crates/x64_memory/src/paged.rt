@@ -14,29 +14,32 @@ use host_layout::range::{GUARD_START, PAGE, STACK_START};
 use seh_num::size::LONGEST_INSTRUCTION;
 use seh_num::width::Width;
 
-/// Memory that is kept in pages.
-pub trait Paged {
+/// Memory that is kept in pages, which is read.
+pub trait ReadPages {
     ghost memory: { Self → Memory };
 
     /// The protection at an address, and the bytes from there to the end of its page; none where no
     /// page is.
     fn rest_of_page(&self, at: u64) -> (Protection, &[u8])
         ensures { IsRestOfPage (memory self.now) at result.0 result.1.now };
+}
 
+/// Memory that is kept in pages, which is written too.
+pub trait Paged: ReadPages {
     /// Puts the low bytes of a number into one page.
     fn put(&mut self, at: u64, width: Width, value: u64)
         requires within { at % PAGE + bytes_of width ≤ PAGE }
-        requires may { may_write (memory self.old) at ≡ true }
-        ensures { memory self.new ≡ with_bytes (memory self.old)
-            (with_number (memory self.old).byte (bytes_of width) at value) };
+        requires may { may_write (Self.memory self.old) at ≡ true }
+        ensures { Self.memory self.new ≡ with_bytes (Self.memory self.old)
+            (with_number (Self.memory self.old).byte (bytes_of width) at value) };
 
     /// Puts the low bytes of a number at an address if they lie in one page that may be written.
     /// Else it answers false, and changes nothing.
     fn put_if(&mut self, at: u64, width: Width, value: u64) -> bool
-        ensures granted { result ≡ true → stored (memory self.old) at width ≡ Ok tt }
+        ensures granted { result ≡ true → stored (Self.memory self.old) at width ≡ Ok tt }
         ensures put { result ≡ true
-            → memory self.new ≡ after_store (memory self.old) at width value }
-        ensures kept { result ≡ false → memory self.new ≡ memory self.old };
+            → Self.memory self.new ≡ after_store (Self.memory self.old) at width value }
+        ensures kept { result ≡ false → Self.memory self.new ≡ Self.memory self.old };
 }
 
 fn refusal(write: bool, address: u64) -> RefusedAccess
@@ -64,7 +67,7 @@ fn little_number(bytes: &[u8], width: Width) -> u64
 }
 
 /// The byte at an address, where it may be read.
-fn byte<P: Paged>(space: &P, at: u64) -> Option<u8>
+fn byte<P: ReadPages>(space: &P, at: u64) -> Option<u8>
     ensures { result ≡ readable_byte (P.memory space.now) at }
 {
     let (protection, bytes) = space.rest_of_page(at);
@@ -81,7 +84,7 @@ fn byte<P: Paged>(space: &P, at: u64) -> Option<u8>
 /// of pages.
 #[cold]
 #[inline(never)]
-fn spread_number<P: Paged>(space: &P, at: u64, count: u64) -> Result<u64, u64>
+fn spread_number<P: ReadPages>(space: &P, at: u64, count: u64) -> Result<u64, u64>
     requires { count ≤ 8 }
     ensures value { result ≡ number_or_refused (P.memory space.now) count at }
     ensures small { IfOk result (λ v. v < 256 ^ count) }
@@ -100,7 +103,7 @@ fn spread_number<P: Paged>(space: &P, at: u64, count: u64) -> Result<u64, u64>
 
 /// The number at an address.
 #[inline(always)]
-pub fn load<P: Paged>(space: &P, at: u64, width: Width) -> Result<u64, RefusedAccess>
+pub fn load<P: ReadPages>(space: &P, at: u64, width: Width) -> Result<u64, RefusedAccess>
     ensures value { result ≡ loaded (P.memory space.now) at width }
     ensures fits { IfOk result (λ v. v < limit width) }
 {
@@ -118,7 +121,7 @@ pub fn load<P: Paged>(space: &P, at: u64, width: Width) -> Result<u64, RefusedAc
 }
 
 /// Whether the byte at an address may be written.
-fn is_writable<P: Paged>(space: &P, at: u64) -> bool
+fn is_writable<P: ReadPages>(space: &P, at: u64) -> bool
     ensures { result ≡ may_write (P.memory space.now) at }
 {
     let (protection, _) = space.rest_of_page(at);
@@ -129,7 +132,7 @@ fn is_writable<P: Paged>(space: &P, at: u64) -> bool
 #[cold]
 #[inline(never)]
 /// The first of some addresses that can't be written.
-fn first_unwritable<P: Paged>(space: &P, at: u64, count: u64) -> Option<u64>
+fn first_unwritable<P: ReadPages>(space: &P, at: u64, count: u64) -> Option<u64>
     ensures { result ≡ first_refused (may_write (P.memory space.now)) count at }
 {
     let mut here = at;
@@ -144,7 +147,7 @@ fn first_unwritable<P: Paged>(space: &P, at: u64, count: u64) -> Option<u64>
 
 /// Whether a number may be put at an address.
 #[inline(always)]
-pub fn may_store<P: Paged>(space: &P, at: u64, width: Width) -> Result<(), RefusedAccess>
+pub fn may_store<P: ReadPages>(space: &P, at: u64, width: Width) -> Result<(), RefusedAccess>
     ensures { result ≡ stored (P.memory space.now) at width }
 {
     let (protection, bytes) = space.rest_of_page(at);
@@ -209,7 +212,7 @@ pub fn store<P: Paged>(
 }
 
 /// The executable bytes from an address on, as many as there are of the longest instruction.
-pub fn fetch<P: Paged>(space: &P, at: u64, into: &mut [u8; LONGEST_INSTRUCTION]) -> usize
+pub fn fetch<P: ReadPages>(space: &P, at: u64, into: &mut [u8; LONGEST_INSTRUCTION]) -> usize
     ensures count { result ≤ LONGEST_INSTRUCTION }
     ensures bytes { take result into.new ≡ executable (P.memory space.now) LONGEST_INSTRUCTION at }
 {

@@ -12,7 +12,7 @@ use seh_num::width::Width;
 use std::alloc::{AllocError, Global};
 use std::collections::BTreeMap;
 use x64_memory::page::Page;
-use x64_memory::paged::{self, Paged};
+use x64_memory::paged::{self, Paged, ReadPages};
 use x64_memory::region::Region;
 use x64_memory::space::{AddressSpace, CodeSpace, ReadSpace};
 
@@ -116,7 +116,7 @@ impl MapSpace {
     }
 }
 
-impl Paged for MapSpace {
+impl ReadPages for MapSpace {
     ghost memory = { λ s. paged (pages_of s.pages) };
 
     fn rest_of_page(&self, at: u64) -> (Protection, &[u8]) {
@@ -125,7 +125,9 @@ impl Paged for MapSpace {
             Some(page) => (page.protection, &page.bytes[(at % PAGE) as usize..]),
         }
     }
+}
 
+impl Paged for MapSpace {
     fn put(&mut self, at: u64, width: Width, value: u64) {
         if let Some(page) = self.pages.get_mut(&(at / PAGE)) {
             let count = width.bytes() as usize;

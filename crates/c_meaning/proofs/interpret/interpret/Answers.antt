@@ -1,5 +1,6 @@
 use Rattle.std.proofs.Common.{◌++◌, refl, sym, ap, ◌∙◌, rules, w64, to_z, of_z}
 use Rattle.std.proofs.lemmas.Int.{to_z-of_z}
+use Rattle.seh_io.specs.Names.{no_names}
 use Rattle.seh_io.specs.Text.{lines}
 use Rattle.seh_io.proofs.Writers.{ran_whole, ran_part, same_grew, same_part}
 use Rattle.c_checked.specs.Whole as whole
@@ -20,9 +21,10 @@ returns-in-Err-Memory-clause-part g c =
     let end = texts.ended_line (texts.ended_within c.args.budget shown.end) in (
       w.part,
       (
-        w.begins.0 ++ (lines c.args.trace q.front.0 ++ end),
+        w.begins.0 ++ (lines c.args.trace q.front.0 no_names ++ end),
         sym text_is ∙ front_of_text c.args.trace q.shown q.front.0 shown.events end w.part
-            w.begins.0 (ap (λ b. lines b q.shown) (sym c.new-lines.ensures.trace) ∙ w.begins.1)
+            w.begins.0
+            (ap (λ b. lines b q.shown no_names) (sym c.new-lines.ensures.trace) ∙ w.begins.1)
             q.front.1,
       ),
       same_grew (g.O.Sink.taken c.new-lines.result.sink.now) (g.O.Sink.taken c.args.sink.now)

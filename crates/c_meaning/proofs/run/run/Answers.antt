@@ -1,4 +1,5 @@
 use Rattle.std.proofs.Common.{[]}
+use Rattle.seh_io.specs.Names.{none_named}
 use Rattle.seh_io.specs.Writer.{TookEvents}
 use Rattle.seh_io.specs.Successive.{took_none, took_more}
 use Rattle.c_checked.specs.Whole as whole
@@ -9,16 +10,16 @@ use Rattle.c_meaning.proofs.run.run.Goals as goal
 
 pub loop-how-init : goal.loop-how-init
 loop-how-init g c = (
-  at_first (TookEvents g.O.Sink.taken g.O.Sink.faults) (whole.program c.args.program.now)
+  at_first (TookEvents g.O.Sink.taken g.O.Sink.faults none_named) (whole.program c.args.program.now)
       c.args.machine.now (next_of c.args.first) c.args.lines.now
-      (took_none g.O.Sink.taken g.O.Sink.faults c.args.lines.now),
+      (took_none g.O.Sink.taken g.O.Sink.faults none_named c.args.lines.now),
   c.requires.fresh,
 )
 
 pub loop-how-preserved : goal.loop-how-preserved
 loop-how-preserved g c = (
-  one_more (TookEvents g.O.Sink.taken g.O.Sink.faults) (whole.program c.args.program.now)
-      (took_more g.O.Sink.taken g.O.Sink.faults)
+  one_more (TookEvents g.O.Sink.taken g.O.Sink.faults none_named) (whole.program c.args.program.now)
+      (took_more g.O.Sink.taken g.O.Sink.faults none_named)
       (machine_of c.args.machine.now (next_of c.args.first) []) c.args.lines.now
       c.loop-how.machine (next_of c.loop-how.next) c.loop-how.lines c.turn.new.machine
       (next_of c.in-Ok.after) c.turn.new.to c.loop-how.invariant.0 c.in-Ok.ensures.turned,
@@ -27,7 +28,7 @@ loop-how-preserved g c = (
 
 pub loop-how-smaller : goal.loop-how-smaller
 loop-how-smaller g c =
-    nearer (TookEvents g.O.Sink.taken g.O.Sink.faults) (whole.program c.args.program.now)
+    nearer (TookEvents g.O.Sink.taken g.O.Sink.faults none_named) (whole.program c.args.program.now)
     c.loop-how.machine (next_of c.loop-how.next) c.loop-how.lines c.turn.new.machine
     (next_of c.in-Ok.after) c.turn.new.to
     (not_over _ c.finish_of.result c.finish_of.ensures c.in_default.not-Some)
@@ -35,8 +36,9 @@ loop-how-smaller g c =
 
 pub returns-in_default-turn-clause-part : goal.returns-in_default-turn-clause-part
 returns-in_default-turn-clause-part g c =
-    at_most (TookEvents g.O.Sink.taken g.O.Sink.faults) (whole.program c.args.program.now)
-    (took_more g.O.Sink.taken g.O.Sink.faults)
+    at_most (TookEvents g.O.Sink.taken g.O.Sink.faults none_named)
+    (whole.program c.args.program.now)
+    (took_more g.O.Sink.taken g.O.Sink.faults none_named)
     (machine_of c.args.machine.now (next_of c.args.first) []) c.args.lines.now
     c.loop-how.machine (next_of c.loop-how.next) c.loop-how.lines c.turn.new.to
     c.loop-how.invariant.0 c.in_default-turn.ensures.nothing
@@ -44,10 +46,12 @@ returns-in_default-turn-clause-part g c =
 pub returns-then-lines-clause-part : goal.returns-then-lines-clause-part
 returns-then-lines-clause-part g c =
     let from = machine_of c.args.machine.now (next_of c.args.first) [] in
-    so_far (TookEvents g.O.Sink.taken g.O.Sink.faults) (whole.program c.args.program.now) from
+    so_far (TookEvents g.O.Sink.taken g.O.Sink.faults none_named)
+    (whole.program c.args.program.now) from
     c.args.lines.now c.turn.new.machine (next_of c.in-Ok.after) c.turn.new.to
-    (one_more (TookEvents g.O.Sink.taken g.O.Sink.faults) (whole.program c.args.program.now)
-    (took_more g.O.Sink.taken g.O.Sink.faults) from c.args.lines.now
+    (one_more (TookEvents g.O.Sink.taken g.O.Sink.faults none_named)
+    (whole.program c.args.program.now)
+    (took_more g.O.Sink.taken g.O.Sink.faults none_named) from c.args.lines.now
     c.loop-how.machine (next_of c.loop-how.next) c.loop-how.lines c.turn.new.machine
     (next_of c.in-Ok.after) c.turn.new.to c.loop-how.invariant.0 c.in-Ok.ensures.turned)
 

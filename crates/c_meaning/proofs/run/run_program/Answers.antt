@@ -1,5 +1,6 @@
 use Rattle.std.proofs.Common.{[], w64, to_z, of_z}
 use Rattle.std.proofs.lemmas.Int.{to_z-of_z}
+use Rattle.seh_io.specs.Names.{none_named}
 use Rattle.seh_io.specs.Writer.{TookEvents}
 use Rattle.c_checked.specs.Whole as whole
 use Rattle.source_machine.specs.Frames as frames
@@ -24,7 +25,7 @@ returns-in-Ok-run-clause-means g c =
     let vs = c.in-Ok.arguments.items in
     let is = started p c.args.arg (to_z w64 (of_z w64 c.args.arg)) c.args.budget vs made
     (to_z-of_z w64 c.args.arg c.ranges.arg) c.in-Ok-first_machine.ensures c.in-Ok.ensures in
-    means_of (TookEvents g.O.Sink.taken g.O.Sink.faults) p c.args.arg c.args.budget
+    means_of (TookEvents g.O.Sink.taken g.O.Sink.faults none_named) p c.args.arg c.args.budget
     (made (first_call p vs)) is c.args.lines.now c.run.new.lines
     (views.finish_of c.in-Ok-run.finish) c.end_of.result c.end_of.ensures c.in-Ok-run.ensures.ran
 
@@ -35,7 +36,7 @@ returns-clause-part g c =
     let vs = c.in-Ok.arguments.items in
     let is = started p c.args.arg (to_z w64 (of_z w64 c.args.arg)) c.args.budget vs made
     (to_z-of_z w64 c.args.arg c.ranges.arg) c.in-Ok-first_machine.ensures c.in-Ok.ensures in
-    part_of (TookEvents g.O.Sink.taken g.O.Sink.faults) p c.args.arg c.args.budget
+    part_of (TookEvents g.O.Sink.taken g.O.Sink.faults none_named) p c.args.arg c.args.budget
     (made (first_call p vs)) is c.args.lines.now c.run.new.lines c.in-Err.ensures.part
 
 pub returns-clause-failed : goal.returns-clause-failed

@@ -1,7 +1,7 @@
 use Rattle.std.proofs.Common.{◌∙◌, ap, ap₂}
 use Rattle.std.proofs.lemmas.Result.{IfOk-weaker}
 use Rattle.clap.specs.Words.{App, with_subcommand}
-use Rattle.command_line.specs.Lines.{check_app, exec_app, run_app, meaning_app}
+use Rattle.command_line.specs.Lines.{check_app, exec_app, run_app, meaning_app, selftest_app}
 use Rattle.command_line.proofs.reading.program.Goals as goal
 
 pub returns : goal.returns
@@ -15,5 +15,7 @@ returns c =
     let fourth = c.in_ok-executing.ensures ∙ ap (λ (a : App). with_subcommand a exec_app.top)
     third in
     let fifth = c.in_ok-running.ensures ∙ ap (λ (a : App). with_subcommand a run_app.top) fourth in
-    IfOk-weaker c.with_run-3.result _ _ (λ r h. h
-    ∙ ap (λ (a : App). with_subcommand a meaning_app.top) fifth) c.with_run-3.ensures
+    let sixth = c.in_ok-meaning.ensures ∙ ap (λ (a : App). with_subcommand a meaning_app.top)
+    fifth in
+    IfOk-weaker c.with_selftest.result _ _ (λ r h. h
+    ∙ ap (λ (a : App). with_subcommand a selftest_app.top) sixth) c.with_selftest.ensures

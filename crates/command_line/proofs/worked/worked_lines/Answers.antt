@@ -1,7 +1,7 @@
 use Rattle.std.proofs.Common.{refl, arith}
 use Rattle.std.specs.Fmt.{digits}
 use Rattle.clap.proofs.OnLiterals.{clap_on_literals}
-use Rattle.command_line.specs.Worked.{CompileAlone, ShowAlone, CheckAlone, CheckOfEach, EachTwice, ExecAlone, ExecWithAll, RunWithTurns, MeaningWithTrace}
+use Rattle.command_line.specs.Worked.{CompileAlone, ShowAlone, CheckAlone, CheckOfEach, EachTwice, ExecAlone, ExecWithAll, RunWithTurns, MeaningWithTrace, SelftestOfOne, SelftestOfNone}
 use Rattle.command_line.proofs.worked.worked_lines.Goals as goal
 
 compile_alone : CompileAlone
@@ -96,6 +96,14 @@ meaning_with_trace = (
   ),
 )
 
+selftest_of_one : SelftestOfOne
+unfolding clap_on_literals digits
+selftest_of_one = (refl, (_, refl, (refl, (refl, omega arith))))
+
+selftest_of_none : SelftestOfNone
+unfolding clap_on_literals digits
+selftest_of_none command h = let q = h.0 in cc
+
 pub returns : goal.returns
 returns c = record {
   compile = compile_alone;
@@ -107,4 +115,6 @@ returns c = record {
   options = exec_with_all;
   run = run_with_turns;
   meaning = meaning_with_trace;
+  selftest = selftest_of_one;
+  numberless = selftest_of_none;
 }

@@ -11,13 +11,13 @@ use Rattle.image_code.proofs.validation.validate_image.Goals as goal
 pub returns-in-Ok-validate-clause-verdict : goal.returns-in-Ok-validate-clause-verdict
 returns-in-Ok-validate-clause-verdict c =
     let image = c.args.image.now in
-    let t = c.in-Ok.tables in
+    let t = c.in_ok-tables.tables in
     record {
       entries = entries_of t;
       read = ap (λ (r : Table (List RuntimeFunction)). r >>= λ rs. entries image 0 0 rs)
-          c.in-Ok.ensures.read.0
-          ∙ ap (λ (i : Image). entries i 0 0 t.ranges) (sym c.in-Ok.ensures.read.1)
-          ∙ c.in-Ok.ensures.whole.whole;
+          c.in_ok-tables.ensures.read.0
+          ∙ ap (λ (i : Image). entries i 0 0 t.ranges) (sym c.in_ok-tables.ensures.read.1)
+          ∙ c.in_ok-tables.ensures.whole.whole;
       is = subst (λ i. IsVerdict (checked_code i c.args.probe.now) (entries_of t)
-          c.in-Ok-validate.verdict) c.in-Ok-of.ensures c.in-Ok-validate.ensures;
+          c.in-Ok-validate.verdict) c.in-Ok.ensures c.in-Ok-validate.ensures;
     }

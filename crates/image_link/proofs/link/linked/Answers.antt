@@ -1,5 +1,5 @@
-use Rattle.std.proofs.Common.{◌≡◌, sym, subst, ◌∙◌, arith}
-use Rattle.image_link.specs.Words.{ImageContents, CanBeImage, first, image_of}
+use Rattle.std.proofs.Common.{◌≡◌, ℕ, sym, ap, subst, ◌∙◌, arith}
+use Rattle.image_link.specs.Words.{ImageContents, CanBeImage, SiteView, first, first_routine_at, image_of, places_from}
 use Rattle.image_link.proofs.Images.{if_ok, there, past, is_site_near, image_is, is_program, no_routine}
 use Rattle.image_link.proofs.link.linked.Goals as goal
 
@@ -21,6 +21,19 @@ tables_of-requires-clause-site c =
     is_site_near c.args.globals.now c.args.bounds.now c.args.routines.now c.args.functions
     c.placement_of-placement.result c.placement_of-placement.ensures.placed c.requires.bounds _
     c.site_of-site.ensures c.args.main c.requires.globals c.requires.near c.requires.places
+
+pub text_of-requires-clause-places : goal.text_of-requires-clause-places
+text_of-requires-clause-places c =
+    let text = c.placement_of-placement.ensures.placed.text in
+    c.requires.placed ∙ ap
+    (λ (n : ℕ). places_from (first_routine_at n) c.args.routines.now)
+    (sym (ap (λ (s : SiteView). s.text) c.site_of-site.ensures ∙ text))
+
+pub tables_of-requires-clause-places : goal.tables_of-requires-clause-places
+tables_of-requires-clause-places c =
+    c.requires.placed ∙ ap
+    (λ (n : ℕ). places_from (first_routine_at n) c.args.routines.now)
+    (sym c.placement_of-placement.ensures.placed.text)
 
 pub offset_of-entry-requires-clause-there : goal.offset_of-entry-requires-clause-there
 offset_of-entry-requires-clause-there c =

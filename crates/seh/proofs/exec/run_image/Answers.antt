@@ -1,6 +1,6 @@
 use Rattle.std.proofs.Common.{rules, ap, ◌∙◌, subst, w64, FitsSigned}
 use Rattle.std.proofs.lemmas.Int.{to_z-of_z}
-use Rattle.seh.specs.Words.{Shown, RunEnd, running_of, first_running, end_within, taken_before, Grew, text, TookPart, shown_by}
+use Rattle.seh.specs.Words.{no_names, Shown, RunEnd, running_of, first_running, end_within, taken_before, Grew, text, TookPart, shown_by}
 use Rattle.seh.proofs.Shown.{shown_is}
 use Rattle.seh.proofs.exec.run_image.Goals as goal
 
@@ -19,9 +19,10 @@ returns-in-Ok-run g c =
       },
       ends,
       subst (λ t. Grew (g.O.Sink.taken c.args.out.now) t (g.O.Sink.taken c.run.new.sink))
-          (ap (λ (s : Shown RunEnd). text s.events c.in-Ok-run.end c.args.options.trace) same
+          (ap (λ (s : Shown RunEnd). text s.events c.in-Ok-run.end c.args.options.trace
+          no_names) same
           ∙ ap (λ e. text (shown_by c.args.options c.args.bytes.now).events e
-          c.args.options.trace) ends)
+          c.args.options.trace no_names) ends)
           c.in-Ok-run.ensures.text,
     )
 
@@ -43,7 +44,7 @@ returns g c =
           subst (λ t. TookPart (g.O.Sink.taken c.args.out.now) t (g.O.Sink.taken c.run.new.sink)
               (taken_before c.in-Err-run.field-0))
               (ap (λ (s : Shown RunEnd). text s.events (end_within c.args.options.turns s.end)
-              c.args.options.trace) same)
+              c.args.options.trace no_names) same)
               c.in-Err-run.ensures.part,
         ),
       ),

@@ -9,7 +9,8 @@ returns-clause-ok g c =
     same_grew (g.O.Sink.taken c.new-lines.result.sink.now) (g.O.Sink.taken c.args.sink.now)
     (g.O.Sink.taken c.end.new.self.sink.now) _ _ _
     (ap g.O.Sink.taken c.new-lines.ensures.sink)
-    (ap (λ b. lines b c.args.events.now ++ end_line c.args.end.now) c.new-lines.ensures.trace)
+    (λ i. lines (c.new-lines.ensures.trace i) c.args.events.now
+    (g.N.Names.named (c.new-lines.ensures.names i)) ++ end_line c.args.end.now)
     (search rules)
     (ran_whole _ _ _ _ _ c.replay.ensures.wrote c.end.ensures.wrote is))
 
@@ -19,7 +20,8 @@ returns-clause-part g c =
     same_part (g.O.Sink.taken c.new-lines.result.sink.now) (g.O.Sink.taken c.args.sink.now)
     (g.O.Sink.taken c.end.new.self.sink.now) _ _ _ e.taken
     (ap g.O.Sink.taken c.new-lines.ensures.sink)
-    (ap (λ b. lines b c.args.events.now ++ end_line c.args.end.now) c.new-lines.ensures.trace)
+    (λ i. lines (c.new-lines.ensures.trace i) c.args.events.now
+    (g.N.Names.named (c.new-lines.ensures.names i)) ++ end_line c.args.end.now)
     (search rules)
     (ran_part _ _ _ _ _ c.replay.ensures.wrote c.end.ensures.wrote e.taken c.new-lines.ensures.taken
     q.1))

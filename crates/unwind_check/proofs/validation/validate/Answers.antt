@@ -4,32 +4,32 @@ use Rattle.eh_tables.specs.Tables.{entries_of}
 use Rattle.unwind_check.specs.declared.rule.Fault.{Fault}
 use Rattle.unwind_check.specs.FailingRules.{AreFaults}
 use Rattle.unwind_check.specs.Verdicts.{ImageCode, entry_in}
-use Rattle.unwind_check.proofs.TableEntries.{has_bytes, is_entry_of, one_more, entry_refused, all_keep}
+use Rattle.unwind_check.proofs.TableEntries.{has_bytes, is_entry_of, one_more, known_is, none_missing, all_keep}
 use Rattle.unwind_check.proofs.validation.validate.Goals as goal
 
 pub loop-index-preserved-in_default : goal.loop-index-preserved-in_default
 loop-index-preserved-in_default g c =
     let lt : c.loop-index.index < length c.args.tables.now.ranges = omega
     (arith, c.loop-index-test.true, c.len-index-end.ensures) in
-    absurd (entry_refused c.args.tables.now c.loop-index.index c.in_default.field-0 c.requires lt
-    c.in_default.ensures)
+    absurd (none_missing c.args.tables.now c.loop-index.index c.requires lt c.in_default.ensures)
 
 pub entry_verdict-requires : goal.entry_verdict-requires
 entry_verdict-requires g c =
-    has_bytes c.args.tables.now c.loop-index.index c.in-Ok.entry c.in-Ok.ensures
+    has_bytes c.args.tables.now c.loop-index.index c.in-Some.entry
+    (known_is c.args.tables.now c.loop-index.index c.in-Some.entry c.in-Some.ensures)
 
-pub returns-in-Some : goal.returns-in-Some
-returns-in-Some g c =
+pub returns-in-Some-fault : goal.returns-in-Some-fault
+returns-in-Some-fault g c =
     let code : ImageCode = record {
       memory = g.S.CodeSpace.memory c.args.space.now;
       probe = c.args.probe.now;
     } in
     let t = c.args.tables.now in
     let k = c.loop-index.index in
-    let e = c.in-Ok.entry in
+    let e = c.in-Some.entry in
     let lt : k < length t.ranges = omega
     (arith, c.loop-index-test.true, c.len-index-end.ensures) in
-    let is = is_entry_of t k e c.requires lt c.in-Ok.ensures in
+    let is = is_entry_of t k e c.requires lt (known_is t k e c.in-Some.ensures) in
     record {
       before = take k (entries_of t);
       entry = e;
@@ -37,7 +37,7 @@ returns-in-Some g c =
       parts = is.parts;
       index = is.count;
       kept = c.loop-index.invariant.kept;
-      least = subst (AreFaults (entry_in code e)) c.in-Some.is c.in_ok-verdict.ensures.faults;
+      least = subst (AreFaults (entry_in code e)) c.in-Some-fault.is c.in_ok-verdict.ensures.faults;
     }
 
 pub loop-index-preserved : goal.loop-index-preserved
@@ -48,10 +48,10 @@ loop-index-preserved g c =
     } in
     let t = c.args.tables.now in
     let k = c.loop-index.index in
-    let e = c.in-Ok.entry in
+    let e = c.in-Some.entry in
     let lt : k < length t.ranges = omega
     (arith, c.loop-index-test.true, c.len-index-end.ensures) in
-    let is = is_entry_of t k e c.requires lt c.in-Ok.ensures in
+    let is = is_entry_of t k e c.requires lt (known_is t k e c.in-Some.ensures) in
     let says = c.in_ok-verdict.ensures in
     record {
       most = omega (arith, lt);

@@ -2,19 +2,19 @@ use Rattle.std.proofs.Common.{◌<◌, ◌≤◌, ◌+◌, length, take, sym, su
 use Rattle.eh_tables.specs.Tables.{entries_of}
 use Rattle.unwind_check.specs.EntryVerdicts.{AreEntryVerdicts}
 use Rattle.unwind_check.specs.Verdicts.{ImageCode}
-use Rattle.unwind_check.proofs.TableEntries.{has_bytes, is_entry_of, one_more_verdict, entry_refused, all_judged}
+use Rattle.unwind_check.proofs.TableEntries.{has_bytes, is_entry_of, one_more_verdict, known_is, none_missing, all_judged}
 use Rattle.unwind_check.proofs.validation.validate_entries.Goals as goal
 
 pub loop-index-preserved-in_default : goal.loop-index-preserved-in_default
 loop-index-preserved-in_default g c =
     let lt : c.loop-index.index < length c.args.tables.now.ranges = omega
     (arith, c.loop-index-test.true, c.len-index-end.ensures) in
-    absurd (entry_refused c.args.tables.now c.loop-index.index c.in_default.field-0 c.requires lt
-    c.in_default.ensures)
+    absurd (none_missing c.args.tables.now c.loop-index.index c.requires lt c.in_default.ensures)
 
 pub entry_verdict-requires : goal.entry_verdict-requires
 entry_verdict-requires g c =
-    has_bytes c.args.tables.now c.loop-index.index c.in-Ok.entry c.in-Ok.ensures
+    has_bytes c.args.tables.now c.loop-index.index c.in-Some.entry
+    (known_is c.args.tables.now c.loop-index.index c.in-Some.entry c.in-Some.ensures)
 
 pub loop-index-preserved : goal.loop-index-preserved
 loop-index-preserved g c =
@@ -24,10 +24,10 @@ loop-index-preserved g c =
     } in
     let t = c.args.tables.now in
     let k = c.loop-index.index in
-    let e = c.in-Ok.entry in
+    let e = c.in-Some.entry in
     let lt : k < length t.ranges = omega
     (arith, c.loop-index-test.true, c.len-index-end.ensures) in
-    let is = is_entry_of t k e c.requires lt c.in-Ok.ensures in
+    let is = is_entry_of t k e c.requires lt (known_is t k e c.in-Some.ensures) in
     record {
       most = omega (arith, lt);
       are = subst (AreEntryVerdicts code (take (k + 1) (entries_of t)))

@@ -9,7 +9,7 @@ use Rattle.x64_memory.proofs.paged.fetch.Goals as goal
 
 pub loop-filled-preserved : goal.loop-filled-preserved
 loop-filled-preserved g c =
-    let m = g.P.Paged.memory c.args.space.now in
+    let m = g.P.ReadPages.memory c.args.space.now in
     let i = c.loop-filled.filled in
     let k = c.min-count.result in
     let into = c.loop-filled.into in
@@ -37,14 +37,14 @@ loop-filled-preserved g c =
 
 pub returns-after-loop-filled-clause-bytes : goal.returns-after-loop-filled-clause-bytes
 returns-after-loop-filled-clause-bytes g c =
-    let m = g.P.Paged.memory c.args.space.now in
+    let m = g.P.ReadPages.memory c.args.space.now in
     let end = executable-zero m (15 - c.loop-filled.filled) c.loop-filled.here (omega arith) in
     sym (c.loop-filled.invariant.rest ∙ ap (λ (t : List ℕ). take c.loop-filled.filled
     c.loop-filled.into ++ t) end ∙ append-nil (take c.loop-filled.filled c.loop-filled.into))
 
 pub returns-then-not-protection-clause-bytes : goal.returns-then-not-protection-clause-bytes
 returns-then-not-protection-clause-bytes g c =
-    let m = g.P.Paged.memory c.args.space.now in
+    let m = g.P.ReadPages.memory c.args.space.now in
     let no = ap (λ (o : Protection). o.execute) c.rest_of_page.ensures.mode_is
     ∙ not_true _ c.if-not-protection.true in
     let end = executable-none m (15 - c.loop-filled.filled) c.loop-filled.here no in

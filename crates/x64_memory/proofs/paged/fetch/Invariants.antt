@@ -4,7 +4,7 @@ use Rattle.x64_memory.proofs.paged.fetch.Given as goal
 
 abbrev pub invariant-loop-filled : goal.invariant-loop-filled
 invariant-loop-filled g l =
-    let m = g.P.Paged.memory l.space in
+    let m = g.P.ReadPages.memory l.space in
     record {
       most : l.filled ≤ 15;
       rest : executable m 15 l.at ≡ take l.filled l.into ++ executable m (15 - l.filled) l.here;

@@ -15,8 +15,8 @@ put-requires-clause-may g c = may_first _ (c.args.count - c.loop-i._i) c.loop-i.
 
 pub loop-i-preserved : goal.loop-i-preserved
 loop-i-preserved g c =
-    let m = g.P.Paged.memory c.loop-i.space in
-    let new = g.P.Paged.memory c.put.new.self in
+    let m = g.P.ReadPages.memory c.loop-i.space in
+    let new = g.P.ReadPages.memory c.put.new.self in
     let after = with_bytes m (with_number m.byte 1 c.loop-i.here c.loop-i.rest) in
     let modes : new.protection ≡ m.protection = ap (λ (x : Memory). x.protection) {y = after}
     c.put.ensures in
@@ -39,8 +39,8 @@ loop-i-preserved g c =
 
 pub returns : goal.returns
 returns g c =
-    let m = g.P.Paged.memory c.loop-i.space in
-    let old = g.P.Paged.memory c.args.space.now in
+    let m = g.P.ReadPages.memory c.loop-i.space in
+    let old = g.P.ReadPages.memory c.args.space.now in
     let b : m.byte ≡ with_number old.byte c.args.count c.args.at c.args.value = sym
     (with_number-zero m.byte (c.args.count - c.loop-i._i) c.loop-i.here c.loop-i.rest
     (omega arith)) ∙ c.loop-i.invariant.bytes in

@@ -4,8 +4,8 @@ use Rattle.x64_memory.proofs.paged.spread_store.Given as goal
 
 abbrev pub invariant-loop-i : goal.invariant-loop-i
 invariant-loop-i g l =
-    let m = g.P.Paged.memory l.space in
-    let old = g.P.Paged.memory l.fn.space in
+    let m = g.P.ReadPages.memory l.space in
+    let old = g.P.ReadPages.memory l.fn.space in
     record {
       modes : m.protection ≡ old.protection;
       may : first_refused (may_write m) (l.count - l._i) l.here ≡ None;

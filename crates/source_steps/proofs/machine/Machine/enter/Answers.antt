@@ -25,7 +25,12 @@ returns c = λ x es.
     let frames_is = c.in_ok-push.ensures ∙ ap (λ l. frames_of m.activations ++ l ∷ []) locals_is in
     goes_deeper _ (machine_of m x es) _ (sym (c.is_deep.ensures es) ∙ c.if-is_deep.false)
     ∙ (λ i. model.follow (record (machine_of m x es)
-    { state = record (state_of m es) { frames = sym frames_is i } })
+    {
+      state = record (state_of m es) {
+        frames = sym frames_is i;
+        functions = sym c.in_ok-push-2.ensures.items i;
+      };
+    })
     (frames.Push (frames.EndsCall (sym c.len-activation.ensures i))
     (frames.Proceed body
     (record {
@@ -34,6 +39,6 @@ returns c = λ x es.
       abnormal =
           false;
     }))))
-    ∙ c.in_ok-push-2.ensures (frames.Proceed body
+    ∙ c.in_ok-push-3.ensures (frames.Proceed body
     (record { activation = c.len-activation.result; exception = no_exception; abnormal = false })) x
     es

@@ -1,0 +1,10 @@
+use Rattle.std.proofs.Common.{ap, arith}
+use Rattle.image_link.specs.Words.{code_room, RoutineView}
+use Rattle.image_link.proofs.place.labels_from.Goals as goal
+
+pub labels_of-requires-clause-room : goal.labels_of-requires-clause-room
+labels_of-requires-clause-room c =
+    let b = ap code_room c.code.ensures in
+    let v = ap (λ (r : RoutineView). code_room r.body.code) c.routine.view_is in
+    let r = c.requires.room in
+    omega arith

@@ -1,0 +1,14 @@
+use Rattle.std.proofs.Common.{ℕ, ◌≤◌, ◌<◌, ◌-◌, length, get_or}
+use Rattle.pe_image.specs.NameRows.{no_row}
+use Rattle.pe_image.proofs.name_table.NameRows.name_by_halves.Given as goal
+
+abbrev pub invariant-loop-low : goal.invariant-loop-low
+invariant-loop-low l = record {
+  within : l.high ≤ length l.self;
+  ordered : l.low ≤ l.high;
+  below : (k : ℕ) → k < l.low → (get_or l.self k no_row).number < l.number;
+  above : (k : ℕ) → l.high ≤ k → k < length l.self → l.number < (get_or l.self k no_row).number;
+}
+
+abbrev pub decreases-loop-low : goal.decreases-loop-low
+decreases-loop-low l = l.high - l.low

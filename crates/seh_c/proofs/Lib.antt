@@ -1,0 +1,5 @@
+pub mod Covered
+pub mod FramesMore
+pub mod Opened
+pub mod RangesHeld
+pub mod Rests

@@ -1,0 +1,13 @@
+use Rattle.std.proofs.Common.{◌≡◌, ◌-◌, length}
+use Rattle.seh_c.specs.Walks.{walk_from, walk}
+use Rattle.seh_c.proofs.walking.walk_frames.Given as goal
+
+abbrev pub invariant-loop-k : goal.invariant-loop-k
+invariant-loop-k g l =
+    let m = g.S.CodeSpace.memory l.space in
+    let t = l.tables in
+    record {
+      room : length l.frames ≡ length l.fn.frames;
+      rest : walk_from t l.base m l.size (length l.fn.frames - l.k) l.k l.here l.frames
+          ≡ walk t l.base m l.size l.context l.fn.frames;
+    }

@@ -1,0 +1,10 @@
+pub mod Shapes
+pub mod Ranges
+pub mod Snapshot
+pub mod Snapshots
+pub mod Statuses
+pub mod Openings
+pub mod Callers
+pub mod Walks
+pub mod Answers
+pub mod Scopes

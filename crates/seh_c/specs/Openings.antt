@@ -1,0 +1,66 @@
+-- What a call answers, and what it reads first: an image, and the ranges of its function table.
+use Rattle.std.specs.Prelude.{◌≡◌, ℕ, List, length, Result, Ok, Err}
+use Rattle.seh_num.specs.Answers.{◌>>=◌}
+use Rattle.pe_image.specs.Image.{Image}
+use Rattle.pe_image.specs.Reading.{outline_alone, reading}
+use Rattle.pe_image.specs.declared.refusal.ImageErr.{ImageErr}
+use Rattle.pe_image.specs.declared.refusal.ImageErr.TheVariants as images
+use Rattle.eh_tables.specs.declared.refusal.TableErr.{TableErr}
+use Rattle.eh_tables.specs.Tables.{Tables, directory}
+use Rattle.eh_tables.specs.Covering.{ranges_checked}
+use Rattle.virtual_unwind.specs.declared.refusal.UnwindErr.{UnwindErr}
+use Rattle.seh_c.specs.declared.c_types.SehImage.{SehImage}
+use Rattle.seh_c.specs.declared.refusal.Refusal.{Refusal}
+use Rattle.seh_c.specs.declared.refusal.Refusal.TheVariants as refusals
+use Rattle.seh_c.specs.Shapes.{c_image}
+
+abbrev pub Answer : Type 0 → Type 0
+Answer A = Result A Refusal
+
+abbrev pub image_refusal : ImageErr → Refusal
+image_refusal images.Memory = refusals.NoMemory
+image_refusal e = refusals.Image e
+
+abbrev pub of_image : {A : Type 0} → Result A ImageErr → Answer A
+of_image (Ok x) = Ok x
+of_image (Err e) = Err (refusals.Image e)
+
+abbrev pub of_table : {A : Type 0} → Result A TableErr → Answer A
+of_table (Ok x) = Ok x
+of_table (Err e) = Err (refusals.Table e)
+
+abbrev pub of_unwinding : {A : Type 0} → Result A UnwindErr → Answer A
+of_unwinding (Ok x) = Ok x
+of_unwinding (Err e) = Err (refusals.Unwinding e)
+
+-- a call gives what is defined, or memory is wanting
+abbrev pub Gives : {A : Type 0} → Answer A → Answer A → Type 0
+Gives (Err refusals.NoMemory) given = Unit {0}
+Gives r given = given ≡ r
+
+-- an image by its headers and sections; none of its imports is looked at
+abbrev pub opened : List ℕ → Answer Image
+opened file = of_image (outline_alone file)
+
+-- and with its imports
+abbrev pub opened_whole : List ℕ → Answer Image
+opened_whole file = of_image (reading file)
+
+-- its function table, whose ranges ascend; no entry's unwind info is looked at
+abbrev pub table_of : Image → Answer Tables
+table_of image = do
+  rs ← of_table (directory image)
+  _ ← of_table (ranges_checked 0 0 rs)
+  Ok (record { image = image; ranges = rs })
+
+-- ---- what an image is
+
+abbrev pub checked_within : Image → Answer SehImage
+checked_within image = do
+  t ← table_of image
+  Ok (c_image image (length t.ranges))
+
+abbrev pub checked : List ℕ → Answer SehImage
+checked file = do
+  image ← opened file
+  checked_within image

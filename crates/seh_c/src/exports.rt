@@ -1,0 +1,129 @@
+//! What C calls. `include/seh.h` says what a caller owes to each call.
+
+ghost use Rattle.std.specs.Prelude.{◌≡◌};
+ghost use Rattle.seh_c.specs.Answers.{Answers, WalkAnswers, FunctionAnswers, ImageAnswers};
+ghost use Rattle.seh_c.specs.Callers.{unwound, found_in};
+ghost use Rattle.seh_c.specs.Openings.{checked};
+ghost use Rattle.seh_c.specs.Scopes.{scopes_in, ScopeAnswers};
+ghost use Rattle.seh_c.specs.Shapes as spec;
+ghost use Rattle.seh_c.specs.Walks.{walked_in};
+
+use crate::c_types::{
+    SehContext, SehFrame, SehFunction, SehImage, SehRange, SehScope, SehStatus, c_frame,
+    machine_context,
+};
+use crate::finding::find;
+use crate::opening::check;
+use crate::refusal::{NO_FUNCTION, OK, status_of};
+use crate::scopes::find_scopes;
+use crate::unwinding::unwind;
+use crate::walking::walk_image;
+use std::alloc::Global;
+
+/// The caller of a frame, by the function table of an image that lies at `base`.
+#[unsafe(no_mangle)]
+pub extern "C" fn seh_unwind(
+    alloc: Global,
+    file: &[u8],
+    base: u64,
+    ranges: &[SehRange<'_>],
+    context: &SehContext,
+    frame: &mut SehFrame,
+) -> SehStatus
+    ensures { Answers
+        (unwound file.now base ranges.now (spec.machine_context context.now))
+        frame.old frame.new result }
+{
+    match unwind(alloc, file, base, ranges, &machine_context(context)) {
+        Ok(caller) => {
+            *frame = c_frame(&caller);
+            OK
+        }
+        Err(refusal) => status_of(refusal),
+    }
+}
+
+/// The frames from a context on, as far as RIP lies in the image and `frames` has room.
+#[unsafe(no_mangle)]
+pub extern "C" fn seh_walk(
+    alloc: Global,
+    file: &[u8],
+    base: u64,
+    ranges: &[SehRange<'_>],
+    context: &SehContext,
+    frames: &mut [SehFrame],
+    count: &mut u64,
+) -> SehStatus
+    ensures { WalkAnswers
+        (walked_in file.now base ranges.now (spec.machine_context context.now) frames.old)
+        frames.old frames.new count.new result }
+{
+    match walk_image(alloc, file, base, ranges, &machine_context(context), frames) {
+        Ok(walk) => {
+            *count = walk.count;
+            walk.status
+        }
+        Err(refusal) => {
+            *count = 0;
+            status_of(refusal)
+        }
+    }
+}
+
+/// The entry of the function table whose range covers an address, relative to the image base.
+#[unsafe(no_mangle)]
+pub extern "C" fn seh_find_function(
+    alloc: Global,
+    file: &[u8],
+    rva: u32,
+    function: &mut SehFunction,
+) -> SehStatus
+    ensures { FunctionAnswers (found_in file.now rva) function.old function.new result }
+{
+    match find(alloc, file, rva) {
+        Ok(Some(found)) => {
+            *function = found;
+            OK
+        }
+        Ok(None) => NO_FUNCTION,
+        Err(refusal) => status_of(refusal),
+    }
+}
+
+/// What an image is, by its headers, and how many entries its function table has.
+#[unsafe(no_mangle)]
+pub extern "C" fn seh_check(alloc: Global, file: &[u8], image: &mut SehImage) -> SehStatus
+    ensures { ImageAnswers (checked file.now) image.old image.new result }
+{
+    match check(alloc, file) {
+        Ok(found) => {
+            *image = found;
+            OK
+        }
+        Err(refusal) => status_of(refusal),
+    }
+}
+
+/// The scope records that hold an address, innermost first, as far as `scopes` has room.
+#[unsafe(no_mangle)]
+pub extern "C" fn seh_scopes(
+    alloc: Global,
+    file: &[u8],
+    rva: u32,
+    scopes: &mut [SehScope],
+    count: &mut u64,
+) -> SehStatus
+    ensures { ScopeAnswers (scopes_in file.now rva scopes.old) scopes.old scopes.new count.new
+        result }
+{
+    match find_scopes(alloc, file, rva, scopes) {
+        Ok(filled) => {
+            *count = filled.count;
+            filled.status
+        }
+        Err(refusal) => {
+            *count = 0;
+            status_of(refusal)
+        }
+    }
+}

@@ -1,0 +1,119 @@
+//! A walk through the frames whose code lies in one image.
+
+ghost use Rattle.std.specs.Prelude.{◌≡◌};
+ghost use Rattle.eh_tables.specs.Covering.{RangesAscend};
+ghost use Rattle.seh_c.specs.Ranges.{AreInOrder};
+ghost use Rattle.seh_c.specs.Walks as spec;
+
+use crate::c_types::{SehFrame, SehRange, SehStatus, c_frame};
+use crate::opening::{open, table_of};
+use crate::ranges::check_ranges;
+use crate::refusal::{MORE, OK, Refusal, status_of};
+use crate::snapshot::Snapshot;
+use crate::unwinding::caller;
+use eh_tables::Tables;
+use pe_image::ImageView;
+use std::alloc::Global;
+use x64_machine::context::Context;
+use x64_memory::space::ReadSpace;
+
+/// How many frames were written, and why no more.
+#[derive(Clone, Copy, Debug, PartialEq, Eq)]
+pub struct Walk {
+    pub count: u64,
+    pub status: SehStatus,
+}
+
+fn is_inside(base: u64, size: u64, context: &Context) -> bool
+    ensures { result ≡ spec.is_inside base size context.now }
+{
+    context.rip.wrapping_sub(base) < size
+}
+
+fn end(is_more: bool) -> SehStatus
+    ensures { result ≡ spec.end is_more }
+{
+    if is_more { MORE } else { OK }
+}
+
+/// Writes the frames from a context on, as far as RIP lies in the image and there is room.
+fn walk_frames<S: ReadSpace>(
+    tables: &Tables<'_, '_>,
+    base: u64,
+    size: u64,
+    space: &S,
+    context: &Context,
+    frames: &mut [SehFrame],
+) -> Walk
+    requires { RangesAscend tables.now.ranges }
+    ensures { spec.walked_of frames.new result ≡ spec.walk tables.now base (S.memory space.now) size
+        context.now frames.old }
+{
+    let slots = frames.len();
+    let mut here = *context;
+    for k in 0..slots {
+        if !is_inside(base, size, &here) {
+            return Walk {
+                count: k as u64,
+                status: OK,
+            };
+        }
+        match caller(tables, base, space, &here) {
+            Ok(found) => {
+                frames[k] = c_frame(&found);
+                here = found.context;
+            }
+            Err(e) => {
+                return Walk {
+                    count: k as u64,
+                    status: status_of(e),
+                };
+            }
+        }
+    }
+    Walk {
+        count: slots as u64,
+        status: end(is_inside(base, size, &here)),
+    }
+}
+
+fn walk_within(
+    image: &ImageView<'_>,
+    base: u64,
+    ranges: &[SehRange<'_>],
+    context: &Context,
+    frames: &mut [SehFrame],
+) -> Result<Walk, Refusal>
+    requires { AreInOrder ranges.now }
+    ensures { spec.GivesWalk frames.old frames.new result
+        (spec.walk_within image.now base ranges.now context.now frames.old) }
+{
+    let tables = match table_of(image) {
+        Ok(tables) => tables,
+        Err(e) => return Err(e),
+    };
+    let space = Snapshot::new(image, base, ranges);
+    Ok(walk_frames(&tables, base, image.size(), &space, context, frames))
+}
+
+/// A walk.
+#[tactic(auto, using(crate::proofs::Opened::gives_no_walk))]
+pub fn walk_image(
+    alloc: Global,
+    file: &[u8],
+    base: u64,
+    ranges: &[SehRange<'_>],
+    context: &Context,
+    frames: &mut [SehFrame],
+) -> Result<Walk, Refusal>
+    ensures { spec.GivesWalk frames.old frames.new result
+        (spec.walked_in file.now base ranges.now context.now frames.old) }
+{
+    if let Err(e) = check_ranges(ranges) {
+        return Err(e);
+    }
+    match open(alloc, file) {
+        Ok(image) => walk_within(&image, base, ranges, context, frames),
+        Err(e) => Err(e),
+    }
+}

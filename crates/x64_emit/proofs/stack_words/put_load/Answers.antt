@@ -1,0 +1,9 @@
+use Rattle.std.proofs.Common.{ℕ, List, ◌++◌, sym, ap, ◌∙◌}
+use Rattle.x64_emit.proofs.Nearby.{on_ok}
+use Rattle.x64_emit.proofs.StackWords.{load_spelled}
+use Rattle.x64_emit.proofs.stack_words.put_load.Goals as goal
+
+pub returns : goal.returns
+returns c = on_ok _ _ c.put_word.result
+    (λ e. e ∙ ap (λ (t : List ℕ). c.args.code.now.items ++ t)
+    (sym (load_spelled c.args.to c.args.displacement))) c.put_word.ensures

@@ -1,0 +1,209 @@
+/*
+ * seh.h - the stack of 64-bit Windows code, unwound by the function tables of its images.
+ *
+ * The functions read the bytes of an image's file (PE32+, x64), bytes of a process's memory, and
+ * registers, all of which the caller passes. They look at no file, no process and no state of
+ * their own, and may be called from any number of threads at once. What each answers is proved to
+ * be what the definitions say: those of the Microsoft x64 ABI ("x64 exception handling") as crates
+ * pe_image, eh_tables, virtual_unwind and seh_c have them, in specs/. README.md ("From C") says how
+ * to build the library, and what is proved of it.
+ *
+ * Any bytes and any numbers may be passed as an image, as memory and as registers. What no clause
+ * of a contract can say, the caller owes:
+ *
+ *  - A pointer isn't null, also where its count is 0. It is aligned for its type, and all that it
+ *    points to may be read for as long as the call takes (of the last parameters: written).
+ *  - Nothing else writes what is passed, and what is written overlaps nothing else that is passed.
+ *  - A count of bytes, or of elements times their size, is below 2^63.
+ *  - 64 KiB of stack are left.
+ *  - malloc, realloc and free are one allocator's, which aligns a block as C demands. No call is
+ *    made in a signal handler that may have interrupted malloc. A call takes memory for the sections
+ *    of the image (seh_scopes for its imports too), and gives it back; what it answers holds none.
+ *
+ * Addresses in an image (RVAs) count from its base. All numbers are little-endian, as in the
+ * formats.
+ */
+#ifndef SEH_H
+#define SEH_H
+
+#include <stdbool.h>
+#include <stddef.h>
+#include <stdint.h>
+
+#ifdef __cplusplus
+extern "C" {
+#endif
+
+/* How a call ended. Where it isn't SEH_OK, `at` and `more` of seh_status are what is said here, and
+   0 where nothing is. */
+enum seh_code {
+    SEH_OK = 0,
+    SEH_RANGE = 1,       /* the memory range number `at` begins below the end of the one before, or
+                            passes the end of the addresses */
+    SEH_NO_MEMORY = 2,   /* malloc answered null; nothing is said of what was passed */
+    SEH_MORE = 3,        /* the array is full, and there is more */
+    SEH_NO_FUNCTION = 4, /* no entry covers the address: code there is a leaf function */
+
+    /* The bytes are no image: the first check that fails. */
+    SEH_IMAGE_TRUNCATED = 16, /* the header at file offset `at` passes the end of the file */
+    SEH_IMAGE_NOT_PE = 17,    /* the signature at file offset `at` is missing */
+    SEH_IMAGE_MACHINE = 18,   /* the field Machine is `at`, and not 0x8664 */
+    SEH_IMAGE_MAGIC = 19,     /* the field Magic is `at`, and not 0x20B */
+    SEH_IMAGE_LAYOUT = 20,    /* section number `at` doesn't lie as it must in file and image */
+    SEH_IMAGE_IMPORT = 21,    /* import number `at` can't be read; by seh_scopes alone */
+
+    /* The function table, or the entry that is asked, can't be read: the first check that fails.
+       `at` is the number of the entry, but for the first two. Other entries aren't looked at, but
+       for their ranges. */
+    SEH_TABLE_TRUNCATED = 32,   /* the table or unwind info at RVA `at` isn't stored whole */
+    SEH_TABLE_MISALIGNED = 33,  /* the table or unwind info at RVA `at` isn't 4-aligned */
+    SEH_TABLE_EMPTY_RANGE = 34, /* the entry's begin isn't below its end */
+    SEH_TABLE_UNSORTED = 35,    /* the entry begins below the end of the one before */
+    SEH_TABLE_VERSION = 36,     /* the unwind info's version is `more`, and not 1 */
+    SEH_TABLE_FLAGS = 37,       /* the unwind info's flags aren't defined */
+    SEH_TABLE_OPERATION = 38,   /* the unwind code at slot `more` isn't defined */
+    SEH_TABLE_CODE_ORDER = 39,  /* the unwind code at slot `more` is out of order */
+    SEH_TABLE_CHAIN = 40,       /* more than 32 unwind infos are chained */
+    SEH_TABLE_SCOPE = 41,       /* scope record number `more` isn't within the image */
+
+    /* The caller of a frame isn't found. */
+    SEH_UNREADABLE = 48, /* the word of the stack at address `at` is needed, and no range has it:
+                            pass more memory, and call again */
+    SEH_BACKWARD = 49    /* the caller's stack pointer wouldn't be above `at`, that of the frame */
+};
+
+/* How a call ended: one of enum seh_code, and the numbers that it speaks of. */
+typedef struct seh_status {
+    uint32_t code;
+    uint64_t at;
+    uint64_t more;
+} seh_status;
+
+/* Bytes of a process's memory: `size` bytes from the address `at` on. Where several ranges are
+   passed, each begins at or above the end of the one before, as a minidump has them when they are
+   sorted. A thread's stack in one range is enough where its frames alone are asked. */
+typedef struct seh_range {
+    uint64_t at;
+    const uint8_t *bytes;
+    size_t size;
+} seh_range;
+
+/* RIP, RSP and the other nonvolatile integer registers (Microsoft x64 ABI, "Caller/callee saved
+   registers"): what a caller can rely on. XMM6 to XMM15 aren't tracked; codes that save them are
+   passed over. */
+typedef struct seh_context {
+    uint64_t rip, rsp, rbx, rbp, rsi, rdi, r12, r13, r14, r15;
+} seh_context;
+
+/* A frame. */
+typedef struct seh_frame {
+    seh_context caller; /* the registers of its caller, after the return */
+    uint64_t frame;     /* the establisher frame: the frame register less its offset where it is
+                           set, else RSP */
+    uint32_t handler;   /* the RVA of its language handler, where has_handler */
+    bool has_handler;   /* in a body with a handler, which may then be asked */
+    bool in_body;       /* RIP is in the body of a function, and not in its prologue or epilogue,
+                           nor in a leaf function */
+} seh_frame;
+
+/* An entry of a function table, with its unwind info (Microsoft x64 ABI, "struct
+   RUNTIME_FUNCTION" and "struct UNWIND_INFO"). */
+typedef struct seh_function {
+    uint32_t begin, end;    /* RVAs: the code from begin to before end */
+    uint32_t unwind_info;   /* the RVA of its unwind info */
+    uint32_t handler;       /* the RVA of its language handler, where has_handler */
+    uint32_t parents;       /* how many unwind infos its own is chained to */
+    uint8_t prologue_size;  /* in bytes */
+    uint8_t frame_register; /* its number in instructions (5: RBP); 0 where there is none */
+    uint8_t frame_offset;   /* how many bytes it lies above the base of the frame */
+    uint8_t flags;          /* 1 UNW_FLAG_EHANDLER, 2 UNW_FLAG_UHANDLER, 4 UNW_FLAG_CHAININFO */
+    bool has_handler;
+} seh_function;
+
+/* A record of the scope table of __C_specific_handler (Windows headers, winnt.h,
+   SCOPE_TABLE_AMD64): a __try. All are RVAs. */
+typedef struct seh_scope {
+    uint32_t begin, end;       /* its body: the code from begin to before end */
+    uint32_t handler_address;  /* its __finally block, where jump_target is 0; else its filter, or
+                                  1, which always accepts */
+    uint32_t jump_target;      /* its __except block, or 0 */
+} seh_scope;
+
+/* An image, by its headers. */
+typedef struct seh_image {
+    uint64_t base;        /* its preferred base, ImageBase */
+    uint64_t size;        /* how many bytes it takes in memory, SizeOfImage */
+    uint64_t entry_point; /* the RVA of its entry point */
+    uint64_t functions;   /* how many entries its function table has */
+} seh_image;
+
+/*
+ * Tells whether bytes are an image whose headers, sections and function table can be read, and what
+ * it is. No entry's unwind info is read.
+ *
+ * file, size    the image's file, whole
+ * image         what is found; written with SEH_OK alone
+ */
+seh_status seh_check(const uint8_t *file, size_t size, seh_image *image);
+
+/*
+ * Finds the entry of the function table whose range covers an address. Of all entries that one
+ * alone is read and can be refused.
+ *
+ * rva           the address, from the image's base
+ * function      what is found; written with SEH_OK alone
+ */
+seh_status seh_find_function(const uint8_t *file, size_t size, uint32_t rva,
+                             seh_function *function);
+
+/*
+ * Finds the caller of a frame: one virtual unwind, as of a leaf function, or of a place in the
+ * prologue, the body or an epilogue of the entry that covers RIP.
+ *
+ * base          where the image lies in the process; its code is there as the file has it, but
+ *               where a range has other bytes
+ * ranges, count the memory, in ascending order
+ * context       the registers in the frame
+ * frame         what is found; written with SEH_OK alone
+ */
+seh_status seh_unwind(const uint8_t *file, size_t size, uint64_t base, const seh_range *ranges,
+                      size_t count, const seh_context *context, seh_frame *frame);
+
+/*
+ * Finds the frames from a context on, innermost first, as far as RIP lies in the image. The image
+ * is opened once, so that this costs less than as many calls of seh_unwind.
+ *
+ * frames, room  an array, and how many frames it has room for
+ * written       how many were written; set by each call, to 0 where the image or the memory is
+ *               refused
+ *
+ * SEH_OK        RIP of the last frame's caller lies outside the image (or that of `context` does):
+ *               continue with that caller in its own image
+ * SEH_MORE      the array is full: call again with the last frame's caller
+ *
+ * Where a frame is refused, the frames below it have been written, and the answer is that of
+ * seh_unwind for it.
+ */
+seh_status seh_walk(const uint8_t *file, size_t size, uint64_t base, const seh_range *ranges,
+                    size_t count, const seh_context *context, seh_frame *frames, size_t room,
+                    uint64_t *written);
+
+/*
+ * Finds the scope records of the entry that covers an address which hold it, innermost first: the
+ * order in which a search asks their filters. None are there where the entry's handler isn't
+ * __C_specific_handler. Which one is, the image's imports tell, so they are read too, and refused
+ * with SEH_IMAGE_IMPORT, where one is by ordinal for example.
+ *
+ * scopes, room  an array, and how many records it has room for
+ * written       how many were written; set by each call
+ *
+ * SEH_MORE      there are more of them
+ */
+seh_status seh_scopes(const uint8_t *file, size_t size, uint32_t rva, seh_scope *scopes,
+                      size_t room, uint64_t *written);
+
+#ifdef __cplusplus
+}
+#endif
+
+#endif
