@@ -10,4 +10,3 @@ pub mod Covering
 pub mod OnlySpelled
 pub mod Total
 pub mod Spelled
-pub mod KeywordLengths
