@@ -11,21 +11,27 @@ use Rattle.seh_num.specs.Answers.{◌>>=◌}
 use Rattle.pe_image.specs.Answer.{Refuses}
 use Rattle.pe_image.specs.Image.{Section, Image}
 use Rattle.pe_image.specs.Imports.{Import, imports, imports_in}
-use Rattle.pe_image.specs.Reading.{image_base, entry_point, image_size, directory, headers, section_count, sections_at, image_end, headers_from, all_placed, sections_of, image_with, sectioned, outline, importing, sectioned_importing, unimported, outline_alone, reading, ImageIsRefused}
+use Rattle.pe_image.specs.Reading.{image_base, entry_point, image_size, directory, headers, section_count, sections_at, image_end, headers_from, all_placed, sections_of, image_with, sectioned, outline, importing, sectioned_importing, unimported, outline_alone, reading, reading_in, ImageIsRefused}
 
 -- ---- after the headers
 
-abbrev read_with : Result Unit ImageErr → List ℕ → Result Image ImageErr
-read_with checked bytes = (checked >>= λ _. sectioned layouts.File bytes)
+abbrev read_with : Result Unit ImageErr → ImageLayout → List ℕ → Result Image ImageErr
+read_with checked layout bytes = (checked >>= λ _. sectioned layout bytes)
     >>= λ image. imports image >>= λ _. Ok image
 
 abbrev alone_with : Result Unit ImageErr → ImageLayout → List ℕ → Result Image ImageErr
 alone_with checked layout bytes = (checked >>= λ _. sectioned layout bytes)
     >>= λ image. Ok (unimported image)
 
-read_is : (bytes : List ℕ) → reading bytes ≡ read_with (headers bytes) bytes
-unfolding reading outline
-read_is bytes = refl
+read_is : (layout : ImageLayout) (bytes : List ℕ)
+    → reading_in layout bytes ≡ read_with (headers bytes) layout bytes
+unfolding reading_in
+read_is layout bytes = refl
+
+-- an image in a file
+pub in_file : (bytes : List ℕ) → reading_in layouts.File bytes ≡ reading bytes
+unfolding reading_in reading outline
+in_file bytes = refl
 
 alone_is : (layout : ImageLayout) (bytes : List ℕ)
     → outline_alone layout bytes ≡ alone_with (headers bytes) layout bytes
@@ -51,11 +57,11 @@ abbrev sections_in : ImageLayout → List ℕ → Result (List Section) ImageErr
 sections_in layout bytes = sections_of bytes (image_end bytes)
     (all_placed layout (headers_from bytes (section_count bytes) (sections_at bytes)))
 
-pub whole_is : (bytes : List ℕ) (d : DataDirectory) → headers bytes ≡ Ok tt
-    → d ≡ directory bytes 1 → sectioned_importing d layouts.File bytes ≡ reading bytes
-whole_is bytes d ok at = ap (λ d. sectioned_importing d layouts.File bytes) at
-    ∙ imports_read bytes (sections_in layouts.File bytes)
-    ∙ sym (read_is bytes ∙ ap (λ r. read_with r bytes) ok)
+pub whole_is : (layout : ImageLayout) (bytes : List ℕ) (d : DataDirectory) → headers bytes ≡ Ok tt
+    → d ≡ directory bytes 1 → sectioned_importing d layout bytes ≡ reading_in layout bytes
+whole_is layout bytes d ok at = ap (λ d. sectioned_importing d layout bytes) at
+    ∙ imports_read bytes (sections_in layout bytes)
+    ∙ sym (read_is layout bytes ∙ ap (λ r. read_with r layout bytes) ok)
 
 pub outline_is : (layout : ImageLayout) (bytes : List ℕ) → headers bytes ≡ Ok tt
     → sectioned_importing NO_TABLE layout bytes ≡ outline_alone layout bytes
@@ -77,9 +83,10 @@ pub all_refused : {A : Type 0} (bytes : List ℕ) (r : Result A ImageErr)
 all_refused bytes (Ok x) h = tt
 all_refused bytes (Err e) h = refused bytes e h
 
-pub by_headers : (bytes : List ℕ) (e : ImageErr) → headers bytes ≡ Err e → ImageIsRefused bytes e
-by_headers bytes e h = refused bytes e
-    (refuses e (reading bytes) (read_is bytes ∙ ap (λ r. read_with r bytes) h))
+pub by_headers : (layout : ImageLayout) (bytes : List ℕ) (e : ImageErr) → headers bytes ≡ Err e
+    → Refuses e (reading_in layout bytes)
+by_headers layout bytes e h = refuses e (reading_in layout bytes)
+    (read_is layout bytes ∙ ap (λ r. read_with r layout bytes) h)
 
 pub outline_by_headers : (layout : ImageLayout) (bytes : List ℕ) (e : ImageErr)
     → headers bytes ≡ Err e → Refuses e (outline_alone layout bytes)

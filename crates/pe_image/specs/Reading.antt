@@ -218,10 +218,17 @@ outline_alone layout bytes = do
   image ← outline_in layout bytes
   Ok (unimported image)
 
--- whose imports can be read
+-- whose imports can be read, in a file
 unfoldable pub reading : List ℕ → Result Image ImageErr
 reading bytes = do
   image ← outline bytes
+  _ ← imports image
+  Ok image
+
+-- in a layout
+unfoldable pub reading_in : ImageLayout → List ℕ → Result Image ImageErr
+reading_in layout bytes = do
+  image ← outline_in layout bytes
   _ ← imports image
   Ok image
 

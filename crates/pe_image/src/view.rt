@@ -6,7 +6,7 @@ ghost use Rattle.pe_image.specs.Bound.{bound_name};
 ghost use Rattle.pe_image.specs.Imports.{imports, imports_of};
 ghost use Rattle.pe_image.specs.Answer.{Refuses};
 ghost use Rattle.pe_image.specs.Reading.{HasHeaders, IsImage, ImageIsRefused};
-ghost use Rattle.pe_image.specs.Reading.{sectioned_importing, outline_alone};
+ghost use Rattle.pe_image.specs.Reading.{sectioned_importing, reading_in, outline_alone};
 
 use crate::directory::{DataDirectory, NO_TABLE};
 use crate::image_layout::ImageLayout;
@@ -75,14 +75,26 @@ impl<'a> ImageView<'a> {
         ensures image { IfOk result (λ view. IsImage bytes.now view) }
         ensures refusal { IfErr result (λ e. ImageIsRefused bytes.now e) }
     {
+        ImageView::read_in(alloc, bytes, ImageLayout::File)
+    }
+
+    /// Reads an image in a layout, with the checks of [`ImageView::read`]. Of a mapped image all of
+    /// a section's size lies in the bytes, and the slots of imports may be bound.
+    pub fn read_in(
+        alloc: Global,
+        bytes: &'a [u8],
+        layout: ImageLayout,
+    ) -> Result<ImageView<'a>, ImageErr>
+        ensures image { IfOk result (λ view. reading_in layout bytes.now ≡ Ok view) }
+        ensures refusal { IfErr result (λ e. Refuses e (reading_in layout bytes.now)) }
+    {
         check_headers(bytes)?;
         let imports = directory(bytes, IMAGE_DIRECTORY_ENTRY_IMPORT);
-        ImageView::importing(alloc, bytes, ImageLayout::File, imports)
+        ImageView::importing(alloc, bytes, layout, imports)
     }
 
     /// Reads an image without what it imports: the view imports nothing. The checks are those of
-    /// [`ImageView::read`] up to the last section, so that no import is refused; of a mapped image,
-    /// all of a section's size lies in the bytes.
+    /// [`ImageView::read_in`] up to the last section, so that no import is refused.
     pub fn read_outline(
         alloc: Global,
         bytes: &'a [u8],

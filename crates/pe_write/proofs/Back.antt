@@ -8,7 +8,7 @@ use Rattle.std.proofs.lemmas.Bool.{and_from, or_left, or_right, le-leb, eq-eqb, 
 use Rattle.std.proofs.lemmas.List.{length-append, length-replicate, length-drop, drop-drop, drop_at, take-append-le, take_min}
 use Rattle.std.proofs.lemmas.List.Sums.{sum_by-cons}
 use Rattle.pe_image.proofs.Whole as one
-use Rattle.pe_image.proofs.Whole.{whole_is}
+use Rattle.pe_image.proofs.Whole.{in_file, whole_is}
 use Rattle.pe_write.proofs.Below.{raw_below}
 use Rattle.pe_write.proofs.Front.{front_of, front_length, count_is, entry_is, base_is, size_is, sections_at_is, imports_is, exceptions_is, headers_pass}
 use Rattle.pe_write.proofs.Rows.{headers_read, rows, fields_length}
@@ -209,7 +209,8 @@ module _ (image : ImageParts) (fits : CanBeWritten image) where
   read_parts : reading b ≡ Ok (image_read image)
   read_parts =
       let rest = section_table ps ++ tail in
-      sym (whole_is b image.imports (headers_pass image fits rest long)
+      sym (in_file b)
+      ∙ sym (whole_is layouts.File b image.imports (headers_pass image fits rest long)
       (sym (imports_is image fits rest long)))
       ∙ one.is_read layouts.File b image.imports (image_end b) (length image.sections)
       (length (front_of image)) refl (sym (count_is image fits rest long))
