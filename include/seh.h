@@ -1,12 +1,21 @@
 /*
  * seh.h - the stack of 64-bit Windows code, unwound by the function tables of its images.
  *
- * The functions read the bytes of an image's file (PE32+, x64), bytes of a process's memory, and
+ * The functions read the bytes of an image (PE32+, x64), bytes of a process's memory, and
  * registers, all of which the caller passes. They look at no file, no process and no state of
  * their own, and may be called from any number of threads at once. What each answers is proved to
  * be what the definitions say: those of the Microsoft x64 ABI ("x64 exception handling") as crates
- * pe_image, eh_tables, virtual_unwind and seh_c have them, in specs/. README.md ("From C") says how
- * to build the library, and what is proved of it.
+ * pe_image, eh_tables, virtual_unwind, unwind_check and seh_c have them, in specs/. README.md
+ * ("From C") says how to build the library, and what is proved of it.
+ *
+ * The bytes of an image are given in one of two forms, and each function has a parameter for it, as
+ * ImageDirectoryEntryToDataEx of dbghelp has:
+ *
+ *  - mapped is false: they are the image's file, whole. A section's bytes are its raw data.
+ *  - mapped is true: they are memory from the image's base on, into which a loader mapped the image,
+ *    its headers first. A section's bytes are at its RVA, and all of its size has to be there: pages
+ *    that can't be read are passed as zeros. What a loader wrote there, as relocated addresses, is
+ *    read as it is.
  *
  * Any bytes and any numbers may be passed as an image, as memory and as registers. What no clause
  * of a contract can say, the caller owes:
@@ -15,10 +24,12 @@
  *    points to may be read for as long as the call takes (of the last parameters: written).
  *  - Nothing else writes what is passed, and what is written overlaps nothing else that is passed.
  *  - A count of bytes, or of elements times their size, is below 2^63.
- *  - 64 KiB of stack are left.
+ *  - 64 KiB of stack are left; for seh_validate 1 MiB, and its probe has at most 4,096 bytes.
  *  - malloc, realloc and free are one allocator's, which aligns a block as C demands. No call is
- *    made in a signal handler that may have interrupted malloc. A call takes memory for the sections
- *    of the image (seh_scopes for its imports too), and gives it back; what it answers holds none.
+ *    made in a signal handler that may have interrupted malloc. A call takes one block, of 32 bytes
+ *    for each section of the image, since an image may have up to 65,535 of them; seh_scopes takes
+ *    more for the imports, and seh_validate for the instructions of a function at a time. A call
+ *    gives back all that it takes; what it answers holds none.
  *
  * Addresses in an image (RVAs) count from its base. All numbers are little-endian, as in the
  * formats.
@@ -45,16 +56,16 @@ enum seh_code {
     SEH_NO_FUNCTION = 4, /* no entry covers the address: code there is a leaf function */
 
     /* The bytes are no image: the first check that fails. */
-    SEH_IMAGE_TRUNCATED = 16, /* the header at file offset `at` passes the end of the file */
-    SEH_IMAGE_NOT_PE = 17,    /* the signature at file offset `at` is missing */
+    SEH_IMAGE_TRUNCATED = 16, /* the header at offset `at` passes the end of the bytes */
+    SEH_IMAGE_NOT_PE = 17,    /* the signature at offset `at` is missing */
     SEH_IMAGE_MACHINE = 18,   /* the field Machine is `at`, and not 0x8664 */
     SEH_IMAGE_MAGIC = 19,     /* the field Magic is `at`, and not 0x20B */
-    SEH_IMAGE_LAYOUT = 20,    /* section number `at` doesn't lie as it must in file and image */
-    SEH_IMAGE_IMPORT = 21,    /* import number `at` can't be read; by seh_scopes alone */
+    SEH_IMAGE_LAYOUT = 20,    /* section number `at` doesn't lie as it must in bytes and image */
+    SEH_IMAGE_IMPORT = 21,    /* import number `at` can't be read; by seh_scopes and seh_validate */
 
     /* The function table, or the entry that is asked, can't be read: the first check that fails.
        `at` is the number of the entry, but for the first two. Other entries aren't looked at, but
-       for their ranges. */
+       for their ranges; by seh_validate all. */
     SEH_TABLE_TRUNCATED = 32,   /* the table or unwind info at RVA `at` isn't stored whole */
     SEH_TABLE_MISALIGNED = 33,  /* the table or unwind info at RVA `at` isn't 4-aligned */
     SEH_TABLE_EMPTY_RANGE = 34, /* the entry's begin isn't below its end */
@@ -137,14 +148,40 @@ typedef struct seh_image {
     uint64_t functions;   /* how many entries its function table has */
 } seh_image;
 
+/* A rule on an entry of a function table and its code (Microsoft x64 ABI, "x64 exception handling"
+   and "Prolog and epilog"). */
+enum seh_rule {
+    SEH_RULE_NONE = 0,
+    SEH_RULE_DECODE = 1,      /* no instruction that is known stands there, or it passes the end of
+                                 the entry or of its prologue */
+    SEH_RULE_CHAIN = 2,       /* the entry is chained to another one */
+    SEH_RULE_CODES = 3,       /* unwind codes of no prologue: of a machine frame or an XMM register,
+                                 at no instruction's end, of a register that is saved twice or isn't
+                                 nonvolatile, of a place outside the allocation */
+    SEH_RULE_PROLOGUE = 4,    /* an instruction of the prologue isn't what its code says */
+    SEH_RULE_STACK_WRITE = 5, /* an instruction of the body writes RSP or the frame register */
+    SEH_RULE_UNSAVED = 6,     /* an instruction of the body writes a nonvolatile register that no
+                                 code saves */
+    SEH_RULE_EPILOGUE = 7     /* an epilogue doesn't give back exactly what the prologue took */
+};
+
+/* What is said of the code of an image. */
+typedef struct seh_verdict {
+    uint64_t entry; /* the number of the first entry in which a rule fails; how many entries there
+                       are, where none does */
+    uint64_t at;    /* the RVA at which it fails first in that entry; 0 where none does */
+    uint32_t rule;  /* the first rule that fails there: one of enum seh_rule */
+} seh_verdict;
+
 /*
  * Tells whether bytes are an image whose headers, sections and function table can be read, and what
  * it is. No entry's unwind info is read.
  *
- * file, size    the image's file, whole
+ * bytes, size   the image
+ * mapped        false: its file, whole; true: as a loader mapped it
  * image         what is found; written with SEH_OK alone
  */
-seh_status seh_check(const uint8_t *file, size_t size, seh_image *image);
+seh_status seh_check(const uint8_t *bytes, size_t size, bool mapped, seh_image *image);
 
 /*
  * Finds the entry of the function table whose range covers an address. Of all entries that one
@@ -153,21 +190,22 @@ seh_status seh_check(const uint8_t *file, size_t size, seh_image *image);
  * rva           the address, from the image's base
  * function      what is found; written with SEH_OK alone
  */
-seh_status seh_find_function(const uint8_t *file, size_t size, uint32_t rva,
+seh_status seh_find_function(const uint8_t *bytes, size_t size, bool mapped, uint32_t rva,
                              seh_function *function);
 
 /*
  * Finds the caller of a frame: one virtual unwind, as of a leaf function, or of a place in the
  * prologue, the body or an epilogue of the entry that covers RIP.
  *
- * base          where the image lies in the process; its code is there as the file has it, but
+ * base          where the image lies in the process; its code is there as `bytes` have it, but
  *               where a range has other bytes
  * ranges, count the memory, in ascending order
  * context       the registers in the frame
  * frame         what is found; written with SEH_OK alone
  */
-seh_status seh_unwind(const uint8_t *file, size_t size, uint64_t base, const seh_range *ranges,
-                      size_t count, const seh_context *context, seh_frame *frame);
+seh_status seh_unwind(const uint8_t *bytes, size_t size, bool mapped, uint64_t base,
+                      const seh_range *ranges, size_t count, const seh_context *context,
+                      seh_frame *frame);
 
 /*
  * Finds the frames from a context on, innermost first, as far as RIP lies in the image. The image
@@ -184,23 +222,41 @@ seh_status seh_unwind(const uint8_t *file, size_t size, uint64_t base, const seh
  * Where a frame is refused, the frames below it have been written, and the answer is that of
  * seh_unwind for it.
  */
-seh_status seh_walk(const uint8_t *file, size_t size, uint64_t base, const seh_range *ranges,
-                    size_t count, const seh_context *context, seh_frame *frames, size_t room,
-                    uint64_t *written);
+seh_status seh_walk(const uint8_t *bytes, size_t size, bool mapped, uint64_t base,
+                    const seh_range *ranges, size_t count, const seh_context *context,
+                    seh_frame *frames, size_t room, uint64_t *written);
 
 /*
  * Finds the scope records of the entry that covers an address which hold it, innermost first: the
  * order in which a search asks their filters. None are there where the entry's handler isn't
- * __C_specific_handler. Which one is, the image's imports tell, so they are read too, and refused
- * with SEH_IMAGE_IMPORT, where one is by ordinal for example.
+ * __C_specific_handler. Which one is, the image's imports tell, so they are read too, all of them,
+ * and refused with SEH_IMAGE_IMPORT where one can't be read or is by ordinal.
  *
  * scopes, room  an array, and how many records it has room for
  * written       how many were written; set by each call
  *
  * SEH_MORE      there are more of them
  */
-seh_status seh_scopes(const uint8_t *file, size_t size, uint32_t rva, seh_scope *scopes,
-                      size_t room, uint64_t *written);
+seh_status seh_scopes(const uint8_t *bytes, size_t size, bool mapped, uint32_t rva,
+                      seh_scope *scopes, size_t room, uint64_t *written);
+
+/*
+ * Tells whether the code of an image keeps its unwind information: of each entry, that each
+ * instruction of its prologue is what its unwind code says, that its body leaves RSP, the frame
+ * register and nonvolatile registers that aren't saved alone, and that its epilogues undo the
+ * prologue. Where that is so of all entries, an unwinding from any instruction of theirs finds the
+ * registers of the caller. The rules are those that code by seh keeps, and stricter than the ABI:
+ * what other compilers make may fail one, as a chained entry does.
+ *
+ * The imports and all entries are read, and refused.
+ *
+ * probe, probe_size  the code of the image's stack probe, __chkstk, from its first byte to its last.
+ *                    A prologue with a large allocation may call code that begins with these bytes;
+ *                    where there are none, any code
+ * verdict            what is found; written with SEH_OK alone
+ */
+seh_status seh_validate(const uint8_t *bytes, size_t size, bool mapped, const uint8_t *probe,
+                        size_t probe_size, seh_verdict *verdict);
 
 #ifdef __cplusplus
 }

@@ -21,6 +21,21 @@ pub const MORE: u32 = 3;
 /// `SEH_NO_FUNCTION`: no entry covers the address.
 pub const NO_FUNCTION: u32 = 4;
 
+/// In which form the bytes of an image are given.
+#[derive(Clone, Copy, Debug, PartialEq, Eq)]
+pub enum Layout {
+    /// The image's file, whole.
+    File,
+    /// Memory from the image's base on, into which a loader mapped it.
+    Mapped,
+}
+
+impl Layout {
+    fn mapped(self) -> bool {
+        self == Layout::Mapped
+    }
+}
+
 /// Bytes of a process's memory from an address on.
 #[repr(C)]
 #[derive(Clone, Copy)]
@@ -106,20 +121,37 @@ pub struct Image {
     pub functions: u64,
 }
 
+/// What is said of the code of an image: `rule`, one of `enum seh_rule` in `seh.h`, fails first at
+/// the RVA `at` of entry number `entry`. It is 0 where none of so many entries fails in one.
+#[repr(C)]
+#[derive(Clone, Copy, Debug, Default, PartialEq, Eq)]
+pub struct Verdict {
+    pub entry: u64,
+    pub at: u64,
+    pub rule: u32,
+}
+
 mod c {
     use super::*;
 
     extern "C" {
-        pub fn seh_check(file: *const u8, size: usize, image: *mut Image) -> Status;
-        pub fn seh_find_function(
-            file: *const u8,
+        pub fn seh_check(
+            bytes: *const u8,
             size: usize,
+            mapped: bool,
+            image: *mut Image,
+        ) -> Status;
+        pub fn seh_find_function(
+            bytes: *const u8,
+            size: usize,
+            mapped: bool,
             rva: u32,
             function: *mut Function,
         ) -> Status;
         pub fn seh_unwind(
-            file: *const u8,
+            bytes: *const u8,
             size: usize,
+            mapped: bool,
             base: u64,
             ranges: *const Range<'_>,
             count: usize,
@@ -127,8 +159,9 @@ mod c {
             frame: *mut Frame,
         ) -> Status;
         pub fn seh_walk(
-            file: *const u8,
+            bytes: *const u8,
             size: usize,
+            mapped: bool,
             base: u64,
             ranges: *const Range<'_>,
             count: usize,
@@ -138,12 +171,21 @@ mod c {
             written: *mut u64,
         ) -> Status;
         pub fn seh_scopes(
-            file: *const u8,
+            bytes: *const u8,
             size: usize,
+            mapped: bool,
             rva: u32,
             scopes: *mut Scope,
             room: usize,
             written: *mut u64,
+        ) -> Status;
+        pub fn seh_validate(
+            bytes: *const u8,
+            size: usize,
+            mapped: bool,
+            probe: *const u8,
+            probe_size: usize,
+            verdict: *mut Verdict,
         ) -> Status;
     }
 }
@@ -161,17 +203,24 @@ fn answer<T>(status: Status, found: T) -> Result<T, Status> {
 // ask no more.
 
 /// What an image is; none of its unwind infos is read.
-pub fn check(file: &[u8]) -> Result<Image, Status> {
+pub fn check(bytes: &[u8], layout: Layout) -> Result<Image, Status> {
     let mut image = Image::default();
-    let status = unsafe { c::seh_check(file.as_ptr(), file.len(), &mut image) };
+    let mapped = layout.mapped();
+    let status = unsafe { c::seh_check(bytes.as_ptr(), bytes.len(), mapped, &mut image) };
     answer(status, image)
 }
 
 /// The entry whose range covers an RVA; none where the code there is a leaf function.
-pub fn find_function(file: &[u8], rva: u32) -> Result<Option<Function>, Status> {
+pub fn find_function(
+    bytes: &[u8],
+    layout: Layout,
+    rva: u32,
+) -> Result<Option<Function>, Status> {
     let mut function = Function::default();
-    let status =
-        unsafe { c::seh_find_function(file.as_ptr(), file.len(), rva, &mut function) };
+    let mapped = layout.mapped();
+    let status = unsafe {
+        c::seh_find_function(bytes.as_ptr(), bytes.len(), mapped, rva, &mut function)
+    };
     if status.code == NO_FUNCTION {
         return Ok(None);
     }
@@ -180,7 +229,8 @@ pub fn find_function(file: &[u8], rva: u32) -> Result<Option<Function>, Status> 
 
 /// The caller of a frame, in an image that lies at `base`.
 pub fn unwind(
-    file: &[u8],
+    bytes: &[u8],
+    layout: Layout,
     base: u64,
     ranges: &[Range<'_>],
     context: &Context,
@@ -188,8 +238,9 @@ pub fn unwind(
     let mut frame = Frame::default();
     let status = unsafe {
         c::seh_unwind(
-            file.as_ptr(),
-            file.len(),
+            bytes.as_ptr(),
+            bytes.len(),
+            layout.mapped(),
             base,
             ranges.as_ptr(),
             ranges.len(),
@@ -203,7 +254,8 @@ pub fn unwind(
 /// The frames from a context on, as far as RIP lies in the image and `frames` has room: how many
 /// were written, and why no more (`OK`: RIP lies outside the image; `MORE`: there is no room).
 pub fn walk(
-    file: &[u8],
+    bytes: &[u8],
+    layout: Layout,
     base: u64,
     ranges: &[Range<'_>],
     context: &Context,
@@ -212,8 +264,9 @@ pub fn walk(
     let mut written = 0;
     let status = unsafe {
         c::seh_walk(
-            file.as_ptr(),
-            file.len(),
+            bytes.as_ptr(),
+            bytes.len(),
+            layout.mapped(),
             base,
             ranges.as_ptr(),
             ranges.len(),
@@ -228,12 +281,18 @@ pub fn walk(
 
 /// The scope records of the entry that covers an RVA which hold it, innermost first: how many were
 /// written, and why no more (`MORE`: there is no room).
-pub fn scopes(file: &[u8], rva: u32, scopes: &mut [Scope]) -> (usize, Status) {
+pub fn scopes(
+    bytes: &[u8],
+    layout: Layout,
+    rva: u32,
+    scopes: &mut [Scope],
+) -> (usize, Status) {
     let mut written = 0;
     let status = unsafe {
         c::seh_scopes(
-            file.as_ptr(),
-            file.len(),
+            bytes.as_ptr(),
+            bytes.len(),
+            layout.mapped(),
             rva,
             scopes.as_mut_ptr(),
             scopes.len(),
@@ -241,4 +300,25 @@ pub fn scopes(file: &[u8], rva: u32, scopes: &mut [Scope]) -> (usize, Status) {
         )
     };
     (written as usize, status)
+}
+
+/// Whether the code of an image keeps its unwind information; `probe` is the code of its stack
+/// probe, `__chkstk`.
+///
+/// # Panics
+/// Where `probe` has more than 4,096 bytes.
+pub fn validate(bytes: &[u8], layout: Layout, probe: &[u8]) -> Result<Verdict, Status> {
+    assert!(probe.len() <= 4096, "the code of a stack probe");
+    let mut verdict = Verdict::default();
+    let status = unsafe {
+        c::seh_validate(
+            bytes.as_ptr(),
+            bytes.len(),
+            layout.mapped(),
+            probe.as_ptr(),
+            probe.len(),
+            &mut verdict,
+        )
+    };
+    answer(status, verdict)
 }

@@ -47,14 +47,14 @@ int main(int argc, char **argv)
     memset(&before, 0xEE, sizeof before);
     frame = before;
     asked = 0;
-    status = seh_unwind(file, size, 0x140000000, &range, 1, &context, &frame);
+    status = seh_unwind(file, size, false, 0x140000000, &range, 1, &context, &frame);
     all = asked;
     if (status.code == SEH_NO_MEMORY)
         wrong++;
     for (long k = 0; k < all; k++) {
         frame = before;
         granted = k;
-        status = seh_unwind(file, size, 0x140000000, &range, 1, &context, &frame);
+        status = seh_unwind(file, size, false, 0x140000000, &range, 1, &context, &frame);
         granted = -1;
         if (status.code != SEH_NO_MEMORY || memcmp(&frame, &before, sizeof frame) != 0)
             wrong++;

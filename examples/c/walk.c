@@ -1,7 +1,8 @@
 /*
- * walk IMAGE REGISTERS STACK: prints the frames of a stack, innermost first, as far as their code
- * lies in an image. REGISTERS is a text: a line `NAME NUMBER` for each register, for `base`, where
- * the image lies, and for `stack`, the address of the first byte of STACK. Numbers are hexadecimal.
+ * walk [--mapped] IMAGE REGISTERS STACK: prints the frames of a stack, innermost first, as far as
+ * their code lies in an image. REGISTERS is a text: a line `NAME NUMBER` for each register, for
+ * `base`, where the image lies, and for `stack`, the address of the first byte of STACK. Numbers are
+ * hexadecimal. With --mapped the library is given the image as a loader maps it, and not its file.
  */
 #include "seh.h"
 
@@ -13,6 +14,13 @@
 struct registers {
     seh_context context;
     uint64_t base, stack;
+};
+
+/* The bytes of an image, in one of the forms that seh.h names. */
+struct image {
+    uint8_t *bytes;
+    size_t size;
+    bool mapped;
 };
 
 /* Reads a file whole. */
@@ -35,6 +43,42 @@ static uint8_t *read_file(const char *name, size_t *size)
     bytes[*size] = 0;
     fclose(file);
     return bytes;
+}
+
+static uint32_t number_at(const uint8_t *bytes)
+{
+    return bytes[0] | bytes[1] << 8 | bytes[2] << 16 | (uint32_t)bytes[3] << 24;
+}
+
+static size_t least(size_t a, size_t b)
+{
+    return a < b ? a : b;
+}
+
+/* Maps the file of an image that seh_check found right, as a loader does (PE format, "Section
+   Table"): headers and sections at their RVAs, in zeros. */
+static void map_image(struct image *image, uint64_t size_of_image)
+{
+    const uint8_t *file = image->bytes, *headers = file + number_at(file + 0x3c), *section;
+    size_t size = (size_t)(size_of_image + 4095) / 4096 * 4096;
+    uint8_t *bytes = calloc(size + 1, 1);
+
+    if (!bytes) {
+        perror("the mapped image");
+        exit(2);
+    }
+    /* SizeOfHeaders */
+    memcpy(bytes, file, least(number_at(headers + 84), least(image->size, size)));
+    section = headers + 24 + (headers[20] | headers[21] << 8);
+    for (unsigned count = headers[6] | headers[7] << 8; count; count--, section += 40) {
+        uint32_t virtual_size = number_at(section + 8), raw_size = number_at(section + 16);
+        size_t stored = virtual_size ? least(virtual_size, raw_size) : raw_size;
+
+        memcpy(bytes + number_at(section + 12), file + (stored ? number_at(section + 20) : 0),
+               stored);
+    }
+    free(image->bytes);
+    *image = (struct image){bytes, size, true};
 }
 
 /* Where a line's number goes; null where its name isn't known. */
@@ -73,12 +117,13 @@ static void read_registers(const char *name, struct registers *r)
 }
 
 /* A line for each `__try` around a place; none where the imports can't be read. */
-static void print_scopes(const uint8_t *file, size_t size, uint32_t rva)
+static void print_scopes(const struct image *image, uint32_t rva)
 {
     seh_scope scopes[8];
     uint64_t written;
 
-    seh_scopes(file, size, rva, scopes, sizeof scopes / sizeof scopes[0], &written);
+    seh_scopes(image->bytes, image->size, image->mapped, rva, scopes,
+               sizeof scopes / sizeof scopes[0], &written);
     for (uint64_t k = 0; k < written; k++)
         printf("    __try %" PRIx32 "..%" PRIx32 ": %" PRIx32 ", %" PRIx32 "\n", scopes[k].begin,
                scopes[k].end, scopes[k].handler_address, scopes[k].jump_target);
@@ -92,10 +137,11 @@ static void print_context(const seh_context *c)
 }
 
 /* A line for the place of a frame, with the function that holds it. */
-static void print_place(const uint8_t *file, size_t size, uint64_t base, uint64_t rip)
+static void print_place(const struct image *image, uint64_t base, uint64_t rip)
 {
     seh_function function;
-    seh_status status = seh_find_function(file, size, (uint32_t)(rip - base), &function);
+    seh_status status = seh_find_function(image->bytes, image->size, image->mapped,
+                                          (uint32_t)(rip - base), &function);
 
     printf("%" PRIx64, rip);
     if (status.code == SEH_OK)
@@ -106,55 +152,68 @@ static void print_place(const uint8_t *file, size_t size, uint64_t base, uint64_
         printf(" in a function that is refused (%" PRIu32 ")", status.code);
 }
 
-int main(int argc, char **argv)
+/* Prints the frames from a context on, whose last caller it leaves there. */
+static seh_status walk(const struct image *image, struct registers *r, const seh_range *stack)
 {
-    size_t size, stack_size;
-    struct registers r;
-    seh_frame frames[4];
-    seh_image image;
+    seh_frame frames[4]; /* few, so that a walk goes on more than once */
     seh_status status;
     uint64_t written;
-    uint8_t *file, *stack;
 
-    if (argc != 4) {
-        fprintf(stderr, "usage: walk IMAGE REGISTERS STACK\n");
-        return 2;
-    }
-    file = read_file(argv[1], &size);
-    read_registers(argv[2], &r);
-    stack = read_file(argv[3], &stack_size);
-    status = seh_check(file, size, &image);
-    if (status.code != SEH_OK) {
-        printf("refused %" PRIu32 " at %" PRIx64 "\n", status.code, status.at);
-        return 1;
-    }
-    printf("image of %" PRIu64 " bytes with %" PRIu64 " functions, at %" PRIx64 "\n", image.size,
-           image.functions, r.base);
     do {
-        seh_range range = {r.stack, stack, stack_size};
-
-        /* a small array, so that a walk goes on more than once */
-        status = seh_walk(file, size, r.base, &range, 1, &r.context, frames,
-                          sizeof frames / sizeof frames[0], &written);
+        status = seh_walk(image->bytes, image->size, image->mapped, r->base, stack, 1, &r->context,
+                          frames, sizeof frames / sizeof frames[0], &written);
         for (uint64_t k = 0; k < written; k++) {
-            uint64_t rip = k ? frames[k - 1].caller.rip : r.context.rip;
+            uint64_t rip = k ? frames[k - 1].caller.rip : r->context.rip;
 
-            print_place(file, size, r.base, rip);
+            print_place(image, r->base, rip);
             printf(", frame %" PRIx64, frames[k].frame);
             if (frames[k].has_handler)
                 printf(", handler %" PRIx32, frames[k].handler);
             printf("\n");
-            print_scopes(file, size, (uint32_t)(rip - r.base));
+            print_scopes(image, (uint32_t)(rip - r->base));
             print_context(&frames[k].caller);
         }
         if (written)
-            r.context = frames[written - 1].caller;
+            r->context = frames[written - 1].caller;
     } while (status.code == SEH_MORE);
+    return status;
+}
+
+int main(int argc, char **argv)
+{
+    bool mapped = argc == 5 && strcmp(argv[1], "--mapped") == 0;
+    char **files = argv + 1 + mapped;
+    struct image image = {0};
+    struct registers r;
+    seh_range stack;
+    seh_image found;
+    seh_status status;
+    uint8_t *bytes;
+
+    if (argc != 4 + mapped) {
+        fprintf(stderr, "usage: walk [--mapped] IMAGE REGISTERS STACK\n");
+        return 2;
+    }
+    image.bytes = read_file(files[0], &image.size);
+    read_registers(files[1], &r);
+    bytes = read_file(files[2], &stack.size);
+    stack.at = r.stack;
+    stack.bytes = bytes;
+    status = seh_check(image.bytes, image.size, false, &found);
+    if (status.code == SEH_OK && mapped) {
+        map_image(&image, found.size);
+        status = seh_check(image.bytes, image.size, true, &found);
+    }
+    if (status.code == SEH_OK) {
+        printf("image of %" PRIu64 " bytes with %" PRIu64 " functions, at %" PRIx64 "\n",
+               found.size, found.functions, r.base);
+        status = walk(&image, &r, &stack);
+    }
     if (status.code == SEH_OK)
         printf("%" PRIx64 " lies outside the image\n", r.context.rip);
     else
         printf("refused %" PRIu32 " at %" PRIx64 "\n", status.code, status.at);
-    free(file);
-    free(stack);
+    free(image.bytes);
+    free(bytes);
     return status.code != SEH_OK;
 }

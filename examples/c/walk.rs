@@ -1,11 +1,11 @@
 //! What walk.c does, in Rust, over include/seh.rs.
 
-// one function of the wrapper isn't used here
+// some functions of the wrapper aren't used here
 #[allow(dead_code)]
 #[path = "../../include/seh.rs"]
 mod seh;
 
-use seh::{Context, Frame, Range, Scope, Status};
+use seh::{Context, Frame, Layout, Range, Scope, Status};
 use std::process::exit;
 
 fn print_context(c: &Context) {
@@ -17,7 +17,7 @@ fn print_context(c: &Context) {
 
 fn print_place(file: &[u8], base: u64, rip: u64) {
     print!("{rip:x}");
-    match seh::find_function(file, rip.wrapping_sub(base) as u32) {
+    match seh::find_function(file, Layout::File, rip.wrapping_sub(base) as u32) {
         Ok(Some(function)) => print!(" in function {:x}..{:x}", function.begin, function.end),
         Ok(None) => print!(" in no function"),
         Err(status) => print!(" in a function that is refused ({})", status.code),
@@ -26,7 +26,7 @@ fn print_place(file: &[u8], base: u64, rip: u64) {
 
 fn print_scopes(file: &[u8], rva: u32) {
     let mut scopes = [Scope::default(); 8];
-    let (count, _) = seh::scopes(file, rva, &mut scopes);
+    let (count, _) = seh::scopes(file, Layout::File, rva, &mut scopes);
     for scope in &scopes[..count] {
         println!(
             "    __try {:x}..{:x}: {:x}, {:x}",
@@ -75,7 +75,7 @@ fn main() {
     let text = std::fs::read_to_string(registers).expect("the registers");
     let stack = std::fs::read(stack).expect("the stack");
     let (mut context, base, stack_at) = read_registers(&text).expect("lines `NAME NUMBER`");
-    let found = seh::check(&file).unwrap_or_else(|status| refused(status));
+    let found = seh::check(&file, Layout::File).unwrap_or_else(|status| refused(status));
     println!(
         "image of {} bytes with {} functions, at {base:x}",
         found.size, found.functions
@@ -83,7 +83,8 @@ fn main() {
     let ranges = [Range::new(stack_at, &stack)];
     loop {
         let mut frames = [Frame::default(); 4];
-        let (count, status) = seh::walk(&file, base, &ranges, &context, &mut frames);
+        let (count, status) =
+            seh::walk(&file, Layout::File, base, &ranges, &context, &mut frames);
         for frame in &frames[..count] {
             print_place(&file, base, context.rip);
             print!(", frame {:x}", frame.frame);

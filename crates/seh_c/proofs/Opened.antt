@@ -3,8 +3,8 @@ use Rattle.std.proofs.Common.{◌≡◌, ℕ, List, Result, Ok, Err, refl, sym, 
 use Rattle.seh_num.specs.Answers.{◌>>=◌}
 use Rattle.pe_image.specs.Answer.{Refuses}
 use Rattle.pe_image.specs.Image.{Image}
-use Rattle.pe_image.specs.Reading.{outline_alone, ImageIsRefused}
-use Rattle.pe_image.specs.declared.image_layout.ImageLayout.TheVariants as layouts
+use Rattle.pe_image.specs.Reading.{outline_alone, reading_in}
+use Rattle.pe_image.specs.declared.image_layout.ImageLayout.{ImageLayout}
 use Rattle.pe_image.specs.declared.refusal.ImageErr.{ImageErr}
 use Rattle.pe_image.specs.declared.refusal.ImageErr.TheVariants as images
 use Rattle.eh_tables.specs.declared.range.RuntimeFunction.{RuntimeFunction}
@@ -20,25 +20,27 @@ use Rattle.seh_c.specs.Scopes.{Filled, GivesScopes}
 use Rattle.seh_c.specs.Walks.{Walked, GivesWalk}
 use Rattle.seh_c.specs.Openings.{Answer, image_refusal, of_image, of_table, Gives, opened, opened_whole, table_of}
 
-pub opening_refused : (file : List ℕ) (e : ImageErr) → Refuses e (outline_alone layouts.File file)
-    → Gives {A = Image} (Err (image_refusal e)) (opened file)
-opening_refused file images.Memory h = tt
-opening_refused file (images.Truncated x) h = ap of_image h
-opening_refused file (images.NotPe x) h = ap of_image h
-opening_refused file (images.Machine x) h = ap of_image h
-opening_refused file (images.Magic x) h = ap of_image h
-opening_refused file (images.Layout x) h = ap of_image h
-opening_refused file (images.ImportBad x) h = ap of_image h
+pub opening_refused : (layout : ImageLayout) (bytes : List ℕ) (e : ImageErr)
+    → Refuses e (outline_alone layout bytes)
+    → Gives {A = Image} (Err (image_refusal e)) (opened layout bytes)
+opening_refused layout bytes images.Memory h = tt
+opening_refused layout bytes (images.Truncated x) h = ap of_image h
+opening_refused layout bytes (images.NotPe x) h = ap of_image h
+opening_refused layout bytes (images.Machine x) h = ap of_image h
+opening_refused layout bytes (images.Magic x) h = ap of_image h
+opening_refused layout bytes (images.Layout x) h = ap of_image h
+opening_refused layout bytes (images.ImportBad x) h = ap of_image h
 
-pub reading_refused : (file : List ℕ) (e : ImageErr) → ImageIsRefused file e
-    → Gives {A = Image} (Err (image_refusal e)) (opened_whole file)
-reading_refused file images.Memory h = tt
-reading_refused file (images.Truncated x) h = ap of_image h
-reading_refused file (images.NotPe x) h = ap of_image h
-reading_refused file (images.Machine x) h = ap of_image h
-reading_refused file (images.Magic x) h = ap of_image h
-reading_refused file (images.Layout x) h = ap of_image h
-reading_refused file (images.ImportBad x) h = ap of_image h
+pub reading_refused : (layout : ImageLayout) (bytes : List ℕ) (e : ImageErr)
+    → Refuses e (reading_in layout bytes)
+    → Gives {A = Image} (Err (image_refusal e)) (opened_whole layout bytes)
+reading_refused layout bytes images.Memory h = tt
+reading_refused layout bytes (images.Truncated x) h = ap of_image h
+reading_refused layout bytes (images.NotPe x) h = ap of_image h
+reading_refused layout bytes (images.Machine x) h = ap of_image h
+reading_refused layout bytes (images.Magic x) h = ap of_image h
+reading_refused layout bytes (images.Layout x) h = ap of_image h
+reading_refused layout bytes (images.ImportBad x) h = ap of_image h
 
 -- what comes first is refused
 pub gives_then : {A B : Type 0} (e : Refusal) (r : Answer A) (f : A → Answer B)

@@ -3,6 +3,7 @@ use Rattle.std.specs.Prelude.{◌≡◌, ℕ, List, Option, option_map, Result, 
 use Rattle.seh_num.specs.Answers.{◌>>=◌}
 use Rattle.flat_memory.specs.Memory.{Memory}
 use Rattle.x64_machine.specs.declared.context.Context.{Context}
+use Rattle.pe_image.specs.declared.image_layout.ImageLayout.{ImageLayout}
 use Rattle.pe_image.specs.Image.{Image}
 use Rattle.eh_tables.specs.Covering.{entry_covering}
 use Rattle.eh_tables.specs.Tables.{Entry, Tables}
@@ -36,16 +37,16 @@ caller_within image base ranges c = do
   t ← table_of image
   caller_in t base (snapshot image base ranges) c
 
-abbrev pub caller_from : List ℕ → ℕ → List SehRange → Context → Answer Caller
-caller_from file base ranges c = do
-  image ← opened file
+abbrev pub caller_from : ImageLayout → List ℕ → ℕ → List SehRange → Context → Answer Caller
+caller_from layout bytes base ranges c = do
+  image ← opened layout bytes
   caller_within image base ranges c
 
--- file: the bytes of an image, which lies at base; ranges: of the memory
-abbrev pub unwound : List ℕ → ℕ → List SehRange → Context → Answer Caller
-unwound file base ranges c = do
+-- bytes: of an image, which lies at base; ranges: of the memory
+abbrev pub unwound : ImageLayout → List ℕ → ℕ → List SehRange → Context → Answer Caller
+unwound layout bytes base ranges c = do
   _ ← ranges_checked 0 0 ranges
-  caller_from file base ranges c
+  caller_from layout bytes base ranges c
 
 -- ---- the entry of an address
 
@@ -55,7 +56,7 @@ found_within image rva = do
   o ← of_table (entry_covering t rva)
   Ok (option_map c_function o)
 
-abbrev pub found_in : List ℕ → ℕ → Answer (Option SehFunction)
-found_in file rva = do
-  image ← opened file
+abbrev pub found_in : ImageLayout → List ℕ → ℕ → Answer (Option SehFunction)
+found_in layout bytes rva = do
+  image ← opened layout bytes
   found_within image rva

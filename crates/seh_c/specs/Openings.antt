@@ -2,8 +2,8 @@
 use Rattle.std.specs.Prelude.{◌≡◌, ℕ, List, length, Result, Ok, Err}
 use Rattle.seh_num.specs.Answers.{◌>>=◌}
 use Rattle.pe_image.specs.Image.{Image}
-use Rattle.pe_image.specs.Reading.{outline_alone, reading}
-use Rattle.pe_image.specs.declared.image_layout.ImageLayout.TheVariants as layouts
+use Rattle.pe_image.specs.Reading.{outline_alone, reading_in}
+use Rattle.pe_image.specs.declared.image_layout.ImageLayout.{ImageLayout}
 use Rattle.pe_image.specs.declared.refusal.ImageErr.{ImageErr}
 use Rattle.pe_image.specs.declared.refusal.ImageErr.TheVariants as images
 use Rattle.eh_tables.specs.declared.refusal.TableErr.{TableErr}
@@ -40,12 +40,12 @@ Gives (Err refusals.NoMemory) given = Unit {0}
 Gives r given = given ≡ r
 
 -- an image by its headers and sections; none of its imports is looked at
-abbrev pub opened : List ℕ → Answer Image
-opened file = of_image (outline_alone layouts.File file)
+abbrev pub opened : ImageLayout → List ℕ → Answer Image
+opened layout bytes = of_image (outline_alone layout bytes)
 
 -- and with its imports
-abbrev pub opened_whole : List ℕ → Answer Image
-opened_whole file = of_image (reading file)
+abbrev pub opened_whole : ImageLayout → List ℕ → Answer Image
+opened_whole layout bytes = of_image (reading_in layout bytes)
 
 -- its function table, whose ranges ascend; no entry's unwind info is looked at
 abbrev pub table_of : Image → Answer Tables
@@ -61,7 +61,7 @@ checked_within image = do
   t ← table_of image
   Ok (c_image image (length t.ranges))
 
-abbrev pub checked : List ℕ → Answer SehImage
-checked file = do
-  image ← opened file
+abbrev pub checked : ImageLayout → List ℕ → Answer SehImage
+checked layout bytes = do
+  image ← opened layout bytes
   checked_within image

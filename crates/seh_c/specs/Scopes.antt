@@ -3,6 +3,7 @@
 -- SCOPE_TABLE_AMD64).
 use Rattle.std.specs.Prelude.{◌≡◌, ◌⊎◌, ℕ, ◌+◌, Bool, true, false, ◌&&◌, nat_le, nat_lt, List, [], ◌∷◌, length, Option, Some, None, Result, Ok, Err, slice_set}
 use Rattle.seh_num.specs.Answers.{◌>>=◌}
+use Rattle.pe_image.specs.declared.image_layout.ImageLayout.{ImageLayout}
 use Rattle.pe_image.specs.Image.{Image}
 use Rattle.eh_tables.specs.declared.scope.ScopeRecord.{ScopeRecord}
 use Rattle.eh_tables.specs.Covering.{entry_covering}
@@ -45,7 +46,7 @@ scopes_from rva k (s ∷ ss) out =
     if_around (if_room (scopes_from rva (k + 1) ss) out k (c_scope s) (nat_lt k (length out)))
     (scopes_from rva k ss out) (is_around rva s)
 
--- ---- from the bytes of a file, whose imports are read, since they tell which handler has scopes
+-- ---- from the bytes of an image, whose imports are read, since they tell which handler has scopes
 
 abbrev pub scopes_of : ℕ → List SehScope → Option Entry → Filled
 scopes_of rva out None = filled out 0 no_function
@@ -57,9 +58,9 @@ scopes_within image rva out = do
   o ← of_table (entry_covering t rva)
   Ok (scopes_of rva out o)
 
-abbrev pub scopes_in : List ℕ → ℕ → List SehScope → Answer Filled
-scopes_in file rva out = do
-  image ← opened_whole file
+abbrev pub scopes_in : ImageLayout → List ℕ → ℕ → List SehScope → Answer Filled
+scopes_in layout bytes rva out = do
+  image ← opened_whole layout bytes
   scopes_within image rva out
 
 -- a call gives these, with the array before and after; or memory is wanting

@@ -8,8 +8,15 @@ use Rattle.seh_c.specs.declared.c_types.SehFunction.{SehFunction}
 use Rattle.seh_c.specs.declared.c_types.SehImage.{SehImage}
 use Rattle.seh_c.specs.declared.c_types.SehScope.{SehScope}
 use Rattle.eh_tables.specs.declared.scope.ScopeRecord.{ScopeRecord}
+use Rattle.pe_image.specs.declared.image_layout.ImageLayout.{ImageLayout}
+use Rattle.pe_image.specs.declared.image_layout.ImageLayout.TheVariants.{File, Mapped}
 use Rattle.pe_image.specs.Image.{Image}
 use Rattle.seh_c.specs.declared.c_types.SehFrame.{SehFrame}
+
+-- whether a loader mapped the image
+abbrev pub layout_of : Bool → ImageLayout
+layout_of true = Mapped
+layout_of false = File
 
 abbrev pub machine_context : SehContext → Context
 machine_context c =

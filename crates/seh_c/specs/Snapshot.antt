@@ -8,7 +8,7 @@ use Rattle.seh_c.specs.declared.c_types.SehRange.{SehRange}
 use Rattle.seh_c.specs.declared.snapshot.TheConstants.{DATA, CODE}
 use Rattle.seh_c.specs.Ranges.{held}
 
--- the bytes that the file of an image stores from an address on, where the image lies at a base
+-- the bytes that an image stores from an address on, where it lies at a base
 abbrev pub code_from : Image → ℕ → ℕ → List ℕ
 code_from image base a =
     stored_in (distance base a) (section_at (distance base a) image.sections)
@@ -24,8 +24,8 @@ byte_by (b ∷ bs) code = b
 byte_by [] (c ∷ cs) = c
 byte_by [] [] = 0
 
--- the bytes of ranges, which may be read and fetched; elsewhere those that an image's file stores,
--- which may be fetched
+-- the bytes of ranges, which may be read and fetched; elsewhere those that an image stores, which may
+-- be fetched
 abbrev pub snapshot : Image → ℕ → List SehRange → Memory
 snapshot image base ranges =
     record {

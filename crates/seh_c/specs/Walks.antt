@@ -5,6 +5,7 @@ use Rattle.flat_memory.specs.Memory.{Memory}
 use Rattle.x64_machine.specs.declared.context.Context.{Context}
 use Rattle.virtual_unwind.specs.declared.frame.Caller.{Caller}
 use Rattle.virtual_unwind.specs.CallerOf.{distance}
+use Rattle.pe_image.specs.declared.image_layout.ImageLayout.{ImageLayout}
 use Rattle.pe_image.specs.Image.{Image}
 use Rattle.eh_tables.specs.Tables.{Tables}
 use Rattle.seh_c.specs.declared.c_types.SehFrame.{SehFrame}
@@ -60,22 +61,24 @@ walk_from t base m size (suc n) k c fs =
 abbrev pub walk : Tables → ℕ → Memory → ℕ → Context → List SehFrame → Walked
 walk t base m size c fs = walk_from t base m size (length fs) 0 c fs
 
--- ---- from the bytes of a file
+-- ---- from the bytes of an image
 
 abbrev pub walk_within : Image → ℕ → List SehRange → Context → List SehFrame → Answer Walked
 walk_within image base ranges c fs = do
   t ← table_of image
   Ok (walk t base (snapshot image base ranges) image.size c fs)
 
-abbrev pub walk_opened : List ℕ → ℕ → List SehRange → Context → List SehFrame → Answer Walked
-walk_opened file base ranges c fs = do
-  image ← opened file
+abbrev pub walk_opened : ImageLayout → List ℕ → ℕ → List SehRange → Context → List SehFrame
+    → Answer Walked
+walk_opened layout bytes base ranges c fs = do
+  image ← opened layout bytes
   walk_within image base ranges c fs
 
-abbrev pub walked_in : List ℕ → ℕ → List SehRange → Context → List SehFrame → Answer Walked
-walked_in file base ranges c fs = do
+abbrev pub walked_in : ImageLayout → List ℕ → ℕ → List SehRange → Context → List SehFrame
+    → Answer Walked
+walked_in layout bytes base ranges c fs = do
   _ ← ranges_checked 0 0 ranges
-  walk_opened file base ranges c fs
+  walk_opened layout bytes base ranges c fs
 
 -- a call gives this walk, with the array before and after; or memory is wanting
 abbrev pub GivesWalk : List SehFrame → List SehFrame → Answer Walk → Answer Walked → Type 0

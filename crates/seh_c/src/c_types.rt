@@ -4,6 +4,7 @@ ghost use Rattle.std.specs.Prelude.{◌≡◌};
 ghost use Rattle.seh_c.specs.Shapes as spec;
 
 use eh_tables::{Entry, ScopeRecord};
+use pe_image::ImageLayout;
 use virtual_unwind::frame::Caller;
 use x64_machine::context::Context;
 
@@ -95,6 +96,19 @@ pub struct SehImage {
     pub functions: u64,
 }
 
+/// What is said of the code of an image.
+#[repr(C)]
+#[derive(Clone, Copy, Debug, PartialEq, Eq)]
+pub struct SehVerdict {
+    /// The first entry of the function table in which a rule fails; how many entries there are,
+    /// where none does.
+    pub entry: u64,
+    /// Where it fails first, relative to the image base; 0 where none does.
+    pub at: u64,
+    /// Which rule: a code of `include/seh.h`.
+    pub rule: u32,
+}
+
 /// How a call ended: a code of `include/seh.h`, and the numbers that it speaks of.
 #[repr(C)]
 #[derive(Clone, Copy, Debug, PartialEq, Eq)]
@@ -102,6 +116,17 @@ pub struct SehStatus {
     pub code: u32,
     pub at: u64,
     pub more: u64,
+}
+
+/// The layout of an image that a loader mapped, or of its file.
+pub fn layout_of(mapped: bool) -> ImageLayout
+    ensures { result ≡ spec.layout_of mapped }
+{
+    if mapped {
+        ImageLayout::Mapped
+    } else {
+        ImageLayout::File
+    }
 }
 
 pub fn machine_context(context: &SehContext) -> Context

@@ -15,7 +15,7 @@ pub const MORE: u32 = 3;
 /// No entry of the function table covers the address.
 pub const NO_FUNCTION: u32 = 4;
 
-/// A header passes the end of the file.
+/// A header passes the end of the bytes.
 pub const IMAGE_TRUNCATED: u32 = 16;
 
 /// A signature is missing.
@@ -68,3 +68,27 @@ pub const UNREADABLE: u32 = 48;
 
 /// The caller's stack pointer wouldn't be above that of the frame.
 pub const BACKWARD: u32 = 49;
+
+/// No rule fails in any entry.
+pub const RULE_NONE: u32 = 0;
+
+/// No instruction that the decoder knows stands there.
+pub const RULE_DECODE: u32 = 1;
+
+/// The entry is chained to another one.
+pub const RULE_CHAIN: u32 = 2;
+
+/// An unwind code is one that no code of a prologue can keep.
+pub const RULE_CODES: u32 = 3;
+
+/// An instruction of the prologue isn't what its unwind code says.
+pub const RULE_PROLOGUE: u32 = 4;
+
+/// An instruction of the body writes RSP or the frame register.
+pub const RULE_STACK_WRITE: u32 = 5;
+
+/// An instruction of the body writes a nonvolatile register that isn't saved.
+pub const RULE_UNSAVED: u32 = 6;
+
+/// An epilogue doesn't undo the prologue.
+pub const RULE_EPILOGUE: u32 = 7;

@@ -1,4 +1,5 @@
-//! What C calls. `include/seh.h` says what a caller owes to each call.
+//! What C calls. `include/seh.h` says what a caller owes to each call. The bytes of an image are
+//! those of its file, or where `mapped` those of the memory into which a loader mapped it.
 
 ghost use Rattle.std.specs.Prelude.{◌≡◌};
 ghost use Rattle.seh_c.specs.Answers.{Answers, WalkAnswers, FunctionAnswers, ImageAnswers};
@@ -9,7 +10,7 @@ ghost use Rattle.seh_c.specs.Shapes as spec;
 ghost use Rattle.seh_c.specs.Walks.{walked_in};
 
 use crate::c_types::{
-    SehContext, SehFrame, SehFunction, SehImage, SehRange, SehScope, SehStatus, c_frame,
+    SehContext, SehFrame, SehFunction, SehImage, SehRange, SehScope, SehStatus, c_frame, layout_of,
     machine_context,
 };
 use crate::finding::find;
@@ -24,17 +25,25 @@ use std::alloc::Global;
 #[unsafe(no_mangle)]
 pub extern "C" fn seh_unwind(
     alloc: Global,
-    file: &[u8],
+    bytes: &[u8],
+    mapped: bool,
     base: u64,
     ranges: &[SehRange<'_>],
     context: &SehContext,
     frame: &mut SehFrame,
 ) -> SehStatus
     ensures { Answers
-        (unwound file.now base ranges.now (spec.machine_context context.now))
+        (unwound (spec.layout_of mapped) bytes.now base ranges.now (spec.machine_context context.now))
         frame.old frame.new result }
 {
-    match unwind(alloc, file, base, ranges, &machine_context(context)) {
+    match unwind(
+        alloc,
+        layout_of(mapped),
+        bytes,
+        base,
+        ranges,
+        &machine_context(context),
+    ) {
         Ok(caller) => {
             *frame = c_frame(&caller);
             OK
@@ -47,7 +56,8 @@ pub extern "C" fn seh_unwind(
 #[unsafe(no_mangle)]
 pub extern "C" fn seh_walk(
     alloc: Global,
-    file: &[u8],
+    bytes: &[u8],
+    mapped: bool,
     base: u64,
     ranges: &[SehRange<'_>],
     context: &SehContext,
@@ -55,10 +65,18 @@ pub extern "C" fn seh_walk(
     count: &mut u64,
 ) -> SehStatus
     ensures { WalkAnswers
-        (walked_in file.now base ranges.now (spec.machine_context context.now) frames.old)
+        (walked_in (spec.layout_of mapped) bytes.now base ranges.now (spec.machine_context context.now) frames.old)
         frames.old frames.new count.new result }
 {
-    match walk_image(alloc, file, base, ranges, &machine_context(context), frames) {
+    match walk_image(
+        alloc,
+        layout_of(mapped),
+        bytes,
+        base,
+        ranges,
+        &machine_context(context),
+        frames,
+    ) {
         Ok(walk) => {
             *count = walk.count;
             walk.status
@@ -74,13 +92,14 @@ pub extern "C" fn seh_walk(
 #[unsafe(no_mangle)]
 pub extern "C" fn seh_find_function(
     alloc: Global,
-    file: &[u8],
+    bytes: &[u8],
+    mapped: bool,
     rva: u32,
     function: &mut SehFunction,
 ) -> SehStatus
-    ensures { FunctionAnswers (found_in file.now rva) function.old function.new result }
+    ensures { FunctionAnswers (found_in (spec.layout_of mapped) bytes.now rva) function.old function.new result }
 {
-    match find(alloc, file, rva) {
+    match find(alloc, layout_of(mapped), bytes, rva) {
         Ok(Some(found)) => {
             *function = found;
             OK
@@ -92,10 +111,15 @@ pub extern "C" fn seh_find_function(
 
 /// What an image is, by its headers, and how many entries its function table has.
 #[unsafe(no_mangle)]
-pub extern "C" fn seh_check(alloc: Global, file: &[u8], image: &mut SehImage) -> SehStatus
-    ensures { ImageAnswers (checked file.now) image.old image.new result }
+pub extern "C" fn seh_check(
+    alloc: Global,
+    bytes: &[u8],
+    mapped: bool,
+    image: &mut SehImage,
+) -> SehStatus
+    ensures { ImageAnswers (checked (spec.layout_of mapped) bytes.now) image.old image.new result }
 {
-    match check(alloc, file) {
+    match check(alloc, layout_of(mapped), bytes) {
         Ok(found) => {
             *image = found;
             OK
@@ -108,15 +132,16 @@ pub extern "C" fn seh_check(alloc: Global, file: &[u8], image: &mut SehImage) ->
 #[unsafe(no_mangle)]
 pub extern "C" fn seh_scopes(
     alloc: Global,
-    file: &[u8],
+    bytes: &[u8],
+    mapped: bool,
     rva: u32,
     scopes: &mut [SehScope],
     count: &mut u64,
 ) -> SehStatus
-    ensures { ScopeAnswers (scopes_in file.now rva scopes.old) scopes.old scopes.new count.new
+    ensures { ScopeAnswers (scopes_in (spec.layout_of mapped) bytes.now rva scopes.old) scopes.old scopes.new count.new
         result }
 {
-    match find_scopes(alloc, file, rva, scopes) {
+    match find_scopes(alloc, layout_of(mapped), bytes, rva, scopes) {
         Ok(filled) => {
             *count = filled.count;
             filled.status

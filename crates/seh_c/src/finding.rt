@@ -8,7 +8,7 @@ use crate::c_types::{SehFunction, c_function};
 use crate::opening::{open, table_of};
 use crate::refusal::Refusal;
 use crate::unwinding::entry_at;
-use pe_image::ImageView;
+use pe_image::{ImageLayout, ImageView};
 use std::alloc::Global;
 
 fn find_within(image: &ImageView<'_>, rva: u32) -> Result<Option<SehFunction>, Refusal>
@@ -27,10 +27,15 @@ fn find_within(image: &ImageView<'_>, rva: u32) -> Result<Option<SehFunction>, R
 
 /// The entry whose range covers an address.
 #[tactic(auto, using(crate::proofs::Opened::gives_then))]
-pub fn find(alloc: Global, file: &[u8], rva: u32) -> Result<Option<SehFunction>, Refusal>
-    ensures { Gives result (spec.found_in file.now rva) }
+pub fn find(
+    alloc: Global,
+    layout: ImageLayout,
+    bytes: &[u8],
+    rva: u32,
+) -> Result<Option<SehFunction>, Refusal>
+    ensures { Gives result (spec.found_in layout bytes.now rva) }
 {
-    match open(alloc, file) {
+    match open(alloc, layout, bytes) {
         Ok(image) => find_within(&image, rva),
         Err(e) => Err(e),
     }

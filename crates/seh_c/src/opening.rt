@@ -21,10 +21,14 @@ fn image_refusal(e: ImageErr) -> Refusal
 
 /// Opens an image, by its headers and sections alone.
 #[tactic(auto, using(crate::proofs::Opened::opening_refused))]
-pub fn open<'a>(alloc: Global, file: &'a [u8]) -> Result<ImageView<'a>, Refusal>
-    ensures { spec.Gives result (spec.opened file.now) }
+pub fn open<'a>(
+    alloc: Global,
+    layout: ImageLayout,
+    bytes: &'a [u8],
+) -> Result<ImageView<'a>, Refusal>
+    ensures { spec.Gives result (spec.opened layout bytes.now) }
 {
-    match ImageView::read_outline(alloc, file, ImageLayout::File) {
+    match ImageView::read_outline(alloc, bytes, layout) {
         Ok(image) => Ok(image),
         Err(e) => Err(image_refusal(e)),
     }
@@ -32,10 +36,14 @@ pub fn open<'a>(alloc: Global, file: &'a [u8]) -> Result<ImageView<'a>, Refusal>
 
 /// Opens an image with what it imports, which tells which handlers have scope tables.
 #[tactic(auto, using(crate::proofs::Opened::reading_refused))]
-pub fn open_with_imports<'a>(alloc: Global, file: &'a [u8]) -> Result<ImageView<'a>, Refusal>
-    ensures { spec.Gives result (spec.opened_whole file.now) }
+pub fn open_with_imports<'a>(
+    alloc: Global,
+    layout: ImageLayout,
+    bytes: &'a [u8],
+) -> Result<ImageView<'a>, Refusal>
+    ensures { spec.Gives result (spec.opened_whole layout bytes.now) }
 {
-    match ImageView::read(alloc, file) {
+    match ImageView::read_in(alloc, bytes, layout) {
         Ok(image) => Ok(image),
         Err(e) => Err(image_refusal(e)),
     }
@@ -75,10 +83,10 @@ fn check_within(image: &ImageView<'_>) -> Result<SehImage, Refusal>
 
 /// What an image is, by its headers, and how many entries its function table has.
 #[tactic(auto, using(crate::proofs::Opened::gives_then))]
-pub fn check(alloc: Global, file: &[u8]) -> Result<SehImage, Refusal>
-    ensures { spec.Gives result (spec.checked file.now) }
+pub fn check(alloc: Global, layout: ImageLayout, bytes: &[u8]) -> Result<SehImage, Refusal>
+    ensures { spec.Gives result (spec.checked layout bytes.now) }
 {
-    match open(alloc, file) {
+    match open(alloc, layout, bytes) {
         Ok(image) => check_within(&image),
         Err(e) => Err(e),
     }

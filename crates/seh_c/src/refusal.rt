@@ -17,7 +17,7 @@ pub enum Refusal {
     Range { index: u64 },
     /// No memory was left.
     NoMemory,
-    /// The file is no image.
+    /// The bytes are no image.
     Image(ImageErr),
     /// Its function table can't be read.
     Table(TableErr),

@@ -8,7 +8,7 @@ use crate::opening::{open_with_imports, table_of};
 use crate::refusal::{MORE, NO_FUNCTION, OK, Refusal};
 use crate::unwinding::entry_at;
 use eh_tables::{ScopeRecord, Scopes};
-use pe_image::ImageView;
+use pe_image::{ImageLayout, ImageView};
 use std::alloc::Global;
 
 /// How many scopes were written, and why no more.
@@ -73,14 +73,15 @@ fn scopes_within(
 #[tactic(auto, using(crate::proofs::Opened::gives_no_scopes))]
 pub fn find_scopes(
     alloc: Global,
-    file: &[u8],
+    layout: ImageLayout,
+    bytes: &[u8],
     rva: u32,
     scopes: &mut [SehScope],
 ) -> Result<Filled, Refusal>
     ensures { spec.GivesScopes scopes.old scopes.new result
-        (spec.scopes_in file.now rva scopes.old) }
+        (spec.scopes_in layout bytes.now rva scopes.old) }
 {
-    match open_with_imports(alloc, file) {
+    match open_with_imports(alloc, layout, bytes) {
         Ok(image) => scopes_within(&image, rva, scopes),
         Err(e) => Err(e),
     }

@@ -19,7 +19,7 @@ pub const DATA: Protection = Protection {
     execute: true,
 };
 
-/// Bytes that an image's file stores, which may be fetched.
+/// Bytes that an image stores, which may be fetched.
 pub const CODE: Protection = Protection {
     rights: Rights::Nothing,
     execute: true,

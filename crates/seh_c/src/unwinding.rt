@@ -12,7 +12,7 @@ use crate::ranges::check_ranges;
 use crate::refusal::Refusal;
 use crate::snapshot::Snapshot;
 use eh_tables::{Entry, FunctionEntry, Tables};
-use pe_image::ImageView;
+use pe_image::{ImageLayout, ImageView};
 use std::alloc::Global;
 use virtual_unwind::frame::Caller;
 use virtual_unwind::unwinding::{caller_by_entry, caller_by_function};
@@ -121,17 +121,18 @@ fn unwind_within(
 #[tactic(auto, using(crate::proofs::Opened::gives_then))]
 pub fn unwind(
     alloc: Global,
-    file: &[u8],
+    layout: ImageLayout,
+    bytes: &[u8],
     base: u64,
     ranges: &[SehRange<'_>],
     context: &Context,
 ) -> Result<Caller, Refusal>
-    ensures { Gives result (spec.unwound file.now base ranges.now context.now) }
+    ensures { Gives result (spec.unwound layout bytes.now base ranges.now context.now) }
 {
     if let Err(e) = check_ranges(ranges) {
         return Err(e);
     }
-    match open(alloc, file) {
+    match open(alloc, layout, bytes) {
         Ok(image) => unwind_within(&image, base, ranges, context),
         Err(e) => Err(e),
     }

@@ -12,7 +12,7 @@ use crate::refusal::{MORE, OK, Refusal, status_of};
 use crate::snapshot::Snapshot;
 use crate::unwinding::caller;
 use eh_tables::Tables;
-use pe_image::ImageView;
+use pe_image::{ImageLayout, ImageView};
 use std::alloc::Global;
 use x64_machine::context::Context;
 use x64_memory::space::ReadSpace;
@@ -100,19 +100,20 @@ fn walk_within(
 #[tactic(auto, using(crate::proofs::Opened::gives_no_walk))]
 pub fn walk_image(
     alloc: Global,
-    file: &[u8],
+    layout: ImageLayout,
+    bytes: &[u8],
     base: u64,
     ranges: &[SehRange<'_>],
     context: &Context,
     frames: &mut [SehFrame],
 ) -> Result<Walk, Refusal>
     ensures { spec.GivesWalk frames.old frames.new result
-        (spec.walked_in file.now base ranges.now context.now frames.old) }
+        (spec.walked_in layout bytes.now base ranges.now context.now frames.old) }
 {
     if let Err(e) = check_ranges(ranges) {
         return Err(e);
     }
-    match open(alloc, file) {
+    match open(alloc, layout, bytes) {
         Ok(image) => walk_within(&image, base, ranges, context, frames),
         Err(e) => Err(e),
     }
