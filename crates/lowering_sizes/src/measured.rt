@@ -139,8 +139,9 @@ fn measure(stmt: &Stmt, parts: &mut Vec<u64>) -> Result<u64, AllocError>
 
 /// Takes the size of the part that is lowered next from the stack; of none, 0.
 pub fn next_size(parts: &mut Vec<u64>) -> u64
-    ensures { (rest : List ℕ) (size : ℕ) → parts.old.items ≡ rest ++ size ∷ []
+    ensures last { (rest : List ℕ) (size : ℕ) → parts.old.items ≡ rest ++ size ∷ []
         → (result ≡ size) × (parts.new.items ≡ rest) }
+    ensures none { parts.old.items ≡ [] → (result ≡ 0) × (parts.new.items ≡ []) }
 {
     parts.pop().unwrap_or(0)
 }

@@ -1,5 +1,5 @@
 -- Code that is placed with the sizes of its parts, which were counted before.
-use Rattle.std.specs.Prelude.{◌≡◌, ℕ, List, ◌×◌, [], ◌∷◌, ◌++◌}
+use Rattle.std.specs.Prelude.{◌≡◌, ℕ, List, [], ◌∷◌, ◌++◌}
 use Rattle.std.specs.Global.{Vec}
 use Rattle.c_checked.specs.Statement.{Statement, Statements}
 use Rattle.linear_code.specs.declared.instruction.Instruction.{Instruction}

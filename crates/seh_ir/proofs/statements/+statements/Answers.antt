@@ -1,12 +1,13 @@
-use Rattle.std.proofs.Common.{List, map, drop, sym, ap, ◌∙◌}
+use Rattle.std.proofs.Common.{List, ◌+◌, ◌++◌, length, map, drop, sym, ap, ◌∙◌}
 use Rattle.std.proofs.lemmas.List.{at_drop_more}
 use Rattle.std.specs.Prelude.{option_map}
 use Rattle.std.proofs.lemmas.Result.{on_ok_weaker}
 use Rattle.lowering_sizes.specs.Parts.{with_parts, with_all_parts}
 use Rattle.seh_ir.specs.Measured.{part, block}
-use Rattle.seh_ir.specs.Words.{Stmt, expression, Empty, statement_size, statements_size}
+use Rattle.seh_ir.specs.Words.{Stmt, expression, Empty, statement_size, statements_size, statement_code}
 use Rattle.c_checked.specs.Statement as tree
 use Rattle.c_checked.proofs.StatementTrees as made
+use Rattle.seh_ir.proofs.StatementTrees as trees
 use Rattle.seh_ir.proofs.StatementCodes.{when_is, if_is, if_else_is, for_is, do_is, tried_is, except_is, finally_is, statements_next}
 use Rattle.seh_ir.proofs.statements.+statements.Goals as goal
 
@@ -31,7 +32,7 @@ when-returns t c =
     let s = tree.statement c.args.then.now in
     on_ok_weaker c.statement.result
     (λ h rest p.
-    let size = c.next_size-size.ensures (with_parts s rest) (statement_size s) p in
+    let size = c.next_size-size.ensures.last (with_parts s rest) (statement_size s) p in
     let made = h rest size.1 in (
       when_is c.args.scope.now (expression c.args.condition.now) s _ c.args.more
           c.args.code.now.items _ _ _ size.0 c.in_ok-expression.ensures c.in_ok-test.ensures made.0,
@@ -44,7 +45,7 @@ for_loop-returns t c =
     let s = tree.statement c.args.body.now in
     on_ok_weaker c.put-2.result
     (λ h rest p.
-    let size = c.next_size-size.ensures (with_parts s rest) (statement_size s) p in
+    let size = c.next_size-size.ensures.last (with_parts s rest) (statement_size s) p in
     let made = (rw c.in_loop.ensures at c.in_ok-statement.ensures) rest size.1 in (
       for_is c.args.scope.now (map tree.declared c.args.declared.now)
           (option_map expression c.args.first.now) (option_map expression c.args.condition.now)
@@ -64,7 +65,7 @@ do_loop-returns t c =
     let s = tree.statement c.args.body.now in
     on_ok_weaker c.end_do.result
     (λ h rest p.
-    let size = c.next_size-size.ensures (with_parts s rest) (statement_size s) p in
+    let size = c.next_size-size.ensures.last (with_parts s rest) (statement_size s) p in
     let made = (rw c.in_loop.ensures at c.in_ok-statement.ensures) rest size.1 in (
       do_is c.args.scope.now s (expression c.args.condition.now)
           _ _ _ _ _ c.args.code.now.items _ _ _ _ size.0 c.in_ok-expression_size.ensures
@@ -80,7 +81,7 @@ tried-returns t c =
     let ss = tree.statements (map tree.statement c.args.body.now) in
     on_ok_weaker c.land.result
     (λ h rest p.
-    let size = c.next_size-size.ensures (with_all_parts ss rest) (statements_size ss) p in
+    let size = c.next_size-size.ensures.last (with_all_parts ss rest) (statements_size ss) p in
     let made = (rw c.in_try.ensures at c.in_ok-statements_by_size.ensures) rest size.1 in (
       tried_is c.args.scope.now ss _
           c.args.handler _ _ _ c.args.code.now.items _ _ size.0 c.in_ok-sum.ensures
@@ -94,7 +95,7 @@ try_finally-returns t c =
     let ss = tree.statements (map tree.statement c.args.body.now) in
     on_ok_weaker c.call_finally.result
     (λ h rest p.
-    let size = c.next_size-size.ensures (with_all_parts ss rest) (statements_size ss) p in
+    let size = c.next_size-size.ensures.last (with_all_parts ss rest) (statements_size ss) p in
     let made = (rw c.in_guarded.ensures at c.in_ok-statements_by_size.ensures) rest size.1 in (
       finally_is c.args.scope.now ss
           c.args.number Empty _ _ c.args.code.now.items _ _ size.0 c.in_ok-end.ensures
@@ -124,7 +125,7 @@ statement-returns-in_ok-skip-in-Some t c =
     on_ok_weaker c.statement.result
     (λ h rest p.
     let last = with_parts other rest in
-    let more = c.next_size-more-in-Some.ensures (part s last) (statement_size other)
+    let more = c.next_size-more.ensures.last (part s last) (statement_size other)
     (p ∙ ap (λ s. with_parts s rest) is) in
     let first = (rw c.deref-in-Some.ensures at c.in_ok-when-in-Some.ensures) last more.1 in
     let second = (rw c.deref-in-Some-2.ensures at h) rest first.1 in (
@@ -142,12 +143,39 @@ other_statement-returns-in_ok-tried-in-TryExcept t c =
     on_ok_weaker c.statements_by_size.result
     (λ h rest p.
     let last = with_all_parts handler rest in
-    let size = c.next_size-size-in-TryExcept.ensures (block body last) (statements_size handler)
+    let size = c.next_size-size.ensures.last (block body last) (statements_size handler)
     (p ∙ ap (λ s. with_parts s rest) is) in
     let first = (rw c.deref-in-TryExcept.ensures.value at c.in_ok-tried-in-TryExcept.ensures) last
     size.1 in
     let second = (rw c.deref-in-TryExcept-2.ensures.value at h) rest first.1 in (
       except_is _ _ _ _ _ _ _ _ _ _ is size.0 c.in_ok-inner-in-TryExcept.ensures first.0 second.0,
       second.1,
+    ))
+    c.statements_by_size.ensures
+
+pub other_statement-returns-in-TryFinally : goal.other_statement-returns-in-TryFinally
+other_statement-returns-in-TryFinally t c =
+    let old = c.args.code.now.items in
+    let is = ap tree.statement c.in-TryFinally.is
+    ∙ trees.try_finally_is c.in-TryFinally.body c.in-TryFinally.number c.in-TryFinally.last in
+    on_ok_weaker c.try_finally.result
+    (λ h rest p.
+    let made = (rw c.deref-in-TryFinally.ensures.value at h) rest
+    (p ∙ ap (λ s. with_parts s rest) is) in (
+      made.0 ∙ ap (λ s. old ++ statement_code c.args.scope.now s (length old)) (sym is),
+      made.1,
+    ))
+    c.try_finally.ensures
+
+pub statement-returns-in-Block : goal.statement-returns-in-Block
+statement-returns-in-Block t c =
+    let old = c.args.code.now.items in
+    let is = ap tree.statement c.in-Block.is ∙ trees.block_is c.in-Block.stmts in
+    on_ok_weaker c.statements_by_size.result
+    (λ h rest p.
+    let made = (rw c.deref.ensures.value at h) rest
+    (p ∙ ap (λ s. with_parts s rest) is) in (
+      made.0 ∙ ap (λ s. old ++ statement_code c.args.scope.now s (length old)) (sym is),
+      made.1,
     ))
     c.statements_by_size.ensures

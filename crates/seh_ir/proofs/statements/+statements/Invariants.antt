@@ -1,4 +1,4 @@
-use Rattle.std.proofs.Common.{◌≡◌, ◌×◌, ℕ, List, ◌++◌, map, take, drop, length}
+use Rattle.std.proofs.Common.{◌≡◌, ℕ, List, ◌++◌, map, take, drop, length}
 use Rattle.c_checked.specs.Statement as tree
 use Rattle.lowering_sizes.specs.Parts.{with_all_parts}
 use Rattle.seh_ir.specs.Statements as spec
