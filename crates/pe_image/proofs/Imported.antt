@@ -159,7 +159,7 @@ counted_in index k (Ok is) others h = let n : k ≡ index + length is = cc in
     ∙ sym (counted_onto index is (others (index + length is)))
 counted_in index k (Err f) others h = cc
 
-same_entries : (ss : List Section) (index look slot : ℕ) (d : List ℕ)
+pub same_entries : (ss : List Section) (index look slot : ℕ) (d : List ℕ)
     → look ≡ lookups (field 4 d 0) (field 4 d 16) → slot ≡ field 4 d 16
     → library max_count ss index look slot ≡ entries_of ss index d
 same_entries ss index look slot d e1 e2 = ap (λ n. library max_count ss index n slot) e1

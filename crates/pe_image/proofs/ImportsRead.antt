@@ -10,7 +10,7 @@ use Rattle.pe_image.specs.declared.refusal.ImageErr.TheVariants as refusals
 use Rattle.seh_num.specs.Answers.{◌>>=◌, or_refused, prepend, onto}
 use Rattle.pe_image.specs.Field.{field}
 use Rattle.pe_image.specs.Image.{Section, stored}
-use Rattle.pe_image.specs.Imports.{Import, import_at, next_entry, library, is_zero, lookups, entries_of, next_library, libraries, max_count, unless_none, imports_in, or_none}
+use Rattle.pe_image.specs.Imports.{Import, import_at, next_entry, library, is_zero, lookups, entries_of, next_library, libraries, max_count, unless_none, or_none}
 use Rattle.pe_image.specs.ImportsLeft.{entries, others, CanReadTable, CanReadOthers}
 use Rattle.pe_image.proofs.Imported.{Answered, no_entries_left, entry_missing, entries_end, import_missing, import_first, no_libraries_left, descriptor_missing, libraries_end, library_first}
 
@@ -192,9 +192,6 @@ module _ (ss : List Section) (t : LookupTable) (b : List ℕ) (i : Import)
 
 -- ---- a library
 
-pub directory_lacks : (r : Answered) (size : ℕ) → size ≡ 0 → or_none (unless_none r (eqb size 0)) ≡ []
-directory_lacks r size z = ap (λ n. or_none (unless_none r (eqb n 0))) z
-
 some_directory : (r : Answered) (size : ℕ) → size ≢ 0 → unless_none r (eqb size 0) ≡ r
 some_directory r size ne = ap (unless_none r) (ne_eqb size 0 ne)
 
@@ -334,9 +331,3 @@ module _ (ss : List Section) (dir : DataDirectory) (n look slot : ℕ) (d : List
     others = ok_same (after (or_none these)) (others ss dir (n + 1)) (same_after (or_none these))
         (rest_ok these after both_ok);
   }
-
--- ---- the whole list
-
-pub begins : (ss : List Section) (dir : DataDirectory) → imports_in ss dir ≡ others ss dir 0
-begins ss dir = let e : dir.rva ≡ dir.rva + 20 * 0 = omega arith in
-    ap (λ k. unless_none (libraries max_count ss 0 k) (eqb dir.size 0)) e

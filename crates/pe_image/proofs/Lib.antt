@@ -1,3 +1,4 @@
+pub mod GatheredImports
 pub mod ImportCount
 pub mod Imported
 pub mod ImportsRead

@@ -3,12 +3,14 @@ use Rattle.std.proofs.Common.{◌≡◌, ℕ, suc, ◌+◌, ◌-◌, ◌*◌, �
 use Rattle.std.proofs.lemmas.List.{append-nil, length-take}
 use Rattle.std.proofs.lemmas.Bool.{and_parts, eqb-true, leb-true}
 use Rattle.host_layout.specs.declared.range.TheConstants.{PAGE}
+use Rattle.pe_image.specs.declared.image_layout.ImageLayout.{ImageLayout}
+use Rattle.pe_image.specs.declared.image_layout.ImageLayout.TheVariants as layouts
 use Rattle.pe_image.specs.declared.refusal.ImageErr.{ImageErr}
 use Rattle.pe_image.specs.declared.refusal.ImageErr.TheVariants as refusals
 use Rattle.pe_image.specs.declared.table.SectionHeader.{SectionHeader}
 use Rattle.seh_num.specs.Answers.{◌>>=◌, unless}
 use Rattle.pe_image.specs.Image.{Section, IsPlacedAfter, AreAscending}
-use Rattle.pe_image.specs.Reading.{header_at, headers_from, is_laid_out, all_laid_out, section_of, sections_of}
+use Rattle.pe_image.specs.Reading.{header_at, headers_from, placed, all_placed, is_laid_out, all_laid_out, section_of, sections_of}
 
 -- sections that were read before, in front of those that are still read
 abbrev pub with_front : List Section → Result (List Section) ImageErr
@@ -31,6 +33,25 @@ headers_more bytes count index at lt =
     ap (λ n. headers_from bytes n (at + 40 * index)) k
     ∙ ap (λ n. header_at bytes (at + 40 * index) ∷ headers_from bytes (count - (index + 1)) n)
     next
+
+placed_first : (layout : ImageLayout) (s : SectionHeader) (hs : List SectionHeader)
+    → all_placed layout (s ∷ hs) ≡ placed layout s ∷ all_placed layout hs
+placed_first layouts.File s hs = refl
+placed_first layouts.Mapped s hs = refl
+
+-- the headers from an index on, in a layout
+abbrev pub placed_from : ImageLayout → List ℕ → ℕ → ℕ → ℕ → List SectionHeader
+placed_from layout bytes count at index =
+    all_placed layout (headers_from bytes (count - index) (at + 40 * index))
+
+placed_more : (layout : ImageLayout) (bytes : List ℕ) (count index at : ℕ) (s : SectionHeader)
+    → index < count → s ≡ placed layout (header_at bytes (at + 40 * index))
+    → placed_from layout bytes count at index ≡ s ∷ placed_from layout bytes count at (index + 1)
+placed_more layout bytes count index at s lt is =
+    ap (all_placed layout) (headers_more bytes count index at lt)
+    ∙ placed_first layout (header_at bytes (at + 40 * index))
+    (headers_from bytes (count - (index + 1)) (at + 40 * (index + 1)))
+    ∙ ap (λ h. h ∷ placed_from layout bytes count at (index + 1)) (sym is)
 
 -- a section that lies as it must
 laid_out : (bytes : List ℕ) (limit index end : ℕ) (s : SectionHeader) (hs : List SectionHeader)
@@ -60,46 +81,39 @@ not_laid_out bytes limit index end s hs not front =
     >>= λ _. all_laid_out (length bytes) limit (index + 1) (s.address + s.size) hs)
     >>= λ _. Ok (map (section_of bytes) (s ∷ hs)))) not
 
-pub continues : (bytes : List ℕ) (limit index end at count : ℕ) (s : SectionHeader)
-    (front : List Section) (all : Result (List Section) ImageErr)
-    → index < count → s ≡ header_at bytes (at + 40 * index)
-    → is_laid_out (length bytes) limit end s ≡ true
-    → with_front front (sections_from bytes limit index end
-    (headers_from bytes (count - index) (at + 40 * index))) ≡ all
-    → with_front (front ++ section_of bytes s ∷ [])
-    (sections_from bytes limit (index + 1) (s.address + s.size)
-    (headers_from bytes (count - (index + 1)) (at + 40 * (index + 1)))) ≡ all
-continues bytes limit index end at count s front all lt is fits so_far =
-    let hs = headers_from bytes (count - (index + 1)) (at + 40 * (index + 1)) in
-    sym (laid_out bytes limit index end s hs fits front)
-    ∙ ap (λ h. with_front front (sections_from bytes limit index end (h ∷ hs))) is
-    ∙ sym (ap (λ hs. with_front front (sections_from bytes limit index end hs))
-    (headers_more bytes count index at lt))
-    ∙ so_far
+module _ (layout : ImageLayout) (bytes : List ℕ) (limit index end at count : ℕ) (s : SectionHeader)
+    (front : List Section) (all : Result (List Section) ImageErr) (lt : index < count)
+    (is : s ≡ placed layout (header_at bytes (at + 40 * index)))
+    (so_far : with_front front
+    (sections_from bytes limit index end (placed_from layout bytes count at index)) ≡ all) where
+  begun : with_front front (sections_from bytes limit index end
+      (s ∷ placed_from layout bytes count at (index + 1))) ≡ all
+  begun = sym (ap (λ hs. with_front front (sections_from bytes limit index end hs))
+      (placed_more layout bytes count index at s lt is)) ∙ so_far
 
-pub stops : (bytes : List ℕ) (limit index end at count : ℕ) (s : SectionHeader)
-    (front : List Section) (all : Result (List Section) ImageErr)
-    → index < count → s ≡ header_at bytes (at + 40 * index)
-    → is_laid_out (length bytes) limit end s ≡ false
-    → with_front front (sections_from bytes limit index end
-    (headers_from bytes (count - index) (at + 40 * index))) ≡ all
-    → all ≡ Err (refusals.Layout index)
-stops bytes limit index end at count s front all lt is not so_far =
-    let hs = headers_from bytes (count - (index + 1)) (at + 40 * (index + 1)) in
-    sym so_far
-    ∙ ap (λ hs. with_front front (sections_from bytes limit index end hs))
-    (headers_more bytes count index at lt)
-    ∙ sym (ap (λ h. with_front front (sections_from bytes limit index end (h ∷ hs))) is)
-    ∙ not_laid_out bytes limit index end s hs not front
+  pub continues : is_laid_out (length bytes) limit end s ≡ true
+      → with_front (front ++ section_of bytes s ∷ []) (sections_from bytes limit (index + 1)
+      (s.address + s.size) (placed_from layout bytes count at (index + 1))) ≡ all
+  continues fits = sym (laid_out bytes limit index end s
+      (placed_from layout bytes count at (index + 1)) fits front) ∙ begun
 
-pub is_done : (bytes : List ℕ) (limit index end at count : ℕ) (front : List Section)
-    (all : Result (List Section) ImageErr) → count ≤ index
+  pub stops : is_laid_out (length bytes) limit end s ≡ false → all ≡ Err (refusals.Layout index)
+  stops not = sym begun ∙ not_laid_out bytes limit index end s
+      (placed_from layout bytes count at (index + 1)) not front
+
+none_placed : (layout : ImageLayout) → all_placed layout [] ≡ []
+none_placed layouts.File = refl
+none_placed layouts.Mapped = refl
+
+pub is_done : (layout : ImageLayout) (bytes : List ℕ) (limit index end at count : ℕ)
+    (front : List Section) (all : Result (List Section) ImageErr) → count ≤ index
     → with_front front (sections_from bytes limit index end
-    (headers_from bytes (count - index) (at + 40 * index))) ≡ all → all ≡ Ok front
-is_done bytes limit index end at count front all le so_far =
+    (placed_from layout bytes count at index)) ≡ all → all ≡ Ok front
+is_done layout bytes limit index end at count front all le so_far =
     let k : count - index ≡ 0 = omega arith in
-    sym so_far ∙ ap (λ n. with_front front (sections_from bytes limit index end
-    (headers_from bytes n (at + 40 * index)))) k
+    let none : placed_from layout bytes count at index ≡ [] =
+    ap (λ n. all_placed layout (headers_from bytes n (at + 40 * index))) k ∙ none_placed layout in
+    sym so_far ∙ ap (λ hs. with_front front (sections_from bytes limit index end hs)) none
     ∙ ap (λ (ss : List Section). Ok ss) (append-nil front)
 
 passed : (b : Bool) (e : ImageErr) (r : Result Unit ImageErr) → (unless b e >>= λ _. r) ≡ Ok tt

@@ -1,160 +1,153 @@
 -- What the checks of the headers, of the sections and of the imports say of the whole reading.
-use Rattle.std.proofs.Common.{◌≡◌, ℕ, List, Result, Ok, Err, refl, ap, sym, subst, ◌∙◌}
+use Rattle.std.proofs.Common.{◌≡◌, ℕ, List, Result, Ok, Err, refl, ap, sym, ◌∙◌}
+use Rattle.std.specs.Prelude.{IfErr}
 use Rattle.pe_image.specs.declared.directory.DataDirectory.{DataDirectory}
+use Rattle.pe_image.specs.declared.directory.TheConstants.{NO_TABLE}
+use Rattle.pe_image.specs.declared.image_layout.ImageLayout.{ImageLayout}
+use Rattle.pe_image.specs.declared.image_layout.ImageLayout.TheVariants as layouts
 use Rattle.pe_image.specs.declared.refusal.ImageErr.{ImageErr}
 use Rattle.pe_image.specs.declared.refusal.ImageErr.TheVariants as refusals
 use Rattle.seh_num.specs.Answers.{◌>>=◌}
 use Rattle.pe_image.specs.Answer.{Refuses}
 use Rattle.pe_image.specs.Image.{Section, Image}
 use Rattle.pe_image.specs.Imports.{Import, imports, imports_in}
-use Rattle.pe_image.specs.Reading.{image_base, entry_point, image_size, directory, headers, section_count, sections_at, image_end, headers_from, sections_of, image_with, outline, unimported, outline_alone, reading, ImageIsRefused}
+use Rattle.pe_image.specs.Reading.{image_base, entry_point, image_size, directory, headers, section_count, sections_at, image_end, headers_from, all_placed, sections_of, image_with, sectioned, outline, importing, sectioned_importing, unimported, outline_alone, reading, reading_in, ImageIsRefused}
 
-abbrev table : List ℕ → Result (List Section) ImageErr
-table bytes = sections_of bytes (image_end bytes)
-    (headers_from bytes (section_count bytes) (sections_at bytes))
+-- ---- after the headers
 
-abbrev finished : List ℕ → Result (List Section) ImageErr → Result Image ImageErr
-finished bytes r = r >>= λ sections. Ok (image_with bytes sections)
+abbrev read_with : Result Unit ImageErr → ImageLayout → List ℕ → Result Image ImageErr
+read_with checked layout bytes = (checked >>= λ _. sectioned layout bytes)
+    >>= λ image. imports image >>= λ _. Ok image
 
-after_headers : (bytes : List ℕ) → headers bytes ≡ Ok tt
-    → outline bytes ≡ finished bytes (table bytes)
-unfolding outline
-after_headers bytes e = ap (λ (r : Result Unit ImageErr). r >>= λ _. finished bytes (table bytes)) e
+abbrev alone_with : Result Unit ImageErr → ImageLayout → List ℕ → Result Image ImageErr
+alone_with checked layout bytes = (checked >>= λ _. sectioned layout bytes)
+    >>= λ image. Ok (unimported image)
 
-refused : (bytes : List ℕ) (e : ImageErr) → reading bytes ≡ Err e → ImageIsRefused bytes e
-refused bytes refusals.Memory h = tt
-refused bytes e h = h
+read_is : (layout : ImageLayout) (bytes : List ℕ)
+    → reading_in layout bytes ≡ read_with (headers bytes) layout bytes
+unfolding reading_in
+read_is layout bytes = refl
 
-by_outline : (bytes : List ℕ) (e : ImageErr) → outline bytes ≡ Err e → reading bytes ≡ Err e
-unfolding reading
-by_outline bytes e h = ap (λ (r : Result Image ImageErr). r >>= λ image. imports image
-    >>= λ _. Ok image) h
+-- an image in a file
+pub in_file : (bytes : List ℕ) → reading_in layouts.File bytes ≡ reading bytes
+unfolding reading_in reading outline
+in_file bytes = refl
 
-pub by_headers : (bytes : List ℕ) (e : ImageErr) → headers bytes ≡ Err e → ImageIsRefused bytes e
-unfolding outline
-by_headers bytes e h = refused bytes e (by_outline bytes e
-    (ap (λ (r : Result Unit ImageErr). r >>= λ _. finished bytes (table bytes)) h))
+alone_is : (layout : ImageLayout) (bytes : List ℕ)
+    → outline_alone layout bytes ≡ alone_with (headers bytes) layout bytes
+unfolding outline_alone
+alone_is layout bytes = refl
 
-same_table : (bytes : List ℕ) (end count at : ℕ) → end ≡ image_end bytes
-    → count ≡ section_count bytes → at ≡ sections_at bytes
-    → sections_of bytes end (headers_from bytes count at) ≡ table bytes
-same_table bytes end count at e1 e2 e3 = ap (λ n. sections_of bytes n (headers_from bytes count at))
-    e1 ∙ ap (λ n. sections_of bytes (image_end bytes) (headers_from bytes n at)) e2
-    ∙ ap (λ n. sections_of bytes (image_end bytes) (headers_from bytes (section_count bytes) n)) e3
+abbrev found : List ℕ → Result (List Section) ImageErr → Result Image ImageErr
+found bytes r = r >>= λ ss. Ok (image_with bytes ss)
 
-pub by_sections : (bytes : List ℕ) (e : ImageErr) (end count at : ℕ) → headers bytes ≡ Ok tt
-    → end ≡ image_end bytes → count ≡ section_count bytes → at ≡ sections_at bytes
-    → Refuses e (sections_of bytes end (headers_from bytes count at)) → ImageIsRefused bytes e
-by_sections bytes refusals.Memory end count at ok e1 e2 e3 h = tt
-by_sections bytes e end count at ok e1 e2 e3 h = by_outline bytes e
-    (after_headers bytes ok ∙ ap (finished bytes)
-    (sym (same_table bytes end count at e1 e2 e3) ∙ h))
+imports_read : (bytes : List ℕ) (r : Result (List Section) ImageErr)
+    → (found bytes r >>= importing (directory bytes 1))
+    ≡ (found bytes r >>= λ image. imports image >>= λ _. Ok image)
+imports_read bytes (Ok ss) = refl
+imports_read bytes (Err e) = refl
 
-pub read_whole : (bytes : List ℕ) (ss : List Section) (end count at : ℕ) → headers bytes ≡ Ok tt
-    → end ≡ image_end bytes → count ≡ section_count bytes → at ≡ sections_at bytes
-    → sections_of bytes end (headers_from bytes count at) ≡ Ok ss
-    → outline bytes ≡ Ok (image_with bytes ss)
-read_whole bytes ss end count at ok e1 e2 e3 h = after_headers bytes ok
-    ∙ ap (finished bytes) (sym (same_table bytes end count at e1 e2 e3) ∙ h)
+none_read : (bytes : List ℕ) (r : Result (List Section) ImageErr)
+    → (found bytes r >>= importing NO_TABLE) ≡ (found bytes r >>= λ image. Ok (unimported image))
+none_read bytes (Ok ss) = refl
+none_read bytes (Err e) = refl
 
-pub same_image : (bytes : List ℕ) (ss : List Section) (base entry size : ℕ)
-    (imports exceptions : DataDirectory)
-    → base ≡ image_base bytes → entry ≡ entry_point bytes → size ≡ image_size bytes
-    → imports ≡ directory bytes 1 → exceptions ≡ directory bytes 3
-    → image_with bytes ss ≡ record {
-      base = base;
-      entry = entry;
-      size = size;
-      sections = ss;
-      imports = imports;
-      exceptions = exceptions;
-    }
-same_image bytes ss base entry size imports exceptions e1 e2 e3 e4 e5 =
-    λ i. record {
-      base = sym e1 i;
-      entry = sym e2 i;
-      size = sym e3 i;
-      sections = ss;
-      imports = sym e4 i;
-      exceptions = sym e5 i;
-    }
+-- the sections of a layout
+abbrev sections_in : ImageLayout → List ℕ → Result (List Section) ImageErr
+sections_in layout bytes = sections_of bytes (image_end bytes)
+    (all_placed layout (headers_from bytes (section_count bytes) (sections_at bytes)))
 
--- ---- the imports
+pub whole_is : (layout : ImageLayout) (bytes : List ℕ) (d : DataDirectory) → headers bytes ≡ Ok tt
+    → d ≡ directory bytes 1 → sectioned_importing d layout bytes ≡ reading_in layout bytes
+whole_is layout bytes d ok at = ap (λ d. sectioned_importing d layout bytes) at
+    ∙ imports_read bytes (sections_in layout bytes)
+    ∙ sym (read_is layout bytes ∙ ap (λ r. read_with r layout bytes) ok)
 
-pub by_imports : (bytes : List ℕ) (image : Image) (e : ImageErr) → outline bytes ≡ Ok image
-    → Refuses e (imports image) → ImageIsRefused bytes e
-unfolding reading
-by_imports bytes image refusals.Memory ok h = tt
-by_imports bytes image e ok h =
-    ap (λ (r : Result Image ImageErr). r >>= λ i. imports i >>= λ _. Ok i) ok
-    ∙ ap (λ (r : Result (List Import) ImageErr). r >>= λ _. Ok image) h
+pub outline_is : (layout : ImageLayout) (bytes : List ℕ) → headers bytes ≡ Ok tt
+    → sectioned_importing NO_TABLE layout bytes ≡ outline_alone layout bytes
+outline_is layout bytes ok = none_read bytes (sections_in layout bytes)
+    ∙ sym (alone_is layout bytes ∙ ap (λ r. alone_with r layout bytes) ok)
 
-pub whole_read : (bytes : List ℕ) (image : Image) (xs : List Import) → outline bytes ≡ Ok image
-    → imports image ≡ Ok xs → reading bytes ≡ Ok image
-unfolding reading
-whole_read bytes image xs ok h =
-    ap (λ (r : Result Image ImageErr). r >>= λ i. imports i >>= λ _. Ok i) ok
-    ∙ ap (λ (r : Result (List Import) ImageErr). r >>= λ _. Ok image) h
-
-module _ (bytes : List ℕ) (ss items : List Section) (dir : DataDirectory)
-    (ok : outline bytes ≡ Ok (image_with bytes ss)) (same : items ≡ ss)
-    (at : dir ≡ directory bytes 1) where
-  same_imports : imports_in items dir ≡ imports (image_with bytes ss)
-  same_imports = ap (λ (t : List Section). imports_in t dir) same ∙ ap (imports_in ss) at
-
-  pub imports_refused : (e : ImageErr) → Refuses e (imports_in items dir) → ImageIsRefused bytes e
-  imports_refused e h = by_imports bytes (image_with bytes ss) e ok
-      (subst (λ (r : Result (List Import) ImageErr). Refuses e r) same_imports h)
-
-  pub imports_read : (xs : List Import) → imports_in items dir ≡ Ok xs
-      → reading bytes ≡ Ok (image_with bytes ss)
-  imports_read xs h = whole_read bytes (image_with bytes ss) xs ok (sym same_imports ∙ h)
-
--- ---- without its imports
+-- ---- refusals
 
 refuses : (e : ImageErr) (r : Result Image ImageErr) → r ≡ Err e → Refuses e r
 refuses refusals.Memory r h = tt
 refuses e r h = h
 
-abbrev alone : Result Image ImageErr → Result Image ImageErr
-alone r = r >>= λ image. Ok (unimported image)
+refused : (bytes : List ℕ) (e : ImageErr) → Refuses e (reading bytes) → ImageIsRefused bytes e
+refused bytes refusals.Memory h = tt
+refused bytes e h = h
 
-pub outline_by_headers : (bytes : List ℕ) (e : ImageErr) → headers bytes ≡ Err e
-    → Refuses e (outline_alone bytes)
-unfolding outline
-outline_by_headers bytes e h = refuses e (outline_alone bytes)
-    (ap (λ (r : Result Unit ImageErr). alone (r >>= λ _. finished bytes (table bytes))) h)
+pub all_refused : {A : Type 0} (bytes : List ℕ) (r : Result A ImageErr)
+    → IfErr r (λ e. Refuses e (reading bytes)) → IfErr r (λ e. ImageIsRefused bytes e)
+all_refused bytes (Ok x) h = tt
+all_refused bytes (Err e) h = refused bytes e h
 
-pub outline_by_sections : (bytes : List ℕ) (e : ImageErr) (end count at : ℕ)
-    → headers bytes ≡ Ok tt → end ≡ image_end bytes → count ≡ section_count bytes
-    → at ≡ sections_at bytes → Refuses e (sections_of bytes end (headers_from bytes count at))
-    → Refuses e (outline_alone bytes)
-outline_by_sections bytes refusals.Memory end count at ok e1 e2 e3 h = tt
-outline_by_sections bytes e end count at ok e1 e2 e3 h = refuses e (outline_alone bytes)
-    (ap alone (after_headers bytes ok ∙ ap (finished bytes)
-    (sym (same_table bytes end count at e1 e2 e3) ∙ h)))
+pub by_headers : (layout : ImageLayout) (bytes : List ℕ) (e : ImageErr) → headers bytes ≡ Err e
+    → Refuses e (reading_in layout bytes)
+by_headers layout bytes e h = refuses e (reading_in layout bytes)
+    (read_is layout bytes ∙ ap (λ r. read_with r layout bytes) h)
 
--- no import is refused where there is none
-pub no_import_is_refused : (e : ImageErr) (xs : List Import) (r : Result Image ImageErr)
-    → Refuses {Y = List Import} e (Ok xs) → Refuses e r
-no_import_is_refused refusals.Memory xs r h = tt
-no_import_is_refused e xs r h = absurd cc
+pub outline_by_headers : (layout : ImageLayout) (bytes : List ℕ) (e : ImageErr)
+    → headers bytes ≡ Err e → Refuses e (outline_alone layout bytes)
+outline_by_headers layout bytes e h = refuses e (outline_alone layout bytes)
+    (alone_is layout bytes ∙ ap (λ r. alone_with r layout bytes) h)
 
-pub outline_read : (bytes : List ℕ) (ss : List Section) (end count at base entry size : ℕ)
-    (exceptions : DataDirectory) → headers bytes ≡ Ok tt → end ≡ image_end bytes
-    → count ≡ section_count bytes → at ≡ sections_at bytes
-    → sections_of bytes end (headers_from bytes count at) ≡ Ok ss
-    → base ≡ image_base bytes → entry ≡ entry_point bytes → size ≡ image_size bytes
-    → exceptions ≡ directory bytes 3
-    → outline_alone bytes ≡ Ok (record {
-      base = base;
-      entry = entry;
-      size = size;
-      sections = ss;
-      imports = record { rva = 0; size = 0 };
-      exceptions = exceptions;
-    })
-outline_read bytes ss end count at base entry size exceptions ok e1 e2 e3 h e4 e5 e6 e7 =
-    ap alone (read_whole bytes ss end count at ok e1 e2 e3 h)
-    ∙ ap (λ (image : Image). Ok (unimported image))
-    (same_image bytes ss base entry size (directory bytes 1) exceptions e4 e5 e6 refl e7)
+-- ---- the image of headers that were checked
+
+module _ (layout : ImageLayout) (bytes : List ℕ) (d : DataDirectory) (end count at : ℕ)
+    (e1 : end ≡ image_end bytes) (e2 : count ≡ section_count bytes) (e3 : at ≡ sections_at bytes)
+  where
+    same_sections : sections_of bytes end (all_placed layout (headers_from bytes count at))
+        ≡ sections_in layout bytes
+    same_sections =
+        ap (λ n. sections_of bytes n (all_placed layout (headers_from bytes count at))) e1
+        ∙ ap (λ n. sections_of bytes (image_end bytes) (all_placed layout
+        (headers_from bytes n at))) e2
+        ∙ ap (λ n. sections_of bytes (image_end bytes) (all_placed layout
+        (headers_from bytes (section_count bytes) n))) e3
+
+    pub by_sections : (e : ImageErr)
+        → Refuses e (sections_of bytes end (all_placed layout (headers_from bytes count at)))
+        → Refuses e (sectioned_importing d layout bytes)
+    by_sections refusals.Memory h = tt
+    by_sections e h = ap (λ r. found bytes r >>= importing d) (sym same_sections ∙ h)
+
+    module _ (ss : List Section)
+        (are : sections_of bytes end (all_placed layout (headers_from bytes count at)) ≡ Ok ss)
+      where
+        with_sections : sectioned_importing d layout bytes ≡ importing d (image_with bytes ss)
+        with_sections = ap (λ r. found bytes r >>= importing d) (sym same_sections ∙ are)
+
+        pub by_imports : (items : List Section) → items ≡ ss → (e : ImageErr)
+            → Refuses e (imports_in items d) → Refuses e (sectioned_importing d layout bytes)
+        by_imports items same refusals.Memory h = tt
+        by_imports items same e h = with_sections
+            ∙ ap (λ (r : Result (List Import) ImageErr). r
+            >>= λ _. Ok (record (image_with bytes ss) { imports = d }))
+            (ap (λ (t : List Section). imports_in t d) (sym same) ∙ h)
+
+        pub is_read : (items : List Section) (xs : List Import) (base entry size : ℕ)
+            (exceptions : DataDirectory) → items ≡ ss → imports_in items d ≡ Ok xs
+            → base ≡ image_base bytes → entry ≡ entry_point bytes → size ≡ image_size bytes
+            → exceptions ≡ directory bytes 3
+            → sectioned_importing d layout bytes ≡ Ok (record {
+              base = base;
+              entry = entry;
+              size = size;
+              sections = ss;
+              imports = d;
+              exceptions = exceptions;
+            })
+        is_read items xs base entry size exceptions same h e4 e5 e6 e7 = with_sections
+            ∙ ap (λ (r : Result (List Import) ImageErr). r
+            >>= λ _. Ok (record (image_with bytes ss) { imports = d }))
+            (ap (λ (t : List Section). imports_in t d) (sym same) ∙ h)
+            ∙ λ i. Ok (record {
+              base = sym e4 i;
+              entry = sym e5 i;
+              size = sym e6 i;
+              sections = ss;
+              imports = d;
+              exceptions = sym e7 i;
+            })

@@ -3,6 +3,8 @@ use Rattle.std.specs.Prelude.{◌≡◌, ℕ, zero, suc, ◌+◌, ◌*◌, ◌%�
 use Rattle.host_layout.specs.declared.range.TheConstants.{PAGE}
 use Rattle.host_layout.specs.Ranges.{pages}
 use Rattle.pe_image.specs.declared.directory.DataDirectory.{DataDirectory}
+use Rattle.pe_image.specs.declared.image_layout.ImageLayout.{ImageLayout}
+use Rattle.pe_image.specs.declared.image_layout.ImageLayout.TheVariants as layouts
 use Rattle.pe_image.specs.declared.layout.TheConstants.{DOS_HEADER_SIZE, IMAGE_DOS_SIGNATURE, E_LFANEW, FILE_HEADER_SIZE, IMAGE_NT_SIGNATURE, MACHINE, IMAGE_FILE_MACHINE_AMD64, NUMBER_OF_SECTIONS, SIZE_OF_OPTIONAL_HEADER, IMAGE_NT_OPTIONAL_HDR64_MAGIC, ADDRESS_OF_ENTRY_POINT, IMAGE_BASE, SIZE_OF_IMAGE, NUMBER_OF_RVA_AND_SIZES, DIRECTORIES, DIRECTORY_SIZE, IMAGE_DIRECTORY_ENTRY_IMPORT, IMAGE_DIRECTORY_ENTRY_EXCEPTION, SECTION_HEADER_SIZE, VIRTUAL_SIZE, VIRTUAL_ADDRESS, SIZE_OF_RAW_DATA, POINTER_TO_RAW_DATA, CHARACTERISTICS, SIZE_IN_DIRECTORY}
 use Rattle.pe_image.specs.declared.refusal.ImageErr.{ImageErr}
 use Rattle.pe_image.specs.declared.refusal.ImageErr.TheVariants as refusals
@@ -10,7 +12,7 @@ use Rattle.pe_image.specs.declared.table.SectionHeader.{SectionHeader}
 use Rattle.seh_num.specs.Answers.{unless, ◌>>=◌}
 use Rattle.pe_image.specs.Field.{field, is_there}
 use Rattle.pe_image.specs.Image.{Section, Image}
-use Rattle.pe_image.specs.Imports.{imports}
+use Rattle.pe_image.specs.Imports.{imports, imports_in}
 
 -- ---- the headers
 
@@ -125,18 +127,28 @@ abbrev pub headers_from : List ℕ → ℕ → ℕ → List SectionHeader
 headers_from bytes zero at = []
 headers_from bytes (suc n) at = header_at bytes at ∷ headers_from bytes n (at + SECTION_HEADER_SIZE)
 
--- the raw data in the file; pages above the end of the section before and within the image
+-- what a loader mapped is at the section's address, all of its size
+abbrev pub placed : ImageLayout → SectionHeader → SectionHeader
+placed layouts.File s = s
+placed layouts.Mapped s = record s { raw_at = s.address; raw_size = s.size }
+
+abbrev pub all_placed : ImageLayout → List SectionHeader → List SectionHeader
+all_placed layouts.File hs = hs
+all_placed layouts.Mapped hs = map (placed layouts.Mapped) hs
+
+-- what is stored lies in so many bytes; pages above the end of the section before and within the
+-- image
 abbrev pub is_laid_out : ℕ → ℕ → ℕ → SectionHeader → Bool
-is_laid_out file_size limit end s =
-    ((s.raw_size == 0) || nat_le (s.raw_at + s.raw_size) file_size) &&
+is_laid_out byte_count limit end s =
+    ((s.raw_size == 0) || nat_le (s.raw_at + s.raw_size) byte_count) &&
     (s.address % PAGE == 0) && nat_le end s.address && nat_le (s.address + s.size) limit
 
 -- section by section, from an index on and after an end
 abbrev pub all_laid_out : ℕ → ℕ → ℕ → ℕ → List SectionHeader → Result Unit ImageErr
-all_laid_out file_size limit index end [] = Ok tt
-all_laid_out file_size limit index end (s ∷ ss) = do
-  _ ← unless (is_laid_out file_size limit end s) (refusals.Layout index)
-  all_laid_out file_size limit (index + 1) (s.address + s.size) ss
+all_laid_out byte_count limit index end [] = Ok tt
+all_laid_out byte_count limit index end (s ∷ ss) = do
+  _ ← unless (is_laid_out byte_count limit end s) (refusals.Layout index)
+  all_laid_out byte_count limit (index + 1) (s.address + s.size) ss
 
 -- what is stored of a section lies below its size
 abbrev pub section_of : List ℕ → SectionHeader → Section
@@ -169,27 +181,54 @@ image_with bytes sections = record {
   exceptions = directory bytes IMAGE_DIRECTORY_ENTRY_EXCEPTION;
 }
 
--- by its headers and its sections
-unfoldable pub outline : List ℕ → Result Image ImageErr
-outline bytes = do
-  _ ← headers bytes
+-- by its sections
+abbrev pub sectioned : ImageLayout → List ℕ → Result Image ImageErr
+sectioned layout bytes = do
   sections ← sections_of bytes (image_end bytes)
-      (headers_from bytes (section_count bytes) (sections_at bytes))
+      (all_placed layout (headers_from bytes (section_count bytes) (sections_at bytes)))
   Ok (image_with bytes sections)
+
+-- by its headers and its sections
+abbrev pub outline_in : ImageLayout → List ℕ → Result Image ImageErr
+outline_in layout bytes = do
+  _ ← headers bytes
+  sectioned layout bytes
+
+-- in a file
+unfoldable pub outline : List ℕ → Result Image ImageErr
+outline bytes = outline_in layouts.File bytes
+
+-- the same image, which imports what a directory names, if it can be read
+abbrev pub importing : DataDirectory → Image → Result Image ImageErr
+importing d image = do
+  _ ← imports_in image.sections d
+  Ok (record image { imports = d })
+
+abbrev pub sectioned_importing : DataDirectory → ImageLayout → List ℕ → Result Image ImageErr
+sectioned_importing d layout bytes = do
+  image ← sectioned layout bytes
+  importing d image
 
 -- the same image, whose imports aren't looked at: it imports nothing
 abbrev pub unimported : Image → Image
 unimported image = record image { imports = record { rva = 0; size = 0 } }
 
-abbrev pub outline_alone : List ℕ → Result Image ImageErr
-outline_alone bytes = do
-  image ← outline bytes
+unfoldable pub outline_alone : ImageLayout → List ℕ → Result Image ImageErr
+outline_alone layout bytes = do
+  image ← outline_in layout bytes
   Ok (unimported image)
 
--- whose imports can be read
+-- whose imports can be read, in a file
 unfoldable pub reading : List ℕ → Result Image ImageErr
 reading bytes = do
   image ← outline bytes
+  _ ← imports image
+  Ok image
+
+-- in a layout
+unfoldable pub reading_in : ImageLayout → List ℕ → Result Image ImageErr
+reading_in layout bytes = do
+  image ← outline_in layout bytes
   _ ← imports image
   Ok image
 

@@ -3,9 +3,10 @@
 ghost use Rattle.std.specs.Prelude.{◌≡◌, ◌≤◌, ◌+◌, ◌*◌, ◌^◌, ◌<◌, ◌⊎◌, length, IfOk};
 ghost use Rattle.pe_image.specs.Answer.{Gives};
 ghost use Rattle.pe_image.specs.Image.{AreAscending};
-ghost use Rattle.pe_image.specs.Reading.{headers_from, sections_of};
+ghost use Rattle.pe_image.specs.Reading.{headers_from, all_placed, sections_of};
 
 use crate::fields::u32_at;
+use crate::image_layout::ImageLayout;
 use crate::layout::{
     CHARACTERISTICS, POINTER_TO_RAW_DATA, SECTION_HEADER_SIZE, SIZE_OF_RAW_DATA, VIRTUAL_ADDRESS,
     VIRTUAL_SIZE,
@@ -23,9 +24,9 @@ pub struct SectionHeader {
     pub size: u32,
     /// Where it lies in the image.
     pub address: u32,
-    /// How many bytes of raw data it has.
+    /// How many bytes are stored for it.
     pub raw_size: u32,
-    /// Where they are in the file.
+    /// Where they are in the bytes of the image.
     pub raw_at: u32,
     /// Its characteristics.
     pub flags: u32,
@@ -53,6 +54,21 @@ impl SectionHeader {
         }
     }
 
+    /// The header of what is stored in a layout: a loader maps all of the section's size, at its
+    /// address.
+    fn placed(self, layout: ImageLayout) -> SectionHeader
+        ensures { result ≡ spec.placed layout self }
+    {
+        match layout {
+            ImageLayout::File => self,
+            ImageLayout::Mapped => SectionHeader {
+                raw_size: self.size,
+                raw_at: self.address,
+                ..self
+            },
+        }
+    }
+
     fn raw_end(&self) -> u64
         ensures { result ≡ self.now.raw_at + self.now.raw_size }
     {
@@ -65,12 +81,12 @@ impl SectionHeader {
         self.address as u64 + self.size as u64
     }
 
-    /// Whether its raw data lies in a file of that size, and it itself on whole pages from `end` on
-    /// and up to `limit`.
-    fn is_laid_out(&self, file_size: u64, limit: u64, end: u64) -> bool
-        ensures { result ≡ spec.is_laid_out file_size limit end self.now }
+    /// Whether what is stored of it lies in so many bytes, and it itself on whole pages from `end`
+    /// on and up to `limit`.
+    fn is_laid_out(&self, byte_count: u64, limit: u64, end: u64) -> bool
+        ensures { result ≡ spec.is_laid_out byte_count limit end self.now }
     {
-        (self.raw_size == 0 || self.raw_end() <= file_size)
+        (self.raw_size == 0 || self.raw_end() <= byte_count)
             && self.address as u64 % PAGE == 0
             && end <= self.address as u64
             && self.end() <= limit
@@ -95,19 +111,20 @@ impl SectionHeader {
 pub fn sections<'a>(
     alloc: Global,
     bytes: &'a [u8],
+    layout: ImageLayout,
     at: usize,
     count: usize,
     limit: u64,
 ) -> Result<Vec<SectionView<'a>>, ImageErr>
     requires { at + SECTION_HEADER_SIZE * count ≤ length bytes.now }
     ensures answer { Gives (λ v. v.items) result
-        (sections_of bytes.now limit (headers_from bytes.now count at)) }
+        (sections_of bytes.now limit (all_placed layout (headers_from bytes.now count at))) }
     ensures ascending { IfOk result (λ v. AreAscending 0 v.items) }
 {
     let mut sections = Vec::with_capacity(alloc, count)?;
     let mut end = 0;
     for index in 0..count {
-        let header = SectionHeader::read(bytes, at + SECTION_HEADER_SIZE * index);
+        let header = SectionHeader::read(bytes, at + SECTION_HEADER_SIZE * index).placed(layout);
         if !header.is_laid_out(bytes.len() as u64, limit, end) {
             return Err(ImageErr::Layout {
                 section: index as u64,

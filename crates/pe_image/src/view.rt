@@ -5,9 +5,11 @@ ghost use Rattle.pe_image.specs.Image.{AreAscending, section_at, stored, stored_
 ghost use Rattle.pe_image.specs.Bound.{bound_name};
 ghost use Rattle.pe_image.specs.Imports.{imports, imports_of};
 ghost use Rattle.pe_image.specs.Answer.{Refuses};
-ghost use Rattle.pe_image.specs.Reading.{IsImage, ImageIsRefused, outline_alone};
+ghost use Rattle.pe_image.specs.Reading.{HasHeaders, IsImage, ImageIsRefused};
+ghost use Rattle.pe_image.specs.Reading.{sectioned_importing, reading_in, outline_alone};
 
 use crate::directory::{DataDirectory, NO_TABLE};
+use crate::image_layout::ImageLayout;
 use crate::import::stored;
 use crate::import_check::check_imports;
 use crate::imports::{Imports, bound_names};
@@ -23,7 +25,7 @@ use std::alloc::Global;
 use std::collections::BTreeMap;
 use std::marker::Model;
 
-/// An image in a file, with its sections found. A clause sees the image as it is read.
+/// An image in bytes, with its sections found. A clause sees the image as it is read.
 #[derive(Drop)]
 pub struct ImageView<'a> {
     base: u64,
@@ -73,12 +75,54 @@ impl<'a> ImageView<'a> {
         ensures image { IfOk result (λ view. IsImage bytes.now view) }
         ensures refusal { IfErr result (λ e. ImageIsRefused bytes.now e) }
     {
+        ImageView::read_in(alloc, bytes, ImageLayout::File)
+    }
+
+    /// Reads an image in a layout, with the checks of [`ImageView::read`]. Of a mapped image all of
+    /// a section's size lies in the bytes, and the slots of imports may be bound.
+    pub fn read_in(
+        alloc: Global,
+        bytes: &'a [u8],
+        layout: ImageLayout,
+    ) -> Result<ImageView<'a>, ImageErr>
+        ensures image { IfOk result (λ view. reading_in layout bytes.now ≡ Ok view) }
+        ensures refusal { IfErr result (λ e. Refuses e (reading_in layout bytes.now)) }
+    {
         check_headers(bytes)?;
+        let imports = directory(bytes, IMAGE_DIRECTORY_ENTRY_IMPORT);
+        ImageView::importing(alloc, bytes, layout, imports)
+    }
+
+    /// Reads an image without what it imports: the view imports nothing. The checks are those of
+    /// [`ImageView::read_in`] up to the last section, so that no import is refused.
+    pub fn read_outline(
+        alloc: Global,
+        bytes: &'a [u8],
+        layout: ImageLayout,
+    ) -> Result<ImageView<'a>, ImageErr>
+        ensures image { IfOk result (λ view. outline_alone layout bytes.now ≡ Ok view) }
+        ensures refusal { IfErr result (λ e. Refuses e (outline_alone layout bytes.now)) }
+    {
+        check_headers(bytes)?;
+        ImageView::importing(alloc, bytes, layout, NO_TABLE)
+    }
+
+    /// The image of bytes whose headers were checked, which imports what a directory names.
+    fn importing(
+        alloc: Global,
+        bytes: &'a [u8],
+        layout: ImageLayout,
+        import_directory: DataDirectory,
+    ) -> Result<ImageView<'a>, ImageErr>
+        requires { HasHeaders bytes.now }
+        ensures image { IfOk result (λ view.
+            sectioned_importing import_directory layout bytes.now ≡ Ok view) }
+        ensures refusal { IfErr result (λ e.
+            Refuses e (sectioned_importing import_directory layout bytes.now)) }
+    {
         let at = sections_at(bytes);
         let count = section_count(bytes);
-        let end = image_end(bytes);
-        let sections = sections(alloc, bytes, at, count, end)?;
-        let import_directory = directory(bytes, IMAGE_DIRECTORY_ENTRY_IMPORT);
+        let sections = sections(alloc, bytes, layout, at, count, image_end(bytes))?;
         let name_ends = check_imports(alloc, &sections, import_directory)?;
         let imports = Imports::new(&sections, &name_ends, import_directory);
         let names = bound_names(alloc, imports)?;
@@ -88,32 +132,6 @@ impl<'a> ImageView<'a> {
             size: image_size(bytes),
             sections,
             import_directory,
-            exceptions: directory(bytes, IMAGE_DIRECTORY_ENTRY_EXCEPTION),
-            name_ends,
-            names,
-        })
-    }
-
-    /// Reads the bytes of a file without what it imports: the view imports nothing. The checks are
-    /// those of [`ImageView::read`] up to the last section, so that no import is refused.
-    pub fn read_outline(alloc: Global, bytes: &'a [u8]) -> Result<ImageView<'a>, ImageErr>
-        ensures image { IfOk result (λ view. outline_alone bytes.now ≡ Ok view) }
-        ensures refusal { IfErr result (λ e. Refuses e (outline_alone bytes.now)) }
-    {
-        check_headers(bytes)?;
-        let at = sections_at(bytes);
-        let count = section_count(bytes);
-        let end = image_end(bytes);
-        let sections = sections(alloc, bytes, at, count, end)?;
-        let name_ends = check_imports(alloc, &sections, NO_TABLE)?;
-        let imports = Imports::new(&sections, &name_ends, NO_TABLE);
-        let names = bound_names(alloc, imports)?;
-        Ok(ImageView {
-            base: image_base(bytes),
-            entry: entry_point(bytes),
-            size: image_size(bytes),
-            sections,
-            import_directory: NO_TABLE,
             exceptions: directory(bytes, IMAGE_DIRECTORY_ENTRY_EXCEPTION),
             name_ends,
             names,

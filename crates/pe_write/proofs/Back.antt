@@ -7,15 +7,17 @@ use Rattle.std.specs.List.{flat_map, AllByRecursion}
 use Rattle.std.proofs.lemmas.Bool.{and_from, or_left, or_right, le-leb, eq-eqb, cases_eq}
 use Rattle.std.proofs.lemmas.List.{length-append, length-replicate, length-drop, drop-drop, drop_at, take-append-le, take_min}
 use Rattle.std.proofs.lemmas.List.Sums.{sum_by-cons}
-use Rattle.pe_image.proofs.Whole.{read_whole, same_image, whole_read}
+use Rattle.pe_image.proofs.Whole as one
+use Rattle.pe_image.proofs.Whole.{in_file, whole_is}
 use Rattle.pe_write.proofs.Below.{raw_below}
 use Rattle.pe_write.proofs.Front.{front_of, front_length, count_is, entry_is, base_is, size_is, sections_at_is, imports_is, exceptions_is, headers_pass}
 use Rattle.pe_write.proofs.Rows.{headers_read, rows, fields_length}
+use Rattle.pe_image.specs.declared.image_layout.ImageLayout.TheVariants as layouts
 use Rattle.pe_image.specs.declared.refusal.ImageErr.TheVariants as refusals
 use Rattle.seh_num.specs.Answers.{◌>>=◌, unless}
-use Rattle.pe_image.specs.Image.{Section, Image}
+use Rattle.pe_image.specs.Image.{Section}
 use Rattle.pe_image.specs.Imports.{imports_of}
-use Rattle.pe_image.specs.Reading.{image_size, headers_from, is_laid_out, all_laid_out, section_of, sections_of, image_end, outline, reading, IsImage}
+use Rattle.pe_image.specs.Reading.{image_size, headers_from, is_laid_out, all_laid_out, section_of, sections_of, image_end, reading, IsImage}
 use Rattle.pe_image.specs.Numbers.{zeros}
 use Rattle.pe_write.specs.Written.{SectionParts, ImageParts, PlacedSection, pages, raw_size, placed, end_of, section_fields, section_header, section_table, table_of, raw_data, written, IsSection, CanBeWritten, sections_read, image_read}
 
@@ -204,21 +206,22 @@ module _ (image : ImageParts) (fits : CanBeWritten image) where
       (laid_out b (image_end b) 0 0 0x1000 1 1024 image.sections refl (omega arith) inside there)
       ∙ ap (λ (ss : List Section). Ok ss) (sections_again b 0x1000 1024 image.sections there)
 
-  outline_parts : outline b ≡ Ok (image_read image)
-  outline_parts =
+  read_parts : reading b ≡ Ok (image_read image)
+  read_parts =
       let rest = section_table ps ++ tail in
-      read_whole b (sections_read ps) (image_end b) (length image.sections)
-      (length (front_of image)) (headers_pass image fits rest long) refl
-      (sym (count_is image fits rest long))
-      (front_length image ∙ sym (sections_at_is image fits rest long)) sections_are
-      ∙ ap (λ (i : Image). Ok i) (same_image b (sections_read ps) 0x140000000 image.entry
-      (end_of image.sections) image.imports image.exceptions (sym (base_is image fits rest long))
-      (sym (entry_is image fits rest long)) (sym (size_is image fits rest long))
-      (sym (imports_is image fits rest long)) (sym (exceptions_is image fits rest long)))
+      sym (in_file b)
+      ∙ sym (whole_is layouts.File b image.imports (headers_pass image fits rest long)
+      (sym (imports_is image fits rest long)))
+      ∙ one.is_read layouts.File b image.imports (image_end b) (length image.sections)
+      (length (front_of image)) refl (sym (count_is image fits rest long))
+      (front_length image ∙ sym (sections_at_is image fits rest long)) (sections_read ps)
+      sections_are (sections_read ps) (imports_of (image_read image)) 0x140000000 image.entry
+      (end_of image.sections) image.exceptions refl fits.imported
+      (sym (base_is image fits rest long)) (sym (entry_is image fits rest long))
+      (sym (size_is image fits rest long)) (sym (exceptions_is image fits rest long))
 
   pub read_again : IsImage (written image) (image_read image)
-  read_again = ap reading parts ∙ whole_read b (image_read image) (imports_of (image_read image))
-      outline_parts fits.imported
+  read_again = ap reading parts ∙ read_parts
 
 pub is_read : (image : ImageParts) (r : Result (Vec ℕ) AllocError) → OnOk r (CanBeWritten image)
     → IfOk r (λ bytes. bytes.items ≡ written image)

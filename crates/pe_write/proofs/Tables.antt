@@ -12,8 +12,8 @@ use Rattle.pe_image.specs.Image.{Section, section_at, stored_in, stored, whole}
 use Rattle.pe_image.specs.Imports.{Import, hinted, name_at, with_slot, unless_ordinal, import_at, library, is_zero, lookups, entries_of, libraries, max_count, imports_in}
 use Rattle.pe_write.specs.ImportTables.{name_of, services, hint_name, descriptor, import_tables, imported}
 use Rattle.pe_image.specs.Numbers.{u32, u64, zeros}
-use Rattle.pe_image.proofs.Imported.{with_directory}
-use Rattle.pe_write.proofs.GatheredImports.{import_passed, entries_end, library_passed, libraries_end, same_entries}
+use Rattle.pe_image.proofs.GatheredImports.{import_passed, entries_end, library_passed, libraries_end}
+use Rattle.pe_image.proofs.Imported.{same_entries, with_directory}
 use Rattle.pe_write.proofs.Rows.{four_is}
 
 abbrev eight : ℕ → ℕ

@@ -4,6 +4,7 @@ use Rattle.seh_num.specs.Answers.{◌>>=◌}
 use Rattle.pe_image.specs.Answer.{Refuses}
 use Rattle.pe_image.specs.Image.{Image}
 use Rattle.pe_image.specs.Reading.{outline_alone, ImageIsRefused}
+use Rattle.pe_image.specs.declared.image_layout.ImageLayout.TheVariants as layouts
 use Rattle.pe_image.specs.declared.refusal.ImageErr.{ImageErr}
 use Rattle.pe_image.specs.declared.refusal.ImageErr.TheVariants as images
 use Rattle.eh_tables.specs.declared.range.RuntimeFunction.{RuntimeFunction}
@@ -19,7 +20,7 @@ use Rattle.seh_c.specs.Scopes.{Filled, GivesScopes}
 use Rattle.seh_c.specs.Walks.{Walked, GivesWalk}
 use Rattle.seh_c.specs.Openings.{Answer, image_refusal, of_image, of_table, Gives, opened, opened_whole, table_of}
 
-pub opening_refused : (file : List ℕ) (e : ImageErr) → Refuses e (outline_alone file)
+pub opening_refused : (file : List ℕ) (e : ImageErr) → Refuses e (outline_alone layouts.File file)
     → Gives {A = Image} (Err (image_refusal e)) (opened file)
 opening_refused file images.Memory h = tt
 opening_refused file (images.Truncated x) h = ap of_image h

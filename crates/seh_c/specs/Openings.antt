@@ -3,6 +3,7 @@ use Rattle.std.specs.Prelude.{◌≡◌, ℕ, List, length, Result, Ok, Err}
 use Rattle.seh_num.specs.Answers.{◌>>=◌}
 use Rattle.pe_image.specs.Image.{Image}
 use Rattle.pe_image.specs.Reading.{outline_alone, reading}
+use Rattle.pe_image.specs.declared.image_layout.ImageLayout.TheVariants as layouts
 use Rattle.pe_image.specs.declared.refusal.ImageErr.{ImageErr}
 use Rattle.pe_image.specs.declared.refusal.ImageErr.TheVariants as images
 use Rattle.eh_tables.specs.declared.refusal.TableErr.{TableErr}
@@ -40,7 +41,7 @@ Gives r given = given ≡ r
 
 -- an image by its headers and sections; none of its imports is looked at
 abbrev pub opened : List ℕ → Answer Image
-opened file = of_image (outline_alone file)
+opened file = of_image (outline_alone layouts.File file)
 
 -- and with its imports
 abbrev pub opened_whole : List ℕ → Answer Image

@@ -7,7 +7,7 @@ ghost use Rattle.seh_c.specs.Openings as spec;
 use crate::c_types::SehImage;
 use crate::refusal::Refusal;
 use eh_tables::Tables;
-use pe_image::{ImageErr, ImageView};
+use pe_image::{ImageErr, ImageLayout, ImageView};
 use std::alloc::Global;
 
 fn image_refusal(e: ImageErr) -> Refusal
@@ -24,7 +24,7 @@ fn image_refusal(e: ImageErr) -> Refusal
 pub fn open<'a>(alloc: Global, file: &'a [u8]) -> Result<ImageView<'a>, Refusal>
     ensures { spec.Gives result (spec.opened file.now) }
 {
-    match ImageView::read_outline(alloc, file) {
+    match ImageView::read_outline(alloc, file, ImageLayout::File) {
         Ok(image) => Ok(image),
         Err(e) => Err(image_refusal(e)),
     }

@@ -1,66 +1,17 @@
-use Rattle.std.proofs.Common.{List, Ok, sym, ap, subst, ◌∙◌}
-use Rattle.std.specs.Prelude.{is_ok}
-use Rattle.std.proofs.lemmas.Result.{err_from_is_err_and}
-use Rattle.pe_image.specs.Bound.{bound_name}
-use Rattle.pe_image.specs.Image.{Image, Section}
-use Rattle.pe_image.specs.Imports.{imports_in, or_none}
-use Rattle.pe_image.specs.Names.{AreEnds}
-use Rattle.pe_image.proofs.Imported.{ok_is}
-use Rattle.pe_image.proofs.Whole.{by_headers, by_sections, read_whole, same_image, imports_refused, imports_read}
+use Rattle.std.proofs.Common.{◌≡◌, Result, Ok, subst}
+use Rattle.std.specs.Prelude.{IfOk, IfErr}
+use Rattle.pe_image.specs.declared.refusal.ImageErr.{ImageErr}
+use Rattle.pe_image.specs.Answer.{Refuses}
+use Rattle.pe_image.specs.Image.{Image}
+use Rattle.pe_image.proofs.Whole.{all_refused, in_file}
 use Rattle.pe_image.proofs.view.ImageView.read.Goals as goal
-
-pub returns-in_err-check_headers-clause-refusal : goal.returns-in_err-check_headers-clause-refusal
-returns-in_err-check_headers-clause-refusal c =
-    let p = err_from_is_err_and c.from_residual.result c.from_residual.ensures.1 in
-    rw (p.1, p.2) (by_headers c.args.bytes.now c.in_err-check_headers.field-0.0
-    (sym c.in_err-check_headers.ensures.answer))
-
-pub returns-in_err-sections-clause-refusal : goal.returns-in_err-sections-clause-refusal
-returns-in_err-sections-clause-refusal c =
-    let p = err_from_is_err_and c.from_residual-in_err-sections.result
-    c.from_residual-in_err-sections.ensures.1 in
-    rw (p.1, p.2) (by_sections c.args.bytes.now c.in_err-sections.field-0.0 _ _ _
-    (sym c.in_ok-check_headers.ensures.answer) c.image_end-end.ensures
-    c.section_count-count.ensures c.sections_at-at.ensures c.in_err-sections.ensures.answer)
-
-pub returns-in_err-name_ends-clause-refusal : goal.returns-in_err-name_ends-clause-refusal
-returns-in_err-name_ends-clause-refusal c =
-    let p = err_from_is_err_and c.from_residual-in_err-name_ends.result
-    c.from_residual-in_err-name_ends.ensures.1 in
-    rw (p.1, p.2) (imports_refused c.args.bytes.now c.in_ok-sections.sections.items _ _
-    (read_whole c.args.bytes.now c.in_ok-sections.sections.items _ _ _
-    (sym c.in_ok-check_headers.ensures.answer) c.image_end-end.ensures
-    c.section_count-count.ensures c.sections_at-at.ensures c.in_ok-sections.ensures.answer)
-    c.deref.ensures.value c.directory-import_directory.ensures c.in_err-name_ends.field-0.0
-    c.in_err-name_ends.ensures.refused)
 
 pub returns-clause-image : goal.returns-clause-image
 returns-clause-image c =
-    imports_read c.args.bytes.now c.in_ok-sections.sections.items _ _
-    (read_whole c.args.bytes.now c.in_ok-sections.sections.items _ _ _
-    (sym c.in_ok-check_headers.ensures.answer) c.image_end-end.ensures
-    c.section_count-count.ensures c.sections_at-at.ensures c.in_ok-sections.ensures.answer)
-    c.deref.ensures.value c.directory-import_directory.ensures
-    (or_none (imports_in c.deref.result.now c.directory-import_directory.result))
-    (ok_is (imports_in c.deref.result.now c.directory-import_directory.result)
-    c.in_ok-name_ends.ensures.read)
-    ∙ ap (λ (image : Image). Ok image) (same_image c.args.bytes.now c.in_ok-sections.sections.items
-    _ _ _ _ _ c.image_base.ensures c.entry_point.ensures c.image_size.ensures
-    c.directory-import_directory.ensures c.directory.ensures)
+    subst (λ (given : Result Image ImageErr). IfOk c.read_in.result (λ view. given ≡ Ok view))
+    (in_file c.args.bytes.now) c.read_in.ensures.image
 
-pub invariant_of-result : goal.invariant_of-result
-invariant_of-result c =
-    let d = c.directory-import_directory.result in (
-      c.in_ok-sections.ensures.ascending,
-      ap (λ (ss : List Section). is_ok (imports_in ss d)) (sym c.deref.ensures.value)
-          ∙ c.in_ok-name_ends.ensures.read,
-      subst (λ (ss : List Section). AreEnds ss c.in_ok-name_ends.name_ends) c.deref.ensures.value
-          c.in_ok-name_ends.ensures.ends,
-      λ slot. c.in_ok-names.ensures slot ∙ ap (bound_name slot) (c.new-imports.ensures
-          ∙ ap (λ (ss : List Section). or_none (imports_in ss d)) c.deref-2.ensures.value),
-    )
-
-pub new-imports-requires-clause-ends : goal.new-imports-requires-clause-ends
-new-imports-requires-clause-ends c = subst
-    (λ (ss : List Section). AreEnds ss c.in_ok-name_ends.name_ends)
-    (c.deref.ensures.value ∙ sym c.deref-2.ensures.value) c.in_ok-name_ends.ensures.ends
+pub returns-clause-refusal : goal.returns-clause-refusal
+returns-clause-refusal c = all_refused c.args.bytes.now c.read_in.result
+    (subst (λ (given : Result Image ImageErr). IfErr c.read_in.result (λ e. Refuses e given))
+    (in_file c.args.bytes.now) c.read_in.ensures.refusal)

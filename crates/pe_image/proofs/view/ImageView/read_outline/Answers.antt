@@ -1,55 +1,26 @@
-use Rattle.std.proofs.Common.{List, sym, ap, subst, ◌∙◌}
-use Rattle.std.specs.Prelude.{is_ok}
+use Rattle.std.proofs.Common.{◌≡◌, Result, Ok, sym, subst}
+use Rattle.std.specs.Prelude.{IfOk, IfErr}
 use Rattle.std.proofs.lemmas.Result.{err_from_is_err_and}
-use Rattle.pe_image.specs.declared.directory.TheConstants.{NO_TABLE}
-use Rattle.pe_image.specs.Bound.{bound_name}
-use Rattle.pe_image.specs.Image.{Section}
-use Rattle.pe_image.specs.Imports.{imports_in, or_none}
-use Rattle.pe_image.specs.Names.{AreEnds}
-use Rattle.pe_image.specs.Reading.{outline_alone}
-use Rattle.pe_image.proofs.Whole.{outline_by_headers, outline_by_sections, no_import_is_refused, outline_read}
+use Rattle.pe_image.specs.declared.refusal.ImageErr.{ImageErr}
+use Rattle.pe_image.specs.Answer.{Refuses}
+use Rattle.pe_image.specs.Image.{Image}
+use Rattle.pe_image.proofs.Whole.{outline_by_headers, outline_is}
 use Rattle.pe_image.proofs.view.ImageView.read_outline.Goals as goal
 
 pub returns-in_err-check_headers-clause-refusal : goal.returns-in_err-check_headers-clause-refusal
 returns-in_err-check_headers-clause-refusal c =
     let p = err_from_is_err_and c.from_residual.result c.from_residual.ensures.1 in
-    rw (p.1, p.2) (outline_by_headers c.args.bytes.now c.in_err-check_headers.field-0.0
-    (sym c.in_err-check_headers.ensures.answer))
-
-pub returns-in_err-sections-clause-refusal : goal.returns-in_err-sections-clause-refusal
-returns-in_err-sections-clause-refusal c =
-    let p = err_from_is_err_and c.from_residual-in_err-sections.result
-    c.from_residual-in_err-sections.ensures.1 in
-    rw (p.1, p.2) (outline_by_sections c.args.bytes.now c.in_err-sections.field-0.0 _ _ _
-    (sym c.in_ok-check_headers.ensures.answer) c.image_end-end.ensures
-    c.section_count-count.ensures c.sections_at-at.ensures c.in_err-sections.ensures.answer)
-
-pub returns-in_err-name_ends-clause-refusal : goal.returns-in_err-name_ends-clause-refusal
-returns-in_err-name_ends-clause-refusal c =
-    let p = err_from_is_err_and c.from_residual-in_err-name_ends.result
-    c.from_residual-in_err-name_ends.ensures.1 in
-    rw (p.1, p.2) (no_import_is_refused c.in_err-name_ends.field-0.0 _
-    (outline_alone c.args.bytes.now) c.in_err-name_ends.ensures.refused)
+    rw (p.1, p.2) (outline_by_headers c.args.layout c.args.bytes.now
+    c.in_err-check_headers.field-0.0 (sym c.in_err-check_headers.ensures.answer))
 
 pub returns-clause-image : goal.returns-clause-image
 returns-clause-image c =
-    outline_read c.args.bytes.now c.in_ok-sections.sections.items _ _ _ _ _ _ _
-    (sym c.in_ok-check_headers.ensures.answer) c.image_end-end.ensures
-    c.section_count-count.ensures c.sections_at-at.ensures c.in_ok-sections.ensures.answer
-    c.image_base.ensures c.entry_point.ensures c.image_size.ensures c.directory.ensures
+    subst (λ (given : Result Image ImageErr). IfOk c.importing.result (λ view. given ≡ Ok view))
+    (outline_is c.args.layout c.args.bytes.now (sym c.in_ok-check_headers.ensures.answer))
+    c.importing.ensures.image
 
-pub invariant_of-result : goal.invariant_of-result
-invariant_of-result c = (
-  c.in_ok-sections.ensures.ascending,
-  ap (λ (ss : List Section). is_ok (imports_in ss NO_TABLE)) (sym c.deref.ensures.value)
-      ∙ c.in_ok-name_ends.ensures.read,
-  subst (λ (ss : List Section). AreEnds ss c.in_ok-name_ends.name_ends) c.deref.ensures.value
-      c.in_ok-name_ends.ensures.ends,
-  λ slot. c.in_ok-names.ensures slot ∙ ap (bound_name slot) (c.new-imports.ensures
-      ∙ ap (λ (ss : List Section). or_none (imports_in ss NO_TABLE)) c.deref-2.ensures.value),
-)
-
-pub new-imports-requires-clause-ends : goal.new-imports-requires-clause-ends
-new-imports-requires-clause-ends c = subst
-    (λ (ss : List Section). AreEnds ss c.in_ok-name_ends.name_ends)
-    (c.deref.ensures.value ∙ sym c.deref-2.ensures.value) c.in_ok-name_ends.ensures.ends
+pub returns-clause-refusal : goal.returns-clause-refusal
+returns-clause-refusal c =
+    subst (λ (given : Result Image ImageErr). IfErr c.importing.result (λ e. Refuses e given))
+    (outline_is c.args.layout c.args.bytes.now (sym c.in_ok-check_headers.ensures.answer))
+    c.importing.ensures.refusal

@@ -3,9 +3,8 @@ use Rattle.std.proofs.Common.{◌≡◌, ◌≢◌, ℕ, ◌+◌, false, true, S
 use Rattle.std.proofs.lemmas.List.{append-nil}
 use Rattle.byteorder.specs.Endian.{little_number}
 use Rattle.seh_num.specs.Answers.{onto, prepend, ◌>>=◌}
-use Rattle.pe_image.specs.Field.{field}
 use Rattle.pe_image.specs.Image.{Section, stored}
-use Rattle.pe_image.specs.Imports.{Import, import_at, library, is_zero, lookups, entries_of, libraries, max_count}
+use Rattle.pe_image.specs.Imports.{Import, import_at, library, is_zero, entries_of, libraries}
 use Rattle.pe_image.proofs.Imported as one
 use Rattle.pe_image.proofs.Imported.{Answered}
 
@@ -17,12 +16,6 @@ onto_more xs x (Err e) = refl
 onto_all : (xs ys : List Import) (r : Answered) → onto xs (onto ys r) ≡ onto (xs ++ ys) r
 onto_all xs ys (Ok zs) = ap (λ (t : List Import). Ok t) (sym (append_assoc xs ys zs))
 onto_all xs ys (Err e) = refl
-
-pub same_entries : (ss : List Section) (index look slot : ℕ) (d : List ℕ)
-    → look ≡ lookups (field 4 d 0) (field 4 d 16) → slot ≡ field 4 d 16
-    → library max_count ss index look slot ≡ entries_of ss index d
-same_entries ss index look slot d e1 e2 = ap (λ n. library max_count ss index n slot) e1
-    ∙ ap (library max_count ss index (lookups (field 4 d 0) (field 4 d 16))) e2
 
 module _ (ss : List Section) (xs : List Import) (index look slot : ℕ) where
   -- the import of a lookup entry goes with those before it
