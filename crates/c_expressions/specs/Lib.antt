@@ -1,5 +1,6 @@
 pub mod Kept
 pub mod Rules
+pub mod TextHashers
 pub mod NameTables
 pub mod Views
 pub mod Calls

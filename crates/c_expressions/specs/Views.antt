@@ -6,6 +6,7 @@ use Rattle.c_expressions.specs.declared.scopes.Entity.{Entity as Entity'}
 use Rattle.c_expressions.specs.declared.scopes.Entity.TheVariants as entities
 use Rattle.c_expressions.specs.declared.scopes.Scopes.{Scopes}
 use Rattle.c_expressions.specs.declared.scopes.Scopes.TheVariants.{File, Inside'}
+use Rattle.c_expressions.specs.declared.text_hasher.TextHasher.{TextHasher}
 use Rattle.c_expressions.specs.declared.wanted.Wanted.{Wanted as Wanted'}
 use Rattle.c_expressions.specs.declared.wanted.Wanted.TheVariants as wants
 use Rattle.c_resolved.specs.Expressions.{Entity, LocalVariable, GlobalVariable, GlobalArray, UserFunction, BuiltInFunction, CodeFunction, AbnormalFunction, BuiltInConstant, Names, Wanted, OfType, ZeroLiteral}
@@ -34,6 +35,11 @@ block_of es = names_after [] es
 abbrev pub scopes_of : Scopes → Scope
 scopes_of (File names) = block_of names.now.entries
 scopes_of (Inside' names p outer) = block_of names.now.entries ++ scopes_of outer
+
+-- what hashes the names of the innermost block, or of the file
+abbrev pub hasher_in : Scopes → TextHasher
+hasher_in (File names) = names.now.hasher
+hasher_in (Inside' names p outer) = names.now.hasher
 
 -- the functions among the built-in names, and the constants
 abbrev pub built_in_functions : Scope

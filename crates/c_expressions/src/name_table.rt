@@ -2,6 +2,8 @@
 
 ghost use Rattle.std.specs.Prelude.{◌≡◌, [], ◌∷◌, ◌++◌, None, OnErr, OnOk};
 ghost use Rattle.c_expressions.specs.NameTables.{meaning_of};
+ghost use Rattle.c_expressions.specs.TextHashers.{hasher_of};
+ghost use Rattle.c_expressions.specs.Views.{hasher_in};
 
 use crate::scopes::{Entity, Scopes};
 use crate::text_hasher::TextHasher;
@@ -16,26 +18,32 @@ pub struct NameTable<'t> {
 }
 
 impl<'t> Model for NameTable<'t> {
+    ghost use Rattle.indexmap.specs.IndexMap as map;
     ghost use Rattle.c_expressions.specs.NameTables.{NameTable};
 
     ghost Value = { NameTable };
 
-    ghost view = { λ t. record { entries = t.meanings.entries } };
+    ghost view = { λ t. record {
+      entries = t.meanings.entries;
+      hasher = map.hasher_of t.meanings;
+    } };
 }
 
 impl<'t> NameTable<'t> {
-    /// No names of the file yet, whose text this is.
+    /// No names of the file yet, whose text this is: they are hashed as what follows it.
     pub fn of_file(alloc: Global, text: &[u8]) -> NameTable<'t>
-        ensures { result.entries ≡ [] }
+        ensures empty { result.entries ≡ [] }
+        ensures hasher { result.hasher ≡ hasher_of text.now }
     {
         NameTable {
             meanings: IndexMap::with_hasher(alloc, TextHasher::new(text)),
         }
     }
 
-    /// No names of a block yet, inside these.
+    /// No names of a block yet, inside these: they are hashed as those of the block around it.
     pub fn of_block(alloc: Global, outer: &Scopes<'_, '_>) -> NameTable<'t>
-        ensures { result.entries ≡ [] }
+        ensures empty { result.entries ≡ [] }
+        ensures hasher { result.hasher ≡ hasher_in outer.now }
     {
         let (Scopes::File(around) | Scopes::Inside(around, _)) = outer;
         NameTable {
@@ -56,6 +64,7 @@ impl<'t> NameTable<'t> {
         ensures inserted { OnOk result
             (self.new.entries ≡ self.old.entries ++ (name.entry, meaning.entry) ∷ []) }
         ensures unchanged { OnErr result (self.new.entries ≡ self.old.entries) }
+        ensures hasher { self.new.hasher ≡ self.old.hasher }
     {
         self.meanings.insert(name, meaning)?;
         Ok(())

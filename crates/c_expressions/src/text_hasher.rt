@@ -1,5 +1,8 @@
 //! Hashes of names.
 
+ghost use Rattle.std.specs.Prelude.{◌≡◌};
+ghost use Rattle.c_expressions.specs.TextHashers.{hasher_of};
+
 use std::hash::{BuildHasher, DefaultHasher, Hasher};
 
 /// Hashes a name as what follows a whole text. So where names fall in a hash table is known only
@@ -11,8 +14,10 @@ pub struct TextHasher {
 }
 
 impl TextHasher {
-    /// For the names of this text.
-    pub fn new(text: &[u8]) -> TextHasher {
+    /// For the names of this text: each is hashed as what follows the whole text.
+    pub fn new(text: &[u8]) -> TextHasher
+        ensures { result ≡ hasher_of text.now }
+    {
         let mut after_text = DefaultHasher::new();
         after_text.write(text);
         TextHasher { after_text }

@@ -10,6 +10,7 @@ use Rattle.lowering_invariants.specs.SmallNumbers.{AreSmall}
 use Rattle.match_bodies.proofs.SilentTurns.{enters_silently}
 use Rattle.x64_machine.specs.Contexts.{context_of}
 use Rattle.match_bodies.specs.Callers.{nothing_owed}
+use Rattle.match_bodies.proofs.BodyFrames.{small_others as small_registers}
 use Rattle.match_bodies.proofs.OwedCallers.{returns_alone}
 use Rattle.match_bodies.proofs.InstructionEffects.{others_of}
 use Rattle.match_bodies.proofs.RoutineWalks.{enters_steps, Beneath, AllPlain}
@@ -126,8 +127,9 @@ module _ (t : Functions) (fs : List Funclet) (program : LinearProgram) (p : Imag
       (others_of first.cpu.registers) [] inside.turns first after
       (arguments_code program p (FunctionBody f)) [] 40
       (sym (append-nil (arguments_code program p (FunctionBody f)))) inside.exact
-      (enters_steps inside.turns first after inside.comes) refl at beneath_main h.memory.code
-      stored.1 (omega arith) refl
+      (enters_steps inside.turns first after inside.comes) refl at beneath_main
+      (small_registers first (subst IsWellFormed first_is well_formed)) h.memory.code stored.1
+      (omega arith) refl
       (subst (λ (xs : List Instr). AllPlain layout.frame 40 xs) (sym arguments_are) stored.0)).keeps
 
   pub comes : Comes t fs inside.turns s [] after

@@ -4,8 +4,12 @@ use Rattle.std.specs.Prelude.{slice_get}
 use Rattle.std.specs.List.{flat_map}
 use Rattle.std.proofs.lemmas.Bool.{ne_eqb}
 use Rattle.image_tables.specs.Words.{Memory, Instr, UnwindOperation, Nothing, FetchedInstr, bytes, items, Body, following, is_body, FramePlan, IsPlan, spelled_by, operations_of, HasItems, IsRight, spell, IsExecutableAt, prologue_code, LinearProgram, FrameLayout, plan_of, info_of, taking_size, spelled, distance, code_from, FitsProgram, IsFrameNear, routine_size, frame_code, argument_code, check_stack_at, routine_code, text_begin, linked, routines, Placed, end_of, body_begin, site_of, placed, image_base, HasText, links, function_of, IsNear, allocation_then, instructions_of, steps_of, plan, rest_of, IsFramed, FunctionsAreInMemory, FunctionsKeepTheRules}
+use Rattle.eh_tables.specs.declared.code.UnwindCode.{UnwindCode}
 use Rattle.eh_tables.specs.declared.code.UnwindOperation.TheVariants.{Allocate}
-use Rattle.frame_rules.specs.Codes.{are_allowed}
+use Rattle.virtual_unwind.specs.CallerOf.{sets_frame}
+use Rattle.virtual_unwind.specs.Undone.{operations}
+use Rattle.frame_rules.specs.Codes.{are_allowed, is_ordered}
+use Rattle.frame_rules.proofs.Planning.{codes_plan}
 use Rattle.frame_rules.specs.Plan as rules
 use Rattle.image_tables.proofs.Lemmas.{spells_all, items_are_at, plans_are_encodable, plans_are_right, describes, near_signed, entry_small, routine_small, site_near, has_places, routines_near}
 use Rattle.image_tables.proofs.CodeInMemory.{IsThere, there, code_length, routine_is_at}
@@ -91,16 +95,21 @@ module _ (p : LinearProgram) (index : ℕ) (x : Placed) (f : FrameLayout)
       q.probe in
       let leads = rest.leads [] in
       record {
-        offset = omega arith;
+        offset = omega (arith, d.frame_offset, planned.offset);
         codes = d.codes ∙ planned.codes;
         prologue_size = d.prologue_size ∙ planned.prologue_size;
         steps = planned.steps;
-        ordered = refl;
-        allowed = refl;
-        frame = λ ne. absurd (ne refl);
-        body = ap (λ (os : List UnwindOperation). is_body
-            (following 0 0 os (spelled_by spell (rest_of p x)) (Body [])))
-            (sym (one_code f q.probe sizes.0)) ∙ ap is_body leads.1;
+        ordered = ap (λ (cs : List UnwindCode). is_ordered (operations cs)) d.codes
+            ∙ planned.ordered;
+        allowed = (λ i. are_allowed (d.frame_register i) (operations (d.codes i)))
+            ∙ planned.allowed;
+        frame = λ ne. ap (λ (cs : List UnwindCode). sets_frame (operations cs)) d.codes
+            ∙ planned.frame (λ z. ne (d.frame_register ∙ z));
+        body = (λ i. is_body (following (d.frame_register i) (d.frame_offset i)
+            (operations (d.codes i)) (spelled_by spell (rest_of p x)) (Body [])))
+            ∙ ap (λ (os : List UnwindOperation). is_body
+            (following q.frame q.distance os (spelled_by spell (rest_of p x)) (Body [])))
+            (codes_plan spell q) ∙ ap is_body leads.1;
       }
 
   -- its code, in two parts

@@ -5,7 +5,7 @@ use Rattle.c_checked.specs.Expression.{expression, arguments}
 use Rattle.c_checked.specs.declared.statement.Declared.{Declared}
 use Rattle.c_checked.specs.declared.statement.Stmt.{Stmt}
 use Rattle.c_checked.specs.Statement.{statement, statements, declared}
-use Rattle.lowering_sizes.specs.Sizes.{expression_size, arguments_size, declared_size, all_declared_size, statement_size, statements_size, statement_notes, statements_notes}
+use Rattle.lowering_sizes.specs.Sizes.{expression_size, arguments_size, declared_size, all_declared_size, statement_notes, statements_notes}
 
 -- one argument more
 size_next : (items : List Expr) (i : ℕ) (d : Expr) → i < length items
@@ -29,28 +29,7 @@ call_size_next items i total size next item lt is t s n =
     (λ x. expression_size (expression x)) is in
     rw one (omega arith)
 
--- one statement or declared name more
-
-statement_size_next : (items : List Stmt) (i : ℕ) (d : Stmt) → i < length items
-    → statements_size (statements (map statement (take (suc i) items)))
-    ≡ statements_size (statements (map statement (take i items)))
-    + statement_size (statement (get_or items i d))
-statement_size_next [] i d lt = absurd (omega arith)
-statement_size_next (x ∷ xs) zero d lt = omega arith
-statement_size_next (x ∷ xs) (suc i) d lt = let r = statement_size_next xs i d (omega arith) in
-    omega arith
-
-pub statements_size_next : (items : List Stmt) (i total size next : ℕ) (item : Stmt)
-    → i < length items → item ≡ get_or items i item
-    → total ≡ statements_size (statements (map statement (take i items)))
-    → size ≡ statement_size (statement item) → next ≡ total + size
-    → next ≡ statements_size (statements (map statement (take (i + 1) items)))
-statements_size_next items i total size next item lt is t s n =
-    let one : i + 1 ≡ suc i = omega arith in
-    let e = statement_size_next items i item lt in
-    let f : statement_size (statement item) ≡ statement_size (statement (get_or items i item)) = ap
-    (λ x. statement_size (statement x)) is in
-    rw one (omega arith)
+-- one declared name or statement more
 
 name_size_next : (items : List Declared) (i : ℕ) (d : Declared) → i < length items
     → all_declared_size (map declared (take (suc i) items))

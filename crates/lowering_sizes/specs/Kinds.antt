@@ -2,7 +2,7 @@
 use Rattle.std.specs.Prelude.{Bool, true, false}
 use Rattle.c_checked.specs.Expression as nodes
 use Rattle.c_checked.specs.Expression.{Node}
-use Rattle.c_checked.specs.Statement.{Statement, For, DoWhile, TryExcept, TryFinally}
+use Rattle.c_checked.specs.Statement.{Statement, Declare, Block, Evaluate, If, IfElse, For, DoWhile, Return, Break, Continue, Leave, TryExcept, TryFinally}
 
 -- ---- nodes
 
@@ -34,13 +34,25 @@ is_try (TryExcept body filter block) = true
 is_try (TryFinally body k last) = true
 is_try s = false
 
--- a loop (C11, 6.8.5)
-abbrev pub is_loop : Statement → Bool
-is_loop (For ds first c next s) = true
-is_loop (DoWhile s c) = true
-is_loop s = false
-
+-- a loop (C11, 6.8.5) or a `__try`
 abbrev pub is_loop_or_try : Statement → Bool
 is_loop_or_try (For ds first c next s) = true
 is_loop_or_try (DoWhile s c) = true
 is_loop_or_try s = is_try s
+
+-- a block (C11, 6.8.2) or an `if` (C11, 6.8.4.1)
+abbrev pub is_block_or_if : Statement → Bool
+is_block_or_if (Block ss) = true
+is_block_or_if (If c s) = true
+is_block_or_if (IfElse c s t) = true
+is_block_or_if s = false
+
+-- without statements in it: an expression (C11, 6.8.3), a jump (C11, 6.8.6) or a declared local
+abbrev pub is_simple : Statement → Bool
+is_simple (Declare d) = true
+is_simple (Evaluate e) = true
+is_simple (Return e) = true
+is_simple Break = true
+is_simple Continue = true
+is_simple Leave = true
+is_simple s = false

@@ -265,28 +265,7 @@ module _ (setting : Setting) where
             (subst (IsOwed s.memory c nothing_owed 0 back) h.others
             (returns_alone s.memory c back refl (omega arith) h.returns)))
 
-    -- where the return address is there, and the registers are the caller's
-    pub owed_again : (m : Memory) (c : Context) (back : ℕ) (others : List ℕ) → length c.kept ≡ 9
-        → rsp c + (p.layout name).frame + 8 < 2 ^ 64
-        → word m (rsp c + (p.layout name).frame) ≡ Ok back → drop 1 c.kept ≡ others
-        → IsOwed m c (owed_of p name) (p.layout name).frame back others
-    owed_again m c back others kept room w same = subst
-        (λ (os : List ℕ). IsOwed m c (owed_of p name) (p.layout name).frame back os) same
-        (by (p.leaf name) refl)
-      where
-        by : (leaf : Bool) → p.leaf name ≡ leaf
-            → IsOwed m c (owed_of p name) (p.layout name).frame back (drop 1 c.kept)
-        by false e = framed_owed m c back (drop 1 c.kept) e
-            (framed_by_return m c back e kept room w)
-        by true e =
-            let none = (leaf_layout t fs program p q name b e (image.laid_out name b is)).frame in
-            let flat : rsp c + (p.layout name).frame ≡ rsp c = omega arith in
-            subst (λ (leaf : Bool). IsOwed m c (owed_by (p.entry name).info leaf)
-            (p.layout name).frame back (drop 1 c.kept)) (sym e)
-            (subst (λ n. IsOwed m c nothing_owed n back (drop 1 c.kept)) (sym none)
-            (returns_alone m c back kept (omega arith) (ap (word m) (sym flat) ∙ w)))
-
-    -- and so they are where its codes are owed
+    -- where its codes are owed the return address is there, and the registers are the caller's
     pub told_again : (m : Memory) (c : Context) (size top back : ℕ) (others : List ℕ)
         → rsp c + size ≡ top → IsOwed m c (owed_of p name) size back others
         → (word m top ≡ Ok back) × (drop 1 c.kept ≡ others)

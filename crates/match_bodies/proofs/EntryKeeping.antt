@@ -2,14 +2,15 @@
 -- stored.
 use Rattle.std.proofs.Common.{◌≡◌, ℕ, zero, suc, ◌+◌, ◌*◌, ◌^◌, ◌<◌, ◌≤◌, Bool, true, false, Option, Some, None, List, [], ◌∷◌, ◌++◌, length, refl, sym, ap, subst, ◌∙◌, arith, inl, inr, append_assoc}
 use Rattle.std.specs.Prelude.{◌⊎◌, nat_lt, if◌then◌else◌}
-use Rattle.match_bodies.specs.Words.{Reg, Rax, Rsp, Instr, State, register, Functions, Funclet, LinearProgram, LinearBody, BodyName, body_of, Layout, sizes, fetched, local_at, keep_register, HasCode, StackItem, ImagePlan, AllKeep, Sites, begin_of, making_size, HasProgram, IsProgramImage, FindsOwed, nothing_owed, owed_of, LARGEST_FRAME, setting_of, Rdx, temporary_at, parameter_register, stack_parameter, parameter_code, parameters_code, passing_code}
+use Rattle.match_bodies.specs.Words.{Reg, Rax, Rsp, Instr, State, register, AllSmall, Functions, Funclet, LinearProgram, LinearBody, BodyName, body_of, Layout, sizes, fetched, local_at, keep_register, HasCode, StackItem, ImagePlan, AllKeep, Sites, begin_of, making_size, HasProgram, IsProgramImage, FindsOwed, nothing_owed, owed_of, LARGEST_FRAME, setting_of, Rdx, temporary_at, parameter_register, stack_parameter, parameter_code, parameters_code, passing_code}
 use Rattle.template_code.specs.Calls.{arguments_code}
 use Rattle.match_bodies.proofs.Lemmas.{code_split, near}
 use Rattle.match_bodies.specs.CodeSites as sites
 use Rattle.match_bodies.proofs.RoutineWalks.{StepsTo, steps_split, keeps_split, Beneath, IsPlain, AllPlain, Finds, ran}
 use Rattle.match_bodies.proofs.ReturnAddresses.{argument_found}
 use Rattle.match_bodies.proofs.BodyFrames.{codes_above}
-use Rattle.match_bodies.proofs.FrameMaking.{making_steps, frame_there, made_by}
+use Rattle.match_bodies.proofs.PlannedPrologues.{frame_there}
+use Rattle.match_bodies.proofs.FrameMaking.{making_steps, made_by}
 
 -- ---- what entries and calls are made of
 
@@ -112,16 +113,16 @@ module _ (t : Functions) (fs : List Funclet) (program : LinearProgram) (p : Imag
         → sites.arguments_code program p name ≡ a ++ c
         → n ≡ making_steps (p.leaf name) frame + length a → StepsTo n e w
         → e.cpu.rip ≡ begin_of p q name → register e.cpu Rsp ≡ top
-        → Beneath t e nothing_owed top from back others list → HasProgram t fs program p q e.memory
-        → frame + 8 ≤ LARGEST_FRAME → LARGEST_FRAME ≤ top → from ≡ top + extra
+        → Beneath t e nothing_owed top from back others list → AllSmall others
+        → HasProgram t fs program p q e.memory → frame + 8 ≤ LARGEST_FRAME → LARGEST_FRAME ≤ top
+        → from ≡ top + extra
         → AllPlain frame extra a → EntryRan n e w a
-    entry_ran n e w a c extra parts count run here at_top beneath has most low up plain =
+    entry_ran n e w a c extra parts count run here at_top beneath small has most low up plain =
         let making = making_steps (p.leaf name) frame in
         let h = steps_split making (length a) e w (subst (λ k. StepsTo k e w) count run) in
         let u = h.0 in
         let m = made_by (setting_of t fs program p q image) name b is some top from back others list
-        e u here
-        at_top beneath has (omega arith) (p.leaf name) refl most (omega arith) h.1 in
+        small e u here at_top beneath has (omega arith) most (p.leaf name) refl h.1 in
         let code = code_split u.memory (begin_of p q name + making_size p q name) a c
         (subst (HasCode u.memory (begin_of p q name + making_size p q name)) parts
         (frame_there (setting_of t fs program p q image) name b is some u.memory m.has).1) in

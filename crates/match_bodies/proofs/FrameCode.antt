@@ -1,22 +1,22 @@
--- The code that makes a frame, by its size, and the code of its entry.
-use Rattle.std.proofs.Common.{◌≡◌, ℕ, ◌+◌, ◌<◌, ◌≤◌, Bool, false, not, leb, List, [], ◌∷◌, refl, ap, ◌∙◌, arith}
+-- The code that makes a frame: by its size, and as the prologue of its plan.
+use Rattle.std.proofs.Common.{◌≡◌, ℕ, ◌+◌, ◌<◌, ◌≤◌, ◌==◌, Bool, true, false, not, leb, List, [], ◌∷◌, length, refl, ap, ◌∙◌, arith}
 use Rattle.std.specs.Prelude.{nat_le}
+use Rattle.std.specs.List.{flat_map}
 use Rattle.std.proofs.lemmas.Bool.{ne_eqb, le-leb, lt-leb}
-use Rattle.std.proofs.lemmas.List.{append-nil}
-use Rattle.match_bodies.specs.Words.{enter_code, enter_large, frame_code, LinearProgram, Functions, Funclet, ImagePlan, Sites, BodyName, nothing_owed}
+use Rattle.match_bodies.specs.Words.{Instr, chosen, size, sizes, enter_code, enter_large, frame_code, LinearProgram, Functions, Funclet, ImagePlan, Sites, BodyName}
 use Rattle.eh_tables.specs.declared.code.UnwindCode.{UnwindCode}
+use Rattle.eh_tables.specs.declared.code.UnwindOperation.{UnwindOperation}
 use Rattle.eh_tables.specs.declared.code.UnwindOperation.TheVariants.{Allocate}
 use Rattle.template_code.specs.Jumps.{distance}
 use Rattle.frame_rules.specs.Bytes.{spell}
-use Rattle.frame_rules.specs.Plan.{allocation_then, allocating, spelled_by, steps_of, turned}
+use Rattle.frame_rules.specs.Codes.{are_allowed}
+use Rattle.frame_rules.specs.Plan.{FramePlan, allocation_then, allocating, instructions_of, operations_of, spelled_by, steps_of, turned}
 use Rattle.frame_rules.specs.Prologue.{bytes, items, codes_onto}
-use Rattle.virtual_unwind.specs.CallerOf.{run_by, run_or}
-use Rattle.virtual_unwind.specs.Undone.{operations}
-use Rattle.x64_encode.specs.Chosen.{modrm, opcode_register}
+use Rattle.frame_rules.proofs.Frames.{bytes-append}
 use Rattle.frame_layout.proofs.Sizes.{code_is}
-use Rattle.match_bodies.specs.Callers.{owed_after}
 use Rattle.match_bodies.specs.CodeSites.{frame_plan, body_plan}
 use Rattle.match_bodies.specs.ProgramImages.{IsPlanned}
+use Rattle.match_bodies.proofs.Lemmas.{sizes_append}
 
 -- of at most a page
 pub made_small : (size at check : ℕ) (leaf : Bool) → leaf ≡ false → 0 < size → size ≤ 4096
@@ -32,15 +32,68 @@ made_large size at check leaf e large = ap (frame_code size at check) e
     ∙ code_is (distance (at + 10) check) size (omega arith)
     ∙ ap (allocating (distance (at + 10) check) size) (lt-leb size 4096 large)
 
+-- ---- the prologue of a plan
+
+-- the sizes of fetched instructions
+pub bytes_sizes : (is : List Instr) → bytes (spelled_by spell is) ≡ sizes is
+unfolding size
+bytes_sizes [] = refl
+bytes_sizes (i ∷ is) = ap (λ (n : ℕ). length (chosen i) + n) (bytes_sizes is)
+
+-- and of the steps of some codes
+pub steps_sizes : (p : FramePlan) (at : ℕ) (xs : List UnwindOperation)
+    → bytes (items (steps_of spell p at xs)) ≡ sizes (flat_map (instructions_of p) xs)
+steps_sizes p at [] = refl
+steps_sizes p at (x ∷ xs) =
+    let is = instructions_of p x in
+    let more = at + bytes (spelled_by spell is) in
+    let first = bytes_sizes is in
+    let rest = steps_sizes p more xs in
+    omega (
+      arith,
+      bytes-append (spelled_by spell is) (items (steps_of spell p more xs)),
+      sizes_append is (flat_map (instructions_of p) xs),
+    )
+
+-- where its call of `__chkstk` ends, the plan says how far that is
+abbrev pub IsProbed : FramePlan → ℕ → UnwindOperation → Type 0
+IsProbed p away (Allocate n) = nat_le n 4096 ≡ false → p.probe ≡ away
+IsProbed p away x = Unit {0}
+
+-- of these codes, from so far after a function's first byte on
+abbrev pub AreProbed : FramePlan → (begin check at : ℕ) → List UnwindOperation → Type 0
+AreProbed p begin check at [] = Unit {0}
+AreProbed p begin check at (x ∷ xs) =
+    IsProbed p (distance (begin + at + 10) check) x
+    × AreProbed p begin check (at + bytes (spelled_by spell (instructions_of p x))) xs
+
+allowed_by : (n : ℕ) (some : Bool) → are_allowed 0 (allocation_then some n []) ≡ true
+allowed_by n true = refl
+allowed_by n false = refl
+
+-- so it is with a plan that saves nothing, and has no frame register
+pub plan_allowed : (n probe : ℕ)
+    → are_allowed 0 (operations_of (frame_plan n probe)) ≡ true
+plan_allowed n probe = allowed_by n (not (n == 0))
+
+pub plan_probed : (n begin check : ℕ)
+    → AreProbed (frame_plan n (distance (begin + 10) check)) begin check 0
+    (turned [] (operations_of (frame_plan n (distance (begin + 10) check))))
+plan_probed n begin check = by (not (n == 0))
+  where
+    by : (some : Bool) → AreProbed (frame_plan n (distance (begin + 10) check)) begin check 0
+        (turned [] (allocation_then some n []))
+    by true = (
+      λ large. ap (λ a. distance (a + 10) check) (let z : begin ≡ begin + 0 = omega arith in z),
+      tt,
+    )
+    by false = tt
+
 -- ---- its unwind codes
 
 abbrev codes_by : ℕ → ℕ → Bool → List UnwindCode
 codes_by probe n none = codes_onto [] (steps_of spell (frame_plan n probe) 0
     (turned [] (allocation_then (not none) n [])))
-
-abbrev size_by : ℕ → ℕ → Bool → ℕ
-size_by probe n none = bytes (items (steps_of spell (frame_plan n probe) 0
-    (turned [] (allocation_then (not none) n []))))
 
 module _ (t : Functions) (fs : List Funclet) (program : LinearProgram) (p : ImagePlan)
     (q : Sites) where
@@ -72,42 +125,3 @@ module _ (t : Functions) (fs : List Funclet) (program : LinearProgram) (p : Imag
     no_register = h.frame_register;
     no_offset = h.frame_offset;
   }
-
-  -- ---- a large frame
-
-  size_large : (probe n : ℕ) → bytes (spelled_by spell (allocating probe n false)) ≡ 13
-  unfolding modrm opcode_register
-  size_large probe n = refl
-
-  -- its prologue has three instructions, and the last of them makes it
-  pub record IsLarge (name : BodyName) : Type 0 where
-    pub size : (p.entry name).info.prologue_size ≡ 13
-    pub before : (d : ℕ) → d < 13 → owed_after (p.entry name).info d ≡ nothing_owed
-
-  pub large_is : (name : BodyName) → 4096 < (p.layout name).frame
-      → IsPlanned t fs program p q name → IsLarge name
-  large_is name large h =
-      let n = (p.layout name).frame in
-      let probe = (body_plan p q name).probe in
-      let large_size : bytes (spelled_by spell (allocating probe n (leb n 4096))) ≡ 13 =
-      ap (λ x. bytes (spelled_by spell (allocating probe n x))) (lt-leb n 4096 large)
-      ∙ size_large probe n in
-      record {
-        size = h.prologue_size ∙ ap (size_by probe n) (ne_eqb n 0
-            (λ z. (let e : n ≡ 0 = z in absurd (omega arith))))
-            ∙ ap bytes (append-nil (spelled_by spell (allocating probe n (leb n 4096))))
-            ∙ large_size;
-        before = λ d lt.
-            (let late : nat_le (end_of name) d ≡ false = lt-leb (end_of name) d (omega arith) in
-            let none : operations (run_by d (p.entry name).info.codes) ≡ [] =
-            ap (λ (cs : List UnwindCode). operations (run_by d cs)) (codes_are name (omega arith) h)
-            ∙ ap (λ x. operations (run_or (record {
-              offset = end_of name;
-              operation = Allocate n;
-            } ∷ []) [] x)) late in
-            λ i. record {
-              register = h.frame_register i;
-              offset = h.frame_offset i;
-              codes = none i;
-            });
-      }

@@ -15,7 +15,7 @@ use Rattle.x64_instr.specs.declared.instruction.Operation.TheVariants as operati
 use Rattle.x64_instr.specs.declared.instruction.Target.{Target}
 use Rattle.x64_instr.specs.declared.instruction.Instr.TheVariants as instrs
 use Rattle.x64_instr.specs.Registers.{number}
-use Rattle.x64_machine.specs.Words.{added, subtracted}
+use Rattle.x64_machine.specs.Words.{added}
 use Rattle.seh_num.specs.Answers.{◌>>=◌}
 use Rattle.x64_machine.specs.Effect.{read, operand, computed}
 use Rattle.match_runs.specs.Shadow.{calls as is_a_call}
@@ -225,21 +225,6 @@ changed_sets s t o from b sp n is value e =
     let r = rsp_sets (with_flags s (computed o W64 a b).1) t (computed o W64 a b).0 sp n value
     then in
     record { memory = r.memory; rip = r.rip; stack = r.stack; others = r.others; count = r.count }
-
-pub falls : (s t : State) (n sp : ℕ) → length s.cpu.registers ≡ 16 → register s.cpu Rsp ≡ sp + n
-    → sp + n < 2 ^ 64 → effect s (instrs.Arithmetic operations.Sub W64 (places.Register Rsp)
-    (operands.Immediate n)) ≡ Ok t → Sets s t sp
-unfolding subtracted
-falls s t n sp count at high e = changed_sets s t operations.Sub (operands.Immediate n) (n % 2 ^ 64)
-    sp count refl (omega arith) e
-
-pub falls_by_rax : (s t : State) (n sp : ℕ) → length s.cpu.registers ≡ 16 → register s.cpu Rax ≡ n
-    → register s.cpu Rsp ≡ sp + n → sp + n < 2 ^ 64
-    → effect s (instrs.Arithmetic operations.Sub W64 (places.Register Rsp) (operands.Register Rax))
-    ≡ Ok t → Sets s t sp
-unfolding subtracted
-falls_by_rax s t n sp count rax at high e = changed_sets s t operations.Sub (operands.Register Rax)
-    (n % 2 ^ 64) sp count (ap (λ x. Ok (x % 2 ^ 64)) rax) (omega arith) e
 
 pub rises : (s t : State) (n sp : ℕ) → length s.cpu.registers ≡ 16 → register s.cpu Rsp + n ≡ sp
     → sp < 2 ^ 64 → effect s (instrs.Arithmetic operations.Add W64 (places.Register Rsp)

@@ -12,6 +12,10 @@ pub mod BodyFrames
 pub mod BodyResumption
 pub mod TemplateSizes
 pub mod ReturnAddresses
+pub mod PrologueInstructions
+pub mod PrologueSteps
+pub mod ProbedAllocation
+pub mod PlannedPrologues
 pub mod FrameMaking
 pub mod CallKeeping
 pub mod EntryKeeping

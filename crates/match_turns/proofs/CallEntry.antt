@@ -9,7 +9,7 @@ use Rattle.match_turns.specs.Words.{STACK_START, STACK_END, Memory, may_write, n
 use Rattle.virtual_unwind.specs.Undone.{word}
 use Rattle.lowering_invariants.specs.SmallNumbers.{AreSmall}
 use Rattle.linear_code.specs.declared.instruction.Instruction.TheVariants as instructions
-use Rattle.match_turns.proofs.Lemmas.{sizes_append, call_size, same_number, pushed_back, comes_then, others_of, StepsTo, reaches_steps, enters_steps, AllPlain, plain_both, arguments_plain, passing_plain, parameters_plain, EntryRan, entry_ran, calls_keep, CalleeBegins, told_again, reaches_silently, enters_silently, program_reaches, locals_count, KeepsImage, Keeps, keeps_then, enters_keeps, stays_well_formed, stack_is_reserved, room_here, slots_here, may_read_written, word_of}
+use Rattle.match_turns.proofs.Lemmas.{sizes_append, call_size, same_number, pushed_back, comes_then, others_of, StepsTo, reaches_steps, enters_steps, AllPlain, plain_both, arguments_plain, passing_plain, parameters_plain, EntryRan, entry_ran, calls_keep, CalleeBegins, small_others as small_registers, told_again, reaches_silently, enters_silently, program_reaches, locals_count, KeepsImage, Keeps, keeps_then, enters_keeps, stays_well_formed, stack_is_reserved, room_here, slots_here, may_read_written, word_of}
 use Rattle.match_bodies.specs.CodeSites as sites
 use Rattle.match_bodies.proofs.CallKeeping.{callee_begins as callee_entered}
 use Rattle.match_bodies.proofs.MemoryKeeping.{memory_stays}
@@ -237,7 +237,7 @@ module _ {setting : Setting} (at_call : AtCall setting) where
       (sites.arguments_code program p (FunctionBody f)) [] 40
       (sym (append-nil (sites.arguments_code program p (FunctionBody f)))) inside.exact
       (enters_steps inside.turns at_callee after inside.comes) k.rip k.stack k.beneath_it
-      k.program_there stored.1 (omega arith) (omega arith)
+      (small_registers s b.well_formed) k.program_there stored.1 (omega arith) (omega arith)
       (subst (λ (xs : List Instr). AllPlain layout.frame 40 xs) (sym arguments_are) stored.0)
 
   entry_keeps : AllKeep t fs inside.turns at_callee

@@ -4,7 +4,7 @@ use Rattle.std.specs.Prelude.{if◌then◌else◌}
 use Rattle.std.proofs.lemmas.Bool.{le-leb}
 use Rattle.match_turns.specs.Words.{STACK_START, STACK_END, Memory, Rsp, Instr, State, register, FuncletBody, funclet_body, Item, Activation, parent_base, keep_base, keep_argument, funclet_arguments, Setting, IsMachineMemory}
 use Rattle.match_bodies.specs.CodeSites.{arguments_code}
-use Rattle.match_turns.proofs.Lemmas.{others_of, StepsTo, AllPlain, making_steps, EntryRan, entry_ran, base_plain}
+use Rattle.match_turns.proofs.Lemmas.{others_of, small_others, StepsTo, AllPlain, making_steps, EntryRan, entry_ran, base_plain}
 use Rattle.match_turns.proofs.FuncletPrologue.{LeadsBy}
 use Rattle.match_turns.proofs.FuncletFrame.{ArrivesBelow, IsPlanned}
 use Rattle.match_turns.proofs.ReturnAddressPlace.{arrives_beneath}
@@ -59,5 +59,5 @@ module _ (setting : Setting) where
         some (register s.cpu Rsp) (register s.cpu Rsp + 8) a.back (others_of s.cpu.registers) a.is
         n s w stored left 8 parts
         (count ∙ ap (λ x. x + length stored) (sym one)) run a.rip refl
-        (arrives_beneath setting s k activation argument items acts a high) memory.code
-        (omega arith) (omega arith) refl plain
+        (arrives_beneath setting s k activation argument items acts a high)
+        (small_others s a.well_formed) memory.code (omega arith) (omega arith) refl plain

@@ -38,7 +38,8 @@ pub use Rattle.match_bodies.proofs.CallKeeping.{calls_keep, CalleeBegins, callee
 pub use Rattle.match_bodies.proofs.ChainKeeping.{reaches_keeps, stays_well_formed, Keeps, keeps_then, enters_keeps}
 pub use Rattle.match_bodies.proofs.ComputeStep.{stored, writes, leaves_stored, fits_when_read, same_constant}
 pub use Rattle.match_bodies.proofs.EntryKeeping.{arguments_plain, plain_both, passing_plain, parameters_plain, entry_ran, kept_plain, EntryRan, base_plain}
-pub use Rattle.match_bodies.proofs.FrameMaking.{frame_there, making_steps}
+pub use Rattle.match_bodies.proofs.FrameMaking.{making_steps}
+pub use Rattle.match_bodies.proofs.PlannedPrologues.{frame_there}
 pub use Rattle.match_bodies.proofs.InstructionEffects.{others_of}
 pub use Rattle.match_bodies.proofs.NextInstruction.{Ran, represents_next, frame_after, new_on, further}
 pub use Rattle.match_bodies.proofs.OwedCallers.{finds_return, frame_is_owed, owed_return, owed_with, returns_alone}

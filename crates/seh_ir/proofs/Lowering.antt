@@ -32,15 +32,15 @@ more_regions (y ∷ ys) (suc i) x at lt =
     ∙ sym (append_assoc front made (statement_regions (statement (get_or ys i x)) (at + s + n)))
     ∙ ap (λ k. (front ++ made) ++ statement_regions (statement (get_or ys i x)) k) l
 
-pub regions_next : (items : List Stmt) (i : ℕ) (x : Stmt) (at place size next : ℕ)
+pub regions_next : (items : List Stmt) (i : ℕ) (x : Stmt) (at place next : ℕ)
     (old mid new : List Region) → i < length items → x ≡ get_or items i x
     → place ≡ at + statements_size (statements (map statement (take i items)))
     → mid ≡ old ++ statements_regions (statements (map statement (take i items))) at
-    → size ≡ statement_size (statement x) → new ≡ mid ++ statement_regions (statement x) place
-    → next ≡ place + size → (next ≡ at + statements_size
+    → new ≡ mid ++ statement_regions (statement x) place
+    → next ≡ place + statement_size (statement x) → (next ≡ at + statements_size
     (statements (map statement (take (i + 1) items))))
     × (new ≡ old ++ statements_regions (statements (map statement (take (i + 1) items))) at)
-regions_next items i x at place size next old mid new lt is p h z k n =
+regions_next items i x at place next old mid new lt is p h k n =
     let one : suc i ≡ i + 1 = omega arith in
     let g = get_or items i x in
     let count = statements_size (statements (map statement (take i items))) in

@@ -1,5 +1,6 @@
 pub mod Slots
 pub mod Statements
+pub mod Measured
 pub mod Regions
 pub mod Funclets
 pub mod Lowered

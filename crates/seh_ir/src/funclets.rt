@@ -69,7 +69,7 @@ fn finally_funclet(
 {
     let scope = finally_scope(names)?;
     let mut code = Vec::new(alloc);
-    statements(&mut code, &scope, last)?;
+    statements(alloc, &mut code, &scope, last)?;
     code.push(Instruction::Return {
         from: Slot::Local(names.free),
     })?;

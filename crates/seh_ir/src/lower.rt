@@ -18,7 +18,8 @@ use linear_code::program::{IrFunclet, IrFunction, IrProgram};
 use linear_code::slot::Slot;
 use lowering_expressions::instructions::{constant, put_all};
 use lowering_expressions::scope::{ExceptionSource, LoweringContext, Names, Way};
-use lowering_sizes::statement_sizes::{statements_notes, statements_size};
+use lowering_sizes::measured::measure_all;
+use lowering_sizes::statement_sizes::statements_notes;
 use lowering_sizes::sums::sum;
 use std::alloc::{AllocError, Global};
 
@@ -34,17 +35,25 @@ fn all_locals(f: &Function) -> Result<u64, AllocError>
     sum(own_locals(f)?, statements_notes(&f.body)?)
 }
 
-fn scope_of(f: &Function) -> Result<LoweringContext, AllocError>
-    ensures { IfOk result (λ s. s ≡ spec.scope_of (programs.function f.now)) }
+/// What names mean in a function outside of any `__try`.
+fn names_of(f: &Function) -> Result<Names, AllocError>
+    ensures { IfOk result (λ n. n ≡ (spec.scope_of (programs.function f.now)).names) }
 {
     let free = own_locals(f)?;
-    let exit = sum(statements_size(&f.body)?, 2)?;
+    Ok(Names {
+        exception: ExceptionSource::NoException,
+        abnormal: None,
+        free,
+    })
+}
+
+fn scope_of(alloc: Global, f: &Function) -> Result<LoweringContext, AllocError>
+    ensures { IfOk result (λ s. s ≡ spec.scope_of (programs.function f.now)) }
+{
+    let names = names_of(f)?;
+    let exit = sum(measure_all(&f.body, &mut Vec::new(alloc))?, 2)?;
     Ok(LoweringContext {
-        names: Names {
-            exception: ExceptionSource::NoException,
-            abnormal: None,
-            free,
-        },
+        names,
         exit: Way::Jumps(exit),
         loop_end: Way::Nowhere,
         loop_next: Way::Nowhere,
@@ -56,11 +65,11 @@ fn lower_function(alloc: Global, f: &Function) -> Result<IrFunction, AllocError>
     ensures { IfOk result (λ r. linear_function r ≡
         spec.lowered_function (programs.function f.now)) }
 {
-    let scope = scope_of(f)?;
+    let scope = scope_of(alloc, f)?;
     let locals = all_locals(f)?;
     let mut code = Vec::new(alloc);
     put_all(&mut code, &[Instruction::Separator])?;
-    statements(&mut code, &scope, &f.body)?;
+    statements(alloc, &mut code, &scope, &f.body)?;
     let returns = Instruction::Return {
         from: Slot::Temporary(0),
     };
@@ -84,13 +93,13 @@ fn lower_funclets(
     ensures { OnOk result (AppendsFunclets funclets.old funclets.new
         (spec.lowered_funclets number (programs.function f.now))) }
 {
-    let scope = scope_of(f)?;
+    let names = names_of(f)?;
     let owner = Owner {
         function: number,
         locals: all_locals(f)?,
         parent: None,
     };
-    statements_funclets(funclets, alloc, owner, scope.names, &f.body)
+    statements_funclets(funclets, alloc, owner, names, &f.body)
 }
 
 /// The linear code of a checked program. Nothing but want of memory keeps it from being made.

@@ -4,7 +4,7 @@ ghost use Rattle.std.specs.Prelude.{◌≡◌, ◌+◌, ◌-◌, map, true, OnOk
 ghost use Rattle.linear_code.specs.declared.program.RegionKind.TheVariants as kinds;
 ghost use Rattle.c_checked.specs.Expression as tree;
 ghost use Rattle.c_checked.specs.Statement as statements;
-ghost use Rattle.lowering_sizes.specs.Sizes.{expression_size, statements_size};
+ghost use Rattle.lowering_sizes.specs.Sizes.{expression_size, statement_size, statements_size};
 ghost use Rattle.lowering_sizes.specs.Kinds.{is_try, is_loop_or_try};
 ghost use Rattle.lowering_expressions.specs.Appended.{AppendsRegions};
 ghost use Rattle.seh_ir.specs.Regions as spec;
@@ -14,7 +14,7 @@ use c_checked::statement::{Filter, Stmt};
 use linear_code::program::{Region, RegionKind};
 use lowering_sizes::sizes::expression_size;
 use lowering_sizes::statement_sizes::{
-    all_declared_size, condition_size, discarded_size, statement_size, statements_size,
+    all_declared_size, condition_size, declared_size, discarded_size, return_size,
 };
 use lowering_sizes::sums::sum;
 use std::alloc::AllocError;
@@ -53,39 +53,33 @@ fn after_condition(at: u64, condition: &Expr) -> Result<u64, AllocError>
     shifted(at, expression_size(condition)?, 1)
 }
 
-/// The place after statements at a place, and one instruction more.
-fn after_body(at: u64, body: &[Stmt]) -> Result<u64, AllocError>
-    ensures { IfOk result (λ n. n ≡ at + statements_size
-        (statements.statements (map statements.statement body.now)) + 1) }
-{
-    shifted(at, statements_size(body)?, 1)
-}
-
-/// Those of statements that are placed at an instruction.
+/// Those of statements that are placed at an instruction, and the place after the statements.
 #[cycle(regions)]
 pub fn statements_regions(
     regions: &mut Vec<Region>,
     stmts: &[Stmt],
     at: u64,
-) -> Result<(), AllocError>
-    ensures { OnOk result (AppendsRegions regions.old regions.new
+) -> Result<u64, AllocError>
+    ensures regions { OnOk result (AppendsRegions regions.old regions.new
         (spec.statements_regions (statements.statements (map statements.statement stmts.now)) at)) }
+    ensures end { IfOk result (λ n. n ≡ at + statements_size
+        (statements.statements (map statements.statement stmts.now))) }
 {
     let mut place = at;
     for stmt in stmts {
-        let size = statement_size(stmt)?;
-        statement_regions(regions, stmt, place)?;
-        place = sum(place, size)?;
+        let next = statement_regions(regions, stmt, place)?;
+        place = next;
     }
-    Ok(())
+    Ok(place)
 }
 
 /// The region of a `__try`, after those in its body and before those in its block.
 #[cycle(regions)]
-fn try_regions(regions: &mut Vec<Region>, stmt: &Stmt, at: u64) -> Result<(), AllocError>
+fn try_regions(regions: &mut Vec<Region>, stmt: &Stmt, at: u64) -> Result<u64, AllocError>
     requires { is_try (statements.statement stmt.now) ≡ true }
-    ensures { OnOk result (AppendsRegions regions.old regions.new
+    ensures regions { OnOk result (AppendsRegions regions.old regions.new
         (spec.statement_regions (statements.statement stmt.now) at)) }
+    ensures end { IfOk result (λ n. n ≡ at + statement_size (statements.statement stmt.now)) }
 {
     match stmt {
         Stmt::TryExcept {
@@ -93,9 +87,9 @@ fn try_regions(regions: &mut Vec<Region>, stmt: &Stmt, at: u64) -> Result<(), Al
             filter,
             handler,
         } => {
-            let target = after_body(at, body)?;
+            let end = statements_regions(regions, body, at)?;
+            let target = sum(end, 1)?;
             let block = sum(target, 1)?;
-            statements_regions(regions, body, at)?;
             regions.push(Region {
                 begin: at,
                 end: target,
@@ -104,51 +98,58 @@ fn try_regions(regions: &mut Vec<Region>, stmt: &Stmt, at: u64) -> Result<(), Al
             statements_regions(regions, handler, block)
         }
         Stmt::TryFinally { body, number, .. } => {
-            let end = after_body(at, body)?;
-            statements_regions(regions, body, at)?;
+            let last = statements_regions(regions, body, at)?;
+            let end = sum(last, 1)?;
             regions.push(Region {
                 begin: at,
                 end,
                 kind: finally_kind(*number),
             })?;
-            Ok(())
+            sum(end, 2)
         }
         _ => unreachable!(),
     }
 }
 
 #[cycle(regions)]
-fn loop_or_try_regions(regions: &mut Vec<Region>, stmt: &Stmt, at: u64) -> Result<(), AllocError>
+fn loop_or_try_regions(regions: &mut Vec<Region>, stmt: &Stmt, at: u64) -> Result<u64, AllocError>
     requires { is_loop_or_try (statements.statement stmt.now) ≡ true }
-    ensures { OnOk result (AppendsRegions regions.old regions.new
+    ensures regions { OnOk result (AppendsRegions regions.old regions.new
         (spec.statement_regions (statements.statement stmt.now) at)) }
+    ensures end { IfOk result (λ n. n ≡ at + statement_size (statements.statement stmt.now)) }
 {
     match stmt {
         Stmt::For {
             declared,
             first,
             condition,
+            next,
             body,
-            ..
         } => {
             let begun = shifted(at, all_declared_size(declared)?, discarded_size(first)?)?;
             let place = sum(begun, condition_size(condition)?)?;
-            statement_regions(regions, body, place)
+            let again = statement_regions(regions, body, place)?;
+            shifted(again, discarded_size(next)?, 2)
         }
-        Stmt::Do { body, .. } => statement_regions(regions, body, at),
+        Stmt::Do { body, condition } => {
+            let again = statement_regions(regions, body, at)?;
+            shifted(again, expression_size(condition)?, 3)
+        }
         _ => try_regions(regions, stmt, at),
     }
 }
 
+/// Those of a statement that is placed at an instruction, and the place after it.
 #[cycle(regions)]
-fn statement_regions(regions: &mut Vec<Region>, stmt: &Stmt, at: u64) -> Result<(), AllocError>
-    ensures { OnOk result (AppendsRegions regions.old regions.new
+fn statement_regions(regions: &mut Vec<Region>, stmt: &Stmt, at: u64) -> Result<u64, AllocError>
+    ensures regions { OnOk result (AppendsRegions regions.old regions.new
         (spec.statement_regions (statements.statement stmt.now) at)) }
+    ensures end { IfOk result (λ n. n ≡ at + statement_size (statements.statement stmt.now)) }
 {
     match stmt {
-        Stmt::Declare(_) => Ok(()),
+        Stmt::Declare(declared) => sum(at, declared_size(declared)?),
         Stmt::Block(stmts) => statements_regions(regions, stmts, at),
-        Stmt::Evaluate(_) => Ok(()),
+        Stmt::Evaluate(expr) => sum(at, discarded_size(expr)?),
         Stmt::If {
             condition,
             then,
@@ -163,14 +164,13 @@ fn statement_regions(regions: &mut Vec<Region>, stmt: &Stmt, at: u64) -> Result<
             otherwise: Some(otherwise),
         } => {
             let first = after_condition(at, condition)?;
-            let second = shifted(first, statement_size(then)?, 1)?;
-            statement_regions(regions, then, first)?;
+            let second = sum(statement_regions(regions, then, first)?, 1)?;
             statement_regions(regions, otherwise, second)
         }
-        Stmt::Return(_) => Ok(()),
-        Stmt::Break => Ok(()),
-        Stmt::Continue => Ok(()),
-        Stmt::Leave => Ok(()),
+        Stmt::Return(expr) => sum(at, return_size(expr)?),
+        Stmt::Break => sum(at, 2),
+        Stmt::Continue => sum(at, 2),
+        Stmt::Leave => sum(at, 1),
         _ => loop_or_try_regions(regions, stmt, at),
     }
 }

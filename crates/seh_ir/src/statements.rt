@@ -1,11 +1,13 @@
 //! The code of statements.
 
-ghost use Rattle.std.specs.Prelude.{◌≡◌, ◌-◌, [], ◌∷◌, map, length, true, OnOk, option_map};
+ghost use Rattle.std.specs.Prelude.{◌≡◌, ℕ, List, ◌-◌, [], ◌∷◌, map, length, true, false, OnOk, option_map};
 ghost use Rattle.linear_code.specs.declared.instruction.Instruction.TheVariants.{Separator};
 ghost use Rattle.c_checked.specs.Expression as tree;
 ghost use Rattle.c_checked.specs.Statement as statements;
-ghost use Rattle.lowering_sizes.specs.Kinds.{is_loop_or_try};
+ghost use Rattle.lowering_sizes.specs.Kinds.{is_block_or_if, is_simple};
+ghost use Rattle.lowering_sizes.specs.Parts as measured;
 ghost use Rattle.lowering_expressions.specs.Appended.{Appends, Places};
+ghost use Rattle.seh_ir.specs.Measured.{PlacesBySizes, part, block};
 ghost use Rattle.seh_ir.specs.Statements as spec;
 
 use c_checked::expression::Expr;
@@ -19,12 +21,11 @@ use lowering_expressions::pieces::{skip, test};
 use lowering_expressions::scope::{
     LoweringContext, Names, Way, in_except, in_guarded, in_loop, in_try,
 };
+use lowering_sizes::measured::{measure_all, next_size};
 use lowering_sizes::sizes::expression_size;
-use lowering_sizes::statement_sizes::{
-    condition_size, discarded_size, statement_size, statements_size,
-};
+use lowering_sizes::statement_sizes::{condition_size, discarded_size};
 use lowering_sizes::sums::sum;
-use std::alloc::AllocError;
+use std::alloc::{AllocError, Global};
 
 fn here(code: &Vec<Instruction>) -> u64
     ensures { result ≡ length code.now.items }
@@ -225,9 +226,32 @@ fn end_do(code: &mut Vec<Instruction>, end: u64, begin: u64) -> Result<(), Alloc
     put_all(code, &[ends, Instruction::Jump { label: begin }])
 }
 
+/// A statement without statements in it.
+fn simple(
+    code: &mut Vec<Instruction>,
+    scope: &LoweringContext,
+    stmt: &Stmt,
+) -> Result<(), AllocError>
+    requires { is_simple (statements.statement stmt.now) ≡ true }
+    ensures code { OnOk result (Places code.old code.new
+        (spec.statement_code scope.now (statements.statement stmt.now))) }
+    ensures parts { (rest : List ℕ) → measured.with_parts (statements.statement stmt.now) rest
+        ≡ rest }
+{
+    match stmt {
+        Stmt::Declare(declared) => declare(code, scope.names, declared),
+        Stmt::Evaluate(expr) => discarded(code, scope.names, expr),
+        Stmt::Return(expr) => leave_function(code, scope, expr),
+        Stmt::Break => jump(code, scope.loop_end),
+        Stmt::Continue => jump(code, scope.loop_next),
+        Stmt::Leave => put(code, leave(scope.leave)),
+        _ => unreachable!(),
+    }
+}
+
 /// Statements, one after another.
-#[cycle(statements)]
 pub fn statements(
+    alloc: Global,
     code: &mut Vec<Instruction>,
     scope: &LoweringContext,
     stmts: &[Stmt],
@@ -236,8 +260,26 @@ pub fn statements(
         (spec.statements_code scope.now
         (statements.statements (map statements.statement stmts.now)))) }
 {
+    let mut sizes = Vec::new(alloc);
+    measure_all(stmts, &mut sizes)?;
+    statements_by_size(code, scope, &mut sizes, stmts)
+}
+
+/// Statements, one after another, with the sizes of their parts.
+#[cycle(statements)]
+fn statements_by_size(
+    code: &mut Vec<Instruction>,
+    scope: &LoweringContext,
+    sizes: &mut Vec<u64>,
+    stmts: &[Stmt],
+) -> Result<(), AllocError>
+    ensures { OnOk result (PlacesBySizes sizes.old sizes.new
+        (measured.with_all_parts (statements.statements (map statements.statement stmts.now)))
+        code.old code.new (spec.statements_code scope.now
+        (statements.statements (map statements.statement stmts.now)))) }
+{
     for stmt in stmts {
-        statement(code, scope, stmt)?;
+        statement(code, scope, sizes, stmt)?;
     }
     Ok(())
 }
@@ -247,38 +289,43 @@ pub fn statements(
 fn when(
     code: &mut Vec<Instruction>,
     scope: &LoweringContext,
+    sizes: &mut Vec<u64>,
     then: &Stmt,
     condition: &Expr,
     more: u64,
 ) -> Result<(), AllocError>
-    ensures { OnOk result (Places code.old code.new
+    ensures { OnOk result (PlacesBySizes sizes.old sizes.new
+        (part (statements.statement then.now)) code.old code.new
         (spec.when_code scope.now (tree.expression condition.now)
         (statements.statement then.now) more)) }
 {
-    let size = statement_size(then)?;
+    let size = next_size(sizes);
     expression(code, scope.names, condition, 0)?;
     test(code, 0, size, more)?;
-    statement(code, scope, then)
+    statement(code, scope, sizes, then)
 }
 
 #[cycle(statements)]
 fn for_loop(
     code: &mut Vec<Instruction>,
     scope: &LoweringContext,
+    sizes: &mut Vec<u64>,
     body: &Stmt,
     declared: &[Declared],
     first: &Option<Expr>,
     condition: &Option<Expr>,
     next: &Option<Expr>,
 ) -> Result<(), AllocError>
-    ensures { OnOk result (Places code.old code.new
+    ensures { OnOk result (PlacesBySizes sizes.old sizes.new
+        (part (statements.statement body.now)) code.old code.new
         (spec.statement_code scope.now
         (statements.For (map statements.declared declared.now)
         (option_map tree.expression first.now)
         (option_map tree.expression condition.now)
         (option_map tree.expression next.now) (statements.statement body.now)))) }
 {
-    let turn = sum(condition_size(condition)?, statement_size(body)?)?;
+    let size = next_size(sizes);
+    let turn = sum(condition_size(condition)?, size)?;
     let last = sum(discarded_size(next)?, 2)?;
     declare_all(code, scope.names, declared)?;
     discarded(code, scope.names, first)?;
@@ -286,7 +333,7 @@ fn for_loop(
     let again = ahead(code, turn)?;
     let end = sum(again, last)?;
     tested(code, scope.names, condition, end)?;
-    statement(code, &in_loop(end, again, scope), body)?;
+    statement(code, &in_loop(end, again, scope), sizes, body)?;
     put(code, Instruction::Separator)?;
     discarded(code, scope.names, next)?;
     put(code, Instruction::Jump { label: iteration })
@@ -296,20 +343,22 @@ fn for_loop(
 fn do_loop(
     code: &mut Vec<Instruction>,
     scope: &LoweringContext,
+    sizes: &mut Vec<u64>,
     body: &Stmt,
     condition: &Expr,
 ) -> Result<(), AllocError>
-    ensures { OnOk result (Places code.old code.new
+    ensures { OnOk result (PlacesBySizes sizes.old sizes.new
+        (part (statements.statement body.now)) code.old code.new
         (spec.statement_code scope.now
         (statements.DoWhile (statements.statement body.now)
         (tree.expression condition.now)))) }
 {
-    let size = statement_size(body)?;
+    let size = next_size(sizes);
     let last = sum(expression_size(condition)?, 3)?;
     let begin = here(code);
     let again = ahead(code, size)?;
     let end = sum(again, last)?;
-    statement(code, &in_loop(end, again, scope), body)?;
+    statement(code, &in_loop(end, again, scope), sizes, body)?;
     put(code, Instruction::Separator)?;
     expression(code, scope.names, condition, 0)?;
     end_do(code, end, begin)
@@ -320,17 +369,19 @@ fn do_loop(
 fn tried(
     code: &mut Vec<Instruction>,
     scope: &LoweringContext,
+    sizes: &mut Vec<u64>,
     body: &[Stmt],
-    block: u64,
+    handler: u64,
 ) -> Result<(), AllocError>
-    ensures { OnOk result (Places code.old code.new
+    ensures { OnOk result (PlacesBySizes sizes.old sizes.new
+        (block (statements.statements (map statements.statement body.now))) code.old code.new
         (spec.tried_code scope.now
-        (statements.statements (map statements.statement body.now)) block)) }
+        (statements.statements (map statements.statement body.now)) handler)) }
 {
-    let size = statements_size(body)?;
-    let both = sum(size, sum(block, 2)?)?;
+    let size = next_size(sizes);
+    let both = sum(size, sum(handler, 2)?)?;
     let end = ahead(code, both)?;
-    statements(code, &in_try(end, scope), body)?;
+    statements_by_size(code, &in_try(end, scope), sizes, body)?;
     land(code, end, scope.names.free)
 }
 
@@ -339,29 +390,33 @@ fn tried(
 fn try_finally(
     code: &mut Vec<Instruction>,
     scope: &LoweringContext,
+    sizes: &mut Vec<u64>,
     body: &[Stmt],
     number: u32,
 ) -> Result<(), AllocError>
-    ensures { OnOk result (Places code.old code.new
+    ensures { OnOk result (PlacesBySizes sizes.old sizes.new
+        (block (statements.statements (map statements.statement body.now))) code.old code.new
         (spec.statement_code scope.now
         (statements.TryFinally (statements.statements (map statements.statement body.now))
         number statements.Empty))) }
 {
-    let size = statements_size(body)?;
+    let size = next_size(sizes);
     let end = ahead(code, size)?;
-    statements(code, &in_guarded(end, scope), body)?;
+    statements_by_size(code, &in_guarded(end, scope), sizes, body)?;
     call_finally(code, number)
 }
 
-/// A loop (C11, 6.8.5) or a `__try`.
+/// A statement other than a block and an `if`.
 #[cycle(statements)]
-fn loop_or_try(
+fn other_statement(
     code: &mut Vec<Instruction>,
     scope: &LoweringContext,
+    sizes: &mut Vec<u64>,
     stmt: &Stmt,
 ) -> Result<(), AllocError>
-    requires { is_loop_or_try (statements.statement stmt.now) ≡ true }
-    ensures { OnOk result (Places code.old code.new
+    requires { is_block_or_if (statements.statement stmt.now) ≡ false }
+    ensures { OnOk result (PlacesBySizes sizes.old sizes.new
+        (measured.with_parts (statements.statement stmt.now)) code.old code.new
         (spec.statement_code scope.now (statements.statement stmt.now))) }
 {
     match stmt {
@@ -371,16 +426,16 @@ fn loop_or_try(
             condition,
             next,
             body,
-        } => for_loop(code, scope, body, declared, first, condition, next),
-        Stmt::Do { body, condition } => do_loop(code, scope, body, condition),
+        } => for_loop(code, scope, sizes, body, declared, first, condition, next),
+        Stmt::Do { body, condition } => do_loop(code, scope, sizes, body, condition),
         Stmt::TryExcept { body, handler, .. } => {
             let inner = in_except(scope)?;
-            let block = statements_size(handler)?;
-            tried(code, scope, body, block)?;
-            statements(code, &inner, handler)
+            let size = next_size(sizes);
+            tried(code, scope, sizes, body, size)?;
+            statements_by_size(code, &inner, sizes, handler)
         }
-        Stmt::TryFinally { body, number, .. } => try_finally(code, scope, body, *number),
-        _ => unreachable!(),
+        Stmt::TryFinally { body, number, .. } => try_finally(code, scope, sizes, body, *number),
+        _ => simple(code, scope, stmt),
     }
 }
 
@@ -388,32 +443,28 @@ fn loop_or_try(
 fn statement(
     code: &mut Vec<Instruction>,
     scope: &LoweringContext,
+    sizes: &mut Vec<u64>,
     stmt: &Stmt,
 ) -> Result<(), AllocError>
-    ensures { OnOk result (Places code.old code.new
+    ensures { OnOk result (PlacesBySizes sizes.old sizes.new
+        (measured.with_parts (statements.statement stmt.now)) code.old code.new
         (spec.statement_code scope.now (statements.statement stmt.now))) }
 {
     match stmt {
-        Stmt::Declare(declared) => declare(code, scope.names, declared),
-        Stmt::Block(stmts) => statements(code, scope, stmts),
-        Stmt::Evaluate(expr) => discarded(code, scope.names, expr),
+        Stmt::Block(stmts) => statements_by_size(code, scope, sizes, stmts),
         Stmt::If {
             condition,
             then,
             otherwise,
         } => match otherwise {
-            None => when(code, scope, then, condition, 1),
+            None => when(code, scope, sizes, then, condition, 1),
             Some(other) => {
-                let more = statement_size(other)?;
-                when(code, scope, then, condition, 2)?;
+                let more = next_size(sizes);
+                when(code, scope, sizes, then, condition, 2)?;
                 skip(code, more, 1)?;
-                statement(code, scope, other)
+                statement(code, scope, sizes, other)
             }
         },
-        Stmt::Return(expr) => leave_function(code, scope, expr),
-        Stmt::Break => jump(code, scope.loop_end),
-        Stmt::Continue => jump(code, scope.loop_next),
-        Stmt::Leave => put(code, leave(scope.leave)),
-        _ => loop_or_try(code, scope, stmt),
+        _ => other_statement(code, scope, sizes, stmt),
     }
 }

@@ -89,6 +89,24 @@ int main(void){ int x; { int x; int x; } return 0; } => Duplicate 36
 int main(void){ __try { int x; int x; } __finally { } return 0; } => Duplicate 35
 ";
 
+/// Names that are hidden in nested blocks (C11, 6.2.1 p4): the innermost declaration counts up to
+/// the end of its block, and from there on the one that it hid.
+const HIDDEN: &str = r"
+int *x; int main(void){ { int x; { int *x; *x = 1; } x = 1; } *x = 1; return 0; } => accepted
+int main(void){ int *x; { int x; { x = 1; { int *x; { *x = 1; } } x = 2; } } { *x = 1; } return 0; } => accepted
+int main(void){ int *x; { int x; } { *x = 1; int x; x = 1; } *x = 2; return 0; } => accepted
+int f(void){ return 1; } int main(void){ { int f; f = 2; } return f(); } => accepted
+int i; int main(void){ for (int *i = 0;;) { *i = 1; int i; i = 2; break; } i = 1; return 0; } => accepted
+int f(int *x){ { int x; x = 1; } if (1) { int x; x = 2; } *x = 3; return 0; } int main(void){ return 0; } => accepted
+int main(void){ int *x; { int x; *x; } return 0; } => TypeClash 33
+int main(void){ int *x; { int x; { { *x; } } } return 0; } => TypeClash 37
+int main(void){ int x; { int *x; { *x = 1; } } *x; return 0; } => TypeClash 47
+int main(void){ int x; { int *x; { int x; } { *x = 1; } } { *x; } return 0; } => TypeClash 60
+int x; int main(void){ for (int *x = 0;;) { *x = 1; break; } *x; return 0; } => TypeClash 61
+int f(void){ return 1; } int main(void){ { int f; { f(); } } return f(); } => UnknownName 52
+int main(void){ { int x; { int y; { int x; } } { x = 1; y = 1; } } return 0; } => UnknownName 56
+";
+
 /// The function `main` (C11, 5.1.2.2.1). Where there is none, the fault is at 0; where it has
 /// another type, at its name.
 const ENTRY: &str = r"
@@ -117,5 +135,5 @@ int f(void){ return 0; } char main(void){ return 0; } => TypeClash 30
 
 #[test]
 fn declarations(rt: HostRuntime) -> Result<(), Fail> {
-    all_as_wanted(&rt, rt.alloc(), &[INITIALISERS, NAMES, ENTRY])
+    all_as_wanted(&rt, rt.alloc(), &[INITIALISERS, NAMES, HIDDEN, ENTRY])
 }

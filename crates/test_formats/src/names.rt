@@ -24,9 +24,13 @@ const REFUSED: &str = r"
 
 /// Two rows, the second of which begins where the first ends, or one byte before.
 const FIRST: &str = "02 00 00 00 10 00 00 00 20 00 00 00 01 00 00 00 24 10 00 00";
+
 const SECOND: &str = "20 00 00 00 28 00 00 00 02 00 00 00 26 10 00 00";
+
 const OVERLAPPING: &str = "1F 00 00 00 28 00 00 00 02 00 00 00 26 10 00 00";
+
 const SAME_NUMBER: &str = "20 00 00 00 28 00 00 00 01 00 00 00 26 10 00 00";
+
 const NAMES: &str = "66 00 67 00";
 
 /// Addresses, and the row that holds each of them.

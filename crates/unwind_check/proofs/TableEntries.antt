@@ -1,9 +1,11 @@
 -- The entries of a table that was read whole, one by one.
 use Rattle.std.proofs.Common.{◌≡◌, ℕ, zero, suc, ◌+◌, ◌^◌, ◌<◌, ◌≤◌, Bool, true, false, Option, Some, None, Ok, Err, List, [], ◌∷◌, ◌++◌, length, take, drop, get_or, refl, sym, ap, subst, ◌∙◌, arith}
-use Rattle.std.specs.Prelude.{nat_le, nat_lt}
+use Rattle.std.specs.Prelude.{nat_le, nat_lt, option_map, IfOk, IfNone}
 use Rattle.std.specs.Result.{result_ok}
 use Rattle.std.proofs.lemmas.Bool.{ltb-true}
 use Rattle.std.proofs.lemmas.List.Elements.{All-append, All-nil, All-cons}
+use Rattle.flat_memory.specs.Memory.{Memory}
+use Rattle.eh_tables.specs.Words.{Image}
 use Rattle.eh_tables.specs.declared.range.RuntimeFunction.{RuntimeFunction}
 use Rattle.eh_tables.specs.Infos.{Info, info}
 use Rattle.eh_tables.specs.declared.layout.TheConstants.{MOST_PARENTS}
@@ -12,8 +14,7 @@ use Rattle.eh_tables.specs.declared.refusal.TableErr.{TableErr}
 use Rattle.seh_num.specs.Answers.{◌>>=◌, unless, prepend}
 use Rattle.eh_tables.specs.Answer.{Table}
 use Rattle.eh_tables.specs.Tables.{Entry, Tables, entry, entry_at, parents, no_range, end_before, entries, entries_of, TablesAreWhole}
-use Rattle.unwind_check.specs.declared.rule.Fault.{Fault}
-use Rattle.unwind_check.specs.Faults.{entry_fault}
+use Rattle.unwind_check.specs.Faults.{entry_fault, info_fault}
 use Rattle.unwind_check.specs.FailingRules.{AreFaults}
 use Rattle.unwind_check.specs.Verdicts.{ImageCode, entry_in, IsKept, AllAreKept}
 use Rattle.unwind_check.specs.declared.rule.EntryVerdict.{EntryVerdict}
@@ -128,44 +129,87 @@ some_bytes ts index last r e h =
     ltb-true r.begin r.end (holds_then (nat_lt r.begin r.end) (refusals.EmptyRange index) one.value
     one.first)
 
-range_of : (ts : Tables) (index last : ℕ) (r : RuntimeFunction) (e : Entry)
-    → entry ts.image index last r ≡ Ok e → e.range ≡ r
+-- the range that was read, and the infos above its own
+record IsRead (ts : Tables) (index : ℕ) (r : RuntimeFunction) (e : Entry) : Type 0 where
+  range : e.range ≡ r
+  chain : parents MOST_PARENTS ts.image index e.info.parent ≡ Ok e.parents
+
+is_read : (ts : Tables) (index last : ℕ) (r : RuntimeFunction) (e : Entry)
+    → entry ts.image index last r ≡ Ok e → IsRead ts index r e
 unfolding entry
-range_of ts index last r e h =
+is_read ts index last r e h =
     let one = given (unless (nat_lt r.begin r.end) (refusals.EmptyRange index)) _ e h in
     let two = given (unless (nat_le last r.begin) (refusals.Unsorted index)) _ e one.then in
     let three = given (info ts.image index r.unwind_info) _ e two.then in
     let four = given (parents MOST_PARENTS ts.image index three.value.parent) _ e three.then in
-    same (record { range = r; info = three.value; parents = four.value }) e four.then
+    go (record { range = r; info = three.value; parents = four.value }) e four.then four.first
   where
-    same : (d e : Entry) → (let t : Table Entry = Ok d in t) ≡ Ok e → e.range ≡ d.range
-    same d e h = let g : d ≡ e = cc in ap (λ (x : Entry). x.range) (sym g)
+    go : (d e : Entry) → (let t : Table Entry = Ok d in t) ≡ Ok e
+        → parents MOST_PARENTS ts.image index d.info.parent ≡ Ok d.parents
+        → IsRead ts index d.range e
+    go d e h above =
+        let same : d ≡ e = cc in
+        record {
+          range = ap (λ (x : Entry). x.range) (sym same);
+          chain = subst (λ (x : Entry).
+              parents MOST_PARENTS ts.image index x.info.parent ≡ Ok x.parents) same above;
+        }
+
+-- an info says whether it has parents, which is all that the rules ask of them
+by_chain : (m : Memory) (probe : List ℕ) (begin to : ℕ) (i : Info) (image : Image) (index n : ℕ)
+    (o : Option RuntimeFunction) (ps : List Info) → parents n image index o ≡ Ok ps
+    → info_fault m probe begin to i o ≡ entry_fault m probe begin to i ps
+unfolding info_fault entry_fault
+by_chain m probe begin to i image index zero None ps h =
+    let same : [] ≡ ps = cc in ap (entry_fault m probe begin to i) same
+by_chain m probe begin to i image index zero (Some r) ps h = absurd cc
+by_chain m probe begin to i image index (suc n) None ps h =
+    let same : [] ≡ ps = cc in ap (entry_fault m probe begin to i) same
+by_chain m probe begin to i image index (suc n) (Some r) ps h =
+    let first = given (info image index r.unwind_info) _ ps h in
+    go first.value (parents n image index first.value.parent) first.then
+  where
+    go : (j : Info) (t : Table (List Info)) → prepend j t ≡ Ok ps
+        → info_fault m probe begin to i (Some r) ≡ entry_fault m probe begin to i ps
+    go j (Ok rest) h =
+        let same : j ∷ rest ≡ ps = cc in ap (entry_fault m probe begin to i) same
+    go j (Err x) h = absurd cc
 
 -- ---- the rules, entry by entry
 
--- the range of the entry of an index isn't empty
-pub has_bytes : (t : Tables) (k : ℕ) (e : Entry) → Ok e ≡ entry_at t k
-    → e.range.begin < e.range.end
-has_bytes t k e is =
-    let q = get_or t.ranges k no_range in
-    let some = some_bytes t k (end_before t.ranges k) q e (sym is) in
-    let same = range_of t k (end_before t.ranges k) q e (sym is) in
-    subst (λ (p : RuntimeFunction). p.begin < p.end) (sym same) some
+one_info : {x y : Info} → Some x ≡ Some y → x ≡ y
+one_info e = cc
 
--- what is said of an entry by what is read of it
-pub says_of : (c : ImageCode) (e : Entry) (r : RuntimeFunction) (i : Info) (ps : List Info)
-    (o : Option Fault) → e.range.begin < e.range.end → r ≡ e.range → i ≡ e.info
-    → ps ≡ e.parents → r.end < 2 ^ 63 → o ≡ entry_fault c.memory c.probe r.begin r.end i ps
-    → AreFaults (entry_in c e) o
-says_of c e r i ps o rise range info parents low f =
-    let here : entry_fault c.memory c.probe e.range.begin e.range.end e.info e.parents ≡ o =
-    ap (λ (r : RuntimeFunction). entry_fault c.memory c.probe r.begin r.end e.info e.parents)
-    (sym range)
-    ∙ ap (λ (i : Info). entry_fault c.memory c.probe r.begin r.end i e.parents) (sym info)
-    ∙ ap (λ (ps : List Info). entry_fault c.memory c.probe r.begin r.end i ps) (sym parents)
-    ∙ sym f in
-    subst (AreFaults (entry_in c e)) here (faults_are_first (entry_in c e) rise
-    (subst (λ (p : RuntimeFunction). p.end < 2 ^ 63) range low))
+-- what is said of the entry of an index by its range and its own info
+pub says_of : (c : ImageCode) (t : Tables) (k : ℕ) (r : RuntimeFunction) (i : Info)
+    (v : EntryVerdict) → TablesAreWhole t → k < length t.ranges → r ≡ get_or t.ranges k no_range
+    → Some i ≡ option_map (λ e. e.info) (result_ok (entry_at t k)) → r.end < 2 ^ 63
+    → v.begin ≡ r.begin → v.fault ≡ info_fault c.memory c.probe r.begin r.end i i.parent
+    → IfNone v.fault (i.frame_offset < 2 ^ 8)
+    → IfOk (entry_at t k) (λ e. IsEntryVerdict c e v)
+says_of c t k r i v w lt range own low begins fault near =
+    let s = at t k w lt in
+    let e = s.entry in
+    let last = end_before t.ranges k in
+    let q = get_or t.ranges k no_range in
+    let read = is_read t k last q e s.is in
+    let same : i ≡ e.info = one_info (own
+    ∙ ap (λ (x : Table Entry). option_map (λ (y : Entry). y.info) (result_ok x)) s.is) in
+    let its : r ≡ e.range = range ∙ sym read.range in
+    let rise : e.range.begin < e.range.end = subst (λ (p : RuntimeFunction). p.begin < p.end)
+    (sym read.range) (some_bytes t k last q e s.is) in
+    let here : entry_fault c.memory c.probe e.range.begin e.range.end e.info e.parents ≡ v.fault =
+    sym (fault
+    ∙ ap (λ (p : RuntimeFunction). info_fault c.memory c.probe p.begin p.end i i.parent) its
+    ∙ ap (λ (x : Info). info_fault c.memory c.probe e.range.begin e.range.end x x.parent) same
+    ∙ by_chain c.memory c.probe e.range.begin e.range.end e.info t.image k MOST_PARENTS
+    e.info.parent e.parents read.chain) in
+    subst (λ (x : Table Entry). IfOk x (λ y. IsEntryVerdict c y v)) (sym s.is) (record {
+      begin = begins ∙ ap (λ (p : RuntimeFunction). p.begin) its;
+      faults = subst (AreFaults (entry_in c e)) here (faults_are_first (entry_in c e) rise
+          (subst (λ (p : RuntimeFunction). p.end < 2 ^ 63) its low));
+      near = subst (λ (x : Info). IfNone v.fault (x.frame_offset < 2 ^ 8)) same near;
+    })
 
 -- the entry of an index in the list of all
 pub record IsEntryOf (es : List Entry) (k : ℕ) (e : Entry) : Type 0 where
@@ -193,16 +237,21 @@ entry_of (x ∷ es) (suc k) e h =
       count = omega (arith, n);
     }
 
-pub is_entry_of : (t : Tables) (k : ℕ) (e : Entry) → TablesAreWhole t → k < length t.ranges
-    → Ok e ≡ entry_at t k → IsEntryOf (entries_of t) k e
-is_entry_of t k e w lt is =
+-- the entry of an index, and the verdict on it
+pub record IsJudged (c : ImageCode) (t : Tables) (k : ℕ) (v : EntryVerdict) : Type 0 where
+  pub entry : Entry
+  pub place : IsEntryOf (entries_of t) k entry
+  pub says : IsEntryVerdict c entry v
+
+pub judged : (c : ImageCode) (t : Tables) (k : ℕ) (v : EntryVerdict) → TablesAreWhole t
+    → k < length t.ranges → IfOk (entry_at t k) (λ e. IsEntryVerdict c e v) → IsJudged c t k v
+judged c t k v w lt says =
     let s = at t k w lt in
-    let same : s.entry ≡ e = one (sym s.is ∙ sym is) in
-    entry_of (entries_of t) k e
-    (s.all ∙ ap (λ (x : Entry). x ∷ drop (suc k) (entries_of t)) same)
-  where
-    one : {x y : Entry} → (let t : Table Entry = Ok x in t) ≡ Ok y → x ≡ y
-    one e = cc
+    record {
+      entry = s.entry;
+      place = entry_of (entries_of t) k s.entry s.all;
+      says = subst (λ (x : Table Entry). IfOk x (λ e. IsEntryVerdict c e v)) s.is says;
+    }
 
 -- one more that keeps the rules
 pub one_more : (c : ImageCode) (es : List Entry) (k : ℕ) (e : Entry) → IsEntryOf es k e
@@ -213,22 +262,14 @@ one_more c es k e is all keeps =
     (All-append (IsKept c) (take k es) (e ∷ []) all
     (All-cons (IsKept c) e [] keeps (All-nil (IsKept c))))
 
--- what a look-up in a table that was read whole answers
-pub known_is : (t : Tables) (k : ℕ) (e : Entry) → Some e ≡ result_ok (entry_at t k)
-    → Ok e ≡ entry_at t k
-known_is t k e h = go (entry_at t k) h
-  where
-    go : (r : Table Entry) → Some e ≡ result_ok r → (let u : Table Entry = Ok e in u) ≡ r
-    go (Ok x) h =
-        let same : e ≡ x = cc in
-        ap (λ (y : Entry). (let u : Table Entry = Ok y in u)) same
-    go (Err x) h = absurd cc
-
+-- an info is read for each index
 pub none_missing : (t : Tables) (k : ℕ) → TablesAreWhole t → k < length t.ranges
-    → None ≡ result_ok (entry_at t k) → ⊥
-none_missing t k w lt is = let s = at t k w lt in never (is ∙ ap result_ok s.is)
+    → None ≡ option_map (λ e. e.info) (result_ok (entry_at t k)) → ⊥
+none_missing t k w lt is =
+    let s = at t k w lt in
+    never (is ∙ ap (λ (x : Table Entry). option_map (λ (e : Entry). e.info) (result_ok x)) s.is)
   where
-    never : {e : Entry} → (let o : Option Entry = None in o) ≡ Some e → ⊥
+    never : {i : Info} → (let o : Option Info = None in o) ≡ Some i → ⊥
     never h = cc
 
 -- past the last

@@ -110,10 +110,9 @@ fn codes_fault<S: CodeSpace>(
 }
 
 /// The first fault of an entry: at its first boundary at which a rule fails, the first rule that
-/// does. The entry's code is from `begin` to `end`, `info` is its unwind info and `parents` those
-/// that it is chained to, and `probe` has the bytes of the stack probe. Refused for want of memory
-/// alone.
-#[tactic(auto, unfolding(crate::specs::Faults::entry_fault))]
+/// does. The entry's code is from `begin` to `end`, `info` is its unwind info, and `probe` has the
+/// bytes of the stack probe. Refused for want of memory alone.
+#[tactic(auto, unfolding(crate::specs::Faults::info_fault))]
 pub fn entry_fault<S: CodeSpace>(
     alloc: Global,
     space: &S,
@@ -121,12 +120,11 @@ pub fn entry_fault<S: CodeSpace>(
     begin: u64,
     end: u64,
     info: &Info,
-    parents: &[Info],
 ) -> Result<Option<Fault>, AllocError>
     requires begin { begin < 2 ^ 63 }
     requires low { end < 2 ^ 63 }
     ensures fault { IfOk result (λ o. o
-        ≡ spec.entry_fault (S.memory space.now) probe.now begin end info.now parents.now) }
+        ≡ spec.info_fault (S.memory space.now) probe.now begin end info.now info.now.parent) }
     ensures near { IfOk result (λ o. IfNone o (info.now.frame_offset < 2 ^ 8)) }
 {
     let size = info.prologue_size() as u64;
@@ -145,11 +143,11 @@ pub fn entry_fault<S: CodeSpace>(
             rule: Rule::Decode,
         }));
     }
-    match parents {
-        [] => codes_fault(
+    match info.parent() {
+        None => codes_fault(
             alloc, space, probe, begin, middle, end, info, &prologue, &body,
         ),
-        _ => Ok(Some(Fault {
+        Some(_) => Ok(Some(Fault {
             at: begin,
             rule: Rule::Chain,
         })),

@@ -1,41 +1,40 @@
 //! The entries of a function table, one after another.
 
-ghost use Rattle.std.specs.Prelude.{◌≡◌, ◌<◌, IfOk};
-ghost use Rattle.eh_tables.specs.Tables.{TablesAreWhole, entries_of};
+ghost use Rattle.std.specs.Prelude.{◌≡◌, ◌<◌, Some, length, option_map, IfOk};
+ghost use Rattle.std.specs.Result.{result_ok};
+ghost use Rattle.eh_tables.specs.Tables.{TablesAreWhole, entries_of, entry_at};
 ghost use Rattle.unwind_check.specs.EntryVerdicts.{IsEntryVerdict, AreEntryVerdicts};
 ghost use Rattle.unwind_check.specs.Verdicts.{IsVerdict};
 
 use crate::entry::entry_fault;
 use crate::rule::{EntryVerdict, Verdict};
-use eh_tables::{Entry, Tables};
+use eh_tables::{Info, Tables};
 use std::alloc::{AllocError, Global};
 use x64_memory::space::CodeSpace;
 
-/// The verdict on an entry whose range isn't empty.
+/// The verdict on the entry of an index, of which `info` is the unwind info. The infos that this is
+/// chained to aren't read, since no rule asks for more than whether there are any.
 fn entry_verdict<S: CodeSpace>(
     alloc: Global,
     space: &S,
     probe: &[u8],
-    entry: &Entry<'_>,
+    tables: &Tables,
+    index: u64,
+    info: &Info,
 ) -> Result<EntryVerdict, AllocError>
-    requires { entry.now.range.begin < entry.now.range.end }
-    ensures { IfOk result (λ v. IsEntryVerdict (record {
+    requires whole { TablesAreWhole tables.now }
+    requires within { index < length tables.now.ranges }
+    requires own { Some info.now
+        ≡ option_map (λ e. e.info) (result_ok (entry_at tables.now index)) }
+    ensures { IfOk result (λ v. IfOk (entry_at tables.now index) (λ e. IsEntryVerdict (record {
       memory = S.memory space.now;
       probe = probe.now;
-    }) entry.now v) }
+    }) e v)) }
 {
-    let range = entry.range();
+    let range = tables.range(index);
     let begin = range.begin as u64;
     let end = range.end as u64;
-    let fault = entry_fault(
-        alloc,
-        space,
-        probe,
-        begin,
-        end,
-        entry.info(),
-        entry.parents(),
-    )?;
+    let fault = entry_fault(alloc, space, probe, begin, end, info)?;
     Ok(EntryVerdict { begin, fault })
 }
 
@@ -56,10 +55,10 @@ pub fn validate<S: CodeSpace>(
     }) (entries_of tables.now) v) }
 {
     for index in 0..tables.len() {
-        let Some(entry) = tables.known_entry(index) else {
+        let Some(info) = tables.info(index) else {
             continue;
         };
-        let verdict = entry_verdict(alloc, space, probe, &entry)?;
+        let verdict = entry_verdict(alloc, space, probe, tables, index, &info)?;
         match verdict.fault {
             Some(fault) => return Ok(Verdict::No { index, fault }),
             None => {}
@@ -86,10 +85,10 @@ pub fn validate_entries<S: CodeSpace>(
 {
     let mut verdicts = Vec::new(alloc);
     for index in 0..tables.len() {
-        let Some(entry) = tables.known_entry(index) else {
+        let Some(info) = tables.info(index) else {
             continue;
         };
-        let verdict = entry_verdict(alloc, space, probe, &entry)?;
+        let verdict = entry_verdict(alloc, space, probe, tables, index, &info)?;
         verdicts.push(verdict)?;
     }
     Ok(verdicts)

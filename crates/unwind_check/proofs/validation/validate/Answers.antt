@@ -4,7 +4,7 @@ use Rattle.eh_tables.specs.Tables.{entries_of}
 use Rattle.unwind_check.specs.declared.rule.Fault.{Fault}
 use Rattle.unwind_check.specs.FailingRules.{AreFaults}
 use Rattle.unwind_check.specs.Verdicts.{ImageCode, entry_in}
-use Rattle.unwind_check.proofs.TableEntries.{has_bytes, is_entry_of, one_more, known_is, none_missing, all_keep}
+use Rattle.unwind_check.proofs.TableEntries.{judged, one_more, none_missing, all_keep}
 use Rattle.unwind_check.proofs.validation.validate.Goals as goal
 
 pub loop-index-preserved-in_default : goal.loop-index-preserved-in_default
@@ -12,11 +12,6 @@ loop-index-preserved-in_default g c =
     let lt : c.loop-index.index < length c.args.tables.now.ranges = omega
     (arith, c.loop-index-test.true, c.len-index-end.ensures) in
     absurd (none_missing c.args.tables.now c.loop-index.index c.requires lt c.in_default.ensures)
-
-pub entry_verdict-requires : goal.entry_verdict-requires
-entry_verdict-requires g c =
-    has_bytes c.args.tables.now c.loop-index.index c.in-Some.entry
-    (known_is c.args.tables.now c.loop-index.index c.in-Some.entry c.in-Some.ensures)
 
 pub returns-in-Some-fault : goal.returns-in-Some-fault
 returns-in-Some-fault g c =
@@ -26,18 +21,17 @@ returns-in-Some-fault g c =
     } in
     let t = c.args.tables.now in
     let k = c.loop-index.index in
-    let e = c.in-Some.entry in
     let lt : k < length t.ranges = omega
     (arith, c.loop-index-test.true, c.len-index-end.ensures) in
-    let is = is_entry_of t k e c.requires lt (known_is t k e c.in-Some.ensures) in
+    let is = judged code t k c.in_ok-verdict.verdict c.requires lt c.in_ok-verdict.ensures in
     record {
       before = take k (entries_of t);
-      entry = e;
+      entry = is.entry;
       after = drop (suc k) (entries_of t);
-      parts = is.parts;
-      index = is.count;
+      parts = is.place.parts;
+      index = is.place.count;
       kept = c.loop-index.invariant.kept;
-      least = subst (AreFaults (entry_in code e)) c.in-Some-fault.is c.in_ok-verdict.ensures.faults;
+      least = subst (AreFaults (entry_in code is.entry)) c.in-Some-fault.is is.says.faults;
     }
 
 pub loop-index-preserved : goal.loop-index-preserved
@@ -48,17 +42,15 @@ loop-index-preserved g c =
     } in
     let t = c.args.tables.now in
     let k = c.loop-index.index in
-    let e = c.in-Some.entry in
     let lt : k < length t.ranges = omega
     (arith, c.loop-index-test.true, c.len-index-end.ensures) in
-    let is = is_entry_of t k e c.requires lt (known_is t k e c.in-Some.ensures) in
-    let says = c.in_ok-verdict.ensures in
+    let is = judged code t k c.in_ok-verdict.verdict c.requires lt c.in_ok-verdict.ensures in
     record {
       most = omega (arith, lt);
-      kept = one_more code (entries_of t) k e is c.loop-index.invariant.kept (record {
-        rules = subst (AreFaults (entry_in code e)) c.in-None.is says.faults;
-        near = subst (λ (o : Option Fault). IfNone o (e.info.frame_offset < 2 ^ 8)) c.in-None.is
-            says.near;
+      kept = one_more code (entries_of t) k is.entry is.place c.loop-index.invariant.kept (record {
+        rules = subst (AreFaults (entry_in code is.entry)) c.in-None.is is.says.faults;
+        near = subst (λ (o : Option Fault). IfNone o (is.entry.info.frame_offset < 2 ^ 8)) c.in-None.is
+            is.says.near;
       });
     }
 

@@ -24,8 +24,7 @@ returns c = λ x es.
     let locals_is = c.in_ok-locals.ensures ∙ ap (λ n. vs ++ replicate n 0) zeros in
     let frames_is = c.in_ok-push.ensures ∙ ap (λ l. frames_of m.activations ++ l ∷ []) locals_is in
     goes_deeper _ (machine_of m x es) _ (sym (c.is_deep.ensures es) ∙ c.if-is_deep.false)
-    ∙ (λ i. model.follow (record (machine_of m x es)
-    {
+    ∙ (λ i. model.follow (record (machine_of m x es) {
       state = record (state_of m es) {
         frames = sym frames_is i;
         functions = sym c.in_ok-push-2.ensures.items i;
