@@ -6,7 +6,9 @@ use Rattle.std.specs.List.{AllByRecursion}
 use Rattle.std.proofs.lemmas.Bool.{cases_lt}
 use Rattle.match_turns.specs.Words.{STACK_START, STACK_END, Event, Protection, is_writable, Memory, may_write, number_at, Rcx, Rdx, Rsp, context_of, get, State, register, Functions, Funclet, Exception, is_reserved, Region, LinearProgram, LinearFunclet, BodyName, FuncletBody, body_of, funclet_body, Frame, Item, Store, Configuration, holds, regions_of, Layout, StackItem, context_below, ImagePlan, InCode, IsFunclet, Activation, locals_of, IsActivation, HasActivation, HoldsWords, HasSpace, below_end, HasPointers, FuncletIsAbove, BodyWaits, ReturnsTo, Reaches, KeepsStack, On, IsWellFormed, Arrives, IsFuncletPlan, slots_end, last_temporary, Setting, InBody, IsMachineMemory, RepresentsAt}
 use Rattle.virtual_unwind.specs.Undone.{word}
-use Rattle.match_turns.proofs.Lemmas.{others_of, has_frame, small_others, same_number, Within, kept_by_other_memories, word_is, word_of, may_read_written, stack_is_reserved, program_stays}
+use Rattle.match_bodies.specs.Bodies as bodies
+use Rattle.match_bodies.specs.ProgramImages.{frame_of}
+use Rattle.match_turns.proofs.Lemmas.{others_of, small_others, same_number, Within, kept_by_other_memories, word_is, word_of, may_read_written, stack_is_reserved, program_stays}
 
 pub same_regions : (rs : List Region) (label : ℕ)
     → AllByRecursion (λ (r : Region). holds label r ≡ holds label r) rs
@@ -170,7 +172,8 @@ module _ (setting : Setting) where
         ≡ a.reaches.base
     pub distance : IsActivation acts activation a.reaches.base (p.layout (FuncletBody k)).locals
         (p.register (FuncletBody k))
-    pub others : others_of u.cpu.registers ≡ others_of s.cpu.registers
+    pub frame : bodies.HasFrame u (p.leaf (FuncletBody k))
+        (frame_of p (FuncletBody k) a.back (others_of s.cpu.registers))
     pub rip : u.cpu.rip ≡ p.address (FuncletBody k) 0
     pub well_formed : IsWellFormed u
 
@@ -233,16 +236,14 @@ module _ (setting : Setting) where
     at_is = let e = h.stack in let f = a.stack in omega arith
 
     pub list : On t fs program p u.memory (context_below a.back (sp + y.frame + 8)
-        (others_of u.cpu.registers)) a.is items acts
+        (others_of s.cpu.registers)) a.is items acts
     list =
         let e = high in
         let lo = h.low in
-        let above = context_below a.back (sp + y.frame + 8) (others_of u.cpu.registers) in
+        let above = context_below a.back (sp + y.frame + 8) (others_of s.cpu.registers) in
         let on : On t fs program p s.memory above a.is items acts =
-        subst (λ (os : List ℕ). On t fs program p s.memory (context_below a.back (sp + y.frame + 8)
-        os) a.is items acts) (sym h.others)
-        (subst (λ x. On t fs program p s.memory (context_below a.back x (others_of s.cpu.registers))
-        a.is items acts) at_is a.on) in
+        subst (λ x. On t fs program p s.memory (context_below a.back x (others_of s.cpu.registers))
+        a.is items acts) at_is a.on in
         record {
           is_there = kept_by_other_memories t fs program p s.memory u.memory above a.is items acts
               keeps (omega arith) on.is_there;
@@ -304,18 +305,10 @@ module _ (setting : Setting) where
       home = λ e. absurd (apart (sym e ∙ l.plan.framed));
       back = a.back;
       returns_to = a.returns_to;
-      others = others_of u.cpu.registers;
+      others = others_of s.cpu.registers;
       eight = refl;
-      small = small_others u h.well_formed;
-      frame = has_frame setting (FuncletBody k) l.funclet.body is u a.back
-          (others_of u.cpu.registers) (let e = high in omega arith)
-          (record {
-            returns = (let e = high in word_stays setting s.memory u.memory store.memory sp
-                (sp + y.frame) h.within h.low (omega arith) memory (sp + y.frame) a.back
-                (let z = h.low in omega arith) (omega arith) (omega arith)
-                (subst (λ x. word s.memory x ≡ Ok a.back) h.stack a.returns));
-            others_are = refl;
-          });
+      small = small_others s a.well_formed;
+      frame = h.frame;
       is = a.is;
       below = list;
     }
