@@ -8,7 +8,7 @@ use Rattle.match_turns.specs.Words.{STACK_START, STACK_END, Event, Protection, i
 use Rattle.virtual_unwind.specs.Undone.{word}
 use Rattle.match_bodies.specs.Bodies as bodies
 use Rattle.match_bodies.specs.ProgramImages.{frame_of}
-use Rattle.match_turns.proofs.Lemmas.{others_of, small_others, same_number, Within, kept_by_other_memories, word_is, word_of, may_read_written, stack_is_reserved, program_stays}
+use Rattle.match_turns.proofs.Lemmas.{others_of, small_others, Within, kept_by_other_memories, word_of, may_read_written, stack_is_reserved, program_stays}
 
 pub same_regions : (rs : List Region) (label : ℕ)
     → AllByRecursion (λ (r : Region). holds label r ≡ holds label r) rs
@@ -86,15 +86,7 @@ module _ (setting : Setting) (m m' source : Memory) (lo hi : ℕ)
     no_more_code = no_more;
   }
 
-  -- a word above
-  pub word_stays : (at v : ℕ) → STACK_START ≤ at → hi ≤ at → at + 8 ≤ STACK_END → word m at ≡ Ok v
-      → word m' at ≡ Ok v
-  word_stays at v b l h e = word_of m' at v (omega arith)
-      (λ a x z. may_read_written m' a (stack_writable a (omega arith) (omega arith)))
-      (same_number m'.byte m.byte 8 at (omega arith) (λ a x z. w.byte a (inr (omega arith)))
-      ∙ word_is m at v e)
-
-  -- and one within
+  -- a word within
   pub word_within : (at v : ℕ) → lo ≤ at → at + 8 ≤ hi → number_at m'.byte 8 at ≡ v
       → word m' at ≡ Ok v
   word_within at v l h e = word_of m' at v (omega arith)
