@@ -3,18 +3,22 @@ use Rattle.std.proofs.Common.{◌≡◌, ℕ, ◌+◌, ◌-◌, ◌*◌, ◌^◌
 use Rattle.std.specs.Prelude.{slice_get}
 use Rattle.std.proofs.lemmas.List.{append-nil}
 use Rattle.std.proofs.lemmas.Option.{slice_get_within}
-use Rattle.image_runs.specs.Words.{STACK_START, STACK_END, Memory, number_at, Protection, Rsp, State, register, word, Functions, distance, Funclet, LinearProgram, LinearBody, LinearFunction, FunctionBody, body_of, Layout, Instr, parameters_code, context_below, ImagePlan, IsWellFormed, Sites, arguments_code, function_arguments, IsLayoutIf, IsMachineMemory, IsProgramImage, slots_end, RepresentsAt, LARGEST_FRAME, arrivals, home_end, HoldsWords, AllKeep, Comes, begun, machine}
-use Rattle.image_runs.proofs.Lemmas.{same_number, Keeps, enters_keeps, stays_well_formed, stack_is_reserved, word_is, may_read_written, word_of, words_at, words_count, words_small, arguments_then_words}
+use Rattle.image_runs.specs.Words.{STACK_START, STACK_END, Memory, number_at, Protection, Rsp, State, register, word, Functions, distance, Funclet, LinearProgram, LinearBody, LinearFunction, FunctionBody, body_of, Layout, Instr, parameters_code, context_below, ImagePlan, IsWellFormed, Sites, arguments_code, function_arguments, IsLayoutIf, IsMachineMemory, IsProgramImage, slots_end, RepresentsAt, LARGEST_FRAME, arrivals, home_end, HoldsWords, Comes, begun, machine}
+use Rattle.image_runs.proofs.Lemmas.{Keeps, enters_keeps, stays_well_formed, may_read_written, word_of, words_at, words_count, words_small, arguments_then_words}
 use Rattle.match_stack.specs.StackRecords.{On}
 use Rattle.lowering_invariants.specs.SmallNumbers.{AreSmall}
 use Rattle.match_bodies.proofs.SilentTurns.{enters_silently}
 use Rattle.x64_machine.specs.Contexts.{context_of}
+use Rattle.seh_records.specs.Laws.{AllSmall}
+use Rattle.match_bodies.specs.Bodies.{HasFrame}
 use Rattle.match_bodies.specs.Callers.{nothing_owed}
-use Rattle.match_bodies.proofs.BodyFrames.{small_others as small_registers}
+use Rattle.match_bodies.specs.ProgramImages.{frame_of}
+use Rattle.match_bodies.specs.Setting.{setting_of}
+use Rattle.match_bodies.proofs.BodyFrames.{frame_from, small_others as small_registers}
 use Rattle.match_bodies.proofs.OwedCallers.{returns_alone}
 use Rattle.match_bodies.proofs.InstructionEffects.{others_of}
 use Rattle.match_bodies.proofs.RoutineWalks.{enters_steps, Beneath, AllPlain}
-use Rattle.match_bodies.proofs.EntryKeeping.{parameters_plain, entry_ran}
+use Rattle.match_bodies.proofs.EntryKeeping.{parameters_plain, EntryRan, entry_ran}
 use Rattle.match_bodies.proofs.ProgramKeeping.{KeepsImage}
 use Rattle.match_bodies.proofs.MemoryKeeping.{memory_stays}
 use Rattle.match_bodies.proofs.BodyViews.{is_machine}
@@ -116,25 +120,38 @@ module _ (t : Functions) (fs : List Funclet) (program : LinearProgram) (p : Imag
         l.small,
       )
 
-  keeps_shadow : AllKeep t fs inside.turns first
-  keeps_shadow =
+  abbrev registers : List ℕ
+  registers = others_of first.cpu.registers
+
+  small_there : AllSmall registers
+  small_there = small_registers first (subst IsWellFormed first_is well_formed)
+
+  entry_run : EntryRan t fs program p q image (FunctionBody f) o there some top (top + 40) 0
+      registers [] inside.turns first after (arguments_code program p (FunctionBody f))
+  entry_run =
       let stored = arguments_stored (p.leaf (FunctionBody f))
       (image.laid_out (FunctionBody f) o there) in
       let lo = h.low in
       let at : register first.cpu Rsp ≡ top = subst (λ (x : State). register x.cpu Rsp ≡ top)
       first_is h.stack in
-      (entry_ran t fs program p q image (FunctionBody f) o there some top (top + 40) 0
-      (others_of first.cpu.registers) [] inside.turns first after
+      entry_ran t fs program p q image (FunctionBody f) o there some top (top + 40) 0
+      registers [] inside.turns first after
       (arguments_code program p (FunctionBody f)) [] 40
       (sym (append-nil (arguments_code program p (FunctionBody f)))) inside.exact
-      (enters_steps inside.turns first after inside.comes) refl at beneath_main
-      (small_registers first (subst IsWellFormed first_is well_formed)) h.memory.code stored.1
-      (omega arith) refl
-      (subst (λ (xs : List Instr). AllPlain layout.frame 40 xs) (sym arguments_are) stored.0)).keeps
+      (enters_steps inside.turns first after inside.comes) refl at beneath_main small_there
+      h.memory.code stored.1 (omega arith) refl
+      (subst (λ (xs : List Instr). AllPlain layout.frame 40 xs) (sym arguments_are) stored.0)
+
+  -- its frame is there, with the registers that the host gave
+  frame_there : HasFrame after (p.leaf (FunctionBody f)) (frame_of p (FunctionBody f) 0 registers)
+  frame_there =
+      let e = entry_run.beneath in
+      frame_from (setting_of t fs program p q image) (FunctionBody f) o there after e.size 0
+      registers e.owed
 
   pub comes : Comes t fs inside.turns s [] after
   comes = subst (λ (x : State). Comes t fs inside.turns x [] after) (sym first_is)
-      (enters_silently t fs program p q image inside.turns first after inside.comes keeps_shadow
+      (enters_silently t fs program p q image inside.turns first after inside.comes entry_run.keeps
       h.memory.code silent_after)
 
   pub soon : inside.turns ≤ 16
@@ -218,20 +235,6 @@ module _ (t : Functions) (fs : List Funclet) (program : LinearProgram) (p : Imag
       (λ a v l u e. word_of after.memory a v (omega arith)
       (λ x g z. may_read_written after.memory x (memory.stack x (omega arith) (omega arith))) e)
 
-  -- ---- the return address
-
-  returns : word after.memory (inside.sp + layout.frame) ≡ Ok 0
-  returns =
-      let l = h.low in
-      let e = inside.place in
-      word_of after.memory (inside.sp + layout.frame) 0 (omega arith)
-      (λ x g z. may_read_written after.memory x (memory.stack x (omega arith) (omega arith)))
-      (ap (number_at after.memory.byte 8) e
-      ∙ same_number after.memory.byte s.memory.byte 8 top (omega arith)
-      (λ a g z. inside.same a (stack_is_reserved program.globals a (omega arith) (omega arith))
-      (inr (inr (omega arith, omega arith))))
-      ∙ word_is s.memory top 0 returns_to)
-
   -- ---- all of it
 
   pub begins : RepresentsAt t fs program p q after (begun f (arguments ++ others) 0 [] source [] [])
@@ -246,11 +249,11 @@ module _ (t : Functions) (fs : List Funclet) (program : LinearProgram) (p : Imag
       (record { space = omega arith; shallow = omega arith }) tt
       (λ leaf. subst (λ x. x + home_end ≤ STACK_END) (sym stack)
       (at_home (p.leaf (FunctionBody f)) planned leaf))
-      0 refl (subst (λ x. word after.memory (x + layout.frame) ≡ Ok 0) (sym stack) returns)
+      0 refl registers refl small_there frame_there
       (subst (λ x. HoldsWords after.memory (x + layout.locals)
       (x + slots_end layout (p.leaf (FunctionBody f))) (arguments ++ others)) (sym stack) numbers)
       [] (subst (λ x. On t fs program p after.memory
-      (context_below 0 x (others_of after.cpu.registers)) [] [] []) (sym up)
+      (context_below 0 x registers) [] [] []) (sym up)
       (record {
         is_there = record {
           stack = refl;

@@ -24,6 +24,9 @@ use Rattle.image_tables.specs.Entries as tables
 use Rattle.image_tables.proofs.Arguments.{arguments_inner}
 use Rattle.image_tables.proofs.FrameRules.{plan_near, one_code}
 use Rattle.image_tables.proofs.Rest.{same_epilogue}
+use Rattle.match_bodies.specs.Callers.{owed_pops}
+use Rattle.match_bodies.specs.CodeSites.{epilogue_through, frame_plan}
+use Rattle.match_bodies.proofs.FrameCode.{through_opening}
 use Rattle.image_states.proofs.Addresses.{place, here}
 use Rattle.image_states.proofs.Entering.{frame_same, code_same}
 use Rattle.image_states.proofs.Framed.{executable_of}
@@ -435,19 +438,28 @@ module _ (program : LinearProgram) (c : HasWholeImage program) (name : BodyName)
       return_found None none done left parts = leaf_return none done left parts
       return_found (Some f) framed done left parts = framed_return f framed done left parts
 
-      pub end_found : (o : Option FrameLayout) → x.routine.frame ≡ o → (k : ℕ) → y.frame ≡ suc k
-          → FindsReturn t m (image_base + (template_at x label + sizes fetching
-          + size (give_back y.frame)))
+      pub end_found : (f : FrameLayout) → x.routine.frame ≡ Some f → (probe : ℕ)
+          → (popped left : List ℕ) → [] ≡ popped ++ left
+          → FindsOwed t m (image_base + (template_at x label + sizes fetching
+          + sizes (epilogue_through (frame_plan y.frame probe) popped)))
+          (owed_pops (frame_plan y.frame probe) left)
       unfolding size
-      end_found None none k e = absurd (let z = sized program index x at_index ∙ ap size_of none in
-          omega arith)
-      end_found (Some f) framed k e =
+      end_found f framed probe [] [] e =
           let l = least f framed in
+          let some = (near f framed).0 in
+          let size' = size_is f framed in
+          let k : y.frame ≡ suc (y.frame - 1) = omega arith in
           let rva = template_at x label + sizes fetching in
-          let z = ends_are_at y.frame k rva e refl (epilogue_there has) in
-          let size' = ends_size y.frame k e in
+          let z = ends_are_at y.frame (y.frame - 1) rva k refl (epilogue_there has) in
+          let whole = ends_size y.frame (y.frame - 1) k in
           let fit = fits in
+          let through = ap sizes (through_opening y.frame probe (omega arith)) in
           let same : image_base + rva + length (chosen (give_back y.frame))
           ≡ image_base + (rva + length (chosen (give_back y.frame))) = omega arith in
-          return_at' f framed (rva + length (chosen (give_back y.frame))) (omega arith)
-          (omega arith) (subst (λ n. IsExecutableAt m n (spelled (instrs.Return ∷ []))) same z.1)
+          let to : rva + length (chosen (give_back y.frame))
+          ≡ rva + sizes (epilogue_through (frame_plan y.frame probe) []) = omega arith in
+          subst (λ n. FindsReturn t m (image_base + n)) to
+          (return_at' f framed (rva + length (chosen (give_back y.frame))) (omega arith)
+          (omega arith) (subst (λ n. IsExecutableAt m n (spelled (instrs.Return ∷ []))) same z.1))
+      end_found f framed probe [] (r ∷ left) e = absurd cc
+      end_found f framed probe (r ∷ popped) left e = absurd cc

@@ -2,14 +2,17 @@
 use Rattle.std.proofs.Common.{◌≡◌, ◌≢◌, ℕ, ◌+◌, ◌-◌, ◌^◌, ◌<◌, ◌≤◌, true, false, ltb, leb, List, [], ◌∷◌, ◌++◌, length, Option, Some, None, refl, sym, ap, subst, ◌∙◌, arith}
 use Rattle.std.specs.Prelude.{slice_get}
 use Rattle.std.proofs.lemmas.Bool.{le-ltb, and_right}
-use Rattle.image_states.specs.Words.{Memory, Rax, Instr, modrm, Table, Entry, BuiltIn, Put, Protect, RaiseException, Functions, distance, entry_of, left, framed, filter_return, finally_return, Slot, LinearBody, LinearProgram, BodyName, body_of, FrameLayout, size, sizes, fetch, check_stack, RoutineView, routines, SiteView, routine_size, argument_code, check_stack_at, first, total, Placed, end_of, site_of, infos_begin, image_base, template_at, begin_of, making_size, give_back, FindsReturn, FindsOwed, owed_of, functions_of, funclets_of, is_leaf, or_none, owed_after, routine_of, address_of, plan_of, sites_of, HasWholeImage, IsNear, entry_or, holding, thunks_at, info_bytes, thunk_of, placed_from, FindsCallers, FindsCallersOutside}
+use Rattle.image_states.specs.Words.{Memory, Rax, Instr, modrm, Table, Entry, BuiltIn, Put, Protect, RaiseException, Functions, distance, entry_of, left, framed, filter_return, finally_return, Slot, LinearBody, LinearProgram, BodyName, body_of, FrameLayout, size, sizes, fetch, check_stack, RoutineView, routines, SiteView, routine_size, argument_code, check_stack_at, first, total, Placed, end_of, site_of, infos_begin, image_base, template_at, begin_of, making_size, FindsReturn, FindsOwed, owed_of, functions_of, funclets_of, is_leaf, or_none, owed_after, routine_of, address_of, plan_of, sites_of, HasWholeImage, IsNear, entry_or, holding, thunks_at, info_bytes, thunk_of, placed_from, FindsCallers, FindsCallersOutside}
 use Rattle.eh_tables.specs.Tables as reading
 use Rattle.linear_code.specs.declared.instruction.Instruction.TheVariants as instructions
-use Rattle.image_states.proofs.Lemmas.{thunks_are_held_by_none, tables_are_read, end_inside, size_of, sized, away}
+use Rattle.image_states.proofs.Lemmas.{thunks_are_held_by_none, tables_are_read, end_inside, away}
 use Rattle.image_tables.specs.Entries as tables
 use Rattle.image_states.proofs.Addresses.{place, label_rises, label_inside}
 use Rattle.image_states.proofs.Entering.{arguments_same}
+use Rattle.match_bodies.specs.Callers.{owed_pops}
+use Rattle.match_bodies.specs.CodeSites.{body_plan, epilogue_through}
 use Rattle.image_states.proofs.EntryWalks.{none_found}
+use Rattle.image_states.proofs.Framed.{framed_of}
 use Rattle.image_states.proofs.Callers.{leaf_at, making_at, entered_at, argument_at, argument_found, making_is, return_found, end_found}
 
 -- ---- where no entry is
@@ -172,12 +175,14 @@ module _ (program : LinearProgram) (c : HasWholeImage program) where
           subst (λ a. FindsOwed (functions_of program) m a (owed_of (plan_of program) name)) e
           (return_found program c name b is m label from (at_label label from at) has
           x.routine.frame refl done left parts));
-      ends = λ m label from n has at some.
-          (let e : image_base + (template_at x label + sizes (fetch x.routine.layout Rax from)
-          + size (give_back x.routine.layout.frame))
+      ends = λ m label from popped left has at framed pushes.
+          (let f = framed_of x.routine.frame framed in
+          let plan = body_plan (plan_of program) (sites_of program) name in
+          let e : image_base + (template_at x label + sizes (fetch x.routine.layout Rax from)
+          + sizes (epilogue_through plan popped))
           ≡ address_of program name label + sizes (fetch x.routine.layout Rax from)
-          + size (give_back x.routine.layout.frame) = omega arith in
-          subst (λ a. FindsReturn (functions_of program) m a) e
-          (end_found program c name b is m label from (at_label label from at) has x.routine.frame
-          refl n some));
+          + sizes (epilogue_through plan popped) = omega arith in
+          subst (λ a. FindsOwed (functions_of program) m a (owed_pops plan left)) e
+          (end_found program c name b is m label from (at_label label from at) has f.0 f.1
+          plan.probe popped left pushes));
     }

@@ -15,11 +15,11 @@ use Rattle.match_bodies.specs.Setting.{InBody}
 use Rattle.match_stack.proofs.FrameWords.{told_above}
 use Rattle.match_bodies.proofs.Lemmas.{wide_of, word-is, is_word}
 use Rattle.x64_machine.specs.declared.cpu.Cpu.{Cpu}
-use Rattle.match_stack.proofs.AllocatedFrames.{allocations_are_told, told_allocations}
+use Rattle.match_stack.proofs.AllocatedFrames.{told_allocations}
 use Rattle.match_bodies.proofs.InstructionEffects.{others_of}
 use Rattle.match_bodies.proofs.StackTop.{leaf_layout}
 use Rattle.match_bodies.proofs.FrameCode.{HasAllocation, allocation_alone}
-use Rattle.match_bodies.proofs.OwedCallers.{rest_length, returns_alone, at_return}
+use Rattle.match_bodies.proofs.OwedCallers.{returns_alone, at_return}
 
 -- the caller's registers are small where all are
 pub small_others : (s : State) → IsWellFormed s → AllSmall (others_of s.cpu.registers)
@@ -81,22 +81,6 @@ module _ (setting : Setting) where
     -- its codes are one allocation
     pub allocation : p.leaf name ≡ false → HasAllocation t fs program p q name
     allocation e = allocation_alone t fs program p q name (framed_some e) (image.plans name b is e)
-
-    -- where the return address is there
-    pub framed_by_return : (m : Memory) (c : Context) (back : ℕ) → p.leaf name ≡ false
-        → length c.kept ≡ 9 → rsp c + (p.layout name).frame + 8 < 2 ^ 64
-        → word m (rsp c + (p.layout name).frame) ≡ Ok back
-        → IsFramed p m name c back (drop 1 c.kept)
-    framed_by_return m c back e kept room w =
-        let a = allocation e in
-        let zero_offset = a.no_offset in
-        record {
-          kept = kept;
-          eight = rest_length c.kept kept;
-          room = room;
-          is_told = allocations_are_told m c (p.entry name) a.offset (p.layout name).frame back
-              a.codes a.no_register (omega arith) kept room w;
-        }
 
     -- what its codes tell of is owed
     pub framed_owed : (m : Memory) (c : Context) (back : ℕ) (others : List ℕ) → p.leaf name ≡ false
@@ -199,21 +183,19 @@ module _ (setting : Setting) where
             omega arith in
             record { returns = ap (word s.memory) z ∙ h.returns; others_are = h.others }
 
-    pub has_frame : (s : State) (back : ℕ) (others : List ℕ)
-        → register s.cpu Rsp + (p.layout name).frame + 8 < 2 ^ 64 → TellsReturn s name back others
+    -- it is there where its codes are owed
+    pub frame_from : (s : State) (size back : ℕ) (others : List ℕ)
+        → IsOwed s.memory (context_of s.cpu) (owed_of p name) size back others
         → HasFrame s (p.leaf name) (frame_of p name back others)
-    has_frame s back others room r = by (p.leaf name) refl
+    frame_from s size back others o = by (p.leaf name) refl
       where
         by : (leaf : Bool) → p.leaf name ≡ leaf → HasFrame s leaf (frame_of p name back others)
-        by false e = subst (λ (os : List ℕ). IsAsTold s.memory (context_of s.cpu)
-            (frame_of p name back os)) r.others_are
-            (framed_by_return s.memory (context_of s.cpu) back e refl room r.returns).is_told
+        by false e = (owed_framed s.memory (context_of s.cpu) size back others e o).is_told
         by true e =
-            let none = leaf_layout t fs program p q name b e (image.laid_out name b is) in
-            let zero_frame = none.frame in
-            let z : register s.cpu Rsp ≡ register s.cpu Rsp + (p.layout name).frame =
-            omega arith in
-            record { returns = ap (word s.memory) z ∙ r.returns; others = r.others_are }
+            let i = (p.entry name).info in
+            let n = at_return s.memory (context_of s.cpu) size back others (subst (λ (leaf : Bool).
+            IsOwed s.memory (context_of s.cpu) (owed_by i leaf) size back others) e o) in
+            record { returns = n.returns; others = n.others_are }
 
     -- it is there in another memory that has its words, with the same nonvolatile registers
     pub frame_stays : (s u : State) (back : ℕ) (others : List ℕ)

@@ -10,11 +10,11 @@ use Rattle.eh_tables.specs.declared.code.UnwindOperation.TheVariants.{Allocate}
 use Rattle.template_code.specs.Jumps.{distance}
 use Rattle.frame_rules.specs.Bytes.{spell}
 use Rattle.frame_rules.specs.Codes.{are_allowed}
-use Rattle.frame_rules.specs.Plan.{FramePlan, allocation_then, allocating, instructions_of, operations_of, spelled_by, steps_of, turned}
+use Rattle.frame_rules.specs.Plan.{FramePlan, allocation_then, allocating, instructions_of, opening_then, operations_of, spelled_by, steps_of, turned}
 use Rattle.frame_rules.specs.Prologue.{bytes, items, codes_onto}
 use Rattle.frame_rules.proofs.Frames.{bytes-append}
 use Rattle.frame_layout.proofs.Sizes.{code_is}
-use Rattle.match_bodies.specs.CodeSites.{frame_plan, body_plan}
+use Rattle.match_bodies.specs.CodeSites.{frame_plan, body_plan, epilogue_through, give_back}
 use Rattle.match_bodies.specs.ProgramImages.{IsPlanned}
 use Rattle.match_bodies.proofs.Lemmas.{sizes_append}
 
@@ -88,6 +88,12 @@ plan_probed n begin check = by (not (n == 0))
       tt,
     )
     by false = tt
+
+-- nothing is popped
+pub through_opening : (n probe : ℕ) → 0 < n
+    → epilogue_through (frame_plan n probe) [] ≡ give_back n ∷ []
+through_opening n probe some = ap (λ none. opening_then (frame_plan n probe) none [])
+    (ne_eqb n 0 (λ z. (let e : n ≡ 0 = z in absurd (omega arith))))
 
 -- ---- its unwind codes
 

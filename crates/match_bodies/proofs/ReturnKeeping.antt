@@ -1,6 +1,6 @@
 -- A body returns: its result is fetched, its frame is given back, and the return is made; the
 -- shadow is kept.
-use Rattle.std.proofs.Common.{◌≡◌, ℕ, zero, suc, ◌+◌, ◌^◌, ◌<◌, Option, Some, None, true, Ok, List, [], ◌∷◌, length, refl, sym, ap, subst, ◌∙◌, arith, inl, length-append}
+use Rattle.std.proofs.Common.{◌≡◌, ℕ, zero, suc, ◌+◌, ◌^◌, ◌<◌, Bool, Option, Some, None, true, false, Ok, List, [], ◌∷◌, length, refl, sym, ap, subst, arith, inl, length-append}
 use Rattle.std.specs.Prelude.{slice_get}
 use Rattle.std.proofs.lemmas.List.{append-nil}
 use Rattle.match_bodies.specs.Words.{Memory, Rax, Rsp, Instr, State, register, with_rip, Slot, Local, Temporary, LinearBody, BodyName, body_of, Layout, size, sizes, fetch, fetch_local, local_at, epilogue, HasCode, StackItem, is_call, AllKeep, context_of, context_below, word, FindsReturn, FindsOwed, Owed, IsOwed, nothing_owed, owed_of, owed_by, Setting, return_code, give_back}
@@ -8,6 +8,9 @@ use Rattle.x64_instr.specs.declared.instruction.Instr.TheVariants as instrs
 use Rattle.linear_code.specs.declared.instruction.Instruction.TheVariants as instructions
 use Rattle.match_bodies.proofs.Lemmas.{code_split, Fine, near, keep_first}
 use Rattle.match_bodies.proofs.InstructionEffects.{others_of, rises}
+use Rattle.match_bodies.specs.CodeSites.{body_plan, epilogue_through}
+use Rattle.match_bodies.proofs.StackTop.{leaf_layout}
+use Rattle.match_bodies.proofs.FrameCode.{through_opening}
 use Rattle.match_bodies.proofs.BodyFrames.{codes_above, told_again, no_frame}
 use Rattle.match_bodies.proofs.OwedCallers.{returns_alone}
 use Rattle.match_bodies.proofs.SilentTurns.{program_kept}
@@ -89,6 +92,15 @@ module _ (setting : Setting) where
     tells = told_again setting name b is u.memory (context_of u.cpu) first.beneath.size top back
         others first.beneath.at first.beneath.owed
 
+    -- a body with a frame is no leaf function
+    has_frame : (n : ℕ) → y.frame ≡ suc n → p.leaf name ≡ false
+    has_frame n e = by (p.leaf name) refl
+      where
+        by : (leaf : Bool) → p.leaf name ≡ leaf → leaf ≡ false
+        by true is' = absurd (let none = (leaf_layout t fs program p q name b is'
+            (image.laid_out name b is)).frame in omega arith)
+        by false is' = refl
+
     epilogue_keeps : (n : ℕ) → y.frame ≡ n → StepsTo (length (epilogue n)) u w
         → HasCode u.memory u.cpu.rip (epilogue n) → AllKeep t fs (length (epilogue n)) u
     epilogue_keeps zero e r code =
@@ -112,11 +124,12 @@ module _ (setting : Setting) where
         let has' = program_kept t fs program p q u.memory v.memory
         (record { protection = st.protection; fixed = st.fixed }) first.has in
         let found : (m : Memory) → HasProgram setting m → FindsReturn t m next = λ m h.
-        (let f = (image.callers name b is).ends m label from n h at e in
-        let same : p.address name label + sizes fetching + size (give_back y.frame)
-        ≡ next = ap (λ k. p.address name label + sizes fetching + size (give_back k)) e
-        ∙ ap (λ k. k + size i) there_is in
-        subst (λ a. FindsReturn t m a) same f) in
+        (let f = (image.callers name b is).ends m label from [] [] h at (has_frame n e) refl in
+        let through = ap sizes (through_opening y.frame (body_plan p q name).probe (omega arith)) in
+        let same : size (give_back y.frame) ≡ size i = ap (λ k. size (give_back k)) e in
+        let to : p.address name label + sizes fetching
+        + sizes (epilogue_through (body_plan p q name) []) ≡ next = omega (arith, there_is) in
+        subst (λ a. FindsReturn t m a) to f) in
         let owes = subst (IsOwed u.memory (context_below next top (others_of u.cpu.registers))
         nothing_owed 0 back) tells.1
         (returns_alone u.memory (context_below next top (others_of u.cpu.registers)) back refl

@@ -6,8 +6,9 @@ use Rattle.x64_machine.specs.Contexts.{context_of}
 use Rattle.eh_tables.specs.declared.code.UnwindOperation.{UnwindOperation}
 use Rattle.eh_tables.specs.Infos.{Info}
 use Rattle.virtual_unwind.specs.Contexts.{get, rsp}
-use Rattle.frame_rules.specs.Codes.{are_allowed}
+use Rattle.frame_rules.specs.Codes.{are_allowed, pushed}
 use Rattle.frame_rules.specs.Frame as rules
+use Rattle.frame_rules.specs.Plan.{FramePlan}
 use Rattle.virtual_unwind.specs.CallerOf.{Functions, CallerFrame, run_by}
 use Rattle.virtual_unwind.specs.Undone.{operations}
 use Rattle.linear_machine.specs.Frames.{BodyName}
@@ -94,6 +95,10 @@ owed_after i d =
       offset = i.frame_offset;
       codes = operations (run_by d i.codes);
     }
+
+-- in an epilogue, the pushes of the registers that are still to be popped
+abbrev pub owed_pops : FramePlan → List ℕ → Owed
+owed_pops f left = record { register = f.frame; offset = f.distance; codes = pushed left }
 
 abbrev pub owed_of : ImagePlan → BodyName → Owed
 owed_of p name = owed_by (p.entry name).info (p.leaf name)

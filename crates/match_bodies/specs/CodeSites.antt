@@ -1,5 +1,5 @@
 -- Where the code of a program's parts begins, and what comes before a body.
-use Rattle.std.specs.Prelude.{ℕ, ◌+◌, Bool, true, false, List, [], ◌∷◌, ◌++◌, slice_get, Option, Some, None}
+use Rattle.std.specs.Prelude.{ℕ, ◌+◌, ◌==◌, Bool, true, false, List, [], ◌∷◌, ◌++◌, slice_get, Option, Some, None}
 use Rattle.seh_num.specs.declared.width.Width.TheVariants.{W32, W64}
 use Rattle.x64_instr.specs.declared.register.Reg.TheVariants.{Rax, Rcx, Rsp}
 use Rattle.x64_instr.specs.declared.operand.RegisterOrMemory.TheVariants as places
@@ -23,6 +23,7 @@ use Rattle.template_code.specs.Jumps.{distance}
 use Rattle.template_code.specs.Template.{Links, code_from}
 use Rattle.frame_rules.specs.Bytes.{prologue_code}
 use Rattle.frame_rules.specs.Plan.{FramePlan}
+use Rattle.frame_rules.specs.Plan as rules
 use Rattle.match_stack.specs.ImagePlan.{ImagePlan}
 
 -- the first bytes of functions, the thunks of the built-in functions and of `_local_unwind`, and
@@ -73,7 +74,12 @@ abbrev pub making_size : ImagePlan → Sites → BodyName → ℕ
 making_size p q name =
     sizes (frame_code (p.layout name).frame (begin_of p q name) q.check_stack (p.leaf name))
 
--- and given back
+-- what an epilogue has up to some of its pops
+abbrev pub epilogue_through : FramePlan → List ℕ → List Instr
+epilogue_through f popped =
+    rules.loads_then f.saves (rules.opening_then f (f.size == 0) (rules.pops_then popped []))
+
+-- RSP raised by so much
 abbrev pub give_back : ℕ → Instr
 give_back frame =
     instrs.Arithmetic arithmetic.Add W64 (places.Register Rsp) (operands.Immediate frame)

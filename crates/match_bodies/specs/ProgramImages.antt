@@ -1,5 +1,5 @@
 -- What an image has of a linear program: its code in memory, and what is known of its addresses.
-use Rattle.std.specs.Prelude.{◌≡◌, ◌≢◌, ℕ, suc, ◌+◌, ◌^◌, ◌<◌, ◌≤◌, Bool, true, false, List, [], ◌∷◌, ◌++◌, length, drop, slice_get, Some, None, Ok}
+use Rattle.std.specs.Prelude.{◌≡◌, ◌≢◌, ℕ, ◌+◌, ◌^◌, ◌<◌, ◌≤◌, Bool, true, false, List, [], ◌∷◌, ◌++◌, length, drop, slice_get, Some, None, Ok}
 use Rattle.host_layout.specs.declared.range.TheConstants.{IMAGE_BASE, IMAGE_RANGE_END, STACK_START, STACK_END}
 use Rattle.host_layout.specs.Ranges.{in_arena}
 use Rattle.host_layout.specs.declared.service.Service.{Service}
@@ -48,9 +48,9 @@ use Rattle.match_stack.specs.StackRecords.{IsData}
 use Rattle.seh_walk.specs.Walk.{filter_return, finally_return}
 use Rattle.frame_rules.specs.Bytes.{spell}
 use Rattle.frame_rules.specs.Plan as rules
-use Rattle.match_bodies.specs.CodeSites.{Sites, body_plan, links_of, begin_of, making_size, give_back, arguments_code, entry_code, code_of}
+use Rattle.match_bodies.specs.CodeSites.{Sites, body_plan, links_of, begin_of, making_size, epilogue_through, arguments_code, entry_code, code_of}
 use Rattle.match_bodies.specs.Layouts.{AreLaidOut}
-use Rattle.match_bodies.specs.Callers.{FindsReturn, FindsOwed, owed_after, owed_of}
+use Rattle.match_bodies.specs.Callers.{FindsReturn, FindsOwed, owed_after, owed_of, owed_pops}
 
 -- the service of a built-in function
 abbrev pub service_of : BuiltIn → Service
@@ -232,7 +232,7 @@ module _ (t : Functions) (fs : List Funclet) (program : LinearProgram) (p : Imag
 
   -- at a routine's first byte the return address is at RSP; while its frame is made the codes of
   -- the instructions that have been run are still to be undone, in it all codes; and once it is
-  -- given back the return address is at RSP again
+  -- given back the pushes of registers that are still to be popped
   pub record FindsCallers (name : BodyName) (b : LinearBody) : Type 0 where
     pub entries : (m : Memory) → (p.leaf name ≡ true → 0 < length b.code)
         → FindsReturn t m (begin_of p q name)
@@ -248,11 +248,12 @@ module _ (t : Functions) (fs : List Funclet) (program : LinearProgram) (p : Imag
         → fetch (p.layout name) Rax from ≡ done ++ left
         → FindsOwed t m (p.address name label + sizes done) (owed_of p name)
     pub ends :
-        (m : Memory) (label : ℕ) (from : Slot) (n : ℕ)
+        (m : Memory) (label : ℕ) (from : Slot) (popped left : List ℕ)
         → HasProgram m → slice_get b.code label ≡ Some (instructions.Return from)
-        → (p.layout name).frame ≡ suc n
-        → FindsReturn t m (p.address name label + sizes (fetch (p.layout name) Rax from)
-        + size (give_back (p.layout name).frame))
+        → p.leaf name ≡ false → (body_plan p q name).pushes ≡ popped ++ left
+        → FindsOwed t m (p.address name label + sizes (fetch (p.layout name) Rax from)
+        + sizes (epilogue_through (body_plan p q name) popped))
+        (owed_pops (body_plan p q name) left)
 
   -- so it is where no entry of the function table is: in thunks, in `__chkstk`, and at the host's
   -- services

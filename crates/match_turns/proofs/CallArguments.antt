@@ -191,12 +191,6 @@ module _ {setting : Setting} (at_call : AtCall setting) where
   abbrev pub back : ℕ
   back = return_at layout first there
 
-  -- with the first four arguments in registers
-  abbrev pub before : MachineView
-  before = with_four after_passing (numbers.slots (Temporary first))
-      (numbers.slots (Temporary (first + 1))) (numbers.slots (Temporary (first + 2)))
-      (numbers.slots (Temporary (first + 3)))
-
   -- the callee's view
   abbrev pub called : MachineView
   called = pushed (with_four after_passing (numbers.slots (Temporary first))

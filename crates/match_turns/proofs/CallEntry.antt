@@ -1,16 +1,17 @@
 -- A call of a function: the callee's first instruction begins, with its arguments in its first
 -- locals and what the stack held in the others.
-use Rattle.std.proofs.Common.{◌≡◌, ℕ, ◌+◌, ◌-◌, ◌*◌, ◌^◌, ◌<◌, ◌≤◌, Bool, true, false, Some, Ok, List, [], ◌∷◌, ◌++◌, length, refl, sym, ap, subst, ◌∙◌, arith, inl, inr, length-append, append_assoc}
+use Rattle.std.proofs.Common.{◌≡◌, ℕ, ◌+◌, ◌-◌, ◌*◌, ◌^◌, ◌<◌, ◌≤◌, Bool, true, false, Some, List, [], ◌∷◌, ◌++◌, length, refl, sym, ap, subst, ◌∙◌, arith, inl, inr, length-append, append_assoc}
 use Rattle.std.specs.Prelude.{nat_lt, slice_get, drop}
 use Rattle.std.proofs.lemmas.Bool.{cases_lt, lt-ltb}
 use Rattle.std.proofs.lemmas.Option.{slice_get_within}
 use Rattle.std.proofs.lemmas.List.{append-nil, length-drop, length-take}
-use Rattle.match_turns.specs.Words.{STACK_START, STACK_END, Memory, may_write, number_at, Protection, Rsp, Instr, State, register, distance, arrivals, Temporary, LinearBody, FunctionBody, body_of, Waits, Configuration, instruction_in, waiting, Layout, sizes, put_back, keep, temporary_at, IsNear, call, return_at, passing_code, parameters_code, passing_call_code, context_of, context_below, home_end, HoldsWords, return_of, ReturnsTo, On, AllKeep, Comes, function_arguments, FindsReturn, IsLayoutIf, turns_left, slots_end, KeepsStackBut, begun, LARGEST_FRAME, Setting, IsMachineMemory, IsResumed, RepresentsAt, arguments_code}
-use Rattle.virtual_unwind.specs.Undone.{word}
+use Rattle.match_turns.specs.Words.{STACK_START, STACK_END, Memory, may_write, number_at, Protection, Rsp, Instr, State, register, distance, arrivals, Temporary, LinearBody, FunctionBody, body_of, Waits, Configuration, instruction_in, waiting, Layout, sizes, put_back, keep, temporary_at, IsNear, call, return_at, passing_code, parameters_code, passing_call_code, context_below, home_end, HoldsWords, return_of, ReturnsTo, On, AllKeep, Comes, function_arguments, FindsReturn, IsLayoutIf, turns_left, slots_end, KeepsStackBut, begun, LARGEST_FRAME, Setting, IsMachineMemory, IsResumed, RepresentsAt, arguments_code}
 use Rattle.lowering_invariants.specs.SmallNumbers.{AreSmall}
 use Rattle.linear_code.specs.declared.instruction.Instruction.TheVariants as instructions
-use Rattle.match_turns.proofs.Lemmas.{sizes_append, call_size, same_number, pushed_back, comes_then, others_of, StepsTo, reaches_steps, enters_steps, AllPlain, plain_both, arguments_plain, passing_plain, parameters_plain, EntryRan, entry_ran, calls_keep, CalleeBegins, small_others as small_registers, told_again, reaches_silently, enters_silently, program_reaches, locals_count, KeepsImage, Keeps, keeps_then, enters_keeps, stays_well_formed, stack_is_reserved, room_here, slots_here, may_read_written, word_of}
+use Rattle.match_turns.proofs.Lemmas.{sizes_append, call_size, comes_then, others_of, StepsTo, reaches_steps, enters_steps, AllPlain, plain_both, arguments_plain, passing_plain, parameters_plain, EntryRan, entry_ran, calls_keep, CalleeBegins, small_others as small_registers, frame_from, reaches_silently, enters_silently, program_reaches, locals_count, KeepsImage, Keeps, keeps_then, enters_keeps, stays_well_formed, stack_is_reserved, room_here, slots_here, may_read_written, word_of}
+use Rattle.match_bodies.specs.Bodies.{HasFrame}
 use Rattle.match_bodies.specs.CodeSites as sites
+use Rattle.match_bodies.specs.ProgramImages.{frame_of}
 use Rattle.match_bodies.proofs.CallKeeping.{callee_begins as callee_entered}
 use Rattle.match_bodies.proofs.MemoryKeeping.{memory_stays}
 use Rattle.match_turns.proofs.ReturnAddressPlace.{top_of, begins_beneath}
@@ -243,12 +244,13 @@ module _ {setting : Setting} (at_call : AtCall setting) where
   entry_keeps : AllKeep t fs inside.turns at_callee
   entry_keeps = entry_run.keeps
 
-  -- the nonvolatile registers are those of the call
-  others_there : others_of after.cpu.registers ≡ others_of s.cpu.registers
-  others_there =
+  -- its frame is there, with the registers of the call
+  frame_there : HasFrame after (p.leaf (FunctionBody f))
+      (frame_of p (FunctionBody f) next (others_of s.cpu.registers))
+  frame_there =
       let e = entry_run.beneath in
-      (told_again setting (FunctionBody f) o there after.memory (context_of after.cpu) e.size
-      (caller - 8) next (others_of s.cpu.registers) e.at e.owed).1
+      frame_from setting (FunctionBody f) o there after e.size next (others_of s.cpu.registers)
+      e.owed
 
   pub comes : Comes t fs turns s [] after
   unfolding turns
@@ -395,34 +397,11 @@ module _ {setting : Setting} (at_call : AtCall setting) where
   abbrev pub back : ℕ
   back = awaiting.back at_call
 
-  back_same : calling.back at_call ≡ back
-  back_same = ap (λ x. return_at (p.layout c.frame.body) first
-      (x + sizes (passing_code (p.layout c.frame.body) first 4 (count - 4)))) b.rip
-
   returns_to : ReturnsTo t fs program p (Waits (waiting c first).frame ∷ c.below) back
   returns_to =
       ap (λ o. return_of (p.layout c.frame.body) (p.address c.frame.body c.frame.next)
       (instruction_in o c.frame.next)) b.body.slots.body
       ∙ ap (return_of (p.layout c.frame.body) (p.address c.frame.body c.frame.next)) at
-
-  returns : word after.memory (inside.sp + layout.frame) ≡ Ok back
-  returns =
-      let z = top in
-      let l = low in
-      let e = inside.place in
-      let n = awaiting.back_near at_call in
-      let h = n.1 in
-      let w : inside.sp + layout.frame ≡ caller - 8 = omega arith in
-      let same = back_same in
-      let pushed = (pushed_back (calling.before at_call) caller (calling.back at_call)
-      (calling.below_sp at_call) (omega arith)).number in
-      word_of after.memory (inside.sp + layout.frame) back (omega arith)
-      (λ x g h. may_read_written after.memory x (memory.stack x (omega arith) (omega arith)))
-      (ap (number_at after.memory.byte 8) w
-      ∙ same_number after.memory.byte (entering.called at_call).memory.byte 8 (caller - 8)
-      (omega arith)
-      (λ a g h. inside.same a (stack_is_reserved program.globals a (omega arith) (omega arith))
-      (inr (inr (inl (omega arith, omega arith))))) ∙ pushed ∙ same)
 
   -- ---- all of it
 
@@ -446,16 +425,13 @@ module _ {setting : Setting} (at_call : AtCall setting) where
       inside.rip some (record { space = omega arith; shallow = omega arith }) tt
       (λ leaf. subst (λ x. x + home_end ≤ STACK_END) (sym stack) (at_home (p.leaf (FunctionBody f))
       planned leaf))
-      back returns_to (subst (λ x. word after.memory (x + layout.frame) ≡ Ok back) (sym stack)
-      returns)
+      back returns_to (others_of s.cpu.registers) refl (small_registers s b.well_formed) frame_there
       (subst (λ x. HoldsWords after.memory (x + layout.locals)
       (x + slots_end layout (p.leaf (FunctionBody f))) (arguments ++ others)) (sym stack)
       numbers)
       waits.0 (subst (λ x. On t fs program p after.memory (context_below back x
-      (others_of after.cpu.registers)) waits.0 (Waits (waiting c first).frame ∷ c.below)
-      b.body.acts) (sym up) (subst (λ (os : List ℕ). On t fs program p after.memory
-      (context_below back caller os) waits.0 (Waits (waiting c first).frame ∷ c.below) b.body.acts)
-      (sym others_there) waits.1)) in
+      (others_of s.cpu.registers)) waits.0 (Waits (waiting c first).frame ∷ c.below) b.body.acts)
+      (sym up) waits.1) in
       subst (λ (xs : List (List ℕ)). RepresentsAt setting after
       (begun f (arguments ++ others) c.frame.held (Waits (waiting c first).frame ∷ c.below)
       c.store.memory xs c.events)) (sym b.body.store) begins

@@ -1,12 +1,12 @@
 -- A filter begins: it keeps the base and the address of its EXCEPTION_POINTERS, and its first
 -- instruction follows.
-use Rattle.std.proofs.Common.{◌≡◌, ℕ, ◌+◌, ◌%◌, ◌^◌, ◌<◌, ◌≤◌, false, Some, Ok, List, [], ◌∷◌, ◌++◌, length, refl, sym, ap, subst, ◌∙◌, arith, inl, length-append, drop}
+use Rattle.std.proofs.Common.{◌≡◌, ℕ, ◌+◌, ◌%◌, ◌^◌, ◌<◌, ◌≤◌, false, Some, Ok, List, [], ◌∷◌, ◌++◌, length, refl, sym, ap, subst, ◌∙◌, arith, inl, length-append}
 use Rattle.std.proofs.lemmas.List.{append-nil}
 use Rattle.std.specs.Prelude.{nat_lt, slice_get}
 use Rattle.std.proofs.lemmas.Option.{slice_get_within}
-use Rattle.match_turns.specs.Words.{STACK_START, STACK_END, number_at, Rcx, Rdx, Rsp, Instr, State, register, Functions, Funclet, Exception, Instruction, LinearProgram, LinearBody, LinearFunclet, BodyName, FuncletBody, body_of, funclet_body, Handler, Resumption, Item, Waits, Searches, Configuration, begin_filter, instruction_in, Layout, sizes, keep_register, MachineView, machine, HasCode, Enters, parent_of, owner_of, ImagePlan, by_parent, parent_body, Activation, locals_of, IsActivation, HasSpace, below_end, KeepsPointers, context_below, IsWellFormed, Arrives, AllKeep, LeadsTo, Sites, parent_base, keep_argument, IsProgramImage, IsKnown, entry_turns, FiltersBegin, Setting, setting_of, IsMachineMemory, RepresentsAt}
+use Rattle.match_turns.specs.Words.{STACK_START, STACK_END, number_at, Rcx, Rdx, Rsp, Instr, State, register, Functions, Funclet, Exception, Instruction, LinearProgram, LinearBody, LinearFunclet, BodyName, FuncletBody, body_of, funclet_body, Handler, Resumption, Item, Waits, Searches, Configuration, begin_filter, instruction_in, Layout, sizes, keep_register, MachineView, machine, HasCode, Enters, parent_of, owner_of, ImagePlan, by_parent, parent_body, Activation, locals_of, IsActivation, HasSpace, below_end, KeepsPointers, context_below, IsWellFormed, Arrives, LeadsTo, Sites, parent_base, keep_argument, IsProgramImage, IsKnown, entry_turns, FiltersBegin, Setting, setting_of, IsMachineMemory, RepresentsAt}
 use Rattle.virtual_unwind.specs.Undone.{word}
-use Rattle.match_turns.proofs.Lemmas.{stored_is_loaded, enters_then, same_number, Reached, kept_at, HasCell, pointers_kept, Within, within_then, within_cell, enters_silently, enters_steps, plain_both, kept_plain, locals_count, enters_keeps, stays_well_formed}
+use Rattle.match_turns.proofs.Lemmas.{others_of, EntryRan, frame_from, stored_is_loaded, enters_then, same_number, Reached, kept_at, HasCell, pointers_kept, Within, within_then, within_cell, enters_silently, enters_steps, plain_both, kept_plain, locals_count, enters_keeps, stays_well_formed}
 use Rattle.linear_code.specs.declared.program.FuncletKind.TheVariants as funclets
 use Rattle.match_turns.proofs.FuncletShadow.{base_code, arguments_are, base_is_plain, funclet_ran}
 use Rattle.match_turns.proofs.FuncletPrologue.{LeadsBy}
@@ -183,6 +183,38 @@ module _ (setting : Setting) where
         (omega arith) memory (e.sp + y.pointers) (e.sp + y.frame + 88) (omega arith) (omega arith)
         (cell_number e.after (e.sp + y.pointers) x (omega arith) x_small ∙ same)
 
+    -- all of it keeps the shadow
+    low_enough : STACK_START ≤ register s.cpu Rsp
+    low_enough = let lo = e.low in let z = e.sp_is in omega arith
+
+    high_enough : w.at ≤ STACK_END
+    high_enough = let hi = e.top in let z = e.sp_is in let n = w.stack in omega arith
+
+    abbrev base : List Instr
+    base = base_code setting s k handler.activation argument items acts l w c.store.memory memory
+        some low_enough high_enough (register s.cpu Rdx) a.reaches.base leads
+
+    entry_run : EntryRan t fs program p q image (FuncletBody k) f.body (ap funclet_body l.there)
+        some (register s.cpu Rsp) (register s.cpu Rsp + 8) w.back (others_of s.cpu.registers) w.is
+        (e.turns + 1) s u (base ++ last)
+    entry_run =
+        let small = l.plan.layout.small in
+        let whole = arguments_are setting s k handler.activation argument items acts l w
+        c.store.memory memory some low_enough high_enough (register s.cpu Rdx) a.reaches.base
+        leads in
+        let plain = base_is_plain setting s k handler.activation argument items acts l w
+        c.store.memory memory some low_enough high_enough (register s.cpu Rdx) a.reaches.base
+        leads in
+        let count : e.turns + 1 ≡ 1 + length (base ++ last) = omega
+        (arith, e.exact, length-append base last) in
+        let parts = whole ∙ ap (λ x. base ++ keep_argument y x) kind_is
+        ∙ sym (append-nil (base ++ last)) in
+        funclet_ran setting s k handler.activation argument items acts l w c.store.memory memory
+        some low_enough high_enough (register s.cpu Rdx) a.reaches.base leads (e.turns + 1) u
+        (base ++ last) [] parts count (enters_steps (e.turns + 1) s u run)
+        (plain_both y.frame 8 base last plain
+        (kept_plain y.frame 8 Rcx y.pointers (let g = fits in omega arith) (inl fits), tt))
+
     frame_here : HasFrame setting s u k argument handler.activation items acts l w
     frame_here = record {
       stack = subst (λ r. register s.cpu Rsp ≡ r + y.frame) (sym stack_here) e.sp_is;
@@ -196,7 +228,9 @@ module _ (setting : Setting) where
           (subst (λ d. IsActivation acts handler.activation a.reaches.base d (p.register a.name))
           (parent_locals setting k f f.parent a.name known.funclet.there parent owner)
           a.reaches.activation);
-      others = ap (λ (ks : List ℕ). drop 1 ks) e.registers;
+      frame = (let r = entry_run.beneath in
+          frame_from setting (FuncletBody k) f.body (ap funclet_body l.there) u r.size w.back
+          (others_of s.cpu.registers) r.owed);
       rip = rip_here;
       well_formed = well_formed_here;
     }
@@ -224,38 +258,13 @@ module _ (setting : Setting) where
         (subst (λ r. KeepsPointers t fs program p u.memory y r y.frame) (sym stack_here)
         (record { room = fits; kept = pointers_here }))
 
-    -- all of it keeps the shadow
-    keeps_shadow : AllKeep t fs (e.turns + 1) s
-    keeps_shadow =
-        let lo = e.low in
-        let hi = e.top in
-        let z = e.sp_is in
-        let n = w.stack in
-        let small = l.plan.layout.small in
-        let low' : STACK_START ≤ register s.cpu Rsp = omega arith in
-        let high' : w.at ≤ STACK_END = omega arith in
-        let base = base_code setting s k handler.activation argument items acts l w
-        c.store.memory memory some low' high' (register s.cpu Rdx) a.reaches.base leads in
-        let whole = arguments_are setting s k handler.activation argument items acts
-        l w c.store.memory memory some low' high' (register s.cpu Rdx) a.reaches.base leads in
-        let plain = base_is_plain setting s k handler.activation argument items acts
-        l w c.store.memory memory some low' high' (register s.cpu Rdx) a.reaches.base leads in
-        let count : e.turns + 1 ≡ 1 + length (base ++ last) = omega
-        (arith, e.exact, length-append base last) in
-        let parts = whole ∙ ap (λ x. base ++ keep_argument y x) kind_is
-        ∙ sym (append-nil (base ++ last)) in
-        (funclet_ran setting s k handler.activation argument items acts l w c.store.memory memory
-        some low' high' (register s.cpu Rdx) a.reaches.base leads (e.turns + 1) u (base ++ last) []
-        parts count (enters_steps (e.turns + 1) s u run) (plain_both y.frame 8 base last plain
-        (kept_plain y.frame 8 Rcx y.pointers (let g = fits in omega arith) (inl fits), tt))).keeps
-
     pub filter_leads : LeadsTo t fs entry_turns (RepresentsAt setting) s
         (begin_filter k handler rest exception resumption c)
     filter_leads = record {
       turns = e.turns + 1;
       few = (let z = e.few in omega arith);
       state = u;
-      comes = enters_silently t fs program p q image (e.turns + 1) s u run keeps_shadow memory.code
+      comes = enters_silently t fs program p q image (e.turns + 1) s u run entry_run.keeps memory.code
           (silent_there setting k l u rip_here some);
       is_there = represents_here;
     }

@@ -1,5 +1,5 @@
 -- A `__finally` block begins: base and flag are kept, and its first instruction follows.
-use Rattle.std.proofs.Common.{◌≡◌, ℕ, ◌+◌, ◌*◌, ◌^◌, ◌<◌, ◌≤◌, Bool, true, false, Some, None, List, [], ◌∷◌, ◌++◌, length, refl, sym, ap, subst, ◌∙◌, arith, inl, inr, append_assoc, drop}
+use Rattle.std.proofs.Common.{◌≡◌, ℕ, ◌+◌, ◌*◌, ◌^◌, ◌<◌, ◌≤◌, Bool, true, false, Some, None, List, [], ◌∷◌, ◌++◌, length, refl, sym, ap, subst, ◌∙◌, arith, inl, inr, append_assoc}
 use Rattle.std.specs.Prelude.{slice_get, slice_index, slice_set}
 use Rattle.std.proofs.lemmas.Option.{slice_get_within, slice_get_cases}
 use Rattle.std.proofs.lemmas.List.{append-nil}
@@ -7,7 +7,8 @@ use Rattle.match_turns.specs.Words.{kept_of, STACK_START, STACK_END, W32, low, E
 use Rattle.match_bodies.specs.CodeSites.{arguments_code}
 use Rattle.linear_code.specs.declared.program.FuncletKind.TheVariants as funclets
 use Rattle.linear_machine.specs.Frames as linear
-use Rattle.match_turns.proofs.Lemmas.{sizes_append, code_split, near, enters_then, flag_run, Within, straight, keep_first, others_of, program_kept, enters_silently, read_here, StepsTo, reaches_steps, enters_steps, keeps_split, Beneath, beneath_by, callers_above, Finds, ran, label_found, argument_found, frame_there, EntryRan, locals_count, activated, reaches_keeps, enters_keeps, stays_well_formed, SlotsPlaced, IsCounted, frame_top, room_here, holds_here, slots_here, locals_here, Leaves, Ran, frame_after, new_on, represents_next, set_length, local_after, gives_above, owed_with, frame_owed}
+use Rattle.match_bodies.specs.ProgramImages.{frame_of}
+use Rattle.match_turns.proofs.Lemmas.{frame_from, frame_with, sizes_append, code_split, near, enters_then, flag_run, Within, straight, keep_first, others_of, program_kept, enters_silently, read_here, StepsTo, reaches_steps, enters_steps, keeps_split, Beneath, beneath_by, callers_above, Finds, ran, label_found, argument_found, frame_there, EntryRan, locals_count, activated, reaches_keeps, enters_keeps, stays_well_formed, SlotsPlaced, IsCounted, frame_top, room_here, holds_here, slots_here, locals_here, Leaves, Ran, frame_after, new_on, represents_next, set_length, local_after, gives_above, owed_with, frame_owed}
 use Rattle.match_bodies.proofs.RoutineWalks.{Ran as MidRan}
 use Rattle.match_bodies.proofs.BodyFrames.{codes_above}
 use Rattle.match_bodies.proofs.BodyViews.{placed, count}
@@ -72,6 +73,39 @@ module _ (setting : Setting) where
     e = entered setting s k (of_test abnormal) activation items acts l a store.memory memory
         (length acts + held) space few leads
 
+    -- ---- each turn up to the one that keeps the base keeps the shadow
+
+    abbrev y1 : State
+    y1 = machine e.after e.rip e.flags
+
+    low_enough : STACK_START ≤ register s.cpu Rsp
+    low_enough = let lo = e.low in let z = e.sp_is in omega arith
+
+    high_enough : a.at ≤ STACK_END
+    high_enough = let hi = e.top in let z = e.sp_is in let n = a.stack in omega arith
+
+    abbrev base : List Instr
+    base = base_code setting s k activation (of_test abnormal) items acts l a store.memory memory
+        some low_enough high_enough (register s.cpu Rdx) a.reaches.base leads
+
+    abbrev arguments : List Instr
+    arguments = arguments_code program p (FuncletBody k)
+
+    parts : arguments ≡ base ++ keep_argument y f.kind
+    parts = arguments_are setting s k activation (of_test abnormal) items acts l a store.memory
+        memory some low_enough high_enough (register s.cpu Rdx) a.reaches.base leads
+
+    kept_base : EntryRan t fs program p q image (FuncletBody k) f.body
+        (ap funclet_body l.there) some (register s.cpu Rsp) (register s.cpu Rsp + 8) a.back
+        (others_of s.cpu.registers) a.is e.turns s y1 base
+    kept_base =
+        funclet_ran setting s k activation (of_test abnormal) items acts l a store.memory memory
+        some low_enough high_enough (register s.cpu Rdx) a.reaches.base leads e.turns y1 base
+        (keep_argument y f.kind) parts
+        (let n = e.exact in omega arith) (enters_steps e.turns s y1 e.comes)
+        (base_is_plain setting s k activation (of_test abnormal) items acts l a store.memory memory
+        some low_enough high_enough (register s.cpu Rdx) a.reaches.base leads)
+
     -- ---- the frame is before the flag is stored: as at the first instruction
 
     abbrev s1 : State
@@ -108,7 +142,11 @@ module _ (setting : Setting) where
           (subst (λ d. IsActivation acts activation a.reaches.base d (p.register a.name))
           (parent_locals setting k f f.parent a.name known.there parent owner)
           a.reaches.activation);
-      others = ap (λ (ks : List ℕ). drop 1 ks) e.registers;
+      frame = (let r = kept_base.beneath in
+          frame_with y1 s1.cpu (p.leaf (FuncletBody k))
+          (frame_of p (FuncletBody k) a.back (others_of s.cpu.registers)) refl
+          (frame_from setting (FuncletBody k) f.body (ap funclet_body l.there) y1 r.size a.back
+          (others_of s.cpu.registers) r.owed));
       rip = refl;
       well_formed = well_formed_1;
     }
@@ -299,38 +337,6 @@ module _ (setting : Setting) where
         (sym l.plan.layout.base) (omega arith)
 
     -- ---- each turn keeps the shadow
-
-    -- where the base is kept
-    abbrev y1 : State
-    y1 = machine e.after e.rip e.flags
-
-    low_enough : STACK_START ≤ register s.cpu Rsp
-    low_enough = let lo = e.low in let z = e.sp_is in omega arith
-
-    high_enough : a.at ≤ STACK_END
-    high_enough = let hi = e.top in let z = e.sp_is in let n = a.stack in omega arith
-
-    abbrev base : List Instr
-    base = base_code setting s k activation (of_test abnormal) items acts l a store.memory memory
-        some low_enough high_enough (register s.cpu Rdx) a.reaches.base leads
-
-    abbrev arguments : List Instr
-    arguments = arguments_code program p (FuncletBody k)
-
-    parts : arguments ≡ base ++ keep_argument y f.kind
-    parts = arguments_are setting s k activation (of_test abnormal) items acts l a store.memory
-        memory some low_enough high_enough (register s.cpu Rdx) a.reaches.base leads
-
-    kept_base : EntryRan t fs program p q image (FuncletBody k) f.body
-        (ap funclet_body l.there) some (register s.cpu Rsp) (register s.cpu Rsp + 8) a.back
-        (others_of s.cpu.registers) a.is e.turns s y1 base
-    kept_base =
-        funclet_ran setting s k activation (of_test abnormal) items acts l a store.memory memory
-        some low_enough high_enough (register s.cpu Rdx) a.reaches.base leads e.turns y1 base
-        (keep_argument y f.kind) parts
-        (let n = e.exact in omega arith) (enters_steps e.turns s y1 e.comes)
-        (base_is_plain setting s k activation (of_test abnormal) items acts l a store.memory memory
-        some low_enough high_enough (register s.cpu Rdx) a.reaches.base leads)
 
     -- the flag is in RAX, and the base in RCX
     abbrev slot : ℕ

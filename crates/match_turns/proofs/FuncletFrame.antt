@@ -6,7 +6,9 @@ use Rattle.std.specs.List.{AllByRecursion}
 use Rattle.std.proofs.lemmas.Bool.{cases_lt}
 use Rattle.match_turns.specs.Words.{STACK_START, STACK_END, Event, Protection, is_writable, Memory, may_write, number_at, Rcx, Rdx, Rsp, context_of, get, State, register, Functions, Funclet, Exception, is_reserved, Region, LinearProgram, LinearFunclet, BodyName, FuncletBody, body_of, funclet_body, Frame, Item, Store, Configuration, holds, regions_of, Layout, StackItem, context_below, ImagePlan, InCode, IsFunclet, Activation, locals_of, IsActivation, HasActivation, HoldsWords, HasSpace, below_end, HasPointers, FuncletIsAbove, BodyWaits, ReturnsTo, Reaches, KeepsStack, On, IsWellFormed, Arrives, IsFuncletPlan, slots_end, last_temporary, Setting, InBody, IsMachineMemory, RepresentsAt}
 use Rattle.virtual_unwind.specs.Undone.{word}
-use Rattle.match_turns.proofs.Lemmas.{others_of, has_frame, small_others, same_number, Within, kept_by_other_memories, word_is, word_of, may_read_written, stack_is_reserved, program_stays}
+use Rattle.match_bodies.specs.Bodies as bodies
+use Rattle.match_bodies.specs.ProgramImages.{frame_of}
+use Rattle.match_turns.proofs.Lemmas.{others_of, small_others, Within, kept_by_other_memories, word_of, may_read_written, stack_is_reserved, program_stays}
 
 pub same_regions : (rs : List Region) (label : ℕ)
     → AllByRecursion (λ (r : Region). holds label r ≡ holds label r) rs
@@ -84,15 +86,7 @@ module _ (setting : Setting) (m m' source : Memory) (lo hi : ℕ)
     no_more_code = no_more;
   }
 
-  -- a word above
-  pub word_stays : (at v : ℕ) → STACK_START ≤ at → hi ≤ at → at + 8 ≤ STACK_END → word m at ≡ Ok v
-      → word m' at ≡ Ok v
-  word_stays at v b l h e = word_of m' at v (omega arith)
-      (λ a x z. may_read_written m' a (stack_writable a (omega arith) (omega arith)))
-      (same_number m'.byte m.byte 8 at (omega arith) (λ a x z. w.byte a (inr (omega arith)))
-      ∙ word_is m at v e)
-
-  -- and one within
+  -- a word within
   pub word_within : (at v : ℕ) → lo ≤ at → at + 8 ≤ hi → number_at m'.byte 8 at ≡ v
       → word m' at ≡ Ok v
   word_within at v l h e = word_of m' at v (omega arith)
@@ -170,7 +164,8 @@ module _ (setting : Setting) where
         ≡ a.reaches.base
     pub distance : IsActivation acts activation a.reaches.base (p.layout (FuncletBody k)).locals
         (p.register (FuncletBody k))
-    pub others : others_of u.cpu.registers ≡ others_of s.cpu.registers
+    pub frame : bodies.HasFrame u (p.leaf (FuncletBody k))
+        (frame_of p (FuncletBody k) a.back (others_of s.cpu.registers))
     pub rip : u.cpu.rip ≡ p.address (FuncletBody k) 0
     pub well_formed : IsWellFormed u
 
@@ -233,16 +228,14 @@ module _ (setting : Setting) where
     at_is = let e = h.stack in let f = a.stack in omega arith
 
     pub list : On t fs program p u.memory (context_below a.back (sp + y.frame + 8)
-        (others_of u.cpu.registers)) a.is items acts
+        (others_of s.cpu.registers)) a.is items acts
     list =
         let e = high in
         let lo = h.low in
-        let above = context_below a.back (sp + y.frame + 8) (others_of u.cpu.registers) in
+        let above = context_below a.back (sp + y.frame + 8) (others_of s.cpu.registers) in
         let on : On t fs program p s.memory above a.is items acts =
-        subst (λ (os : List ℕ). On t fs program p s.memory (context_below a.back (sp + y.frame + 8)
-        os) a.is items acts) (sym h.others)
-        (subst (λ x. On t fs program p s.memory (context_below a.back x (others_of s.cpu.registers))
-        a.is items acts) at_is a.on) in
+        subst (λ x. On t fs program p s.memory (context_below a.back x (others_of s.cpu.registers))
+        a.is items acts) at_is a.on in
         record {
           is_there = kept_by_other_memories t fs program p s.memory u.memory above a.is items acts
               keeps (omega arith) on.is_there;
@@ -304,18 +297,10 @@ module _ (setting : Setting) where
       home = λ e. absurd (apart (sym e ∙ l.plan.framed));
       back = a.back;
       returns_to = a.returns_to;
-      others = others_of u.cpu.registers;
+      others = others_of s.cpu.registers;
       eight = refl;
-      small = small_others u h.well_formed;
-      frame = has_frame setting (FuncletBody k) l.funclet.body is u a.back
-          (others_of u.cpu.registers) (let e = high in omega arith)
-          (record {
-            returns = (let e = high in word_stays setting s.memory u.memory store.memory sp
-                (sp + y.frame) h.within h.low (omega arith) memory (sp + y.frame) a.back
-                (let z = h.low in omega arith) (omega arith) (omega arith)
-                (subst (λ x. word s.memory x ≡ Ok a.back) h.stack a.returns));
-            others_are = refl;
-          });
+      small = small_others s a.well_formed;
+      frame = h.frame;
       is = a.is;
       below = list;
     }

@@ -1,12 +1,12 @@
 -- A function begins: its frame is below its return address, and on top of what waits.
-use Rattle.std.proofs.Common.{◌≡◌, ℕ, suc, ◌+◌, ◌^◌, ◌<◌, ◌≤◌, Bool, true, false, Some, None, Ok, List, [], ◌∷◌, length, refl, arith}
+use Rattle.std.proofs.Common.{◌≡◌, ℕ, suc, ◌+◌, ◌<◌, ◌≤◌, Bool, true, false, Some, None, List, [], ◌∷◌, length, refl, arith}
 use Rattle.std.specs.List.{AllByRecursion}
-use Rattle.match_turns.specs.Words.{Event, STACK_END, Memory, Rsp, context_of, get, State, register, Functions, Funclet, no_exception, Region, LinearProgram, LinearBody, FunctionBody, body_of, Item, Waits, Searches, Unwinds, holds, regions_of, Layout, StackItem, context_below, ImagePlan, Activation, locals_of, HasSpace, below_end, HoldsWords, home_end, BodyWaits, HasPointers, ReturnsTo, FunctionIsAbove, On, IsWellFormed, Sites, IsLayoutIf, IsProgramImage, slots_end, last_temporary, begun, setting_of}
-use Rattle.virtual_unwind.specs.Undone.{word}
-use Rattle.match_bodies.specs.ProgramImages.{IsMachineMemory}
-use Rattle.match_bodies.specs.Bodies.{RepresentsAt}
+use Rattle.match_turns.specs.Words.{Event, STACK_END, Memory, Rsp, context_of, get, State, register, Functions, Funclet, no_exception, Region, LinearProgram, LinearBody, FunctionBody, body_of, Item, Waits, Searches, Unwinds, holds, regions_of, Layout, StackItem, context_below, ImagePlan, Activation, locals_of, HasSpace, below_end, HoldsWords, home_end, BodyWaits, HasPointers, ReturnsTo, FunctionIsAbove, On, IsWellFormed, Sites, IsLayoutIf, IsProgramImage, slots_end, last_temporary, begun}
+use Rattle.seh_records.specs.Laws.{AllSmall}
+use Rattle.match_bodies.specs.ProgramImages.{frame_of, IsMachineMemory}
+use Rattle.match_bodies.specs.Bodies.{HasFrame, RepresentsAt}
 use Rattle.match_bodies.proofs.FramePlaces.{places_of_words}
-use Rattle.match_turns.proofs.Lemmas.{others_of, has_frame, small_others, in_stack, locals_count}
+use Rattle.match_turns.proofs.Lemmas.{locals_count}
 use Rattle.match_turns.proofs.CallResult.{nothing}
 
 pub same_itself : (rs : List Region) (label : ℕ)
@@ -34,25 +34,20 @@ module _ (t : Functions) (fs : List Funclet) (program : LinearProgram) (p : Imag
       (space : HasSpace (register z.cpu Rsp) below_end (suc (length acts) + held))
       (function : FunctionIsAbove t fs program p items)
       (home : p.leaf (FunctionBody f) ≡ true → register z.cpu Rsp + home_end ≤ STACK_END)
-      (back : ℕ) (returns_to : ReturnsTo t fs program p items back)
-      (returns : word z.memory (register z.cpu Rsp + (p.layout (FunctionBody f)).frame) ≡ Ok back)
+      (back : ℕ) (returns_to : ReturnsTo t fs program p items back) (others : List ℕ)
+      (eight : length others ≡ 8) (small : AllSmall others)
+      (frame : HasFrame z (p.leaf (FunctionBody f)) (frame_of p (FunctionBody f) back others))
       (numbers : HoldsWords z.memory (register z.cpu Rsp + (p.layout (FunctionBody f)).locals)
       (register z.cpu Rsp + slots_end (p.layout (FunctionBody f)) (p.leaf (FunctionBody f)))
       values)
       (is : List StackItem)
       (below : On t fs program p z.memory (context_below back
-      (register z.cpu Rsp + (p.layout (FunctionBody f)).frame + 8) (others_of z.cpu.registers)) is
-      items acts) where
+      (register z.cpu Rsp + (p.layout (FunctionBody f)).frame + 8) others) is items acts) where
     abbrev y : Layout
     y = p.layout (FunctionBody f)
 
     abbrev sp : ℕ
     sp = register z.cpu Rsp
-
-    in_memory : sp + y.frame + 8 < 2 ^ 64
-    in_memory = let h = in_stack t fs program p z.memory (context_below back (sp + y.frame + 8)
-        (others_of z.cpu.registers)) is items acts below.is_there.stack below.is_there.linked in
-        omega arith
 
     abbrev own : Activation
     own = record {
@@ -126,11 +121,10 @@ module _ (t : Functions) (fs : List Funclet) (program : LinearProgram) (p : Imag
         home = home;
         back = back;
         returns_to = returns_to;
-        others = others_of z.cpu.registers;
-        eight = refl;
-        small = small_others z well_formed;
-        frame = has_frame (setting_of t fs program p q image) (FunctionBody f) o there z back
-            (others_of z.cpu.registers) in_memory (record { returns = returns; others_are = refl });
+        others = others;
+        eight = eight;
+        small = small;
+        frame = frame;
         is = is;
         below = below;
       };
