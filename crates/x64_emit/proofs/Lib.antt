@@ -1,5 +1,6 @@
 mod Lemmas
 pub mod Rooms
+pub mod TemplateSizes
 pub mod Nearby
 pub mod CheckStack
 pub mod StackWords

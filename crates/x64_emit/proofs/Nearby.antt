@@ -3,7 +3,7 @@ use Rattle.std.proofs.Common.{◌≡◌, ℕ, zero, suc, ◌+◌, ◌-◌, ◌*�
 use Rattle.std.specs.Prelude.{OnOk}
 use Rattle.std.specs.List.{AllByRecursion}
 use Rattle.std.proofs.lemmas.Grind.{flat_map-append}
-use Rattle.x64_emit.specs.Words.{W32, W64, Instr, chosen, is_signed, spelled, sizes, temporary_at, fetched, fetch, distance, compare_zero, test_code, keep_register, arguments_code, passing_code, parameter_code, parameters_code, Links, template, template_size, body_size, code_from, IsInstructionNear, IsNear, instruction_room, code_room, label_list, Instruction, Layout, Slot, Local, Rax, Rsp}
+use Rattle.x64_emit.specs.Words.{W32, W64, Instr, chosen, is_signed, spelled, sizes, temporary_at, fetched, fetch, distance, compare_zero, test_code, keep_register, arguments_code, passing_code, parameter_code, parameters_code, Links, template, template_size, body_size, code_from, IsInstructionNear, IsNear, instruction_room, code_room, slot_room, label_list, Instruction, Layout, Slot, Local, Temporary, Rax, Rsp}
 use Rattle.x64_emit.proofs.Rooms.{template_in_room}
 use Rattle.linear_code.specs.declared.instruction.Instruction.TheVariants as instructions
 use Rattle.c_operations.specs.declared.operation.Operation.TheVariants as operations
@@ -160,17 +160,36 @@ grown_to k y at i old new e = let l = ap length e in let t = template_sizes k y 
       sizes_spelled (template k y at i),
     )
 
--- the template of one instruction, put alone
-pub one_template : (k : Links) (y : Layout) (body : List Instruction) (i at : ℕ)
-    (old new : List ℕ) → AllByRecursion (IsInstructionNear y) body → i < length body
-    → IsNear (at + code_room (drop i body)) → old ≡ []
-    → new ≡ old ++ spelled (template k y 0 (get_or body i some_instruction))
-    → IsNear (at + length new)
-one_template k y body i at old new near lt room none e =
+-- the addresses after an instruction are near
+pub after_one : (y : Layout) (body : List Instruction) (i at : ℕ)
+    → AllByRecursion (IsInstructionNear y) body → i < length body
+    → IsNear (at + code_room (drop i body))
+    → IsNear (at + template_size y (get_or body i some_instruction))
+after_one y body i at near lt room =
     let x = get_or body i some_instruction in
     let small = instruction_in_room y x
     (all_at (IsInstructionNear y) body i some_instruction near lt) in
     let next = code_room_next i body some_instruction lt in
-    let g = grown_to k y 0 x old new e in
-    let z = ap length none in
     omega arith
+
+slot_room_small : (x : Slot) → slot_room x ≤ 16
+slot_room_small (Local i) = omega arith
+slot_room_small (Temporary i) = omega arith
+
+-- no template takes more bytes than this
+pub room_small : (i : Instruction) → instruction_room i ≤ 109
+room_small (instructions.Compute to o first second) =
+    let a = slot_room_small to in
+    let b = slot_room_small first in
+    let c = slot_room_small second in
+    omega arith
+room_small (instructions.Information to field) = let a = slot_room_small to in omega arith
+room_small (instructions.Landing to) = let a = slot_room_small to in omega arith
+room_small (instructions.Jump label) = omega arith
+room_small (instructions.JumpIfZero slot label) = let a = slot_room_small slot in omega arith
+room_small (instructions.Call function first count) = omega arith
+room_small (instructions.CallBuiltIn function first) = omega arith
+room_small (instructions.CallFinally funclet) = omega arith
+room_small (instructions.LocalUnwind label) = omega arith
+room_small instructions.Separator = omega arith
+room_small (instructions.Return from) = let a = slot_room_small from in omega arith

@@ -141,7 +141,7 @@ pure_size (pures.ShiftRight Unsigned Long) = omega arith
 pure_size (pures.ShiftRight Signed Int) = omega arith
 pure_size (pures.ShiftRight Signed Long) = omega arith
 
-operation_size : (o : Operation) → sizes (before o) + sizes (work o) ≤ 11
+pub operation_size : (o : Operation) → sizes (before o) + sizes (work o) ≤ 11
 unfolding size modrm opcode_register
 operation_size (operations.Pure p) = let e = pure_size p in omega arith
 operation_size (operations.Divide Unsigned Int) = omega arith

@@ -23,13 +23,13 @@ use x64_instr::operand::{Base, MemRef, Operand, RegisterOrMemory};
 use x64_instr::register::Reg;
 
 /// The bytes of a jump or a call with a displacement.
-const JUMP_SIZE: u64 = 5;
+pub(crate) const JUMP_SIZE: u64 = 5;
 
 /// The bytes of a move of a number of 32 bits to a register.
-const MOVE_SIZE: u64 = 5;
+pub(crate) const MOVE_SIZE: u64 = 5;
 
 /// The bytes of a conditional jump with a displacement of 32 bits.
-const JUMP_IF_SIZE: u64 = 6;
+pub(crate) const JUMP_IF_SIZE: u64 = 6;
 
 /// The distance of an address from the next instruction.
 pub fn distance(next: u64, to: u64) -> u64

@@ -11,9 +11,12 @@
 pub mod body;
 pub mod calls;
 pub mod entry;
+mod immediates;
 pub mod links;
+mod operation_bytes;
 pub mod operations;
 pub mod put;
+mod sizes;
 pub mod slots;
 pub mod stack_words;
 pub mod template;

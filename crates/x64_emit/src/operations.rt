@@ -6,6 +6,7 @@ ghost use Rattle.x64_encode.specs.Chosen.{is_wide, IsEncodable};
 ghost use Rattle.template_code.specs.Operations as spec;
 ghost use Rattle.x64_emit.specs.Appending.{Appended};
 
+use crate::immediates::put_constant;
 use crate::put::{RAX, RCX, above, arithmetic, copy, put, set};
 use c_operations::operation::{Operation, Pure, Relation, Signedness, Size};
 use seh_num::width::Width;
@@ -192,12 +193,19 @@ fn right(signedness: Signedness) -> Direction
     }
 }
 
+/// Adds a move of a number to RAX.
+fn put_number(code: &mut Vec<u8>, value: u64) -> Result<(), AllocError>
+    ensures { OnOk result (Appended code.old (spec.pure_code (Pure.Constant value)) code.new) }
+{
+    put_constant(code, value)
+}
+
 /// Adds an operation without faults.
 fn put_pure(code: &mut Vec<u8>, operation: Pure) -> Result<(), AllocError>
     ensures { OnOk result (Appended code.old (spec.pure_code operation) code.new) }
 {
     match operation {
-        Pure::Constant(value) => put(code, &set(Width::W64, Reg::Rax, value)),
+        Pure::Constant(value) => put_number(code, value),
         Pure::First => Ok(()),
         Pure::Extend {
             signedness,

@@ -6,11 +6,12 @@ ghost use Rattle.template_code.specs.Operations.{above, move};
 ghost use Rattle.x64_emit.specs.Appending.{Appended};
 ghost use Rattle.template_code.specs.Slots as slots;
 
+use crate::immediates::put_displaced;
 use arrayvec::ArrayVec;
 use seh_num::width::Width;
 use std::alloc::AllocError;
 use x64_encode::encoding::encode;
-use x64_instr::instruction::{Instr, Operation};
+use x64_instr::instruction::{Instr, Operation, Target};
 use x64_instr::operand::{Base, MemRef, Operand, RegisterOrMemory};
 use x64_instr::register::Reg;
 
@@ -18,14 +19,32 @@ pub const RAX: RegisterOrMemory = RegisterOrMemory::Register(Reg::Rax);
 
 pub const RCX: RegisterOrMemory = RegisterOrMemory::Register(Reg::Rcx);
 
-/// Adds the bytes of an instruction.
-pub fn put(code: &mut Vec<u8>, instr: &Instr) -> Result<(), AllocError>
+/// The opcode of a call with a displacement.
+const CALL: u8 = 0xE8;
+
+/// The opcode of a jump with a displacement.
+const JUMP: u8 = 0xE9;
+
+/// Adds the bytes of an instruction, chosen by crate x64_encode.
+fn put_chosen(code: &mut Vec<u8>, instr: &Instr) -> Result<(), AllocError>
     requires { IsEncodable instr.now }
     ensures { OnOk result (Appended code.old (instr.now ∷ []) code.new) }
 {
     let mut bytes = ArrayVec::new();
     encode(instr, &mut bytes);
     code.extend_from_slice(bytes.as_slice())
+}
+
+/// Adds the bytes of an instruction.
+pub fn put(code: &mut Vec<u8>, instr: &Instr) -> Result<(), AllocError>
+    requires { IsEncodable instr.now }
+    ensures { OnOk result (Appended code.old (instr.now ∷ []) code.new) }
+{
+    match *instr {
+        Instr::Call(Target::Relative(displacement)) => put_displaced(code, CALL, displacement),
+        Instr::Jump(Target::Relative(displacement)) => put_displaced(code, JUMP, displacement),
+        _ => put_chosen(code, instr),
+    }
 }
 
 /// The place so far above the address in a register.

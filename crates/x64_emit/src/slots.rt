@@ -1,10 +1,12 @@
 //! Slots, fetched and kept.
 
-ghost use Rattle.std.specs.Prelude.{OnOk};
+ghost use Rattle.std.specs.Prelude.{◌++◌, OnOk};
 ghost use Rattle.x64_emit.specs.Near.{IsSlotNear};
 ghost use Rattle.x64_emit.specs.Appending.{Appended};
+ghost use Rattle.template_code.specs.Operations.{before, work};
 ghost use Rattle.template_code.specs.Slots as spec;
 
+use crate::operation_bytes::operation_bytes;
 use crate::operations::{put_before, put_work};
 use crate::put::{load, put, store};
 use crate::stack_words::{put_load, put_store};
@@ -55,6 +57,19 @@ pub fn put_keep(code: &mut Vec<u8>, layout: &Layout, slot: Slot) -> Result<(), A
     }
 }
 
+/// Adds an operation: its operands are in RAX and RCX, and RAX takes the result.
+fn put_operation(code: &mut Vec<u8>, operation: Operation) -> Result<(), AllocError>
+    ensures { OnOk result (Appended code.old (before operation ++ work operation) code.new) }
+{
+    match operation_bytes(operation) {
+        Some(bytes) => code.extend_from_slice(bytes),
+        None => {
+            put_before(code, operation)?;
+            put_work(code, operation)
+        }
+    }
+}
+
 /// Adds an operation on two slots, whose result goes to a slot.
 pub fn put_compute(
     code: &mut Vec<u8>,
@@ -72,7 +87,6 @@ pub fn put_compute(
 {
     put_fetch(code, layout, Reg::Rax, first)?;
     put_fetch(code, layout, Reg::Rcx, second)?;
-    put_before(code, operation)?;
-    put_work(code, operation)?;
+    put_operation(code, operation)?;
     put_keep(code, layout, to)
 }

@@ -12,4 +12,5 @@ returns g c =
     says_of code c.args.tables.now c.args.index c.range-range.result c.args.info.now
     (record { begin = c.range-range.result.begin; fault = c.in_ok-fault.fault }) c.requires.whole
     c.requires.within c.range-range.ensures c.requires.own
-    (omega (arith, c.range-range.type_inv.1.1.1.0.1)) refl c.in_ok-fault.ensures.fault c.in_ok-fault.ensures.near
+    (omega (arith, c.range-range.type_inv.1.1.1.0.1))
+    refl c.in_ok-fault.ensures.fault c.in_ok-fault.ensures.near

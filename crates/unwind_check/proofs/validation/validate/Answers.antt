@@ -49,8 +49,8 @@ loop-index-preserved g c =
       most = omega (arith, lt);
       kept = one_more code (entries_of t) k is.entry is.place c.loop-index.invariant.kept (record {
         rules = subst (AreFaults (entry_in code is.entry)) c.in-None.is is.says.faults;
-        near = subst (λ (o : Option Fault). IfNone o (is.entry.info.frame_offset < 2 ^ 8)) c.in-None.is
-            is.says.near;
+        near = subst (λ (o : Option Fault). IfNone o (is.entry.info.frame_offset < 2 ^ 8))
+            c.in-None.is is.says.near;
       });
     }
 

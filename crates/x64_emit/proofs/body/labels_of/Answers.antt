@@ -1,47 +1,30 @@
-use Rattle.std.proofs.Common.{◌≡◌, ℕ, ◌+◌, ◌∷◌, length, get_or, drop, ap, ◌∙◌, arith}
-use Rattle.x64_emit.specs.Words.{template_size, label_list, links_of, IsInstructionNear}
-use Rattle.x64_emit.proofs.Nearby.{some_instruction, all_at, instruction_in_room, code_room_next, grown_to, one_template, labels_next, size_next, label_added}
+use Rattle.std.proofs.Common.{◌≡◌, ℕ, ◌+◌, ◌∷◌, get_or, drop, ap, ◌∙◌, arith}
+use Rattle.x64_emit.specs.Words.{template_size, label_list, IsInstructionNear}
+use Rattle.x64_emit.proofs.Nearby.{some_instruction, all_at, instruction_in_room, code_room_next, after_one, labels_next, size_next, label_added}
 use Rattle.x64_emit.proofs.body.labels_of.Goals as goal
-
-pub overflow_cast-at : goal.overflow_cast-at
-overflow_cast-at c =
-    let near = one_template (links_of c.new-links.result) c.args.layout.now c.args.body.now
-    c.loop-instruction.instruction-index c.loop-instruction.at c.clear.new.self.items
-    c.put_instruction.new.code.items c.requires.near c.loop-instruction-test.true
-    c.loop-instruction.invariant.room c.clear.ensures.items c.in_ok-put_instruction.ensures in
-    let a = c.len.ensures in
-    let b = c.put_instruction.new.code.ok in
-    omega arith
 
 pub overflow_add-at : goal.overflow_add-at
 overflow_add-at c =
-    let near = one_template (links_of c.new-links.result) c.args.layout.now c.args.body.now
-    c.loop-instruction.instruction-index c.loop-instruction.at c.clear.new.self.items
-    c.put_instruction.new.code.items c.requires.near c.loop-instruction-test.true
-    c.loop-instruction.invariant.room c.clear.ensures.items c.in_ok-put_instruction.ensures in
-    let a = c.len.ensures in
-    let b = c.put_instruction.new.code.ok in
+    let near = after_one c.args.layout.now c.args.body.now c.loop-instruction.instruction-index
+    c.loop-instruction.at c.requires.near c.loop-instruction-test.true
+    c.loop-instruction.invariant.room in
+    let a = c.in_ok-size.ensures in
     omega arith
 
 pub loop-instruction-preserved : goal.loop-instruction-preserved
 loop-instruction-preserved c =
     let y = c.args.layout.now in
-    let k = links_of c.new-links.result in
     let body = c.args.body.now in
     let i = c.loop-instruction.instruction-index in
     let at = c.loop-instruction.at in
     let x = get_or body i some_instruction in
     let lt = c.loop-instruction-test.true in
-    let old = c.clear.new.self.items in
-    let new = c.put_instruction.new.code.items in
     let near = all_at (IsInstructionNear y) body i some_instruction c.requires.near lt in
     let small = instruction_in_room y x near in
     let next = code_room_next i body some_instruction lt in
-    let g = grown_to k y 0 x old new c.in_ok-put_instruction.ensures in
-    let none = ap length c.clear.ensures.items in
-    let more = c.len.result in
-    let there : at + template_size y x ≡ at + more =
-    (let a = c.len.ensures in let b = c.put_instruction.new.code.ok in omega arith) in
+    let more = c.in_ok-size.size in
+    let a = c.in_ok-size.ensures in
+    let there : at + template_size y x ≡ at + more = omega arith in
     let inv = c.loop-instruction.invariant in
     let room = inv.room in
     let end = inv.end in
