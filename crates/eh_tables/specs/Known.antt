@@ -10,8 +10,7 @@ use Rattle.eh_tables.specs.declared.refusal.TableErr.TheVariants as refusals
 use Rattle.seh_num.specs.Answers.{unless, ◌>>=◌}
 use Rattle.eh_tables.specs.Answer.{Table}
 use Rattle.eh_tables.specs.Codes as slots
-use Rattle.eh_tables.specs.Infos.{Info, is_framed, slots_of}
-use Rattle.eh_tables.specs.Scopes as scopes
+use Rattle.eh_tables.specs.Infos.{Info, info_of, is_c, is_framed, slots_of, stored_info, stored_scope_records}
 use Rattle.eh_tables.specs.Tables.{parents}
 
 -- ---- the checks in parts
@@ -21,11 +20,17 @@ abbrev pub only : {A : Type 0} → Table A → Table Unit
 only (Ok x) = Ok tt
 only (Err e) = Err e
 
--- codes and scope records
-abbrev pub contents_checked : Image → ℕ → List ℕ → List ℕ → Table Unit
-contents_checked image index bytes rows = do
-  _ ← slots.checked index (is_framed bytes) 0 255 0 (slots_of bytes)
-  scopes.checked index image.size 0 (scopes.scope_records_in rows)
+-- the codes of an info
+abbrev pub codes_checked : ℕ → List ℕ → Table Unit
+codes_checked index bytes = slots.checked index (is_framed bytes) 0 255 0 (slots_of bytes)
+
+-- an info of which all but the scope records is checked
+unfoldable pub info_before_records : Image → ℕ → ℕ → Table Info
+info_before_records image index rva = do
+  bytes ← stored_info image index rva
+  rows ← stored_scope_records image rva bytes
+  _ ← codes_checked index bytes
+  Ok (info_of bytes (is_c image bytes) rows)
 
 -- the range of an entry, after one that ends there
 abbrev pub range_checked : ℕ → ℕ → RuntimeFunction → Table Unit

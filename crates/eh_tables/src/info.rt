@@ -4,6 +4,8 @@ ghost use Rattle.std.specs.Prelude.{◌≡◌, ◌≤◌, ◌+◌, ◌*◌, ◌<
 ghost use Rattle.eh_tables.specs.declared.layout.TheConstants.{UNW_FLAG_CHAININFO};
 ghost use Rattle.eh_tables.specs.Infos as spec;
 ghost use Rattle.eh_tables.specs.Known as known;
+ghost use Rattle.eh_tables.specs.Records as records;
+ghost use Rattle.eh_tables.specs.Scopes as scopes;
 
 use crate::codes::{Codes, check_codes};
 use crate::handler::is_c_handler;
@@ -128,11 +130,20 @@ impl<'a> Info<'a> {
         self.has_c_handler
     }
 
+    /// Where the records of its scope table lie, relative to the image base, if it lies at an
+    /// address itself.
+    pub fn scope_records_rva(&self, rva: u32) -> u64
+        ensures value { result ≡ records.scope_records_rva rva self.now }
+        ensures fits { result < 2 ^ 33 }
+    {
+        rva as u64 + (slots_end(self.bytes) + HANDLER_SIZE + SCOPE_COUNT_SIZE) as u64
+    }
+
     /// The records of its scope table, in their order; none where its handler isn't the C handler.
     #[tactic(auto, using(crate::proofs::Rows::row_count))]
     pub fn scopes(&self) -> Scopes<'a>
         ensures value { result ≡ self.now.scopes }
-        ensures fits { length result < 2 ^ 60 }
+        ensures fits { length result < 2 ^ 59 }
     {
         Scopes::new(self.rows)
     }
@@ -198,22 +209,25 @@ fn stored_scope_records<'a>(
 ) -> Result<&'a [u8], TableErr>
     requires parts { spec.HasParts bytes.now }
     requires handler { has_c_handler ≡ spec.is_c image.now bytes.now }
-    ensures { spec.shown result ≡ spec.stored_scope_records image.now rva bytes.now }
+    ensures answer { spec.shown result ≡ spec.stored_scope_records image.now rva bytes.now }
+    ensures placed { IfOk result (λ rows. records.AreAt image.now
+        (rva + spec.slots_end bytes.now + (HANDLER_SIZE + SCOPE_COUNT_SIZE))
+        (scopes.scope_records_in rows.now)) }
 {
     if !has_c_handler {
         return Ok(&[]);
     }
-    let refusal = TableErr::Truncated { rva: rva as u64 };
+    let stored = image.bytes_from(rva as u64);
     let at = slots_end(bytes) + HANDLER_SIZE;
     let rows = at + SCOPE_COUNT_SIZE;
-    let Some(counted) = image.bytes(rva as u64, rows as u64) else {
-        return Err(refusal);
-    };
-    let end = rows as u64 + SCOPE_RECORD_SIZE as u64 * u32_at(counted, at) as u64;
-    let Some(all) = image.bytes(rva as u64, end) else {
-        return Err(refusal);
-    };
-    Ok(&all[rows..])
+    if stored.len() < rows {
+        return Err(TableErr::Truncated { rva: rva as u64 });
+    }
+    let end = rows + SCOPE_RECORD_SIZE * u32_at(stored, at) as usize;
+    if stored.len() < end {
+        return Err(TableErr::Truncated { rva: rva as u64 });
+    }
+    Ok(&stored[rows..end])
 }
 
 /// Whether the handler of an info is the C handler.
@@ -225,18 +239,11 @@ fn is_c(image: &ImageView<'_>, bytes: &[u8]) -> bool
     0 < flags && flags < UNW_FLAG_CHAININFO && is_c_handler(image, u32_at(bytes, slots_end(bytes)))
 }
 
-/// Checks the codes and the scope records of an info, unless they are known to pass.
-fn check_info(
-    image: &ImageView<'_>,
-    index: u64,
-    bytes: &[u8],
-    rows: &[u8],
-    is_known: bool,
-) -> Result<(), TableErr>
+/// Checks the codes of an info, unless they are known to pass.
+fn check_own_codes(index: u64, bytes: &[u8], is_known: bool) -> Result<(), TableErr>
     requires parts { spec.HasParts bytes.now }
-    requires known { is_known ≡ true
-        → IsOk (known.contents_checked image.now index bytes.now rows.now) }
-    ensures { result ≡ known.contents_checked image.now index bytes.now rows.now }
+    requires known { is_known ≡ true → IsOk (known.codes_checked index bytes.now) }
+    ensures { result ≡ known.codes_checked index bytes.now }
 {
     if is_known {
         return Ok(());
@@ -245,13 +252,53 @@ fn check_info(
         index,
         bytes[FRAME_REGISTER_AND_OFFSET] % 16 != 0,
         slots_of(bytes),
-    )?;
-    check_scope_records(index, image.size(), rows)
+    )
+}
+
+/// Reads the unwind info at an address, for the entry of an index, without a check of its scope
+/// records. Where it `is_known` that it can be read, its codes aren't checked again.
+#[tactic(auto, unfolding(crate::specs::Known::info_before_records))]
+pub fn read_before_records<'a>(
+    image: &ImageView<'a>,
+    index: u64,
+    rva: u32,
+    is_known: bool,
+) -> Result<Info<'a>, TableErr>
+    requires { is_known ≡ true → IsOk (known.info_before_records image.now index rva) }
+    ensures answer { result ≡ known.info_before_records image.now index rva }
+    ensures placed { IfOk result
+        (λ i. records.AreAt image.now (records.scope_records_rva rva i) i.scopes) }
+{
+    let bytes = stored_info(image, index, rva)?;
+    let has_c_handler = is_c(image, bytes);
+    let rows = stored_scope_records(image, rva, bytes, has_c_handler)?;
+    check_own_codes(index, bytes, is_known)?;
+    Ok(Info {
+        bytes,
+        rows,
+        has_c_handler,
+    })
+}
+
+/// Checks the scope records of an info, unless they are known to pass.
+fn check_own_records(
+    index: u64,
+    size: u64,
+    info: &Info<'_>,
+    is_known: bool,
+) -> Result<(), TableErr>
+    requires { is_known ≡ true → IsOk (scopes.checked index size 0 info.now.scopes) }
+    ensures { result ≡ scopes.checked index size 0 info.now.scopes }
+{
+    if is_known {
+        return Ok(());
+    }
+    check_scope_records(index, size, 0, info.scopes())
 }
 
 /// Reads the unwind info at an address, for the entry of an index. Where it `is_known` that it can
 /// be read, its codes and scope records aren't checked again.
-#[tactic(auto, unfolding(crate::specs::Infos::info))]
+#[tactic(auto, using(crate::proofs::InfoSteps::info_steps))]
 pub fn read_info<'a>(
     image: &ImageView<'a>,
     index: u64,
@@ -259,15 +306,11 @@ pub fn read_info<'a>(
     is_known: bool,
 ) -> Result<Info<'a>, TableErr>
     requires { is_known ≡ true → IsOk (spec.info image.now index rva) }
-    ensures { result ≡ spec.info image.now index rva }
+    ensures answer { result ≡ spec.info image.now index rva }
+    ensures placed { IfOk result
+        (λ i. records.AreAt image.now (records.scope_records_rva rva i) i.scopes) }
 {
-    let bytes = stored_info(image, index, rva)?;
-    let has_c_handler = is_c(image, bytes);
-    let rows = stored_scope_records(image, rva, bytes, has_c_handler)?;
-    check_info(image, index, bytes, rows, is_known)?;
-    Ok(Info {
-        bytes,
-        rows,
-        has_c_handler,
-    })
+    let info = read_before_records(image, index, rva, is_known)?;
+    check_own_records(index, image.size(), &info, is_known)?;
+    Ok(info)
 }

@@ -21,7 +21,9 @@ mod lookup;
 mod range;
 mod refusal;
 mod scope;
+mod seen_records;
 mod tables;
+mod unseen;
 mod unwind_info;
 mod writing;
 
@@ -35,6 +37,7 @@ pub use lookup::FunctionEntry;
 pub use range::RuntimeFunction;
 pub use refusal::TableErr;
 pub use scope::{ScopeRecord, Scopes};
+pub use seen_records::SeenRecords;
 pub use tables::Tables;
 pub use unwind_info::{Trailer, UnwindInfo};
 pub use writing::{write_pdata, write_scopes, write_unwind};

@@ -1,6 +1,6 @@
 //! The scope tables of the C handler.
 
-ghost use Rattle.std.specs.Prelude.{◌≡◌, ◌≤◌, ◌+◌, ◌/◌, ◌<◌, ◌^◌, length, drop};
+ghost use Rattle.std.specs.Prelude.{◌≡◌, ◌≤◌, ◌+◌, ◌/◌, ◌<◌, ◌^◌, length, take, drop};
 ghost use Rattle.eh_tables.specs.Scopes as spec;
 
 use crate::layout::SCOPE_RECORD_SIZE;
@@ -68,9 +68,30 @@ impl<'a> Scopes<'a> {
     #[tactic(auto, using(crate::proofs::Rows::row_count))]
     pub(crate) fn new(rows: &'a [u8]) -> Scopes<'a>
         ensures value { result ≡ spec.scope_records_in rows.now }
-        ensures fits { length result < 2 ^ 60 }
+        ensures fits { length result < 2 ^ 59 }
     {
         Scopes { rows }
+    }
+
+    /// How many there are.
+    #[tactic(auto, using(crate::proofs::Rows::row_count))]
+    pub fn len(&self) -> u64
+        ensures { result ≡ length self.now }
+    {
+        (self.rows.len() / SCOPE_RECORD_SIZE) as u64
+    }
+
+    /// The first so many of them, or all where there are fewer.
+    #[tactic(auto, using(crate::proofs::Rows::first_rows, crate::proofs::Rows::all_rows))]
+    pub fn first_rows(self, count: u64) -> Scopes<'a>
+        ensures { result ≡ take count self.entry }
+    {
+        if (self.rows.len() / SCOPE_RECORD_SIZE) as u64 <= count {
+            return self;
+        }
+        Scopes {
+            rows: &self.rows[..SCOPE_RECORD_SIZE * count as usize],
+        }
     }
 
     /// Those from a row on.
@@ -106,13 +127,18 @@ impl<'a> Iterator for Scopes<'a> {
     }
 }
 
-/// Checks the records of a scope table in an image of that size.
-#[tactic(auto, using(crate::proofs::Rows::row_count))]
-pub fn check_scope_records(index: u64, size: u64, rows: &[u8]) -> Result<(), TableErr>
-    ensures { result ≡ spec.checked index size 0 (spec.scope_records_in rows.now) }
+/// Checks records of a scope table, of which the first is that of a row, in an image of that size.
+pub fn check_scope_records(
+    index: u64,
+    size: u64,
+    first: u64,
+    scopes: Scopes,
+) -> Result<(), TableErr>
+    requires { first + length scopes < 2 ^ 64 }
+    ensures { result ≡ spec.checked index size first scopes.entry }
 {
-    let mut row = 0;
-    for scope in Scopes::new(rows) {
+    let mut row = first;
+    for scope in scopes {
         if !scope.is_within(size) {
             return Err(TableErr::ScopeRange { index, row });
         }

@@ -1,8 +1,9 @@
 //! The function table of an image.
 
-ghost use Rattle.std.specs.Prelude.{◌≡◌, ◌≤◌, ◌<◌, ◌/◌, ◌*◌, ◌^◌, length, slice_index_or, option_map, IfOk, IfErr};
+ghost use Rattle.std.specs.Prelude.{◌≡◌, ◌≤◌, ◌<◌, ◌/◌, ◌*◌, ◌^◌, length, slice_index_or, option_map, IfSome, IfOk, IfErr};
 ghost use Rattle.std.specs.Result.{result_ok};
 ghost use Rattle.eh_tables.specs.Infos.{info};
+ghost use Rattle.eh_tables.specs.Records.{AreAt, scope_records_rva};
 ghost use Rattle.eh_tables.specs.Tables as spec;
 
 use crate::entry::{Entry, read_entry};
@@ -11,6 +12,7 @@ use crate::known::check_entry;
 use crate::layout::RUNTIME_FUNCTION_SIZE;
 use crate::range::{RuntimeFunction, read_range};
 use crate::refusal::TableErr;
+use crate::seen_records::SeenRecords;
 use pe_image::ImageView;
 use std::alloc::{AllocError, Global};
 use std::collections::BTreeMap;
@@ -135,12 +137,16 @@ impl<'image, 'bytes> Tables<'image, 'bytes> {
     }
 
     /// The unwind info of an entry, in a table that was read whole: what it says isn't checked
-    /// again.
+    /// again. Its scope records lie at [`Info::scope_records_rva`].
     #[tactic(auto, using(crate::proofs::KnownEntries::info_known, crate::proofs::KnownEntries::info_found))]
     pub fn info(&self, index: u64) -> Option<Info<'bytes>>
         requires whole { spec.TablesAreWhole self.now }
         requires within { index < length self.now.ranges }
-        ensures { result ≡ option_map (λ e. e.info) (result_ok (spec.entry_at self.now index)) }
+        ensures value { result
+            ≡ option_map (λ e. e.info) (result_ok (spec.entry_at self.now index)) }
+        ensures placed { IfSome result (λ i. AreAt self.now.image
+            (scope_records_rva (slice_index_or self.now.ranges index spec.no_range).unwind_info i)
+            i.scopes) }
     {
         read_info(self.image, index, self.range(index).unwind_info, true).ok()
     }
@@ -159,8 +165,9 @@ impl<'image, 'bytes> Tables<'image, 'bytes> {
     }
 
     /// The same, in memory that grows with the table. Unwind infos that entries share are checked
-    /// once, so that it costs no more than the entries and the different infos, with their chains
-    /// and scope tables, and the logarithm of their number.
+    /// once, and so are scope records that infos share. So it costs no more than the entries, the
+    /// different infos with their chains, and the different scope records, each times the logarithm
+    /// of their number.
     pub fn read_in(
         alloc: Global,
         image: &'image ImageView<'bytes>,
@@ -181,15 +188,17 @@ impl<'image, 'bytes> Tables<'image, 'bytes> {
     }
 
     /// Checks all entries, infos that they share once.
-    #[tactic(auto, using(crate::proofs::KnownInfos::none_known, crate::proofs::KnownEntries::goes_on, crate::proofs::KnownEntries::ends_here))]
+    #[tactic(auto, using(crate::proofs::KnownInfos::none_known, crate::proofs::UnseenRecords::nothing_passes, crate::proofs::KnownEntries::goes_on, crate::proofs::KnownEntries::ends_here))]
     fn check_in(&self, alloc: Global) -> Result<Result<(), TableErr>, AllocError>
         ensures { IfOk result (λ r. r ≡ spec.checked self.now) }
     {
         let mut known = BTreeMap::new(alloc);
+        let mut seen = SeenRecords::new(alloc);
         for index in 0..self.len() {
             let last = self.end_before(index);
             let range = self.range(index);
-            if let Err(refusal) = check_entry(&mut known, self.image, index, last, range)? {
+            let image = self.image;
+            if let Err(refusal) = check_entry(&mut known, &mut seen, image, index, last, range)? {
                 return Ok(Err(refusal));
             }
         }

@@ -8,5 +8,6 @@ pub mod TableEntries
 pub mod FuncletOrder
 pub mod FuncletInsertion
 pub mod SeenInfos
+pub mod SeenRows
 pub mod QuietTurns
 pub mod FuncletMarks

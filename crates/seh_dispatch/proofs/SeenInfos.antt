@@ -107,7 +107,7 @@ rows_keep c [] fs h = h
 rows_keep c (r ∷ rows) fs h = rows_keep c rows (with_row r fs (eqb r.handler_address 1))
     (row_keeps c r fs (eqb r.handler_address 1) h)
 
-rows_keep_row : (q : ScopeRecord) (rows : List ScopeRecord) (fs : List Funclet)
+pub rows_keep_row : (q : ScopeRecord) (rows : List ScopeRecord) (fs : List Funclet)
     → has_row q fs ≡ true → has_row q (of_rows rows fs) ≡ true
 rows_keep_row q rows fs h = go (eqb q.handler_address 1) h
   where
@@ -121,7 +121,7 @@ gathered_kept : (qs rows : List ScopeRecord) (fs : List Funclet) → AreGathered
 gathered_kept [] rows fs h = tt
 gathered_kept (q ∷ qs) rows fs h = (rows_keep_row q rows fs h.0, gathered_kept qs rows fs h.1)
 
-rows_gathered : (rows : List ScopeRecord) (fs : List Funclet)
+pub rows_gathered : (rows : List ScopeRecord) (fs : List Funclet)
     → AreGathered rows (of_rows rows fs)
 rows_gathered [] fs = tt
 rows_gathered (r ∷ rows) fs = (
@@ -129,7 +129,7 @@ rows_gathered (r ∷ rows) fs = (
   rows_gathered rows (with_row r fs (eqb r.handler_address 1)),
 )
 
-row_stays : (r : ScopeRecord) (fs : List Funclet) → AreAscending 0 fs → has_row r fs ≡ true
+pub row_stays : (r : ScopeRecord) (fs : List Funclet) → AreAscending 0 fs → has_row r fs ≡ true
     → with_row r fs (eqb r.handler_address 1) ≡ fs
 row_stays r fs up h = go (eqb r.handler_address 1) h
   where

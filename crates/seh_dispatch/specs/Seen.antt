@@ -4,7 +4,10 @@ use Rattle.std.specs.Ordering.{nat_cmp}
 use Rattle.std.specs.BTreeSet.{BTreeSet, contains}
 use Rattle.pe_image.specs.Image.{Image}
 use Rattle.eh_tables.specs.Infos.{Info, info}
+use Rattle.eh_tables.specs.Records.{record_at}
+use Rattle.eh_tables.specs.SeenRecords.{WasSeen}
 use Rattle.eh_tables.specs.declared.scope.ScopeRecord.{ScopeRecord}
+use Rattle.eh_tables.specs.declared.seen_records.SeenRecords.{SeenRecords}
 use Rattle.host_model.specs.declared.funclet.Funclet.{Funclet}
 
 -- whether a funclet begins at an address
@@ -26,3 +29,8 @@ abbrev pub AreSeen : Image → BTreeSet ℕ → List Funclet → Type 0
 AreSeen image seen fs =
     (rva : ℕ) → contains nat_cmp seen rva ≡ true → (index : ℕ) (i : Info)
     → info image index rva ≡ Ok i → AreGathered i.scopes fs
+
+-- the rows at the addresses that were seen are gathered
+abbrev pub AreRowsSeen : Image → SeenRecords → List Funclet → Type 0
+AreRowsSeen image seen fs =
+    (rva : ℕ) → WasSeen seen rva → has_row (record_at image rva) fs ≡ true

@@ -1,12 +1,14 @@
 //! The funclets of an image, gathered from the rows of its function table.
 
-ghost use Rattle.std.specs.Prelude.{◌≡◌, ◌-◌, ◌<◌, ◌==◌, ◌^◌, length, IfOk, OnOk};
-ghost use Rattle.eh_tables.specs.Tables.{TablesAreWhole, entries_of};
+ghost use Rattle.std.specs.Prelude.{◌≡◌, ◌-◌, ◌<◌, ◌==◌, ◌^◌, length, slice_index_or, IfOk, OnOk};
+ghost use Rattle.eh_tables.specs.Records.{AreAt, scope_records_rva};
+ghost use Rattle.eh_tables.specs.Tables.{TablesAreWhole, entries_of, no_range};
 ghost use Rattle.eh_tables.specs.declared.layout.TheConstants.{EXCEPTION_EXECUTE_HANDLER};
 ghost use Rattle.host_model.specs.Funclets as spec;
 ghost use Rattle.seh_dispatch.specs.FuncletLists.{AreAscending, funclets_of};
+ghost use Rattle.seh_dispatch.specs.Seen.{AreRowsSeen};
 
-use eh_tables::{EXCEPTION_EXECUTE_HANDLER, ScopeRecord, Scopes, Tables};
+use eh_tables::{EXCEPTION_EXECUTE_HANDLER, Info, ScopeRecord, Scopes, SeenRecords, Tables};
 use host_model::funclet::Funclet;
 use std::alloc::{AllocError, Global};
 use std::collections::{BTreeMap, BTreeSet};
@@ -55,25 +57,56 @@ fn add_rows(gathered: &mut BTreeMap<u32, bool>, rows: Scopes) -> Result<(), Allo
     Ok(())
 }
 
+/// Adds the rows of the info of an entry, except those that were seen. Then all of them are.
+fn add_unseen(
+    gathered: &mut BTreeMap<u32, bool>,
+    seen: &mut SeenRecords,
+    tables: &Tables,
+    index: u64,
+    info: &Info,
+) -> Result<(), AllocError>
+    requires within { index < length tables.now.ranges }
+    requires placed { AreAt tables.now.image (scope_records_rva
+        (slice_index_or tables.now.ranges index no_range).unwind_info info.now) info.now.scopes }
+    requires ascending { AreAscending 0 (funclets_of gathered.old.entries) }
+    requires seen { AreRowsSeen tables.now.image seen.old (funclets_of gathered.old.entries) }
+    ensures items { OnOk result (funclets_of gathered.new.entries
+        ≡ spec.of_rows info.now.scopes (funclets_of gathered.old.entries)) }
+    ensures ascending { OnOk result (AreAscending 0 (funclets_of gathered.new.entries)) }
+    ensures seen { OnOk result
+        (AreRowsSeen tables.now.image seen.new (funclets_of gathered.new.entries)) }
+{
+    let at = info.scope_records_rva(tables.range(index).unwind_info);
+    let count = info.scopes().len();
+    let mut row = 0;
+    while row < count {
+        let (from, to) = seen.next_unseen(at, row, count);
+        add_rows(gathered, info.scopes().from_row(from).first_rows(to - from))?;
+        row = to;
+    }
+    seen.add(at, count)
+}
+
 /// The kinds of an image's funclets by their addresses. The rows of an unwind info that entries
-/// share are gone over once.
-#[tactic(auto, using(crate::proofs::TableEntries::entry_steps, crate::proofs::SeenInfos::nothing_seen, crate::proofs::FuncletOrder::ascending))]
+/// share are gone over once, and so are rows that infos share.
+#[tactic(auto, using(crate::proofs::TableEntries::entry_steps, crate::proofs::SeenInfos::nothing_seen, crate::proofs::SeenRows::no_row_seen, crate::proofs::FuncletOrder::ascending))]
 fn gather(alloc: Global, tables: &Tables) -> Result<BTreeMap<u32, bool>, AllocError>
     requires { TablesAreWhole tables.now }
     ensures { IfOk result (λ m. funclets_of m.entries ≡ spec.funclets (entries_of tables.now)) }
 {
     let mut gathered = BTreeMap::new(alloc);
-    let mut seen = BTreeSet::new(alloc);
+    let mut infos = BTreeSet::new(alloc);
+    let mut seen = SeenRecords::new(alloc);
     for index in 0..tables.len() {
         let range = tables.range(index);
-        if seen.contains(&range.unwind_info) {
+        if infos.contains(&range.unwind_info) {
             continue;
         }
         let Some(info) = tables.info(index) else {
             continue;
         };
-        add_rows(&mut gathered, info.scopes())?;
-        seen.insert(range.unwind_info)?;
+        add_unseen(&mut gathered, &mut seen, tables, index, &info)?;
+        infos.insert(range.unwind_info)?;
     }
     Ok(gathered)
 }

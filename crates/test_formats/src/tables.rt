@@ -3,7 +3,7 @@ ghost use Rattle.eh_tables.specs.Tables.{TablesAreWhole};
 
 use crate::checks::{are, is_refused, shows};
 use crate::entries::reads;
-use crate::rows::{bytes_of, number, put_at};
+use crate::rows::{bytes_of, number, push_bytes, put_at};
 use eh_tables::{RuntimeFunction, Tables, read_again, write_pdata};
 use pe_image::ImageView;
 use seh_num::steps::Steps;
@@ -78,6 +78,8 @@ fn answers(rt: &impl Abort, alloc: Global, infos: &[u8], entries: &[u8], wanted:
     let view = ImageView::read(alloc, &bytes).expect(rt, "an image");
     let answer = Tables::read(&view).err();
     is_refused(rt, alloc, &answer, wanted, row);
+    let answer = Tables::read_in(alloc, &view).expect(rt, "memory").err();
+    is_refused(rt, alloc, &answer, wanted, row);
 }
 
 /// Infos and their refusals, `BYTES | REFUSAL | NAME`, where `-` is none.
@@ -130,6 +132,64 @@ fn refuses_entries(rt: HostRuntime) {
         answers(&rt, rt.alloc(), &[1, 0, 0, 0], &entries, columns[2], row);
     }
     answers(&rt, rt.alloc(), &[], &[], "-", "no entries");
+}
+
+/// Infos whose scope tables overlap. Those at 0, 10, 20 and 30 have the bytes of the ones behind
+/// them as records, the first of 3, the last of none. Those at 40, with two records, and at 54, with
+/// one, overlap by 12 bytes of a record.
+const OVERLAPPING: &str = r"
+09000000 00360000 03000000 00000000
+09000000 00360000 02000000 00000000
+09000000 00360000 01000000 00000000
+09000000 00360000 00000000 00000000
+09000000 00360000 02000000 01000000
+02000000 09000000 00360000 01000000
+02000000 03000000 00000000 00000000
+";
+
+/// Entries with these infos, in this order; a place there with bytes that are put to it; and their
+/// refusal, `INFOS | PLACE | BYTES | REFUSAL | NAME`. The word at 2C is the begin of the third
+/// record of the first table.
+const OVERLAPS: &str = r"
+00 10 20 30 | 2C | 00000000 | -                               | each contains the next one
+30 20 10 00 | 2C | 00000000 | -                               | the next one contains each
+10 00 20 00 | 2C | 00000000 | -                               | contained, containing, shared
+00 10 20 30 | 2C | 00500000 | ScopeRange { index: 0, row: 2 } | the last record of the first
+30 20 10 00 | 2C | 00500000 | ScopeRange { index: 1, row: 0 } | of the first that has one
+30 10 20 00 | 2C | 00500000 | ScopeRange { index: 1, row: 1 } | in its second row
+20 00       | 0C | 00500000 | ScopeRange { index: 1, row: 0 } | before those that were seen
+10 00 54 40 | 68 | 00000000 | -                               | at another remainder
+40 54       | 68 | 00500000 | ScopeRange { index: 0, row: 1 } | a jump target
+54 40       | 68 | 00500000 | ScopeRange { index: 0, row: 0 } | a handler
+40 54       | 6C | 00500000 | ScopeRange { index: 1, row: 0 } | behind the other table
+";
+
+/// Appends an entry with an info.
+fn push_entry(rt: &impl Abort, entries: &mut Vec<u8>, index: usize, info: &str) {
+    let begin = 0x2000 + index as u32 % 256 * 16;
+    let range = RuntimeFunction {
+        begin,
+        end: begin + 16,
+        unwind_info: 0x3000 + number(rt, info) as u32 % 256,
+    };
+    write_pdata(&[range], entries).expect(rt, "memory");
+}
+
+#[test]
+fn reads_scope_tables_that_overlap(rt: HostRuntime) {
+    for row in OVERLAPS.lines().skip(1) {
+        let columns = columns_of(row);
+        let mut infos = bytes_of(&rt, rt.alloc(), "");
+        for line in OVERLAPPING.lines().skip(1) {
+            push_bytes(&rt, &mut infos, line);
+        }
+        put_at(&rt, rt.alloc(), &mut infos, columns[1], columns[2]);
+        let mut entries = bytes_of(&rt, rt.alloc(), "");
+        for (index, info) in columns[0].split_ascii_whitespace().enumerate() {
+            push_entry(&rt, &mut entries, index, info);
+        }
+        answers(&rt, rt.alloc(), &infos, &entries, columns[3], row);
+    }
 }
 
 /// So many infos, of which each but the last is chained to the next one.

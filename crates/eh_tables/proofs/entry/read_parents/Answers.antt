@@ -14,7 +14,7 @@ returns-in_err-info c =
     (sym c.is_full.ensures.value ∙ c.if-is_full.false) in
     let some : c.loop-parent.parent ≡ Some c.in-Some.range = c.in-Some.is in
     let stops = chain_stops n c.args.image.now c.args.index xs c.in-Some.range
-    c.in_err-info.field-0.0 (omega arith) (sym c.in_err-info.ensures) in
+    c.in_err-info.field-0.0 (omega arith) (sym c.in_err-info.ensures.answer) in
     let same = sym (ap (λ (p : Option RuntimeFunction). onto xs
     (parents n c.args.image.now c.args.index p)) some) ∙ c.loop-parent.invariant.same in
     let whole = sym stops ∙ same in
@@ -30,7 +30,7 @@ loop-parent-preserved c =
     let same = sym (ap (λ (p : Option RuntimeFunction). onto xs
     (parents n c.args.image.now c.args.index p)) some) ∙ c.loop-parent.invariant.same in
     let on = chain_continues n (31 - length c.push.new.self.items) c.args.image.now c.args.index xs
-    c.in-Some.range c.in_ok-info.info (omega arith) (sym c.in_ok-info.ensures) in
+    c.in-Some.range c.in_ok-info.info (omega arith) (sym c.in_ok-info.ensures.answer) in
     record {
       room = omega arith;
       same =

@@ -1,5 +1,4 @@
-use Rattle.std.proofs.Common.{◌≡◌, ◌+◌, ◌/◌, length}
-use Rattle.eh_tables.specs.Words.{scope_records_in}
+use Rattle.std.proofs.Common.{◌≡◌, ◌+◌, length}
 use Rattle.eh_tables.specs.Scopes.{checked}
 use Rattle.eh_tables.proofs.scope.check_scope_records.Given as goal
 
@@ -8,6 +7,6 @@ invariant-loop-scope l = record {
   can : (goal.iterator-loop-scope).can_next l.scope-iterator;
   ends : (goal.iterator-loop-scope).is_finite l.scope-iterator;
   same : checked l.index l.size l.row l.scope-iterator
-      ≡ checked l.index l.size 0 (scope_records_in l.rows);
-  room : l.row + length l.scope-iterator ≡ length l.rows / 16;
+      ≡ checked l.index l.size l.first l.fn.scopes;
+  room : l.row + length l.scope-iterator ≡ l.first + length l.fn.scopes;
 }
