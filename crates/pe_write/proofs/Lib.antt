@@ -2,7 +2,6 @@ pub mod Back
 pub mod Below
 pub mod Example
 pub mod Front
-pub mod GatheredImports
 mod Octets
 pub mod Pieces
 pub mod Programs
