@@ -2,9 +2,10 @@
 use Rattle.std.proofs.Common.{◌≡◌, ℕ, zero, suc, ◌+◌, ◌*◌, ◌<◌, ◌≤◌, List, [], ◌∷◌, length, get_or, take, drop, Option, Some, None, refl, arith, length-append}
 use Rattle.std.specs.List.{AllByRecursion}
 use Rattle.eh_tables.specs.declared.range.RuntimeFunction.{RuntimeFunction}
-use Rattle.image_link.specs.Words.{u32, table_bytes, FrameLayout, spelled, size, sizes, code_from, modrm, AreNear, IsNear, links_of, RoutineView, IsRoutineNear, SiteView, room, routine_size, entry_code, entry_size, bounds, front_code, addresses, check_stack_at, routine_code, routine_bytes, routines_bytes, text_bytes, info_bytes, infos_room, infos, range_if, range_of, ranges, total}
+use Rattle.image_link.specs.Words.{u32, table_bytes, FrameLayout, spelled, code_from, AreNear, IsNear, links_of, RoutineView, IsRoutineNear, SiteView, room, routine_size, entry_code, entry_size, bounds, front_code, front_size, first_routine_at, addresses, check_stack_at, routine_code, routine_bytes, routines_bytes, text_bytes, info_bytes, infos_room, infos, range_if, range_of, ranges, total}
 use Rattle.image_link.proofs.Lemmas.{sizes_append, sizes_spelled, body_sizes}
 use Rattle.image_link.proofs.Entries.{entry_sizes, routine_small}
+use Rattle.image_link.proofs.Front.{front_sizes}
 use Rattle.image_link.proofs.Infos.{info_small}
 
 -- ---- bounds
@@ -56,20 +57,16 @@ drop_near (suc n) (x ∷ xs) near = drop_near n xs near.1
 
 -- ---- the text
 
-front_size : (text rdata : ℕ) → sizes (front_code text rdata) ≡ 51
-unfolding size modrm
-front_size text rdata = refl
-
 routine_length : (s : SiteView) (at : ℕ) (r : RoutineView) → IsRoutineNear r
     → length (routine_bytes s at r) ≡ routine_size r
 unfolding routine_bytes
 routine_length s at r near =
-    let e = entry_sizes at (check_stack_at s.text) r near in
+    let e = entry_sizes at (check_stack_at s.imports s.text) r near in
     let b = body_sizes (links_of (addresses s at r)) r.layout (at + entry_size r) r.body.code in
     omega (
       arith,
       sizes_spelled (routine_code s at r),
-      sizes_append (entry_code at (check_stack_at s.text) r)
+      sizes_append (entry_code at (check_stack_at s.imports s.text) r)
           (code_from (links_of (addresses s at r)) r.layout (at + entry_size r) r.body.code),
     )
 
@@ -82,15 +79,16 @@ routines_length s at (r ∷ rs) near =
     omega (arith, length-append (routine_bytes s at r) (routines_bytes s (at + routine_size r) rs))
 
 pub text_length : (s : SiteView) (rs : List RoutineView) → AllByRecursion IsRoutineNear rs
-    → length (text_bytes s rs) ≡ 51 + total rs
+    → length (text_bytes s rs) ≡ front_size s.imports + total rs
 text_length s rs near =
-    let l = routines_length s (s.text + 51) rs near in
-    let f = front_size s.text s.rdata in
+    let first = first_routine_at s.imports s.text in
+    let l = routines_length s first rs near in
+    let f = front_sizes s.imports s.text s.rdata in
     omega (
       arith,
-      length-append (spelled (front_code s.text s.rdata))
-          (routines_bytes s (s.text + 51) rs),
-      sizes_spelled (front_code s.text s.rdata),
+      length-append (spelled (front_code s.imports s.text s.rdata))
+          (routines_bytes s first rs),
+      sizes_spelled (front_code s.imports s.text s.rdata),
     )
 
 -- ---- the tables

@@ -3,12 +3,13 @@ use Rattle.std.proofs.Common.{◌≡◌, ℕ, zero, suc, ◌+◌, ◌-◌, ◌*�
 use Rattle.std.specs.Prelude.{◌&&◌, IfOk}
 use Rattle.std.specs.List.{AllByRecursion}
 use Rattle.std.proofs.lemmas.Bool.{eq-eqb}
-use Rattle.image_link.specs.Words.{LinearBody, LinearFunction, LinearFunclet, LinearProgram, CanBeImage, RoutineView, is_leaf, framed, leaf_if, functions_from, funclet, routines, IsRoutineNear, IsSiteNear, HasRoom, HasPlaces, table_bytes, SiteView, room, routine_size, bounds, first_routine_at, text_bytes, infos_room, infos, ranges, first, total, text_size, xdata_begin, IsPlacement, site, image_of, FitsProgram, tables_room, function_bodies, funclet_bodies, program_tables_room}
+use Rattle.image_link.specs.Words.{ImportedService, LinearBody, LinearFunction, LinearFunclet, LinearProgram, CanBeImage, ImageContents, RoutineView, is_leaf, framed, leaf_if, functions_from, funclet, routines, IsRoutineNear, IsSiteNear, AreFew, HasRoom, HasPlaces, table_bytes, SiteView, room, routine_size, bounds, first_routine_at, text_bytes, infos_room, infos, ranges, first, total, text_size, xdata_begin, IsPlacement, site, image_of, services_of, linked, FitsProgram, tables_room, function_bodies, funclet_bodies, program_tables_room}
 use Rattle.image_link.proofs.Lemmas.{code_in_room}
 use Rattle.image_link.specs.declared.placement.Placement.{Placement}
 use Rattle.image_link.specs.declared.routine.Entry.TheVariants as entries
 use Rattle.image_link.specs.Laws.{ImagesAreSmall}
 use Rattle.image_link.proofs.Entries.{entry_small, framed_some}
+use Rattle.image_link.proofs.Front.{imports_small, services_few}
 use Rattle.image_link.proofs.Nearness.{routines_near, routines_room}
 use Rattle.image_link.proofs.Bounds.{bounds_length, bounds_end, bounds_least, bounds_below, total_small, bounds_near, take_near, drop_near, text_length, infos_length, tables_small, count_small}
 use Rattle.seh_num.specs.declared.limit.TheConstants.{MOST_GLOBALS}
@@ -29,44 +30,54 @@ pub past : (b : List ℕ) (at : ℕ) (rs : List RoutineView) (i text : ℕ) → 
 past b at rs i text e le lt = let l = bounds_least at rs i 0 le in
     let s = ap (λ (xs : List ℕ). get_or xs i 0) e in omega arith
 
-pub text_between : (b : List ℕ) (at text : ℕ) (rs : List RoutineView) → b ≡ bounds at rs
-    → at ≡ first_routine_at text → get_or b (length rs) 0 - text ≡ text_size rs
-text_between b at text rs e is = let l = bounds_end at rs 0 in
+pub text_between : (imports : List ImportedService) (b : List ℕ) (at text : ℕ)
+    (rs : List RoutineView) → b ≡ bounds at rs → at ≡ first_routine_at imports text
+    → get_or b (length rs) 0 - text ≡ text_size imports rs
+text_between imports b at text rs e is = let l = bounds_end at rs 0 in
     let s = ap (λ (xs : List ℕ). get_or xs (length rs) 0) e in omega arith
 
-pub site_near : (g : List ℕ) (rs : List RoutineView) (functions main : ℕ) → length g ≤ MOST_GLOBALS
+pub site_near : (imports : List ImportedService) (g : List ℕ) (rs : List RoutineView)
+    (functions main : ℕ) → AreFew imports → length g ≤ MOST_GLOBALS
     → AllByRecursion IsRoutineNear rs → HasPlaces rs functions main
-    → IsSiteNear (site g rs functions)
-site_near g rs functions main few near places =
+    → IsSiteNear (site imports g rs functions)
+site_near imports g rs functions main services few near places =
     let t = total_small rs near in
     let r = places.room in
-    let b = bounds_near (first g) rs near (omega arith) in
+    let b = bounds_near (first imports g) rs near (omega arith) in
     record {
+      imports = services;
       text = omega arith;
       rdata = omega arith;
-      functions = take_near functions (bounds (first g) rs) b;
-      funclets = drop_near functions (bounds (first g) rs) b;
+      functions = take_near functions (bounds (first imports g) rs) b;
+      funclets = drop_near functions (bounds (first imports g) rs) b;
     }
 
 -- the tables end below 2^31
-pub tables_fit : (g : List ℕ) (rs : List RoutineView) → length g ≤ MOST_GLOBALS
-    → AllByRecursion IsRoutineNear rs → HasRoom rs → xdata_begin g rs + infos_room rs < 2 ^ 31
-tables_fit g rs few near room = let t = total_small rs near in omega arith
+pub tables_fit : (imports : List ImportedService) (g : List ℕ) (rs : List RoutineView)
+    → AreFew imports → length g ≤ MOST_GLOBALS → AllByRecursion IsRoutineNear rs → HasRoom rs
+    → xdata_begin imports g rs + infos_room rs < 2 ^ 31
+tables_fit imports g rs services few near room =
+    let t = total_small rs near in
+    let i = imports_small imports services in
+    omega arith
 
-pub is_program : (g : List ℕ) (rs : List RoutineView) (functions main : ℕ) → length g ≤ MOST_GLOBALS
+pub is_program : (imports : List ImportedService) (g : List ℕ) (rs : List RoutineView)
+    (functions main : ℕ) → AreFew imports → length g ≤ MOST_GLOBALS
     → AllByRecursion IsRoutineNear rs → HasPlaces rs functions main → (d : RoutineView)
-    → CanBeImage (image_of g rs functions main)
-is_program g rs functions main few near places d =
-    let s = site g rs functions in
+    → CanBeImage (image_of imports g rs functions main)
+is_program imports g rs functions main services few near places d =
+    let s = site imports g rs functions in
+    let i = imports_small imports services in
     let t = total_small rs near in
     let r = places.room in
     let n = count_small rs in
     let text = text_length s rs near in
-    let xdata = infos_length s (first g) rs in
-    let pdata = tables_small s (xdata_begin g rs) (first g) rs in
+    let xdata = infos_length s (first imports g) rs in
+    let pdata = tables_small s (xdata_begin imports g rs) (first imports g) rs in
     let some = places.some d in
-    let below = bounds_below (first g) rs main 0 d places.there in
+    let below = bounds_below (first imports g) rs main 0 d places.there in
     record {
+      imports = omega arith;
       whole = omega arith;
       some = omega arith;
       stored = omega arith;
@@ -77,58 +88,66 @@ is_program g rs functions main few near places d =
 -- ---- what the code has computed
 
 -- the addresses that routines refer to, where the sections lie at p and the routines between bounds
-module _ (g b : List ℕ) (rs : List RoutineView) (functions : ℕ) (p : Placement)
-    (is : IsPlacement g rs p) (between : b ≡ bounds (first g) rs) (s : SiteView)
+module _ (imports : List ImportedService) (g b : List ℕ) (rs : List RoutineView) (functions : ℕ)
+    (p : Placement) (is : IsPlacement imports g rs p) (between : b ≡ bounds (first imports g) rs)
+    (s : SiteView)
     (same : s
     ≡ record {
+      imports = imports;
       text = p.text;
       rdata = p.rdata;
       functions = take functions b;
       funclets = drop functions b;
     }) where
-  site_is : s ≡ site g rs functions
+  site_is : s ≡ site imports g rs functions
   site_is =
       let text = is.text in
       let rdata = is.rdata in
       same ∙ λ i. record {
+        imports = imports;
         text = text i;
         rdata = rdata i;
         functions = take functions (between i);
         funclets = drop functions (between i);
       }
 
-  pub is_site_near : (main : ℕ) → length g ≤ MOST_GLOBALS → AllByRecursion IsRoutineNear rs
-      → HasPlaces rs functions main → IsSiteNear s
-  is_site_near main few near places = subst IsSiteNear (sym site_is)
-      (site_near g rs functions main few near places)
+  pub is_site_near : (main : ℕ) → AreFew imports → length g ≤ MOST_GLOBALS
+      → AllByRecursion IsRoutineNear rs → HasPlaces rs functions main → IsSiteNear s
+  is_site_near main services few near places = subst IsSiteNear (sym site_is)
+      (site_near imports g rs functions main services few near places)
 
-  pub image_is : (main entry : ℕ) (text xdata pdata : List ℕ)
-      → entry ≡ get_or b main 0 - p.text
-      → text ≡ text_bytes s rs → xdata ≡ infos s (first_routine_at p.text) rs
-      → pdata ≡ table_bytes (ranges s p.xdata (first_routine_at p.text) rs)
+  pub image_is : (main entry at : ℕ) (text xdata pdata : List ℕ)
+      → entry ≡ get_or b main 0 - p.text → at ≡ first_routine_at imports p.text
+      → text ≡ text_bytes s rs → xdata ≡ infos s at rs
+      → pdata ≡ table_bytes (ranges s p.xdata at rs)
       → record {
+        imports = imports;
         data_size = p.data_size;
         data_bytes = g;
         text = text;
         entry = entry;
         xdata = xdata;
         pdata = pdata;
-      } ≡ image_of g rs functions main
-  image_is main entry text xdata pdata n k i q =
+      } ≡ image_of imports g rs functions main
+  image_is main entry at text xdata pdata n e k i q =
       let d = is.data_size in
       let begin = is.text in
       let table = is.xdata in
-      let of = site g rs functions in
+      let of = site imports g rs functions in
       let text' = k ∙ ap (λ (s : SiteView). text_bytes s rs) site_is in
       let entry' = n ∙ ap (λ (xs : List ℕ). get_or xs main 0 - p.text) between
-      ∙ ap (λ (n : ℕ). get_or (bounds (first g) rs) main 0 - n) begin in
-      let xdata' = i ∙ ap (λ (s : SiteView). infos s (first_routine_at p.text) rs) site_is
-      ∙ ap (λ (n : ℕ). infos of (first_routine_at n) rs) begin in
-      let pdata' = q ∙ ap (λ (s : SiteView). table_bytes
-      (ranges s p.xdata (first_routine_at p.text) rs)) site_is
-      ∙ ap (λ (n : ℕ). table_bytes (ranges of n (first_routine_at p.text) rs)) table
-      ∙ ap (λ (n : ℕ). table_bytes (ranges of (xdata_begin g rs) (first_routine_at n) rs)) begin in
+      ∙ ap (λ (n : ℕ). get_or (bounds (first imports g) rs) main 0 - n) begin in
+      let xdata' = i ∙ ap (λ (n : ℕ). infos s n rs) e
+      ∙ ap (λ (s : SiteView). infos s (first_routine_at imports p.text) rs) site_is
+      ∙ ap (λ (n : ℕ). infos of (first_routine_at imports n) rs) begin in
+      let pdata' = q ∙ ap (λ (n : ℕ). table_bytes (ranges s p.xdata n rs)) e
+      ∙ ap (λ (s : SiteView). table_bytes
+      (ranges s p.xdata (first_routine_at imports p.text) rs)) site_is
+      ∙ ap (λ (n : ℕ). table_bytes (ranges of n (first_routine_at imports p.text) rs)) table
+      ∙ ap (λ (n : ℕ). table_bytes
+      (ranges of (xdata_begin imports g rs) (first_routine_at imports n) rs)) begin in
       λ i. record {
+        imports = imports;
         data_size = d i;
         data_bytes = g;
         text = text' i;
@@ -230,6 +249,14 @@ has_places p fits =
           (framed_some (get_or p.functions p.main no_function));
     }
 
+-- the image of what a program is made of
+pub linked_is : (p : LinearProgram) (image : ImageContents) (imports : List ImportedService)
+    (g : List ℕ) (rs : List RoutineView) (functions main : ℕ)
+    → image ≡ image_of imports g rs functions main → imports ≡ services_of p → g ≡ p.globals
+    → rs ≡ routines p → functions ≡ length p.functions → main ≡ p.main → image ≡ linked p
+linked_is p image imports g rs functions main e i n r f m =
+    e ∙ (λ k. image_of (i k) (n k) (r k) (f k) (m k))
+
 -- its entries take no more than what no entry of a routine needs of its room
 entries_small : (rs : List RoutineView) → AllByRecursion IsRoutineNear rs
     → total rs + 12 * length rs ≤ room rs
@@ -243,16 +270,18 @@ entries_small (r ∷ rs) near =
 -- the image of a program that fits takes at most 256 MiB
 pub images_are_small : ImagesAreSmall
 images_are_small p fits =
+    let imports = services_of p in
     let g = p.globals in
     let rs = routines p in
     let near = routines_near p fits in
-    let s = site g rs (length p.functions) in
+    let s = site imports g rs (length p.functions) in
+    let tables = imports_small imports (services_few p) in
     let t = entries_small rs near in
     let v = routines_room p in
     let u = tables_are p in
     let few = fits.globals in
     let small = fits.small in
     let text = text_length s rs near in
-    let xdata = infos_length s (first g) rs in
-    let pdata = tables_small s (xdata_begin g rs) (first g) rs in
+    let xdata = infos_length s (first imports g) rs in
+    let pdata = tables_small s (xdata_begin imports g rs) (first imports g) rs in
     omega arith

@@ -55,7 +55,7 @@ info_by : (s : SiteView) (labels : List ℕ) (end : ℕ) (r : RoutineView) (o : 
     → length (info_if s labels end r o) ≤ info_room r
 info_by s labels end r None = omega arith
 info_by s labels end r (Some f) =
-    let h = thunk_at s.text CSpecificHandler in
+    let h = thunk_at s.imports s.text CSpecificHandler in
     let t = trailer h r.body.regions in
     let u = unwind_small f t (trailer_small h r.body.regions) in
     let k = scopes_small s.funclets labels end r.body.regions in

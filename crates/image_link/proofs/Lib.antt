@@ -1,8 +1,10 @@
 mod Lemmas
 pub mod Fitting
 pub mod Entries
+pub mod Front
 pub mod Infos
 pub mod Nearness
 pub mod Places
 pub mod Bounds
 pub mod Images
+pub mod Imports

@@ -1,15 +1,24 @@
--- The image of a program: its globals, its routines, and their tables.
+-- The image of a program: the services that it imports, its globals, its routines, and their
+-- tables.
 use Rattle.std.specs.Prelude.{◌≡◌, ℕ, ◌+◌, ◌-◌, List, [], ◌∷◌, length, get_or, max, take, drop}
 use Rattle.host_layout.specs.declared.range.TheConstants.{DATA_AT}
 use Rattle.eh_tables.specs.Written.{table_bytes}
 use Rattle.pe_write.specs.Program.{ImageContents, rdata_after, xdata_after}
 use Rattle.pe_write.specs.Written.{pages}
 use Rattle.linear_code.specs.Program.{LinearProgram}
-use Rattle.image_link.specs.declared.place.TheConstants.{FRONT_SIZE}
+use Rattle.host_layout.specs.declared.imported.ImportedService.{ImportedService}
+use Rattle.host_layout.specs.Imported.{services}
+use Rattle.pe_write.specs.ImportTables.{tables_size}
 use Rattle.image_link.specs.declared.placement.Placement.{Placement}
 use Rattle.image_link.specs.Routines.{RoutineView, routines}
-use Rattle.image_link.specs.Text.{SiteView, routine_size, bounds, first_routine_at, text_bytes}
+use Rattle.image_link.specs.Text.{SiteView, routine_size, bounds, front_size, first_routine_at, text_bytes}
 use Rattle.image_link.specs.Tables.{infos, ranges}
+
+-- ---- what is imported
+
+-- the services that a program imports, in the order of their slots and thunks: all of them
+abbrev pub services_of : LinearProgram → List ImportedService
+services_of p = services
 
 -- ---- where things are
 
@@ -24,51 +33,54 @@ data_size globals = pages_of (length globals)
 abbrev pub text_begin : List ℕ → ℕ
 text_begin globals = DATA_AT + data_size globals
 
-abbrev pub first : List ℕ → ℕ
-first globals = first_routine_at (text_begin globals)
+abbrev pub first : List ImportedService → List ℕ → ℕ
+first imports globals = first_routine_at imports (text_begin globals)
 
 abbrev pub total : List RoutineView → ℕ
 total [] = 0
 total (r ∷ rs) = routine_size r + total rs
 
-abbrev pub text_size : List RoutineView → ℕ
-text_size rs = FRONT_SIZE + total rs
+abbrev pub text_size : List ImportedService → List RoutineView → ℕ
+text_size imports rs = front_size imports + total rs
 
-abbrev pub rdata_begin : List ℕ → List RoutineView → ℕ
-rdata_begin globals rs = rdata_after (data_size globals) (text_size rs)
+abbrev pub rdata_begin : List ImportedService → List ℕ → List RoutineView → ℕ
+rdata_begin imports globals rs = rdata_after (data_size globals) (text_size imports rs)
 
-abbrev pub xdata_begin : List ℕ → List RoutineView → ℕ
-xdata_begin globals rs = xdata_after (data_size globals) (text_size rs)
+abbrev pub xdata_begin : List ImportedService → List ℕ → List RoutineView → ℕ
+xdata_begin imports globals rs =
+    xdata_after (data_size globals) (text_size imports rs) (tables_size imports)
 
-pub record IsPlacement (globals : List ℕ) (rs : List RoutineView) (p : Placement) : Type 0 where
+pub record IsPlacement (imports : List ImportedService) (globals : List ℕ) (rs : List RoutineView)
+    (p : Placement) : Type 0 where
   pub data_size : p.data_size ≡ data_size globals
   pub text : p.text ≡ text_begin globals
-  pub rdata : p.rdata ≡ rdata_begin globals rs
-  pub xdata : p.xdata ≡ xdata_begin globals rs
+  pub rdata : p.rdata ≡ rdata_begin imports globals rs
+  pub xdata : p.xdata ≡ xdata_begin imports globals rs
 
 -- so many of the routines are functions
-abbrev pub site : List ℕ → List RoutineView → ℕ → SiteView
-site globals rs functions = record {
+abbrev pub site : List ImportedService → List ℕ → List RoutineView → ℕ → SiteView
+site imports globals rs functions = record {
+  imports = imports;
   text = text_begin globals;
-  rdata = rdata_begin globals rs;
-  functions = take functions (bounds (first globals) rs);
-  funclets = drop functions (bounds (first globals) rs);
+  rdata = rdata_begin imports globals rs;
+  functions = take functions (bounds (first imports globals) rs);
+  funclets = drop functions (bounds (first imports globals) rs);
 }
 
 -- ---- the image, which begins at the routine of this index
 
-abbrev pub image_of : List ℕ → List RoutineView → ℕ → ℕ → ImageContents
-image_of globals rs functions main =
-    record {
+abbrev pub image_of : List ImportedService → List ℕ → List RoutineView → ℕ → ℕ → ImageContents
+image_of imports globals rs functions main =
+    let s = site imports globals rs functions in record {
+      imports = imports;
       data_size = data_size globals;
       data_bytes = globals;
-      text = text_bytes (site globals rs functions) rs;
-      entry = get_or (bounds (first globals) rs) main 0 - text_begin globals;
-      xdata = infos (site globals rs functions) (first globals) rs;
+      text = text_bytes s rs;
+      entry = get_or (bounds (first imports globals) rs) main 0 - text_begin globals;
+      xdata = infos s (first imports globals) rs;
       pdata =
-          table_bytes (ranges (site globals rs functions) (xdata_begin globals rs)
-          (first globals) rs);
+          table_bytes (ranges s (xdata_begin imports globals rs) (first imports globals) rs);
     }
 
 abbrev pub linked : LinearProgram → ImageContents
-linked p = image_of p.globals (routines p) (length p.functions) p.main
+linked p = image_of (services_of p) p.globals (routines p) (length p.functions) p.main

@@ -7,6 +7,8 @@ use Rattle.frame_layout.specs.declared.frame.FrameLayout.{FrameLayout}
 use Rattle.template_code.specs.declared.layout.Layout.{Layout}
 use Rattle.x64_emit.specs.Near.{AreNear, IsSlotNear, AreParametersNear, ArePointersNear, IsInstructionNear}
 use Rattle.x64_emit.specs.Entries.{IsKeptNear}
+use Rattle.host_layout.specs.declared.imported.ImportedService.{ImportedService}
+use Rattle.image_link.specs.declared.place.TheConstants.{MOST_IMPORTS}
 use Rattle.image_link.specs.declared.routine.Entry.{Entry}
 use Rattle.image_link.specs.declared.routine.Entry.TheVariants as entries
 use Rattle.image_link.specs.Routines.{RoutineView}
@@ -32,8 +34,13 @@ pub record IsRoutineNear (r : RoutineView) : Type 0 where
   pub code : AllByRecursion (IsInstructionNear r.layout) r.body.code
   pub regions : 16 * length r.body.regions ≤ MOST_IMAGE
 
+-- at most so many services are imported (own)
+abbrev pub AreFew : List ImportedService → Type 0
+AreFew imports = length imports ≤ MOST_IMPORTS
+
 -- the addresses that routines refer to
 pub record IsSiteNear (s : SiteView) : Type 0 where
+  pub imports : AreFew s.imports
   pub text : s.text ≤ MOST_IMAGE
   pub rdata : s.rdata ≤ MOST_IMAGE
   pub functions : AreNear s.functions

@@ -71,7 +71,7 @@ scope_table funclets labels end rs = scope_bytes (scope_records funclets labels 
 
 abbrev pub info_bytes_of : SiteView → List ℕ → ℕ → RoutineView → FrameLayout → List ℕ
 info_bytes_of s labels end r f =
-    unwind_bytes (info_of f (trailer (thunk_at s.text CSpecificHandler) r.body.regions))
+    unwind_bytes (info_of f (trailer (thunk_at s.imports s.text CSpecificHandler) r.body.regions))
     ++ scope_table s.funclets labels end r.body.regions
 
 abbrev pub info_if : SiteView → List ℕ → ℕ → RoutineView → Option FrameLayout → List ℕ

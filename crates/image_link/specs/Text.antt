@@ -1,5 +1,5 @@
 -- The text of a program: the thunks of its services, `__chkstk`, and its routines.
-use Rattle.std.specs.Prelude.{ℕ, ◌+◌, ◌*◌, List, [], ◌∷◌, ◌++◌, Option, Some, None}
+use Rattle.std.specs.Prelude.{ℕ, ◌+◌, ◌*◌, List, [], ◌∷◌, ◌++◌, length, map, Option, Some, None}
 use Rattle.seh_num.specs.declared.width.Width.TheVariants.{W32}
 use Rattle.x64_instr.specs.declared.register.Reg.TheVariants.{Rax, Rcx}
 use Rattle.x64_instr.specs.declared.instruction.Instr.{Instr}
@@ -8,10 +8,8 @@ use Rattle.frame_layout.specs.declared.frame.FrameLayout.{FrameLayout}
 use Rattle.frame_layout.specs.Layout.{plan_of}
 use Rattle.frame_rules.specs.Bytes.{prologue_code}
 use Rattle.host_layout.specs.declared.imported.ImportedService.{ImportedService}
-use Rattle.host_layout.specs.declared.imported.ImportedService.TheVariants.{RaiseException, CSpecificHandler, LocalUnwind, Protect, Put}
-use Rattle.host_layout.specs.declared.imported.TheConstants.{IMPORTED_COUNT}
-use Rattle.host_layout.specs.Imported.{number_of}
-use Rattle.pe_write.specs.ImportTables.{slot_of}
+use Rattle.host_layout.specs.declared.imported.ImportedService.TheVariants.{RaiseException, LocalUnwind, Protect, Put}
+use Rattle.pe_write.specs.ImportTables.{place_of, slot_of}
 use Rattle.template_code.specs.declared.layout.Layout.{Layout}
 use Rattle.template_code.specs.Bytes.{sizes}
 use Rattle.template_code.specs.Operations.{move}
@@ -21,13 +19,12 @@ use Rattle.template_code.specs.Calls.{keep_register, parameters_code}
 use Rattle.template_code.specs.Bytes.{spelled, thunk}
 use Rattle.template_code.specs.Probing.{check_stack}
 use Rattle.template_code.specs.Template.{Links, body_size, code_from}
-use Rattle.x64_emit.specs.declared.entry.TheConstants.{THUNK_SIZE}
+use Rattle.x64_emit.specs.declared.entry.TheConstants.{CHECK_STACK_SIZE, THUNK_SIZE}
 use Rattle.x64_emit.specs.declared.links.Thunks.{Thunks}
 use Rattle.x64_emit.specs.Rooms.{code_room}
 use Rattle.x64_emit.specs.Bodies.{label_list}
 use Rattle.x64_emit.specs.Entries.{keep_base}
 use Rattle.x64_emit.specs.Linking.{Addresses, links_of}
-use Rattle.image_link.specs.declared.place.TheConstants.{FRONT_SIZE}
 use Rattle.image_link.specs.declared.routine.Entry.{Entry}
 use Rattle.image_link.specs.declared.routine.Entry.TheVariants as entries
 use Rattle.image_link.specs.Routines.{RoutineView}
@@ -73,38 +70,36 @@ abbrev pub bounds : ℕ → List RoutineView → List ℕ
 bounds at [] = at ∷ []
 bounds at (r ∷ rs) = at ∷ bounds (at + routine_size r) rs
 
--- ---- thunks
+-- ---- the thunks of the services that a program imports, in their order, and `__chkstk`
 
-abbrev pub thunk_at : ℕ → ImportedService → ℕ
-thunk_at text s = text + THUNK_SIZE * number_of s
+abbrev pub thunk_at : List ImportedService → ℕ → ImportedService → ℕ
+thunk_at imports text s = text + THUNK_SIZE * place_of imports s
 
-abbrev pub thunks_at : ℕ → Thunks
-thunks_at text =
+abbrev pub thunks_at : List ImportedService → ℕ → Thunks
+thunks_at imports text =
     record {
-      put = thunk_at text Put;
-      protect = thunk_at text Protect;
-      raise_exception = thunk_at text RaiseException;
-      local_unwind = thunk_at text LocalUnwind;
+      put = thunk_at imports text Put;
+      protect = thunk_at imports text Protect;
+      raise_exception = thunk_at imports text RaiseException;
+      local_unwind = thunk_at imports text LocalUnwind;
     }
 
-abbrev pub service_thunk : ℕ → ℕ → ImportedService → Instr
-service_thunk text rdata s =
-    thunk (distance (thunk_at text s + THUNK_SIZE) (rdata + slot_of s))
+abbrev pub service_thunk : List ImportedService → ℕ → ℕ → ImportedService → Instr
+service_thunk imports text rdata s =
+    thunk (distance (thunk_at imports text s + THUNK_SIZE) (rdata + slot_of imports s))
 
-abbrev pub check_stack_at : ℕ → ℕ
-check_stack_at text = text + THUNK_SIZE * IMPORTED_COUNT
+abbrev pub check_stack_at : List ImportedService → ℕ → ℕ
+check_stack_at imports text = text + THUNK_SIZE * length imports
 
-abbrev pub front_code : ℕ → ℕ → List Instr
-front_code text rdata =
-    service_thunk text rdata RaiseException
-    ∷ service_thunk text rdata CSpecificHandler
-    ∷ service_thunk text rdata LocalUnwind
-    ∷ service_thunk text rdata Protect
-    ∷ service_thunk text rdata Put
-    ∷ check_stack
+abbrev pub front_code : List ImportedService → ℕ → ℕ → List Instr
+front_code imports text rdata = map (service_thunk imports text rdata) imports ++ check_stack
 
-abbrev pub first_routine_at : ℕ → ℕ
-first_routine_at text = text + FRONT_SIZE
+-- how many bytes they take
+abbrev pub front_size : List ImportedService → ℕ
+front_size imports = THUNK_SIZE * length imports + CHECK_STACK_SIZE
+
+abbrev pub first_routine_at : List ImportedService → ℕ → ℕ
+first_routine_at imports text = text + front_size imports
 
 -- ---- the text
 
@@ -120,8 +115,10 @@ own_addresses at r =
       end = at + routine_size r;
     }
 
--- what every routine refers to: the text's begin, and the addresses of functions and funclets
+-- what every routine refers to: the services that are imported, the text's begin, that of `.rdata`
+-- with the slots, and the addresses of functions and funclets
 pub record SiteView : Type 0 where
+  pub imports : List ImportedService
   pub text : ℕ
   pub rdata : ℕ
   pub functions : List ℕ
@@ -134,7 +131,7 @@ addresses s at r =
       end = (own_addresses at r).end;
       functions = s.functions;
       funclets = s.funclets;
-      thunks = thunks_at s.text;
+      thunks = thunks_at s.imports s.text;
     }
 
 -- a routine at an address, with `__chkstk` and all else where the links say
@@ -143,7 +140,7 @@ code_at check links at r =
     entry_code at check r ++ code_from links r.layout (at + entry_size r) r.body.code
 
 abbrev pub routine_code : SiteView → ℕ → RoutineView → List Instr
-routine_code s at r = code_at (check_stack_at s.text) (links_of (addresses s at r)) at r
+routine_code s at r = code_at (check_stack_at s.imports s.text) (links_of (addresses s at r)) at r
 
 unfoldable pub routine_bytes : SiteView → ℕ → RoutineView → List ℕ
 routine_bytes s at r = spelled (routine_code s at r)
@@ -154,4 +151,5 @@ routines_bytes s at (r ∷ rs) = routine_bytes s at r ++ routines_bytes s (at + 
 
 abbrev pub text_bytes : SiteView → List RoutineView → List ℕ
 text_bytes s rs =
-    spelled (front_code s.text s.rdata) ++ routines_bytes s (first_routine_at s.text) rs
+    spelled (front_code s.imports s.text s.rdata)
+    ++ routines_bytes s (first_routine_at s.imports s.text) rs

@@ -1,4 +1,5 @@
 -- The words of this crate's proofs: what its lemma files import, by the crates below.
+pub use Rattle.host_layout.specs.declared.imported.ImportedService.{ImportedService}
 pub use Rattle.seh_num.specs.declared.width.Width.TheVariants.{W32, W8, W64}
 pub use Rattle.linear_code.specs.Program.{LinearFunction, LinearProgram, linear_function, linear_funclet, LinearBody, LinearFunclet, linear_program}
 pub use Rattle.linear_code.specs.declared.instruction.Instruction.{Instruction}
@@ -6,6 +7,7 @@ pub use Rattle.linear_code.specs.declared.program.IrFunclet.{IrFunclet}
 pub use Rattle.linear_code.specs.declared.program.IrFunction.{IrFunction}
 pub use Rattle.linear_code.specs.declared.slot.Slot.TheVariants.{Local, Temporary}
 unfoldable pub use Rattle.pe_image.specs.Numbers.{u32, u16}
+pub use Rattle.pe_write.specs.ImportTables.{hint_name_size, names_size, tables_size}
 pub use Rattle.pe_write.specs.Program.{CanBeImage, ImageContents}
 pub use Rattle.eh_tables.specs.Written.{table_bytes, slot, is_small, is_short, allocation, header, padded, trailer_bytes, scope_record_bytes}
 unfoldable pub use Rattle.eh_tables.specs.Written.{unwind_bytes}
@@ -24,11 +26,11 @@ pub use Rattle.x64_emit.specs.Linking.{links_of, Addresses}
 pub use Rattle.x64_emit.specs.Near.{AreNear, IsNear, IsInstructionNear, IsBaseNear, IsSlotNear}
 pub use Rattle.x64_emit.specs.Rooms.{code_room}
 pub use Rattle.image_link.specs.Fits.{FitsFunction, FitsFunclet, FitsProgram, tables_room, function_bodies, funclet_bodies, program_tables_room, FitsSlot, FitsInstruction, FitsBody, FitsKind, text_room}
-pub use Rattle.image_link.specs.Linked.{total, first, text_size, xdata_begin, IsPlacement, site, image_of}
-pub use Rattle.image_link.specs.Near.{IsRoutineNear, IsFrameNear, IsEntryNear, IsSiteNear, HasRoom, HasPlaces}
+pub use Rattle.image_link.specs.Linked.{total, first, text_size, xdata_begin, IsPlacement, site, image_of, linked, services_of}
+pub use Rattle.image_link.specs.Near.{IsRoutineNear, IsFrameNear, IsEntryNear, IsSiteNear, AreFew, HasRoom, HasPlaces}
 pub use Rattle.image_link.specs.Routines.{RoutineView, function_frame, framed, is_leaf, leaf_if, functions_from, funclet, routines, leaf_layout, function_layout, leaf, funclet_frame, nothing, body_of_function, body_of_funclet, kept_by, HasParent, entry_of, funclet_layout, has_call}
 pub use Rattle.image_link.specs.Places.{PlaceView, place_at, places_from}
 pub use Rattle.image_link.specs.Tables.{infos_room, infos, range_if, range_of, ranges, trailer, scope_record, scope_records, scope_table, info_if, info_room, has_except, has_finally}
 unfoldable pub use Rattle.image_link.specs.Tables.{info_bytes}
-pub use Rattle.image_link.specs.Text.{SiteView, room, routine_size, entry_code, bounds, front_code, addresses, check_stack_at, routine_code, routines_bytes, text_bytes, routine_room, frame_code, base_of, argument_code, first_routine_at, own_addresses, thunk_at, thunks_at, code_at}
+pub use Rattle.image_link.specs.Text.{SiteView, room, routine_size, entry_code, bounds, service_thunk, front_code, addresses, check_stack_at, routine_code, routines_bytes, text_bytes, routine_room, frame_code, base_of, argument_code, front_size, first_routine_at, own_addresses, thunk_at, thunks_at, code_at}
 unfoldable pub use Rattle.image_link.specs.Text.{entry_size, routine_bytes}

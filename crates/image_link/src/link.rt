@@ -8,25 +8,42 @@ ghost use Rattle.pe_write.specs.Program as images;
 ghost use Rattle.pe_write.specs.Written.{written};
 ghost use Rattle.image_link.specs.Fits.{FitsProgram};
 ghost use Rattle.image_link.specs.Linked as spec;
-ghost use Rattle.image_link.specs.Near.{IsRoutineNear, HasPlaces};
+ghost use Rattle.image_link.specs.Near.{AreFew, IsRoutineNear, HasPlaces};
 ghost use Rattle.image_link.specs.Places.{places_from};
 ghost use Rattle.image_link.specs.Text as texts;
 
-use crate::place::{FRONT_SIZE, Place, places_of};
+use crate::place::{Place, front_size, places_of};
 use crate::placement::{offset_of, placement_of, text_begin};
 use crate::routine::{Routine, routines};
 use crate::tables::{Tables, tables_of};
 use crate::text::{Site, text_of};
+use host_layout::imported::{IMPORTED, ImportedService};
 use linear_code::program::IrProgram;
 use pe_write::{Image, write};
 use seh_num::limit::MOST_GLOBALS;
 use std::alloc::{AllocError, Global};
 
+/// The services that a program imports, in the order of their slots and thunks: all of them.
+fn services_of(alloc: Global, program: &IrProgram) -> Result<Vec<ImportedService>, AllocError>
+    ensures { IfOk result (λ v. v.items ≡ spec.services_of (linear_program program.now)) }
+{
+    let mut services = Vec::new(alloc);
+    services.extend_from_slice(&IMPORTED)?;
+    Ok(services)
+}
+
 /// The addresses that a text at `text` refers to, where the first `functions` routines are
 /// functions.
-fn site_of<'a>(text: u32, rdata: u32, bounds: &'a [u32], functions: usize) -> Site<'a>
+fn site_of<'a>(
+    imports: &'a [ImportedService],
+    text: u32,
+    rdata: u32,
+    bounds: &'a [u32],
+    functions: usize,
+) -> Site<'a>
     requires { functions ≤ length bounds.now }
     ensures { result ≡ record {
+      imports = imports.now;
       text = text;
       rdata = rdata;
       functions = take functions bounds.now;
@@ -35,6 +52,7 @@ fn site_of<'a>(text: u32, rdata: u32, bounds: &'a [u32], functions: usize) -> Si
 {
     let (functions, funclets) = bounds.split_at(functions);
     Site {
+        imports,
         text,
         rdata,
         functions,
@@ -45,6 +63,7 @@ fn site_of<'a>(text: u32, rdata: u32, bounds: &'a [u32], functions: usize) -> Si
 /// The image of code and tables.
 fn image_with(
     alloc: Global,
+    imports: &[ImportedService],
     globals: &[u8],
     data_size: u32,
     code: Vec<u8>,
@@ -52,6 +71,7 @@ fn image_with(
     tables: Tables,
 ) -> Result<Image, AllocError>
     requires { images.CanBeImage (record {
+      imports = imports.now;
       data_size = data_size;
       data_bytes = globals.now;
       text = code.items;
@@ -60,6 +80,7 @@ fn image_with(
       pdata = tables.pdata.items;
     }) }
     ensures { IfOk result (λ image. image ≡ record {
+      imports = imports.now;
       data_size = data_size;
       data_bytes = globals.now;
       text = code.items;
@@ -68,15 +89,26 @@ fn image_with(
       pdata = tables.pdata.items;
     }) }
 {
+    let mut services = Vec::new(alloc);
+    services.extend_from_slice(imports)?;
     let mut data = Vec::new(alloc);
     data.extend_from_slice(globals)?;
-    Ok(Image::new(data_size, data, code, entry, tables.xdata, tables.pdata))
+    Ok(Image::new(
+        services,
+        data_size,
+        data,
+        code,
+        entry,
+        tables.xdata,
+        tables.pdata,
+    ))
 }
 
 /// The image of routines at their places between bounds, of which the first so many are functions,
 /// and which begins at the one of the index `main`.
 fn linked(
     alloc: Global,
+    imports: &[ImportedService],
     globals: &[u8],
     routines: &[Routine<'_>],
     bounds: &[u32],
@@ -84,47 +116,61 @@ fn linked(
     functions: usize,
     main: usize,
 ) -> Result<Image, AllocError>
+    requires imports { AreFew imports.now }
     requires globals { length globals.now ≤ MOST_GLOBALS }
     requires near { AllByRecursion IsRoutineNear routines.now }
     requires places { HasPlaces routines.now functions main }
-    requires bounds { bounds.now ≡ texts.bounds (spec.first globals.now) routines.now }
-    requires placed { places.now ≡ places_from (spec.first globals.now) routines.now }
-    ensures { IfOk result (λ image. image ≡ spec.image_of globals.now routines.now functions main) }
+    requires bounds { bounds.now ≡ texts.bounds (spec.first imports.now globals.now) routines.now }
+    requires placed { places.now ≡ places_from (spec.first imports.now globals.now) routines.now }
+    ensures { IfOk result
+        (λ image. image ≡ spec.image_of imports.now globals.now routines.now functions main) }
 {
-    let placement = placement_of(globals, routines, bounds);
+    let placement = placement_of(imports, globals, routines, bounds);
     let text = placement.text;
-    let site = site_of(text, placement.rdata, bounds, functions);
+    let site = site_of(imports, text, placement.rdata, bounds, functions);
     let code = text_of(alloc, &site, routines, places)?;
     let tables = tables_of(
         alloc,
         &site,
         routines,
         places,
-        text + FRONT_SIZE,
+        text + front_size(imports),
         placement.xdata,
     )?;
     let entry = offset_of(bounds, main, text);
-    image_with(alloc, globals, placement.data_size, code, entry, tables)
+    image_with(
+        alloc,
+        imports,
+        globals,
+        placement.data_size,
+        code,
+        entry,
+        tables,
+    )
 }
 
 /// The image of routines, of which the first so many are functions, and which begins at the one of
 /// the index `main`.
 fn image_of(
     alloc: Global,
+    imports: &[ImportedService],
     globals: &[u8],
     routines: &[Routine<'_>],
     functions: usize,
     main: usize,
 ) -> Result<Image, AllocError>
+    requires imports { AreFew imports.now }
     requires globals { length globals.now ≤ MOST_GLOBALS }
     requires near { AllByRecursion IsRoutineNear routines.now }
     requires places { HasPlaces routines.now functions main }
-    ensures { IfOk result (λ image. image ≡ spec.image_of globals.now routines.now functions main) }
+    ensures { IfOk result
+        (λ image. image ≡ spec.image_of imports.now globals.now routines.now functions main) }
 {
-    let first = text_begin(globals) + FRONT_SIZE;
+    let first = text_begin(globals) + front_size(imports);
     let places = places_of(alloc, routines, first)?;
     linked(
         alloc,
+        imports,
         globals,
         routines,
         &places.bounds,
@@ -147,8 +193,10 @@ pub fn compile_program(alloc: Global, program: &IrProgram) -> Result<Vec<u8>, Al
 {
     let routines = routines(alloc, program)?;
     let functions = program.functions.len();
+    let imports = services_of(alloc, program)?;
     let image = image_of(
         alloc,
+        &imports,
         &program.globals,
         &routines,
         functions,

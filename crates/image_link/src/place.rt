@@ -5,21 +5,30 @@ ghost use Rattle.std.specs.List.{AllByRecursion};
 ghost use Rattle.template_code.specs.Template.{body_size};
 ghost use Rattle.x64_emit.specs.Bodies.{label_list, EndsNear};
 ghost use Rattle.x64_emit.specs.Near.{IsNear};
-ghost use Rattle.image_link.specs.Near.{IsRoutineNear};
+ghost use Rattle.image_link.specs.Near.{AreFew, IsRoutineNear};
 ghost use Rattle.image_link.specs.Places.{place_at, places_from};
 ghost use Rattle.image_link.specs.Text as spec;
 
 use crate::entry::put_entry;
 use crate::routine::Routine;
-use host_layout::imported::IMPORTED_COUNT;
+use host_layout::imported::ImportedService;
 use std::alloc::{AllocError, Global};
 use std::marker::Model;
 use x64_emit::body::{Labels, labels_of};
 use x64_emit::entry::{CHECK_STACK_SIZE, THUNK_SIZE};
 
-/// The bytes before the first routine: the thunks of the services that images import, and
-/// `__chkstk`.
-pub const FRONT_SIZE: u32 = THUNK_SIZE * IMPORTED_COUNT + CHECK_STACK_SIZE;
+/// How many services a program imports at most.
+pub const MOST_IMPORTS: u32 = 64;
+
+/// How many bytes come before the first routine of a program that imports these services: their
+/// thunks, and `__chkstk`.
+pub fn front_size(imports: &[ImportedService]) -> u32
+    requires { AreFew imports.now }
+    ensures value { result ≡ spec.front_size imports.now }
+    ensures small { result ≤ 512 }
+{
+    THUNK_SIZE * imports.len() as u32 + CHECK_STACK_SIZE
+}
 
 /// How many bytes come before the body of a routine.
 fn entry_size(alloc: Global, routine: &Routine<'_>) -> Result<u32, AllocError>

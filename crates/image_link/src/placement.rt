@@ -3,13 +3,14 @@
 ghost use Rattle.std.specs.Prelude.{◌≡◌, ◌+◌, ◌-◌, ◌<◌, ◌≤◌, ◌^◌, length, get_or};
 ghost use Rattle.std.specs.List.{AllByRecursion};
 ghost use Rattle.image_link.specs.Linked as spec;
-ghost use Rattle.image_link.specs.Near.{IsRoutineNear, HasRoom};
+ghost use Rattle.image_link.specs.Near.{AreFew, IsRoutineNear, HasRoom};
 ghost use Rattle.image_link.specs.Tables as tables;
 ghost use Rattle.image_link.specs.Text as texts;
 
 use crate::routine::Routine;
+use host_layout::imported::ImportedService;
 use host_layout::range::{DATA_AT, PAGE};
-use pe_write::{rdata_after, text_after, xdata_after};
+use pe_write::{rdata_after, tables_size, text_after, xdata_after};
 use seh_num::limit::MOST_GLOBALS;
 
 /// How many bytes `.data` takes, and where the sections behind it lie, relative to the image base.
@@ -53,32 +54,47 @@ pub fn offset_of(bounds: &[u32], index: usize, text: u32) -> u32
 }
 
 /// How many bytes the text takes in which the routines lie between those bounds.
-fn text_size(globals: &[u8], routines: &[Routine<'_>], bounds: &[u32], text: u32) -> u32
+fn text_size(
+    imports: &[ImportedService],
+    globals: &[u8],
+    routines: &[Routine<'_>],
+    bounds: &[u32],
+    text: u32,
+) -> u32
     requires text { text ≡ spec.text_begin globals.now }
-    requires bounds { bounds.now ≡ texts.bounds (spec.first globals.now) routines.now }
-    ensures { result ≡ spec.text_size routines.now }
+    requires bounds { bounds.now
+        ≡ texts.bounds (spec.first imports.now globals.now) routines.now }
+    ensures { result ≡ spec.text_size imports.now routines.now }
 {
     offset_of(bounds, routines.len(), text)
 }
 
-/// Where the sections of the image lie whose routines begin and end at those bounds.
-#[tactic(auto, using(crate::proofs::Bounds::total_small))]
-pub fn placement_of(globals: &[u8], routines: &[Routine<'_>], bounds: &[u32]) -> Placement
+/// Where the sections of the image lie that imports these services and whose routines begin and end
+/// at those bounds.
+#[tactic(auto, using(crate::proofs::Bounds::total_small, crate::proofs::Front::imports_small))]
+pub fn placement_of(
+    imports: &[ImportedService],
+    globals: &[u8],
+    routines: &[Routine<'_>],
+    bounds: &[u32],
+) -> Placement
+    requires imports { AreFew imports.now }
     requires globals { length globals.now ≤ MOST_GLOBALS }
     requires near { AllByRecursion IsRoutineNear routines.now }
     requires room { HasRoom routines.now }
-    requires bounds { bounds.now ≡ texts.bounds (spec.first globals.now) routines.now }
-    ensures placed { spec.IsPlacement globals.now routines.now result }
+    requires bounds { bounds.now
+        ≡ texts.bounds (spec.first imports.now globals.now) routines.now }
+    ensures placed { spec.IsPlacement imports.now globals.now routines.now result }
     ensures small { result.text ≤ DATA_AT + MOST_GLOBALS + PAGE }
     ensures tables { result.xdata + tables.infos_room routines.now < 2 ^ 31 }
 {
     let data_size = data_pages(globals.len() as u64);
     let text = text_begin(globals);
-    let text_size = text_size(globals, routines, bounds, text);
+    let text_size = text_size(imports, globals, routines, bounds, text);
     Placement {
         data_size,
         text,
         rdata: rdata_after(data_size, text_size) as u32,
-        xdata: xdata_after(data_size, text_size) as u32,
+        xdata: xdata_after(data_size, text_size, tables_size(imports)) as u32,
     }
 }

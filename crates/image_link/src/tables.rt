@@ -164,7 +164,7 @@ fn put_info(
         labels.now.starts.items labels.now.end routine.now frame.now) }
 {
     let regions = routine.regions();
-    let handler = thunk_at(site.text, ImportedService::CSpecificHandler);
+    let handler = thunk_at(site.imports, site.text, ImportedService::CSpecificHandler);
     write_unwind(&info_with(frame, trailer(regions, handler)), xdata)?;
     if regions.len() == 0 {
         return Ok(());

@@ -1,33 +1,32 @@
 //! The text of a program.
 
-ghost use Rattle.std.specs.Prelude.{◌≡◌, ◌+◌, ◌≤◌, [], ◌∷◌, ◌++◌, OnOk, IfOk};
+ghost use Rattle.std.specs.Prelude.{◌≡◌, ◌+◌, ◌≤◌, [], ◌∷◌, ◌++◌, map, OnOk, IfOk};
 ghost use Rattle.std.specs.List.{AllByRecursion};
 ghost use Rattle.x64_emit.specs.Appending.{Appended};
 ghost use Rattle.x64_emit.specs.Bodies.{EndsNear};
 ghost use Rattle.x64_emit.specs.Linking as linking;
 ghost use Rattle.x64_emit.specs.Near.{IsNear, AreNear};
-ghost use Rattle.image_link.specs.Near.{IsRoutineNear, IsSiteNear};
+ghost use Rattle.image_link.specs.Near.{AreFew, IsRoutineNear, IsSiteNear};
 ghost use Rattle.image_link.specs.Places.{place_at, places_from};
 ghost use Rattle.image_link.specs.Text as spec;
 
 use crate::entry::put_entry;
-use crate::place::{FRONT_SIZE, Place};
+use crate::place::{Place, front_size};
 use crate::routine::Routine;
-use host_layout::imported::{IMPORTED_COUNT, ImportedService};
+use host_layout::imported::ImportedService;
 use host_layout::limit::MOST_IMAGE;
-use pe_write::slot_of;
+use pe_write::{place_of, slot_of};
 use std::alloc::{AllocError, Global};
 use std::marker::Model;
 use x64_emit::body::put_body;
 use x64_emit::entry::{THUNK_SIZE, put_check_stack, put_thunk};
 use x64_emit::links::{Links, Thunks};
 
-/// How far after the text's begin `__chkstk` is.
-const CHECK_STACK_OFFSET: u32 = THUNK_SIZE * IMPORTED_COUNT;
-
 /// What every routine of a program refers to.
 #[derive(Drop)]
 pub struct Site<'a> {
+    /// The services that the program imports, in the order of their thunks and slots.
+    pub imports: &'a [ImportedService],
     /// Where the text begins.
     pub text: u32,
     /// Where `.rdata` begins, with the slots of the services.
@@ -44,6 +43,7 @@ impl<'a> Model for Site<'a> {
     ghost Value = { SiteView };
 
     ghost view = { λ s. record {
+      imports = s.imports.now;
       text = s.text;
       rdata = s.rdata;
       functions = s.functions.now;
@@ -51,65 +51,92 @@ impl<'a> Model for Site<'a> {
     } };
 }
 
-/// The thunk of a service in a text that begins at `text`.
-pub fn thunk_at(text: u32, service: ImportedService) -> u32
-    requires { text ≤ MOST_IMAGE }
-    ensures value { result ≡ spec.thunk_at text service }
+/// The thunk of one of the services that are imported, in a text that begins at `text`.
+pub fn thunk_at(imports: &[ImportedService], text: u32, service: ImportedService) -> u32
+    requires imports { AreFew imports.now }
+    requires text { text ≤ MOST_IMAGE }
+    ensures value { result ≡ spec.thunk_at imports.now text service }
     ensures near { IsNear result }
 {
-    text + THUNK_SIZE * service.number()
+    text + THUNK_SIZE * place_of(imports, service)
 }
 
-fn thunks_at(text: u32) -> Thunks
-    requires { text ≤ MOST_IMAGE }
-    ensures { result ≡ spec.thunks_at text }
+fn thunks_at(imports: &[ImportedService], text: u32) -> Thunks
+    requires imports { AreFew imports.now }
+    requires text { text ≤ MOST_IMAGE }
+    ensures { result ≡ spec.thunks_at imports.now text }
 {
     Thunks {
-        put: thunk_at(text, ImportedService::Put),
-        protect: thunk_at(text, ImportedService::Protect),
-        raise_exception: thunk_at(text, ImportedService::RaiseException),
-        local_unwind: thunk_at(text, ImportedService::LocalUnwind),
+        put: thunk_at(imports, text, ImportedService::Put),
+        protect: thunk_at(imports, text, ImportedService::Protect),
+        raise_exception: thunk_at(imports, text, ImportedService::RaiseException),
+        local_unwind: thunk_at(imports, text, ImportedService::LocalUnwind),
     }
 }
 
 /// Adds the thunk of a service.
 fn put_service(
     code: &mut Vec<u8>,
+    imports: &[ImportedService],
     text: u32,
     rdata: u32,
     service: ImportedService,
 ) -> Result<(), AllocError>
+    requires imports { AreFew imports.now }
     requires text { text ≤ MOST_IMAGE }
     requires rdata { rdata ≤ MOST_IMAGE }
     ensures { OnOk result
-        (Appended code.old (spec.service_thunk text rdata service ∷ []) code.new) }
+        (Appended code.old (spec.service_thunk imports.now text rdata service ∷ []) code.new) }
 {
-    let at = u64::from(thunk_at(text, service));
-    put_thunk(code, at, u64::from(rdata + slot_of(service)))
+    let at = u64::from(thunk_at(imports, text, service));
+    put_thunk(code, at, u64::from(rdata + slot_of(imports, service)))
+}
+
+/// Adds the thunks of the services that are imported, in their order.
+fn put_thunks(
+    code: &mut Vec<u8>,
+    imports: &[ImportedService],
+    text: u32,
+    rdata: u32,
+) -> Result<(), AllocError>
+    requires imports { AreFew imports.now }
+    requires text { text ≤ MOST_IMAGE }
+    requires rdata { rdata ≤ MOST_IMAGE }
+    ensures { OnOk result
+        (Appended code.old (map (spec.service_thunk imports.now text rdata) imports.now) code.new) }
+{
+    for service in imports {
+        put_service(code, imports, text, rdata, *service)?;
+    }
+    Ok(())
 }
 
 /// Adds what comes before the routines: the thunks and `__chkstk`.
-fn put_front(code: &mut Vec<u8>, text: u32, rdata: u32) -> Result<(), AllocError>
+fn put_front(
+    code: &mut Vec<u8>,
+    imports: &[ImportedService],
+    text: u32,
+    rdata: u32,
+) -> Result<(), AllocError>
+    requires imports { AreFew imports.now }
     requires text { text ≤ MOST_IMAGE }
     requires rdata { rdata ≤ MOST_IMAGE }
-    ensures { OnOk result (Appended code.old (spec.front_code text rdata) code.new) }
+    ensures { OnOk result (Appended code.old (spec.front_code imports.now text rdata) code.new) }
 {
-    put_service(code, text, rdata, ImportedService::RaiseException)?;
-    put_service(code, text, rdata, ImportedService::CSpecificHandler)?;
-    put_service(code, text, rdata, ImportedService::LocalUnwind)?;
-    put_service(code, text, rdata, ImportedService::Protect)?;
-    put_service(code, text, rdata, ImportedService::Put)?;
+    put_thunks(code, imports, text, rdata)?;
     put_check_stack(code)
 }
 
 /// What the body of a routine refers to.
 fn links_of<'a>(
+    imports: &[ImportedService],
     text: u32,
     functions: &'a [u32],
     funclets: &'a [u32],
     labels: &'a [u32],
     end: u32,
 ) -> Links<'a>
+    requires imports { AreFew imports.now }
     requires text { text ≤ MOST_IMAGE }
     requires functions { AreNear functions.now }
     requires funclets { AreNear funclets.now }
@@ -120,10 +147,10 @@ fn links_of<'a>(
       end = end;
       functions = functions.now;
       funclets = funclets.now;
-      thunks = spec.thunks_at text;
+      thunks = spec.thunks_at imports.now text;
     } }
 {
-    Links::new(labels, end, functions, funclets, thunks_at(text))
+    Links::new(labels, end, functions, funclets, thunks_at(imports, text))
 }
 
 /// Adds a routine that begins at an address, with its body at `start`.
@@ -164,13 +191,14 @@ fn put_routine(
         (code.new.items ≡ code.old.items ++ spec.routine_bytes site.now begin routine.now) }
 {
     let links = links_of(
+        site.imports,
         site.text,
         site.functions,
         site.funclets,
         &place.labels.starts,
         place.labels.end,
     );
-    let check_stack = site.text + CHECK_STACK_OFFSET;
+    let check_stack = site.text + THUNK_SIZE * site.imports.len() as u32;
     put_code(code, &links, routine, begin, place.body, check_stack)
 }
 
@@ -183,14 +211,15 @@ pub fn text_of(
 ) -> Result<Vec<u8>, AllocError>
     requires site { IsSiteNear site.now }
     requires near { AllByRecursion IsRoutineNear routines.now }
-    requires room { IsNear (spec.first_routine_at site.now.text + spec.room routines.now) }
+    requires room { IsNear
+        (spec.first_routine_at site.now.imports site.now.text + spec.room routines.now) }
     requires places { places.now
-        ≡ places_from (spec.first_routine_at site.now.text) routines.now }
+        ≡ places_from (spec.first_routine_at site.now.imports site.now.text) routines.now }
     ensures { IfOk result (λ v. v.items ≡ spec.text_bytes site.now routines.now) }
 {
     let mut code = Vec::new(alloc);
-    put_front(&mut code, site.text, site.rdata)?;
-    let mut at = site.text + FRONT_SIZE;
+    put_front(&mut code, site.imports, site.text, site.rdata)?;
+    let mut at = site.text + front_size(site.imports);
     let mut index = 0;
     for routine in routines {
         let place = &places[index];

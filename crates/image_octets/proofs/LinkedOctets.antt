@@ -9,7 +9,7 @@ use Rattle.template_code.specs.Bytes.{spelled}
 use Rattle.image_link.specs.Routines.{RoutineView, routines}
 use Rattle.image_link.specs.Text.{SiteView, own_addresses, routine_size, front_code, first_routine_at, routine_code, routine_bytes, routines_bytes, text_bytes, thunk_at}
 use Rattle.image_link.specs.Tables.{trailer, scope_records, scope_table, info_if, info_bytes, infos, ranges}
-use Rattle.image_link.specs.Linked.{first, site, xdata_begin, linked}
+use Rattle.image_link.specs.Linked.{services_of, first, site, xdata_begin, linked}
 use Rattle.image_octets.specs.OctetLaws.{AreOctets, LinkedAreOctets}
 use Rattle.image_octets.proofs.Octets.{joined}
 use Rattle.image_octets.proofs.InstructionOctets.{spelled_octets}
@@ -32,8 +32,9 @@ routines_octets s at (r ∷ rs) =
 
 text_octets : (s : SiteView) (rs : List RoutineView) → AreOctets (text_bytes s rs)
 text_octets s rs =
-    joined (spelled (front_code s.text s.rdata)) (routines_bytes s (first_routine_at s.text) rs)
-    (spelled_octets (front_code s.text s.rdata)) (routines_octets s (first_routine_at s.text) rs)
+    let first = first_routine_at s.imports s.text in
+    joined (spelled (front_code s.imports s.text s.rdata)) (routines_bytes s first rs)
+    (spelled_octets (front_code s.imports s.text s.rdata)) (routines_octets s first rs)
 
 -- ---- unwind infos and scope tables
 
@@ -47,7 +48,7 @@ framed_octets : (s : SiteView) (labels : List ℕ) (end : ℕ) (r : RoutineView)
     (frame : Option FrameLayout) → AreOctets (info_if s labels end r frame)
 framed_octets s labels end r None = tt
 framed_octets s labels end r (Some f) =
-    let t = trailer (thunk_at s.text CSpecificHandler) r.body.regions in
+    let t = trailer (thunk_at s.imports s.text CSpecificHandler) r.body.regions in
     joined (unwind_bytes (info_of f t)) (scope_table s.funclets labels end r.body.regions)
     (info_octets f t) (rows_octets s.funclets labels end r.body.regions)
 
@@ -67,6 +68,7 @@ infos_octets s at (r ∷ rs) =
 pub linked_are_octets : LinkedAreOctets
 linked_are_octets p globals =
     let rs = routines p in
-    let s = site p.globals rs (length p.functions) in
-    program_octets (linked p) globals (text_octets s rs) (infos_octets s (first p.globals) rs)
-    (table_octets (ranges s (xdata_begin p.globals rs) (first p.globals) rs))
+    let s = site (services_of p) p.globals rs (length p.functions) in
+    let at = first (services_of p) p.globals in
+    program_octets (linked p) globals (text_octets s rs) (infos_octets s at rs)
+    (table_octets (ranges s (xdata_begin (services_of p) p.globals rs) at rs))

@@ -10,7 +10,7 @@ use Rattle.pe_image.specs.Numbers.{u32, u64, zeros}
 use Rattle.pe_image.specs.declared.layout.TheConstants.{DESCRIPTOR_SIZE, HINT_SIZE}
 use Rattle.pe_write.specs.declared.header.TheConstants.{DATA_NAME, TEXT_NAME, RDATA_NAME, XDATA_NAME, PDATA_NAME}
 use Rattle.pe_write.specs.declared.import_tables.TheConstants.{UNREAD_FIELDS_SIZE}
-use Rattle.pe_write.specs.ImportTables.{name_of, services, lookups_at, slots_at, names_at, library_at, hint_name, hint_name_size, addresses, descriptor, import_tables}
+use Rattle.pe_write.specs.ImportTables.{name_of, lookups_at, slots_at, names_at, library_at, hint_name, hint_name_size, addresses, descriptor, import_tables}
 use Rattle.pe_write.specs.Program.{ImageContents, sizes_of, rdata_at, parts_of}
 use Rattle.pe_write.specs.Written.{written}
 use Rattle.image_octets.specs.OctetLaws.{AreOctets}
@@ -49,41 +49,41 @@ hint_octets s =
     (name_octets s))
     (zero_bytes (1 + (length (name_of s) + 1) % 2))
 
-descriptor_octets : (at : ℕ) → AreOctets (descriptor at)
+descriptor_octets : (ss : List ImportedService) (at : ℕ) → AreOctets (descriptor ss at)
 unfolding descriptor
-descriptor_octets at =
-    joined (u32 (lookups_at at) ++ zeros UNREAD_FIELDS_SIZE ++ u32 (library_at at))
-    (u32 (slots_at at))
-    (joined (u32 (lookups_at at) ++ zeros UNREAD_FIELDS_SIZE) (u32 (library_at at))
+descriptor_octets ss at =
+    joined (u32 (lookups_at at) ++ zeros UNREAD_FIELDS_SIZE ++ u32 (library_at ss at))
+    (u32 (slots_at ss at))
+    (joined (u32 (lookups_at at) ++ zeros UNREAD_FIELDS_SIZE) (u32 (library_at ss at))
     (joined (u32 (lookups_at at)) (zeros UNREAD_FIELDS_SIZE)
     (four_bytes (lookups_at at))
     (zero_bytes UNREAD_FIELDS_SIZE))
-    (four_bytes (library_at at)))
-    (four_bytes (slots_at at))
+    (four_bytes (library_at ss at)))
+    (four_bytes (slots_at ss at))
 
 addresses_octets : (at : ℕ) (ss : List ImportedService) → AreOctets (addresses at ss)
 addresses_octets at [] = eight_bytes 0
 addresses_octets at (s ∷ ss) = joined (u64 at) (addresses (at + hint_name_size s) ss)
     (eight_bytes at) (addresses_octets (at + hint_name_size s) ss)
 
-imports_octets : (at : ℕ) → AreOctets (import_tables at)
+imports_octets : (ss : List ImportedService) (at : ℕ) → AreOctets (import_tables ss at)
 unfolding import_tables all_below
-imports_octets at =
-    joined (descriptor at ++ zeros DESCRIPTOR_SIZE ++ addresses (names_at at) services
-    ++ addresses (names_at at) services ++ flat_map hint_name services ++ LIBRARY.now) (zeros 1)
-    (joined (descriptor at ++ zeros DESCRIPTOR_SIZE ++ addresses (names_at at) services
-    ++ addresses (names_at at) services ++ flat_map hint_name services) (LIBRARY.now)
-    (joined (descriptor at ++ zeros DESCRIPTOR_SIZE ++ addresses (names_at at) services
-    ++ addresses (names_at at) services) (flat_map hint_name services)
-    (joined (descriptor at ++ zeros DESCRIPTOR_SIZE ++ addresses (names_at at) services)
-    (addresses (names_at at) services)
-    (joined (descriptor at ++ zeros DESCRIPTOR_SIZE) (addresses (names_at at) services)
-    (joined (descriptor at) (zeros DESCRIPTOR_SIZE)
-    (descriptor_octets at)
+imports_octets ss at =
+    joined (descriptor ss at ++ zeros DESCRIPTOR_SIZE ++ addresses (names_at ss at) ss
+    ++ addresses (names_at ss at) ss ++ flat_map hint_name ss ++ LIBRARY.now) (zeros 1)
+    (joined (descriptor ss at ++ zeros DESCRIPTOR_SIZE ++ addresses (names_at ss at) ss
+    ++ addresses (names_at ss at) ss ++ flat_map hint_name ss) (LIBRARY.now)
+    (joined (descriptor ss at ++ zeros DESCRIPTOR_SIZE ++ addresses (names_at ss at) ss
+    ++ addresses (names_at ss at) ss) (flat_map hint_name ss)
+    (joined (descriptor ss at ++ zeros DESCRIPTOR_SIZE ++ addresses (names_at ss at) ss)
+    (addresses (names_at ss at) ss)
+    (joined (descriptor ss at ++ zeros DESCRIPTOR_SIZE) (addresses (names_at ss at) ss)
+    (joined (descriptor ss at) (zeros DESCRIPTOR_SIZE)
+    (descriptor_octets ss at)
     (zero_bytes DESCRIPTOR_SIZE))
-    (addresses_octets (names_at at) services))
-    (addresses_octets (names_at at) services))
-    (mapped hint_name services hint_octets))
+    (addresses_octets (names_at ss at) ss))
+    (addresses_octets (names_at ss at) ss))
+    (mapped hint_name ss hint_octets))
     (by_test LIBRARY.now refl))
     (zero_bytes 1)
 
@@ -98,7 +98,10 @@ program_octets p globals text xdata pdata =
       (
         record { name = by_test TEXT_NAME refl; bytes = text },
         (
-          record { name = by_test RDATA_NAME refl; bytes = imports_octets (rdata_at (sizes_of p)) },
+          record {
+            name = by_test RDATA_NAME refl;
+            bytes = imports_octets p.imports (rdata_at (sizes_of p));
+          },
           (
             record { name = by_test XDATA_NAME refl; bytes = xdata },
             (record { name = by_test PDATA_NAME refl; bytes = pdata }, tt),

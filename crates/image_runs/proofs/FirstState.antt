@@ -1,7 +1,8 @@
 -- The first state of a compiled program's image.
 use Rattle.std.proofs.Common.{◌≡◌, ℕ, zero, suc, ◌+◌, ◌^◌, ◌<◌, ◌≤◌, Ok, List, length, refl, ap, ◌∙◌, arith}
 use Rattle.std.proofs.lemmas.List.{get_or-take}
-use Rattle.image_runs.specs.Words.{Memory, number_at, next, word, first_cpu, mapped, image_of, ImageContents, sizes_of, text_at, LinearProgram, text_begin, linked, first, functions_of, funclets_of, plan_of, sites_of, HasWholeImage, first_stack, RoutineView, routines, bounds}
+use Rattle.image_tables.specs.RoutinePlaces.{routines_begin}
+use Rattle.image_runs.specs.Words.{Memory, number_at, next, word, first_cpu, mapped, image_of, ImageContents, sizes_of, text_at, LinearProgram, text_begin, linked, functions_of, funclets_of, plan_of, sites_of, HasWholeImage, first_stack, RoutineView, routines, bounds}
 use Rattle.host_model.specs.Loading.{start}
 use Rattle.image_link.proofs.Bounds.{bounds_least}
 use Rattle.image_runs.proofs.Lemmas.{is, images_are_programs, images_start, may_read_written, word_of}
@@ -36,8 +37,8 @@ module _ (program : LinearProgram) (c : HasWholeImage program) where
       let whole = d.whole in
       let main = c.fits.main in
       let long = as_long program c.fits in
-      let least = bounds_least (first program.globals) rs program.main 0 (omega arith) in
-      let taken = get_or-take (length program.functions) (bounds (first program.globals) rs)
+      let least = bounds_least (routines_begin program) rs program.main 0 (omega arith) in
+      let taken = get_or-take (length program.functions) (bounds (routines_begin program) rs)
       program.main 0 main in
       let text : text_at (sizes_of p) ≡ text_begin program.globals = omega arith in
       omega arith

@@ -45,14 +45,14 @@ module _ (p : LinearProgram) (m : Memory) (x : Placed) (number : ℕ) (from : Sl
       let k = links p x in
       let begin = x.begin + entry_size r in
       let i = instructions.Return from in
-      let entry = entry_code x.begin (check_stack_at s.text) r in
+      let entry = entry_code x.begin (check_stack_at s.imports s.text) r in
       let t = template_there k y begin r.body.code number i at in
       let near = near_at (IsInstructionNear y) r.body.code number i h.near.code at in
       let f = fetch_some y from in
       let some = template_some y i in
       let in' = t.inside in
       let at' = t.here in
-      let size = entry_sizes x.begin (check_stack_at s.text) r h.near in
+      let size = entry_sizes x.begin (check_stack_at s.imports s.text) r h.near in
       let base = image_base + x.begin in
       let body = (code_split m base entry (code_from k y begin r.body.code) code).1 in
       let rest = (code_split m (base + sizes entry) t.before

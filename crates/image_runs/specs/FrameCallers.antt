@@ -9,8 +9,7 @@ use Rattle.linear_code.specs.Program.{LinearProgram}
 use Rattle.seh_ir.specs.Lowered.{lowered}
 use Rattle.frame_layout.specs.declared.frame.FrameLayout.{FrameLayout}
 use Rattle.image_link.specs.Fits.{FitsProgram}
-use Rattle.image_link.specs.Text.{thunk_at, check_stack_at}
-use Rattle.image_tables.specs.RoutinePlaces.{Placed, end_of, site_of, placed}
+use Rattle.image_tables.specs.RoutinePlaces.{Placed, end_of, site_of, placed, thunk_begin, probe_begin}
 use Rattle.image_tables.specs.CodeInMemory.{image_base, HasText}
 use Rattle.image_tables.specs.Functions.{function_of, leaf, thunk_of, probe}
 use Rattle.image_tables.specs.FrameLaws.{FindsCaller, IsInRange}
@@ -32,11 +31,11 @@ pub record FindsCallers (p : LinearProgram) : Type 0 where
   pub thunks :
       (service : ImportedService) (e s : State)
       → IsInRange e s (thunk_of p service)
-      (thunk_at (site_of p).text service) (thunk_at (site_of p).text service + 6)
+      (thunk_begin p service) (thunk_begin p service + 6)
       → FindsCaller p e s
   pub probes :
       (e s : State)
-      → IsInRange e s probe (check_stack_at (site_of p).text) (check_stack_at (site_of p).text + 21)
+      → IsInRange e s probe (probe_begin p) (probe_begin p + 21)
       → FindsCaller p e s
 
 -- so it is of every checked program whose linear code is within the limits of linking

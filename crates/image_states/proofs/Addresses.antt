@@ -2,7 +2,7 @@
 use Rattle.std.proofs.Common.{◌≡◌, ◌≢◌, ℕ, zero, suc, ◌+◌, ◌<◌, ◌≤◌, true, false, not, leb, ltb, List, [], ◌∷◌, ◌++◌, length, get_or, Some, refl, ap, subst, ◌∙◌, arith, inl, inr, length-append}
 use Rattle.std.specs.Prelude.{◌&&◌}
 use Rattle.std.proofs.lemmas.Bool.{or_right, and_from, and_right, not_from_false, cases_lt, le-leb, lt-ltb, le-ltb}
-use Rattle.image_states.specs.Words.{IMAGE_BASE, IMAGE_RANGE_END, is_between, is_data, data_end, is_reserved, LinearBody, LinearFunclet, LinearProgram, BodyName, body_of, Instruction, Layout, modrm, size, sizes, check_stack, body_size, offset_of, FitsProgram, RoutineView, funclet_frame, funclet, routines, IsFrameNear, routine_size, entry_size, routine_bytes, check_stack_at, bounds, text_begin, first, total, linked, Placed, end_of, site_of, image_base, template_at, funclet_begin, functions_of, funclets_of, routine_of, address_of, plan_of, sites_of, HasWholeImage, IsInImage}
+use Rattle.image_states.specs.Words.{IMAGE_BASE, IMAGE_RANGE_END, is_between, is_data, data_end, is_reserved, LinearBody, LinearFunclet, LinearProgram, BodyName, body_of, Instruction, Layout, modrm, size, sizes, check_stack, body_size, offset_of, FitsProgram, RoutineView, funclet_frame, funclet, routines, IsFrameNear, routine_size, entry_size, routine_bytes, bounds, text_begin, total, linked, Placed, end_of, site_of, image_base, template_at, funclet_begin, functions_of, funclets_of, routine_of, address_of, plan_of, sites_of, HasWholeImage, IsInImage, routines_begin, probe_begin}
 use Rattle.image_states.proofs.Lemmas.{offset_next, some_instruction, no_routine, taking_few, entry_least, text_is, end_inside, IsThere, there, routine_length, bounds_rise, no_funclet, as_long, begin_is, funclet_is, funclet_size}
 use Rattle.image_link.proofs.Bounds.{bounds_least, bounds_below}
 use Rattle.image_tables.proofs.Labels.{template_some}
@@ -30,7 +30,7 @@ reserved globals a le lt =
 -- a routine ends within the text
 pub routine_end : (p : LinearProgram) (x : Placed) → FitsProgram p
     → IsThere (site_of p) (linked p).text (text_begin p.globals) x
-    → end_of x ≤ first p.globals + total (routines p)
+    → end_of x ≤ routines_begin p + total (routines p)
 routine_end p x fits h =
     let long = routine_length (site_of p) x.begin x.routine h.near in
     let l = ap length h.bytes in
@@ -79,7 +79,7 @@ module _ (program : LinearProgram) (c : HasWholeImage program) where
 
   -- from the text's begin up to the end of the routines
   pub in_image : (from to : ℕ) → text_begin program.globals ≤ from
-      → to ≤ first program.globals + total (routines program)
+      → to ≤ routines_begin program + total (routines program)
       → InImage (image_base + from) (image_base + to)
   in_image from to low high =
       let end = end_inside program fits in
@@ -94,7 +94,7 @@ module _ (program : LinearProgram) (c : HasWholeImage program) where
       ((sites_of program).check_stack + sizes check_stack)
   check_stack_inside =
       let long = check_stack_size in
-      let at = check_stack_at (site_of program).text in
+      let at = probe_begin program in
       let n : image_base + (at + sizes check_stack)
       ≡ (sites_of program).check_stack + sizes check_stack = omega arith in
       subst (InImage (image_base + at)) n (in_image at (at + sizes check_stack) (omega arith)
@@ -160,12 +160,12 @@ entry_some program c name b is fl e =
 module _ (program : LinearProgram) (c : HasWholeImage program) where
   -- a funclet begins within the text
   pub funclet_end : (k : ℕ) → k < length program.funclets
-      → funclet_begin program k < first program.globals + total (routines program)
+      → funclet_begin program k < routines_begin program + total (routines program)
   funclet_end k lt =
       let fits = c.fits in
       let long = as_long program fits in
       let n = length program.functions + k in
-      let below = bounds_below (first program.globals) (routines program) n 0 no_routine
+      let below = bounds_below (routines_begin program) (routines program) n 0 no_routine
       (omega arith) in
       let begin = begin_is program fits k in
       let some = funclet_size program fits k lt in
@@ -175,7 +175,7 @@ module _ (program : LinearProgram) (c : HasWholeImage program) where
   begin_least k lt =
       let fits = c.fits in
       let long = as_long program fits in
-      let least = bounds_least (first program.globals) (routines program)
+      let least = bounds_least (routines_begin program) (routines program)
       (length program.functions + k) 0 (omega arith) in
       let begin = begin_is program fits k in
       omega arith
@@ -200,14 +200,14 @@ module _ (program : LinearProgram) (c : HasWholeImage program) where
       let some = funclet_size program fits k in' in
       let size = ap (λ (r : RoutineView). routine_size r) p.own in
       elim (cases_lt p.index n) [
-        | inl before ↦ let r = bounds_rise (first program.globals) rs p.index n 0 no_routine before
+        | inl before ↦ let r = bounds_rise (routines_begin program) rs p.index n 0 no_routine before
             (omega arith) in omega arith
         | inr rest ↦ elim (cases_lt n p.index) [
-          | inl after ↦ let r = bounds_rise (first program.globals) rs n p.index 0 no_routine after
+          | inl after ↦ let r = bounds_rise (routines_begin program) rs n p.index 0 no_routine after
               (let low = p.below in omega arith) in omega arith
           | inr equal ↦
               let same' : p.index ≡ n = omega arith in
-              let at = ap (λ (i : ℕ). get_or (bounds (first program.globals) rs) i 0) same' in
+              let at = ap (λ (i : ℕ). get_or (bounds (routines_begin program) rs) i 0) same' in
               let entry = entry_some program c name b is (get_or program.funclets k no_funclet)
               (p.own ∙ ap (λ (i : ℕ). get_or rs i no_routine) same'
               ∙ funclet_is program fits k in') in

@@ -4,7 +4,7 @@ use Rattle.std.specs.Prelude.{slice_get, nat_lt}
 use Rattle.std.specs.List.{AllByRecursion}
 use Rattle.std.proofs.lemmas.Bool.{false≢true, and_from, lt-ltb, le-ltb, lt-leb}
 use Rattle.std.proofs.lemmas.List.{append-nil}
-use Rattle.image_states.specs.Words.{Memory, Rax, Instr, chosen, Entry, Functions, IsExecutableAt, spell, Slot, Instruction, LinearBody, LinearProgram, BodyName, body_of, FrameLayout, taking_size, Layout, spelled, size, sizes, fetch, code_from, IsInstructionNear, IsFrameNear, argument_code, entry_size, check_stack_at, routine_code, Placed, body_begin, end_of, site_of, image_base, template_at, links, begin_of, making_size, give_back, code_of, HasProgram, FindsReturn, FindsOwed, Owed, owed_after, owed_by, is_leaf, or_none, functions_of, funclets_of, routine_of, plan_of, sites_of, HasWholeImage, run_or, operations, epilogue, return_code, placed}
+use Rattle.image_states.specs.Words.{Memory, Rax, Instr, chosen, Entry, Functions, IsExecutableAt, spell, Slot, Instruction, LinearBody, LinearProgram, BodyName, body_of, FrameLayout, taking_size, Layout, spelled, size, sizes, fetch, code_from, IsInstructionNear, IsFrameNear, argument_code, entry_size, routine_code, Placed, body_begin, end_of, site_of, image_base, template_at, links, begin_of, making_size, give_back, code_of, HasProgram, FindsReturn, FindsOwed, Owed, owed_after, owed_by, is_leaf, or_none, functions_of, funclets_of, routine_of, plan_of, sites_of, HasWholeImage, run_or, operations, epilogue, return_code, placed, probe_begin}
 use Rattle.x64_instr.specs.declared.instruction.Instr.TheVariants as instrs
 use Rattle.x64_encode.proofs.Lengths.{longest}
 use Rattle.eh_tables.specs.declared.code.UnwindOperation.{UnwindOperation}
@@ -235,7 +235,7 @@ module _ (program : LinearProgram) (c : HasWholeImage program) (name : BodyName)
       (code_same program c name b is) code)
 
   abbrev check : ℕ
-  check = check_stack_at (site_of program).text
+  check = probe_begin program
 
   abbrev making : List Instr
   making = texts.frame_code x.begin check x.routine.frame

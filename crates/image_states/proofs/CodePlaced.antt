@@ -1,13 +1,16 @@
 -- The code of a loaded image: that of bodies, of thunks and of `__chkstk`.
-use Rattle.std.proofs.Common.{◌≡◌, ℕ, suc, ◌+◌, ◌-◌, ◌^◌, ◌<◌, ◌≤◌, true, false, List, [], ◌∷◌, ◌++◌, length, Option, Some, refl, sym, ap, subst, ◌∙◌, arith, inl}
+use Rattle.std.proofs.Common.{◌≡◌, ℕ, suc, ◌+◌, ◌*◌, ◌-◌, ◌^◌, ◌<◌, ◌≤◌, true, false, List, [], ◌∷◌, ◌++◌, length, map, Option, Some, refl, sym, ap, subst, ◌∙◌, arith, inl}
 use Rattle.std.specs.List.{AllByRecursion}
+use Rattle.std.proofs.lemmas.Grind.{flat_map-append}
 use Rattle.std.proofs.lemmas.List.{append-nil}
-use Rattle.image_states.specs.Words.{Service, service_named, is_writable, Memory, may_write, chosen, modrm, Section, Import, ImageContents, image_of, imports_of, sizes_of, rdata_at, end_at, mode_in, stored_byte, with_slots, mapped, IsExecutableAt, BuiltIn, Put, Protect, RaiseException, LinearBody, LinearProgram, BodyName, body_of, spelled, size, sizes, check_stack, IsCodeAt, SiteView, routine_size, routine_code, routine_bytes, text_begin, first, linked, routines, site_of, image_base, begin_of, code_of, HasProgram, functions_of, funclets_of, routine_of, plan_of, sites_of, HasWholeImage, MOST_IMAGE, is_readable, number_at, may_read, name_of, slot_of, SlotsAreApart, thunk, thunk_at, service_thunk, front_code, routines_bytes, service_of, HasService}
+use Rattle.image_states.specs.Words.{Service, service_named, is_writable, Memory, may_write, chosen, modrm, Section, Import, ImageContents, image_of, imports_of, sizes_of, rdata_at, end_at, mode_in, stored_byte, with_slots, mapped, IsExecutableAt, BuiltIn, Put, Protect, RaiseException, LinearBody, LinearProgram, BodyName, body_of, spelled, size, sizes, check_stack, IsCodeAt, SiteView, routine_size, routine_code, routine_bytes, text_begin, linked, routines, site_of, image_base, begin_of, code_of, HasProgram, functions_of, funclets_of, routine_of, plan_of, sites_of, HasWholeImage, MOST_IMAGE, is_readable, number_at, may_read, name_of, slot_of, SlotsAreApart, thunk, thunk_at, service_thunk, front_code, routines_bytes, service_of, HasService, tables_size, slots_at, place_of, routines_begin}
 use Rattle.host_layout.specs.declared.service.Service.TheVariants as services
 use Rattle.host_layout.specs.Services.{address_of}
 use Rattle.host_layout.specs.declared.imported.ImportedService.{ImportedService}
 use Rattle.host_layout.specs.declared.imported.ImportedService.TheVariants as imports
 use Rattle.image_states.proofs.Lemmas.{listed, slots_read, sizes_spelled, routine_small, is, text_is, rdata_is, end_inside, code_length}
+use Rattle.image_link.proofs.Front.{imports_small, services_few, services_there, thunks_size}
+use Rattle.image_link.proofs.Imports.{thunk_there, slot_there, IsWithin, all_from}
 use Rattle.template_code.specs.Jumps.{distance}
 use Rattle.x64_templates.specs.Runs.{HasCode}
 use Rattle.image_tables.proofs.Handlers.{thunk_bytes}
@@ -96,99 +99,65 @@ module _ (program : LinearProgram) (c : HasWholeImage program) where
   -- ---- the front
 
   abbrev t : ImportedService → List ℕ
-  t v = chosen (service_thunk s.text s.rdata v)
+  t v = chosen (service_thunk s.imports s.text s.rdata v)
 
   six : (v : ImportedService) → length (t v) ≡ 6
   six v = ap length (thunk_bytes _)
 
-  record Front : Type 0 where
-    raise : IsCodeAt m T (t imports.RaiseException)
-    unwind : IsCodeAt m (T + 12) (t imports.LocalUnwind)
-    protect : IsCodeAt m (T + 18) (t imports.Protect)
-    put : IsCodeAt m (T + 24) (t imports.Put)
-    check : IsCodeAt m (T + 30) (spelled check_stack)
+  abbrev rest : List ℕ
+  rest = routines_bytes s (routines_begin program) (routines program)
 
-  front : Front
-  front =
-      let rest = routines_bytes s (first program.globals) (routines program) in
-      let all = (code_split m T (spelled (front_code s.text s.rdata)) rest text_code).0 in
-      let a = code_split m T (t imports.RaiseException)
-      (t imports.CSpecificHandler ++ (t imports.LocalUnwind
-      ++ (t imports.Protect ++ (t imports.Put ++ spelled check_stack)))) all in
-      let b = code_split m (T + length (t imports.RaiseException)) (t imports.CSpecificHandler)
-      (t imports.LocalUnwind ++ (t imports.Protect ++ (t imports.Put ++ spelled check_stack)))
-      a.1 in
-      let d = code_split m (T + length (t imports.RaiseException)
-      + length (t imports.CSpecificHandler)) (t imports.LocalUnwind)
-      (t imports.Protect ++ (t imports.Put ++ spelled check_stack)) b.1 in
-      let e = code_split m (T + length (t imports.RaiseException)
-      + length (t imports.CSpecificHandler) + length (t imports.LocalUnwind)) (t imports.Protect)
-      (t imports.Put ++ spelled check_stack) d.1 in
-      let f = code_split m (T + length (t imports.RaiseException)
-      + length (t imports.CSpecificHandler) + length (t imports.LocalUnwind)
-      + length (t imports.Protect)) (t imports.Put) (spelled check_stack) e.1 in
-      let n0 = six imports.RaiseException in
-      let n1 = six imports.CSpecificHandler in
-      let n2 = six imports.LocalUnwind in
-      let n3 = six imports.Protect in
-      let n4 = six imports.Put in
-      let p2 : T + length (t imports.RaiseException) + length (t imports.CSpecificHandler)
-      ≡ T + 12 = omega arith in
-      let p3 : T + length (t imports.RaiseException) + length (t imports.CSpecificHandler)
-      + length (t imports.LocalUnwind) ≡ T + 18 = omega arith in
-      let p4 : T + length (t imports.RaiseException) + length (t imports.CSpecificHandler)
-      + length (t imports.LocalUnwind) + length (t imports.Protect) ≡ T + 24 = omega arith in
-      let p5 : T + length (t imports.RaiseException) + length (t imports.CSpecificHandler)
-      + length (t imports.LocalUnwind) + length (t imports.Protect) + length (t imports.Put)
-      ≡ T + 30 = omega arith in
-      record {
-        raise = a.0;
-        unwind = subst (λ (n : ℕ). IsCodeAt m n (t imports.LocalUnwind)) p2 d.0;
-        protect = subst (λ (n : ℕ). IsCodeAt m n (t imports.Protect)) p3 e.0;
-        put = subst (λ (n : ℕ). IsCodeAt m n (t imports.Put)) p4 f.0;
-        check = subst (λ (n : ℕ). IsCodeAt m n (spelled check_stack)) p5 f.1;
-      }
+  -- the thunk of a service that is imported
+  thunk_is : (v : ImportedService) → IsCodeAt m (T + 6 * place_of s.imports v) (t v)
+  thunk_is v =
+      let f = thunk_there s.imports s.text s.rdata v rest (services_there program v) in
+      let long = f.long in
+      let at : T + length f.before ≡ T + 6 * place_of s.imports v = omega arith in
+      let b = (code_split m T f.before (t v ++ f.after)
+      (subst (IsCodeAt m T) f.same text_code)).1 in
+      subst (λ (n : ℕ). IsCodeAt m n (t v)) at
+      (code_split m (T + length f.before) (t v) f.after b).0
+
+  check_is : IsCodeAt m (T + 6 * length s.imports) (spelled check_stack)
+  check_is =
+      let thunks = map (service_thunk s.imports s.text s.rdata) s.imports in
+      let all = (code_split m T (spelled (front_code s.imports s.text s.rdata)) rest text_code).0 in
+      let at : T + length (spelled thunks) ≡ T + 6 * length s.imports = omega (
+        arith,
+        sizes_spelled thunks,
+        thunks_size s.imports s.text s.rdata s.imports,
+      ) in
+      subst (λ (n : ℕ). IsCodeAt m n (spelled check_stack)) at
+      (code_split m T (spelled thunks) (spelled check_stack)
+      (subst (IsCodeAt m T) (flat_map-append chosen thunks check_stack) all)).1
 
   pub check_code : HasCode m (sites_of program).check_stack check_stack
   check_code =
       let long = check_stack_size in
       let end = end_inside program c.fits in
       let l = low in
-      let at : T + 30 ≡ (sites_of program).check_stack = omega arith in
+      let at : T + 6 * length s.imports ≡ (sites_of program).check_stack = omega arith in
       record {
-        is_there = subst (λ (n : ℕ). IsCodeAt m n (spelled check_stack)) at front.check;
+        is_there = subst (λ (n : ℕ). IsCodeAt m n (spelled check_stack)) at check_is;
         placed = record { low = omega arith; high = omega arith };
       }
 
   -- ---- slots
 
-  readable : (a : ℕ) → image_base + r ≤ a → a < image_base + r + 222 → may_read m a ≡ true
+  readable : (a : ℕ) → image_base + r ≤ a → a < image_base + r + tables_size p.imports
+      → may_read m a ≡ true
   unfolding mapped
   readable a le lt = ap (λ (o : Option Section). is_readable (mode_in o a).rights)
       (tables_there program c a le lt)
 
-  fixed : (a : ℕ) → image_base + r ≤ a → a < image_base + r + 222 → may_write m a ≡ false
+  fixed : (a : ℕ) → image_base + r ≤ a → a < image_base + r + tables_size p.imports
+      → may_write m a ≡ false
   unfolding mapped
   fixed a le lt = ap (λ (o : Option Section). is_writable (mode_in o a).rights)
       (tables_there program c a le lt)
 
   abbrev named : ImportedService → ℕ → Import
   named v at = record { name = name_of v; slot = at }
-
-  abbrev i0 : Import
-  i0 = named imports.RaiseException (r + 88)
-
-  abbrev i1 : Import
-  i1 = named imports.CSpecificHandler (r + 88 + 8)
-
-  abbrev i2 : Import
-  i2 = named imports.LocalUnwind (r + 88 + 8 + 8)
-
-  abbrev i3 : Import
-  i3 = named imports.Protect (r + 88 + 8 + 8 + 8)
-
-  abbrev i4 : Import
-  i4 = named imports.Put (r + 88 + 8 + 8 + 8 + 8)
 
   reads : (before : List Import) (i : Import) (later : List Import) (service : Service)
       → before ++ (i ∷ later) ≡ imports_of p → image_base + i.slot + 8 ≤ 2 ^ 64
@@ -201,43 +170,24 @@ module _ (program : LinearProgram) (c : HasWholeImage program) where
       (image_base + i.slot)) (listed p (is program c.fits) ∙ sym same)
       ∙ slots_read image_base (stored_byte (image_of p)) before i later service fits name apart
 
-  apart_after : (x y : ℕ) → x + 8 ≤ y → y + 8 ≤ 2 ^ 48
-      → SlotsAreApart (image_base + x) (image_base + y)
-  apart_after x y le small = record { apart = inl (omega arith); fits = omega arith }
-
-  raise_reads : number_at m.byte 8 (image_base + (r + 88)) ≡ address_of services.RaiseException
-  raise_reads =
+  -- the slot of a service that is imported
+  slot_reads : (v : ImportedService) (service : Service)
+      → service_named (name_of v) ≡ Some service
+      → number_at m.byte 8 (image_base + (r + slot_of s.imports v)) ≡ address_of service
+  slot_reads v service name =
+      let ss = s.imports in
       let l = low in
-      reads [] i0 (i1 ∷ i2 ∷ i3 ∷ i4 ∷ []) services.RaiseException refl (omega arith) refl (
-        apart_after (r + 88) (r + 88 + 8) (omega arith) (omega arith),
-        (
-          apart_after (r + 88) (r + 88 + 8 + 8) (omega arith) (omega arith),
-          (
-            apart_after (r + 88) (r + 88 + 8 + 8 + 8) (omega arith) (omega arith),
-            (apart_after (r + 88) (r + 88 + 8 + 8 + 8 + 8) (omega arith) (omega arith), tt),
-          ),
-        ),
-      )
-
-  unwind_reads : number_at m.byte 8 (image_base + (r + 88 + 8 + 8))
-      ≡ address_of services.LocalUnwind
-  unwind_reads =
-      let l = low in
-      reads (i0 ∷ i1 ∷ []) i2 (i3 ∷ i4 ∷ []) services.LocalUnwind refl (omega arith) refl (
-        apart_after (r + 88 + 8 + 8) (r + 88 + 8 + 8 + 8) (omega arith) (omega arith),
-        (apart_after (r + 88 + 8 + 8) (r + 88 + 8 + 8 + 8 + 8) (omega arith) (omega arith), tt),
-      )
-
-  protect_reads : number_at m.byte 8 (image_base + (r + 88 + 8 + 8 + 8))
-      ≡ address_of services.Protect
-  protect_reads =
-      let l = low in
-      reads (i0 ∷ i1 ∷ i2 ∷ []) i3 (i4 ∷ []) services.Protect refl (omega arith) refl
-      (apart_after (r + 88 + 8 + 8 + 8) (r + 88 + 8 + 8 + 8 + 8) (omega arith) (omega arith), tt)
-
-  put_reads : number_at m.byte 8 (image_base + (r + 88 + 8 + 8 + 8 + 8)) ≡ address_of services.Put
-  put_reads = let l = low in reads (i0 ∷ i1 ∷ i2 ∷ i3 ∷ []) i4 [] services.Put refl (omega arith)
-      refl tt
+      let few = imports_small ss (services_few program) in
+      let there = services_there program v in
+      let q = slot_there (slots_at ss r) ss v there in
+      let slot = slots_at ss r + 8 * place_of ss v in
+      let at : r + slot_of ss v ≡ slot = omega arith in
+      ap (λ (n : ℕ). number_at m.byte 8 (image_base + n)) at
+      ∙ reads q.before (named v slot) q.later service q.same (omega arith) name
+      (all_from (IsWithin (slot + 8) (slots_at ss r + 8 * length ss))
+      (λ (j : Import). SlotsAreApart (image_base + slot) (image_base + j.slot)) q.later
+      (λ j w. (let begin = w.0 in let end = w.1 in
+      record { apart = inl (omega arith); fits = omega arith })) q.past)
 
   -- ---- thunks
 
@@ -245,19 +195,22 @@ module _ (program : LinearProgram) (c : HasWholeImage program) where
   Serves at service = HasService (functions_of program) (funclets_of program) program
       (plan_of program) (sites_of program) m at service
 
-  -- the thunk at a place of the text, through a slot
-  serves : (v : ImportedService) (service : Service) (at n : ℕ) → IsCodeAt m (T + n) (t v)
-      → at ≡ image_base + thunk_at s.text v → thunk_at s.text v ≡ s.text + n → n ≤ 24
-      → slot_of v ≤ 120 → 88 ≤ slot_of v
-      → number_at m.byte 8 (image_base + (r + slot_of v)) ≡ address_of service → Serves at service
-  serves v service at n code here' place' few high least bound =
+  -- the thunk of a service that is imported, through its slot
+  serves : (v : ImportedService) (service : Service) (at : ℕ)
+      → at ≡ image_base + thunk_at s.imports s.text v
+      → service_named (name_of v) ≡ Some service → Serves at service
+  serves v service at here' name =
+      let n = 6 * place_of s.imports v in
+      let there = services_there program v in
+      let few = imports_small s.imports (services_few program) in
       let l = low in
       let end = end_inside program c.fits in
       let text' = text_is program c.fits in
       let same = rdata_is program c.fits in
-      let away = r + slot_of v - (s.text + n + 6) in
-      let far : image_base + (r + slot_of v) ≡ at + 6 + away = omega arith in
-      let d : distance (thunk_at s.text v + 6) (s.rdata + slot_of v) ≡ away = omega arith in
+      let away = r + slot_of s.imports v - (s.text + n + 6) in
+      let far : image_base + (r + slot_of s.imports v) ≡ at + 6 + away = omega arith in
+      let d : distance (thunk_at s.imports s.text v + 6) (s.rdata + slot_of s.imports v)
+      ≡ away = omega arith in
       let own : T + n ≡ at = omega arith in
       let spells : t v ≡ spelled (thunk away ∷ []) = ap (λ (k : ℕ). chosen (thunk k)) d
       ∙ sym (append-nil (chosen (thunk away))) in
@@ -265,7 +218,7 @@ module _ (program : LinearProgram) (c : HasWholeImage program) where
       let wide : sizes (thunk away ∷ []) ≡ 6 = sym (sizes_spelled (thunk away ∷ []))
       ∙ sym (ap length spells) ∙ long in
       let is_there = subst (λ (k : ℕ). IsCodeAt m k (spelled (thunk away ∷ []))) own
-      (subst (IsCodeAt m (T + n)) spells code) in
+      (subst (IsCodeAt m (T + n)) spells (thunk_is v)) in
       record {
         thunk = record {
           away = away;
@@ -276,7 +229,7 @@ module _ (program : LinearProgram) (c : HasWholeImage program) where
           };
           readable = λ a le lt. readable a (omega arith) (omega arith);
           fixed = λ a le lt. fixed a (omega arith) (omega arith);
-          bound = ap (number_at m.byte 8) (sym far) ∙ bound;
+          bound = ap (number_at m.byte 8) (sym far) ∙ slot_reads v service name;
         };
         inside = record {
           low = omega arith;
@@ -291,26 +244,15 @@ module _ (program : LinearProgram) (c : HasWholeImage program) where
       }
 
   thunks : (f : BuiltIn) → Serves ((sites_of program).thunk f) (service_of f)
-  thunks Put = serves imports.Put services.Put ((sites_of program).thunk Put) 24 front.put refl
-      (omega arith) (omega arith) (omega arith) (omega arith)
-      (ap (λ (k : ℕ). number_at m.byte 8 (image_base + k))
-      (let q : r + 120 ≡ r + 88 + 8 + 8 + 8 + 8 = omega arith in q) ∙ put_reads)
-  thunks Protect = serves imports.Protect services.Protect ((sites_of program).thunk Protect) 18
-      front.protect refl (omega arith) (omega arith) (omega arith) (omega arith)
-      (ap (λ (k : ℕ). number_at m.byte 8 (image_base + k))
-      (let q : r + 112 ≡ r + 88 + 8 + 8 + 8 = omega arith in q) ∙ protect_reads)
-  thunks RaiseException =
-      let z : T ≡ T + 0 = omega arith in
-      serves imports.RaiseException services.RaiseException
-      ((sites_of program).thunk RaiseException) 0
-      (subst (λ (k : ℕ). IsCodeAt m k (t imports.RaiseException)) z front.raise) refl
-      (omega arith) (omega arith) (omega arith) (omega arith) raise_reads
+  thunks Put = serves imports.Put services.Put ((sites_of program).thunk Put) refl refl
+  thunks Protect = serves imports.Protect services.Protect ((sites_of program).thunk Protect) refl
+      refl
+  thunks RaiseException = serves imports.RaiseException services.RaiseException
+      ((sites_of program).thunk RaiseException) refl refl
 
   unwinds : Serves (sites_of program).local_unwind services.LocalUnwind
-  unwinds = serves imports.LocalUnwind services.LocalUnwind (sites_of program).local_unwind 12
-      front.unwind refl (omega arith) (omega arith) (omega arith) (omega arith)
-      (ap (λ (k : ℕ). number_at m.byte 8 (image_base + k))
-      (let q : r + 104 ≡ r + 88 + 8 + 8 = omega arith in q) ∙ unwind_reads)
+  unwinds = serves imports.LocalUnwind services.LocalUnwind (sites_of program).local_unwind refl
+      refl
 
   pub has_program : HasProgram (functions_of program) (funclets_of program) program
       (plan_of program) (sites_of program) m

@@ -1,14 +1,15 @@
 -- The machine's first memory beside the source's.
-use Rattle.std.proofs.Common.{◌≡◌, ℕ, ◌+◌, ◌-◌, ◌^◌, ◌<◌, ◌≤◌, Bool, true, false, cond, not, leb, ltb, List, [], ◌∷◌, ◌++◌, length, get_or, Option, Some, None, refl, sym, ap, ◌∙◌, arith, inl, inr}
+use Rattle.std.proofs.Common.{◌≡◌, ℕ, ◌+◌, ◌*◌, ◌-◌, ◌^◌, ◌<◌, ◌≤◌, Bool, true, false, cond, not, leb, ltb, List, [], ◌∷◌, ◌++◌, length, get_or, Option, Some, None, refl, sym, ap, ◌∙◌, arith, inl, inr}
 use Rattle.std.specs.Prelude.{◌&&◌, ◌||◌, ◌⊎◌}
 use Rattle.std.specs.List.{AllByRecursion, flat_map}
 use Rattle.std.proofs.lemmas.Bool.{and_from, and_parts, and_left, and_right, or_left, lt-ltb, le-ltb, le-leb, lt-leb, ltb-true, leb-true, cases_lt, false≢true}
 use Rattle.std.proofs.lemmas.List.{get_or_past}
-use Rattle.image_states.specs.Words.{IMAGE_BASE, IMAGE_RANGE_END, is_writable, Memory, may_write, Section, Image, Import, ImageContents, image_of, imports_of, sizes_of, rdata_at, end_at, section_of, mode_in, byte_in, stored_byte, with_slots, mapped, is_between, data_end, is_data, is_reserved, LinearProgram, linked, image_base, HasWholeImage, MOST_IMAGE, GUARD_START, STACK_START, STACK_END, ARENA_START, ARENA_END, FIRST_DATA, in_stack, in_arena, services, imported, import_tables, sections_of, parts_of, text_at, xdata_at, pdata_at, data_section, text_section, rdata_section, xdata_section, pdata_section, stack_mode, IsBeside, plain_mode, first_memory, HasBytes}
+use Rattle.image_states.specs.Words.{IMAGE_BASE, IMAGE_RANGE_END, is_writable, Memory, may_write, Section, Image, Import, ImageContents, image_of, imports_of, sizes_of, rdata_at, end_at, section_of, mode_in, byte_in, stored_byte, with_slots, mapped, is_between, data_end, is_data, is_reserved, LinearProgram, linked, image_base, HasWholeImage, MOST_IMAGE, GUARD_START, STACK_START, STACK_END, ARENA_START, ARENA_END, FIRST_DATA, in_stack, in_arena, slots_at, import_tables, sections_of, parts_of, text_at, xdata_at, pdata_at, data_section, text_section, rdata_section, xdata_section, pdata_section, stack_mode, IsBeside, plain_mode, first_memory, HasBytes, tables_size}
 use Rattle.flat_memory.specs.declared.protection.Rights.TheVariants.{Nothing, ReadWrite}
 use Rattle.pe_image.specs.Imports as importing
 use Rattle.pe_image.specs.Numbers.{zeros}
 use Rattle.pe_write.specs.Written.{raw_size, raw_data, written, dos_header, file_header, standard_fields, windows_fields, directories, table_of}
+use Rattle.image_link.proofs.Imports.{IsWithin, slots_within, all_from}
 use Rattle.image_states.proofs.Lemmas.{listed, slots-beside, is, text_is}
 use Rattle.match_stack.specs.StackRecords.{IsData}
 use Rattle.x64_templates.specs.Frames.{Agrees}
@@ -42,8 +43,9 @@ raws p h =
         bytes_front p.text (zeros (raw_size (text_section p) - length p.text))
             (bytes_front t (r ++ (x ++ (q ++ []))) a1),
         (
-          bytes_front (import_tables (rdata_at (sizes_of p)))
-              (zeros (raw_size (rdata_section p) - length (import_tables (rdata_at (sizes_of p)))))
+          bytes_front (import_tables p.imports (rdata_at (sizes_of p)))
+              (zeros (raw_size (rdata_section p)
+              - length (import_tables p.imports (rdata_at (sizes_of p)))))
               (bytes_front r (x ++ (q ++ [])) a2),
           (
             bytes_front p.xdata (zeros (raw_size (xdata_section p) - length p.xdata))
@@ -92,7 +94,12 @@ module _ (program : LinearProgram) (c : HasWholeImage program) where
   }
 
   abbrev pub tables : Section
-  tables = record { address = r; size = 222; raw = import_tables r; flags = 0x40000040 }
+  tables = record {
+    address = r;
+    size = tables_size p.imports;
+    raw = import_tables p.imports r;
+    flags = 0x40000040;
+  }
 
   abbrev pub infos : Section
   infos = record {
@@ -141,7 +148,7 @@ module _ (program : LinearProgram) (c : HasWholeImage program) where
       ∙ past image_base a infos (functions ∷ []) (above image_base a infos (omega arith))
       ∙ past image_base a functions [] (above image_base a functions (omega arith))
 
-  pub tables_there : (a : ℕ) → image_base + r ≤ a → a < image_base + r + 222
+  pub tables_there : (a : ℕ) → image_base + r ≤ a → a < image_base + r + tables_size p.imports
       → section_of image_base a (sections_of p) ≡ Some tables
   tables_there a le lt =
       let text' = text_is program c.fits in
@@ -154,37 +161,27 @@ module _ (program : LinearProgram) (c : HasWholeImage program) where
 
   -- ---- slots lie in `.rdata`
 
+  abbrev from : ℕ
+  from = slots_at p.imports r
+
+  abbrev to : ℕ
+  to = from + 8 * length p.imports
+
+  within : AllByRecursion (IsWithin from to) (imports_of p)
+  within = slots_within from to from p.imports (omega arith) (omega arith)
+
   beside : (a : ℕ) → (a < image_base + r) ⊎ (IMAGE_RANGE_END ≤ a)
-      → AllByRecursion (λ (i : Import). IsBeside a (image_base + i.slot))
-      (imported (r + 88) services)
+      → AllByRecursion (λ (i : Import). IsBeside a (image_base + i.slot)) (imports_of p)
   beside a (inl lt) =
-      let l = low in (
-        record { apart = inl (omega arith); fits = omega arith },
-        (
-          record { apart = inl (omega arith); fits = omega arith },
-          (
-            record { apart = inl (omega arith); fits = omega arith },
-            (
-              record { apart = inl (omega arith); fits = omega arith },
-              (record { apart = inl (omega arith); fits = omega arith }, tt),
-            ),
-          ),
-        ),
-      )
+      let l = low in
+      all_from (IsWithin from to) (λ (i : Import). IsBeside a (image_base + i.slot)) (imports_of p)
+      (λ i w. (let begin = w.0 in let end = w.1 in
+      record { apart = inl (omega arith); fits = omega arith })) within
   beside a (inr le) =
-      let l = low in (
-        record { apart = inr (omega arith); fits = omega arith },
-        (
-          record { apart = inr (omega arith); fits = omega arith },
-          (
-            record { apart = inr (omega arith); fits = omega arith },
-            (
-              record { apart = inr (omega arith); fits = omega arith },
-              (record { apart = inr (omega arith); fits = omega arith }, tt),
-            ),
-          ),
-        ),
-      )
+      let l = low in
+      all_from (IsWithin from to) (λ (i : Import). IsBeside a (image_base + i.slot)) (imports_of p)
+      (λ i w. (let begin = w.0 in let end = w.1 in
+      record { apart = inr (omega arith); fits = omega arith })) within
 
   stored_there : (a : ℕ) → (a < image_base + r) ⊎ (IMAGE_RANGE_END ≤ a)
       → m.byte a ≡ stored_byte image a

@@ -2,7 +2,7 @@
 use Rattle.std.proofs.Common.{◌≡◌, ℕ, zero, suc, ◌+◌, ◌^◌, ◌<◌, ◌==◌, Bool, true, false, not, List, [], ◌∷◌, ◌++◌, get_or, Option, Some, None, refl, sym, ap, subst, ◌∙◌, arith}
 use Rattle.std.specs.Prelude.{slice_get, ◌&&◌}
 use Rattle.std.proofs.lemmas.Option.{slice_get_within, get_or_from_slice_get, slice_get-get_or}
-use Rattle.image_states.specs.Words.{Instruction, FuncletKind, Filter, Finally, LinearBody, LinearFunction, LinearFunclet, LinearProgram, BodyName, FunctionBody, FuncletBody, function_body, funclet_body, body_of, FrameLayout, Layout, template_size, body_size, offset_of, code_from, address_or, RoutineView, leaf_if, funclet_frame, nothing, funclet, argument_code, check_stack_at, own_addresses, routine_code, text_begin, linked, Placed, body_begin, site_of, image_base, links, links_of, begin_of, entry_code, code_of, is_leaf, routine_of, address_of, plan_of, sites_of, HasWholeImage, parameters_code, FitsFunclet, kept_by, HasParent, frame_code, parent_base, keep_base, keep_argument, function_arguments, funclet_arguments}
+use Rattle.image_states.specs.Words.{Instruction, FuncletKind, Filter, Finally, LinearBody, LinearFunction, LinearFunclet, LinearProgram, BodyName, FunctionBody, FuncletBody, function_body, funclet_body, body_of, FrameLayout, Layout, template_size, body_size, offset_of, code_from, address_or, RoutineView, leaf_if, funclet_frame, nothing, funclet, argument_code, own_addresses, routine_code, text_begin, linked, Placed, body_begin, site_of, image_base, links, links_of, begin_of, entry_code, code_of, is_leaf, routine_of, address_of, plan_of, sites_of, HasWholeImage, parameters_code, FitsFunclet, kept_by, HasParent, frame_code, parent_base, keep_base, keep_argument, function_arguments, funclet_arguments, probe_begin}
 use Rattle.frame_rules.specs.Bytes.{prologue_code}
 use Rattle.image_states.proofs.Lemmas.{all_at, entry_small, none_some, IsThere, size_of, sized}
 use Rattle.template_code.specs.Jumps.{distance}
@@ -129,7 +129,7 @@ module _ (program : LinearProgram) (c : HasWholeImage program) (name : BodyName)
   x = routine_of program name
 
   abbrev check : ℕ
-  check = check_stack_at (site_of program).text
+  check = probe_begin program
 
   h : IsThere (site_of program) (linked program).text (text_begin program.globals) x
   h = here program c name b is

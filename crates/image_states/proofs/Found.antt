@@ -2,10 +2,13 @@
 use Rattle.std.proofs.Common.{◌≡◌, ◌≢◌, ℕ, ◌+◌, ◌-◌, ◌^◌, ◌<◌, ◌≤◌, true, false, ltb, leb, List, [], ◌∷◌, ◌++◌, length, Option, Some, None, refl, sym, ap, subst, ◌∙◌, arith}
 use Rattle.std.specs.Prelude.{slice_get}
 use Rattle.std.proofs.lemmas.Bool.{le-ltb, and_right}
-use Rattle.image_states.specs.Words.{Memory, Rax, Instr, modrm, Table, Entry, BuiltIn, Put, Protect, RaiseException, Functions, distance, entry_of, left, framed, filter_return, finally_return, Slot, LinearBody, LinearProgram, BodyName, body_of, FrameLayout, size, sizes, fetch, check_stack, RoutineView, routines, SiteView, routine_size, argument_code, check_stack_at, first, total, Placed, end_of, site_of, infos_begin, image_base, template_at, begin_of, making_size, FindsReturn, FindsOwed, owed_of, functions_of, funclets_of, is_leaf, or_none, owed_after, routine_of, address_of, plan_of, sites_of, HasWholeImage, IsNear, entry_or, holding, thunks_at, info_bytes, thunk_of, placed_from, FindsCallers, FindsCallersOutside}
+use Rattle.image_states.specs.Words.{Memory, Rax, Instr, modrm, Table, Entry, BuiltIn, Put, Protect, RaiseException, Functions, distance, entry_of, left, framed, filter_return, finally_return, Slot, LinearBody, LinearProgram, BodyName, body_of, FrameLayout, size, sizes, fetch, check_stack, RoutineView, routines, SiteView, routine_size, argument_code, first, total, Placed, end_of, site_of, infos_begin, image_base, template_at, begin_of, making_size, FindsReturn, FindsOwed, owed_of, functions_of, funclets_of, is_leaf, or_none, owed_after, routine_of, address_of, plan_of, sites_of, HasWholeImage, IsNear, entry_or, holding, thunks_at, info_bytes, thunk_of, placed_from, FindsCallers, FindsCallersOutside, services_of, routines_begin, probe_begin}
 use Rattle.eh_tables.specs.Tables as reading
 use Rattle.linear_code.specs.declared.instruction.Instruction.TheVariants as instructions
 use Rattle.image_states.proofs.Lemmas.{thunks_are_held_by_none, tables_are_read, end_inside, away}
+use Rattle.host_layout.specs.declared.imported.ImportedService.TheVariants as imports
+use Rattle.x64_emit.specs.declared.links.Thunks.{Thunks}
+use Rattle.image_link.proofs.Front.{services_there}
 use Rattle.image_tables.specs.Entries as tables
 use Rattle.image_states.proofs.Addresses.{place, label_rises, label_inside}
 use Rattle.image_states.proofs.Entering.{arguments_same}
@@ -53,11 +56,11 @@ module _ (program : LinearProgram) (c : HasWholeImage program) (m : Memory) wher
       (record { live = live; not_filter = not_filter; not_finally = not_finally })
       (unheld a rva at none)
 
-  first_small : IsNear (first program.globals + total (routines program))
+  first_small : IsNear (routines_begin program + total (routines program))
   first_small = let end = end_inside program c.fits in let few = c.small in omega arith
 
   -- before the first routine
-  pub front_at : (rva : ℕ) → rva < first program.globals → FindsReturn table m (image_base + rva)
+  pub front_at : (rva : ℕ) → rva < routines_begin program → FindsReturn table m (image_base + rva)
   front_at rva lt =
       let s = first_small in
       outside_at (image_base + rva) rva (omega arith) (λ z. absurd (omega arith))
@@ -72,16 +75,20 @@ module _ (program : LinearProgram) (c : HasWholeImage program) (m : Memory) wher
       let rva = a + (2 ^ 64 - image_base) in
       let far : distance image_base a ≡ rva = omega arith in
       outside_at a rva live not_filter not_finally far
-      (beyond (site_of program) rva (infos_begin program) (first program.globals)
+      (beyond (site_of program) rva (infos_begin program) (routines_begin program)
       (routines program) (omega arith))
 
 -- ---- all of it
 
 module _ (program : LinearProgram) (c : HasWholeImage program) where
-  thunk_low : (f : BuiltIn) → thunk_of (thunks_at (site_of program).text) f < first program.globals
-  thunk_low Put = omega arith
-  thunk_low Protect = omega arith
-  thunk_low RaiseException = omega arith
+  abbrev places : Thunks
+  places = thunks_at (services_of program) (site_of program).text
+
+  thunk_low : (f : BuiltIn) → thunk_of places f < routines_begin program
+  thunk_low Put = let there = services_there program imports.Put in omega arith
+  thunk_low Protect = let there = services_there program imports.Protect in omega arith
+  thunk_low RaiseException =
+      let there = services_there program imports.RaiseException in omega arith
 
   stack_check : sizes check_stack ≡ 21
   unfolding size modrm
@@ -90,12 +97,12 @@ module _ (program : LinearProgram) (c : HasWholeImage program) where
   pub callers_outside : FindsCallersOutside (functions_of program) (funclets_of program) program
       (plan_of program) (sites_of program)
   callers_outside = record {
-    thunks = λ m f. front_at program c m (thunk_of (thunks_at (site_of program).text) f)
-        (thunk_low f);
-    local_unwind = λ m. front_at program c m (thunks_at (site_of program).text).local_unwind
-        (omega arith);
+    thunks = λ m f. front_at program c m (thunk_of places f) (thunk_low f);
+    local_unwind = λ m.
+        (let there = services_there program imports.LocalUnwind in
+        front_at program c m places.local_unwind (omega arith));
     check_stack = λ m d lt.
-        (let at = check_stack_at (site_of program).text in
+        (let at = probe_begin program in
         let n = stack_check in
         let e : image_base + (at + d) ≡ image_base + at + d = omega arith in
         subst (λ a. FindsReturn (functions_of program) m a) e

@@ -5,7 +5,7 @@ use Rattle.std.specs.List.{AllByRecursion}
 use Rattle.std.proofs.lemmas.Bool.{cases_lt, lt-ltb, le-ltb, le-leb, lt-leb, ltb-true, eq-eqb, ne_eqb, false≢true}
 use Rattle.std.proofs.lemmas.List.{length-map}
 use Rattle.std.proofs.lemmas.Option.{slice_get_within}
-use Rattle.image_states.specs.Words.{Cpu, ScopeRecord, distance, by_kind, arrivals, FuncletKind, Instruction, Region, RegionKind, LinearBody, LinearProgram, BodyName, body_of, instruction_in, IsKindOf, IsRegionOf, Layout, address_or, routines, own_addresses, text_begin, first, linked, Placed, body_begin, site_of, infos_begin, image_base, template_at, funclet_begin, functions_of, funclets_of, or_none, routine_of, address_of, plan_of, HasWholeImage, Local, parent_of, IsFuncletOf, IsLanding, has_except, has_finally, handler_address, jump_target, scope_record, InCode, by_parent, parent_body, IsFunclet, JumpsTo, IsOfKind, IsRegion, AreRegions, AllFinally, AllExcept, IsFlagged, IsEntryOf, IsGiven, Gives}
+use Rattle.image_states.specs.Words.{Cpu, ScopeRecord, distance, by_kind, arrivals, FuncletKind, Instruction, Region, RegionKind, LinearBody, LinearProgram, BodyName, body_of, instruction_in, IsKindOf, IsRegionOf, Layout, address_or, routines, own_addresses, text_begin, linked, Placed, body_begin, site_of, infos_begin, image_base, template_at, funclet_begin, functions_of, funclets_of, or_none, routine_of, address_of, plan_of, HasWholeImage, Local, parent_of, IsFuncletOf, IsLanding, has_except, has_finally, handler_address, jump_target, scope_record, InCode, by_parent, parent_body, IsFunclet, JumpsTo, IsOfKind, IsRegion, AreRegions, AllFinally, AllExcept, IsFlagged, IsEntryOf, IsGiven, Gives, routines_begin}
 use Rattle.seh_walk.specs.Asked.{is_end}
 use Rattle.seh_walk.specs.Asked as rows
 use Rattle.linear_code.specs.declared.instruction.Instruction.TheVariants as instructions
@@ -369,7 +369,7 @@ module _ (program : LinearProgram) (c : HasWholeImage program) (name : BodyName)
   pub leaf_given : (plan_of program).leaf name ≡ true → b.regions ≡ []
   leaf_given leaf =
       let p = place program c name b is in
-      let bare = placed_has IsBare (site_of program) (infos_begin program) (first program.globals)
+      let bare = placed_has IsBare (site_of program) (infos_begin program) (routines_begin program)
       (routines program) p.index x (routines_bare program) p.at in
       ap (λ (d : LinearBody). d.regions) (sym p.body) ∙ bare (leaf_of x.routine.frame leaf)
 

@@ -3,7 +3,7 @@ use Rattle.std.proofs.Common.{◌≡◌, ◌≢◌, ℕ, zero, suc, ◌+◌, ◌
 use Rattle.std.specs.Prelude.{slice_get, ◌&&◌, nat_le}
 use Rattle.std.proofs.lemmas.Option.{slice_get_within}
 use Rattle.std.proofs.lemmas.Bool.{and_parts, or_parts, true≢false, false≢true}
-use Rattle.image_states.specs.Words.{Instruction, LinearBody, LinearFunction, LinearFunclet, LinearProgram, BodyName, FunctionBody, FuncletBody, function_body, funclet_body, body_of, RoutineView, leaf_if, routines, has_call, bounds, routine_size, first, site_of, image_base, address_or, funclet_begin, is_leaf, routine_of, plan_of, HasWholeImage, LeavesCallNothing, FunctionsApart}
+use Rattle.image_states.specs.Words.{Instruction, LinearBody, LinearFunction, LinearFunclet, LinearProgram, BodyName, FunctionBody, FuncletBody, function_body, funclet_body, body_of, RoutineView, leaf_if, routines, has_call, bounds, routine_size, first, site_of, image_base, address_or, funclet_begin, is_leaf, routine_of, plan_of, HasWholeImage, LeavesCallNothing, FunctionsApart, routines_begin}
 use Rattle.linear_code.specs.declared.instruction.Instruction.TheVariants as instructions
 use Rattle.lowering_invariants.specs.ReturnRegions.{is_call}
 use Rattle.image_link.specs.Routines as link
@@ -95,7 +95,7 @@ module _ (program : LinearProgram) (c : HasWholeImage program) where
   function_at : (f : ℕ) (o : Option LinearFunction) (b : LinearBody)
       → slice_get program.functions f ≡ o → function_body o ≡ Some b
       → address_or (site_of program).functions f 0
-      ≡ get_or (bounds (first program.globals) (routines program)) f 0
+      ≡ get_or (bounds (routines_begin program) (routines program)) f 0
   function_at f None b e h = absurd (none_some h)
   function_at f (Some fn) b e h = let g = is_function program c.fits f fn e in g.begin ∙ g.bound
 
@@ -124,7 +124,7 @@ module _ (program : LinearProgram) (c : HasWholeImage program) where
       let begin = begin_is program fits k in
       let size = ap (λ (r : RoutineView). routine_size r) (own_size f o b refl is) in
       let more = label_below program c (FunctionBody f) b is 0 (omega arith) in
-      let r = bounds_rise (first program.globals) rs f (length program.functions + k) 0 no_routine
+      let r = bounds_rise (routines_begin program) rs f (length program.functions + k) 0 no_routine
       (omega arith) (omega arith) in
       omega arith
 

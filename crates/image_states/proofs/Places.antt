@@ -3,7 +3,7 @@ use Rattle.std.proofs.Common.{◌≡◌, ℕ, zero, suc, ◌+◌, ◌<◌, ◌==
 use Rattle.std.specs.Prelude.{slice_get, ◌&&◌}
 use Rattle.std.proofs.lemmas.List.{get_or-take, get_or_append_left}
 use Rattle.std.proofs.lemmas.Option.{slice_get_within, get_or_from_slice_get}
-use Rattle.image_states.specs.Words.{LinearBody, LinearFunction, LinearFunclet, LinearProgram, BodyName, FunctionBody, FuncletBody, function_body, funclet_body, body_of, FitsProgram, RoutineView, leaf_if, funclet, routines, bounds, first, Placed, site_of, infos_begin, placed, image_base, address_or, funclet_begin, begin_of, routine_of, plan_of, sites_of, functions_from, or_nowhere}
+use Rattle.image_states.specs.Words.{LinearBody, LinearFunction, LinearFunclet, LinearProgram, BodyName, FunctionBody, FuncletBody, function_body, funclet_body, body_of, FitsProgram, RoutineView, leaf_if, funclet, routines, bounds, Placed, site_of, infos_begin, placed, image_base, address_or, funclet_begin, begin_of, routine_of, plan_of, sites_of, functions_from, or_nowhere, routines_begin}
 use Rattle.image_link.specs.Routines as link
 use Rattle.image_states.proofs.Lemmas.{no_routine, some_same, none_some, is_placed, functions_count, no_funclet, as_long, funclet_is, begin_is}
 
@@ -54,7 +54,7 @@ module _ (program : LinearProgram) (fits : FitsProgram program) where
     pub begin : address_or (site_of program).functions f 0
         ≡ (routine_of program (FunctionBody f)).begin
     pub bound : (routine_of program (FunctionBody f)).begin
-        ≡ get_or (bounds (first program.globals) rs) f 0
+        ≡ get_or (bounds (routines_begin program) rs) f 0
     pub own : (routine_of program (FunctionBody f)).routine ≡ get_or rs f no_routine
     pub below : f < length rs
 
@@ -63,7 +63,7 @@ module _ (program : LinearProgram) (fits : FitsProgram program) where
   is_function f fn e =
       let lt = slice_get_within program.functions f fn e in
       let long = as_long program fits in
-      let h = is_placed (site_of program) (infos_begin program) (first program.globals) rs f
+      let h = is_placed (site_of program) (infos_begin program) (routines_begin program) rs f
       no_routine (omega arith) in
       let is : routine_of program (FunctionBody f)
       ≡ h.placed = ap or_nowhere (slice_take (placed program) n f lt ∙ h.there) in
@@ -78,7 +78,7 @@ module _ (program : LinearProgram) (fits : FitsProgram program) where
       record {
         at = h.there ∙ ap (λ (x : Placed). Some x) (sym is);
         routine = ap (λ (x : Placed). x.routine) is ∙ h.routine ∙ own;
-        begin = get_or-take n (bounds (first program.globals) rs) f 0 lt ∙ sym h.begins
+        begin = get_or-take n (bounds (routines_begin program) rs) f 0 lt ∙ sym h.begins
             ∙ ap (λ (x : Placed). x.begin) (sym is);
         bound = ap (λ (x : Placed). x.begin) is ∙ h.begins;
         own = ap (λ (x : Placed). x.routine) is ∙ h.routine;
@@ -92,7 +92,7 @@ module _ (program : LinearProgram) (fits : FitsProgram program) where
     pub routine : (routine_of program (FuncletBody k)).routine ≡ funclet program fl
     pub begin : funclet_begin program k ≡ (routine_of program (FuncletBody k)).begin
     pub bound : (routine_of program (FuncletBody k)).begin
-        ≡ get_or (bounds (first program.globals) rs) (n + k) 0
+        ≡ get_or (bounds (routines_begin program) rs) (n + k) 0
     pub own : (routine_of program (FuncletBody k)).routine ≡ get_or rs (n + k) no_routine
     pub below : n + k < length rs
 
@@ -101,7 +101,7 @@ module _ (program : LinearProgram) (fits : FitsProgram program) where
   is_funclet k fl e =
       let lt = slice_get_within program.funclets k fl e in
       let long = as_long program fits in
-      let h = is_placed (site_of program) (infos_begin program) (first program.globals) rs (n + k)
+      let h = is_placed (site_of program) (infos_begin program) (routines_begin program) rs (n + k)
       no_routine (omega arith) in
       let is : routine_of program (FuncletBody k)
       ≡ h.placed = ap or_nowhere (slice_drop (placed program) n k (n + k) refl ∙ h.there) in
@@ -123,7 +123,8 @@ module _ (program : LinearProgram) (fits : FitsProgram program) where
     pub body : (routine_of program name).routine.body ≡ b
     pub begin : begin_of (plan_of program) (sites_of program) name
         ≡ image_base + (routine_of program name).begin
-    pub bound : (routine_of program name).begin ≡ get_or (bounds (first program.globals) rs) index 0
+    pub bound : (routine_of program name).begin
+        ≡ get_or (bounds (routines_begin program) rs) index 0
     pub own : (routine_of program name).routine ≡ get_or rs index no_routine
     pub below : index < length rs
 

@@ -30,9 +30,9 @@ use Rattle.x64_templates.specs.Implements.{high_of}
 use Rattle.x64_emit.specs.Linking.{address_or, thunk_of}
 use Rattle.image_link.specs.declared.routine.Entry.TheVariants as entries
 use Rattle.image_link.specs.Routines.{nothing}
-use Rattle.image_link.specs.Text.{thunks_at, check_stack_at}
-use Rattle.image_link.specs.Linked.{linked}
-use Rattle.image_tables.specs.RoutinePlaces.{Placed, site_of, placed}
+use Rattle.image_link.specs.Text.{thunks_at}
+use Rattle.image_link.specs.Linked.{services_of, linked}
+use Rattle.image_tables.specs.RoutinePlaces.{Placed, site_of, placed, probe_begin}
 use Rattle.image_tables.specs.Entries as tables
 use Rattle.image_tables.specs.CodeInMemory.{image_base, template_at}
 use Rattle.image_tables.specs.RegionRows.{funclet_begin}
@@ -158,7 +158,7 @@ plan_of program = record {
 abbrev pub sites_of : LinearProgram → Sites
 sites_of program = record {
   function = λ f. image_base + address_or (site_of program).functions f 0;
-  thunk = λ f. image_base + thunk_of (thunks_at (site_of program).text) f;
-  local_unwind = image_base + (thunks_at (site_of program).text).local_unwind;
-  check_stack = image_base + check_stack_at (site_of program).text;
+  thunk = λ f. image_base + thunk_of (thunks_at (services_of program) (site_of program).text) f;
+  local_unwind = image_base + (thunks_at (services_of program) (site_of program).text).local_unwind;
+  check_stack = image_base + probe_begin program;
 }

@@ -24,7 +24,7 @@ pub use Rattle.linear_machine.specs.Run.{instruction_in}
 pub use Rattle.lowering_invariants.specs.Bodies.{IsKindOf, IsRegionOf, IsFilterKind, IsFinallyKind, parent_of, IsFuncletOf, IsLanding}
 pub use Rattle.pe_image.specs.Image.{Section, Image}
 pub use Rattle.pe_image.specs.Imports.{Import}
-pub use Rattle.pe_write.specs.ImportTables.{name_of, slot_of, services, imported}
+pub use Rattle.pe_write.specs.ImportTables.{name_of, slot_of, slots_at, place_of, imported, tables_size}
 unfoldable pub use Rattle.pe_write.specs.ImportTables.{import_tables}
 pub use Rattle.pe_write.specs.Program.{ImageContents, image_of, imports_of, sizes_of, rdata_at, end_at, sections_of, parts_of, text_at, xdata_at, pdata_at, data_section, text_section, rdata_section, xdata_section, pdata_section}
 pub use Rattle.eh_tables.specs.Answer.{Table}
@@ -70,7 +70,7 @@ pub use Rattle.frame_layout.specs.declared.frame.FrameLayout.{FrameLayout}
 pub use Rattle.x64_emit.specs.Linking.{address_or, thunk_of}
 pub use Rattle.x64_emit.specs.Near.{IsInstructionNear, IsNear}
 pub use Rattle.image_link.specs.Fits.{FitsProgram, FitsFunclet, function_bodies, funclet_bodies, FitsBody, FitsFunction}
-pub use Rattle.image_link.specs.Linked.{text_begin, first, total, linked, data_size}
+pub use Rattle.image_link.specs.Linked.{services_of, text_begin, first, total, linked, data_size}
 pub use Rattle.image_link.specs.Near.{IsFrameNear}
 pub use Rattle.image_link.specs.Routines.{RoutineView, funclet_frame, funclet, routines, leaf_if, nothing, has_call, kept_by, HasParent, functions_from, function_frame}
 pub use Rattle.image_link.specs.Tables.{has_except, has_finally, handler_address, jump_target, scope_record}
@@ -79,7 +79,7 @@ pub use Rattle.image_link.specs.Text.{routine_size, check_stack_at, bounds, argu
 unfoldable pub use Rattle.image_link.specs.Text.{entry_size, routine_bytes}
 pub use Rattle.image_tables.specs.CodeInMemory.{image_base, template_at, links, IsReturn, IsInBody}
 pub use Rattle.image_tables.specs.RegionRows.{funclet_begin, rows_of, regions_in, regions, funclet_in, named, IsRow, AreRows}
-pub use Rattle.image_tables.specs.RoutinePlaces.{Placed, end_of, site_of, body_begin, placed, infos_begin, placed_from}
+pub use Rattle.image_tables.specs.RoutinePlaces.{Placed, end_of, site_of, body_begin, placed, infos_begin, placed_from, routines_begin, thunk_begin, probe_begin}
 pub use Rattle.image_states.specs.Compiled.{HasWholeImage, IsMember, IsFuncletSized}
 pub use Rattle.image_states.specs.Plans.{functions_of, funclets_of, routine_of, address_of, plan_of, sites_of, is_leaf, or_none, or_nowhere, is_some, is_ready, returns_there, works_again}
 pub use Rattle.image_states.specs.StartLaws.{HasBytes, ImagesStart, ImagesLoad}

@@ -3,8 +3,8 @@ use Rattle.std.proofs.Common.{◌≡◌, ℕ, zero, suc, ◌+◌, ◌≤◌, Lis
 use Rattle.std.specs.Prelude.{slice_get}
 use Rattle.std.specs.List.{AllByRecursion}
 use Rattle.std.proofs.lemmas.Grind.{flat_map-append}
-use Rattle.image_tables.specs.Words.{Memory, Instr, chosen, modrm, IsExecutableAt, Instruction, LinearProgram, Layout, spelled, size, sizes, Links, template, template_size, body_size, code_from, FitsProgram, RoutineView, routines, IsRoutineNear, SiteView, routine_size, entry_code, entry_size, check_stack_at, routine_code, routines_bytes, info_bytes, text_begin, first, linked, Placed, placed_from, site_of, infos_begin, placed, image_base, HasText, IsNear, offset_of, links_of, routine_room, room, addresses, front_code, routine_bytes}
-use Rattle.image_tables.proofs.Lemmas.{sizes_spelled, sizes_append, template_sizes, body_sizes, entry_sizes, routine_small, has_places, routines_near}
+use Rattle.image_tables.specs.Words.{Memory, Instr, chosen, modrm, IsExecutableAt, Instruction, LinearProgram, Layout, spelled, size, sizes, Links, template, template_size, body_size, code_from, FitsProgram, RoutineView, routines, IsRoutineNear, SiteView, routine_size, entry_code, entry_size, check_stack_at, routine_code, routines_bytes, info_bytes, text_begin, linked, Placed, placed_from, site_of, infos_begin, placed, image_base, HasText, IsNear, offset_of, links_of, routine_room, room, addresses, front_code, routine_bytes, routines_begin}
+use Rattle.image_tables.proofs.Lemmas.{sizes_spelled, sizes_append, template_sizes, body_sizes, entry_sizes, routine_small, has_places, routines_near, front_sizes}
 use Rattle.image_tables.proofs.Lookups.{some_same, none_some}
 
 -- ---- bytes
@@ -37,12 +37,12 @@ pub code_length : (s : SiteView) (at : ℕ) (r : RoutineView) → IsRoutineNear 
     → length (spelled (routine_code s at r)) ≡ routine_size r
 code_length s at r near =
     let k = links_of (addresses s at r) in
-    let e = entry_sizes at (check_stack_at s.text) r near in
+    let e = entry_sizes at (check_stack_at s.imports s.text) r near in
     let b = body_sizes k r.layout (at + entry_size r) r.body.code in
     omega (
       arith,
       sizes_spelled (routine_code s at r),
-      sizes_append (entry_code at (check_stack_at s.text) r)
+      sizes_append (entry_code at (check_stack_at s.imports s.text) r)
           (code_from k r.layout (at + entry_size r) r.body.code),
     )
 
@@ -87,10 +87,6 @@ module _ (s : SiteView) (text : List ℕ) (begin : ℕ) where
       (append_assoc before bytes (routines_bytes s (at + routine_size r) rs)))
       (omega (arith, length-append before bytes))
 
-pub front_size : (text rdata : ℕ) → sizes (front_code text rdata) ≡ 51
-unfolding size modrm
-front_size text rdata = refl
-
 pub there : (p : LinearProgram) (index : ℕ) (x : Placed) → FitsProgram p
     → slice_get (placed p) index ≡ Some x → IsThere (site_of p) (linked p).text
     (text_begin p.globals) x
@@ -100,10 +96,10 @@ there p index x fits e =
     let places = has_places p fits in
     let room = places.room in
     let few = fits.globals in
-    let f = front_size s.text s.rdata in
-    there_from s (linked p).text (text_begin p.globals) (infos_begin p) (first p.globals)
-    (routines p) (spelled (front_code s.text s.rdata)) index x e near (omega arith) refl
-    (omega (arith, sizes_spelled (front_code s.text s.rdata)))
+    let f = front_sizes s.imports s.text s.rdata in
+    there_from s (linked p).text (text_begin p.globals) (infos_begin p) (routines_begin p)
+    (routines p) (spelled (front_code s.imports s.text s.rdata)) index x e near (omega arith) refl
+    (omega (arith, sizes_spelled (front_code s.imports s.text s.rdata)))
 
 -- its instructions are at its address
 pub routine_is_at : (p : LinearProgram) (m : Memory) (x : Placed) → HasText m p

@@ -3,7 +3,7 @@ use Rattle.std.proofs.Common.{◌≡◌, ℕ, ◌+◌, ◌^◌, ◌<◌, Bool, t
 use Rattle.std.specs.Prelude.{slice_get}
 use Rattle.std.specs.List.{flat_map}
 use Rattle.std.proofs.lemmas.Bool.{ne_eqb}
-use Rattle.image_tables.specs.Words.{Memory, Instr, UnwindOperation, Nothing, FetchedInstr, bytes, items, Body, following, is_body, FramePlan, IsPlan, spelled_by, operations_of, HasItems, IsRight, spell, IsExecutableAt, prologue_code, LinearProgram, FrameLayout, plan_of, info_of, taking_size, spelled, distance, code_from, FitsProgram, IsFrameNear, routine_size, frame_code, argument_code, check_stack_at, routine_code, text_begin, linked, routines, Placed, end_of, body_begin, site_of, placed, image_base, HasText, links, function_of, IsNear, allocation_then, instructions_of, steps_of, plan, rest_of, IsFramed, FunctionsAreInMemory, FunctionsKeepTheRules}
+use Rattle.image_tables.specs.Words.{Memory, Instr, UnwindOperation, Nothing, FetchedInstr, bytes, items, Body, following, is_body, FramePlan, IsPlan, spelled_by, operations_of, HasItems, IsRight, spell, IsExecutableAt, prologue_code, LinearProgram, FrameLayout, plan_of, info_of, taking_size, spelled, distance, code_from, FitsProgram, IsFrameNear, routine_size, frame_code, argument_code, routine_code, text_begin, linked, routines, Placed, end_of, body_begin, site_of, placed, image_base, HasText, links, function_of, IsNear, allocation_then, instructions_of, steps_of, plan, rest_of, IsFramed, FunctionsAreInMemory, FunctionsKeepTheRules, services_of, probe_begin}
 use Rattle.eh_tables.specs.declared.code.UnwindCode.{UnwindCode}
 use Rattle.eh_tables.specs.declared.code.UnwindOperation.TheVariants.{Allocate}
 use Rattle.virtual_unwind.specs.CallerOf.{sets_frame}
@@ -11,7 +11,7 @@ use Rattle.virtual_unwind.specs.Undone.{operations}
 use Rattle.frame_rules.specs.Codes.{are_allowed, is_ordered}
 use Rattle.frame_rules.proofs.Planning.{codes_plan}
 use Rattle.frame_rules.specs.Plan as rules
-use Rattle.image_tables.proofs.Lemmas.{spells_all, items_are_at, plans_are_encodable, plans_are_right, describes, near_signed, entry_small, routine_small, site_near, has_places, routines_near}
+use Rattle.image_tables.proofs.Lemmas.{spells_all, items_are_at, plans_are_encodable, plans_are_right, describes, near_signed, entry_small, routine_small, site_near, has_places, routines_near, services_few}
 use Rattle.image_tables.proofs.CodeInMemory.{IsThere, there, code_length, routine_is_at}
 use Rattle.image_tables.proofs.Arguments.{arguments_inner}
 use Rattle.image_tables.proofs.Layouts.{size_of, sized}
@@ -74,17 +74,18 @@ module _ (p : LinearProgram) (index : ℕ) (x : Placed) (f : FrameLayout)
 
   is_plan : IsPlan (plan p x f)
   is_plan =
-      let n = site_near p.globals (routines p) (length p.functions) p.main framed.fits.globals
+      let n = site_near (services_of p) p.globals (routines p) (length p.functions) p.main
+      (services_few p) framed.fits.globals
       (routines_near p framed.fits) (has_places p framed.fits) in
       let text = n.text in
       let room = here.room in
       let most = sizes.1 in
-      plan_near f (x.begin + 10) (check_stack_at (site_of p).text) (omega arith) (omega arith)
+      plan_near f (x.begin + 10) (probe_begin p) (omega arith) (omega arith)
       (omega arith)
 
-  rest : IsFine f.size (distance (x.begin + 10) (check_stack_at (site_of p).text)) is_plan
+  rest : IsFine f.size (distance (x.begin + 10) (probe_begin p)) is_plan
       (rest_of p x)
-  rest = rest_fine p index x f.size (distance (x.begin + 10) (check_stack_at (site_of p).text))
+  rest = rest_fine p index x f.size (distance (x.begin + 10) (probe_begin p))
       is_plan (ap size_of framed.framed) framed.fits framed.there here
 
   pub right : IsRight (function_of p x f)
@@ -116,7 +117,7 @@ module _ (p : LinearProgram) (index : ℕ) (x : Placed) (f : FrameLayout)
   parts : routine_code (site_of p) x.begin x.routine ≡ prologue_code (plan p x f) ++ rest_of p x
   parts =
       let r = x.routine in
-      let check = check_stack_at (site_of p).text in
+      let check = probe_begin p in
       let a = argument_code r.layout r.entry in
       let b = code_from (links p x) r.layout (body_begin x) r.body.code in
       ap (λ (o : Option FrameLayout). (frame_code x.begin check o ++ a) ++ b) framed.framed

@@ -4,7 +4,7 @@ use Rattle.std.proofs.Common.{◌≡◌, ℕ, ◌+◌, ◌-◌, ◌<◌, true, l
 use Rattle.std.proofs.lemmas.Bool.{and_from, eq-eqb, lt-ltb, le-leb}
 use Rattle.std.proofs.lemmas.List.{drop_at, append-nil}
 use Rattle.std.proofs.Math.Seq.{take-append_seam}
-use Rattle.image_tables.specs.Words.{Section, stored, ImageContents, CanBeImage, sizes_of, text_at, rdata_at, xdata_at, sections_of, stores_byte, section_or, section_at, stored_in, only_if, whole, import_tables, pdata_at, data_section}
+use Rattle.image_tables.specs.Words.{Section, stored, ImageContents, CanBeImage, sizes_of, text_at, rdata_at, xdata_at, sections_of, stores_byte, section_or, section_at, stored_in, only_if, whole, import_tables, pdata_at, data_section, tables_size}
 use Rattle.pe_image.proofs.Stored.{above_holds_none}
 use Rattle.pe_write.specs.Written.{raw_data}
 use Rattle.pe_write.proofs.Back.{raw_length}
@@ -49,8 +49,8 @@ module _ (p : ImageContents) (fits : CanBeImage p) where
   others =
       record {
         address = rdata_at (sizes_of p);
-        size = 222;
-        raw = import_tables (rdata_at (sizes_of p));
+        size = tables_size p.imports;
+        raw = import_tables p.imports (rdata_at (sizes_of p));
         flags = 0x40000040;
       }
       ∷ record {

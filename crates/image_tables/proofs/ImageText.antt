@@ -2,10 +2,10 @@
 use Rattle.std.proofs.Common.{◌≡◌, ℕ, suc, inl, ◌+◌, ◌-◌, ◌*◌, ◌/◌, ◌^◌, ◌<◌, true, false, ltb, leb, List, [], ◌∷◌, length, get_or, Some, refl, sym, ap, ◌∙◌, arith}
 use Rattle.std.specs.List.{AllByRecursion}
 use Rattle.std.proofs.lemmas.Bool.{lt-ltb, le-ltb, le-leb}
-use Rattle.image_tables.specs.Words.{Memory, Section, Image, Import, services, imported, ImageContents, image_of, sections_of, rdata_at, text_at, sizes_of, IsExecutableAt, LinearProgram, FitsProgram, text_begin, linked, routines, image_base, may_write, imports_of, ImagesHaveText, TextsAreFixed}
+use Rattle.image_tables.specs.Words.{Memory, Section, Image, Import, imported, slots_at, ImageContents, image_of, sections_of, rdata_at, text_at, sizes_of, IsExecutableAt, LinearProgram, FitsProgram, text_begin, linked, routines, image_base, may_write, imports_of, ImagesHaveText, TextsAreFixed, services_of}
 use Rattle.flat_memory.specs.declared.protection.Protection.{Protection}
 use Rattle.flat_memory.specs.Protections.{is_writable}
-use Rattle.image_tables.proofs.Lemmas.{listed, tables_fit, has_places, routines_near}
+use Rattle.image_tables.proofs.Lemmas.{listed, tables_fit, has_places, routines_near, services_few, imports_small, IsWithin, slots_within, all_from}
 use Rattle.host_model.specs.Loading.{section_of, mode_in, byte_in, stored_byte, with_slots, mapped}
 use Rattle.host_model.specs.Slots.{IsBeside}
 use Rattle.host_model.proofs.Slots.{slots-beside}
@@ -37,8 +37,8 @@ module _ (p : LinearProgram) (fits : FitsProgram p) where
 
   low : r + 0x3000 < 2 ^ 32
   low =
-      let fit = tables_fit p.globals (routines p) fits.globals (routines_near p fits)
-      (has_places p fits).room in
+      let fit = tables_fit (services_of p) p.globals (routines p) (services_few p) fits.globals
+      (routines_near p fits) (has_places p fits).room in
       let e = rdata_is p fits in
       omega arith
 
@@ -48,24 +48,17 @@ module _ (p : LinearProgram) (fits : FitsProgram p) where
   -- ---- the slots are after it
 
   beside_all : (a : ℕ) → a < image_base + r → AllByRecursion
-      (λ (i : Import). IsBeside a (image_base + i.slot)) (imported (r + 88) services)
+      (λ (i : Import). IsBeside a (image_base + i.slot)) (imports_of program)
   beside_all a lt =
-      let l = low in (
-        record { apart = inl (omega arith); fits = omega arith },
-        (
-          record { apart = inl (omega arith); fits = omega arith },
-          (
-            record { apart = inl (omega arith); fits = omega arith },
-            (
-              record { apart = inl (omega arith); fits = omega arith },
-              (
-                record { apart = inl (omega arith); fits = omega arith },
-                tt,
-              ),
-            ),
-          ),
-        ),
-      )
+      let ss = program.imports in
+      let l = low in
+      let n = imports_small ss (services_few p) in
+      let from = slots_at ss r in
+      all_from (IsWithin from (from + 8 * length ss))
+      (λ (i : Import). IsBeside a (image_base + i.slot)) (imported from ss)
+      (λ i w. (let begin = w.0 in let end = w.1 in
+      record { apart = inl (omega arith); fits = omega arith }))
+      (slots_within from (from + 8 * length ss) from ss (omega arith) (omega arith))
 
   below_slots : (a : ℕ) → a < image_base + r → (mapped image).byte a ≡ stored_byte image a
   unfolding mapped

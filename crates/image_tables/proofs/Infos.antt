@@ -115,7 +115,7 @@ info_four : (s : SiteView) (labels : List ℕ) (end : ℕ) (r : RoutineView) (o 
     → length (info_if s labels end r o) % 4 ≡ 0
 info_four s labels end r None = refl
 info_four s labels end r (Some f) =
-    let h = thunk_at s.text CSpecificHandler in
+    let h = thunk_at s.imports s.text CSpecificHandler in
     let a = unwind_four f h r.body.regions in
     let b = scopes_four s.funclets labels end r.body.regions in
     omega (

@@ -2,7 +2,7 @@
 use Rattle.std.proofs.Common.{◌≡◌, ℕ, suc, ◌==◌, Bool, true, false, not, List, [], ◌∷◌, map, Option, Some, None, refl}
 use Rattle.std.specs.Prelude.{slice_get, ◌&&◌}
 use Rattle.std.specs.List.{AllByRecursion}
-use Rattle.image_tables.specs.Words.{LinearFunction, LinearFunclet, LinearProgram, FrameLayout, RoutineView, is_leaf, leaf_if, functions_from, funclet, routines, Placed, site_of, infos_begin, placed, first}
+use Rattle.image_tables.specs.Words.{LinearFunction, LinearFunclet, LinearProgram, FrameLayout, RoutineView, is_leaf, leaf_if, functions_from, funclet, routines, Placed, site_of, infos_begin, placed, routines_begin}
 use Rattle.image_tables.proofs.Lookups.{placed_has}
 use Rattle.image_tables.proofs.Lemmas.{all_append}
 
@@ -32,6 +32,6 @@ funclets_sized p (f ∷ fs) = (refl, funclets_sized p fs)
 
 pub sized : (p : LinearProgram) (index : ℕ) (x : Placed) → slice_get (placed p) index ≡ Some x
     → IsSized x.routine
-sized p index x e = placed_has IsSized (site_of p) (infos_begin p) (first p.globals) (routines p)
+sized p index x e = placed_has IsSized (site_of p) (infos_begin p) (routines_begin p) (routines p)
     index x (all_append IsSized (functions_from p.main 0 p.functions) (map (funclet p) p.funclets)
     (functions_sized p.main 0 p.functions) (funclets_sized p p.funclets)) e

@@ -3,7 +3,7 @@ use Rattle.std.proofs.Common.{◌≡◌, ℕ, zero, suc, ◌+◌, ◌<◌, ◌�
 use Rattle.std.specs.Prelude.{slice_get}
 use Rattle.std.specs.List.{AllByRecursion}
 use Rattle.std.proofs.lemmas.Bool.{and_from, and_left, and_right, lt-ltb, le-leb, lt-leb, le-ltb, false≢true}
-use Rattle.image_tables.specs.Words.{Entry, holding, FrameLayout, RoutineView, routines, SiteView, routine_size, info_bytes, first, Placed, end_of, placed_from, site_of, infos_begin, entry_of, entry_if, entry_or, EntriesAreHeld, LeavesAreHeldByNone, ThunksAreHeldByNone}
+use Rattle.image_tables.specs.Words.{Entry, holding, FrameLayout, RoutineView, routines, SiteView, routine_size, info_bytes, first, Placed, end_of, placed_from, site_of, infos_begin, entry_of, entry_if, entry_or, EntriesAreHeld, LeavesAreHeldByNone, ThunksAreHeldByNone, routines_begin}
 use Rattle.image_tables.specs.Entries.{entries_of}
 
 abbrev or_else : {A : Type 0} → A → Option A → A
@@ -114,12 +114,12 @@ module _ (s : SiteView) (rva : ℕ) where
 
 pub entries_are_held : EntriesAreHeld
 entries_are_held p index x f rva fits there framed le lt = held (site_of p) rva (infos_begin p)
-    (first p.globals) (routines p) index x f there framed le lt
+    (routines_begin p) (routines p) index x f there framed le lt
 
 pub leaves_are_held_by_none : LeavesAreHeldByNone
 leaves_are_held_by_none p index x rva fits there leaf le lt = unheld (site_of p) rva (infos_begin p)
-    (first p.globals) (routines p) index x there leaf le lt
+    (routines_begin p) (routines p) index x there leaf le lt
 
 pub thunks_are_held_by_none : ThunksAreHeldByNone
-thunks_are_held_by_none p rva fits lt = below (site_of p) rva (infos_begin p) (first p.globals)
+thunks_are_held_by_none p rva fits lt = below (site_of p) rva (infos_begin p) (routines_begin p)
     (routines p) lt

@@ -3,7 +3,7 @@
 use Rattle.std.proofs.Common.{◌≡◌, ◌⊎◌, inl, inr, ℕ, zero, suc, ◌+◌, ◌<◌, ◌≤◌, Bool, true, false, List, [], ◌∷◌, ◌++◌, length, map, Option, Some, None, refl, subst, arith}
 use Rattle.std.specs.Prelude.{not, ◌&&◌, ◌==◌}
 use Rattle.std.specs.List.{AllByRecursion}
-use Rattle.image_tables.specs.Words.{W32, Rax, Rcx, Entry, ScopeRecord, Statements, Function, Instruction, LinearFunclet, LinearProgram, Region, Local, FrameLayout, Layout, modrm, keep_register, move, keep, size, sizes, template_size, body_size, label_list, address_or, taking_size, statements_regions, scope_of, lowered, lowered_function, statements_notes, RoutineView, is_leaf, leaf_if, functions_from, funclet, routines, IsRoutineNear, IsFrameNear, SiteView, routine_size, entry_size, argument_code, base_of, scope_records, info_bytes, Placed, placed_from, site_of, infos_begin, first, entry_of, entry_if}
+use Rattle.image_tables.specs.Words.{W32, Rax, Rcx, Entry, ScopeRecord, Statements, Function, Instruction, LinearFunclet, LinearProgram, Region, Local, FrameLayout, Layout, modrm, keep_register, move, keep, size, sizes, template_size, body_size, label_list, address_or, taking_size, statements_regions, scope_of, lowered, lowered_function, statements_notes, RoutineView, is_leaf, leaf_if, functions_from, funclet, routines, IsRoutineNear, IsFrameNear, SiteView, routine_size, entry_size, argument_code, base_of, scope_records, info_bytes, Placed, placed_from, site_of, infos_begin, entry_of, entry_if, routines_begin}
 use Rattle.linear_code.specs.declared.program.FuncletKind.{FuncletKind}
 use Rattle.linear_code.specs.declared.program.FuncletKind.TheVariants as kinds
 use Rattle.lowering_expressions.specs.declared.scope.LoweringContext.{LoweringContext}
@@ -181,6 +181,6 @@ module _ (s : SiteView) where
 pub lowered_begins_past_prologues : LoweredBeginsPastPrologues
 lowered_begins_past_prologues program fits =
     let p = lowered program in
-    all_past (site_of p) (infos_begin p) (first p.globals) (routines p) (routines_near p fits)
+    all_past (site_of p) (infos_begin p) (routines_begin p) (routines p) (routines_near p fits)
     (all_append IsStarted (functions_from p.main 0 p.functions) (map (funclet p) p.funclets)
     (functions_started p.main 0 program.functions) (funclets_started p p.funclets))

@@ -4,7 +4,7 @@ use Rattle.std.specs.Prelude.{◌&&◌, nat_lt}
 use Rattle.std.specs.List.{AllByRecursion}
 use Rattle.std.proofs.lemmas.Bool.{ne_eqb, eq-eqb, false≢true, cases_lt}
 use Rattle.std.proofs.lemmas.List.{length-map, get_or-map}
-use Rattle.image_tables.specs.Words.{Region, LinearFunction, LinearFunclet, LinearProgram, FitsProgram, RoutineView, functions_from, funclet, routines, IsFrameNear, IsRoutineNear, routine_size, bounds, thunk_at, CSpecificHandler, has_except, has_finally, trailer, first, site_of, infos_begin, entry_of, entries, AreDifferent, rows_of, regions, named, funclet_begin, AreRows, nothing, funclet_frame, trailer_flags}
+use Rattle.image_tables.specs.Words.{Region, LinearFunction, LinearFunclet, LinearProgram, FitsProgram, RoutineView, functions_from, funclet, routines, IsFrameNear, IsRoutineNear, routine_size, bounds, thunk_at, CSpecificHandler, has_except, has_finally, trailer, site_of, infos_begin, entry_of, entries, AreDifferent, rows_of, regions, named, funclet_begin, AreRows, nothing, funclet_frame, trailer_flags, routines_begin}
 use Rattle.linear_code.specs.declared.program.FuncletKind.TheVariants.{Filter}
 use Rattle.image_tables.proofs.Lemmas.{no_routine, routines_near, all_at}
 use Rattle.image_tables.proofs.Lookups.{placed_has, entries_are_held}
@@ -49,11 +49,11 @@ module _ (p : LinearProgram) (fits : FitsProgram p) where
   near = routines_near p fits
 
   far : AreFar (site_of p).funclets
-  far = drop_far n (bounds (first p.globals) rs) (bounds_far (first p.globals) rs (omega arith))
+  far = drop_far n (bounds (routines_begin p) rs) (bounds_far (routines_begin p) rs (omega arith))
 
   rows : AreRows p (rows_of (entries p)) (regions p)
   rows = subst (AreRows p (rows_of (entries p))) (routines_regions p)
-      (all_rows p far (infos_begin p) (first p.globals) rs (omega arith) (routines_bare p))
+      (all_rows p far (infos_begin p) (routines_begin p) rs (omega arith) (routines_bare p))
 
   pub as_long : length rs ≡ n + length p.funclets
   as_long =
@@ -74,8 +74,8 @@ module _ (p : LinearProgram) (fits : FitsProgram p) where
       no_routine (omega arith)
       ∙ get_or-map (funclet p) p.funclets k no_funclet no_routine lt
 
-  pub begin_is : (k : ℕ) → funclet_begin p k ≡ get_or (bounds (first p.globals) rs) (n + k) 0
-  begin_is k = get_or-drop n (bounds (first p.globals) rs) k 0
+  pub begin_is : (k : ℕ) → funclet_begin p k ≡ get_or (bounds (routines_begin p) rs) (n + k) 0
+  begin_is k = get_or-drop n (bounds (routines_begin p) rs) k 0
 
   pub funclet_size : (k : ℕ) → k < length p.funclets
       → 0 < routine_size (get_or rs (n + k) no_routine)
@@ -89,7 +89,7 @@ module _ (p : LinearProgram) (fits : FitsProgram p) where
   begins : (k : ℕ) → k < length p.funclets → BeginsEntry p (funclet_begin p k)
   begins k lt =
       let l = as_long in
-      let h = is_placed (site_of p) (infos_begin p) (first p.globals) rs (n + k) no_routine
+      let h = is_placed (site_of p) (infos_begin p) (routines_begin p) rs (n + k) no_routine
       (omega arith) in
       let x = h.placed in
       let at : x.begin ≡ funclet_begin p k = h.begins ∙ sym (begin_is k) in
@@ -107,7 +107,7 @@ module _ (p : LinearProgram) (fits : FitsProgram p) where
 
   pub shape : HasShape p
   shape = record {
-    order = in_order p far (infos_begin p) (first p.globals) 0 rs near (omega arith);
+    order = in_order p far (infos_begin p) (routines_begin p) 0 rs near (omega arith);
     rows = rows;
     count = as_many p (rows_of (entries p)) (regions p) rows;
     finally = finally_count p (rows_of (entries p)) (regions p) rows;
@@ -121,7 +121,7 @@ module _ (p : LinearProgram) (fits : FitsProgram p) where
   pub rises : (j k : ℕ) → j < k → k < length p.funclets → funclet_begin p j < funclet_begin p k
   rises j k lt in' =
       let l = as_long in
-      let b = bounds_rise (first p.globals) rs (n + j) (n + k) 0 no_routine (omega arith)
+      let b = bounds_rise (routines_begin p) rs (n + j) (n + k) 0 no_routine (omega arith)
       (omega arith) in
       let some = funclet_size j (omega arith) in
       let x = begin_is j in
@@ -175,7 +175,7 @@ unwound_of h (r ∷ rs) = unwound_by (has_except (r ∷ rs)) (has_finally (r ∷
 
 pub entries_are_flagged : EntriesAreFlagged
 entries_are_flagged s x f =
-    let h = thunk_at s.text CSpecificHandler in
+    let h = thunk_at s.imports s.text CSpecificHandler in
     record {
       searched = searched_of h x.routine.body.regions;
       unwound = unwound_of h x.routine.body.regions;
@@ -185,7 +185,7 @@ entries_are_flagged s x f =
 
 pub frames_are_small : FramesAreSmall
 frames_are_small p index x f fits e framed =
-    let near = placed_has IsRoutineNear (site_of p) (infos_begin p) (first p.globals) (routines p)
+    let near = placed_has IsRoutineNear (site_of p) (infos_begin p) (routines_begin p) (routines p)
     index x (routines_near p fits) e in
     let size = subst IsFrameNear framed near.frame in
     let most = size.1 in

@@ -3,7 +3,7 @@ use Rattle.std.proofs.Common.{◌*◌, ◌≡◌, ℕ, zero, suc, ◌+◌, ◌%�
 use Rattle.std.specs.Prelude.{◌&&◌}
 use Rattle.std.specs.List.{AllByRecursion}
 use Rattle.std.proofs.lemmas.List.{map-append, length-map}
-use Rattle.image_tables.specs.Words.{Image, stored, is_c_handler, Table, Entry, or_none, ◌>>=◌, unwind_bytes, RaiseException, CSpecificHandler, LocalUnwind, Protect, Put, ImageContents, CanBeImage, sizes_of, text_at, rdata_at, xdata_at, Region, LinearFunction, LinearFunclet, LinearProgram, FrameLayout, info_of, spelled, thunk, distance, Instr, chosen, body_size, FitsProgram, RoutineView, is_leaf, leaf_if, functions_from, funclet, routines, IsFrameNear, IsRoutineNear, SiteView, routine_size, entry_size, own_addresses, thunk_at, routines_bytes, bounds, trailer, scope_record, scope_records, scope_table, info_if, info_bytes, first, linked, Placed, end_of, placed_from, site_of, infos_begin, placed, HasRanges, HasRegions, scopes_of, has_rows, entry_if, entries, MOST_IMAGE, IsStoredAt, IsRuntimeFunction, WrittenEntry, HasScopes, IsEntryWritten, as_read, ranges_of, info_written, Tables, directory, all_entries, tables, scope_bytes, table_bytes, service_thunk, info_bytes_of, infos, infos_room, range_if, ranges, total, unwind_of, TablesAreRead}
+use Rattle.image_tables.specs.Words.{Image, stored, is_c_handler, Table, Entry, or_none, ◌>>=◌, unwind_bytes, CSpecificHandler, ImageContents, CanBeImage, sizes_of, text_at, rdata_at, xdata_at, Region, LinearFunction, LinearFunclet, LinearProgram, FrameLayout, info_of, spelled, thunk, distance, chosen, body_size, FitsProgram, RoutineView, is_leaf, leaf_if, functions_from, funclet, routines, IsFrameNear, IsRoutineNear, SiteView, routine_size, entry_size, own_addresses, thunk_at, routines_bytes, bounds, trailer, scope_record, scope_records, scope_table, info_if, info_bytes, linked, Placed, end_of, placed_from, site_of, infos_begin, placed, HasRanges, HasRegions, scopes_of, has_rows, entry_if, entries, MOST_IMAGE, IsStoredAt, IsRuntimeFunction, WrittenEntry, HasScopes, IsEntryWritten, as_read, ranges_of, info_written, Tables, directory, all_entries, tables, scope_bytes, table_bytes, service_thunk, info_bytes_of, infos, infos_room, range_if, ranges, total, unwind_of, TablesAreRead, front_size, slot_of, routines_begin}
 use Rattle.image_tables.specs.Entries.{entries_of}
 use Rattle.eh_tables.specs.declared.range.RuntimeFunction.{RuntimeFunction}
 use Rattle.eh_tables.specs.ReadAgain.{AreInOrder}
@@ -11,8 +11,7 @@ use Rattle.eh_tables.specs.Tables as reading
 use Rattle.eh_tables.proofs.TablesAgain.{reads_ranges}
 use Rattle.eh_tables.proofs.WholeAgain.{reads_table}
 use Rattle.pe_write.specs.Program as images
-use Rattle.image_tables.proofs.Lemmas.{listed, all_append, text_length, is_program, tables_fit, has_places, no_routine, routines_near}
-use Rattle.template_code.specs.Probing.{check_stack}
+use Rattle.image_tables.proofs.Lemmas.{listed, all_append, text_length, is_program, tables_fit, has_places, no_routine, routines_near, services_few, services_there, thunk_there}
 use Rattle.image_link.proofs.Infos.{info_small}
 use Rattle.image_tables.specs.RegionRanges.{IsRange as IsRegionRange}
 use Rattle.image_tables.proofs.ImagePieces.{text_there, xdata_there, pdata_there}
@@ -161,14 +160,6 @@ bytes_of : (s : SiteView) (at : ℕ) (r : RoutineView) (f : FrameLayout) → r.f
 unfolding info_bytes
 bytes_of s at r f e = ap (info_if s (own_addresses at r).labels (own_addresses at r).end r) e
 
--- what comes after the first two thunks
-abbrev rest_of_front : ℕ → ℕ → List Instr
-rest_of_front text rdata =
-    service_thunk text rdata LocalUnwind
-    ∷ service_thunk text rdata Protect
-    ∷ service_thunk text rdata Put
-    ∷ check_stack
-
 -- ---- a whole program
 
 module _ (p : LinearProgram) (fits : FitsProgram p) where
@@ -188,12 +179,12 @@ module _ (p : LinearProgram) (fits : FitsProgram p) where
   near = routines_near p fits
 
   pub is : CanBeImage program
-  is = is_program p.globals rs (length p.functions) p.main fits.globals near (has_places p fits)
-      no_routine
+  is = is_program s.imports p.globals rs (length p.functions) p.main (services_few p)
+      fits.globals near (has_places p fits) no_routine
 
   -- ---- its sizes
 
-  pub text_is : length program.text ≡ 51 + total rs
+  pub text_is : length program.text ≡ front_size s.imports + total rs
   text_is = text_length s rs near
 
   pub rdata_is : rdata_at (sizes_of program) ≡ s.rdata
@@ -202,7 +193,7 @@ module _ (p : LinearProgram) (fits : FitsProgram p) where
   pub infos_are : xdata_at (sizes_of program) ≡ infos_begin p
   infos_are = let t = text_is in omega arith
 
-  pub end_inside : first p.globals + total rs < image.size
+  pub end_inside : routines_begin p + total rs < image.size
   end_inside = let t = text_is in omega arith
 
   pub image_small : image.size < 2 ^ 32
@@ -210,32 +201,33 @@ module _ (p : LinearProgram) (fits : FitsProgram p) where
 
   -- ---- its handler
 
-  handler_there : stored image.sections (thunk_at s.text CSpecificHandler) 6
-      ≡ Some (chosen (service_thunk s.text s.rdata CSpecificHandler))
+  handler_there : stored image.sections (thunk_at s.imports s.text CSpecificHandler) 6
+      ≡ Some (chosen (service_thunk s.imports s.text s.rdata CSpecificHandler))
   handler_there =
-      let a = chosen (service_thunk s.text s.rdata RaiseException) in
-      let b = chosen (service_thunk s.text s.rdata CSpecificHandler) in
-      let c = spelled (rest_of_front s.text s.rdata) in
-      let d = routines_bytes s (first p.globals) rs in
-      let e : program.text ≡ a ++ (b ++ (c ++ d)) = append_assoc a (b ++ c) d
-      ∙ ap (λ t. a ++ t) (append_assoc b c d) in
-      let m : length a ≡ 6 = ap length (thunk_bytes _) in
-      let n : length b ≡ 6 = ap length (thunk_bytes _) in
-      let at : text_at (sizes_of program) + length a
-      ≡ thunk_at s.text CSpecificHandler = omega arith in
-      let h = text_there program is a b (c ++ d) e (omega arith) in
+      let v = CSpecificHandler in
+      let thunk = chosen (service_thunk s.imports s.text s.rdata v) in
+      let t = thunk_there s.imports s.text s.rdata v (routines_bytes s (routines_begin p) rs)
+      (services_there p v) in
+      let long = t.long in
+      let n : length thunk ≡ 6 = ap length (thunk_bytes _) in
+      let at : text_at (sizes_of program) + length t.before
+      ≡ thunk_at s.imports s.text v = omega arith in
+      let h = text_there program is t.before thunk t.after t.same (omega arith) in
       ap (λ (k : ℕ). stored image.sections k 6) (sym at)
-      ∙ ap (stored image.sections (text_at (sizes_of program) + length a)) (sym n) ∙ h
+      ∙ ap (stored image.sections (text_at (sizes_of program) + length t.before)) (sym n) ∙ h
 
-  c_handler : is_c_handler image (thunk_at s.text CSpecificHandler) ≡ true
+  c_handler : is_c_handler image (thunk_at s.imports s.text CSpecificHandler) ≡ true
   c_handler =
       let r = rdata_at (sizes_of program) in
-      let t = text_is in
-      let fit = tables_fit p.globals rs fits.globals near (has_places p fits).room in
-      let at = thunk_at s.text CSpecificHandler in
-      handler_is_c image at r (omega arith) (omega arith)
-      (handler_there ∙ ap (λ (n : ℕ). Some (chosen (thunk (distance (at + 6) (n + 96)))))
-      (sym rdata_is)) (listed program is)
+      let to = r + slot_of s.imports CSpecificHandler in
+      let text = text_is in
+      let fit = tables_fit s.imports p.globals rs (services_few p) fits.globals near
+      (has_places p fits).room in
+      let there = services_there p CSpecificHandler in
+      let at = thunk_at s.imports s.text CSpecificHandler in
+      handler_is_c image at r to s.imports there refl (omega arith) (omega arith)
+      (handler_there ∙ ap (λ (n : ℕ). Some (chosen (thunk (distance (at + 6)
+      (n + slot_of s.imports CSpecificHandler))))) (sym rdata_is)) (listed program is)
 
   -- ---- its unwind infos
 
@@ -243,20 +235,20 @@ module _ (p : LinearProgram) (fits : FitsProgram p) where
   scopes_by : (info at : ℕ) (r : RoutineView) (f : FrameLayout) (regions : List Region)
       (front more : List ℕ)
       → AllByRecursion (IsRegionRange (length r.body.code)) regions
-      → 16 * length regions ≤ MOST_IMAGE → at + routine_size r ≤ first p.globals + total rs
+      → 16 * length regions ≤ MOST_IMAGE → at + routine_size r ≤ routines_begin p + total rs
       → program.xdata ≡ front ++ ((unwind_bytes
-      (info_of f (trailer (thunk_at s.text CSpecificHandler) regions))
+      (info_of f (trailer (thunk_at s.imports s.text CSpecificHandler) regions))
       ++ scope_table s.funclets (own_addresses at r).labels (own_addresses at r).end regions)
       ++ more)
       → info ≡ xdata_at (sizes_of program) + length front
       → HasScopes image info (record {
         info = info_of f
-            (trailer (thunk_at s.text CSpecificHandler) regions);
+            (trailer (thunk_at s.imports s.text CSpecificHandler) regions);
         scopes = scope_records s.funclets (own_addresses at r).labels (own_addresses at r).end
             regions;
       }) (has_rows regions)
   scopes_by info at r f [] front more ranges few le e here =
-      let h = thunk_at s.text CSpecificHandler in
+      let h = thunk_at s.imports s.text CSpecificHandler in
       let u = unwind_bytes (info_of f (trailer h [])) in
       let some = unwind_some f (trailer h []) in
       let all : program.xdata ≡ front ++ (u ++ more) = e
@@ -267,7 +259,7 @@ module _ (p : LinearProgram) (fits : FitsProgram p) where
             (sym here) (xdata_there program is front u more all some);
       }
   scopes_by info at r f (q ∷ qs) front more ranges few le e here =
-      let h = thunk_at s.text CSpecificHandler in
+      let h = thunk_at s.imports s.text CSpecificHandler in
       let own = own_addresses at r in
       let rows = scope_records s.funclets own.labels own.end (q ∷ qs) in
       let u = unwind_bytes (info_of f (trailer h (q ∷ qs))) in
@@ -275,8 +267,8 @@ module _ (p : LinearProgram) (fits : FitsProgram p) where
       let bytes = u ++ scope_bytes rows in
       let inside = end_inside in
       let small = image_small in
-      let funclets = drop_below image.size (length p.functions) (bounds (first p.globals) rs)
-      (bounds_below image.size (first p.globals) rs end_inside) in
+      let funclets = drop_below image.size (length p.functions) (bounds (routines_begin p) rs)
+      (bounds_below image.size (routines_begin p) rs end_inside) in
       let fit : (at + entry_size r) + body_size r.layout r.body.code
       ≤ at + routine_size r = omega arith in
       let within = rows_within s.funclets r.layout (at + entry_size r) r.body.code
@@ -294,13 +286,13 @@ module _ (p : LinearProgram) (fits : FitsProgram p) where
 
   entry_is : (info at : ℕ) (r : RoutineView) (f : FrameLayout) (front more : List ℕ)
       → IsRoutineNear r → HasRanges r.body → r.frame ≡ Some f
-      → at + routine_size r ≤ first p.globals + total rs
+      → at + routine_size r ≤ routines_begin p + total rs
       → program.xdata ≡ front ++ (info_bytes_of s (own_addresses at r).labels
       (own_addresses at r).end r f ++ more) → info ≡ xdata_at (sizes_of program) + length front
       → info % 4 ≡ 0
       → IsEntryWritten image (written_of s (record { routine = r; begin = at; info = info }) f)
   entry_is info at r f front more close ranges framed le e here four =
-      let h = thunk_at s.text CSpecificHandler in
+      let h = thunk_at s.imports s.text CSpecificHandler in
       let size = subst IsFrameNear framed close.frame in
       let some = size.0 in
       let most = size.1 in
@@ -331,7 +323,7 @@ module _ (p : LinearProgram) (fits : FitsProgram p) where
 
   all_written : (info at : ℕ) (qs : List RoutineView) (front : List ℕ)
       → AllByRecursion IsRoutineNear qs → AllByRecursion RoutineHasRanges qs
-      → at + total qs ≤ first p.globals + total rs
+      → at + total qs ≤ routines_begin p + total rs
       → program.xdata ≡ front ++ infos s at qs → info ≡ xdata_at (sizes_of program) + length front
       → info % 4 ≡ 0
       → AllByRecursion (IsEntryWritten image) (written_from s (placed_from s info at qs))
@@ -356,7 +348,7 @@ module _ (p : LinearProgram) (fits : FitsProgram p) where
       → map (as_read image) (written_if s x o) ≡ entry_if s x o
   read_if x None = refl
   read_if x (Some f) =
-      let h = thunk_at s.text CSpecificHandler in
+      let h = thunk_at s.imports s.text CSpecificHandler in
       ap (λ (b : Bool). record {
         range = record {
           begin = x.begin;
@@ -375,15 +367,16 @@ module _ (p : LinearProgram) (fits : FitsProgram p) where
   abbrev pub written : List WrittenEntry
   written = written_from s (placed p)
 
-  same_ranges : ranges_of written ≡ ranges s (infos_begin p) (first p.globals) rs
-  same_ranges = ranges_same s (infos_begin p) (first p.globals) rs
+  same_ranges : ranges_of written ≡ ranges s (infos_begin p) (routines_begin p) rs
+  same_ranges = ranges_same s (infos_begin p) (routines_begin p) rs
 
   are_ranges : AllByRecursion IsRuntimeFunction (ranges_of written)
   are_ranges =
-      let fit = tables_fit p.globals rs fits.globals near (has_places p fits).room in
+      let fit = tables_fit s.imports p.globals rs (services_few p) fits.globals near
+      (has_places p fits).room in
       let inside = end_inside in
       let small = image_small in
-      ranges_small s (infos_begin p) (first p.globals) rs (omega arith) (omega arith)
+      ranges_small s (infos_begin p) (routines_begin p) rs (omega arith) (omega arith)
 
   aligned : image.exceptions.rva % 4 ≡ 0
   aligned = omega arith
@@ -402,9 +395,9 @@ module _ (p : LinearProgram) (fits : FitsProgram p) where
   whole regions =
       let at = infos_are in
       reads_table image written are_ranges aligned as_long ranges_there
-      (all_written (infos_begin p) (first p.globals) rs [] near (routines_have p regions)
+      (all_written (infos_begin p) (routines_begin p) rs [] near (routines_have p regions)
       (omega arith) refl (omega arith) (omega arith))
-      (in_order s (infos_begin p) (first p.globals) 0 rs near (omega arith))
+      (in_order s (infos_begin p) (routines_begin p) 0 rs near (omega arith))
       ∙ ap (λ (es : List Entry). let t : Table (List Entry) = Ok es in t) (read_all (placed p))
 
   -- the tables that are read of the image, and their entries

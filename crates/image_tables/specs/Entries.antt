@@ -25,7 +25,9 @@ has_rows (r ∷ rs) = true
 
 -- its unwind info, whose language handler is `__C_specific_handler` where it has scope records
 abbrev pub unwind_of : SiteView → Placed → FrameLayout → UnwindInfo
-unwind_of s x f = info_of f (trailer (thunk_at s.text CSpecificHandler) x.routine.body.regions)
+unwind_of s x f =
+    info_of f
+    (trailer (thunk_at s.imports s.text CSpecificHandler) x.routine.body.regions)
 
 -- ---- entries
 

@@ -20,9 +20,8 @@ use Rattle.pe_write.specs.Program.{image_of}
 use Rattle.linear_code.specs.Program.{LinearProgram}
 use Rattle.frame_layout.specs.declared.frame.FrameLayout.{FrameLayout}
 use Rattle.image_link.specs.Fits.{FitsProgram}
-use Rattle.image_link.specs.Text.{thunk_at, check_stack_at}
 use Rattle.image_link.specs.Linked.{text_begin, linked}
-use Rattle.image_tables.specs.RoutinePlaces.{Placed, end_of, site_of, placed}
+use Rattle.image_tables.specs.RoutinePlaces.{Placed, end_of, site_of, placed, thunk_begin, probe_begin}
 use Rattle.image_tables.specs.RegionRanges.{HasRegions}
 use Rattle.image_tables.specs.Entries.{entry_of}
 use Rattle.image_tables.specs.CodeInMemory.{image_base, HasText, IsInBody}
@@ -152,13 +151,12 @@ LeavesAreFound =
 abbrev pub ThunksAreFound : Type 0
 ThunksAreFound =
     (p : LinearProgram) (service : ImportedService) (e s : State) → FitsProgram p → HasRegions p
-    → IsInRange e s (thunk_of p service) (thunk_at (site_of p).text service)
-    (thunk_at (site_of p).text service + 6)
+    → IsInRange e s (thunk_of p service) (thunk_begin p service) (thunk_begin p service + 6)
     → FindsCaller p e s
 
 -- the caller of `__chkstk` is found
 abbrev pub ProbesAreFound : Type 0
 ProbesAreFound =
     (p : LinearProgram) (e s : State) → FitsProgram p → HasRegions p
-    → IsInRange e s probe (check_stack_at (site_of p).text) (check_stack_at (site_of p).text + 21)
+    → IsInRange e s probe (probe_begin p) (probe_begin p + 21)
     → FindsCaller p e s

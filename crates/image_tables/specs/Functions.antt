@@ -13,8 +13,9 @@ use Rattle.frame_layout.specs.Layout.{plan_of}
 use Rattle.template_code.specs.Jumps.{distance}
 use Rattle.template_code.specs.Probing.{check_stack}
 use Rattle.template_code.specs.Template.{code_from}
-use Rattle.image_link.specs.Text.{argument_code, check_stack_at, service_thunk}
-use Rattle.image_tables.specs.RoutinePlaces.{Placed, body_begin, site_of}
+use Rattle.image_link.specs.Text.{argument_code, service_thunk}
+use Rattle.image_link.specs.Linked.{services_of}
+use Rattle.image_tables.specs.RoutinePlaces.{Placed, body_begin, site_of, probe_begin}
 use Rattle.image_tables.specs.Entries.{entry_of}
 use Rattle.image_tables.specs.CodeInMemory.{links}
 
@@ -22,7 +23,7 @@ use Rattle.image_tables.specs.CodeInMemory.{links}
 
 -- a large frame is taken by a call of `__chkstk`, which ends ten bytes from the begin
 abbrev pub plan : LinearProgram → Placed → FrameLayout → FramePlan
-plan p x f = plan_of f (distance (x.begin + 10) (check_stack_at (site_of p).text))
+plan p x f = plan_of f (distance (x.begin + 10) (probe_begin p))
 
 -- what it does with what it is called with, and its body
 abbrev pub rest_of : LinearProgram → Placed → List Instr
@@ -46,7 +47,9 @@ leaf p x = spelled_by spell (rest_of p x)
 
 -- the instruction of a service's thunk
 abbrev pub thunk_of : LinearProgram → ImportedService → List FetchedInstr
-thunk_of p s = spelled_by spell (service_thunk (site_of p).text (site_of p).rdata s ∷ [])
+thunk_of p s =
+    spelled_by spell
+    (service_thunk (services_of p) (site_of p).text (site_of p).rdata s ∷ [])
 
 -- the instructions of `__chkstk`
 abbrev pub probe : List FetchedInstr

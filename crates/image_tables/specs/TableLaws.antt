@@ -11,8 +11,8 @@ use Rattle.template_code.specs.Bytes.{thunk}
 use Rattle.linear_code.specs.Program.{LinearProgram}
 use Rattle.frame_layout.specs.declared.frame.FrameLayout.{FrameLayout}
 use Rattle.image_link.specs.Fits.{FitsProgram}
-use Rattle.image_link.specs.Linked.{first, linked}
-use Rattle.image_tables.specs.RoutinePlaces.{Placed, end_of, site_of, placed}
+use Rattle.image_link.specs.Linked.{linked}
+use Rattle.image_tables.specs.RoutinePlaces.{Placed, end_of, site_of, placed, routines_begin}
 use Rattle.image_tables.specs.RegionRanges.{HasRegions}
 use Rattle.image_tables.specs.Entries.{entry_of, entries}
 
@@ -40,7 +40,7 @@ LeavesAreHeldByNone =
 
 abbrev pub ThunksAreHeldByNone : Type 0
 ThunksAreHeldByNone =
-    (p : LinearProgram) (rva : ℕ) → FitsProgram p → rva < first p.globals
+    (p : LinearProgram) (rva : ℕ) → FitsProgram p → rva < routines_begin p
     → holding rva (entries p) ≡ None
 
 -- the jump by which the reader of tables knows a handler is that of the instruction table,

@@ -23,7 +23,7 @@ pub use Rattle.seh_ir.specs.Regions.{statements_regions, except_kind, region, st
 pub use Rattle.seh_ir.specs.declared.funclets.Owner.{Owner}
 pub use Rattle.pe_image.specs.Image.{Image, stored, Section, stores_byte, section_or, section_at, stored_in, only_if, whole}
 pub use Rattle.pe_image.specs.Imports.{Import}
-pub use Rattle.pe_write.specs.ImportTables.{services, imported, slots_at, name_of}
+pub use Rattle.pe_write.specs.ImportTables.{imported, slots_at, slot_of, name_of, place_of, tables_size}
 unfoldable pub use Rattle.pe_write.specs.ImportTables.{import_tables}
 pub use Rattle.pe_write.specs.Program.{image_of, ImageContents, CanBeImage, sizes_of, text_at, rdata_at, xdata_at, sections_of, pdata_at, data_section, imports_of}
 pub use Rattle.eh_tables.specs.Answer.{Table}
@@ -67,12 +67,12 @@ pub use Rattle.x64_emit.specs.Bodies.{label_list}
 pub use Rattle.x64_emit.specs.Linking.{links_of, address_or, thunk_of}
 pub use Rattle.x64_emit.specs.Near.{IsNear, IsInstructionNear, IsBaseNear, IsSlotNear, near_end, IsFieldNear}
 pub use Rattle.image_link.specs.Fits.{FitsProgram, function_bodies, funclet_bodies}
-pub use Rattle.image_link.specs.Linked.{text_begin, linked, first, total}
+pub use Rattle.image_link.specs.Linked.{services_of, text_begin, linked, first, total}
 pub use Rattle.image_link.specs.Near.{IsEntryNear, IsFrameNear, IsRoutineNear}
 pub use Rattle.image_link.specs.Routines.{RoutineView, routines, is_leaf, leaf_if, functions_from, funclet, has_call, nothing, funclet_frame}
 pub use Rattle.image_link.specs.Tables.{is_finally, has_except, has_finally, trailer, scope_records, scope_table, info_if, handler_address, jump_target, scope_record, info_bytes_of, infos, infos_room, range_if, ranges}
 unfoldable pub use Rattle.image_link.specs.Tables.{info_bytes}
-pub use Rattle.image_link.specs.Text.{argument_code, base_of, entry_code, check_stack_at, routine_code, thunk_at, SiteView, routine_size, routines_bytes, routine_room, room, addresses, front_code, frame_code, own_addresses, thunks_at, bounds, service_thunk}
+pub use Rattle.image_link.specs.Text.{argument_code, base_of, entry_code, check_stack_at, routine_code, thunk_at, SiteView, routine_size, routines_bytes, routine_room, room, addresses, front_code, frame_code, own_addresses, thunks_at, bounds, service_thunk, front_size}
 unfoldable pub use Rattle.image_link.specs.Text.{entry_size, routine_bytes}
 pub use Rattle.image_tables.specs.CodeInMemory.{image_base, links, template_at, IsInBody, HasText, IsReturn}
 pub use Rattle.image_tables.specs.Entries.{entries, has_rows, entry_of, entry_if, scopes_of, unwind_of}
@@ -81,6 +81,6 @@ pub use Rattle.image_tables.specs.Functions.{function_of, leaf, probe, plan, res
 pub use Rattle.image_tables.specs.RegionLaws.{LoweredNamesFunclets, LoweredHasRegions, LoweredIsShaped}
 pub use Rattle.image_tables.specs.RegionRanges.{HasRegions, IsRange, HasRanges}
 pub use Rattle.image_tables.specs.RegionRows.{AreDifferent, funclet_in, named, regions, handlers, is_always, funclet_begin, AreRows, is_finally_row, is_always_row, regions_in, rows_of, AreInOrder}
-pub use Rattle.image_tables.specs.RoutinePlaces.{Placed, end_of, body_begin, site_of, placed, placed_from, infos_begin}
+pub use Rattle.image_tables.specs.RoutinePlaces.{Placed, end_of, body_begin, site_of, placed, placed_from, infos_begin, routines_begin, thunk_begin, probe_begin}
 pub use Rattle.image_tables.specs.TableLaws.{JumpsAreSpelled, EntriesAreHeld, LeavesAreHeldByNone, ThunksAreHeldByNone, TablesAreRead}
 pub use Rattle.image_tables.specs.Tries.{Try, Accepts, Asks, Finishes, with_filter, tries_in, tries, tries_of, all_tries, finishes, accepts}

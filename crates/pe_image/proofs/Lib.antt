@@ -1,4 +1,3 @@
-pub mod GatheredImports
 pub mod ImportCount
 pub mod Imported
 pub mod ImportsRead

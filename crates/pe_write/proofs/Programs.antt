@@ -9,7 +9,7 @@ use Rattle.std.proofs.Math.Seq.{take-append_seam}
 use Rattle.pe_image.specs.Image.{Section, stores_byte, section_or, section_at, stored_in}
 use Rattle.pe_image.specs.Imports.{Import, imports, or_none}
 use Rattle.pe_image.specs.Imports as importing
-use Rattle.pe_write.specs.ImportTables.{import_tables}
+use Rattle.pe_write.specs.ImportTables.{addresses_size, slots_offset, tables_size, import_tables}
 use Rattle.pe_write.specs.Program.{ImageContents, CanBeImage, sizes_of, text_at, rdata_at, xdata_at, pdata_at, end_at, data_section, text_section, rdata_section, xdata_section, pdata_section, import_directory, exception_directory, parts_of, sections_of, image_of, imports_of}
 use Rattle.pe_image.specs.Reading.{IsImage}
 use Rattle.pe_write.specs.declared.sizes.Sizes.{Sizes}
@@ -40,7 +40,12 @@ module _ (p : ImageContents) (fits : CanBeImage p) where
   }
 
   abbrev tables : Section
-  tables = record { address = r; size = 222; raw = import_tables r; flags = 0x40000040 }
+  tables = record {
+    address = r;
+    size = tables_size p.imports;
+    raw = import_tables p.imports r;
+    flags = 0x40000040;
+  }
 
   abbrev infos : Section
   infos = record {
@@ -84,16 +89,17 @@ module _ (p : ImageContents) (fits : CanBeImage p) where
   past_tables rva le =
       past_code rva (omega arith)
       ∙ ap (section_or (section_at rva others) tables)
-      (above_holds_none rva tables (omega (arith, tables_length r)))
+      (above_holds_none rva tables (omega (arith, tables_length p.imports r)))
 
-  pub tables_are_at : (k : ℕ) → k < 222 → stored_in (r + k) (section_at (r + k) (sections_of p))
-      ≡ drop k (import_tables r)
+  pub tables_are_at : (k : ℕ) → k < tables_size p.imports
+      → stored_in (r + k) (section_at (r + k) (sections_of p))
+      ≡ drop k (import_tables p.imports r)
   tables_are_at k lt =
       let back : r + k - r ≡ k = omega arith in
       ap (stored_in (r + k)) (past_code (r + k) (omega arith)
       ∙ ap (section_or (section_at (r + k) others) tables)
-      (inside (r + k) tables (omega arith) (omega (arith, tables_length r))))
-      ∙ ap (λ n. drop n (import_tables r)) back
+      (inside (r + k) tables (omega arith) (omega (arith, tables_length p.imports r))))
+      ∙ ap (λ n. drop n (import_tables p.imports r)) back
 
   pub xdata_is_at : (k : ℕ) → k < length p.xdata
       → stored_in (xdata_at (sizes_of p) + k)
@@ -120,7 +126,8 @@ module _ (p : ImageContents) (fits : CanBeImage p) where
       ∙ ap (λ n. drop n p.pdata) back
 
   pub imports_are : imports (image_of p) ≡ Ok (imports_of p)
-  imports_are = let e = fits.end in tables_read (sections_of p) r (omega arith) tables_are_at
+  imports_are = let e = fits.end in let few = fits.imports in
+      tables_read (sections_of p) p.imports r (omega arith) tables_are_at (omega arith)
 
   -- ---- what is read
 
@@ -131,12 +138,12 @@ module _ (p : ImageContents) (fits : CanBeImage p) where
   unfolding raw_data
   text_is = take-append_seam p.text (zeros (raw_size (text_section p) - length p.text))
 
-  rdata_is : take 222 (raw_data (rdata_section p)) ≡ import_tables r
+  rdata_is : take (tables_size p.imports) (raw_data (rdata_section p)) ≡ import_tables p.imports r
   unfolding raw_data
   rdata_is =
-      ap (λ n. take n (raw_data (rdata_section p))) (sym (tables_length r))
-      ∙ take-append_seam (import_tables r) (zeros
-      (raw_size (rdata_section p) - length (import_tables r)))
+      ap (λ n. take n (raw_data (rdata_section p))) (sym (tables_length p.imports r))
+      ∙ take-append_seam (import_tables p.imports r) (zeros
+      (raw_size (rdata_section p) - length (import_tables p.imports r)))
 
   xdata_is : take (length p.xdata) (raw_data (xdata_section p)) ≡ p.xdata
   unfolding raw_data
@@ -162,7 +169,12 @@ module _ (p : ImageContents) (fits : CanBeImage p) where
           raw = text_is i;
           flags = 0x60000020;
         }
-        ∷ record { address = r; size = 222; raw = rdata_is i; flags = 0x40000040 }
+        ∷ record {
+          address = r;
+          size = tables_size p.imports;
+          raw = rdata_is i;
+          flags = 0x40000040;
+        }
         ∷ record {
           address = xdata_at (sizes_of p);
           size = length p.xdata;
@@ -196,7 +208,11 @@ module _ (p : ImageContents) (fits : CanBeImage p) where
           (
             record { name = refl; flags = omega arith; stored = omega arith },
             (
-              record { name = refl; flags = omega arith; stored = omega (arith, tables_length r) },
+              record {
+                name = refl;
+                flags = omega arith;
+                stored = omega (arith, tables_length p.imports r);
+              },
               (
                 record { name = refl; flags = omega arith; stored = omega arith },
                 (
@@ -239,7 +255,7 @@ with_imports p (Err e) is = tt
 -- ---- the same by the values that the code has
 
 pub rdata_fits : (p : ImageContents) (s : Sizes) (n : ℕ) → CanBeImage p → s ≡ sizes_of p
-    → n ≡ rdata_at s → n + 222 < 2 ^ 32
+    → n ≡ rdata_at s → n + tables_size p.imports < 2 ^ 32
 rdata_fits p s n is e1 e2 = let e = is.end in let at : n ≡ rdata_at (sizes_of p) = e2
     ∙ ap rdata_at e1 in omega arith
 
@@ -248,27 +264,31 @@ pub text_fits : (p : ImageContents) (s : Sizes) (n : ℕ) → CanBeImage p → s
 text_fits p s n is e1 e2 = let e = is.end in let h = is.entry in
     let at : n ≡ text_at (sizes_of p) = e2 ∙ ap text_at e1 in omega arith
 
-abbrev pub with_places : ℕ → List SectionParts → ℕ → ℕ → ℕ → ImageParts
-with_places entry ss rdata pdata size = record {
+abbrev pub with_places : ℕ → List SectionParts → ℕ → ℕ → ℕ → ℕ → ℕ → ImageParts
+with_places entry ss rdata pdata size slots addresses = record {
   entry = entry;
   sections = ss;
   imports = record { rva = rdata; size = 40 };
   exceptions = record { rva = pdata; size = size };
-  import_addresses = record { rva = rdata + 88; size = 48 };
+  import_addresses = record { rva = rdata + slots; size = addresses };
 }
 
 pub same_parts : (p : ImageContents) (s : Sizes) (n entry : ℕ) (ss : List SectionParts)
-    (rdata pdata : ℕ) → s ≡ sizes_of p → n ≡ text_at s → entry ≡ p.entry
+    (rdata pdata slots addresses : ℕ) → s ≡ sizes_of p → n ≡ text_at s → entry ≡ p.entry
     → ss ≡ (parts_of p).sections → rdata ≡ rdata_at s → pdata ≡ pdata_at s
-    → with_places (n + entry) ss rdata pdata s.pdata_size ≡ parts_of p
-same_parts p s n entry ss rdata pdata e1 e2 e3 e4 e5 e6 =
-    ap (λ s. with_places (n + entry) ss rdata pdata s.pdata_size) e1
+    → slots ≡ slots_offset p.imports → addresses ≡ addresses_size p.imports
+    → with_places (n + entry) ss rdata pdata s.pdata_size slots addresses ≡ parts_of p
+same_parts p s n entry ss rdata pdata slots addresses e1 e2 e3 e4 e5 e6 e7 e8 =
+    ap (λ s. with_places (n + entry) ss rdata pdata s.pdata_size slots addresses) e1
     ∙ (λ i. with_places ((e2 ∙ ap text_at e1) i + e3 i) (e4 i) ((e5 ∙ ap rdata_at e1) i)
-    ((e6 ∙ ap pdata_at e1) i) (length p.pdata))
+    ((e6 ∙ ap pdata_at e1) i) (length p.pdata) (e7 i) (e8 i))
 
 pub places_fit : (p : ImageContents) (s : Sizes) (n entry : ℕ) (ss : List SectionParts)
-    (rdata pdata : ℕ) → CanBeImage p → s ≡ sizes_of p → n ≡ text_at s → entry ≡ p.entry
-    → ss ≡ (parts_of p).sections → rdata ≡ rdata_at s → pdata ≡ pdata_at s
-    → CanBeWritten (with_places (n + entry) ss rdata pdata s.pdata_size)
-places_fit p s n entry ss rdata pdata is e1 e2 e3 e4 e5 e6 = subst CanBeWritten
-    (sym (same_parts p s n entry ss rdata pdata e1 e2 e3 e4 e5 e6)) (can_be_written p is)
+    (rdata pdata slots addresses : ℕ) → CanBeImage p → s ≡ sizes_of p → n ≡ text_at s
+    → entry ≡ p.entry → ss ≡ (parts_of p).sections → rdata ≡ rdata_at s → pdata ≡ pdata_at s
+    → slots ≡ slots_offset p.imports → addresses ≡ addresses_size p.imports
+    → CanBeWritten (with_places (n + entry) ss rdata pdata s.pdata_size slots addresses)
+places_fit p s n entry ss rdata pdata slots addresses is e1 e2 e3 e4 e5 e6 e7 e8 =
+    subst CanBeWritten
+    (sym (same_parts p s n entry ss rdata pdata slots addresses e1 e2 e3 e4 e5 e6 e7 e8))
+    (can_be_written p is)

@@ -1,37 +1,67 @@
 -- The tables of `.rdata` by which a written image imports the services of its host (PE format, "The
 -- .idata Section"): one library, whose names have no hints. All addresses are relative to the image
 -- base.
-use Rattle.std.specs.Prelude.{ℕ, ◌+◌, ◌*◌, ◌%◌, List, [], ◌∷◌, ◌++◌, length}
+use Rattle.std.specs.Prelude.{ℕ, suc, ◌+◌, ◌*◌, ◌%◌, ◌==◌, if◌then◌else◌, List, [], ◌∷◌, ◌++◌, length}
 use Rattle.std.specs.List.{flat_map}
 use Rattle.host_layout.specs.declared.imported.ImportedService.{ImportedService}
 use Rattle.host_layout.specs.declared.name.TheConstants.{LIBRARY}
 pub use Rattle.host_layout.specs.Imported.{name_of, number_of, services}
 use Rattle.pe_image.specs.declared.layout.TheConstants.{DESCRIPTOR_SIZE, HINT_SIZE, LOOKUP_ENTRY_SIZE}
-use Rattle.pe_write.specs.declared.import_tables.TheConstants.{LOOKUPS_AT, SLOTS_AT, NAMES_AT, LIBRARY_AT, TABLES_SIZE, UNREAD_FIELDS_SIZE}
+use Rattle.pe_write.specs.declared.import_tables.TheConstants.{DESCRIPTORS_SIZE, UNREAD_FIELDS_SIZE}
 use Rattle.pe_image.specs.Imports.{Import}
 use Rattle.pe_image.specs.Numbers.{u32, u64, zeros}
+
+-- ---- how many bytes the tables of so many services take
+
+-- the place of a service among those that are imported, and how many they are where it isn't there
+abbrev pub place_of : List ImportedService → ImportedService → ℕ
+place_of [] s = 0
+place_of (t ∷ ts) s = if number_of t == number_of s then 0 else suc (place_of ts s)
+
+-- the lookup table, or the slots: an entry for each service, and one of 0
+abbrev pub addresses_size : List ImportedService → ℕ
+addresses_size ss = LOOKUP_ENTRY_SIZE * (length ss + 1)
+
+-- a name with its hint, filled up to an even length
+abbrev pub hint_name_size : ImportedService → ℕ
+hint_name_size s = HINT_SIZE + length (name_of s) + 1 + (length (name_of s) + 1) % 2
+
+abbrev pub names_size : List ImportedService → ℕ
+names_size [] = 0
+names_size (s ∷ ss) = hint_name_size s + names_size ss
+
+-- ---- how far each table lies from the front of `.rdata`
+
+abbrev pub slots_offset : List ImportedService → ℕ
+slots_offset ss = DESCRIPTORS_SIZE + addresses_size ss
+
+abbrev pub names_offset : List ImportedService → ℕ
+names_offset ss = slots_offset ss + addresses_size ss
+
+abbrev pub library_offset : List ImportedService → ℕ
+library_offset ss = names_offset ss + names_size ss
+
+-- all of them, with the library's name and the 0 that ends it
+abbrev pub tables_size : List ImportedService → ℕ
+tables_size ss = library_offset ss + (length LIBRARY.now + 1)
+
+-- the slot of a service
+abbrev pub slot_of : List ImportedService → ImportedService → ℕ
+slot_of ss s = slots_offset ss + LOOKUP_ENTRY_SIZE * place_of ss s
 
 -- ---- where each table lies in `.rdata`, whose beginning is at an address
 
 abbrev pub lookups_at : ℕ → ℕ
-lookups_at at = at + LOOKUPS_AT
+lookups_at at = at + DESCRIPTORS_SIZE
 
-abbrev pub slots_at : ℕ → ℕ
-slots_at at = at + SLOTS_AT
+abbrev pub slots_at : List ImportedService → ℕ → ℕ
+slots_at ss at = at + slots_offset ss
 
-abbrev pub names_at : ℕ → ℕ
-names_at at = at + NAMES_AT
+abbrev pub names_at : List ImportedService → ℕ → ℕ
+names_at ss at = at + names_offset ss
 
-abbrev pub library_at : ℕ → ℕ
-library_at at = at + LIBRARY_AT
-
--- all of them
-abbrev pub tables_size : ℕ
-tables_size = TABLES_SIZE
-
--- the slot of a service, from the front of `.rdata` on
-abbrev pub slot_of : ImportedService → ℕ
-slot_of s = SLOTS_AT + LOOKUP_ENTRY_SIZE * number_of s
+abbrev pub library_at : List ImportedService → ℕ → ℕ
+library_at ss at = at + library_offset ss
 
 -- ---- the tables
 
@@ -39,29 +69,27 @@ slot_of s = SLOTS_AT + LOOKUP_ENTRY_SIZE * number_of s
 unfoldable pub hint_name : ImportedService → List ℕ
 hint_name s = zeros HINT_SIZE ++ name_of s ++ zeros (1 + (length (name_of s) + 1) % 2)
 
-abbrev pub hint_name_size : ImportedService → ℕ
-hint_name_size s = HINT_SIZE + length (name_of s) + 1 + (length (name_of s) + 1) % 2
-
 -- the address of each name, of which the first is there, and 0
 abbrev pub addresses : ℕ → List ImportedService → List ℕ
 addresses at [] = u64 0
 addresses at (s ∷ ss) = u64 at ++ addresses (at + hint_name_size s) ss
 
-unfoldable pub descriptor : ℕ → List ℕ
-descriptor at =
+unfoldable pub descriptor : List ImportedService → ℕ → List ℕ
+descriptor ss at =
     u32 (lookups_at at)
     ++ zeros UNREAD_FIELDS_SIZE  -- TimeDateStamp, ForwarderChain
-    ++ u32 (library_at at)
-    ++ u32 (slots_at at)
+    ++ u32 (library_at ss at)
+    ++ u32 (slots_at ss at)
 
--- `.rdata`, where it lies there. The slots hold what the lookup table holds, until they are bound
-unfoldable pub import_tables : ℕ → List ℕ
-import_tables at =
-    descriptor at
+-- `.rdata` of those that a program imports, where it lies there. The slots hold what the lookup
+-- table holds, until they are bound
+unfoldable pub import_tables : List ImportedService → ℕ → List ℕ
+import_tables ss at =
+    descriptor ss at
     ++ zeros DESCRIPTOR_SIZE
-    ++ addresses (names_at at) services
-    ++ addresses (names_at at) services
-    ++ flat_map hint_name services
+    ++ addresses (names_at ss at) ss
+    ++ addresses (names_at ss at) ss
+    ++ flat_map hint_name ss
     ++ LIBRARY.now
     ++ zeros 1
 

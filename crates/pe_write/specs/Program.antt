@@ -1,20 +1,23 @@
--- The image of a program, as it is written: five sections, the imports of its host's services, and
--- the table of its functions.
+-- The image of a program, as it is written: five sections, the services of its host that it
+-- imports, and the table of its functions.
 use Rattle.std.specs.Prelude.{◌≡◌, ℕ, ◌+◌, ◌%◌, ◌^◌, ◌<◌, ◌≤◌, List, [], ◌∷◌, length}
 use Rattle.host_layout.specs.declared.range.TheConstants.{IMAGE_BASE, DATA_AT, PAGE}
 use Rattle.pe_image.specs.declared.layout.TheConstants.{IMAGE_SCN_MEM_EXECUTE, IMAGE_SCN_MEM_READ, IMAGE_SCN_MEM_WRITE}
 use Rattle.pe_write.specs.declared.header.TheConstants.{IMAGE_SCN_CNT_CODE, IMAGE_SCN_CNT_INITIALIZED_DATA, DATA_NAME, TEXT_NAME, RDATA_NAME, XDATA_NAME, PDATA_NAME}
-use Rattle.pe_write.specs.declared.import_tables.TheConstants.{DESCRIPTORS_SIZE, ADDRESSES_SIZE}
+use Rattle.pe_write.specs.declared.import_tables.TheConstants.{DESCRIPTORS_SIZE}
 use Rattle.pe_image.specs.declared.directory.DataDirectory.{DataDirectory}
+use Rattle.host_layout.specs.declared.imported.ImportedService.{ImportedService}
 use Rattle.pe_write.specs.declared.sizes.Sizes.{Sizes}
 use Rattle.pe_image.specs.Image.{Section, Image}
 use Rattle.pe_image.specs.Imports.{Import}
-use Rattle.pe_write.specs.ImportTables.{services, slots_at, tables_size, import_tables, imported}
+use Rattle.pe_write.specs.ImportTables.{slots_at, addresses_size, tables_size, import_tables, imported}
 use Rattle.pe_write.specs.Written.{SectionParts, ImageParts, pages, raw_data}
 
--- a program: how many bytes its data takes and what the file stores of it, its code and where in it
--- the program begins, its unwind infos and its function table
+-- a program: the services that it imports, in the order of their slots, how many bytes its data
+-- takes and what the file stores of it, its code and where in it the program begins, its unwind
+-- infos and its function table
 pub record ImageContents : Type 0 where
+  pub imports : List ImportedService
   pub data_size : ℕ
   pub data_bytes : List ℕ
   pub text : List ℕ
@@ -32,9 +35,9 @@ text_after data_size = DATA_AT + pages data_size
 abbrev pub rdata_after : ℕ → ℕ → ℕ
 rdata_after data_size text_size = text_after data_size + pages text_size
 
--- `.xdata`, which the import tables come before too
-abbrev pub xdata_after : ℕ → ℕ → ℕ
-xdata_after data_size text_size = rdata_after data_size text_size + pages tables_size
+-- `.xdata`, after `.data`, `.text` and `.rdata` of so many bytes
+abbrev pub xdata_after : ℕ → ℕ → ℕ → ℕ
+xdata_after data_size text_size rdata_size = rdata_after data_size text_size + pages rdata_size
 
 abbrev pub text_at : Sizes → ℕ
 text_at s = text_after s.data_size
@@ -43,7 +46,7 @@ abbrev pub rdata_at : Sizes → ℕ
 rdata_at s = rdata_after s.data_size s.text_size
 
 abbrev pub xdata_at : Sizes → ℕ
-xdata_at s = xdata_after s.data_size s.text_size
+xdata_at s = xdata_after s.data_size s.text_size s.rdata_size
 
 abbrev pub pdata_at : Sizes → ℕ
 pdata_at s = xdata_at s + pages s.xdata_size
@@ -56,6 +59,7 @@ sizes_of p =
     record {
       data_size = p.data_size;
       text_size = length p.text;
+      rdata_size = tables_size p.imports;
       xdata_size = length p.xdata;
       pdata_size = length p.pdata;
     }
@@ -97,7 +101,9 @@ const_section name size bytes =
     record { name = name; flags = const_flags; size = size; bytes = bytes }
 
 abbrev pub rdata_section : ImageContents → SectionParts
-rdata_section p = const_section RDATA_NAME tables_size (import_tables (rdata_at (sizes_of p)))
+rdata_section p =
+    const_section RDATA_NAME (tables_size p.imports)
+    (import_tables p.imports (rdata_at (sizes_of p)))
 
 abbrev pub xdata_section : ImageContents → SectionParts
 xdata_section p = const_section XDATA_NAME (length p.xdata) p.xdata
@@ -117,7 +123,11 @@ exception_directory p = record { rva = pdata_at (sizes_of p); size = length p.pd
 
 -- the slots
 abbrev pub address_directory : ImageContents → DataDirectory
-address_directory p = record { rva = slots_at (rdata_at (sizes_of p)); size = ADDRESSES_SIZE }
+address_directory p =
+    record {
+      rva = slots_at p.imports (rdata_at (sizes_of p));
+      size = addresses_size p.imports;
+    }
 
 -- ---- the image
 
@@ -141,8 +151,8 @@ abbrev pub sections_of : ImageContents → List Section
 sections_of p =
     section_with DATA_AT p.data_size (raw_data (data_section p)) data_flags
     ∷ section_with (text_at (sizes_of p)) (length p.text) p.text text_flags
-    ∷ section_with (rdata_at (sizes_of p)) tables_size (import_tables (rdata_at (sizes_of p)))
-    const_flags
+    ∷ section_with (rdata_at (sizes_of p)) (tables_size p.imports)
+    (import_tables p.imports (rdata_at (sizes_of p))) const_flags
     ∷ section_with (xdata_at (sizes_of p)) (length p.xdata) p.xdata const_flags
     ∷ section_with (pdata_at (sizes_of p)) (length p.pdata) p.pdata const_flags
     ∷ []
@@ -159,13 +169,14 @@ image_of p = record {
 
 -- each service with its slot
 abbrev pub imports_of : ImageContents → List Import
-imports_of p = imported (slots_at (rdata_at (sizes_of p))) services
+imports_of p = imported (slots_at p.imports (rdata_at (sizes_of p))) p.imports
 
 -- ---- what can be written
 
--- `.data` takes whole pages, at least one, the program begins inside its code, and all addresses
--- fit 32 bits
+-- the program imports fewer than 65,536 services, `.data` takes whole pages, at least one, the
+-- program begins inside its code, and all addresses fit 32 bits
 pub record CanBeImage (p : ImageContents) : Type 0 where
+  pub imports : length p.imports < 2 ^ 16
   pub whole : p.data_size % PAGE ≡ 0
   pub some : PAGE ≤ p.data_size
   pub stored : length p.data_bytes ≤ p.data_size

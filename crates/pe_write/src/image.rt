@@ -13,11 +13,12 @@ use crate::header::{
     TEXT_NAME, XDATA_NAME,
 };
 use crate::import_tables::{
-    ADDRESSES_SIZE, DESCRIPTORS_SIZE, SLOTS_AT, TABLES_SIZE, import_tables,
+    DESCRIPTORS_SIZE, addresses_size, import_tables, slots_offset, tables_size,
 };
 use crate::parts::ImageSection;
 use crate::sizes::Sizes;
 use crate::writing::{SectionedImage, write_sections};
+use host_layout::imported::ImportedService;
 use pe_image::DataDirectory;
 use pe_image::layout::{IMAGE_SCN_MEM_EXECUTE, IMAGE_SCN_MEM_READ, IMAGE_SCN_MEM_WRITE};
 use std::alloc::{AllocError, Global};
@@ -35,6 +36,7 @@ const CONST_FLAGS: u32 = IMAGE_SCN_CNT_INITIALIZED_DATA | IMAGE_SCN_MEM_READ;
 /// The image of a program for x64, at the base 0x140000000.
 #[derive(Drop)]
 pub struct Image {
+    imports: Vec<ImportedService>,
     data_size: u32,
     data_bytes: Vec<u8>,
     text: Vec<u8>,
@@ -49,6 +51,7 @@ impl Model for Image {
     ghost Value = { ImageContents };
 
     ghost view = { λ p. record {
+      imports = p.imports.items;
       data_size = p.data_size;
       data_bytes = p.data_bytes.items;
       text = p.text.items;
@@ -58,6 +61,7 @@ impl Model for Image {
     } };
 
     ghost invariant = { λ p. CanBeImage (record {
+      imports = p.imports.items;
       data_size = p.data_size;
       data_bytes = p.data_bytes.items;
       text = p.text.items;
@@ -68,11 +72,13 @@ impl Model for Image {
 }
 
 impl Image {
-    /// The image of a program whose data takes `data_size` bytes, whole pages and at least one, of
-    /// which `data_bytes` are stored and the others are 0; whose code `text` it begins `entry`
-    /// bytes after its front; and whose unwind infos are `xdata` and its function table `pdata`.
-    /// All addresses in it are below 2^32.
+    /// The image of a program that imports the services `imports`, fewer than 65,536, in the order
+    /// of their slots; whose data takes `data_size` bytes, whole pages and at least one, of which
+    /// `data_bytes` are stored and the others are 0; whose code `text` it begins `entry` bytes
+    /// after its front; and whose unwind infos are `xdata` and its function table `pdata`. All
+    /// addresses in it are below 2^32.
     pub fn new(
+        imports: Vec<ImportedService>,
         data_size: u32,
         data_bytes: Vec<u8>,
         text: Vec<u8>,
@@ -81,6 +87,7 @@ impl Image {
         pdata: Vec<u8>,
     ) -> Image
         requires { spec.CanBeImage (record {
+          imports = imports.items;
           data_size = data_size;
           data_bytes = data_bytes.items;
           text = text.items;
@@ -89,6 +96,7 @@ impl Image {
           pdata = pdata.items;
         }) }
         ensures { result ≡ record {
+          imports = imports.items;
           data_size = data_size;
           data_bytes = data_bytes.items;
           text = text.items;
@@ -98,6 +106,7 @@ impl Image {
         } }
     {
         Image {
+            imports,
             data_size,
             data_bytes,
             text,
@@ -115,6 +124,7 @@ impl Image {
         Sizes {
             data_size: self.data_size,
             text_size: self.text.len() as u32,
+            rdata_size: tables_size(&self.imports),
             xdata_size: self.xdata.len() as u32,
             pdata_size: self.pdata.len() as u32,
         }
@@ -125,14 +135,15 @@ impl Image {
         alloc: Global,
         tables: &'a [u8],
     ) -> Result<Vec<ImageSection<'a>>, AllocError>
-        requires { tables.now ≡ import_tables (spec.rdata_at (spec.sizes_of self.now)) }
+        requires { tables.now
+            ≡ import_tables (self.now).imports (spec.rdata_at (spec.sizes_of self.now)) }
         ensures { IfOk result (λ v. v.items ≡ (spec.parts_of self.now).sections) }
     {
         let sizes = self.sizes();
         let mut sections = Vec::new(alloc);
         sections.push(ImageSection::new(DATA_NAME, DATA_FLAGS, sizes.data_size, &self.data_bytes))?;
         sections.push(ImageSection::new(TEXT_NAME, TEXT_FLAGS, sizes.text_size, &self.text))?;
-        sections.push(ImageSection::new(RDATA_NAME, CONST_FLAGS, TABLES_SIZE, tables))?;
+        sections.push(ImageSection::new(RDATA_NAME, CONST_FLAGS, sizes.rdata_size, tables))?;
         sections.push(ImageSection::new(XDATA_NAME, CONST_FLAGS, sizes.xdata_size, &self.xdata))?;
         sections.push(ImageSection::new(PDATA_NAME, CONST_FLAGS, sizes.pdata_size, &self.pdata))?;
         Ok(sections)
@@ -156,8 +167,8 @@ impl Image {
                 size: sizes.pdata_size,
             },
             DataDirectory {
-                rva: rdata + SLOTS_AT,
-                size: ADDRESSES_SIZE,
+                rva: rdata + slots_offset(&self.imports),
+                size: addresses_size(&self.imports),
             },
         )
     }
@@ -165,8 +176,8 @@ impl Image {
 
 /// The bytes of an image, in the one form in which an image is written: 1,024 bytes of headers, and
 /// the raw data of `.data`, `.text`, `.rdata`, `.xdata` and `.pdata`, each filled up with zeros to
-/// a multiple of 512. `.rdata` has the tables by which it imports the services of its host. They
-/// are read again as the same image, with each service at its slot, and are no more than the image
+/// a multiple of 512. `.rdata` has the tables by which it imports services of its host. They are
+/// read again as the same image, with each service at its slot, and are no more than the image
 /// takes in memory.
 pub fn write(alloc: Global, image: &Image) -> Result<Vec<u8>, AllocError>
     ensures written { IfOk result (λ bytes. bytes.items ≡ written (spec.parts_of image.now)) }
@@ -177,7 +188,7 @@ pub fn write(alloc: Global, image: &Image) -> Result<Vec<u8>, AllocError>
     ensures imported { OnOk result
         (imports (spec.image_of image.now) ≡ Ok (spec.imports_of image.now)) }
 {
-    let tables = import_tables(alloc, image.sizes().rdata_at() as u32)?;
+    let tables = import_tables(alloc, &image.imports, image.sizes().rdata_at() as u32)?;
     let sections = image.sections(alloc, &tables)?;
     write_sections(alloc, &image.with_sections(sections))
 }

@@ -3,7 +3,6 @@
 ghost use Rattle.std.specs.Prelude.{◌≡◌};
 ghost use Rattle.pe_write.specs.Program as spec;
 
-use crate::import_tables::TABLES_SIZE;
 use host_layout::range::{DATA_AT, pages};
 
 /// Where `.text` begins, relative to the image base, after `.data` of `data_size` bytes.
@@ -22,22 +21,24 @@ pub fn rdata_after(data_size: u32, text_size: u32) -> u64
 }
 
 /// Where `.xdata` begins, relative to the image base, after `.data` of `data_size` bytes, `.text`
-/// of `text_size` bytes and `.rdata`.
-pub fn xdata_after(data_size: u32, text_size: u32) -> u64
-    ensures { result ≡ spec.xdata_after data_size text_size }
+/// of `text_size` bytes and `.rdata` of `rdata_size` bytes.
+pub fn xdata_after(data_size: u32, text_size: u32, rdata_size: u32) -> u64
+    ensures { result ≡ spec.xdata_after data_size text_size rdata_size }
 {
-    rdata_after(data_size, text_size) + pages(TABLES_SIZE as u64)
+    rdata_after(data_size, text_size) + pages(rdata_size as u64)
 }
 
-/// How many bytes those sections of an image take whose sizes differ from program to program. They
-/// say where each of the five sections lies, relative to the image base: `.data` after the page of
-/// the headers, and each other one after the pages of the one before.
+/// How many bytes the sections of an image take. They say where each of the five lies, relative to
+/// the image base: `.data` after the page of the headers, and each other one after the pages of the
+/// one before.
 #[derive(Clone, Copy, Debug, PartialEq, Eq)]
 pub struct Sizes {
     /// `.data`.
     pub data_size: u32,
     /// `.text`.
     pub text_size: u32,
+    /// `.rdata`, with the tables of imports.
+    pub rdata_size: u32,
     /// `.xdata`.
     pub xdata_size: u32,
     /// `.pdata`.
@@ -63,7 +64,7 @@ impl Sizes {
     pub fn xdata_at(&self) -> u64
         ensures { result ≡ spec.xdata_at self.now }
     {
-        xdata_after(self.data_size, self.text_size)
+        xdata_after(self.data_size, self.text_size, self.rdata_size)
     }
 
     /// Where `.pdata` begins.

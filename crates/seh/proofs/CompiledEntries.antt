@@ -1,6 +1,6 @@
 -- Each entry of a linked program's image is a function of the right form, in the code of the
 -- image's file.
-use Rattle.std.proofs.Common.{◌≡◌, ℕ, suc, ◌+◌, ◌%◌, ◌^◌, ◌<◌, Bool, true, false, cond, leb, List, [], ◌∷◌, ◌++◌, length, Option, Some, None, refl, sym, ap, subst, ◌∙◌, arith}
+use Rattle.std.proofs.Common.{◌≡◌, ℕ, suc, ◌+◌, ◌%◌, ◌^◌, ◌<◌, Bool, true, false, cond, leb, List, [], ◌∷◌, ◌++◌, length, map, Option, Some, None, refl, sym, ap, subst, ◌∙◌, arith}
 use Rattle.std.specs.Prelude.{slice_get, is_some, count_by}
 use Rattle.std.proofs.lemmas.Bool.{false≢true}
 use Rattle.std.proofs.lemmas.List.Elements.{All-nil, All-cons, All-append}
@@ -25,7 +25,6 @@ use Rattle.unwind_check.specs.RightFunctions.{CallsProbe, IsRightEntry}
 use Rattle.unwind_check.proofs.RightEntries.{right_functions_keep_rules}
 use Rattle.pe_image.specs.Image.{Image}
 use Rattle.pe_write.specs.Program.{image_of}
-use Rattle.host_layout.specs.declared.imported.ImportedService.TheVariants.{RaiseException, CSpecificHandler, LocalUnwind, Protect, Put}
 use Rattle.host_model.specs.Loading.{mapped}
 use Rattle.image_code.specs.Code.{code_of}
 use Rattle.image_code.specs.Verdicts.{checked_code, IsImageVerdict}
@@ -37,16 +36,17 @@ use Rattle.image_link.specs.Fits.{FitsProgram}
 use Rattle.image_link.specs.Near.{IsSiteNear}
 use Rattle.image_link.specs.Routines.{RoutineView, routines}
 use Rattle.image_link.specs.Tables.{info_bytes}
-use Rattle.image_link.specs.Text.{SiteView, routine_size, service_thunk, check_stack_at, front_code, first_routine_at, routines_bytes}
-use Rattle.image_link.specs.Linked.{text_begin, first, linked}
+use Rattle.image_link.specs.Text.{SiteView, routine_size, service_thunk, front_code, first_routine_at, routines_bytes}
+use Rattle.image_link.specs.Linked.{services_of, text_begin, linked}
 use Rattle.image_link.proofs.Entries.{routine_small}
+use Rattle.image_link.proofs.Front.{services_few, thunks_size}
 use Rattle.image_link.proofs.Images.{site_near, has_places}
 use Rattle.image_link.proofs.Nearness.{routines_near}
 use Rattle.image_tables.specs.CodeInMemory.{image_base, HasText}
 use Rattle.image_tables.specs.Entries.{entry_of, entry_if, entries_of, entries}
 use Rattle.image_tables.specs.FrameLaws.{IsFramed}
 use Rattle.image_tables.specs.Functions.{plan, function_of}
-use Rattle.image_tables.specs.RoutinePlaces.{Placed, end_of, site_of, placed_from, infos_begin, placed}
+use Rattle.image_tables.specs.RoutinePlaces.{Placed, end_of, site_of, placed_from, infos_begin, placed, routines_begin, probe_begin}
 use Rattle.image_tables.specs.RegionRanges.{HasRegions}
 use Rattle.image_tables.proofs.CodeInMemory.{executable_split, code_split, there}
 use Rattle.image_tables.proofs.FrameRules.{one_code, sizes as frame_sizes, right, is_there}
@@ -57,30 +57,17 @@ use Rattle.image_tables.proofs.Table.{tables_are_read}
 
 -- ---- the stack probe, after the thunks in the front of the text
 
-abbrev thunks : ℕ → ℕ → List Instr
-thunks text rdata =
-    service_thunk text rdata RaiseException
-    ∷ service_thunk text rdata CSpecificHandler
-    ∷ service_thunk text rdata LocalUnwind
-    ∷ service_thunk text rdata Protect
-    ∷ service_thunk text rdata Put
-    ∷ []
-
-thunks_size : (text rdata : ℕ) → sizes (thunks text rdata) ≡ 30
-unfolding size modrm
-thunks_size text rdata = refl
-
 probe_is_at : (p : LinearProgram) (m : Memory) → HasText m p
-    → IsExecutableAt m (image_base + check_stack_at (site_of p).text) (spelled check_stack)
+    → IsExecutableAt m (image_base + probe_begin p) (spelled check_stack)
 probe_is_at p m text =
     let s = site_of p in
     let begin = image_base + text_begin p.globals in
-    let front = executable_split m begin (spelled (front_code s.text s.rdata))
-    (routines_bytes s (first_routine_at s.text) (routines p)) text in
-    let last = code_split m begin (thunks s.text s.rdata) check_stack front.0 in
-    let size = thunks_size s.text s.rdata in
-    let at : begin + sizes (thunks s.text s.rdata) ≡ image_base + check_stack_at s.text =
-    omega arith in
+    let front = executable_split m begin (spelled (front_code s.imports s.text s.rdata))
+    (routines_bytes s (first_routine_at s.imports s.text) (routines p)) text in
+    let thunks = map (service_thunk s.imports s.text s.rdata) s.imports in
+    let last = code_split m begin thunks check_stack front.0 in
+    let size = thunks_size s.imports s.text s.rdata s.imports in
+    let at : begin + sizes thunks ≡ image_base + probe_begin p = omega arith in
     subst (λ (n : ℕ). IsExecutableAt m n (spelled check_stack)) at last.1
 
 module _ (p : LinearProgram) (fits : FitsProgram p) (b : IsBounded (image_of (linked p))) where
@@ -94,12 +81,13 @@ module _ (p : LinearProgram) (fits : FitsProgram p) (b : IsBounded (image_of (li
   text = images_have_text p fits
 
   near : IsSiteNear (site_of p)
-  near = site_near p.globals (routines p) (length p.functions) p.main fits.globals
+  near = site_near (services_of p) p.globals (routines p) (length p.functions) p.main
+    (services_few p) fits.globals
       (routines_near p fits) (has_places p fits)
 
-  probe_there : has_bytes (code_of image) (check_stack_at (site_of p).text) CHECK_STACK ≡ true
+  probe_there : has_bytes (code_of image) (probe_begin p) CHECK_STACK ≡ true
   probe_there =
-      let at = check_stack_at (site_of p).text in
+      let at = probe_begin p in
       let few = near.text in
       let long : length CHECK_STACK ≡ 21 = refl in
       bytes_there image b at CHECK_STACK (omega arith)
@@ -110,7 +98,7 @@ module _ (p : LinearProgram) (fits : FitsProgram p) (b : IsBounded (image_of (li
 
   module _ (index : ℕ) (x : Placed) (f : FrameLayout) (framed : IsFramed p index x f) where
     abbrev away : ℕ
-    away = distance (x.begin + 10) (check_stack_at (site_of p).text)
+    away = distance (x.begin + 10) (probe_begin p)
 
     end_low : end_of x < 2 ^ 32
     end_low =
@@ -123,7 +111,7 @@ module _ (p : LinearProgram) (fits : FitsProgram p) (b : IsBounded (image_of (li
     call_there =
         let few = near.text in
         let end = end_low in
-        let to : (x.begin + 5 + 5 + away) % 2 ^ 64 ≡ check_stack_at (site_of p).text =
+        let to : (x.begin + 5 + 5 + away) % 2 ^ 64 ≡ probe_begin p =
         omega arith in
         ap (λ (n : ℕ). has_bytes (code_of image) n CHECK_STACK) to ∙ probe_there
 
@@ -221,6 +209,6 @@ verdict_is_yes p fits regions bounded = record {
   read = tables_are_read p fits regions;
   is = (
     all_kept p fits bounded,
-    entries_count (site_of p) (infos_begin p) (first p.globals) (routines p),
+    entries_count (site_of p) (infos_begin p) (routines_begin p) (routines p),
   );
 }

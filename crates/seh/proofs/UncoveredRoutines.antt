@@ -1,6 +1,6 @@
 -- Each byte of a linked program's text that no entry covers is in a leaf function, in the thunk of
 -- a service, or in `__chkstk`.
-use Rattle.std.proofs.Common.{◌≡◌, ◌⊎◌, inl, inr, ℕ, zero, suc, ◌+◌, ◌^◌, ◌<◌, ◌≤◌, Bool, true, false, List, [], ◌∷◌, ◌++◌, length, Option, Some, None, refl, sym, ap, subst, ◌∙◌, arith}
+use Rattle.std.proofs.Common.{◌≡◌, ◌⊎◌, inl, inr, ℕ, zero, suc, ◌+◌, ◌^◌, ◌<◌, ◌≤◌, Bool, true, false, List, [], ◌∷◌, ◌++◌, length, map, Option, Some, None, refl, sym, ap, subst, ◌∙◌, arith}
 use Rattle.std.specs.Prelude.{slice_get}
 use Rattle.std.proofs.lemmas.Bool.{cases_lt, and_from, false≢true}
 use Rattle.flat_memory.specs.Memory.{Memory}
@@ -14,7 +14,6 @@ use Rattle.frame_rules.specs.Bytes.{spell, IsExecutableAt}
 use Rattle.frame_rules.specs.States.{HasItems}
 use Rattle.frame_rules.proofs.Bytes.{items_are_at}
 use Rattle.host_layout.specs.declared.imported.ImportedService.{ImportedService}
-use Rattle.host_layout.specs.declared.imported.ImportedService.TheVariants.{RaiseException, CSpecificHandler, LocalUnwind, Protect, Put}
 use Rattle.linear_code.specs.Program.{LinearProgram}
 use Rattle.template_code.specs.Bytes.{spelled, sizes}
 use Rattle.template_code.specs.Jumps.{distance}
@@ -23,16 +22,16 @@ use Rattle.template_code.specs.Template.{code_from}
 use Rattle.frame_layout.specs.declared.frame.FrameLayout.{FrameLayout}
 use Rattle.pe_write.specs.ImportTables.{slot_of}
 use Rattle.x64_emit.specs.declared.entry.TheConstants.{THUNK_SIZE}
-use Rattle.x64_emit.specs.Near.{near_end}
 use Rattle.x64_emit.proofs.Nearby.{near_signed}
 use Rattle.image_link.specs.Fits.{FitsProgram}
 use Rattle.image_link.specs.Near.{IsSiteNear}
 use Rattle.image_link.specs.Routines.{RoutineView, routines}
 use Rattle.image_link.specs.Tables.{info_bytes}
-use Rattle.image_link.specs.Text.{SiteView, routine_size, frame_code, argument_code, service_thunk, thunk_at, check_stack_at, front_code, first_routine_at, routine_code, routines_bytes}
-use Rattle.image_link.specs.Linked.{text_begin, first, linked, total}
+use Rattle.image_link.specs.Text.{SiteView, routine_size, frame_code, argument_code, service_thunk, thunk_at, front_code, front_size, routine_code, routines_bytes}
+use Rattle.image_link.specs.Linked.{services_of, text_begin, linked, total}
 use Rattle.image_link.proofs.Bounds.{text_length}
 use Rattle.image_link.proofs.Entries.{routine_small}
+use Rattle.image_link.proofs.Front.{front_sizes, imports_small, services_few, services_there}
 use Rattle.image_link.proofs.Images.{site_near, has_places}
 use Rattle.image_link.proofs.Nearness.{routines_near}
 use Rattle.pe_image.specs.Image.{Image, Section, is_executable}
@@ -43,9 +42,9 @@ use Rattle.image_code.proofs.LoadedItems.{items_there}
 use Rattle.image_tables.specs.CodeInMemory.{image_base, HasText, links}
 use Rattle.image_tables.specs.Entries.{entries, entry_of}
 use Rattle.image_tables.specs.Functions.{leaf, thunk_of, probe, rest_of}
-use Rattle.image_tables.specs.RoutinePlaces.{Placed, placed, placed_from, body_begin, end_of, site_of, infos_begin}
+use Rattle.image_tables.specs.RoutinePlaces.{Placed, placed, placed_from, body_begin, end_of, site_of, infos_begin, routines_begin, probe_begin}
 use Rattle.image_tables.proofs.Callers.{thunk_ok, probe_ok}
-use Rattle.image_tables.proofs.CodeInMemory.{executable_split, code_length, front_size, routine_is_at, there}
+use Rattle.image_tables.proofs.CodeInMemory.{executable_split, code_length, routine_is_at, there}
 use Rattle.template_code.proofs.Sizes.{sizes_spelled}
 use Rattle.image_tables.proofs.FrameRules.{plan_near, rest_fine}
 use Rattle.image_tables.proofs.Handlers.{thunk_bytes}
@@ -96,7 +95,8 @@ module _ (p : LinearProgram) (fits : FitsProgram p) (m : Memory) (text : HasText
   s = site_of p
 
   near : IsSiteNear s
-  near = site_near p.globals (routines p) (length p.functions) p.main fits.globals
+  near = site_near (services_of p) p.globals (routines p) (length p.functions) p.main
+    (services_few p) fits.globals
       (routines_near p fits) (has_places p fits)
 
   -- a leaf function's, and that they don't write RSP
@@ -114,7 +114,7 @@ module _ (p : LinearProgram) (fits : FitsProgram p) (m : Memory) (text : HasText
       let a = argument_code x.routine.layout x.routine.entry in
       let b = code_from (links p x) x.routine.layout (body_begin x) x.routine.body.code in
       let parts : routine_code s x.begin x.routine ≡ rest_of p x =
-      ap (λ (o : Option FrameLayout). (frame_code x.begin (check_stack_at s.text) o ++ a) ++ b)
+      ap (λ (o : Option FrameLayout). (frame_code x.begin (probe_begin p) o ++ a) ++ b)
       none in
       let code = rest_of p x in
       let begin = image_base + x.begin in
@@ -131,55 +131,44 @@ module _ (p : LinearProgram) (fits : FitsProgram p) (m : Memory) (text : HasText
       )
 
   -- the front: thunks of six bytes each, then `__chkstk` of twenty-one
-  thunk_near : (v : ImportedService) → thunk_at s.text v + THUNK_SIZE < 2 ^ 31
-      → s.rdata + slot_of v < near_end
-      → is_encodable (service_thunk s.text s.rdata v) ≡ true
-  thunk_near v next to = near_signed (thunk_at s.text v + THUNK_SIZE) (s.rdata + slot_of v) next to
+  abbrev thunk : ImportedService → Instr
+  thunk v = service_thunk s.imports s.text s.rdata v
 
-  thunk_encodable : (v : ImportedService) → is_encodable (service_thunk s.text s.rdata v) ≡ true
-  thunk_encodable RaiseException =
-      let n = near.text in let r = near.rdata in
-      thunk_near RaiseException (omega arith) (omega arith)
-  thunk_encodable CSpecificHandler =
-      let n = near.text in let r = near.rdata in
-      thunk_near CSpecificHandler (omega arith) (omega arith)
-  thunk_encodable LocalUnwind =
-      let n = near.text in let r = near.rdata in
-      thunk_near LocalUnwind (omega arith) (omega arith)
-  thunk_encodable Protect =
-      let n = near.text in let r = near.rdata in
-      thunk_near Protect (omega arith) (omega arith)
-  thunk_encodable Put =
-      let n = near.text in let r = near.rdata in thunk_near Put (omega arith) (omega arith)
+  thunk_encodable : (v : ImportedService) → is_encodable (thunk v) ≡ true
+  thunk_encodable v =
+      let n = near.text in
+      let r = near.rdata in
+      let few = imports_small s.imports (services_few p) in
+      let there = services_there p v in
+      near_signed (thunk_at s.imports s.text v + THUNK_SIZE) (s.rdata + slot_of s.imports v)
+      (omega arith) (omega arith)
 
-  front_encodable : all_encodable (front_code s.text s.rdata) ≡ true
-  front_encodable =
-      and_from _ _ (thunk_encodable RaiseException)
-      (and_from _ _ (thunk_encodable CSpecificHandler)
-      (and_from _ _ (thunk_encodable LocalUnwind)
-      (and_from _ _ (thunk_encodable Protect)
-      (and_from _ _ (thunk_encodable Put) stack_encodable))))
+  encodable_from : (ss : List ImportedService) → all_encodable (map thunk ss ++ check_stack) ≡ true
+  encodable_from [] = stack_encodable
+  encodable_from (v ∷ vs) = and_from _ _ (thunk_encodable v) (encodable_from vs)
 
-  front_there : HasItems m (image_base + s.text) (spelled_by spell (front_code s.text s.rdata))
-      (image_base + s.text + 51)
+  front_there : HasItems m (image_base + s.text)
+      (spelled_by spell (front_code s.imports s.text s.rdata)) (image_base + routines_begin p)
   front_there =
       let begin = image_base + text_begin p.globals in
-      let is = front_code s.text s.rdata in
+      let is = front_code s.imports s.text s.rdata in
       let low = near.text in
-      let long : length (spelled is) ≡ 51 = sizes_spelled is ∙ front_size s.text s.rdata in
+      let few = services_few p in
+      let long : length (spelled is) ≡ front_size s.imports = sizes_spelled is
+      ∙ front_sizes s.imports s.text s.rdata in
       let own = executable_split m begin (spelled is)
-      (routines_bytes s (first_routine_at s.text) (routines p)) text in
-      let end : begin + length (spelled is) ≡ image_base + s.text + 51 = omega arith in
+      (routines_bytes s (routines_begin p) (routines p)) text in
+      let end : begin + length (spelled is) ≡ image_base + routines_begin p = omega arith in
       subst (λ (n : ℕ). HasItems m begin (spelled_by spell is) n) end
-      (items_are_at m begin is front_encodable (omega arith) own.0)
+      (items_are_at m begin is (encodable_from s.imports) (omega arith) own.0)
 
   -- the first of them, and what comes after it
   one : (at : ℕ) (v : ImportedService) (xs : List FetchedInstr) (to : ℕ)
-      → HasItems m at (spell (service_thunk s.text s.rdata v) ∷ xs) to
+      → HasItems m at (spell (thunk v) ∷ xs) to
       → HasItems m at (thunk_of p v) (at + 6) × HasItems m (at + 6) xs to
   one at v xs to h =
-      let n : (spell (service_thunk s.text s.rdata v)).size ≡ 6 = ap length (thunk_bytes _) in
-      let end : at + (spell (service_thunk s.text s.rdata v)).size ≡ at + 6 = omega arith in
+      let n : (spell (thunk v)).size ≡ 6 = ap length (thunk_bytes _) in
+      let end : at + (spell (thunk v)).size ≡ at + 6 = omega arith in
       ((h.0, h.1, end), subst (λ (k : ℕ). HasItems m k xs to) end h.2)
 
   -- ---- around an address
@@ -196,7 +185,7 @@ module _ (p : LinearProgram) (fits : FitsProgram p) (m : Memory) (text : HasText
     right : is_body (following 0 0 [] rest (Body [])) ≡ true
 
   in_front : (rva begin end : ℕ) (rest : List FetchedInstr) → begin ≤ rva → rva < end
-      → end ≤ first p.globals → HasItems m (image_base + begin) rest (image_base + end)
+      → end ≤ routines_begin p → HasItems m (image_base + begin) rest (image_base + end)
       → is_body (following 0 0 [] rest (Body [])) ≡ true → IsPiece rva
   in_front rva begin end rest low high inside there right =
       let text' = near.text in
@@ -212,74 +201,29 @@ module _ (p : LinearProgram) (fits : FitsProgram p) (m : Memory) (text : HasText
         right = right;
       }
 
-  -- the same instructions at an address in other words
-  moved : (at to : ℕ) (xs : List FetchedInstr) → at ≡ to → HasItems m at xs (at + 6)
-      → HasItems m to xs (to + 6)
-  moved at to xs e h = subst (λ (k : ℕ). HasItems m k xs (k + 6)) e h
-
-  thunk_piece : (rva n : ℕ) (v : ImportedService) → s.text + n ≤ rva → rva < s.text + n + 6
-      → n ≤ 24
-      → HasItems m (image_base + s.text + n) (thunk_of p v) (image_base + s.text + n + 6)
+  -- from one of the thunks on
+  front_from : (ss : List ImportedService) (at rva : ℕ)
+      → HasItems m (image_base + at) (spelled_by spell (map thunk ss ++ check_stack))
+      (image_base + routines_begin p)
+      → at + 6 * length ss + 21 ≡ routines_begin p → at ≤ rva → rva < routines_begin p
       → IsPiece rva
-  thunk_piece rva n v low high few there =
-      let begin : image_base + s.text + n ≡ image_base + (s.text + n) = omega arith in
-      let end : image_base + s.text + n + 6 ≡ image_base + (s.text + n + 6) = omega arith in
-      in_front rva (s.text + n) (s.text + n + 6) (thunk_of p v) low high (omega arith)
-      (subst (λ (k : ℕ). HasItems m k (thunk_of p v) (image_base + (s.text + n + 6))) begin
-      (subst (λ (k : ℕ). HasItems m (image_base + s.text + n) (thunk_of p v) k) end there))
-      (thunk_ok p v)
-
-  -- what comes after each of the first four thunks
-  abbrev past_protect : List FetchedInstr
-  past_protect = spell (service_thunk s.text s.rdata Put) ∷ probe
-
-  abbrev past_unwind : List FetchedInstr
-  past_unwind = spell (service_thunk s.text s.rdata Protect) ∷ past_protect
-
-  abbrev past_handler : List FetchedInstr
-  past_handler = spell (service_thunk s.text s.rdata LocalUnwind) ∷ past_unwind
-
-  abbrev past_raise : List FetchedInstr
-  past_raise = spell (service_thunk s.text s.rdata CSpecificHandler) ∷ past_handler
-
-  front_piece : (rva : ℕ) → s.text ≤ rva → rva < first p.globals → IsPiece rva
-  front_piece rva low high =
-      let begin = image_base + s.text in
-      let to = begin + 51 in
-      let a = one begin RaiseException past_raise to front_there in
-      let b = one (begin + 6) CSpecificHandler past_handler to a.1 in
-      let c = one (begin + 6 + 6) LocalUnwind past_unwind to b.1 in
-      let d = one (begin + 6 + 6 + 6) Protect past_protect to c.1 in
-      let e = one (begin + 6 + 6 + 6 + 6) Put probe to d.1 in
-      elim (cases_lt rva (s.text + 6)) [
-        | inl before ↦ thunk_piece rva 0 RaiseException (omega arith) (omega arith) (omega arith)
-            (moved begin (begin + 0) (thunk_of p RaiseException) (omega arith) a.0)
-        | inr past ↦ elim (cases_lt rva (s.text + 12)) [
-          | inl before ↦ thunk_piece rva 6 CSpecificHandler (omega arith) (omega arith)
-              (omega arith) (moved (begin + 6) (begin + 6) (thunk_of p CSpecificHandler) refl b.0)
-          | inr past ↦ elim (cases_lt rva (s.text + 18)) [
-            | inl before ↦ thunk_piece rva 12 LocalUnwind (omega arith) (omega arith) (omega arith)
-                (moved (begin + 6 + 6) (begin + 12) (thunk_of p LocalUnwind) (omega arith) c.0)
-            | inr past ↦ elim (cases_lt rva (s.text + 24)) [
-              | inl before ↦ thunk_piece rva 18 Protect (omega arith) (omega arith) (omega arith)
-                  (moved (begin + 6 + 6 + 6) (begin + 18) (thunk_of p Protect) (omega arith) d.0)
-              | inr past ↦ elim (cases_lt rva (s.text + 30)) [
-                | inl before ↦ thunk_piece rva 24 Put (omega arith) (omega arith) (omega arith)
-                    (moved (begin + 6 + 6 + 6 + 6) (begin + 24) (thunk_of p Put) (omega arith)
-                    e.0)
-                | inr past ↦
-                    let at : begin + 6 + 6 + 6 + 6 + 6 ≡ image_base + (s.text + 30) =
-                    omega arith in
-                    let end : begin + 51 ≡ image_base + (s.text + 51) = omega arith in
-                    in_front rva (s.text + 30) (s.text + 51) probe past high (omega arith)
-                    (subst (λ (k : ℕ). HasItems m k probe (image_base + (s.text + 51))) at
-                    (subst (λ (k : ℕ). HasItems m (begin + 6 + 6 + 6 + 6 + 6) probe k) end e.1))
-                    probe_ok
-              ]
-            ]
-          ]
-        ]
+  front_from [] at rva h end low high =
+      in_front rva at (routines_begin p) probe low high (omega arith) h probe_ok
+  front_from (v ∷ vs) at rva h end low high =
+      let rest = spelled_by spell (map thunk vs ++ check_stack) in
+      let to = image_base + routines_begin p in
+      let next : image_base + at + 6 ≡ image_base + (at + 6) = omega arith in
+      let a = one (image_base + at) v rest to h in
+      elim (cases_lt rva (at + 6)) [
+        | inl before ↦ in_front rva at (at + 6) (thunk_of p v) low before (omega arith)
+            (subst (λ (k : ℕ). HasItems m (image_base + at) (thunk_of p v) k) next a.0)
+            (thunk_ok p v)
+        | inr past ↦ front_from vs (at + 6) rva (subst (λ (k : ℕ). HasItems m k rest to) next a.1)
+            (omega arith) past high
       ]
+
+  front_piece : (rva : ℕ) → s.text ≤ rva → rva < routines_begin p → IsPiece rva
+  front_piece rva low high = front_from s.imports s.text rva front_there (omega arith) low high
 
   leaf_piece : (index : ℕ) (x : Placed) (rva : ℕ) → slice_get (placed p) index ≡ Some x
       → x.routine.frame ≡ None → x.begin ≤ rva → rva < end_of x → IsPiece rva
@@ -307,12 +251,12 @@ module _ (p : LinearProgram) (fits : FitsProgram p) (m : Memory) (text : HasText
   routine_piece index x rva (Some f) e is low high none =
       absurd (none_some (sym none ∙ entries_are_held p index x f rva fits is e low high))
 
-  piece : (rva : ℕ) → s.text ≤ rva → rva < first p.globals + total (routines p)
+  piece : (rva : ℕ) → s.text ≤ rva → rva < routines_begin p + total (routines p)
       → holding rva (entries p) ≡ None → IsPiece rva
-  piece rva low high none = elim (cases_lt rva (first p.globals)) [
+  piece rva low high none = elim (cases_lt rva (routines_begin p)) [
     | inl before ↦ front_piece rva low before
     | inr past ↦
-        let x = around s (infos_begin p) (first p.globals) (routines p) rva past high in
+        let x = around s (infos_begin p) (routines_begin p) (routines p) rva past high in
         routine_piece x.index x.routine rva x.routine.routine.frame refl x.is x.low x.high none
   ]
 

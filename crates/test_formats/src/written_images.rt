@@ -5,6 +5,7 @@ use pe_image::ImageView;
 use pe_write::{Image, Sizes, slot_of, write};
 use std::alloc::Global;
 use std::process::Abort;
+use test_tables::every_service;
 use test_tables::rows::columns_of;
 
 /// All bytes that aren't 0 in the headers and `.data` of the image of [`writes_five_sections`].
@@ -104,7 +105,8 @@ fn image_of(rt: &impl Abort, alloc: Global, row: &str, entry: u32) -> Image {
     if entry as usize >= text.len() {
         panic!(rt; "no code");
     }
-    Image::new(size, data, text, entry, xdata, pdata)
+    let imports = every_service(alloc).expect(rt, "memory");
+    Image::new(imports, size, data, text, entry, xdata, pdata)
 }
 
 /// Its bytes as they are written.
@@ -152,6 +154,7 @@ fn lays_sections(rt: HostRuntime) {
     let sizes = Sizes {
         data_size: 0x1001,
         text_size: 0x1000,
+        rdata_size: 222,
         xdata_size: 0,
         pdata_size: 12,
     };
@@ -175,7 +178,7 @@ fn names_services(rt: HostRuntime) {
         let is_named = service.name() == columns[0].as_bytes();
         are(
             &rt,
-            &[is_named as u64, slot_of(*service) as u64],
+            &[is_named as u64, slot_of(&IMPORTED, *service) as u64],
             columns[1],
         );
     }

@@ -1,14 +1,16 @@
 //! Images with function tables, built by the product's own writers.
 
-ghost use Rattle.std.specs.Prelude.{◌≡◌};
+ghost use Rattle.std.specs.Prelude.{◌≡◌, ◌<◌, ◌≤◌, ◌^◌, length, IfOk};
 ghost use Rattle.arrayvec.specs.ArrayVec.{array_vec_len};
 ghost use Rattle.eh_tables.specs.Written.{IsTrailer, CanBeWritten};
+ghost use Rattle.pe_write.specs.ImportTables.{tables_size};
 
 use arrayvec::ArrayVec;
 use eh_tables::{
     RuntimeFunction, ScopeRecord, Trailer, UnwindCode, UnwindInfo, UnwindOperation, write_pdata,
     write_scopes, write_unwind,
 };
+use host_layout::imported::{IMPORTED, ImportedService};
 use pe_write::{Image, write};
 use std::alloc::{AllocError, Global};
 
@@ -199,6 +201,16 @@ fn tables(alloc: Global, parts: Parts<'_>) -> Result<(Vec<u8>, Vec<u8>), AllocEr
     Ok((infos, table))
 }
 
+/// The services that images of tests import: all of them, whose tables take a page at most.
+pub fn every_service(alloc: Global) -> Result<Vec<ImportedService>, AllocError>
+    ensures few { IfOk result (λ v. length v.items < 2 ^ 16) }
+    ensures small { IfOk result (λ v. tables_size v.items ≤ 4096) }
+{
+    let mut services = Vec::new(alloc);
+    services.extend_from_slice(&IMPORTED)?;
+    Ok(services)
+}
+
 /// The bytes of an image. There is no memory for parts that are larger than those limits, nor for
 /// an image without code.
 pub fn built(alloc: Global, parts: Parts<'_>) -> Result<Vec<u8>, AllocError> {
@@ -211,6 +223,7 @@ pub fn built(alloc: Global, parts: Parts<'_>) -> Result<Vec<u8>, AllocError> {
     }
     let data = parts.data.to_vec(alloc)?;
     let text = parts.text.to_vec(alloc)?;
-    let image = Image::new(PAGE as u32, data, text, 0, infos, table);
+    let imports = every_service(alloc)?;
+    let image = Image::new(imports, PAGE as u32, data, text, 0, infos, table);
     write(alloc, &image)
 }

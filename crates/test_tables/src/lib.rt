@@ -21,4 +21,4 @@ pub mod rows;
 pub mod tables;
 pub mod words;
 
-pub use building::{Function, Parts, Prologue, built, fixed, framed, scope};
+pub use building::{Function, Parts, Prologue, built, every_service, fixed, framed, scope};

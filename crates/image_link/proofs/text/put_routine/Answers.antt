@@ -40,17 +40,17 @@ returns c =
     let old = c.args.code.now.items in
     let placed = c.place.view_is ∙ c.requires.placed in
     let of = λ (s : SiteView) (labels : List ℕ) (end : ℕ). old
-    ++ spelled (code_at (check_stack_at s.text)
+    ++ spelled (code_at (check_stack_at s.imports s.text)
     (links_of (record {
       labels = labels;
       end = end;
       functions = s.functions;
       funclets = s.funclets;
-      thunks = thunks_at s.text;
+      thunks = thunks_at s.imports s.text;
     })) begin r) in
     on_ok _ _ c.put_code.result (λ e. e
-    ∙ ap (λ (a : Addresses). old ++ spelled (code_at (check_stack_at c.site.inside.text)
-    (links_of a) begin r)) c.links_of-links.ensures
+    ∙ ap (λ (a : Addresses). old ++ spelled (code_at
+    (check_stack_at c.site.inside.imports.now c.site.inside.text) (links_of a) begin r)) c.links_of-links.ensures
     ∙ ap (λ (s : SiteView). of s c.deref.result.now c.place.inside.labels.end) c.site.view_is
     ∙ ap (λ (ls : List ℕ). of c.args.site.now ls c.place.inside.labels.end)
     (c.deref.ensures.value ∙ ap (λ (p : PlaceView). p.labels) placed)

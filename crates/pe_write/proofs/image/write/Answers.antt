@@ -1,4 +1,7 @@
-use Rattle.std.proofs.Common.{subst, ◌≡◌, arith}
+use Rattle.std.proofs.Common.{List, ◌+◌, ◌^◌, ◌<◌, subst, sym, ap, ◌∙◌, ◌≡◌, arith}
+use Rattle.host_layout.specs.declared.imported.ImportedService.{ImportedService}
+use Rattle.pe_write.specs.ImportTables.{tables_size}
+use Rattle.pe_write.specs.Program.{ImageContents}
 use Rattle.std.specs.Prelude.{OnOk, IfOk}
 use Rattle.pe_write.specs.Written.{CanBeWritten, written}
 use Rattle.pe_write.proofs.Programs.{rdata_fits, read_again, small_file, with_imports}
@@ -8,9 +11,12 @@ pub overflow_cast-rdata_at : goal.overflow_cast-rdata_at
 overflow_cast-rdata_at c = let fits = rdata_fits c.args.image.now c.sizes.result c.rdata_at.result
     c.sizes.ensures.program c.sizes.ensures.value c.rdata_at.ensures in omega arith
 
-pub import_tables-requires : goal.import_tables-requires
-import_tables-requires c = rdata_fits c.args.image.now c.sizes.result c.rdata_at.result
-    c.sizes.ensures.program c.sizes.ensures.value c.rdata_at.ensures
+pub import_tables-requires-clause-fits : goal.import_tables-requires-clause-fits
+import_tables-requires-clause-fits c =
+    subst (λ (is : List ImportedService). c.rdata_at.result + tables_size is < 2 ^ 32)
+    (sym (c.deref.ensures.value ∙ ap (λ (p : ImageContents). p.imports) c.image.view_is))
+    (rdata_fits c.args.image.now c.sizes.result c.rdata_at.result c.sizes.ensures.program
+    c.sizes.ensures.value c.rdata_at.ensures)
 
 pub returns-clause-read_again : goal.returns-clause-read_again
 returns-clause-read_again c =

@@ -1,0 +1,89 @@
+-- What comes before the routines: the thunks of the services that are imported, and `__chkstk`; and
+-- how many bytes they and the tables of imports take.
+use Rattle.std.proofs.Common.{◌≡◌, ℕ, suc, ◌+◌, ◌*◌, ◌<◌, ◌≤◌, ◌==◌, true, false, List, [], ◌∷◌, length, get_or, map, drop, drop-cons, refl, ap, ◌∙◌, arith}
+use Rattle.std.specs.Prelude.{if◌then◌else◌}
+use Rattle.host_layout.specs.declared.limit.TheConstants.{MOST_IMAGE}
+use Rattle.host_layout.specs.Imported.{number_of}
+use Rattle.host_layout.specs.declared.imported.ImportedService.TheVariants.{RaiseException, CSpecificHandler, LocalUnwind, Protect, Put}
+use Rattle.template_code.specs.Probing.{check_stack}
+use Rattle.pe_write.specs.ImportTables.{place_of}
+use Rattle.image_link.specs.Words.{ImportedService, LinearProgram, size, sizes, modrm, hint_name_size, names_size, tables_size, IsNear, thunk_at, service_thunk, front_code, front_size, services_of, AreFew}
+use Rattle.image_link.proofs.Lemmas.{sizes_append}
+
+-- ---- the code
+
+check_size : sizes check_stack ≡ 21
+unfolding size modrm
+check_size = refl
+
+module _ (imports : List ImportedService) (text rdata : ℕ) where
+  pub thunk_size : (s : ImportedService) → size (service_thunk imports text rdata s) ≡ 6
+  unfolding size modrm
+  thunk_size s = refl
+
+  pub thunks_size : (ss : List ImportedService)
+      → sizes (map (service_thunk imports text rdata) ss) ≡ 6 * length ss
+  thunks_size [] = refl
+  thunks_size (s ∷ ss) = let t = thunk_size s in let r = thunks_size ss in omega arith
+
+  pub front_sizes : sizes (front_code imports text rdata) ≡ front_size imports
+  front_sizes = omega (
+    arith,
+    sizes_append (map (service_thunk imports text rdata) imports) check_stack,
+    thunks_size imports,
+    check_size,
+  )
+
+  pub thunks_next : (ss : List ImportedService) (i : ℕ) (d : ImportedService) → i < length ss
+      → map (service_thunk imports text rdata) (drop i ss)
+      ≡ service_thunk imports text rdata (get_or ss i d)
+      ∷ map (service_thunk imports text rdata) (drop (i + 1) ss)
+  thunks_next ss i d lt =
+      let after : suc i ≡ i + 1 = omega arith in
+      ap (map (service_thunk imports text rdata)) (drop-cons ss i d lt)
+      ∙ ap (λ (n : ℕ). service_thunk imports text rdata (get_or ss i d)
+      ∷ map (service_thunk imports text rdata) (drop n ss)) after
+
+-- the place of a service is at most behind all others
+place_small : (ss : List ImportedService) (v : ImportedService) → place_of ss v ≤ length ss
+place_small [] v = omega arith
+place_small (t ∷ ts) v =
+    let others = place_small ts v in
+    elim (number_of t == number_of v) as
+    (λ b. (if b then 0 else suc (place_of ts v)) ≤ suc (length ts)) [
+      | true ↦ omega arith
+      | false ↦ omega arith
+    ]
+
+pub thunk_near : (ss : List ImportedService) (text : ℕ) (v : ImportedService) → AreFew ss
+    → text ≤ MOST_IMAGE → IsNear (thunk_at ss text v)
+thunk_near ss text v few lt = let place = place_small ss v in omega arith
+
+-- ---- the tables
+
+name_small : (s : ImportedService) → hint_name_size s ≤ 64
+name_small RaiseException = omega arith
+name_small CSpecificHandler = omega arith
+name_small LocalUnwind = omega arith
+name_small Protect = omega arith
+name_small Put = omega arith
+
+names_small : (ss : List ImportedService) → names_size ss ≤ 64 * length ss
+names_small [] = omega arith
+names_small (s ∷ ss) = let n = name_small s in let r = names_small ss in omega arith
+
+pub imports_small : (ss : List ImportedService) → AreFew ss → tables_size ss ≤ 8192
+imports_small ss few = let n = names_small ss in omega arith
+
+-- a program imports few services
+pub services_few : (p : LinearProgram) → AreFew (services_of p)
+services_few p = omega arith
+
+-- and each of them is among them
+pub services_there : (p : LinearProgram) (v : ImportedService)
+    → place_of (services_of p) v < length (services_of p)
+services_there p RaiseException = omega arith
+services_there p CSpecificHandler = omega arith
+services_there p LocalUnwind = omega arith
+services_there p Protect = omega arith
+services_there p Put = omega arith
