@@ -31,8 +31,11 @@ records_stored image rva n size at up le is k d lt =
     let xs = stored_in rva (section_at rva image.sections) in
     let some : length (take size (drop n xs)) ≡ size = length-take-le size (drop n xs)
     (omega (arith, length-drop n xs)) in
-    let fewer : k < length (take size (drop n xs)) / 16 = omega (arith, row_count
-    (length (take size (drop n xs)) / 16) (take size (drop n xs))) in
+    let fewer : k < length (take size (drop n xs)) / 16 = omega (
+      arith,
+      row_count
+          (length (take size (drop n xs)) / 16) (take size (drop n xs)),
+    ) in
     let within : 16 * k + 16 ≤ size = omega arith in
     let here : rva + (n + 16 * k) ≡ at + 16 * k = omega arith in
     row_at (length (take size (drop n xs)) / 16) k (16 * k) (take size (drop n xs)) d fewer refl

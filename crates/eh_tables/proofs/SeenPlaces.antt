@@ -53,13 +53,13 @@ in_other old new k p has r = elim (cases_eq r.from k) [
   | inl same ↦ none r.to (sym (has r.from ∙ ap (λ b. cond b None (get nat_cmp old r.from))
       (here k r.from same)) ∙ r.run)
   | inr other ↦ record {
-      from = r.from;
-      to = r.to;
-      run = sym (has r.from ∙ ap (λ b. cond b None (get nat_cmp old r.from))
-          (elsewhere k r.from other)) ∙ r.run;
-      begun = r.begun;
-      goes_on = r.goes_on;
-    }
+    from = r.from;
+    to = r.to;
+    run = sym (has r.from ∙ ap (λ b. cond b None (get nat_cmp old r.from))
+        (elsewhere k r.from other)) ∙ r.run;
+    begun = r.begun;
+    goes_on = r.goes_on;
+  }
 ]
 
 -- with one more
@@ -75,13 +75,13 @@ in_more old new k x p has r = elim (cases_eq r.from k) [
       let to = r.goes_on in
       inr (omega arith, omega arith)
   | inr other ↦ inl (record {
-      from = r.from;
-      to = r.to;
-      run = sym (has r.from ∙ ap (λ b. cond b (Some x) (get nat_cmp old r.from))
-          (elsewhere k r.from other)) ∙ r.run;
-      begun = r.begun;
-      goes_on = r.goes_on;
-    })
+    from = r.from;
+    to = r.to;
+    run = sym (has r.from ∙ ap (λ b. cond b (Some x) (get nat_cmp old r.from))
+        (elsewhere k r.from other)) ∙ r.run;
+    begun = r.begun;
+    goes_on = r.goes_on;
+  })
 ]
 
 -- ---- runs that are joined
@@ -100,12 +100,12 @@ one_joined old now begin end first last from to low high kept before run f t g h
       | inl less ↦ before p (omega arith) (omega arith)
       | inr ge ↦ elim (cases_lt p to) [
         | inl inside ↦ inl (kept p (record {
-            from = from;
-            to = to;
-            run = run;
-            begun = ge;
-            goes_on = inside;
-          }))
+          from = from;
+          to = to;
+          run = run;
+          begun = ge;
+          goes_on = inside;
+        }))
         | inr past ↦ before p (omega arith) (omega arith)
       ]
     ]

@@ -82,7 +82,7 @@ module _ (p : LinearProgram) (fits : FitsProgram p) (b : IsBounded (image_of (li
 
   near : IsSiteNear (site_of p)
   near = site_near (services_of p) p.globals (routines p) (length p.functions) p.main
-    (services_few p) fits.globals
+      (services_few p) fits.globals
       (routines_near p fits) (has_places p fits)
 
   probe_there : has_bytes (code_of image) (probe_begin p) CHECK_STACK ≡ true

@@ -96,7 +96,7 @@ module _ (p : LinearProgram) (fits : FitsProgram p) (m : Memory) (text : HasText
 
   near : IsSiteNear s
   near = site_near (services_of p) p.globals (routines p) (length p.functions) p.main
-    (services_few p) fits.globals
+      (services_few p) fits.globals
       (routines_near p fits) (has_places p fits)
 
   -- a leaf function's, and that they don't write RSP
