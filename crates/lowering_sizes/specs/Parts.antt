@@ -1,4 +1,4 @@
--- The sizes of the parts of statements, as a stack from which each is taken when the part is lowered.
+-- The sizes of the parts of statements: a stack, from which each is taken when the part is lowered.
 use Rattle.std.specs.Prelude.{ℕ, List, [], ◌∷◌, ◌++◌}
 use Rattle.c_checked.specs.Statement.{Statement, Declare, Block, Evaluate, If, IfElse, For, DoWhile, Return, Break, Continue, Leave, TryExcept, TryFinally, Statements, Empty, Then}
 use Rattle.lowering_sizes.specs.Sizes.{statement_size, statements_size}

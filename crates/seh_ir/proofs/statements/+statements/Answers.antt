@@ -134,7 +134,8 @@ statement-returns-in_ok-skip-in-Some t c =
     ))
     c.statement.ensures
 
-pub other_statement-returns-in_ok-tried-in-TryExcept : goal.other_statement-returns-in_ok-tried-in-TryExcept
+pub other_statement-returns-in_ok-tried-in-TryExcept :
+    goal.other_statement-returns-in_ok-tried-in-TryExcept
 other_statement-returns-in_ok-tried-in-TryExcept t c =
     let body = tree.statements (map tree.statement c.in-TryExcept.body.items) in
     let handler = tree.statements (map tree.statement c.in-TryExcept.handler.items) in
