@@ -20,15 +20,15 @@ use Rattle.match_bodies.proofs.ReturnAddresses.{template_there}
 use Rattle.match_bodies.specs.Setting.{HasProgram}
 
 -- what a return fetches
-fetch_local_plain : (d e : ℕ) (o : Option ℕ) (k : ℕ) → Fine (fetch_local o Rax k)
-    → AllPlain d e (fetch_local o Rax k)
-fetch_local_plain d e None k f = ((f.0, inl refl), tt)
-fetch_local_plain d e (Some b) k f = ((f.0, inl refl), ((f.3.0, inl refl), tt))
+fetch_local_plain : (d whole e : ℕ) (o : Option ℕ) (k : ℕ) → Fine (fetch_local o Rax k)
+    → AllPlain d whole e (fetch_local o Rax k)
+fetch_local_plain d whole e None k f = ((f.0, inl refl), tt)
+fetch_local_plain d whole e (Some b) k f = ((f.0, inl refl), ((f.3.0, inl refl), tt))
 
-pub fetch_plain : (d e : ℕ) (y : Layout) (x : Slot) → Fine (fetch y Rax x)
-    → AllPlain d e (fetch y Rax x)
-fetch_plain d e y (Temporary i) f = ((f.0, inl refl), tt)
-fetch_plain d e y (Local i) f = fetch_local_plain d e y.base (local_at y i) f
+pub fetch_plain : (d whole e : ℕ) (y : Layout) (x : Slot) → Fine (fetch y Rax x)
+    → AllPlain d whole e (fetch y Rax x)
+fetch_plain d whole e y (Temporary i) f = ((f.0, inl refl), tt)
+fetch_plain d whole e y (Local i) f = fetch_local_plain d whole e y.base (local_at y i) f
 
 module _ (setting : Setting) where
   open setting use {functions as t, funclets as fs, program, plan as p, sites as q, image}
@@ -40,7 +40,8 @@ module _ (setting : Setting) where
       (beneath : Beneath t s (owed_of p name) top (top + 8) back others list)
       (below : register s.cpu Rsp + (p.layout name).frame ≡ top)
       (has : HasProgram setting s.memory) (small : (p.layout name).frame < 2 ^ 31)
-      (plain : AllPlain (p.layout name).frame 8 (fetch (p.layout name) Rax from))
+      (plain : AllPlain (p.layout name).frame (p.layout name).frame 8
+      (fetch (p.layout name) Rax from))
       (run : StepsTo (length (return_code (p.layout name) from)) s w) where
     abbrev y : Layout
     y = p.layout name
@@ -68,9 +69,10 @@ module _ (setting : Setting) where
         ((image.callers name b is).returns m label from done left h at split)
 
     first : Ran t fs program p q owed top (top + 8) back others list s u fetching
-    first = ran t fs program p q owed top (top + 8) back others list fetching s u y.frame 8 halves.1
+    first = ran t fs program p q owed top (top + 8) back others list fetching s u y.frame
+        y.frame 8 halves.1
         plain (subst (λ a. HasCode s.memory a fetching) (sym here) (codes s.memory has).0) has
-        beneath below refl (codes_above setting name b is (register s.cpu Rsp)) finds
+        beneath below refl (omega arith) (codes_above setting name b is (register s.cpu Rsp)) finds
 
     there_is : p.address name label + sizes fetching ≡ u.cpu.rip
     there_is = omega (arith, first.rip)
