@@ -31,7 +31,8 @@ module _ (setting : Setting) where
       (beneath : Beneath t s (owed_of p name) top (top + 8) back others list)
       (below : register s.cpu Rsp + (p.layout name).frame ≡ top) (low : 8 ≤ register s.cpu Rsp)
       (has : HasProgram setting s.memory)
-      (plain : AllPlain (p.layout name).frame (p.layout name).frame 8 before) (run : StepsTo (length before + 1) s w)
+      (plain : AllPlain (p.layout name).frame (p.layout name).frame 8 before)
+      (run : StepsTo (length before + 1) s w)
     where
       abbrev frame : ℕ
       frame = (p.layout name).frame

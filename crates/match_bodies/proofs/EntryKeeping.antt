@@ -27,7 +27,8 @@ kept_plain d whole e r k lt inside = (
       (record { kept = r; offset = k; is = refl; inside = inside }),
 )
 
-pub fetched_plain : (d whole e : ℕ) (base : Reg) (k : ℕ) → k < 2 ^ 31 → IsPlain d whole e (fetched Rax base k)
+pub fetched_plain : (d whole e : ℕ) (base : Reg) (k : ℕ) → k < 2 ^ 31
+    → IsPlain d whole e (fetched Rax base k)
 fetched_plain d whole e base k lt = (near k lt, inl refl)
 
 -- the four registers of arguments
@@ -45,8 +46,8 @@ arguments_plain d whole e y first lt = (
 )
 
 -- those from the fifth on
-pub passing_plain : (d whole e : ℕ) (y : Layout) (first i n : ℕ) → temporary_at y (first + i + n) < 2 ^ 31
-    → 8 * (i + n) ≤ d → d < 2 ^ 31 → AllPlain d whole e (passing_code y first i n)
+pub passing_plain : (d whole e : ℕ) (y : Layout) (first i n : ℕ)
+    → temporary_at y (first + i + n) < 2 ^ 31 → 8 * (i + n) ≤ d → d < 2 ^ 31 → AllPlain d whole e (passing_code y first i n)
 passing_plain d whole e y first i zero lt le small = tt
 passing_plain d whole e y first i (suc n) lt le small = (
   fetched_plain d whole e Rsp (temporary_at y (first + i)) (omega arith),
@@ -75,12 +76,15 @@ parameter_plain d whole e y i false lt lt' inside = (
 pub parameters_plain : (d whole e : ℕ) (y : Layout) (i n : ℕ) → local_at y (i + n) < 2 ^ 31
     → stack_parameter y (i + n) < 2 ^ 31
     → ((j : ℕ) → j < i + n → (local_at y j + 8 ≤ d)
-    ⊎ ((whole + 8 ≤ local_at y j) × (local_at y j + 8 ≤ whole + e))) → AllPlain d whole e (parameters_code y i n)
+    ⊎ ((whole + 8 ≤ local_at y j) × (local_at y j + 8 ≤ whole + e)))
+    → AllPlain d whole e (parameters_code y i n)
 parameters_plain d whole e y i zero lt lt' inside = tt
 parameters_plain d whole e y i (suc n) lt lt' inside =
     plain_both d whole e (parameter_code y i) (parameters_code y (i + 1) n)
-    (parameter_plain d whole e y i (nat_lt i 4) (omega arith) (omega arith) (inside i (omega arith)))
-    (parameters_plain d whole e y (i + 1) n (omega arith) (omega arith) (λ j l. inside j (omega arith)))
+    (parameter_plain d whole e y i (nat_lt i 4) (omega arith) (omega arith)
+    (inside i (omega arith)))
+    (parameters_plain d whole e y (i + 1) n (omega arith) (omega arith)
+    (λ j l. inside j (omega arith)))
 
 -- where a funclet keeps its base
 pub base_plain : (d whole e : ℕ) (parent : Option ℕ) (b : ℕ)

@@ -217,8 +217,8 @@ module _ (t : Functions) where
 -- ---- straight code
 
 -- a register is kept in a slot of a routine's own frame, or in the home space above its return
--- address; d: from RSP up to the end of the slots, whole: up to the return address, e: from there up
--- to the end of what it may write
+-- address; d: from RSP up to the end of the slots, whole: up to the return address, e: from there
+-- up to the end of what it may write
 pub record IsKept (d whole e : ℕ) (i : Instr) : Type 0 where
   pub kept : Reg
   pub offset : ℕ

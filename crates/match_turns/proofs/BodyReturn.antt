@@ -141,4 +141,5 @@ module _ (setting : Setting) (roomy : HaveRoom setting.program) where
         (begins_beneath setting s c b counted) refl b.memory.code (omega arith)
         (fetch_plain layout.frame layout.frame 8 layout from
         (fetch_fine f.layout f.counts f.sp f.base true from
-        (room_here setting s c b counted) is_there)) (reaches_steps n s after reaches)
+        (room_here setting s c b counted) is_there)) (reaches_steps n s after reaches) b.body.small
+        (omega arith)

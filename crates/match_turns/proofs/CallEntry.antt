@@ -240,7 +240,8 @@ module _ {setting : Setting} (at_call : AtCall setting) where
       (sym (append-nil (sites.arguments_code program p (FunctionBody f)))) inside.exact
       (enters_steps inside.turns at_callee after inside.comes) k.rip k.stack k.beneath_it
       (small_registers s b.well_formed) k.program_there stored.1 (omega arith) (omega arith)
-      (subst (λ (xs : List Instr). AllPlain layout.frame layout.frame 40 xs) (sym arguments_are) stored.0)
+      (subst (λ (xs : List Instr). AllPlain layout.frame layout.frame 40 xs) (sym arguments_are)
+      stored.0)
 
   entry_keeps : AllKeep t fs inside.turns at_callee
   entry_keeps = entry_run.keeps

@@ -48,8 +48,8 @@ module _ (setting : Setting) where
 
     pub funclet_ran : (n : ℕ) (w : State) (stored left : List Instr)
         → arguments_code program p (FuncletBody k) ≡ stored ++ left → n ≡ 1 + length stored
-        → StepsTo n s w → AllPlain (p.layout (FuncletBody k)).frame (p.layout (FuncletBody k)).frame 8
-        stored
+        → StepsTo n s w
+        → AllPlain (p.layout (FuncletBody k)).frame (p.layout (FuncletBody k)).frame 8 stored
         → EntryRan t fs program p q image (FuncletBody k) l.funclet.body (ap funclet_body l.there)
         some (register s.cpu Rsp) (register s.cpu Rsp + 8) a.back (others_of s.cpu.registers) a.is
         n s w stored
