@@ -98,7 +98,7 @@ module _ (t : Functions) (fs : List Funclet) (program : LinearProgram) (p : Imag
   arguments_are = ap (λ x. function_arguments layout x) h.function
 
   arguments_stored : (leaf : Bool) → IsLayoutIf program p layout o leaf
-      → AllPlain layout.frame 40 (parameters_code layout 0 fn.parameters)
+      → AllPlain layout.frame layout.frame 40 (parameters_code layout 0 fn.parameters)
       × (layout.frame + 8 ≤ LARGEST_FRAME)
   arguments_stored true l =
       let e = l.frame in
@@ -106,8 +106,8 @@ module _ (t : Functions) (fs : List Funclet) (program : LinearProgram) (p : Imag
       let n = l.few in
       let fits = h.fits in
       let few = h.few in (
-        parameters_plain layout.frame 40 layout 0 fn.parameters (omega arith) (omega arith)
-            (λ j lt. inr (omega arith, omega arith)),
+        parameters_plain layout.frame layout.frame 40 layout 0 fn.parameters (omega arith)
+            (omega arith) (λ j lt. inr (omega arith, omega arith)),
         omega arith,
       )
   arguments_stored false l =
@@ -115,8 +115,8 @@ module _ (t : Functions) (fs : List Funclet) (program : LinearProgram) (p : Imag
       let z = l.small in
       let fits = h.fits in
       let few = h.few in (
-        parameters_plain layout.frame 40 layout 0 fn.parameters (omega arith) (omega arith)
-            (λ j lt. inl (omega arith)),
+        parameters_plain layout.frame layout.frame 40 layout 0 fn.parameters (omega arith)
+            (omega arith) (λ j lt. inl (omega arith)),
         l.small,
       )
 
@@ -140,7 +140,8 @@ module _ (t : Functions) (fs : List Funclet) (program : LinearProgram) (p : Imag
       (sym (append-nil (arguments_code program p (FunctionBody f)))) inside.exact
       (enters_steps inside.turns first after inside.comes) refl at beneath_main small_there
       h.memory.code stored.1 (omega arith) refl
-      (subst (λ (xs : List Instr). AllPlain layout.frame 40 xs) (sym arguments_are) stored.0)
+      (subst (λ (xs : List Instr). AllPlain layout.frame layout.frame 40 xs) (sym arguments_are)
+      stored.0)
 
   -- its frame is there, with the registers that the host gave
   frame_there : HasFrame after (p.leaf (FunctionBody f)) (frame_of p (FunctionBody f) 0 registers)

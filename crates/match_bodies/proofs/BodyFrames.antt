@@ -1,6 +1,6 @@
--- The frames of bodies, as their codes tell: what of them is to be undone, and what keeps them. Each
--- is one allocation: the return address is above it, and the caller's registers are those that are
--- there.
+-- The frames of bodies, as their codes tell: what of them is to be undone, and what keeps them.
+-- Each is one allocation: the return address is above it, and the caller's registers are those that
+-- are there.
 use Rattle.std.proofs.Common.{◌≡◌, ℕ, suc, ◌+◌, ◌^◌, ◌<◌, ◌≤◌, Bool, true, false, not, eqb, Some, Ok, List, [], ◌∷◌, length, drop, refl, sym, ap, subst, ◌∙◌, arith}
 use Rattle.std.specs.Prelude.{slice_index}
 use Rattle.match_bodies.specs.Words.{Memory, Rsp, Context, context_of, kept_of, State, register, rsp, word, LinearBody, BodyName, FunctionBody, FuncletBody, body_of, Configuration, StackFrame, frame_of, HasFrame, IsFramed, Setting, IsWellFormed, AllSmall, IsAsTold, IsAllocated, IsOwed, nothing_owed, owed_of, owed_by, caller_owed, get}
@@ -246,34 +246,6 @@ module _ (setting : Setting) where
             (subst (λ n. IsOwed s.memory c nothing_owed n back others) (sym none)
             (subst (IsOwed s.memory c nothing_owed 0 back) h.others
             (returns_alone s.memory c back refl (omega arith) h.returns)))
-
-    -- where its codes are owed the return address is there, and the registers are the caller's
-    pub told_again : (m : Memory) (c : Context) (size top back : ℕ) (others : List ℕ)
-        → rsp c + size ≡ top → IsOwed m c (owed_of p name) size back others
-        → (word m top ≡ Ok back) × (drop 1 c.kept ≡ others)
-    told_again m c size top back others at o = by (p.leaf name) refl
-      where
-        by : (leaf : Bool) → p.leaf name ≡ leaf
-            → (word m top ≡ Ok back) × (drop 1 c.kept ≡ others)
-        by false e =
-            let framed = owed_framed m c size back others e o in
-            let whole = owed_frame m c size back others o in
-            let up : rsp c + (p.layout name).frame ≡ top = omega arith in
-            let a = allocated m c back others e o.kept o.eight framed.is_told in
-            (sym (ap (word m) up) ∙ a.returns, a.others)
-        by true e =
-            let i = (p.entry name).info in
-            let n = at_return m c size back others (subst (λ (leaf : Bool).
-            IsOwed m c (owed_by i leaf) size back others) e o) in
-            (ap (word m) (sym at ∙ n.none) ∙ n.returns, n.others_are)
-
-    -- a body without a frame is a leaf function
-    pub no_frame : (p.layout name).frame ≡ 0 → p.leaf name ≡ true
-    no_frame none = by (p.leaf name) refl
-      where
-        by : (leaf : Bool) → p.leaf name ≡ leaf → leaf ≡ true
-        by true e = refl
-        by false e = absurd (let some = framed_some e in omega arith)
 
   -- of a body that runs
   pub body_owed : (s : State) (c : Configuration) (at : InBody setting s c)

@@ -31,7 +31,8 @@ module _ (setting : Setting) where
       (beneath : Beneath t s (owed_of p name) top (top + 8) back others list)
       (below : register s.cpu Rsp + (p.layout name).frame ≡ top) (low : 8 ≤ register s.cpu Rsp)
       (has : HasProgram setting s.memory)
-      (plain : AllPlain (p.layout name).frame 8 before) (run : StepsTo (length before + 1) s w)
+      (plain : AllPlain (p.layout name).frame (p.layout name).frame 8 before)
+      (run : StepsTo (length before + 1) s w)
     where
       abbrev frame : ℕ
       frame = (p.layout name).frame
@@ -77,9 +78,10 @@ module _ (setting : Setting) where
           (template_there setting name b is m h label i at))
 
       first : Ran t fs program p q owed top (top + 8) back others list s u before
-      first = ran t fs program p q owed top (top + 8) back others list before s u frame 8 halves.1
+      first = ran t fs program p q owed top (top + 8) back others list before s u frame frame 8
+          halves.1
           plain (subst (λ a. HasCode s.memory a before) (sym here) (codes s.memory has).0) has
-          beneath below refl (codes_above setting name b is sp) finds
+          beneath below refl (omega arith) (codes_above setting name b is sp) finds
 
       -- its nonvolatile registers are those of the body
       others_same : others_of u.cpu.registers ≡ others_here

@@ -14,26 +14,27 @@ use Rattle.match_bodies.proofs.FrameMaking.{making_steps, made_by}
 
 -- ---- what entries and calls are made of
 
-pub plain_both : (d e : ℕ) (a b : List Instr) → AllPlain d e a → AllPlain d e b
-    → AllPlain d e (a ++ b)
-plain_both d e [] b p q = q
-plain_both d e (i ∷ a) b p q = (p.0, plain_both d e a b p.1 q)
+pub plain_both : (d whole e : ℕ) (a b : List Instr) → AllPlain d whole e a → AllPlain d whole e b
+    → AllPlain d whole e (a ++ b)
+plain_both d whole e [] b p q = q
+plain_both d whole e (i ∷ a) b p q = (p.0, plain_both d whole e a b p.1 q)
 
-pub kept_plain : (d e : ℕ) (r : Reg) (k : ℕ) → k < 2 ^ 31
-    → (k + 8 ≤ d) ⊎ ((d + 8 ≤ k) × (k + 8 ≤ d + e)) → IsPlain d e (keep_register r k)
-kept_plain d e r k lt inside = (
+pub kept_plain : (d whole e : ℕ) (r : Reg) (k : ℕ) → k < 2 ^ 31
+    → (k + 8 ≤ d) ⊎ ((whole + 8 ≤ k) × (k + 8 ≤ whole + e)) → IsPlain d whole e (keep_register r k)
+kept_plain d whole e r k lt inside = (
   near k lt,
   inr
       (record { kept = r; offset = k; is = refl; inside = inside }),
 )
 
-pub fetched_plain : (d e : ℕ) (base : Reg) (k : ℕ) → k < 2 ^ 31 → IsPlain d e (fetched Rax base k)
-fetched_plain d e base k lt = (near k lt, inl refl)
+pub fetched_plain : (d whole e : ℕ) (base : Reg) (k : ℕ) → k < 2 ^ 31
+    → IsPlain d whole e (fetched Rax base k)
+fetched_plain d whole e base k lt = (near k lt, inl refl)
 
 -- the four registers of arguments
-pub arguments_plain : (d e : ℕ) (y : Layout) (first : ℕ) → temporary_at y (first + 3) < 2 ^ 31
-    → AllPlain d e (arguments_code y first)
-arguments_plain d e y first lt = (
+pub arguments_plain : (d whole e : ℕ) (y : Layout) (first : ℕ) → temporary_at y (first + 3) < 2 ^ 31
+    → AllPlain d whole e (arguments_code y first)
+arguments_plain d whole e y first lt = (
   (near (temporary_at y first) (omega arith), inl refl),
   (
     (near (temporary_at y (first + 1)) (omega arith), inl refl),
@@ -45,51 +46,54 @@ arguments_plain d e y first lt = (
 )
 
 -- those from the fifth on
-pub passing_plain : (d e : ℕ) (y : Layout) (first i n : ℕ) → temporary_at y (first + i + n) < 2 ^ 31
-    → 8 * (i + n) ≤ d → d < 2 ^ 31 → AllPlain d e (passing_code y first i n)
-passing_plain d e y first i zero lt le small = tt
-passing_plain d e y first i (suc n) lt le small = (
-  fetched_plain d e Rsp (temporary_at y (first + i)) (omega arith),
+pub passing_plain : (d whole e : ℕ) (y : Layout) (first i n : ℕ)
+    → temporary_at y (first + i + n) < 2 ^ 31 → 8 * (i + n) ≤ d → d < 2 ^ 31 → AllPlain d whole e (passing_code y first i n)
+passing_plain d whole e y first i zero lt le small = tt
+passing_plain d whole e y first i (suc n) lt le small = (
+  fetched_plain d whole e Rsp (temporary_at y (first + i)) (omega arith),
   (
-    kept_plain d e Rax (8 * i) (omega arith) (inl (omega arith)),
-    passing_plain d e y first (i + 1) n (omega arith) (omega arith) small,
+    kept_plain d whole e Rax (8 * i) (omega arith) (inl (omega arith)),
+    passing_plain d whole e y first (i + 1) n (omega arith) (omega arith) small,
   ),
 )
 
 -- parameters
-parameter_plain : (d e : ℕ) (y : Layout) (i : ℕ) (few : Bool) → local_at y i < 2 ^ 31
+parameter_plain : (d whole e : ℕ) (y : Layout) (i : ℕ) (few : Bool) → local_at y i < 2 ^ 31
     → stack_parameter y i < 2 ^ 31 → (local_at y i + 8 ≤ d)
-    ⊎ ((d + 8 ≤ local_at y i) × (local_at y i + 8 ≤ d + e))
-    → AllPlain d e (if few then keep_register (parameter_register i) (local_at y i)
+    ⊎ ((whole + 8 ≤ local_at y i) × (local_at y i + 8 ≤ whole + e))
+    → AllPlain d whole e (if few then keep_register (parameter_register i) (local_at y i)
     ∷ [] else fetched Rax Rsp (stack_parameter y i) ∷ keep_register Rax (local_at y i) ∷ [])
-parameter_plain d e y i true lt lt' inside = (
-  kept_plain d e (parameter_register i) (local_at y i)
+parameter_plain d whole e y i true lt lt' inside = (
+  kept_plain d whole e (parameter_register i) (local_at y i)
       lt inside,
   tt,
 )
-parameter_plain d e y i false lt lt' inside = (
-  fetched_plain d e Rsp (stack_parameter y i) lt',
-  (kept_plain d e Rax (local_at y i) lt inside, tt),
+parameter_plain d whole e y i false lt lt' inside = (
+  fetched_plain d whole e Rsp (stack_parameter y i) lt',
+  (kept_plain d whole e Rax (local_at y i) lt inside, tt),
 )
 
-pub parameters_plain : (d e : ℕ) (y : Layout) (i n : ℕ) → local_at y (i + n) < 2 ^ 31
+pub parameters_plain : (d whole e : ℕ) (y : Layout) (i n : ℕ) → local_at y (i + n) < 2 ^ 31
     → stack_parameter y (i + n) < 2 ^ 31
     → ((j : ℕ) → j < i + n → (local_at y j + 8 ≤ d)
-    ⊎ ((d + 8 ≤ local_at y j) × (local_at y j + 8 ≤ d + e))) → AllPlain d e (parameters_code y i n)
-parameters_plain d e y i zero lt lt' inside = tt
-parameters_plain d e y i (suc n) lt lt' inside =
-    plain_both d e (parameter_code y i) (parameters_code y (i + 1) n)
-    (parameter_plain d e y i (nat_lt i 4) (omega arith) (omega arith) (inside i (omega arith)))
-    (parameters_plain d e y (i + 1) n (omega arith) (omega arith) (λ j l. inside j (omega arith)))
+    ⊎ ((whole + 8 ≤ local_at y j) × (local_at y j + 8 ≤ whole + e)))
+    → AllPlain d whole e (parameters_code y i n)
+parameters_plain d whole e y i zero lt lt' inside = tt
+parameters_plain d whole e y i (suc n) lt lt' inside =
+    plain_both d whole e (parameter_code y i) (parameters_code y (i + 1) n)
+    (parameter_plain d whole e y i (nat_lt i 4) (omega arith) (omega arith)
+    (inside i (omega arith)))
+    (parameters_plain d whole e y (i + 1) n (omega arith) (omega arith)
+    (λ j l. inside j (omega arith)))
 
 -- where a funclet keeps its base
-pub base_plain : (d e : ℕ) (parent : Option ℕ) (b : ℕ)
+pub base_plain : (d whole e : ℕ) (parent : Option ℕ) (b : ℕ)
     → ((away : ℕ) → parent ≡ Some away → away < 2 ^ 31) → b + 8 ≤ d → d < 2 ^ 31
-    → AllPlain d e (sites.keep_base parent b)
-base_plain d e None b lt le small = (kept_plain d e Rdx b (omega arith) (inl le), tt)
-base_plain d e (Some away) b lt le small = (
-  fetched_plain d e Rdx away (lt away refl),
-  (kept_plain d e Rax b (omega arith) (inl le), tt),
+    → AllPlain d whole e (sites.keep_base parent b)
+base_plain d whole e None b lt le small = (kept_plain d whole e Rdx b (omega arith) (inl le), tt)
+base_plain d whole e (Some away) b lt le small = (
+  fetched_plain d whole e Rdx away (lt away refl),
+  (kept_plain d whole e Rax b (omega arith) (inl le), tt),
 )
 
 -- ---- a routine is entered
@@ -116,7 +120,7 @@ module _ (t : Functions) (fs : List Funclet) (program : LinearProgram) (p : Imag
         → Beneath t e nothing_owed top from back others list → AllSmall others
         → HasProgram t fs program p q e.memory → frame + 8 ≤ LARGEST_FRAME → LARGEST_FRAME ≤ top
         → from ≡ top + extra
-        → AllPlain frame extra a → EntryRan n e w a
+        → AllPlain frame frame extra a → EntryRan n e w a
     entry_ran n e w a c extra parts count run here at_top beneath small has most low up plain =
         let making = making_steps (p.leaf name) frame in
         let h = steps_split making (length a) e w (subst (λ k. StepsTo k e w) count run) in
@@ -131,9 +135,9 @@ module _ (t : Functions) (fs : List Funclet) (program : LinearProgram) (p : Imag
         subst (λ x. FindsOwed t mem (x + sizes done) (owed_of p name)) (sym m.rip)
         (argument_found (setting_of t fs program p q image) name b is mem k some done (left ++ c)
         (parts ∙ ap (λ (xs : List Instr). xs ++ c) split ∙ append_assoc done left c)) in
-        let r = ran t fs program p q (owed_of p name) top from back others list a u w frame extra
-        h.2 plain
-        (subst (λ x. HasCode u.memory x a) (sym m.rip) code.0) m.has m.beneath m.stack up
+        let r = ran t fs program p q (owed_of p name) top from back others list a u w frame frame
+        extra h.2 plain (subst (λ x. HasCode u.memory x a) (sym m.rip) code.0) m.has m.beneath
+        m.stack up (omega arith)
         (codes_above (setting_of t fs program p q image) name b is (register u.cpu Rsp)) finds in
         record {
           keeps = subst (λ k. AllKeep t fs k e) (sym count)

@@ -1,5 +1,5 @@
 -- The code that makes a frame: by its size, and as the prologue of its plan.
-use Rattle.std.proofs.Common.{◌≡◌, ℕ, ◌+◌, ◌<◌, ◌≤◌, ◌==◌, Bool, true, false, not, leb, List, [], ◌∷◌, length, refl, ap, ◌∙◌, arith}
+use Rattle.std.proofs.Common.{◌≡◌, ℕ, zero, suc, ◌++◌, sym, ◌+◌, ◌<◌, ◌≤◌, ◌==◌, Bool, true, false, not, leb, List, [], ◌∷◌, length, refl, ap, ◌∙◌, arith}
 use Rattle.std.specs.Prelude.{nat_le}
 use Rattle.std.specs.List.{flat_map}
 use Rattle.std.proofs.lemmas.Bool.{ne_eqb, le-leb, lt-leb}
@@ -7,10 +7,14 @@ use Rattle.match_bodies.specs.Words.{Instr, chosen, size, sizes, enter_code, ent
 use Rattle.eh_tables.specs.declared.code.UnwindCode.{UnwindCode}
 use Rattle.eh_tables.specs.declared.code.UnwindOperation.{UnwindOperation}
 use Rattle.eh_tables.specs.declared.code.UnwindOperation.TheVariants.{Allocate}
+use Rattle.x64_instr.specs.Registers.{register}
+use Rattle.x64_instr.specs.declared.instruction.Instr.TheVariants as instrs
+use Rattle.template_code.specs.Calls.{epilogue}
 use Rattle.template_code.specs.Jumps.{distance}
 use Rattle.frame_rules.specs.Bytes.{spell}
 use Rattle.frame_rules.specs.Codes.{are_allowed}
-use Rattle.frame_rules.specs.Plan.{FramePlan, allocation_then, allocating, instructions_of, opening_then, operations_of, spelled_by, steps_of, turned}
+use Rattle.frame_rules.specs.Plan as planned
+use Rattle.frame_rules.specs.Plan.{FramePlan, Saved, allocation_then, allocating, instructions_of, loads_then, opening_then, operations_of, pops_then, spelled_by, steps_of, turned}
 use Rattle.frame_rules.specs.Prologue.{bytes, items, codes_onto}
 use Rattle.frame_rules.proofs.Frames.{bytes-append}
 use Rattle.frame_layout.proofs.Sizes.{code_is}
@@ -88,6 +92,40 @@ plan_probed n begin check = by (not (n == 0))
       tt,
     )
     by false = tt
+
+-- ---- its epilogue
+
+abbrev epilogue_by : ℕ → ℕ → Bool → List Instr
+epilogue_by n probe none = loads_then [] (opening_then (frame_plan n probe) none
+    (pops_then [] (instrs.Return ∷ [])))
+
+pub planned_epilogue : (n probe : ℕ) → epilogue n ≡ planned.epilogue (frame_plan n probe)
+planned_epilogue zero probe = refl
+planned_epilogue (suc n) probe = sym (ap (epilogue_by (suc n) probe)
+    (ne_eqb (suc n) 0 (λ z. (let e : suc n ≡ 0 = z in absurd (omega arith)))))
+
+pops_sizes : (popped : List ℕ) (r : ℕ) → sizes (pops_then (popped ++ (r ∷ [])) [])
+    ≡ sizes (pops_then popped []) + size (instrs.Pop (register r))
+pops_sizes [] r = omega arith
+pops_sizes (q ∷ popped) r = let e = pops_sizes popped r in omega arith
+
+opening_sizes : (f : FramePlan) (none : Bool) (is js : List Instr) (n : ℕ)
+    → sizes is ≡ sizes js + n → sizes (opening_then f none is) ≡ sizes (opening_then f none js) + n
+opening_sizes f true is js n e = e
+opening_sizes f false is js n e = omega (arith, e)
+
+loads_sizes : (ss : List Saved) (is js : List Instr) (n : ℕ) → sizes is ≡ sizes js + n
+    → sizes (loads_then ss is) ≡ sizes (loads_then ss js) + n
+loads_sizes [] is js n e = e
+loads_sizes (s ∷ ss) is js n e = let r = loads_sizes ss is js n e in omega arith
+
+-- one pop more
+pub through_pop : (f : FramePlan) (popped : List ℕ) (r : ℕ)
+    → sizes (epilogue_through f (popped ++ (r ∷ [])))
+    ≡ sizes (epilogue_through f popped) + size (instrs.Pop (register r))
+through_pop f popped r = loads_sizes f.saves _ _ (size (instrs.Pop (register r)))
+    (opening_sizes f (f.size == 0) (pops_then (popped ++ (r ∷ [])) []) (pops_then popped [])
+    (size (instrs.Pop (register r))) (pops_sizes popped r))
 
 -- nothing is popped
 pub through_opening : (n probe : ℕ) → 0 < n

@@ -1,21 +1,18 @@
 -- What single machine instructions of calls, entries and returns leave as it was.
 use Rattle.std.proofs.Common.{◌≡◌, ◌≢◌, ℕ, ◌+◌, ◌-◌, ◌%◌, ◌^◌, ◌<◌, ◌≤◌, Bool, true, false, List, [], ◌∷◌, length, Option, Some, None, Result, Ok, Err, refl, sym, ap, subst, ◌∙◌, arith, inl, inr, get_or-set_same, get_or-set_other, length-set}
 use Rattle.std.specs.Prelude.{◌⊎◌, slice_index, slice_set}
-use Rattle.match_bodies.specs.Words.{Width, W32, W64, Memory, may_write, first_refused, with_bytes, Reg, Rax, Rsp, RegisterOrMemory, Instr, word, readable, State, register, with_rip, effect, with_number, loaded, stored, unless_refused, after_store, Relative, is_volatile, Answer, granted, with_register, with_flags, load, store, write, may_change, change, target_of}
+use Rattle.match_bodies.specs.Words.{Width, W32, W64, Memory, may_write, first_refused, with_bytes, Reg, Rax, Rsp, RegisterOrMemory, Instr, word, readable, State, register, with_rip, effect, with_number, loaded, stored, unless_refused, after_store, Relative, is_volatile, Answer, granted, with_register, with_flags, load, store, write, may_change, target_of}
 use Rattle.flat_memory.specs.declared.access.RefusedAccess.{RefusedAccess}
 use Rattle.flat_memory.proofs.Stores.{untouched, loads_what_was_stored}
 use Rattle.x64_instr.specs.declared.register.Reg.TheVariants as regs
 use Rattle.x64_instr.specs.declared.operand.Base.TheVariants as bases
 use Rattle.x64_instr.specs.declared.operand.MemRef.{MemRef}
 use Rattle.x64_instr.specs.declared.operand.RegisterOrMemory.TheVariants as places
-use Rattle.x64_instr.specs.declared.operand.Operand.{Operand}
 use Rattle.x64_instr.specs.declared.operand.Operand.TheVariants as operands
-use Rattle.x64_instr.specs.declared.instruction.Operation.{Operation}
 use Rattle.x64_instr.specs.declared.instruction.Operation.TheVariants as operations
 use Rattle.x64_instr.specs.declared.instruction.Target.{Target}
 use Rattle.x64_instr.specs.declared.instruction.Instr.TheVariants as instrs
 use Rattle.x64_instr.specs.Registers.{number}
-use Rattle.x64_machine.specs.Words.{added}
 use Rattle.seh_num.specs.Answers.{◌>>=◌}
 use Rattle.x64_machine.specs.Effect.{read, operand, computed}
 use Rattle.match_runs.specs.Shadow.{calls as is_a_call}
@@ -188,50 +185,6 @@ store_leaves s t d r high e =
       rip = refl;
       beside = λ x out. store_beside s.memory (sp + d) v x high out;
     })
-
--- ---- RSP is set
-
-pub record Sets (s t : State) (sp : ℕ) : Type 0 where
-  pub memory : t.memory ≡ s.memory
-  pub rip : t.cpu.rip ≡ s.cpu.rip
-  pub stack : register t.cpu Rsp ≡ sp
-  pub others : others_of t.cpu.registers ≡ others_of s.cpu.registers
-  pub count : length t.cpu.registers ≡ length s.cpu.registers
-
-rsp_sets : (s t : State) (v sp : ℕ) → length s.cpu.registers ≡ 16 → v % 2 ^ 64 ≡ sp
-    → ◌≡◌ {A = Answer State} (Ok (record s { cpu = with_register W64 s.cpu Rsp v })) (Ok t)
-    → Sets s t sp
-rsp_sets s t v sp n is e =
-    subst (λ u. Sets s u sp) (the_same e)
-    (record {
-      memory = refl;
-      rip = refl;
-      stack = get_or-set_same s.cpu.registers 4 (v % 2 ^ 64) 0 (omega arith) ∙ is;
-      others = others_rsp s.cpu.registers (v % 2 ^ 64);
-      count = length-set s.cpu.registers 4 (v % 2 ^ 64);
-    })
-
-changed_sets : (s t : State) (o : Operation) (from : Operand) (b sp : ℕ)
-    → length s.cpu.registers ≡ 16 → operand s W64 from ≡ Ok b
-    → (computed o W64 (register s.cpu Rsp % 2 ^ 64) b).0 % 2 ^ 64 ≡ sp
-    → change s o W64 (places.Register Rsp) from ≡ Ok t → Sets s t sp
-changed_sets s t o from b sp n is value e =
-    let a = register s.cpu Rsp % 2 ^ 64 in
-    let k = bound (operand s W64 from) (λ c. write (with_flags s (computed o W64 a c).1) W64
-    (places.Register Rsp) (computed o W64 a c).0) t e in
-    let same : k.value ≡ b = the_same (sym k.is ∙ is) in
-    let then = subst (λ c. write (with_flags s (computed o W64 a c).1) W64 (places.Register Rsp)
-    (computed o W64 a c).0 ≡ Ok t) same k.then in
-    let r = rsp_sets (with_flags s (computed o W64 a b).1) t (computed o W64 a b).0 sp n value
-    then in
-    record { memory = r.memory; rip = r.rip; stack = r.stack; others = r.others; count = r.count }
-
-pub rises : (s t : State) (n sp : ℕ) → length s.cpu.registers ≡ 16 → register s.cpu Rsp + n ≡ sp
-    → sp < 2 ^ 64 → effect s (instrs.Arithmetic operations.Add W64 (places.Register Rsp)
-    (operands.Immediate n)) ≡ Ok t → Sets s t sp
-unfolding added
-rises s t n sp count at high e = changed_sets s t operations.Add (operands.Immediate n) (n % 2 ^ 64)
-    sp count refl (omega arith) e
 
 -- ---- a call, and a return
 

@@ -17,6 +17,7 @@ pub mod PrologueSteps
 pub mod ProbedAllocation
 pub mod PlannedPrologues
 pub mod FrameMaking
+pub mod EpilogueSteps
 pub mod CallKeeping
 pub mod EntryKeeping
 pub mod ReturnKeeping

@@ -31,7 +31,7 @@ use Rattle.frame_rules.proofs.Words.{left_words, pushes_apart, rebased}
 
 -- ---- answers
 
-same_state : (t u : State) (a : Answer State) → a ≡ Ok t → a ≡ Ok u → u ≡ t
+pub same_state : (t u : State) (a : Answer State) → a ≡ Ok t → a ≡ Ok u → u ≡ t
 same_state t u a p q = sym (ok_same (sym p ∙ q))
 
 -- a word that was stored could be written

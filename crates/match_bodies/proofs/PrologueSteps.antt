@@ -114,7 +114,7 @@ module _ (t : Functions) (fs : List Funclet) (f offset top from back : ℕ) (oth
         by (Some (suc k)) = small_at others small k
 
     -- as the rules for frames see it
-    holds : (s : State) (ops : List UnwindOperation) → Below ops s
+    pub holds : (s : State) (ops : List UnwindOperation) → Below ops s
         → HoldsFrame f offset s.memory old back (registers s) ops ops
     holds s ops b =
         let c = context_of s.cpu in
@@ -129,7 +129,7 @@ module _ (t : Functions) (fs : List Funclet) (f offset top from back : ℕ) (oth
               ∙ subst (λ (g : ℕ → ℕ). Others g (get c) ops) same o.unsaved r nv ne z;
         }
 
-    owed_from : (u : State) (ops : List UnwindOperation) → are_allowed f ops ≡ true
+    pub owed_from : (u : State) (ops : List UnwindOperation) → are_allowed f ops ≡ true
         → length others ≡ 8
         → HoldsFrame f offset u.memory old back (registers u) ops ops
         → register u.cpu Rsp + depth ops ≡ top

@@ -216,25 +216,27 @@ module _ (t : Functions) where
 
 -- ---- straight code
 
--- a register is kept in a routine's own frame, or in the home space above its return address; d:
--- from RSP up to the return address, e: from there up to the end of what it may write
-pub record IsKept (d e : ℕ) (i : Instr) : Type 0 where
+-- a register is kept in a slot of a routine's own frame, or in the home space above its return
+-- address; d: from RSP up to the end of the slots, whole: up to the return address, e: from there
+-- up to the end of what it may write
+pub record IsKept (d whole e : ℕ) (i : Instr) : Type 0 where
   pub kept : Reg
   pub offset : ℕ
   pub is : i ≡ keep_register kept offset
-  pub inside : (offset + 8 ≤ d) ⊎ ((d + 8 ≤ offset) × (offset + 8 ≤ d + e))
+  pub inside : (offset + 8 ≤ d) ⊎ ((whole + 8 ≤ offset) × (offset + 8 ≤ whole + e))
 
 -- that, or volatile registers alone are written
-abbrev pub IsPlain : ℕ → ℕ → Instr → Type 0
-IsPlain d e i = (is_encodable i ≡ true) × ((is_idle i ≡ true) ⊎ IsKept d e i)
+abbrev pub IsPlain : (d whole e : ℕ) → Instr → Type 0
+IsPlain d whole e i = (is_encodable i ≡ true) × ((is_idle i ≡ true) ⊎ IsKept d whole e i)
 
-abbrev pub AllPlain : ℕ → ℕ → List Instr → Type 0
-AllPlain d e [] = Unit {0}
-AllPlain d e (i ∷ is) = IsPlain d e i × AllPlain d e is
+abbrev pub AllPlain : (d whole e : ℕ) → List Instr → Type 0
+AllPlain d whole e [] = Unit {0}
+AllPlain d whole e (i ∷ is) = IsPlain d whole e i × AllPlain d whole e is
 
-plain_calls_nothing : (d e : ℕ) (i : Instr) → (is_idle i ≡ true) ⊎ IsKept d e i → calls i ≡ false
-plain_calls_nothing d e i (inl q) = idle_calls_nothing i q
-plain_calls_nothing d e i (inr k) = ap calls k.is
+plain_calls_nothing : (d whole e : ℕ) (i : Instr) → (is_idle i ≡ true) ⊎ IsKept d whole e i
+    → calls i ≡ false
+plain_calls_nothing d whole e i (inl q) = idle_calls_nothing i q
+plain_calls_nothing d whole e i (inr k) = ap calls k.is
 
 module _ (t : Functions) (fs : List Funclet) (program : LinearProgram) (p : ImagePlan) (q : Sites)
   where
@@ -251,18 +253,19 @@ module _ (t : Functions) (fs : List Funclet) (program : LinearProgram) (p : Imag
       AreBeyond s d = AreAbove (register s.cpu Rsp + d) (register s.cpu Rsp) (register s.cpu Rsp)
           o.codes
 
-      pub plain_step : (s u : State) (d e : ℕ) (i : Instr) (more : List Instr) → IsPlain d e i
-          → HasCode s.memory s.cpu.rip (i ∷ more) → Steps s u
+      pub plain_step : (s u : State) (d whole e : ℕ) (i : Instr) (more : List Instr)
+          → IsPlain d whole e i → HasCode s.memory s.cpu.rip (i ∷ more) → Steps s u
           → Beneath t s o top from back others is
-          → register s.cpu Rsp + d ≡ top → from ≡ top + e → AreBeyond s d → Moved s u i
-      plain_step s u d e i more plain code st b at up far =
+          → register s.cpu Rsp + whole ≡ top → from ≡ top + e → d ≤ whole → AreBeyond s d
+          → Moved s u i
+      plain_step s u d whole e i more plain code st b at up within far =
           let effect' = effect_here s u i more plain.0 code st.steps in
           by plain.1 effect'
         where
           a : State
           a = with_rip s (s.cpu.rip + size i)
 
-          by : (is_idle i ≡ true) ⊎ IsKept d e i → effect a i ≡ Ok u → Moved s u i
+          by : (is_idle i ≡ true) ⊎ IsKept d whole e i → effect a i ≡ Ok u → Moved s u i
           by (inl idle) ef =
               let l = idle_leaves a u i idle ef in
               record {
@@ -320,13 +323,13 @@ module _ (t : Functions) (fs : List Funclet) (program : LinearProgram) (p : Imag
       Finds rip code = (done left : List Instr) → code ≡ done ++ left → (m : Memory)
           → HasProgram t fs program p q m → FindsOwed t m (rip + sizes done) o
 
-      pub ran : (code : List Instr) (s w : State) (d e : ℕ) → StepsTo (length code) s w
-          → AllPlain d e code → HasCode s.memory s.cpu.rip code → HasProgram t fs program p q
+      pub ran : (code : List Instr) (s w : State) (d whole e : ℕ) → StepsTo (length code) s w
+          → AllPlain d whole e code → HasCode s.memory s.cpu.rip code → HasProgram t fs program p q
           s.memory
           → Beneath t s o top from back others is
-          → register s.cpu Rsp + d ≡ top → from ≡ top + e → AreBeyond s d → Finds s.cpu.rip code
-          → Ran s w code
-      ran [] s w d e r plain code has b at up far finds =
+          → register s.cpu Rsp + whole ≡ top → from ≡ top + e → d ≤ whole → AreBeyond s d
+          → Finds s.cpu.rip code → Ran s w code
+      ran [] s w d whole e r plain code has b at up within far finds =
           subst (λ (x : State). Ran s x []) r (record {
             keeps = tt;
             beneath = b;
@@ -335,13 +338,13 @@ module _ (t : Functions) (fs : List Funclet) (program : LinearProgram) (p : Imag
             stack = refl;
             keeps_others = refl;
           })
-      ran (i ∷ code) s w d e r plain code' has b at up far finds =
+      ran (i ∷ code) s w d whole e r plain code' has b at up within far finds =
           let u = r.0 in
           let st = r.1 in
-          let first = plain_step s u d e i code plain.0 code' st b at up far in
+          let first = plain_step s u d whole e i code plain.0 code' st b at up within far in
           let has' = program_kept t fs program p q s.memory u.memory
           (record { protection = st.protection; fixed = st.fixed }) has in
-          let at' : register u.cpu Rsp + d ≡ top = omega (arith, first.stack) in
+          let at' : register u.cpu Rsp + whole ≡ top = omega (arith, first.stack) in
           let z : s.cpu.rip + 0 ≡ s.cpu.rip = omega arith in
           let next : s.cpu.rip + (size i + 0) ≡ u.cpu.rip = omega (arith, first.rip) in
           let before = gives_above t s o top from back others is b
@@ -349,7 +352,7 @@ module _ (t : Functions) (fs : List Funclet) (program : LinearProgram) (p : Imag
           let after = gives_above t u o top from back others is first.beneath
           (subst (λ a. FindsOwed t u.memory a o) next (finds (i ∷ []) code refl u.memory has')) in
           let quiet = ap is_call (read_here s u i code plain.0.0 code')
-          ∙ plain_calls_nothing d e i plain.0.1 in
+          ∙ plain_calls_nothing d whole e i plain.0.1 in
           let keep = straight t fs s u (callers_above t top back others is) st.steps quiet before
           after (let h : register u.cpu Rsp + 8 ≤ top + 8 = omega arith in h) in
           let finds' : Finds u.cpu.rip code = λ done left parts m h.
@@ -357,9 +360,9 @@ module _ (t : Functions) (fs : List Funclet) (program : LinearProgram) (p : Imag
           ≡ u.cpu.rip + sizes done = omega (arith, first.rip) in
           subst (λ a. FindsOwed t m a o) same
           (finds (i ∷ done) left (ap (λ (xs : List Instr). i ∷ xs) parts) m h)) in
-          let rest = ran code u w d e r.2 plain.1 (code_next s u i code plain.0.0 code' st
+          let rest = ran code u w d whole e r.2 plain.1 (code_next s u i code plain.0.0 code' st
           first.rip)
-          has' first.beneath at' up
+          has' first.beneath at' up within
           (subst (λ x. AreAbove (x + d) x x o.codes) (sym first.stack) far) finds' in
           record {
             keeps = keep_first t fs (length code) s u st.steps keep rest.keeps;

@@ -1,12 +1,12 @@
--- Calls, returns, and the making of frames keep the shadow.
-use Rattle.std.proofs.Common.{◌≡◌, ℕ, ◌+◌, ◌^◌, ◌<◌, ◌≤◌, true, false, List, ◌∷◌, length, Ok, refl, sym, ap, subst, ◌∙◌, arith, inl, inr}
-use Rattle.match_bodies.specs.Words.{Memory, executable, number_at, Rax, Rsp, Instr, leading, is_encodable, Context, context_of, State, register, with_rip, effect, Functions, word, Funclet, size, IsNear, call, Steps, HasCode, StackItem, ItemIsAt, IsStack, OwnedBy, Owned, context_after, context_below, state, is_call, GivesCallers, WalkGives, KeepsShadow, caller_above, HasCaller, FindsReturn, FindsOwed, Owed, IsOwed, nothing_owed, caller_at}
+-- Calls, returns, and what probes the stack keep the shadow.
+use Rattle.std.proofs.Common.{◌≡◌, ℕ, ◌+◌, ◌^◌, ◌<◌, ◌≤◌, true, List, ◌∷◌, length, Ok, refl, sym, ap, subst, ◌∙◌, arith, inl, inr}
+use Rattle.match_bodies.specs.Words.{Memory, number_at, Rax, Rsp, Instr, is_encodable, Context, context_of, State, register, with_rip, effect, Functions, word, Funclet, size, IsNear, call, Steps, HasCode, StackItem, ItemIsAt, IsStack, OwnedBy, Owned, context_after, context_below, state, is_call, GivesCallers, WalkGives, KeepsShadow, caller_above, HasCaller, FindsReturn, FindsOwed, Owed, IsOwed, nothing_owed, caller_at}
 use Rattle.x64_instr.specs.declared.instruction.Instr.TheVariants as instrs
 use Rattle.template_code.specs.Jumps.{distance}
 use Rattle.match_bodies.proofs.OwedCallers.{finds_return, owed_with, owed_in, owed_low, returns_alone, AtReturn, at_return}
 use Rattle.match_bodies.proofs.Lemmas.{call_size, arrives, short, past_frame, HeadAbove, straight, call_keeps, return_keeps}
 use Rattle.match_bodies.proofs.StackWalks.{callers, on_stack, stack_rises}
-use Rattle.match_bodies.proofs.InstructionEffects.{others_of, is_probing, probing_is_idle, idle_leaves, idle_calls_nothing, rax_stays, Sets, Calls, calls, Returns, returns, word_loads}
+use Rattle.match_bodies.proofs.InstructionEffects.{others_of, is_probing, probing_is_idle, idle_leaves, idle_calls_nothing, rax_stays, Calls, calls, Returns, returns, word_loads}
 use Rattle.match_bodies.proofs.RoutineWalks.{read_here, effect_here, word_number, context_is, ListAbove, Beneath, above_stays, callers_above, gives_owed, gives_above}
 
 module _ (t : Functions) (fs : List Funclet) where
@@ -39,42 +39,6 @@ module _ (t : Functions) (fs : List Funclet) where
     gives_here s b finds = gives_above t s o top from back others is b finds
 
     module _ (s u : State) (st : Steps s u) (b : Beneath t s o top from back others is) where
-      -- ---- RSP is set, and others of the codes are still to be undone
-
-      pub record Shifted (o' : Owed) (sp next : ℕ) : Type 0 where
-        pub keeps : KeepsShadow t fs s u
-        pub beneath : Beneath t u o' top from back others is
-        pub rip : u.cpu.rip ≡ next
-        pub stack : register u.cpu Rsp ≡ sp
-
-      pub shifts : (o' : Owed) (sp next size' : ℕ) → Sets (with_rip s next) u sp → sp + size' ≡ top
-          → IsOwed s.memory (context_below next sp (others_of s.cpu.registers)) o' size' back others
-          → is_call (leading (executable s.memory 15 s.cpu.rip)) ≡ false
-          → FindsOwed t s.memory s.cpu.rip o → FindsOwed t u.memory next o' → Shifted o' sp next
-      shifts o' sp next size' sets at owed quiet before after =
-          let same = context_is u next sp (others_of s.cpu.registers) sets.rip sets.stack
-          sets.others in
-          let b' : Beneath t u o' top from back others is = record {
-            above = above_stays t s u top from back others is st
-                (λ x le. ap (λ (m : Memory). m.byte x) sets.memory) b.above;
-            count = sets.count ∙ b.count;
-            size = size';
-            at = ap (λ x. x + size') sets.stack ∙ at;
-            owed = subst (λ (c : Context). IsOwed u.memory c o' size' back others) (sym same)
-                (subst (λ (m : Memory). IsOwed m (context_below next sp
-                (others_of s.cpu.registers)) o' size' back others) (sym sets.memory) owed);
-          } in
-          let there = gives_above t u o' top from back others is b'
-          (subst (λ a. FindsOwed t u.memory a o') (sym sets.rip) after) in
-          let r = sets.stack in
-          record {
-            keeps = straight t fs s u mine st.steps quiet (gives_here s b before) there
-                (let h : register u.cpu Rsp + 8 ≤ top + 8 = omega arith in h);
-            beneath = b';
-            rip = sets.rip;
-            stack = sets.stack;
-          }
-
       -- ---- a call
 
       module _ (sp to : ℕ) (below : register s.cpu Rsp ≡ sp + 8) (next : ℕ)

@@ -149,7 +149,7 @@ module _ {setting : Setting} (at_call : AtCall setting) where
   near_next = subst (λ r. IsNear (return_at y first (r + sizes passing)) (q.function f)) b.rip
       (entering.near at_call)
 
-  plain : AllPlain y.frame 8 before
+  plain : AllPlain y.frame y.frame 8 before
   plain =
       let h = few_passed in
       let room = (room_here setting s c b counted).temporaries in
@@ -160,9 +160,10 @@ module _ {setting : Setting} (at_call : AtCall setting) where
       let slots = calling.has_room at_call in
       let s0 = slots.0 in
       let s1 = slots.1 in
-      plain_both y.frame 8 passing (arguments_code y first)
-      (passing_plain y.frame 8 y first 4 (count - 4) (omega arith) (omega arith) (omega arith))
-      (arguments_plain y.frame 8 y first (omega arith))
+      plain_both y.frame y.frame 8 passing (arguments_code y first)
+      (passing_plain y.frame y.frame 8 y first 4 (count - 4) (omega arith) (omega arith)
+      (omega arith))
+      (arguments_plain y.frame y.frame 8 y first (omega arith))
 
   abbrev callee_found : (m : Memory) → FindsReturn t m (q.function f)
   callee_found m = (image.callers (FunctionBody f) o there).entries m (λ e. some)
@@ -205,14 +206,14 @@ module _ {setting : Setting} (at_call : AtCall setting) where
       n) parameters
 
   arguments_stored : (leaf : Bool) → IsLayoutIf program p layout o leaf
-      → AllPlain layout.frame 40 (parameters_code layout 0 count) ×
+      → AllPlain layout.frame layout.frame 40 (parameters_code layout 0 count) ×
       (layout.frame + 8 ≤ LARGEST_FRAME)
   arguments_stored true l =
       let h = fits in
       let e = l.frame in
       let a = l.locals in
       let n = l.few in (
-        parameters_plain layout.frame 40 layout 0 count (omega arith) (omega arith)
+        parameters_plain layout.frame layout.frame 40 layout 0 count (omega arith) (omega arith)
             (λ j lt. inr (omega arith, omega arith)),
         omega arith,
       )
@@ -220,7 +221,7 @@ module _ {setting : Setting} (at_call : AtCall setting) where
       let h = fits in
       let a = l.locals in
       let z = l.small in (
-        parameters_plain layout.frame 40 layout 0 count (omega arith) (omega arith)
+        parameters_plain layout.frame layout.frame 40 layout 0 count (omega arith) (omega arith)
             (λ j lt. inl (omega arith)),
         l.small,
       )
@@ -239,7 +240,8 @@ module _ {setting : Setting} (at_call : AtCall setting) where
       (sym (append-nil (sites.arguments_code program p (FunctionBody f)))) inside.exact
       (enters_steps inside.turns at_callee after inside.comes) k.rip k.stack k.beneath_it
       (small_registers s b.well_formed) k.program_there stored.1 (omega arith) (omega arith)
-      (subst (λ (xs : List Instr). AllPlain layout.frame 40 xs) (sym arguments_are) stored.0)
+      (subst (λ (xs : List Instr). AllPlain layout.frame layout.frame 40 xs) (sym arguments_are)
+      stored.0)
 
   entry_keeps : AllKeep t fs inside.turns at_callee
   entry_keeps = entry_run.keeps

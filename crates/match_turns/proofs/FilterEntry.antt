@@ -212,8 +212,10 @@ module _ (setting : Setting) where
         funclet_ran setting s k handler.activation argument items acts l w c.store.memory memory
         some low_enough high_enough (register s.cpu Rdx) a.reaches.base leads (e.turns + 1) u
         (base ++ last) [] parts count (enters_steps (e.turns + 1) s u run)
-        (plain_both y.frame 8 base last plain
-        (kept_plain y.frame 8 Rcx y.pointers (let g = fits in omega arith) (inl fits), tt))
+        (plain_both y.frame y.frame 8 base last plain (
+          kept_plain y.frame y.frame 8 Rcx y.pointers (let g = fits in omega arith) (inl fits),
+          tt,
+        ))
 
     frame_here : HasFrame setting s u k argument handler.activation items acts l w
     frame_here = record {
@@ -264,8 +266,8 @@ module _ (setting : Setting) where
       turns = e.turns + 1;
       few = (let z = e.few in omega arith);
       state = u;
-      comes = enters_silently t fs program p q image (e.turns + 1) s u run entry_run.keeps memory.code
-          (silent_there setting k l u rip_here some);
+      comes = enters_silently t fs program p q image (e.turns + 1) s u run entry_run.keeps
+          memory.code (silent_there setting k l u rip_here some);
       is_there = represents_here;
     }
 

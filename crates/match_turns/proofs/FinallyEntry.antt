@@ -88,10 +88,7 @@ module _ (setting : Setting) where
     base = base_code setting s k activation (of_test abnormal) items acts l a store.memory memory
         some low_enough high_enough (register s.cpu Rdx) a.reaches.base leads
 
-    abbrev arguments : List Instr
-    arguments = arguments_code program p (FuncletBody k)
-
-    parts : arguments ≡ base ++ keep_argument y f.kind
+    parts : arguments_code program p (FuncletBody k) ≡ base ++ keep_argument y f.kind
     parts = arguments_are setting s k activation (of_test abnormal) items acts l a store.memory
         memory some low_enough high_enough (register s.cpu Rdx) a.reaches.base leads
 
@@ -101,8 +98,8 @@ module _ (setting : Setting) where
     kept_base =
         funclet_ran setting s k activation (of_test abnormal) items acts l a store.memory memory
         some low_enough high_enough (register s.cpu Rdx) a.reaches.base leads e.turns y1 base
-        (keep_argument y f.kind) parts
-        (let n = e.exact in omega arith) (enters_steps e.turns s y1 e.comes)
+        (keep_argument y f.kind) parts (let n = e.exact in omega arith)
+        (enters_steps e.turns s y1 e.comes)
         (base_is_plain setting s k activation (of_test abnormal) items acts l a store.memory memory
         some low_enough high_enough (register s.cpu Rdx) a.reaches.base leads)
 
@@ -351,7 +348,7 @@ module _ (setting : Setting) where
     last_is : last ≡ mid ++ (storing ∷ [])
     last_is = ap (λ o. move W32 Rax Rcx ∷ keep_local o (local_at y flag)) l.plan.layout.base
 
-    all_parts : arguments ≡ (base ++ mid) ++ (storing ∷ [])
+    all_parts : arguments_code program p (FuncletBody k) ≡ (base ++ mid) ++ (storing ∷ [])
     all_parts = parts ∙ ap (λ z. base ++ keep_argument y z) kind_is
         ∙ ap (λ (xs : List Instr). base ++ xs) last_is ∙ sym (append_assoc base mid (storing ∷ []))
 
@@ -423,11 +420,11 @@ module _ (setting : Setting) where
         let small = l.plan.layout.small in
         let kept = l.plan.layout.kept in
         let at = l.plan.layout.temporaries in
-        ran t fs program p q owed top1 (top1 + 8) b1.body.back others1 list1 mid y1 x y.frame 8
-        (run_3.0, run_3.1, (x, run_2.1, refl))
+        ran t fs program p q owed top1 (top1 + 8) b1.body.back others1 list1 mid y1 x y.frame
+        y.frame 8 (run_3.0, run_3.1, (x, run_2.1, refl))
         ((refl, inl refl), ((near slot (omega arith), inl refl), tt))
         (subst (λ n. HasCode y1.memory n mid) place code) kept_base.has beneath_1 refl refl
-        (codes_above setting (FuncletBody k) f.body (ap funclet_body l.there)
+        (omega arith) (codes_above setting (FuncletBody k) f.body (ap funclet_body l.there)
         (register y1.cpu Rsp)) finds
 
     -- the store leads to another memory, in which the same list is
