@@ -1,5 +1,5 @@
 -- Rows that were gathered are left out of a scope table.
-use Rattle.std.proofs.Common.{◌≡◌, ℕ, zero, suc, ◌+◌, ◌-◌, ◌*◌, ◌<◌, ◌≤◌, ◌⊎◌, true, List, [], ◌∷◌, length, take, drop, get_or, refl, sym, ap, subst, ◌∙◌, arith, inl, inr}
+use Rattle.std.proofs.Common.{◌≡◌, ℕ, zero, suc, ◌+◌, ◌-◌, ◌*◌, ◌<◌, ◌≤◌, ◌⊎◌, true, eqb, List, [], ◌∷◌, length, take, drop, get_or, refl, sym, ap, subst, ◌∙◌, arith, inl, inr}
 use Rattle.std.proofs.lemmas.List.{drop-drop, drop_all, get_or-drop, length-drop}
 use Rattle.pe_image.specs.Image.{Image}
 use Rattle.eh_tables.specs.Records.{AreAt, record_at}
@@ -25,7 +25,7 @@ rows_split : (m : ℕ) (rows : List ScopeRecord) (fs : List Funclet)
     → of_rows rows fs ≡ of_rows (drop m rows) (of_rows (take m rows) fs)
 rows_split zero rows fs = refl
 rows_split (suc m) [] fs = refl
-rows_split (suc m) (r ∷ rows) fs = rows_split m rows (with_row r fs (r.handler_address == 1))
+rows_split (suc m) (r ∷ rows) fs = rows_split m rows (with_row r fs (eqb r.handler_address 1))
 
 gathered_at : (rows : List ScopeRecord) (fs : List Funclet) (k : ℕ) → AreGathered rows fs
     → k < length rows → has_row (get_or rows k no_record) fs ≡ true
@@ -47,7 +47,7 @@ module _ (image : Image) (seen : SeenRecords) (at : ℕ) (rows : List ScopeRecor
         let after : row + m ≡ from = omega arith in
         let later : from + (to - from) ≡ to = omega arith in
         sym (rows_skipped m (drop row rows) fs up (omega (arith, length-drop row rows)) (λ k lt.
-        ap (λ r. has_row r fs) (get_or-drop row rows k no_record
+        ap (λ (r : ScopeRecord). has_row r fs) (get_or-drop row rows k no_record
         ∙ placed (row + k) no_record (omega arith))
         ∙ were (at + 16 * (row + k)) (seen_there (row + k) (omega arith) (omega arith)))
         ∙ ap (λ (t : List ScopeRecord). of_rows t fs) (drop-drop m row rows
@@ -64,17 +64,18 @@ module _ (image : Image) (seen : SeenRecords) (at : ℕ) (rows : List ScopeRecor
         ∙ rows_keep_row (record_at image rva) more fs (were rva was)
 
   -- with the rows of the table
-  pub table_seen : (new : SeenRecords) (fs gs : List Funclet) → gs ≡ of_rows rows fs
-      → AreRowsSeen image seen gs
-      → ((rva : ℕ) → WasSeen new rva → WasSeen seen rva ⊎ IsRecordOf at (length rows) rva)
+  pub table_seen : (new : SeenRecords) (count : ℕ) (fs gs : List Funclet) → count ≡ length rows
+      → gs ≡ of_rows rows fs → AreRowsSeen image seen gs
+      → ((rva : ℕ) → WasSeen new rva → WasSeen seen rva ⊎ IsRecordOf at count rva)
       → AreRowsSeen image new gs
-  table_seen new fs gs is were from rva was = elim (from rva was) [
+  table_seen new count fs gs e is were from rva was = elim (from rva was) [
     | inl old ↦ were rva old
     | inr one ↦
+        let within : one.row < length rows = omega (arith, one.within) in
         ap (λ a. has_row (record_at image a) gs) one.is
-        ∙ ap (λ r. has_row r gs) (sym (placed one.row no_record one.within))
+        ∙ ap (λ (r : ScopeRecord). has_row r gs) (sym (placed one.row no_record within))
         ∙ ap (has_row (get_or rows one.row no_record)) is
-        ∙ gathered_at rows (of_rows rows fs) one.row (rows_gathered rows fs) one.within
+        ∙ gathered_at rows (of_rows rows fs) one.row (rows_gathered rows fs) within
   ]
 
 pub rows_done : (row : ℕ) (rows : List ScopeRecord) (fs gs : List Funclet) → length rows ≤ row

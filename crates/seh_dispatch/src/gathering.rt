@@ -84,7 +84,8 @@ fn add_unseen(
         add_rows(gathered, info.scopes().from_row(from).first_rows(to - from))?;
         row = to;
     }
-    seen.add(at, count)
+    seen.add(at, count)?;
+    Ok(())
 }
 
 /// The kinds of an image's funclets by their addresses. The rows of an unwind info that entries

@@ -135,8 +135,8 @@ fn refuses_entries(rt: HostRuntime) {
 }
 
 /// Infos whose scope tables overlap. Those at 0, 10, 20 and 30 have the bytes of the ones behind
-/// them as records, the first of 3, the last of none. Those at 40, with two records, and at 54, with
-/// one, overlap by 12 bytes of a record.
+/// them as records, the first of 3, the last of none. That at 40 has two records, and that at 54
+/// one, which lies across these.
 const OVERLAPPING: &str = r"
 09000000 00360000 03000000 00000000
 09000000 00360000 02000000 00000000
