@@ -1,6 +1,6 @@
 /*
  * refuse_memory IMAGE: refuses each allocation of a call in turn. The call has to answer
- * SEH_NO_MEMORY then, and to write nothing.
+ * SEH_NO_MEMORY then, and to write nothing; seh_scopes that it has written none.
  */
 #define _GNU_SOURCE
 #include "seh.h"
@@ -33,32 +33,63 @@ void *realloc(void *at, size_t size)
 }
 
 static uint8_t file[1 << 22], stack[64];
+static size_t size;
+
+/* what the calls write */
+static seh_frame frame;
+static seh_verdict verdict;
+static uint64_t written;
+
+static seh_status unwind(void)
+{
+    seh_range range = {0x1000, stack, sizeof stack};
+    seh_context context = {.rip = 0x140001000, .rsp = 0x1000};
+
+    return seh_unwind(file, size, false, 0x140000000, &range, 1, &context, &frame);
+}
+
+static seh_status validate(void)
+{
+    return seh_validate(file, size, false, file, 0, &verdict);
+}
+
+static seh_status scopes(void)
+{
+    seh_scope scope;
+
+    return seh_scopes(file, size, false, 0x1000, &scope, 1, &written);
+}
+
+/* How many answers of a call are wrong. */
+static long refuse(const char *name, seh_status (*call)(void), void *answer, size_t answer_size)
+{
+    static uint8_t before[sizeof(seh_frame)];
+    long all, wrong = 0;
+
+    asked = 0;
+    if (call().code == SEH_NO_MEMORY)
+        wrong++;
+    all = asked;
+    memset(before, 0, sizeof before);
+    for (long k = 0; k < all; k++) {
+        memset(answer, 0, answer_size);
+        granted = k;
+        if (call().code != SEH_NO_MEMORY || memcmp(answer, before, answer_size) != 0)
+            wrong++;
+        granted = -1;
+    }
+    printf("%s: %ld allocations refused, %ld wrong answers\n", name, all, wrong);
+    return wrong;
+}
 
 int main(int argc, char **argv)
 {
     FILE *in = argc == 2 ? fopen(argv[1], "rb") : NULL;
-    size_t size = in ? fread(file, 1, sizeof file, in) : 0;
-    seh_range range = {0x1000, stack, sizeof stack};
-    seh_context context = {.rip = 0x140001000, .rsp = 0x1000};
-    seh_frame frame, before;
-    seh_status status;
-    long all, wrong = 0;
+    long wrong;
 
-    memset(&before, 0xEE, sizeof before);
-    frame = before;
-    asked = 0;
-    status = seh_unwind(file, size, false, 0x140000000, &range, 1, &context, &frame);
-    all = asked;
-    if (status.code == SEH_NO_MEMORY)
-        wrong++;
-    for (long k = 0; k < all; k++) {
-        frame = before;
-        granted = k;
-        status = seh_unwind(file, size, false, 0x140000000, &range, 1, &context, &frame);
-        granted = -1;
-        if (status.code != SEH_NO_MEMORY || memcmp(&frame, &before, sizeof frame) != 0)
-            wrong++;
-    }
-    printf("%ld allocations refused, %ld wrong answers\n", all, wrong);
+    size = in ? fread(file, 1, sizeof file, in) : 0;
+    wrong = refuse("seh_unwind", unwind, &frame, sizeof frame);
+    wrong += refuse("seh_validate", validate, &verdict, sizeof verdict);
+    wrong += refuse("seh_scopes", scopes, &written, sizeof written);
     return wrong != 0;
 }

@@ -3,3 +3,4 @@ pub mod FramesMore
 pub mod Opened
 pub mod RangesHeld
 pub mod Rests
+pub mod Validated

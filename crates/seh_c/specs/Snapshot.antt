@@ -24,8 +24,8 @@ byte_by (b ∷ bs) code = b
 byte_by [] (c ∷ cs) = c
 byte_by [] [] = 0
 
--- the bytes of ranges, which may be read and fetched; elsewhere those that an image stores, which may
--- be fetched
+-- the bytes of ranges, which may be read and fetched; elsewhere those that an image stores, which
+-- may be fetched
 abbrev pub snapshot : Image → ℕ → List SehRange → Memory
 snapshot image base ranges =
     record {

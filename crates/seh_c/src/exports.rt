@@ -7,17 +7,19 @@ ghost use Rattle.seh_c.specs.Callers.{unwound, found_in};
 ghost use Rattle.seh_c.specs.Openings.{checked};
 ghost use Rattle.seh_c.specs.Scopes.{scopes_in, ScopeAnswers};
 ghost use Rattle.seh_c.specs.Shapes as spec;
+ghost use Rattle.seh_c.specs.Validations.{VerdictAnswers};
 ghost use Rattle.seh_c.specs.Walks.{walked_in};
 
 use crate::c_types::{
-    SehContext, SehFrame, SehFunction, SehImage, SehRange, SehScope, SehStatus, c_frame, layout_of,
-    machine_context,
+    SehContext, SehFrame, SehFunction, SehImage, SehRange, SehScope, SehStatus, SehVerdict,
+    c_frame, layout_of, machine_context,
 };
 use crate::finding::find;
 use crate::opening::check;
 use crate::refusal::{NO_FUNCTION, OK, status_of};
 use crate::scopes::find_scopes;
 use crate::unwinding::unwind;
+use crate::validating::{c_verdict, validate};
 use crate::walking::walk_image;
 use std::alloc::Global;
 
@@ -33,7 +35,8 @@ pub extern "C" fn seh_unwind(
     frame: &mut SehFrame,
 ) -> SehStatus
     ensures { Answers
-        (unwound (spec.layout_of mapped) bytes.now base ranges.now (spec.machine_context context.now))
+        (unwound (spec.layout_of mapped) bytes.now base ranges.now
+        (spec.machine_context context.now))
         frame.old frame.new result }
 {
     match unwind(
@@ -65,7 +68,8 @@ pub extern "C" fn seh_walk(
     count: &mut u64,
 ) -> SehStatus
     ensures { WalkAnswers
-        (walked_in (spec.layout_of mapped) bytes.now base ranges.now (spec.machine_context context.now) frames.old)
+        (walked_in (spec.layout_of mapped) bytes.now base ranges.now
+        (spec.machine_context context.now) frames.old)
         frames.old frames.new count.new result }
 {
     match walk_image(
@@ -97,7 +101,8 @@ pub extern "C" fn seh_find_function(
     rva: u32,
     function: &mut SehFunction,
 ) -> SehStatus
-    ensures { FunctionAnswers (found_in (spec.layout_of mapped) bytes.now rva) function.old function.new result }
+    ensures { FunctionAnswers (found_in (spec.layout_of mapped) bytes.now rva) function.old
+        function.new result }
 {
     match find(alloc, layout_of(mapped), bytes, rva) {
         Ok(Some(found)) => {
@@ -138,8 +143,8 @@ pub extern "C" fn seh_scopes(
     scopes: &mut [SehScope],
     count: &mut u64,
 ) -> SehStatus
-    ensures { ScopeAnswers (scopes_in (spec.layout_of mapped) bytes.now rva scopes.old) scopes.old scopes.new count.new
-        result }
+    ensures { ScopeAnswers (scopes_in (spec.layout_of mapped) bytes.now rva scopes.old) scopes.old
+        scopes.new count.new result }
 {
     match find_scopes(alloc, layout_of(mapped), bytes, rva, scopes) {
         Ok(filled) => {
@@ -150,5 +155,28 @@ pub extern "C" fn seh_scopes(
             *count = 0;
             status_of(refusal)
         }
+    }
+}
+
+/// Whether the code of an image keeps its unwind information. `probe` has the bytes of the stack
+/// probe, `__chkstk`.
+#[tactic(auto, using(crate::proofs::Validated::gives_verdict, crate::proofs::Validated::gives_none))]
+#[unsafe(no_mangle)]
+pub extern "C" fn seh_validate(
+    alloc: Global,
+    bytes: &[u8],
+    mapped: bool,
+    probe: &[u8],
+    verdict: &mut SehVerdict,
+) -> SehStatus
+    ensures { VerdictAnswers (spec.layout_of mapped) bytes.now probe.now verdict.old verdict.new
+        result }
+{
+    match validate(alloc, layout_of(mapped), bytes, probe) {
+        Ok(found) => {
+            *verdict = c_verdict(found);
+            OK
+        }
+        Err(refusal) => status_of(refusal),
     }
 }

@@ -6,12 +6,20 @@ use Rattle.seh_dispatch.proofs.SeenRows.{row_reached, rows_stay_seen, table_seen
 use Rattle.seh_dispatch.proofs.gathering.add_unseen.Goals as goal
 
 pub next_unseen-from-requires-clause-fits : goal.next_unseen-from-requires-clause-fits
-next_unseen-from-requires-clause-fits c = omega (arith, c.scope_records_rva-at.ensures.fits,
-    c.scopes.ensures.fits, c.len-count.ensures)
+next_unseen-from-requires-clause-fits c = omega (
+  arith,
+  c.scope_records_rva-at.ensures.fits,
+  c.scopes.ensures.fits,
+  c.len-count.ensures,
+)
 
 pub add-requires : goal.add-requires
-add-requires c = omega (arith, c.scope_records_rva-at.ensures.fits, c.scopes.ensures.fits,
-    c.len-count.ensures)
+add-requires c = omega (
+  arith,
+  c.scope_records_rva-at.ensures.fits,
+  c.scopes.ensures.fits,
+  c.len-count.ensures,
+)
 
 pub loop-row-preserved : goal.loop-row-preserved
 loop-row-preserved c =
