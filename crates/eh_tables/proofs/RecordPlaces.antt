@@ -31,8 +31,11 @@ records_stored image rva n size at up le is k d lt =
     let xs = stored_in rva (section_at rva image.sections) in
     let some : length (take size (drop n xs)) ≡ size = length-take-le size (drop n xs)
     (omega (arith, length-drop n xs)) in
-    let fewer : k < length (take size (drop n xs)) / 16 = omega (arith, row_count
-    (length (take size (drop n xs)) / 16) (take size (drop n xs))) in
+    let fewer : k < length (take size (drop n xs)) / 16 = omega (
+      arith,
+      row_count
+          (length (take size (drop n xs)) / 16) (take size (drop n xs)),
+    ) in
     let within : 16 * k + 16 ≤ size = omega arith in
     let here : rva + (n + 16 * k) ≡ at + 16 * k = omega arith in
     row_at (length (take size (drop n xs)) / 16) k (16 * k) (take size (drop n xs)) d fewer refl
@@ -62,10 +65,6 @@ module _ (image : Image) (rva at : ℕ) (xs : List ℕ)
   cut : (n : ℕ) → length xs < n → stored image.sections rva n ≡ None
   cut n lt = stored_as n None (ap (only_if (take n xs)) (ne_eqb (length (take n xs)) n
       (λ e. absurd (omega (arith, length-take n xs)))))
-
-  pub count_cut : length xs < at + 4 → scope_records_at image rva at ≡ Err (refusals.Truncated rva)
-  count_cut lt = ap (λ (o : Option (List ℕ)). or_refused o (refusals.Truncated rva) >>= λ c.
-      all_or (stored image.sections rva (at + 4 + 16 * field 4 c at))) (cut (at + 4) lt)
 
   -- by their count
   counted : at + 4 ≤ length xs → scope_records_at image rva at

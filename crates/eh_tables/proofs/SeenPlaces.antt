@@ -1,5 +1,5 @@
 -- Runs of places, and the records that have them.
-use Rattle.std.proofs.Common.{◌≡◌, ℕ, ◌+◌, ◌-◌, ◌*◌, ◌/◌, ◌%◌, ◌^◌, ◌<◌, ◌≤◌, ◌⊎◌, ◌≢◌, true, false, Some, None, Option, cond, min, max, [], sym, ap, ◌∙◌, arith, inl, inr}
+use Rattle.std.proofs.Common.{◌≡◌, ℕ, ◌+◌, ◌-◌, ◌*◌, ◌/◌, ◌^◌, ◌<◌, ◌≤◌, ◌⊎◌, ◌≢◌, true, false, Some, None, Option, cond, min, max, [], sym, ap, ◌∙◌, arith, inl, inr}
 use Rattle.std.specs.Ordering.{nat_cmp, is_eq}
 use Rattle.std.specs.declared.cmp.Ordering.TheVariants.{Less, Equal, Greater}
 use Rattle.std.specs.Cmp.{nat_cmp_is}
@@ -42,9 +42,6 @@ record_of rva count at fits small from to = record {
 none : {X : Type 0} (x : ℕ) → (let o : Option ℕ = None in o) ≡ Some x → X
 none x h = absurd cc
 
-pub in_no_run : (runs : BTreeMap ℕ ℕ) (p : ℕ) → runs.entries ≡ [] → InRun runs p → ⊥
-in_no_run runs p e r = none r.to (sym (ap (lookup (is_at (nat_cmp r.from))) e) ∙ r.run)
-
 -- without one of them
 pub in_other : (old new : BTreeMap ℕ ℕ) (k p : ℕ)
     → ((q : ℕ) → get nat_cmp new q ≡ cond (is_at (nat_cmp k) q) None (get nat_cmp old q))
@@ -53,13 +50,13 @@ in_other old new k p has r = elim (cases_eq r.from k) [
   | inl same ↦ none r.to (sym (has r.from ∙ ap (λ b. cond b None (get nat_cmp old r.from))
       (here k r.from same)) ∙ r.run)
   | inr other ↦ record {
-      from = r.from;
-      to = r.to;
-      run = sym (has r.from ∙ ap (λ b. cond b None (get nat_cmp old r.from))
-          (elsewhere k r.from other)) ∙ r.run;
-      begun = r.begun;
-      goes_on = r.goes_on;
-    }
+    from = r.from;
+    to = r.to;
+    run = sym (has r.from ∙ ap (λ b. cond b None (get nat_cmp old r.from))
+        (elsewhere k r.from other)) ∙ r.run;
+    begun = r.begun;
+    goes_on = r.goes_on;
+  }
 ]
 
 -- with one more
@@ -75,13 +72,13 @@ in_more old new k x p has r = elim (cases_eq r.from k) [
       let to = r.goes_on in
       inr (omega arith, omega arith)
   | inr other ↦ inl (record {
-      from = r.from;
-      to = r.to;
-      run = sym (has r.from ∙ ap (λ b. cond b (Some x) (get nat_cmp old r.from))
-          (elsewhere k r.from other)) ∙ r.run;
-      begun = r.begun;
-      goes_on = r.goes_on;
-    })
+    from = r.from;
+    to = r.to;
+    run = sym (has r.from ∙ ap (λ b. cond b (Some x) (get nat_cmp old r.from))
+        (elsewhere k r.from other)) ∙ r.run;
+    begun = r.begun;
+    goes_on = r.goes_on;
+  })
 ]
 
 -- ---- runs that are joined
@@ -100,12 +97,12 @@ one_joined old now begin end first last from to low high kept before run f t g h
       | inl less ↦ before p (omega arith) (omega arith)
       | inr ge ↦ elim (cases_lt p to) [
         | inl inside ↦ inl (kept p (record {
-            from = from;
-            to = to;
-            run = run;
-            begun = ge;
-            goes_on = inside;
-          }))
+          from = from;
+          to = to;
+          run = run;
+          begun = ge;
+          goes_on = inside;
+        }))
         | inr past ↦ before p (omega arith) (omega arith)
       ]
     ]

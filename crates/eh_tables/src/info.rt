@@ -281,12 +281,7 @@ pub fn read_before_records<'a>(
 }
 
 /// Checks the scope records of an info, unless they are known to pass.
-fn check_own_records(
-    index: u64,
-    size: u64,
-    info: &Info<'_>,
-    is_known: bool,
-) -> Result<(), TableErr>
+fn check_own_records(index: u64, size: u64, info: &Info<'_>, is_known: bool) -> Result<(), TableErr>
     requires { is_known ≡ true → IsOk (scopes.checked index size 0 info.now.scopes) }
     ensures { result ≡ scopes.checked index size 0 info.now.scopes }
 {

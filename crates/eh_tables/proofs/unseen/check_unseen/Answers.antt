@@ -1,16 +1,24 @@
-use Rattle.std.proofs.Common.{◌≡◌, ℕ, ◌-◌, ◌≤◌, ◌<◌, length, take, drop, Ok, sym, ap, subst, ◌∙◌, arith}
+use Rattle.std.proofs.Common.{◌≡◌, ◌-◌, length, take, drop, sym, ap, subst, ◌∙◌, arith}
 use Rattle.eh_tables.specs.Records.{AreAt}
 use Rattle.eh_tables.specs.Scopes.{checked}
 use Rattle.eh_tables.proofs.UnseenRecords.{row_passed, row_refused, past_rows, all_pass}
 use Rattle.eh_tables.proofs.unseen.check_unseen.Goals as goal
 
 pub next_unseen-from-requires-clause-fits : goal.next_unseen-from-requires-clause-fits
-next_unseen-from-requires-clause-fits c = omega (arith, c.scope_records_rva-at.ensures.fits,
-    c.scopes.ensures.fits, c.len-count.ensures)
+next_unseen-from-requires-clause-fits c = omega (
+  arith,
+  c.scope_records_rva-at.ensures.fits,
+  c.scopes.ensures.fits,
+  c.len-count.ensures,
+)
 
 pub add-requires : goal.add-requires
-add-requires c = omega (arith, c.scope_records_rva-at.ensures.fits, c.scopes.ensures.fits,
-    c.len-count.ensures)
+add-requires c = omega (
+  arith,
+  c.scope_records_rva-at.ensures.fits,
+  c.scopes.ensures.fits,
+  c.len-count.ensures,
+)
 
 pub returns-in-Err-clause-answer : goal.returns-in-Err-clause-answer
 returns-in-Err-clause-answer c =
