@@ -1,5 +1,5 @@
 -- An info is read in two steps: all but its scope records, and these.
-use Rattle.std.proofs.Common.{◌≡◌, ℕ, true, Ok, Err, List, refl, sym, ap, ◌∙◌}
+use Rattle.std.proofs.Common.{◌≡◌, ℕ, Ok, Err, List, refl, ap, ◌∙◌}
 use Rattle.std.specs.Prelude.{is_ok, IsOk}
 use Rattle.pe_image.specs.Image.{Image}
 use Rattle.eh_tables.specs.Words.{TableErr, ◌>>=◌, Table, Info, info, info_of, stored_info, stored_scope_records, scope_records_in}

@@ -2,7 +2,7 @@
 use Rattle.std.proofs.Common.{◌≡◌, ℕ, zero, suc, ◌+◌, ◌≤◌, ◌<◌, Bool, true, false, Option, Some, None, Ok, Err, List, [], ◌∷◌, length, drop, drop-cons, get_or, refl, sym, ap, ◌∙◌, arith}
 use Rattle.std.specs.Prelude.{nat_le, nat_lt}
 use Rattle.std.proofs.lemmas.Bool.{ltb-true, leb-true}
-use Rattle.eh_tables.specs.Words.{RuntimeFunction, TableErr, ◌>>=◌, unless, Image, Table, Info, info, Entry, parents, Tables, entry_at, no_range, end_before, covers_address}
+use Rattle.eh_tables.specs.Words.{RuntimeFunction, TableErr, ◌>>=◌, unless, Table, Info, info, Entry, parents, Tables, entry_at, no_range, end_before, covers_address}
 use Rattle.eh_tables.specs.declared.refusal.TableErr.TheVariants as refusals
 use Rattle.eh_tables.specs.Known.{range_checked}
 use Rattle.eh_tables.specs.declared.lookup.FunctionEntry.{FunctionEntry}

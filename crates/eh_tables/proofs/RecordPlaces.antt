@@ -66,10 +66,6 @@ module _ (image : Image) (rva at : ℕ) (xs : List ℕ)
   cut n lt = stored_as n None (ap (only_if (take n xs)) (ne_eqb (length (take n xs)) n
       (λ e. absurd (omega (arith, length-take n xs)))))
 
-  pub count_cut : length xs < at + 4 → scope_records_at image rva at ≡ Err (refusals.Truncated rva)
-  count_cut lt = ap (λ (o : Option (List ℕ)). or_refused o (refusals.Truncated rva) >>= λ c.
-      all_or (stored image.sections rva (at + 4 + 16 * field 4 c at))) (cut (at + 4) lt)
-
   -- by their count
   counted : at + 4 ≤ length xs → scope_records_at image rva at
       ≡ all_or (stored image.sections rva (at + 4 + 16 * field 4 xs at))

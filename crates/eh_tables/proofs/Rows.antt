@@ -5,7 +5,8 @@ use Rattle.byteorder.specs.Endian.{little_from}
 use Rattle.eh_tables.specs.Words.{ScopeRecord, scope_record, rows, scope_records_in}
 
 pub number_same : (i n : ℕ) (xs ys : List ℕ)
-    → ((k : ℕ) → k < i + n → get_or xs k 0 ≡ get_or ys k 0) → little_from i n xs ≡ little_from i n ys
+    → ((k : ℕ) → k < i + n → get_or xs k 0 ≡ get_or ys k 0)
+    → little_from i n xs ≡ little_from i n ys
 number_same i zero xs ys same = refl
 number_same i (suc n) xs ys same =
     ap (λ a. a + 256 * little_from (suc i) n xs) (same i (omega arith))

@@ -1,10 +1,9 @@
 -- Runs of places, and the records that have them.
-use Rattle.std.proofs.Common.{◌≡◌, ℕ, ◌+◌, ◌-◌, ◌*◌, ◌/◌, ◌%◌, ◌^◌, ◌<◌, ◌≤◌, ◌⊎◌, ◌≢◌, true, false, Some, None, Option, cond, min, max, [], sym, ap, ◌∙◌, arith, inl, inr}
+use Rattle.std.proofs.Common.{◌≡◌, ℕ, ◌+◌, ◌-◌, ◌*◌, ◌/◌, ◌^◌, ◌<◌, ◌≤◌, ◌⊎◌, ◌≢◌, true, false, Some, None, Option, cond, min, max, sym, ap, ◌∙◌, arith, inl, inr}
 use Rattle.std.specs.Ordering.{nat_cmp, is_eq}
 use Rattle.std.specs.declared.cmp.Ordering.TheVariants.{Less, Equal, Greater}
 use Rattle.std.specs.Cmp.{nat_cmp_is}
 use Rattle.std.specs.BTreeMap.{BTreeMap, get, is_at}
-use Rattle.std.specs.Map.{lookup}
 use Rattle.std.proofs.lemmas.Bool.{cases_eq, cases_lt, cases_order}
 use Rattle.eh_tables.specs.declared.seen_records.SeenRecords.{SeenRecords}
 use Rattle.eh_tables.specs.SeenRecords.{place, InRun, WasSeen, IsRecordOf}
@@ -25,10 +24,6 @@ elsewhere k q n = elim (cases_order k q) [
 
 -- ---- places
 
-pub place_of_row : (rva count k : ℕ) → rva / 16 + count < 2 ^ 60 → k < count
-    → place (rva + 16 * k) ≡ place rva + k
-place_of_row rva count k fits lt = omega arith
-
 pub record_of : (rva count at : ℕ) → rva / 16 + count < 2 ^ 60 → at < 2 ^ 64 → place rva ≤ place at
     → place at < place rva + count → IsRecordOf rva count at
 record_of rva count at fits small from to = record {
@@ -41,9 +36,6 @@ record_of rva count at fits small from to = record {
 
 none : {X : Type 0} (x : ℕ) → (let o : Option ℕ = None in o) ≡ Some x → X
 none x h = absurd cc
-
-pub in_no_run : (runs : BTreeMap ℕ ℕ) (p : ℕ) → runs.entries ≡ [] → InRun runs p → ⊥
-in_no_run runs p e r = none r.to (sym (ap (lookup (is_at (nat_cmp r.from))) e) ∙ r.run)
 
 -- without one of them
 pub in_other : (old new : BTreeMap ℕ ℕ) (k p : ℕ)

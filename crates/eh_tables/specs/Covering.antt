@@ -1,5 +1,5 @@
 -- The entry whose range covers an address, by the ranges alone: no other entry is read.
-use Rattle.std.specs.Prelude.{◌≡◌, ℕ, ◌+◌, Bool, true, false, List, [], ◌∷◌, slice_index_or, Option, Some, None, Ok, Err}
+use Rattle.std.specs.Prelude.{◌≡◌, ℕ, ◌+◌, Bool, true, false, List, [], ◌∷◌, slice_index_or, Option, Some, None, Ok}
 use Rattle.seh_num.specs.Answers.{◌>>=◌}
 use Rattle.eh_tables.specs.declared.range.RuntimeFunction.{RuntimeFunction}
 use Rattle.eh_tables.specs.declared.lookup.FunctionEntry.{FunctionEntry}

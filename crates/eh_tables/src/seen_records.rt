@@ -1,4 +1,4 @@
-//! Scope records that were gone over, so that those of scope tables that overlap are gone over once.
+//! Scope records that were gone over, so that those that scope tables share are gone over once.
 
 ghost use Rattle.std.specs.Prelude.{◌≡◌, ℕ, ◌+◌, ◌*◌, ◌/◌, ◌≤◌, ◌<◌, ◌^◌, ◌⊎◌, Some, IfSome};
 ghost use Rattle.std.specs.BTreeMap.{get};

@@ -1,4 +1,4 @@
-use Rattle.std.proofs.Common.{◌≡◌, ◌+◌, ◌-◌, ◌*◌, true, Ok, Err, take, drop, ap, arith}
+use Rattle.std.proofs.Common.{◌≡◌, ◌+◌, ◌-◌, ◌*◌, Ok, Err, take, drop, ap, arith}
 use Rattle.eh_tables.specs.declared.refusal.TableErr.TheVariants as refusals
 use Rattle.eh_tables.proofs.RecordPlaces.{rows_cut, rows_whole, rows_placed, by_handler}
 use Rattle.eh_tables.proofs.info.stored_scope_records.Goals as goal

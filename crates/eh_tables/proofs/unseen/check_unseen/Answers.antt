@@ -1,4 +1,4 @@
-use Rattle.std.proofs.Common.{◌≡◌, ℕ, ◌-◌, ◌≤◌, ◌<◌, length, take, drop, Ok, sym, ap, subst, ◌∙◌, arith}
+use Rattle.std.proofs.Common.{◌≡◌, ◌-◌, length, take, drop, sym, ap, subst, ◌∙◌, arith}
 use Rattle.eh_tables.specs.Records.{AreAt}
 use Rattle.eh_tables.specs.Scopes.{checked}
 use Rattle.eh_tables.proofs.UnseenRecords.{row_passed, row_refused, past_rows, all_pass}

@@ -1,4 +1,4 @@
-use Rattle.std.proofs.Common.{◌≡◌, ◌-◌, ◌≤◌, drop, length}
+use Rattle.std.proofs.Common.{◌≡◌, ◌-◌, ◌≤◌, drop}
 use Rattle.eh_tables.specs.Scopes.{checked}
 use Rattle.eh_tables.proofs.unseen.check_unseen.Given as goal
 
