@@ -1,17 +1,16 @@
 -- Each entry of a linked program's image is a function of the right form, in the code of the
 -- image's file.
-use Rattle.std.proofs.Common.{◌≡◌, ℕ, suc, ◌+◌, ◌%◌, ◌^◌, ◌<◌, Bool, true, false, cond, leb, List, [], ◌∷◌, ◌++◌, length, map, Option, Some, None, refl, sym, ap, subst, ◌∙◌, arith}
+use Rattle.std.proofs.Common.{◌≡◌, ℕ, suc, ◌+◌, ◌%◌, ◌^◌, ◌<◌, Bool, true, false, cond, leb, List, [], ◌∷◌, ◌++◌, length, Option, Some, None, refl, sym, ap, subst, ◌∙◌, arith}
 use Rattle.std.specs.Prelude.{slice_get, is_some, count_by}
 use Rattle.std.proofs.lemmas.Bool.{false≢true}
 use Rattle.std.proofs.lemmas.List.Elements.{All-nil, All-cons, All-append}
 use Rattle.std.proofs.lemmas.List.Sums.{sum_by-cons}
 use Rattle.flat_memory.specs.Memory.{Memory}
-use Rattle.x64_instr.specs.declared.instruction.Instr.{Instr}
 use Rattle.x64_encode.specs.Chosen.{modrm, opcode_register}
 use Rattle.eh_tables.specs.declared.code.UnwindOperation.{UnwindOperation}
 use Rattle.eh_tables.specs.Tables.{Entry}
 use Rattle.linear_code.specs.Program.{LinearProgram}
-use Rattle.template_code.specs.Bytes.{spelled, size, sizes}
+use Rattle.template_code.specs.Bytes.{spelled, size}
 use Rattle.template_code.specs.Jumps.{distance}
 use Rattle.template_code.specs.Probing.{check_stack}
 use Rattle.frame_rules.specs.Prologue.{items}
@@ -36,10 +35,10 @@ use Rattle.image_link.specs.Fits.{FitsProgram}
 use Rattle.image_link.specs.Near.{IsSiteNear}
 use Rattle.image_link.specs.Routines.{RoutineView, routines}
 use Rattle.image_link.specs.Tables.{info_bytes}
-use Rattle.image_link.specs.Text.{SiteView, routine_size, service_thunk, front_code, first_routine_at, routines_bytes}
+use Rattle.image_link.specs.Text.{SiteView, routine_size, first_routine_at, routines_bytes}
 use Rattle.image_link.specs.Linked.{services_of, text_begin, linked}
 use Rattle.image_link.proofs.Entries.{routine_small}
-use Rattle.image_link.proofs.Front.{services_few, thunks_size}
+use Rattle.image_link.proofs.Front.{services_few}
 use Rattle.image_link.proofs.Images.{site_near, has_places}
 use Rattle.image_link.proofs.Nearness.{routines_near}
 use Rattle.image_tables.specs.CodeInMemory.{image_base, HasText}
@@ -48,12 +47,13 @@ use Rattle.image_tables.specs.FrameLaws.{IsFramed}
 use Rattle.image_tables.specs.Functions.{plan, function_of}
 use Rattle.image_tables.specs.RoutinePlaces.{Placed, end_of, site_of, placed_from, infos_begin, placed, routines_begin, probe_begin}
 use Rattle.image_tables.specs.RegionRanges.{HasRegions}
-use Rattle.image_tables.proofs.CodeInMemory.{executable_split, code_split, there}
+use Rattle.image_tables.proofs.CodeInMemory.{there}
 use Rattle.image_tables.proofs.FrameRules.{one_code, sizes as frame_sizes, right, is_there}
 use Rattle.image_tables.proofs.ImageText.{images_have_text}
 use Rattle.image_tables.proofs.Infos.{taking_few}
 use Rattle.image_tables.proofs.Prologues.{entry_least}
 use Rattle.image_tables.proofs.Table.{tables_are_read}
+use Rattle.seh.proofs.FrontThunks.{probe_after}
 
 -- ---- the stack probe, after the thunks in the front of the text
 
@@ -62,13 +62,10 @@ probe_is_at : (p : LinearProgram) (m : Memory) → HasText m p
 probe_is_at p m text =
     let s = site_of p in
     let begin = image_base + text_begin p.globals in
-    let front = executable_split m begin (spelled (front_code s.imports s.text s.rdata))
-    (routines_bytes s (first_routine_at s.imports s.text) (routines p)) text in
-    let thunks = map (service_thunk s.imports s.text s.rdata) s.imports in
-    let last = code_split m begin thunks check_stack front.0 in
-    let size = thunks_size s.imports s.text s.rdata s.imports in
-    let at : begin + sizes thunks ≡ image_base + probe_begin p = omega arith in
-    subst (λ (n : ℕ). IsExecutableAt m n (spelled check_stack)) at last.1
+    let bytes = routines_bytes s (first_routine_at s.imports s.text) (routines p) in
+    let at : begin + 6 * length s.imports ≡ image_base + probe_begin p = omega arith in
+    subst (λ (n : ℕ). IsExecutableAt m n (spelled check_stack)) at
+    (probe_after s.imports s.text s.rdata m begin bytes text)
 
 module _ (p : LinearProgram) (fits : FitsProgram p) (b : IsBounded (image_of (linked p))) where
   abbrev image : Image

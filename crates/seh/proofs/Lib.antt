@@ -3,6 +3,7 @@ pub mod Shown
 pub mod Inputs
 pub mod Images
 pub mod CompiledEntries
+mod FrontThunks
 pub mod UncoveredRoutines
 pub mod Compiled
 pub mod Headline

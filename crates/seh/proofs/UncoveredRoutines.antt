@@ -1,37 +1,32 @@
 -- Each byte of a linked program's text that no entry covers is in a leaf function, in the thunk of
 -- a service, or in `__chkstk`.
-use Rattle.std.proofs.Common.{◌≡◌, ◌⊎◌, inl, inr, ℕ, zero, suc, ◌+◌, ◌^◌, ◌<◌, ◌≤◌, Bool, true, false, List, [], ◌∷◌, ◌++◌, length, map, Option, Some, None, refl, sym, ap, subst, ◌∙◌, arith}
+use Rattle.std.proofs.Common.{◌≡◌, inl, inr, ℕ, zero, suc, ◌+◌, ◌^◌, ◌<◌, ◌≤◌, true, false, List, [], ◌∷◌, ◌++◌, length, Option, Some, None, refl, sym, ap, subst, ◌∙◌, arith}
 use Rattle.std.specs.Prelude.{slice_get}
-use Rattle.std.proofs.lemmas.Bool.{cases_lt, and_from, false≢true}
+use Rattle.std.proofs.lemmas.Bool.{cases_lt, false≢true}
 use Rattle.flat_memory.specs.Memory.{Memory}
 use Rattle.x64_instr.specs.declared.instruction.Instr.{Instr}
-use Rattle.x64_encode.specs.Chosen.{chosen, is_encodable, modrm}
-use Rattle.eh_tables.specs.Tables.{Entry, holding}
+use Rattle.eh_tables.specs.Tables.{holding}
 use Rattle.virtual_unwind.specs.Tail.{FetchedInstr}
 use Rattle.frame_rules.specs.Body.{Body, following, is_body}
-use Rattle.frame_rules.specs.Plan.{spelled_by, all_encodable}
+use Rattle.frame_rules.specs.Plan.{spelled_by}
 use Rattle.frame_rules.specs.Bytes.{spell, IsExecutableAt}
 use Rattle.frame_rules.specs.States.{HasItems}
 use Rattle.frame_rules.proofs.Bytes.{items_are_at}
 use Rattle.host_layout.specs.declared.imported.ImportedService.{ImportedService}
 use Rattle.linear_code.specs.Program.{LinearProgram}
-use Rattle.template_code.specs.Bytes.{spelled, sizes}
+use Rattle.template_code.specs.Bytes.{spelled}
 use Rattle.template_code.specs.Jumps.{distance}
-use Rattle.template_code.specs.Probing.{check_stack}
 use Rattle.template_code.specs.Template.{code_from}
 use Rattle.frame_layout.specs.declared.frame.FrameLayout.{FrameLayout}
-use Rattle.pe_write.specs.ImportTables.{slot_of}
-use Rattle.x64_emit.specs.declared.entry.TheConstants.{THUNK_SIZE}
-use Rattle.x64_emit.proofs.Nearby.{near_signed}
 use Rattle.image_link.specs.Fits.{FitsProgram}
 use Rattle.image_link.specs.Near.{IsSiteNear}
 use Rattle.image_link.specs.Routines.{RoutineView, routines}
 use Rattle.image_link.specs.Tables.{info_bytes}
-use Rattle.image_link.specs.Text.{SiteView, routine_size, frame_code, argument_code, service_thunk, thunk_at, front_code, front_size, routine_code, routines_bytes}
+use Rattle.image_link.specs.Text.{SiteView, routine_size, frame_code, argument_code, front_code, front_size, routine_code, routines_bytes}
 use Rattle.image_link.specs.Linked.{services_of, text_begin, linked, total}
 use Rattle.image_link.proofs.Bounds.{text_length}
 use Rattle.image_link.proofs.Entries.{routine_small}
-use Rattle.image_link.proofs.Front.{front_sizes, imports_small, services_few, services_there}
+use Rattle.image_link.proofs.Front.{services_few, services_there}
 use Rattle.image_link.proofs.Images.{site_near, has_places}
 use Rattle.image_link.proofs.Nearness.{routines_near}
 use Rattle.pe_image.specs.Image.{Image, Section, is_executable}
@@ -40,18 +35,16 @@ use Rattle.host_model.specs.Loading.{mapped}
 use Rattle.image_code.proofs.ImageBounds.{IsBounded}
 use Rattle.image_code.proofs.LoadedItems.{items_there}
 use Rattle.image_tables.specs.CodeInMemory.{image_base, HasText, links}
-use Rattle.image_tables.specs.Entries.{entries, entry_of}
-use Rattle.image_tables.specs.Functions.{leaf, thunk_of, probe, rest_of}
+use Rattle.image_tables.specs.Entries.{entries}
+use Rattle.image_tables.specs.Functions.{leaf, rest_of}
 use Rattle.image_tables.specs.RoutinePlaces.{Placed, placed, placed_from, body_begin, end_of, site_of, infos_begin, routines_begin, probe_begin}
-use Rattle.image_tables.proofs.Callers.{thunk_ok, probe_ok}
-use Rattle.image_tables.proofs.CodeInMemory.{executable_split, code_length, routine_is_at, there}
-use Rattle.template_code.proofs.Sizes.{sizes_spelled}
+use Rattle.image_tables.proofs.CodeInMemory.{code_length, routine_is_at, there}
 use Rattle.image_tables.proofs.FrameRules.{plan_near, rest_fine}
-use Rattle.image_tables.proofs.Handlers.{thunk_bytes}
 use Rattle.image_tables.proofs.ImageText.{images_have_text}
 use Rattle.image_tables.proofs.Layouts.{size_of}
 use Rattle.image_tables.proofs.Lookups.{entries_are_held, leaves_are_held_by_none, thunks_are_held_by_none, some_same, none_some}
 use Rattle.seh.specs.UncoveredCode.{IsInRoutine, UncoveredCodeIsRoutines}
+use Rattle.seh.proofs.FrontThunks.{thunk_near, front_there, front_piece as piece_in_front}
 
 -- ---- the routine around an address
 
@@ -86,9 +79,6 @@ around s info at (r ∷ rs) rva le lt = elim (cases_lt rva (at + routine_size r)
 ]
 
 -- ---- instructions in memory
-
-stack_encodable : all_encodable check_stack ≡ true
-stack_encodable = refl
 
 module _ (p : LinearProgram) (fits : FitsProgram p) (m : Memory) (text : HasText m p) where
   abbrev s : SiteView
@@ -130,47 +120,6 @@ module _ (p : LinearProgram) (fits : FitsProgram p) (m : Memory) (text : HasText
         ap is_body leads.1,
       )
 
-  -- the front: thunks of six bytes each, then `__chkstk` of twenty-one
-  abbrev thunk : ImportedService → Instr
-  thunk v = service_thunk s.imports s.text s.rdata v
-
-  thunk_encodable : (v : ImportedService) → is_encodable (thunk v) ≡ true
-  thunk_encodable v =
-      let n = near.text in
-      let r = near.rdata in
-      let few = imports_small s.imports (services_few p) in
-      let there = services_there p v in
-      near_signed (thunk_at s.imports s.text v + THUNK_SIZE) (s.rdata + slot_of s.imports v)
-      (omega arith) (omega arith)
-
-  encodable_from : (ss : List ImportedService) → all_encodable (map thunk ss ++ check_stack) ≡ true
-  encodable_from [] = stack_encodable
-  encodable_from (v ∷ vs) = and_from _ _ (thunk_encodable v) (encodable_from vs)
-
-  front_there : HasItems m (image_base + s.text)
-      (spelled_by spell (front_code s.imports s.text s.rdata)) (image_base + routines_begin p)
-  front_there =
-      let begin = image_base + text_begin p.globals in
-      let is = front_code s.imports s.text s.rdata in
-      let low = near.text in
-      let few = services_few p in
-      let long : length (spelled is) ≡ front_size s.imports = sizes_spelled is
-      ∙ front_sizes s.imports s.text s.rdata in
-      let own = executable_split m begin (spelled is)
-      (routines_bytes s (routines_begin p) (routines p)) text in
-      let end : begin + length (spelled is) ≡ image_base + routines_begin p = omega arith in
-      subst (λ (n : ℕ). HasItems m begin (spelled_by spell is) n) end
-      (items_are_at m begin is (encodable_from s.imports) (omega arith) own.0)
-
-  -- the first of them, and what comes after it
-  one : (at : ℕ) (v : ImportedService) (xs : List FetchedInstr) (to : ℕ)
-      → HasItems m at (spell (thunk v) ∷ xs) to
-      → HasItems m at (thunk_of p v) (at + 6) × HasItems m (at + 6) xs to
-  one at v xs to h =
-      let n : (spell (thunk v)).size ≡ 6 = ap length (thunk_bytes _) in
-      let end : at + (spell (thunk v)).size ≡ at + 6 = omega arith in
-      ((h.0, h.1, end), subst (λ (k : ℕ). HasItems m k xs to) end h.2)
-
   -- ---- around an address
 
   record IsPiece (rva : ℕ) : Type 0 where
@@ -201,29 +150,21 @@ module _ (p : LinearProgram) (fits : FitsProgram p) (m : Memory) (text : HasText
         right = right;
       }
 
-  -- from one of the thunks on
-  front_from : (ss : List ImportedService) (at rva : ℕ)
-      → HasItems m (image_base + at) (spelled_by spell (map thunk ss ++ check_stack))
-      (image_base + routines_begin p)
-      → at + 6 * length ss + 21 ≡ routines_begin p → at ≤ rva → rva < routines_begin p
-      → IsPiece rva
-  front_from [] at rva h end low high =
-      in_front rva at (routines_begin p) probe low high (omega arith) h probe_ok
-  front_from (v ∷ vs) at rva h end low high =
-      let rest = spelled_by spell (map thunk vs ++ check_stack) in
-      let to = image_base + routines_begin p in
-      let next : image_base + at + 6 ≡ image_base + (at + 6) = omega arith in
-      let a = one (image_base + at) v rest to h in
-      elim (cases_lt rva (at + 6)) [
-        | inl before ↦ in_front rva at (at + 6) (thunk_of p v) low before (omega arith)
-            (subst (λ (k : ℕ). HasItems m (image_base + at) (thunk_of p v) k) next a.0)
-            (thunk_ok p v)
-        | inr past ↦ front_from vs (at + 6) rva (subst (λ (k : ℕ). HasItems m k rest to) next a.1)
-            (omega arith) past high
-      ]
-
+  -- the thunks and `__chkstk`
   front_piece : (rva : ℕ) → s.text ≤ rva → rva < routines_begin p → IsPiece rva
-  front_piece rva low high = front_from s.imports s.text rva front_there (omega arith) low high
+  front_piece rva low high =
+      let begin = image_base + s.text in
+      let bytes = routines_bytes s (routines_begin p) (routines p) in
+      let text' = near.text in
+      let fine = λ (v : ImportedService). thunk_near s.imports s.text s.rdata near.imports near.text
+      near.rdata v (services_there p v) in
+      let items = front_there s.imports s.text s.rdata m begin bytes fine (omega arith) text in
+      let to : begin + front_size s.imports ≡ image_base + routines_begin p = omega arith in
+      let x = piece_in_front s.imports s.text s.rdata m image_base (routines_begin p) rva
+      (subst (λ (n : ℕ).
+      HasItems m begin (spelled_by spell (front_code s.imports s.text s.rdata)) n) to items)
+      (omega arith) low high in
+      in_front rva x.begin x.end x.rest x.low x.high x.inside x.there x.right
 
   leaf_piece : (index : ℕ) (x : Placed) (rva : ℕ) → slice_get (placed p) index ≡ Some x
       → x.routine.frame ≡ None → x.begin ≤ rva → rva < end_of x → IsPiece rva
