@@ -31,6 +31,8 @@ pub mod SoundExpressions
 pub mod Regions
 pub mod Segments
 pub mod FuncletNumbers
+pub mod AlikeScopes
+pub mod RegionCovers
 pub mod StatementPlaces
 pub mod ProgramLowering
 pub mod SoundStatements

@@ -13,7 +13,8 @@ use Rattle.lowering_follows.proofs.SoundExpressions.{both_left, both_right}
 use Rattle.lowering_follows.proofs.Segments.{IsSegmentAt, front, back, whole_is_at}
 use Rattle.lowering_follows.proofs.FuncletNumbers.{count_front, count_back}
 use Rattle.lowering_follows.proofs.Regions.{all_outside}
-use Rattle.lowering_follows.proofs.StatementPlaces.{Alike, code_is_at, whole_cover, bare, place_all}
+use Rattle.lowering_follows.proofs.StatementPlaces.{Alike, code_is_at, place_all}
+use Rattle.lowering_follows.proofs.RegionCovers.{whole_cover, bare}
 use Rattle.lowering_follows.proofs.SoundStatements.{inside_function, knows_function}
 
 the_same : {X : Type 0} (x y : X) → Some x ≡ Some y → x ≡ y
@@ -103,14 +104,14 @@ module _ (program : Program) where
       let l = statements_length (scope_of fn) fn.body 1 in
       let wide = length-append code ends in
       let whole = whole_is_at lb.code in
-      let cover = whole_cover program linear rate most (own_locals fn) (FunctionBody k) lb home 0
+      let cover = whole_cover linear (FunctionBody k) lb home 0
       (length lb.code) in
       record {
         parameters = refl;
         locals = refl;
         starts = code_is_at program linear rate most (own_locals fn) (FunctionBody k) lb home [] 0
             (instructions.Separator ∷ []) (whole.0, tt)
-            (λ q lo hi. bare program linear rate most (own_locals fn) (FunctionBody k) []
+            (λ q lo hi. bare linear (FunctionBody k) []
             (statements_regions fn.body 1) q (all_outside fn.body 1 q (inl (omega arith)))
             (cover q lo (omega arith)));
         placed = place_all program linear rate most (own_locals fn) quick fn.body (FunctionBody k)
@@ -121,7 +122,7 @@ module _ (program : Program) where
         ends = code_is_at program linear rate most (own_locals fn) (FunctionBody k) lb home []
             (1 + statements_size fn.body) ends (back lb.code 1 (1 + statements_size fn.body) code
             ends (omega arith) whole.1)
-            (λ q lo hi. bare program linear rate most (own_locals fn) (FunctionBody k) []
+            (λ q lo hi. bare linear (FunctionBody k) []
             (statements_regions fn.body 1) q (all_outside fn.body 1 q (inr (omega arith)))
             (cover q (omega arith) (omega arith)));
         light = light;

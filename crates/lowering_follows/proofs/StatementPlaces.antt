@@ -1,83 +1,36 @@
 -- Code of sound statements that is in a body, with its regions and its funclets, is placed.
-use Rattle.std.proofs.Common.{◌≡◌, inl, inr, ℕ, ◌+◌, ◌-◌, ◌<◌, ◌≤◌, List, [], ◌∷◌, ◌++◌, length, refl, sym, ap, subst, ◌∙◌, arith, append-nil, append_assoc, length-append}
+use Rattle.std.proofs.Common.{◌≡◌, inl, inr, ℕ, ◌+◌, ◌-◌, ◌<◌, ◌≤◌, List, [], ◌∷◌, ◌++◌, length, refl, ap, subst, ◌∙◌, arith, length-append}
 use Rattle.std.proofs.lemmas.Bool.{ltb-true}
 use Rattle.std.specs.Prelude.{true, false, slice_get, Option, Some, None}
-use Rattle.lowering_follows.specs.Words.{Size, Expression, Program, Inside, funclets, count_up, optional_sound, test_sound, value_fits, declared_sound, all_declared_sound, result_sound, filter_sound, statement_sound, statements_sound, funclets_in, filter_funclet, Declared, Filter, Always, Funclet, Statement, Declare, Block, Evaluate, If, IfElse, For, DoWhile, Break, Continue, Leave, TryExcept, TryFinally, Statements, Empty, Then, Temporary, Instruction, Jump, JumpIfZero, CallFinally, Landing, Separator, Region, LinearProgram, LinearBody, BodyName, FuncletBody, body_of, funclet_body, regions_at, regions_of, instruction_in, Owner, Names, Nowhere, Jumps, LoweringContext, except_names, filter_names, finally_names, finally_scope, in_try, in_except, in_guarded, unwound, expression_size, discarded_size, condition_size, declared_size, all_declared_size, returned_size, statement_size, statements_size, expression_code, jump_code, return_code, leave_code, discarded_code, statements_code, returned_code, condition_code, declared_code, all_declared_code, landed, repeated, statement_code, except_kind, region, statement_regions, statements_regions, statements_funclets, filter_funclets, finally_funclet, in_funclet, statement_funclets, HasAt, IsWay, IsPlace, OptionalFits, DeclaredPlaced, AllDeclaredPlaced, FilterPlaced, Placed, AllPlaced, statement_weight, statements_weight, filter_weight, Return, in_loop}
+use Rattle.lowering_follows.specs.Words.{Size, Expression, Program, Inside, funclets, count_up, optional_sound, test_sound, value_fits, declared_sound, all_declared_sound, result_sound, filter_sound, statement_sound, statements_sound, funclets_in, filter_funclet, Declared, Filter, Always, Funclet, Statement, Declare, Block, Evaluate, If, IfElse, For, DoWhile, Break, Continue, Leave, TryExcept, TryFinally, Statements, Empty, Then, Temporary, Instruction, Jump, JumpIfZero, CallFinally, Landing, Separator, Region, LinearProgram, LinearBody, BodyName, FuncletBody, body_of, funclet_body, regions_at, instruction_in, Owner, Names, LoweringContext, except_names, filter_names, finally_names, finally_scope, in_try, in_except, in_guarded, expression_size, discarded_size, condition_size, declared_size, all_declared_size, returned_size, statement_size, statements_size, expression_code, jump_code, return_code, leave_code, discarded_code, statements_code, returned_code, condition_code, declared_code, all_declared_code, landed, repeated, statement_code, except_kind, region, statement_regions, statements_regions, statements_funclets, filter_funclets, finally_funclet, in_funclet, statement_funclets, HasAt, OptionalFits, DeclaredPlaced, AllDeclaredPlaced, FilterPlaced, Placed, AllPlaced, statement_weight, statements_weight, filter_weight, Return, in_loop}
 use Rattle.linear_code.specs.declared.slot.Slot.TheVariants.{Local}
-use Rattle.lowering_expressions.specs.declared.scope.Way.TheVariants.{Unwinds}
 use Rattle.c_checked.specs.Sound as sound
 use Rattle.linear_code.specs.declared.instruction.Instruction.TheVariants as instructions
 use Rattle.linear_code.specs.declared.program.RegionKind.TheVariants as regions
-use Rattle.lowering_expressions.specs.declared.scope.Way.{Way}
 use Rattle.seh_ir.specs.Funclets as funclets_of
 use Rattle.lowering_expressions.proofs.Codes.{expression_length}
 use Rattle.lowering_follows.proofs.Lemmas.{jump_length, return_length, discarded_length, returned_length, condition_length, declared_length, all_declared_length, statement_length, statements_length, filter_count, statement_count, statements_count}
+use Rattle.lowering_follows.proofs.AlikeScopes as scopes
+use Rattle.lowering_follows.proofs.AlikeScopes.{in_finally, loop_alike, try_alike, except_alike, guarded_alike, finally_alike}
+use Rattle.lowering_follows.proofs.RegionCovers.{Cover, part, bare, inside_own, whole_cover}
 use Rattle.lowering_follows.proofs.Segments.{IsSegmentAt, front, back, with_next, whole_is_at}
 use Rattle.lowering_follows.proofs.SoundExpressions.{both_left, both_right, Knows, expression_fits}
 use Rattle.lowering_follows.proofs.FuncletNumbers.{count_front, count_back, counted}
-use Rattle.lowering_follows.proofs.Regions.{held, own_out, own_in, left_only, right_only, held_append, outside, all_outside}
-
-unwound_way : (w : Way) → IsWay w → IsWay (unwound w)
-unwound_way Nowhere h = absurd h
-unwound_way (Jumps label) h = tt
-unwound_way (Unwinds label) h = tt
+use Rattle.lowering_follows.proofs.Regions.{own_out, own_in, left_only, right_only, outside, all_outside}
 
 module _ (program : Program) (linear : LinearProgram) (rate most own : ℕ) where
-  -- what is sound in one scope is lowered in the other
-  pub record Alike (i : Inside) (scope : LoweringContext) : Type 0 where
-    pub knows : Knows program own false i.scope
-    pub exits : i.function ≡ true → IsWay scope.exit
-    pub ends : i.loop ≡ true → IsWay scope.loop_end
-    pub again : i.loop ≡ true → IsWay scope.loop_next
-    pub leaves : i.body ≡ true → IsPlace scope.leave
-
-  loop_alike : (i : Inside) (scope : LoweringContext) (end again : ℕ) → Alike i scope → Alike (record i { loop = true }) (in_loop end again scope)
-  loop_alike i scope end again a = record { knows = a.knows; exits = a.exits; ends = λ h. tt; again = λ h. tt; leaves = a.leaves }
-
-  try_alike : (i : Inside) (scope : LoweringContext) (end : ℕ) → Alike i scope → Alike (record i { body = true }) (in_try end scope)
-  try_alike i scope end a = record { knows = a.knows; exits = a.exits; ends = a.ends; again = a.again; leaves = λ h. tt }
-
-  except_alike : (i : Inside) (scope : LoweringContext) → Alike i scope → Alike (record i { scope = record i.scope { code = true } }) (in_except scope)
-  except_alike i scope a = record {
-    knows = record {
-      functions = a.knows.functions;
-      sizes = a.knows.sizes;
-      information = a.knows.information;
-    };
-    exits = a.exits;
-    ends = a.ends;
-    again = a.again;
-    leaves = a.leaves;
-  }
-
-  guarded_alike : (i : Inside) (scope : LoweringContext) (end : ℕ) → Alike i scope → Alike (record i { body = true }) (in_guarded end scope)
-  guarded_alike i scope end a = record {
-    knows = a.knows;
-    exits = λ h. unwound_way scope.exit (a.exits h);
-    ends = λ h. unwound_way scope.loop_end (a.ends h);
-    again = λ h. unwound_way scope.loop_next (a.again h);
-    leaves = λ h. tt;
-  }
-
-  abbrev in_finally : Inside → Inside
-  in_finally i = record { scope = record i.scope { abnormal = true }; returns = i.returns; loop = false; body = false; function = false }
-
-  finally_alike : (i : Inside) (scope : LoweringContext) (names : Names) → Alike i scope → Alike (in_finally i) (finally_scope names)
-  finally_alike i scope names a = record {
-    knows = record { functions = a.knows.functions; sizes = a.knows.sizes; information = a.knows.information };
-    exits = λ h. absurd (cc);
-    ends = λ h. absurd (cc);
-    again = λ h. absurd (cc);
-    leaves = λ h. absurd (cc);
-  }
+  abbrev pub Alike : Inside → LoweringContext → Type 0
+  Alike i scope = scopes.Alike program linear rate most own i scope
 
   -- ---- expressions in statements
 
-  optional_fits : (s : sound.TypingContext) (k : Knows program own false s) (e : Option Expression) → optional_sound s e ≡ true → OptionalFits program linear rate most own e
+  optional_fits : (s : sound.TypingContext) (k : Knows program own false s) (e : Option Expression)
+      → optional_sound s e ≡ true → OptionalFits program linear rate most own e
   optional_fits s k None h = tt
   optional_fits s k (Some e) h = expression_fits program own false s k e h
 
-  test_fits : (s : sound.TypingContext) (k : Knows program own false s) (e : Option Expression) → test_sound s e ≡ true → OptionalFits program linear rate most own e
+  test_fits : (s : sound.TypingContext) (k : Knows program own false s) (e : Option Expression)
+      → test_sound s e ≡ true → OptionalFits program linear rate most own e
   test_fits s k None h = tt
   test_fits s k (Some e) h = expression_fits program own false s k e (both_left _ _ h)
 
@@ -87,9 +40,11 @@ module _ (program : Program) (linear : LinearProgram) (rate most own : ℕ) wher
   value_optional s k z None h = tt
   value_optional s k z (Some e) h = expression_fits program own false s k e (both_left _ _ h)
 
-  result_fits : (i : Inside) (k : Knows program own false i.scope) (e : Option Expression) → result_sound i e ≡ true → OptionalFits program linear rate most own e
+  result_fits : (i : Inside) (k : Knows program own false i.scope) (e : Option Expression)
+      → result_sound i e ≡ true → OptionalFits program linear rate most own e
   result_fits i k None h = tt
-  result_fits i k (Some e) h = expression_fits program own false i.scope k e (both_left _ _ (both_left _ _ h))
+  result_fits i k (Some e) h = expression_fits program own false i.scope k e
+      (both_left _ _ (both_left _ _ h))
 
   -- ---- code in a body
 
@@ -97,12 +52,20 @@ module _ (program : Program) (linear : LinearProgram) (rate most own : ℕ) wher
     abbrev Plain : List Region → ℕ → ℕ → Type 0
     Plain rs lo hi = (q : ℕ) → lo ≤ q → q < hi → regions_at linear b q ≡ rs
 
-    pub code_is_at : (rs : List Region) (pc : ℕ) (is : List Instruction) → IsSegmentAt lb.code pc is → Plain rs pc (pc + length is) → HasAt linear b rs pc is
+    pub code_is_at : (rs : List Region) (pc : ℕ) (is : List Instruction) → IsSegmentAt lb.code pc is
+        → Plain rs pc (pc + length is) → HasAt linear b rs pc is
     code_is_at rs pc [] h c = tt
-    code_is_at rs pc (i ∷ is) h c = (ap (λ o. instruction_in o pc) there ∙ h.0, c pc (omega arith) (omega arith), code_is_at rs (pc + 1) is h.1 (λ q lo hi. c q (omega arith) (omega arith)))
+    code_is_at rs pc (i ∷ is) h c = (
+      ap (λ o. instruction_in o pc) there ∙ h.0,
+      c pc (omega arith) (omega arith),
+      code_is_at rs
+          (pc + 1) is h.1 (λ q lo hi. c q (omega arith) (omega arith)),
+    )
 
-    declared_placed : (s : sound.TypingContext) (k : Knows program own false s) (names : Names) (d : Declared) (rs : List Region) (at : ℕ) → declared_sound s d ≡ true
-        → IsSegmentAt lb.code at (declared_code names d at) → Plain rs at (at + declared_size d) → DeclaredPlaced program linear rate most own b names d rs at
+    declared_placed : (s : sound.TypingContext) (k : Knows program own false s) (names : Names)
+        (d : Declared) (rs : List Region) (at : ℕ) → declared_sound s d ≡ true
+        → IsSegmentAt lb.code at (declared_code names d at) → Plain rs at (at + declared_size d)
+        → DeclaredPlaced program linear rate most own b names d rs at
     declared_placed s k names d rs at ok h c =
         let n = declared_length names d at in (
           subst (λ m. d.local < m) k.sizes (ltb-true d.local (length s.sizes) (both_left _ _ ok)),
@@ -110,47 +73,29 @@ module _ (program : Program) (linear : LinearProgram) (rate most own : ℕ) wher
           code_is_at rs at (declared_code names d at) h (λ q lo hi. c q lo (omega arith)),
         )
 
-    all_declared_placed : (s : sound.TypingContext) (k : Knows program own false s) (names : Names) (ds : List Declared) (rs : List Region) (at : ℕ) → all_declared_sound s ds ≡ true
-        → IsSegmentAt lb.code at (all_declared_code names ds at) → Plain rs at (at + all_declared_size ds) → AllDeclaredPlaced program linear rate most own b names ds rs at
+    all_declared_placed : (s : sound.TypingContext) (k : Knows program own false s) (names : Names)
+        (ds : List Declared) (rs : List Region) (at : ℕ) → all_declared_sound s ds ≡ true
+        → IsSegmentAt lb.code at (all_declared_code names ds at)
+        → Plain rs at (at + all_declared_size ds) → AllDeclaredPlaced program linear rate most
+        own b names ds rs at
     all_declared_placed s k names [] rs at ok h c = tt
     all_declared_placed s k names (d ∷ ds) rs at ok h c =
         let n = declared_length names d at in
         let code = declared_code names d at in
         let rest = all_declared_code names ds (at + declared_size d) in (
-          declared_placed s k names d rs at (both_left _ _ ok) (front lb.code at code rest h) (λ q lo hi. c q lo (omega arith)),
+          declared_placed s k names d rs at (both_left _ _ ok) (front lb.code at code rest h)
+              (λ q lo hi. c q lo (omega arith)),
           all_declared_placed s k names ds rs (at + declared_size d) (both_right _ _ ok)
               (back lb.code at (at + declared_size d) code rest (omega arith) h)
               (λ q lo hi. c q (omega arith) (omega arith)),
         )
 
-  -- ---- regions
-
-  -- an instruction of this range is inside those of these regions that hold it, and inside others
-  abbrev pub Cover : BodyName → List Region → ℕ → ℕ → List Region → Type 0
-  Cover b rs lo hi regions = (q : ℕ) → lo ≤ q → q < hi → regions_at linear b q ≡ held q regions ++ rs
-
-  -- from what covers a whole to what covers a part
-  part : (b : BodyName) (rs regions sub : List Region) (q : ℕ) → held q regions ≡ held q sub → regions_at linear b q ≡ held q regions ++ rs → regions_at linear b q ≡ held q sub ++ rs
-  part b rs regions sub q e c = c ∙ ap (λ x. x ++ rs) e
-
-  pub bare : (b : BodyName) (rs regions : List Region) (q : ℕ) → held q regions ≡ [] → regions_at linear b q ≡ held q regions ++ rs → regions_at linear b q ≡ rs
-  bare b rs regions q e c = c ∙ ap (λ x. x ++ rs) e
-
-  -- inside the region of a `__try`, which is after those of its body
-  inside_own : (b : BodyName) (rs : List Region) (own : Region) (body rest : List Region) (q : ℕ)
-      → held q rest ≡ own ∷ [] → regions_at linear b q ≡ held q (body ++ rest) ++ rs
-      → regions_at linear b q ≡ held q body ++ (own ∷ rs)
-  inside_own b rs own body rest q e c =
-      c ∙ ap (λ x. x ++ rs) (held_append body rest q ∙ ap (λ x. held q body ++ x) e) ∙ append_assoc (held q body) (own ∷ []) rs
-
-  -- a whole body is inside its own regions alone
-  pub whole_cover : (b : BodyName) (lb : LinearBody) → body_of linear b ≡ Some lb → (lo hi : ℕ) → Cover b [] lo hi lb.regions
-  whole_cover b lb there lo hi q l h = ap (λ o. held q (regions_of o)) there ∙ sym (append-nil (held q lb.regions))
-
   module _ (quick : most + most + 4 ≤ rate) where
     -- ---- filters
 
-    filter_placed : (i : Inside) (scope : LoweringContext) → Alike i scope → (owner : Owner) (f : Filter) (j : ℕ) → filter_sound i.scope f ≡ true → filter_weight f ≤ most
+    filter_placed : (i : Inside) (scope : LoweringContext) → Alike i scope
+        → (owner : Owner) (f : Filter) (j : ℕ) → filter_sound i.scope f ≡ true
+        → filter_weight f ≤ most
         → IsSegmentAt linear.funclets j (filter_funclets owner (filter_names scope.names) f)
         → count_up (j + 1) (filter_funclet f) ≡ true
         → FilterPlaced program linear rate most own scope.names f
@@ -159,17 +104,20 @@ module _ (program : Program) (linear : LinearProgram) (rate most own : ℕ) wher
         let numbered = counted (j + 1) k [] n in
         let funclet = funclets_of.filter_funclet owner (filter_names scope.names) e in
         let same : k - 1 ≡ j = omega arith in
-        let there : slice_get linear.funclets (k - 1) ≡ Some funclet = ap (slice_get linear.funclets) same ∙ h.0 in
-        let home : body_of linear (FuncletBody (k - 1)) ≡ Some funclet.body = ap funclet_body there in
+        let there : slice_get linear.funclets (k - 1) ≡ Some funclet = ap
+        (slice_get linear.funclets) same ∙ h.0 in
+        let home : body_of linear (FuncletBody (k - 1)) ≡ Some funclet.body = ap funclet_body there
+        in
         let knows : Knows program own true (record i.scope { code = true; information = true }) =
         record { functions = a.knows.functions; sizes = a.knows.sizes; information = refl } in
         record {
           numbered = omega arith;
           funclet = (funclet, there, refl);
           code = code_is_at (FuncletBody (k - 1)) funclet.body home [] 0 funclet.body.code
-              (whole_is_at funclet.body.code) (whole_cover (FuncletBody (k - 1)) funclet.body home 0
+              (whole_is_at funclet.body.code) (whole_cover linear (FuncletBody (k - 1)) funclet.body home 0
               (0 + length funclet.body.code));
-          fits = expression_fits program own true (record i.scope { code = true; information = true }) knows e (both_left _ _ ok);
+          fits = expression_fits program own true
+              (record i.scope { code = true; information = true }) knows e (both_left _ _ ok);
           light = omega arith;
         }
 
@@ -179,13 +127,22 @@ module _ (program : Program) (linear : LinearProgram) (rate most own : ℕ) wher
       pub place : (s : Statement) (b : BodyName) (lb : LinearBody) → body_of linear b ≡ Some lb
           → (i : Inside) (scope : LoweringContext) → Alike i scope
           → (owner : Owner) (rs : List Region) (at j : ℕ)
-          → statement_sound i s ≡ true → statement_weight s ≤ most → IsSegmentAt lb.code at (statement_code scope s at) → Cover b rs at (at + statement_size s) (statement_regions s at)
-          → IsSegmentAt linear.funclets j (statement_funclets owner scope.names s) → count_up (j + 1) (funclets_in s) ≡ true → Placed program linear rate most own b scope s rs at
-      place (Declare d) b lb there i scope a owner rs at j ok light h c f n = declared_placed b lb there i.scope a.knows scope.names d rs at ok h c
-      place (Block ss) b lb there i scope a owner rs at j ok light h c f n = place_all ss b lb there i scope a owner rs at j ok (omega arith) h c f n
+          → statement_sound i s ≡ true → statement_weight s ≤ most
+          → IsSegmentAt lb.code at (statement_code scope s at)
+          → Cover linear b rs at (at + statement_size s) (statement_regions s at)
+          → IsSegmentAt linear.funclets j (statement_funclets owner scope.names s)
+          → count_up (j + 1) (funclets_in s) ≡ true → Placed program linear rate most own b
+          scope s rs at
+      place (Declare d) b lb there i scope a owner rs at j ok light h c f n = declared_placed b lb
+          there i.scope a.knows scope.names d rs at ok h c
+      place (Block ss) b lb there i scope a owner rs at j ok light h c f n = place_all ss b lb there
+          i scope a owner rs at j ok (omega arith) h c f n
       place (Evaluate e) b lb there i scope a owner rs at j ok light h c f n =
-          let l = discarded_length scope.names e at in
-          (optional_fits i.scope a.knows e ok, code_is_at b lb there rs at (discarded_code scope.names e at) h (λ q lo hi. c q lo (omega arith)))
+          let l = discarded_length scope.names e at in (
+            optional_fits i.scope a.knows e ok,
+            code_is_at b lb there rs at
+                (discarded_code scope.names e at) h (λ q lo hi. c q lo (omega arith)),
+          )
       place (If t s) b lb there i scope a owner rs at j ok light h c f n =
           let code = expression_code scope.names t 0 at in
           let l = expression_length scope.names t 0 at in
@@ -195,7 +152,8 @@ module _ (program : Program) (linear : LinearProgram) (rate most own : ℕ) wher
           let tested = length-append code (test ∷ []) in (
             expression_fits program own false i.scope a.knows t (both_left _ _ (both_left _ _ ok)),
             code_is_at b lb there rs at (code ++ test ∷ []) (with_next lb.code at code test rest h)
-                (λ q lo hi. bare b rs (statement_regions s then) q (outside s then q (inl (omega arith))) (c q lo (omega arith))),
+                (λ q lo hi. bare linear b rs (statement_regions s then) q
+                (outside s then q (inl (omega arith))) (c q lo (omega arith))),
             place s b lb there i scope a owner rs then j (both_right _ _ ok) (omega arith)
                 (back lb.code at (at + expression_size t) code (test ∷ rest) (omega arith) h).1
                 (λ q lo hi. c q (omega arith) (omega arith)) f n,
@@ -216,22 +174,37 @@ module _ (program : Program) (linear : LinearProgram) (rate most own : ℕ) wher
           let fy = statement_funclets owner scope.names s in
           let fn = statement_funclets owner scope.names u in
           let count = statement_count owner scope.names s in
-          let after = (back lb.code at (at + expression_size t) code (test ∷ (yes ++ skip ∷ no)) (omega arith) h).1 in
-          let second_part = back lb.code then (then + statement_size s) yes (skip ∷ no) (omega arith) after in
+          let after = (back lb.code at (at + expression_size t) code (test ∷ (yes ++ skip ∷ no))
+          (omega arith) h).1 in
+          let second_part = back lb.code then (then + statement_size s) yes (skip ∷ no)
+          (omega arith) after in
           let at_skip = then + statement_size s in record {
-            condition = expression_fits program own false i.scope a.knows t (both_left _ _ (both_left _ _ (both_left _ _ ok)));
-            test = code_is_at b lb there rs at (code ++ test ∷ []) (with_next lb.code at code test (yes ++ skip ∷ no) h)
-                (λ q lo hi. bare b rs (ry ++ rn) q (right_only ry rn q (outside s then q (inl (omega arith))) ∙ outside u otherwise q (inl (omega arith))) (c q lo (omega arith)));
-            yes = place s b lb there i scope a owner rs then j (both_right _ _ (both_left _ _ ok)) (omega arith) (front lb.code then yes (skip ∷ no) after)
-                (λ q lo hi. part b rs (ry ++ rn) ry q (left_only ry rn q (outside u otherwise q (inl (omega arith)))) (c q (omega arith) (omega arith)))
-                (front linear.funclets j fy fn f) (count_front (j + 1) (funclets_in s) (funclets_in u) n);
+            condition = expression_fits program own false i.scope a.knows t
+                (both_left _ _ (both_left _ _ (both_left _ _ ok)));
+            test = code_is_at b lb there rs at (code ++ test ∷ [])
+                (with_next lb.code at code test (yes ++ skip ∷ no) h)
+                (λ q lo hi. bare linear b rs (ry ++ rn) q
+                (right_only ry rn q (outside s then q (inl (omega arith)))
+                ∙ outside u otherwise q (inl (omega arith))) (c q lo (omega arith)));
+            yes = place s b lb there i scope a owner rs then j (both_right _ _ (both_left _ _ ok))
+                (omega arith) (front lb.code then yes (skip ∷ no) after)
+                (λ q lo hi. part linear b rs (ry ++ rn) ry q
+                (left_only ry rn q (outside u otherwise q (inl (omega arith))))
+                (c q (omega arith) (omega arith)))
+                (front linear.funclets j fy fn f)
+                (count_front (j + 1) (funclets_in s) (funclets_in u) n);
             skip = code_is_at b lb there rs at_skip (skip ∷ []) (second_part.0, tt)
-                (λ q lo hi. bare b rs (ry ++ rn) q
+                (λ q lo hi. bare linear b rs (ry ++ rn) q
                 (right_only ry rn q (outside s then q (inr (omega arith)))
                 ∙ outside u otherwise q (inl (omega arith))) (c q (omega arith) (omega arith)));
-            no = place u b lb there i scope a owner rs otherwise (j + length fy) (both_right _ _ ok) (omega arith) second_part.1
-                (λ q lo hi. part b rs (ry ++ rn) rn q (right_only ry rn q (outside s then q (inr (omega arith)))) (c q (omega arith) (omega arith)))
-                (back linear.funclets j (j + length fy) fy fn refl f) (count_back (j + 1) (j + length fy + 1) (funclets_in s) (funclets_in u) (omega arith) n);
+            no = place u b lb there i scope a owner rs otherwise (j + length fy) (both_right _ _ ok)
+                (omega arith) second_part.1
+                (λ q lo hi. part linear b rs (ry ++ rn) rn q
+                (right_only ry rn q (outside s then q (inr (omega arith))))
+                (c q (omega arith) (omega arith)))
+                (back linear.funclets j (j + length fy) fy fn refl f)
+                (count_back (j + 1) (j + length fy + 1) (funclets_in s) (funclets_in u)
+                (omega arith) n);
           }
       place (For ds first' t next s) b lb there i scope a owner rs at j ok light h c f n =
           let names = scope.names in
@@ -252,29 +225,45 @@ module _ (program : Program) (linear : LinearProgram) (rate most own : ℕ) wher
           let lt = condition_length names t end iteration in
           let ls = statement_length inner s start in
           let ln = discarded_length names next (again + 1) in
-          let h1 = back lb.code at begin declares (begins ++ (tests ++ (body ++ (Separator ∷ (steps ++ repeat))))) (omega arith) h in
-          let h2 = back lb.code begin iteration begins (tests ++ (body ++ (Separator ∷ (steps ++ repeat)))) (omega arith) h1 in
-          let h3 = back lb.code iteration start tests (body ++ (Separator ∷ (steps ++ repeat))) (omega arith) h2 in
+          let h1 = back lb.code at begin declares
+          (begins ++ (tests ++ (body ++ (Separator ∷ (steps ++ repeat))))) (omega arith) h
+          in
+          let h2 = back lb.code begin iteration begins
+          (tests ++ (body ++ (Separator ∷ (steps ++ repeat)))) (omega arith) h1 in
+          let h3 = back lb.code iteration start tests (body ++ (Separator ∷ (steps ++ repeat)))
+          (omega arith) h2 in
           let h4 = back lb.code start again body (Separator ∷ (steps ++ repeat)) (omega arith) h3 in
-          let h5 = back lb.code (again + 1) (again + 1 + discarded_size next) steps repeat (omega arith) h4.1 in
+          let h5 = back lb.code (again + 1) (again + 1 + discarded_size next) steps repeat
+          (omega arith) h4.1 in
           let r = statement_regions s start in
-          let before = λ (q : ℕ) (lo : at ≤ q) (hi : q < start). bare b rs r q (outside s start q (inl hi)) (c q lo (omega arith)) in
-          let following = λ (q : ℕ) (lo : again ≤ q) (hi : q < end). bare b rs r q (outside s start q (inr lo)) (c q (omega arith) (omega arith)) in record {
+          let before = λ (q : ℕ) (lo : at ≤ q) (hi : q < start). bare linear b rs r q
+          (outside s start q (inl hi)) (c q lo (omega arith)) in
+          let following = λ (q : ℕ) (lo : again ≤ q) (hi : q < end). bare linear b rs r q
+          (outside s start q (inr lo)) (c q (omega arith) (omega arith)) in record {
             declared = all_declared_placed b lb there i.scope a.knows names ds rs at
                 (both_left _ _ (both_left _ _ (both_left _ _ (both_left _ _ ok))))
                 (front lb.code at declares _ h) (λ q lo hi. before q lo (omega arith));
-            first = optional_fits i.scope a.knows first' (both_right _ _ (both_left _ _ (both_left _ _ (both_left _ _ ok))));
-            begins = code_is_at b lb there rs begin begins (front lb.code begin begins _ h1) (λ q lo hi. before q (omega arith) (omega arith));
+            first = optional_fits i.scope a.knows first'
+                (both_right _ _ (both_left _ _ (both_left _ _ (both_left _ _ ok))));
+            begins = code_is_at b lb there rs begin begins (front lb.code begin begins _ h1)
+                (λ q lo hi. before q (omega arith) (omega arith));
             iterations = record {
-              condition = test_fits i.scope a.knows t (both_right _ _ (both_left _ _ (both_left _ _ ok)));
+              condition = test_fits i.scope a.knows t
+                  (both_right _ _ (both_left _ _ (both_left _ _ ok)));
               next = optional_fits i.scope a.knows next (both_right _ _ (both_left _ _ ok));
-              tests = code_is_at b lb there rs iteration tests (front lb.code iteration tests _ h2) (λ q lo hi. before q (omega arith) (omega arith));
+              tests = code_is_at b lb there rs iteration tests (front lb.code iteration tests _ h2)
+                  (λ q lo hi. before q (omega arith) (omega arith));
               body = place s b lb there (record i { loop = true }) inner
-                  (loop_alike i scope end again a) owner rs start j (both_right _ _ ok) (omega arith)
+                  (loop_alike program linear rate most own i scope end again a) owner rs start j
+                  (both_right _ _ ok) (omega arith)
                   (front lb.code start body _ h3) (λ q lo hi. c q (omega arith) (omega arith)) f n;
-              end = code_is_at b lb there rs again (Separator ∷ []) (h4.0, tt) (λ q lo hi. following q lo (omega arith));
-              steps = code_is_at b lb there rs (again + 1) steps (front lb.code (again + 1) steps repeat h4.1) (λ q lo hi. following q (omega arith) (omega arith));
-              repeats = code_is_at b lb there rs (again + 1 + discarded_size next) repeat h5 (λ q lo hi. following q (omega arith) (omega arith));
+              end = code_is_at b lb there rs again (Separator ∷ []) (h4.0, tt)
+                  (λ q lo hi. following q lo (omega arith));
+              steps = code_is_at b lb there rs (again + 1) steps
+                  (front lb.code (again + 1) steps repeat h4.1)
+                  (λ q lo hi. following q (omega arith) (omega arith));
+              repeats = code_is_at b lb there rs (again + 1 + discarded_size next) repeat h5
+                  (λ q lo hi. following q (omega arith) (omega arith));
             };
           }
       place (DoWhile s t) b lb there i scope a owner rs at j ok light h c f n =
@@ -288,38 +277,58 @@ module _ (program : Program) (linear : LinearProgram) (rate most own : ℕ) wher
           let ls = statement_length inner s at in
           let lt = expression_length names t 0 (again + 1) in
           let tested = length-append code (test ∷ []) in
-          let h1 = back lb.code at again body (Separator ∷ (code ++ repeated end at)) (omega arith) h in
-          let h2 = back lb.code (again + 1) (again + 1 + expression_size t) code (repeated end at) (omega arith) h1.1 in
+          let h1 = back lb.code at again body (Separator ∷ (code ++ repeated end at)) (omega arith)
+          h in
+          let h2 = back lb.code (again + 1) (again + 1 + expression_size t) code (repeated end at)
+          (omega arith) h1.1 in
           let r = statement_regions s at in
-          let following = λ (q : ℕ) (lo : again ≤ q) (hi : q < end). bare b rs r q (outside s at q (inr lo)) (c q (omega arith) (omega arith)) in record {
-            condition = expression_fits program own false i.scope a.knows t (both_left _ _ (both_left _ _ ok));
+          let following = λ (q : ℕ) (lo : again ≤ q) (hi : q < end). bare linear b rs r q
+          (outside s at q (inr lo)) (c q (omega arith) (omega arith)) in record {
+            condition = expression_fits program own false i.scope a.knows t
+                (both_left _ _ (both_left _ _ ok));
             body = place s b lb there (record i { loop = true }) inner
-                (loop_alike i scope end again a) owner rs at j (both_right _ _ ok) (omega arith)
+                (loop_alike program linear rate most own i scope end again a) owner rs at j
+                (both_right _ _ ok) (omega arith)
                 (front lb.code at body _ h) (λ q lo hi. c q lo (omega arith)) f n;
-            end = code_is_at b lb there rs again (Separator ∷ []) (h1.0, tt) (λ q lo hi. following q lo (omega arith));
+            end = code_is_at b lb there rs again (Separator ∷ []) (h1.0, tt)
+                (λ q lo hi. following q lo (omega arith));
             tests = code_is_at b lb there rs (again + 1) (code ++ test ∷ [])
                 (with_next lb.code (again + 1) code test (Jump at ∷ []) h1.1)
                 (λ q lo hi. following q (omega arith) (omega arith));
-            repeats = code_is_at b lb there rs (again + 1 + expression_size t + 1) (Jump at ∷ []) h2.1 (λ q lo hi. following q (omega arith) (omega arith));
+            repeats = code_is_at b lb there rs (again + 1 + expression_size t + 1) (Jump at ∷ [])
+                h2.1 (λ q lo hi. following q (omega arith) (omega arith));
           }
       place (Return e) b lb there i scope a owner rs at j ok light h c f n =
           let code = returned_code scope.names e at in
           let l = returned_length scope.names e at in
           let m = return_length scope.exit in record {
             value = result_fits i a.knows e (both_right _ _ ok);
-            computes = code_is_at b lb there rs at code (front lb.code at code (return_code scope.exit) h) (λ q lo hi. c q lo (omega arith));
+            computes = code_is_at b lb there rs at code
+                (front lb.code at code (return_code scope.exit) h)
+                (λ q lo hi. c q lo (omega arith));
             returns = code_is_at b lb there rs (at + returned_size e) (return_code scope.exit)
-                (back lb.code at (at + returned_size e) code (return_code scope.exit) (omega arith) h)
+                (back lb.code at (at + returned_size e) code (return_code scope.exit) (omega arith)
+                h)
                 (λ q lo hi. c q (omega arith) (omega arith));
             leads = a.exits (both_left _ _ ok);
           }
       place Break b lb there i scope a owner rs at j ok light h c f n =
-          let l = jump_length scope.loop_end in
-          (a.ends ok, code_is_at b lb there rs at (jump_code scope.loop_end) h (λ q lo hi. c q lo (omega arith)))
+          let l = jump_length scope.loop_end in (
+            a.ends ok,
+            code_is_at b lb there rs at (jump_code scope.loop_end) h
+                (λ q lo hi. c q lo (omega arith)),
+          )
       place Continue b lb there i scope a owner rs at j ok light h c f n =
-          let l = jump_length scope.loop_next in
-          (a.again ok, code_is_at b lb there rs at (jump_code scope.loop_next) h (λ q lo hi. c q lo (omega arith)))
-      place Leave b lb there i scope a owner rs at j ok light h c f n = (a.leaves ok, code_is_at b lb there rs at (leave_code scope.leave ∷ []) h (λ q lo hi. c q lo (omega arith)))
+          let l = jump_length scope.loop_next in (
+            a.again ok,
+            code_is_at b lb there rs at (jump_code scope.loop_next) h
+                (λ q lo hi. c q lo (omega arith)),
+          )
+      place Leave b lb there i scope a owner rs at j ok light h c f n = (
+        a.leaves ok,
+        code_is_at b lb there rs at (leave_code scope.leave ∷ []) h
+            (λ q lo hi. c q lo (omega arith)),
+      )
       place (TryExcept body filter block) b lb there i scope a owner rs at j ok light h c f n =
           let names = scope.names in
           let at_jump = at + statements_size body in
@@ -329,7 +338,8 @@ module _ (program : Program) (linear : LinearProgram) (rate most own : ℕ) wher
           let guarded = statements_code inner body at in
           let handles = statements_code (in_except scope) block (target + 1) in
           let l = statements_length inner body at in
-          let h1 = back lb.code at at_jump guarded (landed end names.free ++ handles) (omega arith) h in
+          let h1 = back lb.code at at_jump guarded (landed end names.free ++ handles) (omega arith)
+          h in
           let rb = statements_regions body at in
           let rh = statements_regions block (target + 1) in
           let try = region at target (except_kind filter target) in
@@ -343,22 +353,35 @@ module _ (program : Program) (linear : LinearProgram) (rate most own : ℕ) wher
           let cf = filter_count owner (filter_names names) filter in
           let cn = length-append (funclets body) numbers in
           let nb = count_front (j + 1) (funclets body ++ numbers) (funclets block) n in
-          let alone = λ (q : ℕ) (lo : at ≤ q) (hi : q < target). own_in try rh q lo hi ∙ ap (λ x. try ∷ x) (all_outside block (target + 1) q (inl (omega arith))) in
-          let past = λ (q : ℕ) (lo : target ≤ q). right_only rb (try ∷ rh) q (all_outside body at q (inr (omega arith))) ∙ own_out try rh q (inr lo) in record {
+          let alone = λ (q : ℕ) (lo : at ≤ q) (hi : q < target). own_in try rh q lo hi
+          ∙ ap (λ x. try ∷ x) (all_outside block (target + 1) q (inl (omega arith))) in
+          let past = λ (q : ℕ) (lo : target ≤ q). right_only rb (try ∷ rh) q
+          (all_outside body at q (inr (omega arith))) ∙ own_out try rh q (inr lo) in
+          record {
             body = place_all body b lb there (record i { body = true }) inner
-                (try_alike i scope end a) owner (try ∷ rs) at j (both_left _ _ (both_left _ _ ok))
+                (try_alike program linear rate most own i scope end a) owner (try ∷ rs) at j
+                (both_left _ _ (both_left _ _ ok))
                 (omega arith) (front lb.code at guarded _ h)
-                (λ q lo hi. inside_own b rs try rb (try ∷ rh) q (alone q lo (omega arith)) (c q lo (omega arith)))
-                (front linear.funclets j fb (ff ++ fh) f) (count_front (j + 1) (funclets body) numbers nb);
+                (λ q lo hi. inside_own linear b rs try rb (try ∷ rh) q (alone q lo (omega arith))
+                (c q lo (omega arith)))
+                (front linear.funclets j fb (ff ++ fh) f)
+                (count_front (j + 1) (funclets body) numbers nb);
             end = code_is_at b lb there (try ∷ rs) at_jump (Jump end ∷ []) (h1.0, tt)
-                (λ q lo hi. c q (omega arith) (omega arith) ∙ ap (λ x. x ++ rs) (right_only rb (try ∷ rh) q (all_outside body at q (inr lo)) ∙ alone q (omega arith) (omega arith)));
+                (λ q lo hi. c q (omega arith) (omega arith) ∙ ap (λ x. x ++ rs)
+                (right_only rb (try ∷ rh) q (all_outside body at q (inr lo))
+                ∙ alone q (omega arith) (omega arith)));
             landing = code_is_at b lb there rs target (Landing (Local names.free) ∷ []) (h1.1.0, tt)
-                (λ q lo hi. bare b rs (rb ++ (try ∷ rh)) q (past q lo ∙ all_outside block (target + 1) q (inl (omega arith))) (c q (omega arith) (omega arith)));
+                (λ q lo hi. bare linear b rs (rb ++ (try ∷ rh)) q
+                (past q lo ∙ all_outside block (target + 1) q (inl (omega arith)))
+                (c q (omega arith) (omega arith)));
             block = place_all block b lb there (record i { scope = record i.scope { code = true } })
-                (in_except scope) (except_alike i scope a) owner rs (target + 1)
+                (in_except scope) (except_alike program linear rate most own i scope a) owner rs
+                (target + 1)
                 (j + length fb + length ff) (both_right _ _ ok) (omega arith) h1.1.1
-                (λ q lo hi. part b rs (rb ++ (try ∷ rh)) rh q (past q (omega arith)) (c q (omega arith) (omega arith)))
-                f2 (count_back (j + 1) (j + length fb + length ff + 1) (funclets body ++ numbers) (funclets block) (omega arith) n);
+                (λ q lo hi. part linear b rs (rb ++ (try ∷ rh)) rh q (past q (omega arith))
+                (c q (omega arith) (omega arith)))
+                f2 (count_back (j + 1) (j + length fb + length ff + 1) (funclets body ++ numbers)
+                (funclets block) (omega arith) n);
             filter = filter_placed i scope a owner filter (j + length fb)
                 (both_right _ _ (both_left _ _ ok)) (omega arith)
                 (front linear.funclets (j + length fb) ff fh f1)
@@ -370,7 +393,8 @@ module _ (program : Program) (linear : LinearProgram) (rate most own : ℕ) wher
           let inner = in_guarded at_end scope in
           let guarded = statements_code inner body at in
           let l = statements_length inner body at in
-          let h1 = back lb.code at at_end guarded (Separator ∷ CallFinally (k - 1) ∷ Separator ∷ []) (omega arith) h in
+          let h1 = back lb.code at at_end guarded (Separator ∷ CallFinally (k - 1) ∷ Separator ∷ [])
+          (omega arith) h in
           let rb = statements_regions body at in
           let try = region at (at_end + 1) (regions.Finally (k - 1)) in
           let fb = statements_funclets owner names body in
@@ -378,37 +402,55 @@ module _ (program : Program) (linear : LinearProgram) (rate most own : ℕ) wher
           let funclet = finally_funclet owner names last in
           let f1 = back linear.funclets j (j + length fb) fb (funclet ∷ fl) refl f in
           let cb = statements_count owner names body in
-          let n1 = count_back (j + 1) (j + length fb + 1) (funclets body) (k ∷ funclets last) (omega arith) n in
+          let n1 = count_back (j + 1) (j + length fb + 1) (funclets body) (k ∷ funclets last)
+          (omega arith) n in
           let numbered = counted (j + length fb + 1) k (funclets last) n1 in
           let same : k - 1 ≡ j + length fb = omega arith in
-          let is_there : slice_get linear.funclets (k - 1) ≡ Some funclet = ap (slice_get linear.funclets) same ∙ f1.0 in
-          let home : body_of linear (FuncletBody (k - 1)) ≡ Some funclet.body = ap funclet_body is_there in
+          let is_there : slice_get linear.funclets (k - 1) ≡ Some funclet = ap
+          (slice_get linear.funclets) same ∙ f1.0 in
+          let home : body_of linear (FuncletBody (k - 1)) ≡ Some funclet.body = ap funclet_body
+          is_there in
           let whole = whole_is_at funclet.body.code in
           let code = statements_code (finally_scope names) last 0 in
           let ends = instructions.Return (Local names.free) ∷ [] in
           let ll = statements_length (finally_scope names) last 0 in
-          let cover = whole_cover (FuncletBody (k - 1)) funclet.body home 0 (length funclet.body.code) in
+          let cover = whole_cover linear (FuncletBody (k - 1)) funclet.body home 0
+          (length funclet.body.code) in
           let wide = length-append code ends in
-          let past = λ (q : ℕ) (lo : at_end + 1 ≤ q). right_only rb (try ∷ []) q (all_outside body at q (inr (omega arith))) ∙ own_out try [] q (inr lo) in record {
+          let past = λ (q : ℕ) (lo : at_end + 1 ≤ q). right_only rb (try ∷ []) q
+          (all_outside body at q (inr (omega arith))) ∙ own_out try [] q (inr lo) in
+          record {
             body = place_all body b lb there (record i { body = true }) inner
-                (guarded_alike i scope at_end a) owner (try ∷ rs) at j (both_left _ _ ok)
+                (guarded_alike program linear rate most own i scope at_end a) owner (try ∷ rs) at j
+                (both_left _ _ ok)
                 (omega arith) (front lb.code at guarded _ h)
-                (λ q lo hi. inside_own b rs try rb (try ∷ []) q (own_in try [] q lo (omega arith)) (c q lo (omega arith)))
-                (front linear.funclets j fb (funclet ∷ fl) f) (count_front (j + 1) (funclets body) (k ∷ funclets last) n);
+                (λ q lo hi. inside_own linear b rs try rb (try ∷ []) q (own_in try [] q lo (omega arith))
+                (c q lo (omega arith)))
+                (front linear.funclets j fb (funclet ∷ fl) f)
+                (count_front (j + 1) (funclets body) (k ∷ funclets last) n);
             end = code_is_at b lb there (try ∷ rs) at_end (Separator ∷ []) (h1.0, tt)
-                (λ q lo hi. c q (omega arith) (omega arith) ∙ ap (λ x. x ++ rs) (right_only rb (try ∷ []) q (all_outside body at q (inr lo)) ∙ own_in try [] q (omega arith) (omega arith)));
-            calls = code_is_at b lb there rs (at_end + 1) (CallFinally (k - 1) ∷ Separator ∷ []) h1.1
-                (λ q lo hi. bare b rs (rb ++ (try ∷ [])) q (past q lo) (c q (omega arith) (omega arith)));
+                (λ q lo hi. c q (omega arith) (omega arith) ∙ ap (λ x. x ++ rs)
+                (right_only rb (try ∷ []) q (all_outside body at q (inr lo))
+                ∙ own_in try [] q (omega arith) (omega arith)));
+            calls = code_is_at b lb there rs (at_end + 1) (CallFinally (k - 1) ∷ Separator ∷ [])
+                h1.1
+                (λ q lo hi. bare linear b rs (rb ++ (try ∷ [])) q (past q lo)
+                (c q (omega arith) (omega arith)));
             block = record {
               numbered = omega arith;
               funclet = (funclet, is_there, refl);
               code = place_all last (FuncletBody (k - 1)) funclet.body home (in_finally i)
-                  (finally_scope names) (finally_alike i scope names a) (in_funclet (k - 1) owner) []
+                  (finally_scope names) (finally_alike program linear rate most own i scope names a)
+                  (in_funclet (k - 1) owner) []
                   0 (j + length fb + 1) (both_right _ _ ok) (omega arith)
-                  (front funclet.body.code 0 code ends whole) (λ q lo hi. cover q lo (omega arith)) f1.1 (both_right _ _ n1);
+                  (front funclet.body.code 0 code ends whole) (λ q lo hi. cover q lo (omega arith))
+                  f1.1 (both_right _ _ n1);
               returns = code_is_at (FuncletBody (k - 1)) funclet.body home [] (statements_size last)
-                  ends (back funclet.body.code 0 (statements_size last) code ends (omega arith) whole)
-                  (λ q lo hi. bare (FuncletBody (k - 1)) [] (statements_regions last 0) q (all_outside last 0 q (inr (omega arith))) (cover q (omega arith) (omega arith)));
+                  ends (back funclet.body.code 0 (statements_size last) code ends (omega arith)
+                  whole)
+                  (λ q lo hi. bare linear (FuncletBody (k - 1)) [] (statements_regions last 0) q
+                  (all_outside last 0 q (inr (omega arith)))
+                  (cover q (omega arith) (omega arith)));
             };
           }
 
@@ -417,8 +459,10 @@ module _ (program : Program) (linear : LinearProgram) (rate most own : ℕ) wher
           → (owner : Owner) (rs : List Region) (at j : ℕ)
           → statements_sound i ss ≡ true → statements_weight ss ≤ most
           → IsSegmentAt lb.code at (statements_code scope ss at)
-          → Cover b rs at (at + statements_size ss) (statements_regions ss at)
-          → IsSegmentAt linear.funclets j (statements_funclets owner scope.names ss) → count_up (j + 1) (funclets ss) ≡ true → AllPlaced program linear rate most own b scope ss rs at
+          → Cover linear b rs at (at + statements_size ss) (statements_regions ss at)
+          → IsSegmentAt linear.funclets j (statements_funclets owner scope.names ss)
+          → count_up (j + 1) (funclets ss) ≡ true → AllPlaced program linear rate most own b
+          scope ss rs at
       place_all Empty b lb there i scope a owner rs at j ok light h c f n = tt
       place_all (Then s ss) b lb there i scope a owner rs at j ok light h c f n =
           let next = at + statement_size s in
@@ -430,10 +474,18 @@ module _ (program : Program) (linear : LinearProgram) (rate most own : ℕ) wher
           let fs = statement_funclets owner scope.names s in
           let fm = statements_funclets owner scope.names ss in
           let count = statement_count owner scope.names s in (
-            place s b lb there i scope a owner rs at j (both_left _ _ ok) (omega arith) (front lb.code at code rest h)
-                (λ q lo hi. part b rs (r ++ more) r q (left_only r more q (all_outside ss next q (inl hi))) (c q lo (omega arith)))
-                (front linear.funclets j fs fm f) (count_front (j + 1) (funclets_in s) (funclets ss) n),
-            place_all ss b lb there i scope a owner rs next (j + length fs) (both_right _ _ ok) (omega arith) (back lb.code at next code rest (omega arith) h)
-                (λ q lo hi. part b rs (r ++ more) more q (right_only r more q (outside s at q (inr lo))) (c q (omega arith) (omega arith)))
-                (back linear.funclets j (j + length fs) fs fm refl f) (count_back (j + 1) (j + length fs + 1) (funclets_in s) (funclets ss) (omega arith) n),
+            place s b lb there i scope a owner rs at j (both_left _ _ ok) (omega arith)
+                (front lb.code at code rest h)
+                (λ q lo hi. part linear b rs (r ++ more) r q
+                (left_only r more q (all_outside ss next q (inl hi))) (c q lo (omega arith)))
+                (front linear.funclets j fs fm f)
+                (count_front (j + 1) (funclets_in s) (funclets ss) n),
+            place_all ss b lb there i scope a owner rs next (j + length fs) (both_right _ _ ok)
+                (omega arith) (back lb.code at next code rest (omega arith) h)
+                (λ q lo hi. part linear b rs (r ++ more) more q
+                (right_only r more q (outside s at q (inr lo)))
+                (c q (omega arith) (omega arith)))
+                (back linear.funclets j (j + length fs) fs fm refl f)
+                (count_back (j + 1) (j + length fs + 1) (funclets_in s) (funclets ss)
+                (omega arith) n),
           )
