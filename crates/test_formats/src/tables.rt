@@ -166,11 +166,11 @@ const OVERLAPS: &str = r"
 
 /// Appends an entry with an info.
 fn push_entry(rt: &impl Abort, entries: &mut Vec<u8>, index: usize, info: &str) {
-    let begin = 0x2000 + index as u32 % 256 * 16;
+    let begin = 0x2000 + (index % 256) as u32 * 16;
     let range = RuntimeFunction {
         begin,
         end: begin + 16,
-        unwind_info: 0x3000 + number(rt, info) as u32 % 256,
+        unwind_info: 0x3000 + (number(rt, info) % 256) as u32,
     };
     write_pdata(&[range], entries).expect(rt, "memory");
 }
