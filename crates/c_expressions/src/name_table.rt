@@ -11,6 +11,23 @@ use indexmap::IndexMap;
 use std::alloc::{AllocError, Global};
 use std::marker::Model;
 
+/// In a table of so few names each is compared with the one that is looked for, which takes less
+/// time than its hash.
+const FEW_NAMES: usize = 8;
+
+/// What a name means among these, each of which is compared with it.
+fn compared<'t>(
+    meanings: &IndexMap<&'t [u8], Entity<'t>, TextHasher>,
+    name: &[u8],
+) -> Option<Entity<'t>>
+    ensures { result ≡ meaning_of meanings.now.entries name.now }
+{
+    match meanings.iter().find(|entry| name == *entry.0) {
+        Some((_, meaning)) => Some(*meaning),
+        None => None,
+    }
+}
+
 /// The names of a block, or of the file, in the order of their declarations, with what each means.
 #[derive(Drop)]
 pub struct NameTable<'t> {
@@ -55,6 +72,9 @@ impl<'t> NameTable<'t> {
     pub fn get(&self, name: &[u8]) -> Option<Entity<'t>>
         ensures { result ≡ meaning_of self.now.entries name.now }
     {
+        if self.meanings.len() <= FEW_NAMES {
+            return compared(&self.meanings, name);
+        }
         self.meanings.get(name).copied()
     }
 
