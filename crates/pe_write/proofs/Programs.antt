@@ -10,8 +10,9 @@ use Rattle.pe_image.specs.Image.{Section, stores_byte, section_or, section_at, s
 use Rattle.pe_image.specs.Imports.{Import, imports, or_none}
 use Rattle.pe_image.specs.Imports as importing
 use Rattle.pe_write.specs.ImportTables.{addresses_size, slots_offset, tables_size, import_tables}
-use Rattle.pe_write.specs.Program.{ImageContents, CanBeImage, sizes_of, text_at, rdata_at, xdata_at, pdata_at, end_at, data_section, text_section, rdata_section, xdata_section, pdata_section, import_directory, exception_directory, parts_of, sections_of, image_of, imports_of}
+use Rattle.pe_write.specs.Program.{ImageContents, CanBeImage, sizes_of, text_at, rdata_at, xdata_at, pdata_at, end_at, data_section, text_section, rdata_section, xdata_section, pdata_section, import_directory, exception_directory, parts_of, section_with, data_read, text_read, rdata_read, xdata_read, pdata_read, sections_of, image_of, imports_of}
 use Rattle.pe_image.specs.Reading.{IsImage}
+use Rattle.pe_write.specs.declared.header.TheConstants.{DATA_NAME, TEXT_NAME, RDATA_NAME, XDATA_NAME, PDATA_NAME}
 use Rattle.pe_write.specs.declared.sizes.Sizes.{Sizes}
 use Rattle.pe_image.specs.Numbers.{zeros}
 use Rattle.pe_write.specs.Written.{SectionParts, ImageParts, end_of, raw_size, raw_data, written, image_read, CanBeWritten}
@@ -24,44 +25,19 @@ module _ (p : ImageContents) (fits : CanBeImage p) where
   r = rdata_at (sizes_of p)
 
   abbrev globals : Section
-  globals = record {
-    address = 0x1000;
-    size = p.data_size;
-    raw = raw_data (data_section p);
-    flags = 0xC0000040;
-  }
+  globals = data_read p
 
   abbrev code : Section
-  code = record {
-    address = text_at (sizes_of p);
-    size = length p.text;
-    raw = p.text;
-    flags = 0x60000020;
-  }
+  code = text_read p
 
   abbrev tables : Section
-  tables = record {
-    address = r;
-    size = tables_size p.imports;
-    raw = import_tables p.imports r;
-    flags = 0x40000040;
-  }
+  tables = rdata_read p
 
   abbrev infos : Section
-  infos = record {
-    address = xdata_at (sizes_of p);
-    size = length p.xdata;
-    raw = p.xdata;
-    flags = 0x40000040;
-  }
+  infos = xdata_read p
 
   abbrev functions : Section
-  functions = record {
-    address = pdata_at (sizes_of p);
-    size = length p.pdata;
-    raw = p.pdata;
-    flags = 0x40000040;
-  }
+  functions = pdata_read p
 
   abbrev others : List Section
   others = infos ∷ functions ∷ []
@@ -162,31 +138,11 @@ module _ (p : ImageContents) (fits : CanBeImage p) where
     entry = text_at (sizes_of p) + p.entry;
     size = size_is i;
     sections =
-        record { address = 0x1000; size = p.data_size; raw = data_is i; flags = 0xC0000040 }
-        ∷ record {
-          address = text_at (sizes_of p);
-          size = length p.text;
-          raw = text_is i;
-          flags = 0x60000020;
-        }
-        ∷ record {
-          address = r;
-          size = tables_size p.imports;
-          raw = rdata_is i;
-          flags = 0x40000040;
-        }
-        ∷ record {
-          address = xdata_at (sizes_of p);
-          size = length p.xdata;
-          raw = xdata_is i;
-          flags = 0x40000040;
-        }
-        ∷ record {
-          address = pdata_at (sizes_of p);
-          size = length p.pdata;
-          raw = pdata_is i;
-          flags = 0x40000040;
-        }
+        section_with DATA_NAME 0x1000 p.data_size (data_is i) 0xC0000040
+        ∷ section_with TEXT_NAME (text_at (sizes_of p)) (length p.text) (text_is i) 0x60000020
+        ∷ section_with RDATA_NAME r (tables_size p.imports) (rdata_is i) 0x40000040
+        ∷ section_with XDATA_NAME (xdata_at (sizes_of p)) (length p.xdata) (xdata_is i) 0x40000040
+        ∷ section_with PDATA_NAME (pdata_at (sizes_of p)) (length p.pdata) (pdata_is i) 0x40000040
         ∷ [];
     imports = import_directory p;
     exceptions = exception_directory p;
