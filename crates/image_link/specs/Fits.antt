@@ -13,6 +13,7 @@ use Rattle.linear_code.specs.Program.{LinearBody, LinearFunction, LinearFunclet,
 use Rattle.x64_emit.specs.Near.{IsFieldNear}
 use Rattle.x64_emit.specs.Rooms.{code_room}
 use Rattle.image_link.specs.Routines.{HasParent}
+use Rattle.image_link.specs.Walks.{names_room}
 use Rattle.host_layout.specs.declared.limit.TheConstants.{MOST_IMAGE}
 
 -- ---- instructions
@@ -96,4 +97,5 @@ pub record FitsProgram (p : LinearProgram) : Type 0 where
   pub main : p.main < length p.functions
   pub functions : AllByRecursion FitsFunction p.functions
   pub funclets : AllByRecursion (FitsFunclet p) p.funclets
-  pub small : text_room p + program_tables_room p + other_room ≤ MOST_IMAGE
+  pub small : text_room p + program_tables_room p + names_room p.functions + other_room
+      ≤ MOST_IMAGE

@@ -109,11 +109,7 @@ fn put_names(out: &mut Vec<u8>, rows: &[NamedRange<'_>]) -> Result<(), AllocErro
 
 /// Writes rows and names with their count, where they begin at an address.
 #[tactic(auto, unfolding(crate::specs::NameTable::counted_bytes), using(crate::proofs::Pieces::pieces))]
-fn put_counted(
-    out: &mut Vec<u8>,
-    rows: &[NamedRange<'_>],
-    base: u32,
-) -> Result<(), AllocError>
+fn put_counted(out: &mut Vec<u8>, rows: &[NamedRange<'_>], base: u32) -> Result<(), AllocError>
     requires { base + spec.names_offset rows.now + spec.names_size rows.now < 2 ^ 32 }
     ensures { OnOk result (out.new.items ≡ out.old.items ++ spec.counted_bytes rows.now base) }
 {
@@ -124,11 +120,7 @@ fn put_counted(
 }
 
 /// The table that begins at an address: nothing where it has no row.
-pub fn name_table(
-    alloc: Global,
-    rows: &[NamedRange<'_>],
-    base: u32,
-) -> Result<Vec<u8>, AllocError>
+pub fn name_table(alloc: Global, rows: &[NamedRange<'_>], base: u32) -> Result<Vec<u8>, AllocError>
     requires { base + spec.name_table_size rows.now < 2 ^ 32 }
     ensures { IfOk result (λ table. table.items ≡ spec.name_table_bytes rows.now base) }
 {

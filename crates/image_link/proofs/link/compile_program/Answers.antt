@@ -39,10 +39,11 @@ returns-clause-bytes c =
     let n = c.len-functions.ensures in
     let o = c.args.program.now.functions.ok in
     let same = linked_is p c.in_ok-image.image c.deref.result.now c.deref-2.result.now
-    c.deref-3.result.now c.len-functions.result p.main c.in_ok-image.ensures
+    c.deref-3.result.now c.len-functions.result p.main _ c.in_ok-image.ensures
     (c.deref.ensures.value ∙ c.in_ok-imports.ensures) c.deref-2.ensures.value
     (c.deref-3.ensures.value ∙ c.in_ok-routines.ensures)
-    (omega (arith, length-map c.args.program.now.functions.items linear_function)) refl in
+    (omega (arith, length-map c.args.program.now.functions.items linear_function)) refl
+    (named_are p _ c.named_if.ensures c.calls_walk-walks.ensures) in
     subst (λ (x : ImageContents). IfOk c.write.result
     (λ bytes. bytes.items ≡ written (images.parts_of x))) same c.write.ensures.written
 
@@ -52,10 +53,11 @@ returns-clause-image c =
     let n = c.len-functions.ensures in
     let o = c.args.program.now.functions.ok in
     let same = linked_is p c.in_ok-image.image c.deref.result.now c.deref-2.result.now
-    c.deref-3.result.now c.len-functions.result p.main c.in_ok-image.ensures
+    c.deref-3.result.now c.len-functions.result p.main _ c.in_ok-image.ensures
     (c.deref.ensures.value ∙ c.in_ok-imports.ensures) c.deref-2.ensures.value
     (c.deref-3.ensures.value ∙ c.in_ok-routines.ensures)
-    (omega (arith, length-map c.args.program.now.functions.items linear_function)) refl in
+    (omega (arith, length-map c.args.program.now.functions.items linear_function)) refl
+    (named_are p _ c.named_if.ensures c.calls_walk-walks.ensures) in
     subst (λ (x : ImageContents). IfOk c.write.result
     (λ bytes. IsImage bytes.items (images.image_of x))) same c.write.ensures.read_again
 
@@ -65,9 +67,10 @@ returns-clause-small c =
     let n = c.len-functions.ensures in
     let o = c.args.program.now.functions.ok in
     let same = linked_is p c.in_ok-image.image c.deref.result.now c.deref-2.result.now
-    c.deref-3.result.now c.len-functions.result p.main c.in_ok-image.ensures
+    c.deref-3.result.now c.len-functions.result p.main _ c.in_ok-image.ensures
     (c.deref.ensures.value ∙ c.in_ok-imports.ensures) c.deref-2.ensures.value
     (c.deref-3.ensures.value ∙ c.in_ok-routines.ensures)
-    (omega (arith, length-map c.args.program.now.functions.items linear_function)) refl in
+    (omega (arith, length-map c.args.program.now.functions.items linear_function)) refl
+    (named_are p _ c.named_if.ensures c.calls_walk-walks.ensures) in
     subst (λ (x : ImageContents). IfOk c.write.result
     (λ bytes. length bytes.items ≤ images.end_at (images.sizes_of x))) same c.write.ensures.small
