@@ -77,6 +77,12 @@ names_small (s ∷ ss) = let n = name_small s in let r = names_small ss in omega
 pub imports_small : (ss : List ImportedService) → AreFew ss → tables_size ss ≤ 8192
 imports_small ss few = let n = names_small ss in omega arith
 
+-- the services that a program imports, by whether it calls `walk`
+pub services_are : (p : LinearProgram) (walks : Bool) → walks ≡ calls_walk p
+    → services_if walks ≡ services_of p
+unfolding services_of
+services_are p walks e = ap services_if e
+
 -- a program imports few services
 pub services_few : (p : LinearProgram) → AreFew (services_of p)
 unfolding services_of
