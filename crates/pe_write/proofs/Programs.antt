@@ -12,8 +12,9 @@ use Rattle.pe_image.specs.Imports.{Import, imports, or_none}
 use Rattle.pe_image.specs.Imports as importing
 use Rattle.pe_write.specs.ImportTables.{addresses_size, slots_offset, tables_size, import_tables}
 use Rattle.pe_write.specs.NameTable.{NameRow, name_table_size, name_table_bytes}
-use Rattle.pe_write.specs.Program.{ImageContents, CanBeImage, sizes_of, text_at, rdata_at, xdata_at, pdata_at, names_at, end_at, data_section, text_section, rdata_section, xdata_section, pdata_section, names_section, if_named, section_with, import_directory, exception_directory, parts_of, sections_of, image_of, imports_of}
+use Rattle.pe_write.specs.Program.{ImageContents, CanBeImage, sizes_of, text_at, rdata_at, xdata_at, pdata_at, names_at, end_at, data_section, text_section, rdata_section, xdata_section, pdata_section, names_section, if_named, import_directory, exception_directory, parts_of, section_with, data_read, text_read, rdata_read, xdata_read, pdata_read, names_read, sections_of, image_of, imports_of}
 use Rattle.pe_image.specs.Reading.{IsImage}
+use Rattle.pe_write.specs.declared.header.TheConstants.{DATA_NAME, TEXT_NAME, RDATA_NAME, XDATA_NAME, PDATA_NAME}
 use Rattle.pe_write.specs.declared.sizes.Sizes.{Sizes}
 use Rattle.pe_image.specs.Numbers.{zeros}
 use Rattle.pe_write.specs.Written.{SectionParts, ImageParts, IsSection, pages, placed, end_of, raw_size, raw_data, written, sections_read, image_read, CanBeWritten}
@@ -33,10 +34,10 @@ named_end a b c d e (r ∷ rs) s same = let n = ap pages same in omega arith
 
 named_read : (rows : List NameRow) (address raw_at : ℕ) (s : SectionParts)
     → take s.size (raw_data s) ≡ s.bytes → sections_read (placed address raw_at (if_named rows s))
-    ≡ if_named rows (section_with address s.size s.bytes s.flags)
+    ≡ if_named rows (section_with s.name address s.size s.bytes s.flags)
 named_read [] address raw_at s e = refl
 named_read (r ∷ rs) address raw_at s e =
-    λ i. record { address = address; size = s.size; raw = e i; flags = s.flags } ∷ []
+    λ i. section_with s.name address s.size (e i) s.flags ∷ []
 
 named_fit : (rows : List NameRow) (s : SectionParts) → IsSection s
     → AllByRecursion IsSection (if_named rows s)
@@ -52,48 +53,22 @@ module _ (p : ImageContents) (fits : CanBeImage p) where
   r = rdata_at (sizes_of p)
 
   abbrev globals : Section
-  globals = record {
-    address = 0x1000;
-    size = p.data_size;
-    raw = raw_data (data_section p);
-    flags = 0xC0000040;
-  }
+  globals = data_read p
 
   abbrev code : Section
-  code = record {
-    address = text_at (sizes_of p);
-    size = length p.text;
-    raw = p.text;
-    flags = 0x60000020;
-  }
+  code = text_read p
 
   abbrev tables : Section
-  tables = record {
-    address = r;
-    size = tables_size p.imports;
-    raw = import_tables p.imports r;
-    flags = 0x40000040;
-  }
+  tables = rdata_read p
 
   abbrev infos : Section
-  infos = record {
-    address = xdata_at (sizes_of p);
-    size = length p.xdata;
-    raw = p.xdata;
-    flags = 0x40000040;
-  }
+  infos = xdata_read p
 
   abbrev functions : Section
-  functions = record {
-    address = pdata_at (sizes_of p);
-    size = length p.pdata;
-    raw = p.pdata;
-    flags = 0x40000040;
-  }
+  functions = pdata_read p
 
   abbrev named : List Section
-  named = if_named p.names (section_with (names_at (sizes_of p)) (name_table_size p.names)
-      (name_table_bytes p.names (names_at (sizes_of p))) 0x40000040)
+  named = if_named p.names (names_read p)
 
   abbrev others : List Section
   others = infos ∷ functions ∷ named
@@ -203,33 +178,14 @@ module _ (p : ImageContents) (fits : CanBeImage p) where
     entry = text_at (sizes_of p) + p.entry;
     size = size_is i;
     sections =
-        record { address = 0x1000; size = p.data_size; raw = data_is i; flags = 0xC0000040 }
-        ∷ record {
-          address = text_at (sizes_of p);
-          size = length p.text;
-          raw = text_is i;
-          flags = 0x60000020;
-        }
-        ∷ record {
-          address = r;
-          size = tables_size p.imports;
-          raw = rdata_is i;
-          flags = 0x40000040;
-        }
-        ∷ record {
-          address = xdata_at (sizes_of p);
-          size = length p.xdata;
-          raw = xdata_is i;
-          flags = 0x40000040;
-        }
-        ∷ record {
-          address = pdata_at (sizes_of p);
-          size = length p.pdata;
-          raw = pdata_is i;
-          flags = 0x40000040;
-        }
-        ∷ named_read p.names (names_at (sizes_of p)) (1024 + raw_size (data_section p) + raw_size (text_section p) + raw_size (rdata_section p)
-        + raw_size (xdata_section p) + raw_size (pdata_section p)) (names_section p) names_is i;
+        section_with DATA_NAME 0x1000 p.data_size (data_is i) 0xC0000040
+        ∷ section_with TEXT_NAME (text_at (sizes_of p)) (length p.text) (text_is i) 0x60000020
+        ∷ section_with RDATA_NAME r (tables_size p.imports) (rdata_is i) 0x40000040
+        ∷ section_with XDATA_NAME (xdata_at (sizes_of p)) (length p.xdata) (xdata_is i) 0x40000040
+        ∷ section_with PDATA_NAME (pdata_at (sizes_of p)) (length p.pdata) (pdata_is i) 0x40000040
+        ∷ named_read p.names (names_at (sizes_of p)) (1024 + raw_size (data_section p)
+        + raw_size (text_section p) + raw_size (rdata_section p) + raw_size (xdata_section p)
+        + raw_size (pdata_section p)) (names_section p) names_is i;
     imports = import_directory p;
     exceptions = exception_directory p;
   }

@@ -2,8 +2,8 @@
 -- imports, and the table of its functions; and a sixth section where its functions have names.
 use Rattle.std.specs.Prelude.{◌≡◌, ℕ, ◌+◌, ◌%◌, ◌^◌, ◌<◌, ◌≤◌, List, [], ◌∷◌, length}
 use Rattle.host_layout.specs.declared.range.TheConstants.{IMAGE_BASE, DATA_AT, PAGE}
-use Rattle.pe_image.specs.declared.layout.TheConstants.{IMAGE_SCN_MEM_EXECUTE, IMAGE_SCN_MEM_READ, IMAGE_SCN_MEM_WRITE}
-use Rattle.pe_write.specs.declared.header.TheConstants.{IMAGE_SCN_CNT_CODE, IMAGE_SCN_CNT_INITIALIZED_DATA, DATA_NAME, TEXT_NAME, RDATA_NAME, XDATA_NAME, PDATA_NAME, NAMES_NAME}
+use Rattle.pe_image.specs.declared.layout.TheConstants.{IMAGE_SCN_MEM_EXECUTE, IMAGE_SCN_MEM_READ, IMAGE_SCN_MEM_WRITE, SEHNAME_NAME}
+use Rattle.pe_write.specs.declared.header.TheConstants.{IMAGE_SCN_CNT_CODE, IMAGE_SCN_CNT_INITIALIZED_DATA, DATA_NAME, TEXT_NAME, RDATA_NAME, XDATA_NAME, PDATA_NAME}
 use Rattle.pe_write.specs.declared.import_tables.TheConstants.{DESCRIPTORS_SIZE}
 use Rattle.pe_image.specs.declared.directory.DataDirectory.{DataDirectory}
 use Rattle.host_layout.specs.declared.imported.ImportedService.{ImportedService}
@@ -119,7 +119,7 @@ pdata_section p = const_section PDATA_NAME (length p.pdata) p.pdata
 
 abbrev pub names_section : ImageContents → SectionParts
 names_section p =
-    const_section NAMES_NAME (name_table_size p.names)
+    const_section SEHNAME_NAME (name_table_size p.names)
     (name_table_bytes p.names (names_at (sizes_of p)))
 
 -- where there are no rows there is no section
@@ -159,21 +159,39 @@ parts_of p = record {
   import_addresses = address_directory p;
 }
 
--- as it is read: `.data` with what fills up its raw data
-abbrev pub section_with : ℕ → ℕ → List ℕ → ℕ → Section
-section_with address size raw flags =
-    record { address = address; size = size; raw = raw; flags = flags }
+-- its sections as they are read
+abbrev pub section_with : List ℕ → ℕ → ℕ → List ℕ → ℕ → Section
+section_with name address size raw flags =
+    record { name = name; address = address; size = size; raw = raw; flags = flags }
+
+-- with what fills up its raw data
+abbrev pub data_read : ImageContents → Section
+data_read p =
+    section_with DATA_NAME DATA_AT p.data_size (raw_data (data_section p)) data_flags
+
+abbrev pub text_read : ImageContents → Section
+text_read p = section_with TEXT_NAME (text_at (sizes_of p)) (length p.text) p.text text_flags
+
+abbrev pub rdata_read : ImageContents → Section
+rdata_read p =
+    section_with RDATA_NAME (rdata_at (sizes_of p)) (tables_size p.imports)
+    (import_tables p.imports (rdata_at (sizes_of p))) const_flags
+
+abbrev pub xdata_read : ImageContents → Section
+xdata_read p = section_with XDATA_NAME (xdata_at (sizes_of p)) (length p.xdata) p.xdata const_flags
+
+abbrev pub pdata_read : ImageContents → Section
+pdata_read p = section_with PDATA_NAME (pdata_at (sizes_of p)) (length p.pdata) p.pdata const_flags
+
+abbrev pub names_read : ImageContents → Section
+names_read p =
+    section_with SEHNAME_NAME (names_at (sizes_of p)) (name_table_size p.names)
+    (name_table_bytes p.names (names_at (sizes_of p))) const_flags
 
 abbrev pub sections_of : ImageContents → List Section
 sections_of p =
-    section_with DATA_AT p.data_size (raw_data (data_section p)) data_flags
-    ∷ section_with (text_at (sizes_of p)) (length p.text) p.text text_flags
-    ∷ section_with (rdata_at (sizes_of p)) (tables_size p.imports)
-    (import_tables p.imports (rdata_at (sizes_of p))) const_flags
-    ∷ section_with (xdata_at (sizes_of p)) (length p.xdata) p.xdata const_flags
-    ∷ section_with (pdata_at (sizes_of p)) (length p.pdata) p.pdata const_flags
-    ∷ if_named p.names (section_with (names_at (sizes_of p)) (name_table_size p.names)
-    (name_table_bytes p.names (names_at (sizes_of p))) const_flags)
+    data_read p ∷ text_read p ∷ rdata_read p ∷ xdata_read p ∷ pdata_read p
+    ∷ if_named p.names (names_read p)
 
 abbrev pub image_of : ImageContents → Image
 image_of p = record {

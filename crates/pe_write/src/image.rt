@@ -10,8 +10,8 @@ ghost use Rattle.pe_image.specs.Reading.{IsImage};
 ghost use Rattle.pe_write.specs.Written.{written};
 
 use crate::header::{
-    DATA_NAME, IMAGE_SCN_CNT_CODE, IMAGE_SCN_CNT_INITIALIZED_DATA, NAMES_NAME, PDATA_NAME,
-    RDATA_NAME, TEXT_NAME, XDATA_NAME,
+    DATA_NAME, IMAGE_SCN_CNT_CODE, IMAGE_SCN_CNT_INITIALIZED_DATA, PDATA_NAME, RDATA_NAME,
+    TEXT_NAME, XDATA_NAME,
 };
 use crate::import_tables::{
     DESCRIPTORS_SIZE, addresses_size, import_tables, slots_offset, tables_size,
@@ -22,7 +22,9 @@ use crate::sizes::Sizes;
 use crate::writing::{SectionedImage, write_sections};
 use host_layout::imported::ImportedService;
 use pe_image::DataDirectory;
-use pe_image::layout::{IMAGE_SCN_MEM_EXECUTE, IMAGE_SCN_MEM_READ, IMAGE_SCN_MEM_WRITE};
+use pe_image::layout::{
+    IMAGE_SCN_MEM_EXECUTE, IMAGE_SCN_MEM_READ, IMAGE_SCN_MEM_WRITE, SEHNAME_NAME,
+};
 use std::alloc::{AllocError, Global};
 use std::marker::Model;
 
@@ -160,7 +162,7 @@ impl<'a> Image<'a> {
         sections.push(ImageSection::new(XDATA_NAME, CONST_FLAGS, sizes.xdata_size, &self.xdata))?;
         sections.push(ImageSection::new(PDATA_NAME, CONST_FLAGS, sizes.pdata_size, &self.pdata))?;
         if self.names.len() != 0 {
-            sections.push(ImageSection::new(NAMES_NAME, CONST_FLAGS, sizes.names_size, names))?;
+            sections.push(ImageSection::new(SEHNAME_NAME, CONST_FLAGS, sizes.names_size, names))?;
         }
         Ok(sections)
     }
