@@ -46,7 +46,7 @@ module _ (imports : List ImportedService) (text rdata : ℕ) where
       ∷ map (service_thunk imports text rdata) (drop n ss)) after
 
 -- the place of a service is at most behind all others
-place_small : (ss : List ImportedService) (v : ImportedService) → place_of ss v ≤ length ss
+pub place_small : (ss : List ImportedService) (v : ImportedService) → place_of ss v ≤ length ss
 place_small [] v = omega arith
 place_small (t ∷ ts) v =
     let others = place_small ts v in

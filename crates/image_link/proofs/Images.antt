@@ -181,7 +181,7 @@ no_routine = record {
 
 -- ---- programs
 
-functions_count : (main index : ℕ) (fs : List LinearFunction)
+pub functions_count : (main index : ℕ) (fs : List LinearFunction)
     → length (functions_from main index fs) ≡ length fs
 functions_count main index [] = refl
 functions_count main index (f ∷ fs) = let c = functions_count main (suc index) fs in omega arith

@@ -1,6 +1,7 @@
 -- What the image of a program has where the program calls `walk`: the import of that service, and the
 -- names of its functions with the ranges of their code.
-use Rattle.std.specs.Prelude.{◌≡◌, ℕ, suc, ◌+◌, Bool, true, false, ◌||◌, List, [], ◌∷◌, length, get_or}
+use Rattle.std.specs.Prelude.{◌≡◌, ℕ, ◌+◌, ◌<◌, Bool, true, false, ◌||◌, List, [], ◌∷◌, length, get_or}
+use Rattle.std.specs.List.{AllByRecursion}
 use Rattle.host_layout.specs.declared.imported.ImportedService.{ImportedService}
 use Rattle.host_layout.specs.declared.imported.ImportedService.TheVariants as imports
 use Rattle.host_layout.specs.Imported.{services, all_services}
@@ -71,6 +72,13 @@ name_rows index bounds (f ∷ fs) =
       number = index + 1;
       name = f.name;
     } ∷ name_rows (index + 1) bounds fs
+
+-- a name has bytes, and no 0
+abbrev pub IsName : List ℕ → Type 0
+IsName name = AllByRecursion (λ (b : ℕ). (0 < b) × (b < 256)) name
+
+abbrev pub IsNamed : LinearFunction → Type 0
+IsNamed f = IsName f.name
 
 -- how many bytes the rows and the names take, with the 0 after each name
 abbrev pub names_room : List LinearFunction → ℕ

@@ -4,15 +4,15 @@ use Rattle.std.proofs.lemmas.List.{length-append}
 use Rattle.pe_image.specs.Numbers.{u32}
 use Rattle.pe_write.specs.NameTable.{NameRow, names_offset, names_size, name_table_size, row_bytes, rows_bytes, names_bytes, counted_bytes, name_table_bytes}
 
-row_length : (at : ℕ) (r : NameRow) → length (row_bytes at r) ≡ 16
+pub row_length : (at : ℕ) (r : NameRow) → length (row_bytes at r) ≡ 16
 unfolding row_bytes u32
 row_length at r = refl
 
-count_length : (n : ℕ) → length (u32 n) ≡ 4
+pub count_length : (n : ℕ) → length (u32 n) ≡ 4
 unfolding u32
 count_length n = refl
 
-rows_length : (at : ℕ) (rows : List NameRow) → length (rows_bytes at rows) ≡ 16 * length rows
+pub rows_length : (at : ℕ) (rows : List NameRow) → length (rows_bytes at rows) ≡ 16 * length rows
 rows_length at [] = refl
 rows_length at (r ∷ rs) = omega (
   arith,
@@ -21,7 +21,7 @@ rows_length at (r ∷ rs) = omega (
   rows_length (at + length r.name + 1) rs,
 )
 
-all_names_length : (rows : List NameRow) → length (names_bytes rows) ≡ names_size rows
+pub all_names_length : (rows : List NameRow) → length (names_bytes rows) ≡ names_size rows
 all_names_length [] = refl
 all_names_length (r ∷ rs) = omega (
   arith,
@@ -29,7 +29,7 @@ all_names_length (r ∷ rs) = omega (
   all_names_length rs,
 )
 
-counted_length : (rows : List NameRow) (base : ℕ)
+pub counted_length : (rows : List NameRow) (base : ℕ)
     → length (counted_bytes rows base) ≡ names_offset rows + names_size rows
 unfolding counted_bytes
 counted_length rows base =

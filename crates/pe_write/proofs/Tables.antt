@@ -50,7 +50,7 @@ hint_name_length Protect = refl
 hint_name_length Put = refl
 hint_name_length Walk = refl
 
-ended : (b : List ℕ) (n : ℕ) → position_or_len (λ x. x == 0) b ≡ n → n < length b
+pub ended : (b : List ℕ) (n : ℕ) → position_or_len (λ x. x == 0) b ≡ n → n < length b
     → terminated b ≡ Some (take n b)
 ended b n e lt =
     ap (λ k. option_map (λ j. take j b) (cond (nat_lt k (length b)) (Some k) None)) e

@@ -59,3 +59,8 @@ pub record IsNameRow (r : NameRow) : Type 0 where
 abbrev pub AreInOrder : ℕ → List NameRow → Type 0
 AreInOrder last [] = Unit {0}
 AreInOrder last (r ∷ rs) = (last ≤ r.begin) × AreInOrder r.end rs
+
+-- rows that are read again as they are
+pub record AreNames (rows : List NameRow) : Type 0 where
+  pub each : AllByRecursion IsNameRow rows
+  pub order : AreInOrder 0 rows
