@@ -3,7 +3,7 @@ use Rattle.std.proofs.Common.{◌≡◌, ℕ, zero, suc, ◌+◌, ◌-◌, ◌*�
 use Rattle.std.specs.Prelude.{◌&&◌, IfOk}
 use Rattle.std.specs.List.{AllByRecursion}
 use Rattle.std.proofs.lemmas.Bool.{eq-eqb}
-use Rattle.image_link.specs.Words.{ImportedService, LinearBody, LinearFunction, LinearFunclet, LinearProgram, CanBeImage, ImageContents, RoutineView, is_leaf, framed, leaf_if, functions_from, funclet, no_function, routines, IsRoutineNear, IsSiteNear, AreFew, HasRoom, HasNames, HasPlaces, table_bytes, SiteView, room, routine_size, bounds, first_routine_at, text_bytes, infos_room, infos, ranges, first, total, text_size, xdata_begin, IsPlacement, site, image_of, NameRow, names_size, name_table_size, calls_walk, named_if, named_functions, name_rows, names_room, services_of, linked, FitsProgram, tables_room, function_bodies, funclet_bodies, program_tables_room}
+use Rattle.image_link.specs.Words.{ImportedService, LinearBody, LinearFunction, LinearFunclet, LinearProgram, CanBeImage, ImageContents, RoutineView, is_leaf, framed, leaf_if, functions_from, funclet, no_function, routines, IsRoutineNear, IsSiteNear, AreFew, HasRoom, HasNames, HasPlaces, table_bytes, SiteView, room, routine_size, bounds, first_routine_at, text_bytes, infos_room, infos, ranges, first, total, text_size, xdata_begin, IsPlacement, site, image_of, NameRow, names_size, name_table_size, calls_walk, named_if, named_functions, function_rows, names_room, services_of, linked, FitsProgram, tables_room, function_bodies, funclet_bodies, program_tables_room}
 use Rattle.image_link.proofs.Lemmas.{code_in_room}
 use Rattle.image_link.specs.declared.placement.Placement.{Placement}
 use Rattle.image_link.specs.declared.routine.Entry.TheVariants as entries
@@ -54,12 +54,12 @@ site_near imports g rs functions main services few near places =
 
 -- the rows and the names take as many bytes as they have room
 rows_small : (index : ℕ) (b : List ℕ) (fs : List LinearFunction)
-    → 16 * length (name_rows index b fs) + names_size (name_rows index b fs) ≡ names_room fs
+    → 16 * length (function_rows index b fs) + names_size (function_rows index b fs) ≡ names_room fs
 rows_small index b [] = refl
 rows_small index b (f ∷ fs) = let r = rows_small (index + 1) b fs in omega arith
 
 table_small : (index : ℕ) (b : List ℕ) (fs : List LinearFunction)
-    → name_table_size (name_rows index b fs) ≤ 4 + names_room fs
+    → name_table_size (function_rows index b fs) ≤ 4 + names_room fs
 table_small index b [] = omega arith
 table_small index b (f ∷ fs) = let r = rows_small index b (f ∷ fs) in omega arith
 
@@ -131,7 +131,7 @@ module _ (imports : List ImportedService) (g b : List ℕ) (rs : List RoutineVie
   pub image_is : (main entry at : ℕ) (text xdata pdata : List ℕ) (rows : List NameRow)
       (named : List LinearFunction) → entry ≡ get_or b main 0 - p.text
       → at ≡ first_routine_at imports p.text → text ≡ text_bytes s rs → xdata ≡ infos s at rs
-      → pdata ≡ table_bytes (ranges s p.xdata at rs) → rows ≡ name_rows 0 b named
+      → pdata ≡ table_bytes (ranges s p.xdata at rs) → rows ≡ function_rows 0 b named
       → record {
         imports = imports;
         data_size = p.data_size;
@@ -159,7 +159,7 @@ module _ (imports : List ImportedService) (g b : List ℕ) (rs : List RoutineVie
       ∙ ap (λ (n : ℕ). table_bytes (ranges of n (first_routine_at imports p.text) rs)) table
       ∙ ap (λ (n : ℕ). table_bytes
       (ranges of (xdata_begin imports g rs) (first_routine_at imports n) rs)) begin in
-      let rows' = w ∙ ap (λ (xs : List ℕ). name_rows 0 xs named) between in
+      let rows' = w ∙ ap (λ (xs : List ℕ). function_rows 0 xs named) between in
       λ i. record {
         imports = imports;
         data_size = d i;

@@ -12,7 +12,7 @@ use Rattle.image_link.specs.declared.placement.Placement.{Placement}
 use Rattle.image_link.specs.Routines.{RoutineView, routines}
 use Rattle.image_link.specs.Text.{SiteView, routine_size, bounds, front_size, first_routine_at, text_bytes}
 use Rattle.image_link.specs.Tables.{infos, ranges}
-use Rattle.image_link.specs.Walks.{services_of, named_functions, name_rows}
+use Rattle.image_link.specs.Walks.{services_of, named_functions, function_rows}
 
 -- ---- where things are
 
@@ -75,7 +75,7 @@ image_of imports globals rs functions main named =
       xdata = infos s (first imports globals) rs;
       pdata =
           table_bytes (ranges s (xdata_begin imports globals rs) (first imports globals) rs);
-      names = name_rows 0 (bounds (first imports globals) rs) named;
+      names = function_rows 0 (bounds (first imports globals) rs) named;
     }
 
 abbrev pub linked : LinearProgram → ImageContents

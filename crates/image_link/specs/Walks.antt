@@ -63,15 +63,15 @@ named_functions p = named_if (calls_walk p) p.functions
 
 -- a row for each function of routines between bounds; the first one has this index, from which the
 -- numbers follow, the least of which is 1
-abbrev pub name_rows : ℕ → List ℕ → List LinearFunction → List NameRow
-name_rows index bounds [] = []
-name_rows index bounds (f ∷ fs) =
+abbrev pub function_rows : ℕ → List ℕ → List LinearFunction → List NameRow
+function_rows index bounds [] = []
+function_rows index bounds (f ∷ fs) =
     record {
       begin = get_or bounds index 0;
       end = get_or bounds (index + 1) 0;
       number = index + 1;
       name = f.name;
-    } ∷ name_rows (index + 1) bounds fs
+    } ∷ function_rows (index + 1) bounds fs
 
 -- a name has bytes, and no 0
 abbrev pub IsName : List ℕ → Type 0

@@ -18,7 +18,7 @@ use crate::placement::{offset_of, placement_of, text_begin};
 use crate::routine::{Routine, routines};
 use crate::tables::{Tables, tables_of};
 use crate::text::{Site, text_of};
-use crate::walks::{calls_walk, name_rows, named_if, services_if};
+use crate::walks::{calls_walk, function_rows, named_if, services_if};
 use host_layout::imported::ImportedService;
 use linear_code::program::{IrFunction, IrProgram};
 use pe_write::{Image, NamedRange, write};
@@ -138,7 +138,7 @@ fn linked<'a>(
         placement.xdata,
     )?;
     let entry = offset_of(bounds, main, text);
-    let names = name_rows(alloc, bounds, named)?;
+    let names = function_rows(alloc, bounds, named)?;
     image_with(
         alloc,
         imports,

@@ -86,7 +86,7 @@ pub fn named_if(walks: bool, functions: &[IrFunction]) -> &[IrFunction]
 
 /// The rows of the table of names: for each function, which are the first routines between these
 /// bounds, its range, its number from 1 on, and its name.
-pub fn name_rows<'a>(
+pub fn function_rows<'a>(
     alloc: Global,
     bounds: &[u32],
     functions: &'a [IrFunction],
@@ -94,7 +94,7 @@ pub fn name_rows<'a>(
     requires between { length functions.now < length bounds.now }
     requires few { length functions.now < 2 ^ 31 }
     ensures { IfOk result
-        (λ v. v.items ≡ spec.name_rows 0 bounds.now (map linear_function functions.now)) }
+        (λ v. v.items ≡ spec.function_rows 0 bounds.now (map linear_function functions.now)) }
 {
     let mut rows = Vec::new(alloc);
     let mut index = 0;

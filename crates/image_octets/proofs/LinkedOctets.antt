@@ -11,7 +11,7 @@ use Rattle.image_link.specs.Routines.{RoutineView, routines}
 use Rattle.image_link.specs.Text.{SiteView, own_addresses, routine_size, front_code, first_routine_at, routine_code, routine_bytes, routines_bytes, text_bytes, thunk_at, bounds}
 use Rattle.image_link.specs.Tables.{trailer, scope_records, scope_table, info_if, info_bytes, infos, ranges}
 use Rattle.image_link.specs.Linked.{first, site, xdata_begin, linked}
-use Rattle.image_link.specs.Walks.{services_of, calls_walk, named_if, named_functions, IsName, IsNamed, name_rows}
+use Rattle.image_link.specs.Walks.{services_of, calls_walk, named_if, named_functions, IsName, IsNamed, function_rows}
 use Rattle.linear_code.specs.Program.{LinearFunction}
 use Rattle.image_octets.specs.OctetLaws.{AreOctets, LinkedAreOctets}
 use Rattle.image_octets.proofs.Octets.{joined}
@@ -79,7 +79,7 @@ named_octets true fs all = all
 named_octets false fs all = tt
 
 row_names : (index : ℕ) (b : List ℕ) (fs : List LinearFunction) → AllByRecursion IsNamed fs
-    → AllByRecursion HasOctetName (name_rows index b fs)
+    → AllByRecursion HasOctetName (function_rows index b fs)
 row_names index b [] all = tt
 row_names index b (f ∷ fs) all = (name_octets f.name all.0, row_names (index + 1) b fs all.1)
 

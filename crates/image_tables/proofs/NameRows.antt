@@ -13,7 +13,7 @@ use Rattle.template_code.specs.declared.layout.Layout.{Layout}
 use Rattle.image_link.specs.Fits.{FitsFunction}
 use Rattle.image_link.specs.Routines.{is_leaf, leaf_if}
 use Rattle.image_link.specs.Text.{bounds}
-use Rattle.image_link.specs.Walks.{calls_walk, IsName, IsNamed, named_if, named_functions, name_rows}
+use Rattle.image_link.specs.Walks.{calls_walk, IsName, IsNamed, named_if, named_functions, function_rows}
 use Rattle.image_tables.specs.Words.{LinearFunction, LinearProgram, FitsProgram, RoutineView, functions_from, funclet, routines, routine_size, linked, total, routines_begin}
 use Rattle.image_tables.specs.NameLaws.{NamesAreRead, FunctionsHaveNames}
 use Rattle.image_tables.proofs.Labels.{template_some}
@@ -65,7 +65,7 @@ module _ (b : List ℕ) (n : ℕ) (few : n < 2 ^ 31)
     (rise : (i : ℕ) → i < n → get_or b i 0 < get_or b (i + 1) 0)
     (below : (i : ℕ) → i < n → get_or b (i + 1) 0 < 2 ^ 32) where
   rows_are : (index : ℕ) (fs : List LinearFunction) → index + length fs ≤ n
-      → AllByRecursion IsNamed fs → AllByRecursion IsNameRow (name_rows index b fs)
+      → AllByRecursion IsNamed fs → AllByRecursion IsNameRow (function_rows index b fs)
   rows_are index [] le named = tt
   rows_are index (f ∷ fs) le named = (
     record {
@@ -78,7 +78,7 @@ module _ (b : List ℕ) (n : ℕ) (few : n < 2 ^ 31)
   )
 
 in_order : (b : List ℕ) (index last : ℕ) (fs : List LinearFunction) → last ≤ get_or b index 0
-    → AreInOrder last (name_rows index b fs)
+    → AreInOrder last (function_rows index b fs)
 in_order b index last [] le = tt
 in_order b index last (f ∷ fs) le =
     (le, in_order b (index + 1) (get_or b (index + 1) 0) fs (omega arith))
@@ -143,18 +143,18 @@ names_are_read p fits = names_are (linked p) (is p fits) (are_names p fits)
 -- ---- the name of a number
 
 name_here : (b : List ℕ) (index k : ℕ) (fs : List LinearFunction) (f : LinearFunction)
-    → slice_get fs k ≡ Some f → name_of (index + k + 1) (name_rows index b fs) ≡ Some f.name
+    → slice_get fs k ≡ Some f → name_of (index + k + 1) (function_rows index b fs) ≡ Some f.name
 name_here b index k [] f e = cc
 name_here b index zero (g ∷ fs) f e =
     let same : Some g ≡ Some f = e in
-    ap (name_or (name_of (index + zero + 1) (name_rows (index + 1) b fs)) g.name)
+    ap (name_or (name_of (index + zero + 1) (function_rows (index + 1) b fs)) g.name)
     (eq-eqb (index + 1) (index + zero + 1) (omega arith))
     ∙ (let is : g ≡ f = cc in ap (λ (h : LinearFunction). Some h.name) is)
 name_here b index (suc k) (g ∷ fs) f e =
     let next : index + suc k + 1 ≡ index + 1 + k + 1 = omega arith in
-    ap (name_or (name_of (index + suc k + 1) (name_rows (index + 1) b fs)) g.name)
+    ap (name_or (name_of (index + suc k + 1) (function_rows (index + 1) b fs)) g.name)
     (ne_eqb (index + 1) (index + suc k + 1) (λ e. absurd (omega arith)))
-    ∙ ap (λ (n : ℕ). name_of n (name_rows (index + 1) b fs)) next
+    ∙ ap (λ (n : ℕ). name_of n (function_rows (index + 1) b fs)) next
     ∙ name_here b (index + 1) k fs f e
 
 pub functions_have_names : FunctionsHaveNames
@@ -162,6 +162,6 @@ functions_have_names p k f fits walks e =
     let b = bounds (routines_begin p) (routines p) in
     let number : k + 1 ≡ 0 + k + 1 = omega arith in
     ap (λ (r : Result (List NameRow) NameErr). name_of (k + 1) (rows_read r)) (names_are_read p fits)
-    ∙ ap (λ (t : Bool). name_of (k + 1) (name_rows 0 b (named_if t p.functions))) walks
-    ∙ ap (λ (n : ℕ). name_of n (name_rows 0 b p.functions)) number
+    ∙ ap (λ (t : Bool). name_of (k + 1) (function_rows 0 b (named_if t p.functions))) walks
+    ∙ ap (λ (n : ℕ). name_of n (function_rows 0 b p.functions)) number
     ∙ name_here b 0 k p.functions f e
