@@ -58,6 +58,15 @@ service_of Put = services.Put
 service_of Protect = services.Protect
 service_of RaiseException = services.RaiseException
 
+-- a body of a program calls a built-in function
+pub record CallsBuiltIn (program : LinearProgram) (f : BuiltIn) : Type 0 where
+  pub name : BodyName
+  pub code : LinearBody
+  pub body : body_of program name ≡ Some code
+  pub label : ℕ
+  pub first : ℕ
+  pub calls : slice_get code.code label ≡ Some (instructions.CallBuiltIn f first)
+
 -- the frame of a body: its slots end at its return address
 abbrev pub frame_of : ImagePlan → BodyName → (back : ℕ) → List ℕ → StackFrame
 frame_of p name back others =
@@ -121,11 +130,11 @@ module _ (t : Functions) (fs : List Funclet) (program : LinearProgram) (p : Imag
     pub inside : IsInImage at (at + 6)
     pub slot : IsInImage (at + 6 + thunk.away) (at + 6 + thunk.away + 8)
 
-  -- all code of the program, with its thunks and `__chkstk`
+  -- all code of the program, with the thunks of what it calls and `__chkstk`
   pub record HasProgram (m : Memory) : Type 0 where
     pub code : (name : BodyName) (b : LinearBody) → body_of program name ≡ Some b
         → HasCode m (begin_of p q name) (code_of program p q name b)
-    pub thunks : (f : BuiltIn) → HasService m (q.thunk f) (service_of f)
+    pub thunks : (f : BuiltIn) → CallsBuiltIn program f → HasService m (q.thunk f) (service_of f)
     pub local_unwind : HasService m q.local_unwind services.LocalUnwind
     pub check_stack : HasCode m q.check_stack check_stack
 
@@ -258,7 +267,7 @@ module _ (t : Functions) (fs : List Funclet) (program : LinearProgram) (p : Imag
   -- so it is where no entry of the function table is: in thunks, in `__chkstk`, and at the host's
   -- services
   pub record FindsCallersOutside : Type 0 where
-    pub thunks : (m : Memory) (f : BuiltIn) → FindsReturn t m (q.thunk f)
+    pub thunks : (m : Memory) (f : BuiltIn) → CallsBuiltIn program f → FindsReturn t m (q.thunk f)
     pub local_unwind : (m : Memory) → FindsReturn t m q.local_unwind
     pub check_stack : (m : Memory) (d : ℕ) → d < sizes check_stack
         → FindsReturn t m (q.check_stack + d)

@@ -112,7 +112,7 @@ pub use Rattle.match_bodies.specs.Callers.{FindsReturn, FindsOwed, Owed, IsOwed,
 pub use Rattle.match_bodies.specs.CodeSites.{Sites, links_of, function_arguments, parent_base, keep_argument, begin_of, making_size, frame_code, entry_code, funclet_arguments, keep_base}
 pub use Rattle.match_bodies.specs.ConfigurationFacts.{IsWellMade, IsKnown, KnownNext}
 pub use Rattle.match_bodies.specs.Layouts.{IsLayoutIf, IsFuncletPlan, IsFunctionLayout, IsLeafLayout, IsLaidOut, IsFuncletLayout}
-pub use Rattle.match_bodies.specs.ProgramImages.{frame_of, service_of, WorksAgain, IsProgramImage, is_finally, view_of, ReturnsThere}
+pub use Rattle.match_bodies.specs.ProgramImages.{CallsBuiltIn, frame_of, service_of, WorksAgain, IsProgramImage, is_finally, view_of, ReturnsThere}
 pub use Rattle.match_bodies.specs.Setting.{Setting, IsMachineMemory, RepresentsAt, InBody, IsResumed, setting_of, HasProgram}
 pub use Rattle.match_bodies.specs.SlotStores.{KeepsStackBut, OwnerHasFrame, with_values}
 pub use Rattle.match_bodies.specs.StepLaws.{turns_per_step}
