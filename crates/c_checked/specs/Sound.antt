@@ -19,7 +19,7 @@ use Rattle.c_operations.specs.declared.operation.Size.TheVariants.{Int, Long}
 use Rattle.c_checked.specs.declared.expression.Conversion.{Conversion}
 use Rattle.c_checked.specs.declared.expression.Conversion.TheVariants.{Kept, Extend, Scale}
 use Rattle.c_operations.specs.declared.built_in.BuiltIn.{BuiltIn}
-use Rattle.c_operations.specs.declared.built_in.BuiltIn.TheVariants.{Put, Protect, RaiseException}
+use Rattle.c_operations.specs.declared.built_in.BuiltIn.TheVariants.{Put, Protect, RaiseException, Walk}
 use Rattle.c_checked.specs.Expression as nodes
 use Rattle.c_checked.specs.Expression.{Expression, On, Node, Lvalue, Local, Global, Indirection}
 use Rattle.c_checked.specs.Expression.{Element, Arguments, Done, Next}
@@ -119,11 +119,13 @@ abbrev pub built_in_takes : BuiltIn → List Size
 built_in_takes Put = Long ∷ []
 built_in_takes Protect = Long ∷ Int ∷ []
 built_in_takes RaiseException = Int ∷ Int ∷ Int ∷ Int ∷ []
+built_in_takes Walk = []
 
 abbrev pub built_in_gives : BuiltIn → Option Size
 built_in_gives Put = None
 built_in_gives Protect = Some Int
 built_in_gives RaiseException = None
+built_in_gives Walk = None
 
 -- a parameter of an exception is an `unsigned long long`, and the other fields are `unsigned`
 abbrev pub information_size : Field → Size

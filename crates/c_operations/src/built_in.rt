@@ -8,4 +8,6 @@ pub enum BuiltIn {
     /// `void RaiseException(unsigned, unsigned, unsigned, unsigned long long *)`: raises an
     /// exception (Windows headers, `errhandlingapi.h`).
     RaiseException,
+    /// `void walk(void)`: shows the live activations, innermost first (own).
+    Walk,
 }

@@ -6,7 +6,7 @@ use Rattle.linear_machine.specs.Words.{Event, Ended, Exception, IsPrefixOf, Inst
 use Rattle.seh_num.specs.declared.event.Event.TheVariants as events
 use Rattle.seh_num.specs.Widths.{low, signed}
 use Rattle.c_operations.specs.declared.built_in.BuiltIn.{BuiltIn}
-use Rattle.c_operations.specs.declared.built_in.BuiltIn.TheVariants.{Put, Protect, RaiseException}
+use Rattle.c_operations.specs.declared.built_in.BuiltIn.TheVariants.{Put, Protect, RaiseException, Walk}
 use Rattle.c_operations.specs.declared.operation.Operation.{Operation}
 use Rattle.c_operations.specs.Performed as performing
 use Rattle.c_operations.specs.Performed.{performed}
@@ -14,6 +14,8 @@ use Rattle.source_meaning.specs.declared.ended.Ended.TheVariants as ends
 use Rattle.source_meaning.specs.Source.{is_reserved}
 use Rattle.source_meaning.specs.Raises.{noncontinuable, raise_event}
 use Rattle.source_meaning.specs.Expressions.{raised, field_of}
+use Rattle.source_meaning.specs.State.{walk_events}
+use Rattle.linear_machine.specs.Frames.{functions_in}
 use Rattle.linear_machine.proofs.Lemmas.{prefix_self, prefix_then}
 use Rattle.linear_code.specs.declared.slot.Slot.{Slot}
 use Rattle.linear_code.specs.declared.slot.Slot.TheVariants.{Local, Temporary}
@@ -229,6 +231,8 @@ module _ (program : LinearProgram) (f g : Next)
   built_in_keeps Protect vs c = h _
   built_in_keeps RaiseException vs c = raise_keeps (raised (get_or vs 0 0) (get_or vs 1 0))
       AfterCall c
+  built_in_keeps Walk vs c = keeps_less c.events
+      (walk_events (functions_in (Waits c.frame ∷ c.below))) _ _ (h _)
 
   return_keeps : (v : ℕ) (items : List Item) (es : List Event) (store : Store)
       → Keeps es (return f v items es store) (return g v items es store)

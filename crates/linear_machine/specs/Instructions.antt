@@ -7,7 +7,7 @@ use Rattle.seh_num.specs.declared.event.Event.TheVariants as events
 use Rattle.seh_num.specs.Widths.{signed}
 use Rattle.flat_memory.specs.Memory.{protected, rights_asked}
 use Rattle.c_operations.specs.declared.built_in.BuiltIn.{BuiltIn}
-use Rattle.c_operations.specs.declared.built_in.BuiltIn.TheVariants.{Put, Protect, RaiseException}
+use Rattle.c_operations.specs.declared.built_in.BuiltIn.TheVariants.{Put, Protect, RaiseException, Walk}
 use Rattle.c_operations.specs.declared.operation.Operation.{Operation}
 use Rattle.c_operations.specs.declared.operation.Operation.TheVariants as operations
 use Rattle.c_operations.specs.declared.operation.Pure.TheVariants.{Constant}
@@ -21,8 +21,9 @@ use Rattle.linear_code.specs.declared.program.FuncletKind.TheVariants.{Filter, F
 use Rattle.linear_code.specs.Program.{LinearProgram, LinearFunction}
 use Rattle.source_meaning.specs.declared.ended.Ended.TheVariants as ends
 use Rattle.source_meaning.specs.Source.{is_reserved}
+use Rattle.source_meaning.specs.State.{walk_events}
 use Rattle.source_meaning.specs.Expressions.{of_test, field_of, raised, no_exception}
-use Rattle.linear_machine.specs.Frames.{BodyName, FunctionBody, FuncletBody, AfterCall, SameOperation, Item, Waits, Unwinds, Store, Configuration, Seen, Finished, Stuck, Next, pick, with_some, deeper, read, write, last_temporaries, at_label, forth, with_last}
+use Rattle.linear_machine.specs.Frames.{BodyName, FunctionBody, FuncletBody, AfterCall, SameOperation, Item, Waits, Unwinds, Store, Configuration, Seen, Finished, Stuck, Next, functions_in, pick, with_some, deeper, read, write, last_temporaries, at_label, forth, with_last}
 use Rattle.linear_machine.specs.Unwinding.{left_store, run_finally, unwind}
 use Rattle.linear_machine.specs.Searching.{raise, answer}
 
@@ -113,6 +114,7 @@ abbrev pub count_of : BuiltIn → ℕ
 count_of Put = 1
 count_of Protect = 2
 count_of RaiseException = 4
+count_of Walk = 0
 
 -- the result of a built-in function
 abbrev pub answers : Next → ℕ → Configuration → Seen
@@ -129,6 +131,9 @@ built_in program next Protect vs c =
     (record c { store = record c.store { memory = protected c.store.memory a number } })
 built_in program next RaiseException vs c =
     raise program next (raised (get_or vs 0 0) (get_or vs 1 0)) AfterCall c
+built_in program next Walk vs c =
+    let functions = functions_in (Waits c.frame ∷ c.below) in
+    answers next 0 (record c { events = c.events ++ walk_events functions })
 
 -- a call of a service with the last temporaries as its arguments
 abbrev pub call_built_in : LinearProgram → Next → BuiltIn → ℕ → Configuration → Seen

@@ -1,13 +1,13 @@
 -- The machine, and its step.
 use Rattle.std.specs.Prelude.{ℕ, zero, suc, ◌+◌, ◌-◌, ◌++◌, Bool, true, false, nat_eq, nat_lt, List}
-use Rattle.std.specs.Prelude.{[], ◌∷◌, length, take, replicate, get_or, slice_get, Option, Some}
+use Rattle.std.specs.Prelude.{[], ◌∷◌, length, reverse, take, replicate, get_or, slice_get, Option, Some}
 use Rattle.std.specs.Prelude.{None, is_some}
 use Rattle.seh_num.specs.declared.width.Width.TheVariants.{W32, W64}
 use Rattle.seh_num.specs.declared.event.Event.TheVariants as events
 use Rattle.seh_num.specs.Widths.{signed}
 use Rattle.flat_memory.specs.Memory.{protected, rights_asked}
 use Rattle.c_operations.specs.declared.built_in.BuiltIn.{BuiltIn}
-use Rattle.c_operations.specs.declared.built_in.BuiltIn.TheVariants.{Put, Protect, RaiseException}
+use Rattle.c_operations.specs.declared.built_in.BuiltIn.TheVariants.{Put, Protect, RaiseException, Walk}
 use Rattle.c_operations.specs.declared.operation.Operation.{Operation}
 use Rattle.c_operations.specs.Performed as performing
 use Rattle.c_operations.specs.Performed.{performed}
@@ -18,7 +18,8 @@ use Rattle.source_meaning.specs.declared.ended.Ended.TheVariants.{Unhandled, Und
 use Rattle.source_meaning.specs.Source.{is_reserved}
 use Rattle.source_meaning.specs.State.{Exception, State, Result, Value, Normal, Returned, Broke, Continued}
 use Rattle.source_meaning.specs.State.{LeftTry, Target, End, local_of, set_local, set_memory, emit, hold}
-use Rattle.source_meaning.specs.State.{let_go, depth, with_activation, with_outermost}
+use Rattle.source_meaning.specs.State.{let_go, depth, with_activation, with_outermost, emit_all}
+use Rattle.source_meaning.specs.State.{walk_events}
 use Rattle.source_meaning.specs.Tasks as tasks
 use Rattle.source_meaning.specs.Tasks.{Handler, Task}
 use Rattle.source_meaning.specs.Expressions.{of_test, no_exception, raised}
@@ -149,6 +150,9 @@ built_in m Protect vs p =
 built_in m RaiseException vs p =
     follow m (Push (Sequel frames.GivesZero)
     (Start (tasks.Raise (raised (get_or vs 0 0) (get_or vs 1 0))) p))
+built_in m Walk vs p =
+    with_next (at_state m (emit_all (walk_events (reverse m.state.functions)) m.state))
+    (Give (Value 0))
 
 abbrev pub called : Program → Machine → Callee → List ℕ → Place → Machine
 called program m (frames.Defined f) vs p = entered m f (slice_get program.functions f) vs

@@ -3,7 +3,7 @@ pub use Rattle.seh_num.specs.Widths.{low}
 pub use Rattle.seh_num.specs.declared.width.Width.TheVariants.{W32}
 pub use Rattle.c_operations.specs.Performed.{performed}
 pub use Rattle.c_operations.specs.declared.built_in.BuiltIn.{BuiltIn}
-pub use Rattle.c_operations.specs.declared.built_in.BuiltIn.TheVariants.{Put, Protect, RaiseException}
+pub use Rattle.c_operations.specs.declared.built_in.BuiltIn.TheVariants.{Put, Protect, RaiseException, Walk}
 pub use Rattle.c_operations.specs.declared.operation.Operation.{Operation}
 pub use Rattle.c_checked.specs.Expression.{Expression, On, Node, Lvalue, Local, Global, Indirection, Element, Arguments, Done}
 pub use Rattle.c_checked.specs.Program.{Program, Function}

@@ -52,9 +52,9 @@ module _ (k m : ℕ) where
       → Out k m a st.events (Gives how st) (Gives how (with_left l st))
   kin_gives a how st l n = (prefix_self st.events, gives_claim a how st l n)
 
-  kin_later : (a : Bool) (es : List Event) (e : Event) (o o' : Outcome)
-      → Out k m a (es ++ e ∷ []) o o' → Out k m a es o o'
-  kin_later a es e o o' s = (prefix_then es (es ++ e ∷ []) (events_of o') (e ∷ [], refl) s.0, s.1)
+  kin_later : (a : Bool) (es more : List Event) (o o' : Outcome)
+      → Out k m a (es ++ more) o o' → Out k m a es o o'
+  kin_later a es more o o' s = (prefix_then es (es ++ more) (events_of o') (more, refl) s.0, s.1)
 
   abbrev Stops : (Outcome → Outcome) → Type 0
   Stops c = (st : State) → c (Gives (End None) st) ≡ Gives (End None) st

@@ -7,7 +7,7 @@ use Rattle.c_operations.specs.Performed as performing
 use Rattle.c_operations.specs.Performed.{performed}
 use Rattle.c_checked.specs.declared.expression.Access.{Access}
 use Rattle.c_operations.specs.declared.built_in.BuiltIn.{BuiltIn}
-use Rattle.c_operations.specs.declared.built_in.BuiltIn.TheVariants.{Put, Protect, RaiseException}
+use Rattle.c_operations.specs.declared.built_in.BuiltIn.TheVariants.{Put, Protect, RaiseException, Walk}
 use Rattle.c_checked.specs.Expression as nodes
 use Rattle.c_checked.specs.Expression.{Expression, On, Node, Lvalue, Local, Global, Indirection, Element, Arguments, Done, Next}
 use Rattle.c_checked.specs.Statement.{Declared, Filter, Always, Funclet, Statement, Declare, Block, Evaluate, If, IfElse, For, DoWhile, Return, Break, Continue, Leave, TryExcept, TryFinally, Statements, Empty, Then}
@@ -93,6 +93,7 @@ module _ (R : Relation) (program : Program) (f g : Does) (alike : Related R f g)
   built_in_go Protect vs context = λ a st l n. give R (Value _) a _ l n
   built_in_go RaiseException vs context =
       λ a st l n. then_go R _ _ (give R (Value 0)) a _ _ _ (alike (Raise _) context a st l n)
+  built_in_go Walk vs context = λ a st l n. R.later a _ _ _ _ (give R (Value 0) a _ l n)
 
   node_go : (n : Node) (context : Context) → Go R (node program f n context)
       (node program g n context)

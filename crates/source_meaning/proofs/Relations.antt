@@ -15,7 +15,7 @@ pub record Relation : Type 1 where
   pub out : Bool → List Event → Outcome → Outcome → Type 0
   pub gives : (a : Bool) (how : Result) (st : State) (l : ℕ) → near a st.steps_left l
       → out a st.events (Gives how st) (Gives how (with_left l st))
-  pub later : (a : Bool) (es : List Event) (e : Event) (o o' : Outcome) → out a (es ++ e ∷ []) o o'
+  pub later : (a : Bool) (es more : List Event) (o o' : Outcome) → out a (es ++ more) o o'
       → out a es o o'
   -- what is done with an outcome, where nothing is done once no step is left
   pub through :

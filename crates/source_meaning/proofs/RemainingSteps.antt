@@ -37,7 +37,7 @@ same_relation b =
       near = λ a l l'. (l ≡ l') × (l ≤ b);
       out = λ a es o o'. Same b o o';
       gives = λ a how st l n. same_gives b how st l n.0 n.1;
-      later = λ a es e o o' s. s;
+      later = λ a es more o o' s. s;
       through =
           λ c c' stops cases a es o o' s. same_through b c c'
           (λ how st low. cases a how st st.steps_left (refl, low)) o o' s;

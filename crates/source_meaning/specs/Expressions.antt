@@ -1,7 +1,7 @@
 -- What expressions do, given what the tasks inside them do (C11, 6.5). Operands are evaluated from
 -- left to right.
 use Rattle.std.specs.Prelude.{ℕ, ◌+◌, ◌*◌, ◌%◌, Bool, false, not, nat_eq, if◌then◌else◌, List}
-use Rattle.std.specs.Prelude.{[], ◌∷◌, ◌++◌, length, slice_get, get_or, replicate, pos}
+use Rattle.std.specs.Prelude.{[], ◌∷◌, ◌++◌, length, reverse, slice_get, get_or, replicate, pos}
 use Rattle.std.specs.Prelude.{int_div, Option, Some, None, is_some}
 use Rattle.seh_num.specs.declared.width.Width.{Width}
 use Rattle.seh_num.specs.declared.width.Width.TheVariants.{W8, W16, W32, W64}
@@ -21,7 +21,7 @@ use Rattle.c_checked.specs.declared.expression.Access.{Access}
 use Rattle.c_checked.specs.declared.expression.Conversion.{Conversion}
 use Rattle.c_checked.specs.declared.expression.Conversion.TheVariants.{Kept, Extend, Scale}
 use Rattle.c_operations.specs.declared.built_in.BuiltIn.{BuiltIn}
-use Rattle.c_operations.specs.declared.built_in.BuiltIn.TheVariants.{Put, Protect, RaiseException}
+use Rattle.c_operations.specs.declared.built_in.BuiltIn.TheVariants.{Put, Protect, RaiseException, Walk}
 use Rattle.c_checked.specs.declared.expression.Fixity.{Fixity}
 use Rattle.c_checked.specs.declared.expression.Fixity.TheVariants.{Postfix, Prefix}
 use Rattle.c_checked.specs.Expression as nodes
@@ -34,6 +34,7 @@ use Rattle.source_meaning.specs.Source.{is_reserved}
 use Rattle.source_meaning.specs.State.{Exception, State, Value, Normal, Returned, Target, End, Outcome}
 use Rattle.source_meaning.specs.State.{Gives, choose, local_of, set_local, set_memory, emit, deeper}
 use Rattle.source_meaning.specs.State.{with_value, and_then, with_activation, with_outermost}
+use Rattle.source_meaning.specs.State.{emit_all, walk_events}
 use Rattle.source_meaning.specs.Tasks.{Context, Eval, Locate, Run, Raise, Retry, Does}
 
 -- ---- values
@@ -185,6 +186,8 @@ call_built_in does Protect vs context st =
 call_built_in does RaiseException vs context st =
     and_then (does (Raise (raised (get_or vs 0 0) (get_or vs 1 0))) context st)
     (λ st. Gives (Value 0) st)
+call_built_in does Walk vs context st =
+    Gives (Value 0) (emit_all (walk_events (reverse st.functions)) st)
 
 -- ---- expressions
 

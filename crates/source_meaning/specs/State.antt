@@ -1,7 +1,8 @@
 -- The states that a program goes through, and what a part of it comes to.
 use Rattle.std.specs.Prelude.{ℕ, ◌+◌, ◌-◌, Bool, true, false, nat_lt, List, [], ◌∷◌, ◌++◌, length, take}
-use Rattle.std.specs.Prelude.{slice_index, slice_set, slice_get, Option, Some, None}
+use Rattle.std.specs.Prelude.{slice_index, slice_set, slice_get, map, Option, Some, None}
 use Rattle.seh_num.specs.declared.event.Event.{Event}
+use Rattle.seh_num.specs.declared.event.Event.TheVariants.{At}
 use Rattle.flat_memory.specs.Memory.{Memory}
 use Rattle.source_meaning.specs.declared.ended.Ended.{Ended}
 use Rattle.source_meaning.specs.declared.ended.Ended.TheVariants.{Deep}
@@ -70,6 +71,14 @@ set_memory st memory = record st { memory = memory }
 
 abbrev pub emit : Event → State → State
 emit e st = record st { events = st.events ++ e ∷ [] }
+
+-- several events, in this order
+abbrev pub emit_all : List Event → State → State
+emit_all es st = record st { events = st.events ++ es }
+
+-- what a printed walk shows of these functions: their numbers, from 1
+abbrev pub walk_events : List ℕ → List Event
+walk_events functions = map (λ f. At (f + 1)) functions
 
 abbrev pub hold : State → State
 hold st = record st { held = st.held + 2 }
