@@ -20,7 +20,7 @@ use Rattle.host_model.specs.declared.funclet.Funclet.{Funclet}
 use Rattle.host_model.specs.Funclets.{by_kind, arrivals}
 use Rattle.c_operations.specs.declared.operation.Operation.{Operation}
 use Rattle.c_operations.specs.declared.built_in.BuiltIn.{BuiltIn}
-use Rattle.c_operations.specs.declared.built_in.BuiltIn.TheVariants.{Put, Protect, RaiseException}
+use Rattle.c_operations.specs.declared.built_in.BuiltIn.TheVariants.{Put, Protect, RaiseException, Walk}
 use Rattle.source_meaning.specs.Source.{is_reserved}
 use Rattle.linear_code.specs.declared.slot.Slot.{Slot}
 use Rattle.linear_code.specs.declared.slot.Slot.TheVariants.{Temporary}
@@ -31,6 +31,7 @@ use Rattle.linear_code.specs.declared.program.FuncletKind.TheVariants.{Filter, F
 use Rattle.linear_code.specs.Program.{LinearProgram, LinearBody, LinearFunclet}
 use Rattle.linear_machine.specs.Frames.{BodyName, body_of, Frame, Resumption, AfterCall, SameOperation}
 use Rattle.linear_machine.specs.Run.{instruction_in}
+use Rattle.linear_machine.specs.BuiltInCalls.{CallsBuiltIn}
 use Rattle.template_code.specs.Bytes.{size, sizes}
 use Rattle.template_code.specs.Slots.{fetch, operands_code}
 use Rattle.template_code.specs.Calls.{return_at}
@@ -57,15 +58,7 @@ abbrev pub service_of : BuiltIn → Service
 service_of Put = services.Put
 service_of Protect = services.Protect
 service_of RaiseException = services.RaiseException
-
--- a body of a program calls a built-in function
-pub record CallsBuiltIn (program : LinearProgram) (f : BuiltIn) : Type 0 where
-  pub name : BodyName
-  pub code : LinearBody
-  pub body : body_of program name ≡ Some code
-  pub label : ℕ
-  pub first : ℕ
-  pub calls : slice_get code.code label ≡ Some (instructions.CallBuiltIn f first)
+service_of Walk = services.Walk
 
 -- the frame of a body: its slots end at its return address
 abbrev pub frame_of : ImagePlan → BodyName → (back : ℕ) → List ℕ → StackFrame

@@ -82,6 +82,6 @@ pub use Rattle.match_bodies.specs.Callers.{HasCaller, FindsReturn, FindsOwed, Ow
 pub use Rattle.match_bodies.specs.CodeSites.{Sites, links_of, arguments_code, begin_of, making_size, frame_code, entry_code, code_of, give_back}
 pub use Rattle.match_bodies.specs.ConfigurationFacts.{IsWellMade, IsKnown}
 pub use Rattle.match_bodies.specs.Layouts.{IsFunctionLayout, IsLayoutIf, IsLaidOut, AreLaidOut, IsLeafLayout, IsFuncletLayout, IsFuncletPlan}
-pub use Rattle.match_bodies.specs.ProgramImages.{CallsBuiltIn, HasProgram, IsProgramImage, frame_of, service_of, HasService, IsMachineMemory, IsInImage, IsFramed}
+pub use Rattle.match_bodies.specs.ProgramImages.{HasProgram, IsProgramImage, frame_of, service_of, HasService, IsMachineMemory, IsInImage, IsFramed}
 pub use Rattle.match_bodies.specs.Setting.{setting_of, Setting, RepresentsAt, IsResumed}
 pub use Rattle.match_bodies.specs.SlotStores.{with_values, KeepsStackBut, OwnerHasFrame, with_values_if, IsInFrame, FrameWords, IsLeft, LeavesRegisters, ActivationIsAt, ActivationsAreAt, ActivationsAreStored}

@@ -30,11 +30,9 @@ module _ (setting : Setting) (roomy : HaveRoom setting.program) where
       → CallsBuiltIn program f
   calls_it s c b f first at = record {
     name = c.frame.body;
-    code = b.body.slots.code;
-    body = b.body.slots.body;
     label = c.frame.next;
     first = first;
-    calls = at;
+    calls = ap (λ (o : Option LinearBody). instruction_in o c.frame.next) b.body.slots.body ∙ at;
   }
 
   module _ (s : State) (c : Configuration) (b : RepresentsAt setting s c)

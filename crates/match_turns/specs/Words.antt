@@ -30,6 +30,7 @@ pub use Rattle.linear_code.specs.declared.program.Region.{Region}
 pub use Rattle.linear_code.specs.declared.program.RegionKind.{RegionKind}
 pub use Rattle.linear_code.specs.declared.slot.Slot.{Slot}
 pub use Rattle.linear_code.specs.declared.slot.Slot.TheVariants.{Local, Temporary}
+pub use Rattle.linear_machine.specs.BuiltInCalls.{CallsBuiltIn}
 pub use Rattle.linear_machine.specs.Frames.{Configuration, AfterCall, SameOperation, read, BodyName, FunctionBody, FuncletBody, body_of, Frame, Item, Waits, Searches, Unwinds, with_last, Next, deeper, last_temporaries, function_body, Finished, local_of, Seen, Handler, Target, Resumption, Store, funclet_body, forth, set_local, Running, Stuck}
 unfoldable pub use Rattle.linear_machine.specs.Frames.{with_some, pick}
 pub use Rattle.linear_machine.specs.Instructions.{waiting, begin_function, act, end_finally, local_unwind, end_funclet, end_body, return, written, is_constant, operand, computed, count_of, built_in}
@@ -112,7 +113,7 @@ pub use Rattle.match_bodies.specs.Callers.{FindsReturn, FindsOwed, Owed, IsOwed,
 pub use Rattle.match_bodies.specs.CodeSites.{Sites, links_of, function_arguments, parent_base, keep_argument, begin_of, making_size, frame_code, entry_code, funclet_arguments, keep_base}
 pub use Rattle.match_bodies.specs.ConfigurationFacts.{IsWellMade, IsKnown, KnownNext}
 pub use Rattle.match_bodies.specs.Layouts.{IsLayoutIf, IsFuncletPlan, IsFunctionLayout, IsLeafLayout, IsLaidOut, IsFuncletLayout}
-pub use Rattle.match_bodies.specs.ProgramImages.{CallsBuiltIn, frame_of, service_of, WorksAgain, IsProgramImage, is_finally, view_of, ReturnsThere}
+pub use Rattle.match_bodies.specs.ProgramImages.{frame_of, service_of, WorksAgain, IsProgramImage, is_finally, view_of, ReturnsThere}
 pub use Rattle.match_bodies.specs.Setting.{Setting, IsMachineMemory, RepresentsAt, InBody, IsResumed, setting_of, HasProgram}
 pub use Rattle.match_bodies.specs.SlotStores.{KeepsStackBut, OwnerHasFrame, with_values}
 pub use Rattle.match_bodies.specs.StepLaws.{turns_per_step}
