@@ -7,4 +7,4 @@ pub mod SingleTurns
 pub mod Walks
 pub mod Ranges
 pub mod MoreTurns
-mod WalkEvents
+pub mod WalkEvents

@@ -1,7 +1,7 @@
 -- The control addresses of a stack have the numbers of the functions that wait.
 use Rattle.std.proofs.Common.{◌≡◌, ℕ, ◌+◌, Some, None, List, [], ◌∷◌, Option, map, refl, ap, ◌∙◌}
 use Rattle.std.specs.List.{filter_map, cons_option}
-use Rattle.match_stack.specs.Words.{Memory, Context, context_of, Functions, Funclet, LinearProgram, Item, Waits, Searches, Unwinds, BodyName, FunctionBody, FuncletBody, StackItem, Framed, Leaf, Searching, Unwinding, after_frame, after_leaf, ImagePlan, Activation, activations_below, BodyWaits, Linked, with_function, functions_in, control_addresses, number_of, NumbersFunctions, ControlAddressesAreOfFunctions}
+use Rattle.match_stack.specs.Words.{Memory, Context, context_of, Functions, Funclet, LinearProgram, Item, Waits, Searches, Unwinds, Frame, BodyName, FunctionBody, FuncletBody, StackItem, Framed, Leaf, Searching, Unwinding, after_frame, after_leaf, ImagePlan, Activation, activations_below, BodyWaits, Linked, with_function, functions_in, control_addresses, number_of, NumbersFunctions, ControlAddressesAreOfFunctions}
 
 -- a number more, where there is one, is a function more
 one_more : (name : BodyName) (numbers functions : List ℕ)

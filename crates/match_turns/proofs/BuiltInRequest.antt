@@ -3,7 +3,7 @@
 use Rattle.match_turns.proofs.KeptRegisters.{saved_kept}
 use Rattle.std.proofs.Common.{◌≡◌, ℕ, ◌+◌, ◌-◌, ◌%◌, ◌^◌, ◌<◌, ◌≤◌, Some, List, [], ◌∷◌, length, Ok, refl, sym, ap, subst, ◌∙◌, arith, length-set, set, drop}
 use Rattle.std.specs.Prelude.{◌==◌, false, slice_get, take}
-use Rattle.match_turns.specs.Words.{kept_of, W64, loaded, IMAGE_BASE, IMAGE_RANGE_END, STACK_START, STACK_END, address_of, Rsp, Instr, opcode_register, Cpu, State, register, BuiltIn, Put, Protect, RaiseException, Temporary, BodyState, LinearBody, Configuration, body_of, regions_of, waiting, instruction_at, Layout, size, sizes, put_back, keep, temporary_at, call, IsNear, return_at, begin_call, clear_result, template, template_size, MachineView, machine, pushed, HasCode, KeepsAbove, IsWellFormed, IsLive, Comes, links_of, service_of, CallsBuiltIn, IsWellMade, IsKnown, Setting, InBody, IsMachineMemory, IsResumed, RepresentsAt, arguments_code}
+use Rattle.match_turns.specs.Words.{kept_of, W64, loaded, IMAGE_BASE, IMAGE_RANGE_END, STACK_START, STACK_END, address_of, Rsp, Instr, opcode_register, Cpu, State, register, BuiltIn, Put, Protect, RaiseException, Walk, Temporary, BodyState, LinearBody, Configuration, body_of, regions_of, waiting, instruction_at, Layout, size, sizes, put_back, keep, temporary_at, call, IsNear, return_at, begin_call, clear_result, template, template_size, MachineView, machine, pushed, HasCode, KeepsAbove, IsWellFormed, IsLive, Comes, links_of, service_of, CallsBuiltIn, IsWellMade, IsKnown, Setting, InBody, IsMachineMemory, IsResumed, RepresentsAt, arguments_code}
 use Rattle.x64_templates.specs.Runs.{Reaches}
 use Rattle.std.proofs.lemmas.List.{length-drop}
 use Rattle.linear_code.specs.declared.instruction.Instruction.TheVariants as instructions
@@ -24,11 +24,13 @@ service_low : (f : BuiltIn) → (1 ≤ address_of (service_of f))
 service_low Put = (omega arith, omega arith)
 service_low Protect = (omega arith, omega arith)
 service_low RaiseException = (omega arith, omega arith)
+service_low Walk = (omega arith, omega arith)
 
 service_live : (f : BuiltIn) → (address_of (service_of f) == 0) ≡ false
 service_live Put = refl
 service_live Protect = refl
 service_live RaiseException = refl
+service_live Walk = refl
 
 pub clear_size : size clear_result ≡ 5
 unfolding size opcode_register

@@ -1,7 +1,7 @@
 -- Each turn of a call of a built-in function, up to its service, keeps the shadow.
-use Rattle.std.proofs.Common.{◌≡◌, ℕ, ◌+◌, ◌-◌, Some, List, [], ◌∷◌, ◌++◌, refl, arith, inl}
+use Rattle.std.proofs.Common.{◌≡◌, ℕ, ◌+◌, ◌-◌, Option, Some, List, [], ◌∷◌, ◌++◌, refl, ap, ◌∙◌, arith, inl}
 use Rattle.std.specs.Prelude.{slice_get}
-use Rattle.match_turns.specs.Words.{address_of, Memory, Rsp, Instr, opcode_register, State, register, BuiltIn, Put, Protect, RaiseException, Temporary, Configuration, Layout, size, sizes, put_back, keep, temporary_at, IsNear, call, return_at, clear_result, AllKeep, HaveRoom, service_of, FindsReturn, CallsBuiltIn, Setting, IsResumed, RepresentsAt, arguments_code}
+use Rattle.match_turns.specs.Words.{address_of, Memory, Rsp, Instr, opcode_register, State, register, BuiltIn, Put, Protect, RaiseException, Walk, Temporary, LinearBody, Configuration, instruction_in, Layout, size, sizes, put_back, keep, temporary_at, IsNear, call, return_at, clear_result, AllKeep, HaveRoom, service_of, FindsReturn, CallsBuiltIn, Setting, IsResumed, RepresentsAt, arguments_code}
 use Rattle.x64_templates.specs.Runs.{Reaches}
 use Rattle.linear_code.specs.declared.instruction.Instruction.TheVariants as instructions
 use Rattle.match_turns.proofs.Lemmas.{sizes_append, call_size, others_of, StepsTo, reaches_steps, steps_split, keeps_split, AllPlain, arguments_plain, calls_keep, CalleeBegins, callee_begins, thunk_keeps, IsCounted, sp_low, room_here, has_slots}
@@ -22,6 +22,8 @@ module _ (setting : Setting) (roomy : HaveRoom setting.program) where
   service_found RaiseException m = image.callers_outside.services m
       (address_of (service_of RaiseException)) (omega arith) (omega arith)
       (λ e. absurd (omega arith)) (λ e. absurd (omega arith))
+  service_found Walk m = image.callers_outside.services m (address_of (service_of Walk)) (omega arith)
+      (omega arith) (λ e. absurd (omega arith)) (λ e. absurd (omega arith))
 
   -- the program calls it
   abbrev pub calls_it : (s : State) (c : Configuration) (b : RepresentsAt setting s c)

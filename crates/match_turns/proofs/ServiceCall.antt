@@ -3,7 +3,7 @@ use Rattle.std.proofs.Common.{◌≡◌, ℕ, zero, suc, ◌+◌, ◌^◌, ◌<�
 use Rattle.std.specs.Prelude.{slice_get}
 use Rattle.std.proofs.lemmas.Bool.{ne_eqb}
 use Rattle.std.proofs.lemmas.List.{length-set}
-use Rattle.match_turns.specs.Words.{opcode_register, IMAGE_BASE, IMAGE_RANGE_END, STACK_START, STACK_END, address_of, W64, loaded, Rsp, Flags, State, register, BuiltIn, Put, Protect, RaiseException, Temporary, Instruction, BodyState, Configuration, Layout, size, sizes, keep, IsNear, call, return_at, begin_call, call_code, clear_result, template_size, body_size, offset_of, MachineView, machine, pushed, HasCode, IsLive, Comes, HaveRoom, service_of, CallsBuiltIn, Setting, RepresentsAt, arguments_code}
+use Rattle.match_turns.specs.Words.{opcode_register, IMAGE_BASE, IMAGE_RANGE_END, STACK_START, STACK_END, address_of, W64, loaded, Rsp, Flags, State, register, BuiltIn, Put, Protect, RaiseException, Walk, Temporary, Instruction, BodyState, Configuration, Layout, size, sizes, keep, IsNear, call, return_at, begin_call, call_code, clear_result, template_size, body_size, offset_of, MachineView, machine, pushed, HasCode, IsLive, Comes, HaveRoom, service_of, CallsBuiltIn, Setting, RepresentsAt, arguments_code}
 use Rattle.x64_templates.specs.Runs.{Reaches}
 use Rattle.linear_code.specs.declared.instruction.Instruction.TheVariants as instructions
 use Rattle.match_turns.proofs.Lemmas.{sizes_append, call_size, call_code_size, code_split, reaches_silently, IsCounted, room_here, holds_here, sp_low, frame_top, frame, slots, v, sp_is, same_state, has_slots, template_here, next_address}
@@ -21,6 +21,7 @@ service_low : (f : BuiltIn) → (0 < address_of (service_of f))
 service_low Put = (omega arith, omega arith)
 service_low Protect = (omega arith, omega arith)
 service_low RaiseException = (omega arith, omega arith)
+service_low Walk = (omega arith, omega arith)
 
 -- an instruction of a body begins within it
 offset_most : (y : Layout) (body : List Instruction) (number : ℕ)

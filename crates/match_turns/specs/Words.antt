@@ -12,7 +12,7 @@ pub use Rattle.flat_memory.specs.declared.access.RefusedAccess.{RefusedAccess}
 pub use Rattle.flat_memory.specs.declared.protection.Protection.{Protection}
 pub use Rattle.c_operations.specs.Performed.{Raises, Gives, OperationResult, performed, Undefined}
 pub use Rattle.c_operations.specs.declared.built_in.BuiltIn.{BuiltIn}
-pub use Rattle.c_operations.specs.declared.built_in.BuiltIn.TheVariants.{Put, Protect, RaiseException}
+pub use Rattle.c_operations.specs.declared.built_in.BuiltIn.TheVariants.{Put, Protect, RaiseException, Walk}
 pub use Rattle.c_operations.specs.declared.field.Field.{Field}
 pub use Rattle.c_operations.specs.declared.field.Field.TheVariants.{ExceptionCode, ExceptionFlags, NumberParameters, ExceptionInformation}
 pub use Rattle.c_operations.specs.declared.operation.Operation.{Operation}
