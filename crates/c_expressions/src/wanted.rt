@@ -62,6 +62,7 @@ pub fn built_in_wants(alloc: Global, function: BuiltIn) -> Result<Vec<Wanted>, A
             wants.push(Wanted::ZeroLiteral)?;
             wants.push(Wanted::ZeroLiteral)?;
         }
+        BuiltIn::Walk => {}
     }
     Ok(wants)
 }
@@ -74,6 +75,7 @@ pub fn built_in_result(function: BuiltIn) -> CType
         BuiltIn::Put => plain(Base::Void),
         BuiltIn::Protect => plain(Base::Int),
         BuiltIn::RaiseException => plain(Base::Void),
+        BuiltIn::Walk => plain(Base::Void),
     }
 }
 

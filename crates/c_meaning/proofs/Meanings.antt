@@ -12,10 +12,8 @@ use Rattle.source_machine.specs.Frames as frames
 use Rattle.source_machine.specs.Machine.{Machine}
 use Rattle.source_machine.specs.FrameMeanings.{comes_to}
 use Rattle.source_machine.specs.Runs.{beginning}
-use Rattle.seh_io.specs.Names.{none_named}
 use Rattle.seh_io.specs.Writer.{TookEvents}
 use Rattle.seh_io.specs.Successive.{took_none}
-use Rattle.seh_io.specs.declared.names.NoNames.{NoNames}
 use Rattle.seh_io.specs.declared.receiver.Lines.{Lines}
 use Rattle.seh_num.specs.Shown.{Shown}
 use Rattle.c_meaning.specs.Runs.{Ran, ShownPart, Means, MeansPart, end_of}
@@ -53,12 +51,13 @@ shows_end (Gives (End e) st) = refl
 shows_end (Gives how st) = refl
 
 -- nothing is the front of what a program shows
-pub nothing_shown : {X : Type 0} (taken : X → Option (List ℕ)) (faults : X → ℕ)
-    (x : Lines X NoNames) (meant : Shown Ended) → MeansPart (TookEvents taken faults none_named) meant x x
-nothing_shown taken faults x meant =
+pub nothing_shown : {X N : Type 0} (taken : X → Option (List ℕ)) (faults : X → ℕ)
+    (named : N → ℕ → Option (List ℕ)) (x : Lines X N) (meant : Shown Ended)
+    → MeansPart (TookEvents taken faults named) meant x x
+nothing_shown taken faults named x meant =
     record {
       shown = [];
-      took_shown = took_none taken faults none_named x;
+      took_shown = took_none taken faults named x;
       front = (meant.events, refl);
     }
 

@@ -19,9 +19,7 @@ use Rattle.source_machine.proofs.WholeRuns.{shows_before, all_keep}
 use Rattle.source_values.proofs.Steps.{after_sum, after_more}
 use Rattle.source_steps.specs.declared.machine.Machine.{Machine as Machine'}
 use Rattle.source_steps.specs.Machines.{machine_of}
-use Rattle.seh_io.specs.Names.{none_named}
 use Rattle.seh_io.specs.Writer.{TookEvents}
-use Rattle.seh_io.specs.declared.names.NoNames.{NoNames}
 use Rattle.seh_io.specs.declared.receiver.Lines.{Lines}
 use Rattle.c_meaning.specs.declared.run.RunErr.{RunErr}
 use Rattle.c_meaning.specs.declared.run.RunErr.TheVariants.{Write, Memory}
@@ -139,13 +137,13 @@ module _ {X : Type 0} (took : X → List Event → X → Type 0) (program : Prog
           (sym (append-nil r.shown)) p
 
 -- a step whose line failed, after steps whose lines were written
-pub stops : {X : Type 0} (taken : X → Option (List ℕ)) (faults : X → ℕ) (program : Program)
-    (from : Machine) (x : Lines X NoNames) (m : Machine') (next : Next) (y : Lines X NoNames)
-    (m' : Machine') (next' : Next) (y' : Lines X NoNames)
-    → Reached (TookEvents taken faults none_named) program from x m next y
-    → Turned (TookEvents taken faults none_named) program m next y m' next' y'
-    → y.failed ≡ false → y'.failed ≡ true → Stopped taken faults program from x m' y'
-stops taken faults program from x m next y m' next' y' r t is was =
+pub stops : {X N : Type 0} (taken : X → Option (List ℕ)) (faults : X → ℕ)
+    (named : N → ℕ → Option (List ℕ)) (program : Program) (from : Machine) (x : Lines X N)
+    (m : Machine') (next : Next) (y : Lines X N) (m' : Machine') (next' : Next) (y' : Lines X N)
+    → Reached (TookEvents taken faults named) program from x m next y
+    → Turned (TookEvents taken faults named) program m next y m' next' y'
+    → y.failed ≡ false → y'.failed ≡ true → Stopped taken faults named program from x m' y'
+stops taken faults named program from x m next y m' next' y' r t is was =
     let led = t.stepped r.shown in
     let sum = after_sum program r.steps led.before from in
     let there : after program (r.steps + led.before) from
@@ -156,7 +154,7 @@ stops taken faults program from x m next y m' next' y' r t is was =
     record {
       steps = r.steps + led.before;
       before = y;
-      took_before = subst (λ es. TookEvents taken faults none_named x es y) events r.took_shown;
+      took_before = subst (λ es. TookEvents taken faults named x es y) events r.took_shown;
       written = is;
       next = next';
       shown = t.shown;
@@ -169,8 +167,9 @@ stops taken faults program from x m next y m' next' y' r t is was =
     }
 
 -- a line has failed where the run was stopped by one
-pub has_failed : {X : Type 0} (taken : X → Option (List ℕ)) (faults : X → ℕ) (program : Program)
-    (from : Machine) (x : Lines X NoNames) (m' : Machine') (x' : Lines X NoNames) (e : RunErr)
-    → HasStopped e taken faults program from x m' x' → HasFailed e x'.failed
-has_failed taken faults program from x m' x' Write h = h.failed
-has_failed taken faults program from x m' x' Memory h = tt
+pub has_failed : {X N : Type 0} (taken : X → Option (List ℕ)) (faults : X → ℕ)
+    (named : N → ℕ → Option (List ℕ)) (program : Program) (from : Machine) (x : Lines X N)
+    (m' : Machine') (x' : Lines X N) (e : RunErr)
+    → HasStopped e taken faults named program from x m' x' → HasFailed e x'.failed
+has_failed taken faults named program from x m' x' Write h = h.failed
+has_failed taken faults named program from x m' x' Memory h = tt

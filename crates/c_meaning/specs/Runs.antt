@@ -4,9 +4,7 @@ use Rattle.seh_num.specs.declared.width.Width.TheVariants.{W32}
 use Rattle.seh_num.specs.declared.event.Event.{Event}
 use Rattle.seh_num.specs.Widths.{signed}
 use Rattle.seh_num.specs.Shown.{Shown}
-use Rattle.seh_io.specs.Names.{none_named}
 use Rattle.seh_io.specs.Writer.{TookEvents}
-use Rattle.seh_io.specs.declared.names.NoNames.{NoNames}
 use Rattle.seh_io.specs.declared.receiver.Lines.{Lines}
 use Rattle.c_checked.specs.Program.{Program}
 use Rattle.source_meaning.specs.declared.ended.Ended.{Ended}
@@ -49,23 +47,24 @@ pub record ShownPart {X : Type 0} (took : X → List Event → X → Type 0) (pr
 
 -- a line couldn't be written: the lines of all that so many steps show were, and no step was made
 -- after the next one, which shows it
-pub record Stopped {X : Type 0} (taken : X → Option (List ℕ)) (faults : X → ℕ) (program : Program)
-    (m : Machine) (x : Lines X NoNames) (m' : Machine') (x' : Lines X NoNames) : Type 0 where
+pub record Stopped {X N : Type 0} (taken : X → Option (List ℕ)) (faults : X → ℕ)
+    (named : N → ℕ → Option (List ℕ)) (program : Program) (m : Machine) (x : Lines X N)
+    (m' : Machine') (x' : Lines X N) : Type 0 where
   pub steps : ℕ
-  pub before : Lines X NoNames
-  pub took_before : TookEvents taken faults none_named x (after program steps m).state.events before
+  pub before : Lines X N
+  pub took_before : TookEvents taken faults named x (after program steps m).state.events before
   pub written : before.failed ≡ false
   pub next : Next
   pub shown : List Event
-  pub took_last : TookEvents taken faults none_named before shown x'
+  pub took_last : TookEvents taken faults named before shown x'
   pub failed : x'.failed ≡ true
   pub last : after program (suc steps) m
       ≡ machine_of m' next ((after program steps m).state.events ++ shown)
 
-abbrev pub HasStopped : {X : Type 0} → RunErr → (X → Option (List ℕ)) → (X → ℕ) → Program
-    → Machine → Lines X NoNames → Machine' → Lines X NoNames → Type 0
-HasStopped Write taken faults program m x m' x' = Stopped taken faults program m x m' x'
-HasStopped Memory taken faults program m x m' x' = Unit {0}
+abbrev pub HasStopped : {X N : Type 0} → RunErr → (X → Option (List ℕ)) → (X → ℕ)
+    → (N → ℕ → Option (List ℕ)) → Program → Machine → Lines X N → Machine' → Lines X N → Type 0
+HasStopped Write taken faults named program m x m' x' = Stopped taken faults named program m x m' x'
+HasStopped Memory taken faults named program m x m' x' = Unit {0}
 
 -- whether a line has failed, after a run that was stopped; want of memory says nothing
 abbrev pub HasFailed : RunErr → Bool → Type 0

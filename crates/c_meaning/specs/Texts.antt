@@ -3,7 +3,6 @@ use Rattle.std.specs.Prelude.{◌≡◌, ℕ, Bool, List, ◌++◌, codes, Optio
 use Rattle.std.specs.Fmt.{decimal, signed_decimal}
 use Rattle.seh_num.specs.Shown.{Shown}
 use Rattle.seh_io.specs.Streams.{Rose, Grew}
-use Rattle.seh_io.specs.Names.{no_names}
 use Rattle.seh_io.specs.Text.{code_text, address_text, ended, lines}
 use Rattle.seh_io.specs.Writer.{TookPart}
 use Rattle.source_meaning.specs.declared.ended.Ended.{Ended}
@@ -27,9 +26,10 @@ abbrev pub ended_within : ℕ → Option Ended → Ended
 ended_within steps None = OutOfSteps steps
 ended_within steps (Some e) = e
 
-abbrev pub text : Bool → ℕ → Shown Ended → List ℕ
-text trace steps shown =
-    lines trace shown.events no_names ++ ended_line (ended_within steps shown.end)
+-- the names are those of the program's functions
+abbrev pub text : Bool → ℕ → Shown Ended → (ℕ → Option (List ℕ)) → List ℕ
+text trace steps shown names =
+    lines trace shown.events names ++ ended_line (ended_within steps shown.end)
 
 -- after a fault, and where memory is wanting, the sink took a part of the text from the front
 abbrev pub TookFront : MeanErr → Option (List ℕ) → List ℕ → Option (List ℕ) → Type 0

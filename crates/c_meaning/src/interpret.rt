@@ -5,11 +5,12 @@ ghost use Rattle.seh_io.specs.Streams.{Rose, Grew};
 ghost use Rattle.c_checked.specs.Whole as whole;
 ghost use Rattle.source_meaning.specs.Meaning as meaning;
 ghost use Rattle.c_meaning.specs.Texts as texts;
+ghost use Rattle.c_meaning.specs.FunctionNames.{names_of};
 
+use crate::function_names::FunctionNames;
 use crate::run::{RunErr, run_program};
 use c_checked::checked::Checked;
 use seh_io::line::{ADDRESS_DIGITS, CODE_DIGITS, Line};
-use seh_io::names::NoNames;
 use seh_io::receiver::Lines;
 use seh_io::sink::Sink;
 use source_meaning::ended::Ended;
@@ -72,15 +73,17 @@ pub fn interpret<O: Sink>(
     ensures end { IfOk result (λ e. e ≡ texts.ended_within budget (meaning.meaning
         (whole.program program.now) arg budget).end) }
     ensures text { IfOk result (λ e. Grew (O.taken sink.old) (texts.text trace budget
-        (meaning.meaning (whole.program program.now) arg budget)) (O.taken sink.new)) }
+        (meaning.meaning (whole.program program.now) arg budget)
+        (names_of (whole.program program.now))) (O.taken sink.new)) }
     ensures part { IfErr result (λ e. texts.TookFront e (O.taken sink.old)
-        (texts.text trace budget (meaning.meaning (whole.program program.now) arg budget))
-        (O.taken sink.new)) }
+        (texts.text trace budget (meaning.meaning (whole.program program.now) arg budget)
+        (names_of (whole.program program.now))) (O.taken sink.new)) }
     ensures cause { IfErr result (λ e.
         texts.MeaningHasCause e (O.faults sink.old) (O.faults sink.new)) }
     ensures faults { O.faults sink.old ≤ O.faults sink.new }
 {
-    let mut lines = Lines::new(sink, trace, &NoNames);
+    let names = FunctionNames { program };
+    let mut lines = Lines::new(sink, trace, &names);
     let end = match run_program(alloc, program, arg, budget, &mut lines) {
         Ok(end) => end,
         Err(RunErr::Write) => {

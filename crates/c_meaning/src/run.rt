@@ -1,21 +1,23 @@
 //! Whole runs.
 
-ghost use Rattle.std.specs.Prelude.{◌≡◌, ◌≤◌, ◌++◌, [], List, false, IfOk, IfErr, OnOk, OnErr, MatchOption, length, Some, option_map, slice_get};
+ghost use Rattle.std.specs.Prelude.{◌≡◌, ◌≤◌, ◌++◌, [], List, reverse, false, IfOk, IfErr, OnOk, OnErr, MatchOption, length, Some, option_map, slice_get};
 ghost use Rattle.seh_num.specs.declared.event.Event.{Event as Event'};
-ghost use Rattle.seh_io.specs.Names.{none_named};
 ghost use Rattle.seh_io.specs.Writer.{TookEvents};
 ghost use Rattle.c_checked.specs.Whole as whole;
 ghost use Rattle.source_meaning.specs.Source.{data_end as model_data_end};
 ghost use Rattle.source_meaning.specs.Meaning as meaning;
+ghost use Rattle.source_meaning.specs.State.{walk_events};
 ghost use Rattle.source_machine.specs.Frames as frames;
 ghost use Rattle.source_machine.specs.StepLaws.{is_over};
 ghost use Rattle.source_plans.specs.Views as views;
 ghost use Rattle.source_steps.specs.Machines.{machine_of, state_of};
+ghost use Rattle.source_steps.specs.Functions.{numbers_of};
 ghost use Rattle.source_machine.specs.Runs as model_runs;
 ghost use Rattle.c_meaning.specs.Runs as runs;
 ghost use Rattle.c_meaning.specs.Runs.{Turned, Ran, ShownPart, HasStopped, HasFailed, Means, MeansPart};
 
 use c_checked::checked::Checked;
+use seh_io::names::Names;
 use seh_io::receiver::{Events, Lines};
 use seh_io::sink::Sink;
 use seh_num::extension::wrap;
@@ -26,7 +28,8 @@ use source_plans::frame::{Action, Callee, Completion, Finish, Next};
 use source_plans::place::{NO_EXCEPTION, Place};
 use source_steps::activations::Activations;
 use source_steps::calls::low_signed;
-use source_steps::machine::{Machine, MachineStep};
+use source_steps::functions::LiveFunctions;
+use source_steps::machine::{Machine, MachineStep, StepEvents};
 use std::alloc::{AllocError, Global};
 
 /// Why a run ended before its end.
@@ -49,7 +52,16 @@ fn finish_of(next: &Next<'_>) -> Option<Finish>
     }
 }
 
-/// One step, whose event the receiver takes.
+/// Gives what a walk shows to a receiver: the functions of the live activations, innermost first.
+fn show_walk<V: Events>(functions: &LiveFunctions, to: &mut V)
+    ensures { V.took to.old (walk_events (reverse (numbers_of functions.now))) to.new }
+{
+    for index in (0..functions.numbers.len()).rev() {
+        to.take(&functions.numbers[index].shown());
+    }
+}
+
+/// One step, whose events the receiver takes.
 fn turn<'p, V: Events>(
     alloc: Global,
     program: &'p Checked,
@@ -65,9 +77,13 @@ fn turn<'p, V: Events>(
 {
     let MachineStep { next, shown } = machine.step(alloc, program, data_end, next)?;
     match shown {
-        None => Ok(next),
-        Some(event) => {
+        StepEvents::Nothing => Ok(next),
+        StepEvents::One(event) => {
             to.take(&event);
+            Ok(next)
+        }
+        StepEvents::Walk => {
+            show_walk(&machine.functions, to);
             Ok(next)
         }
     }
@@ -75,25 +91,25 @@ fn turn<'p, V: Events>(
 
 /// Runs the machine until its run is over, and writes the line of each event. It stops at the
 /// first line that can't be written, and makes no step after the one that shows it.
-fn run<'p, O: Sink>(
+fn run<'p, O: Sink, N: Names>(
     alloc: Global,
     program: &'p Checked,
     data_end: u64,
     machine: &mut Machine<'p>,
     first: Next<'p>,
-    lines: &mut Lines<'_, O>,
+    lines: &mut Lines<'_, O, N>,
 ) -> Result<Finish, RunErr>
     requires data { data_end ≡ model_data_end program.now.globals.items }
     requires fresh { lines.old.failed ≡ false }
     ensures same_reference { lines.new.sink.ghost_name ≡ lines.old.sink.ghost_name }
-    ensures ran { IfOk result (λ how. Ran (TookEvents O.taken O.faults none_named)
+    ensures ran { IfOk result (λ how. Ran (TookEvents O.taken O.faults N.named)
         (whole.program program.now) (machine_of machine.old (views.next_of first.entry) [])
         (views.finish_of how) lines.old lines.new) }
     ensures written { OnOk result (lines.new.failed ≡ false) }
-    ensures part { OnErr result (ShownPart (TookEvents O.taken O.faults none_named)
+    ensures part { OnErr result (ShownPart (TookEvents O.taken O.faults N.named)
         (whole.program program.now) (machine_of machine.old (views.next_of first.entry) [])
         lines.old lines.new) }
-    ensures stopped { IfErr result (λ e. HasStopped e O.taken O.faults
+    ensures stopped { IfErr result (λ e. HasStopped e O.taken O.faults N.named
         (whole.program program.now) (machine_of machine.old (views.next_of first.entry) [])
         lines.old machine.new lines.new) }
 {
@@ -125,7 +141,7 @@ fn first_machine<'p>(
         steps_left: budget,
         memory: first_memory(alloc, &program.globals)?,
         activations: Activations::new(alloc),
-        functions: Vec::new(alloc),
+        functions: LiveFunctions::new(alloc),
         held: 0,
         handlers: Vec::new(alloc),
         stack: Vec::new(alloc),
@@ -162,19 +178,19 @@ fn end_of(finish: Finish) -> Option<Ended>
 /// within them.
 ///
 /// After `Write` no step was made but those up to the one whose line failed.
-pub fn run_program<O: Sink>(
+pub fn run_program<O: Sink, N: Names>(
     alloc: Global,
     program: &Checked,
     arg: i64,
     budget: u64,
-    lines: &mut Lines<'_, O>,
+    lines: &mut Lines<'_, O, N>,
 ) -> Result<Option<Ended>, RunErr>
     requires { lines.old.failed ≡ false }
     ensures same_reference { lines.new.sink.ghost_name ≡ lines.old.sink.ghost_name }
-    ensures means { IfOk result (λ end. Means (TookEvents O.taken O.faults none_named)
+    ensures means { IfOk result (λ end. Means (TookEvents O.taken O.faults N.named)
         (meaning.meaning (whole.program program.now) arg budget) end lines.old lines.new) }
     ensures written { OnOk result (lines.new.failed ≡ false) }
-    ensures part { OnErr result (MeansPart (TookEvents O.taken O.faults none_named) (meaning.meaning
+    ensures part { OnErr result (MeansPart (TookEvents O.taken O.faults N.named) (meaning.meaning
         (whole.program program.now) arg budget) lines.old lines.new) }
     ensures failed { IfErr result (λ e. HasFailed e lines.new.failed) }
 {

@@ -8,7 +8,7 @@ use Rattle.c_operations.specs.Numbers.{width}
 use Rattle.c_operations.specs.declared.operation.Size.TheVariants as sizes
 use Rattle.c_operations.specs.declared.field.Field.TheVariants as fields
 use Rattle.c_operations.specs.declared.built_in.BuiltIn.{BuiltIn}
-use Rattle.c_operations.specs.declared.built_in.BuiltIn.TheVariants.{Put, Protect, RaiseException}
+use Rattle.c_operations.specs.declared.built_in.BuiltIn.TheVariants.{Put, Protect, RaiseException, Walk}
 use Rattle.c_checked.specs.declared.expression.Fixity.TheVariants.{Postfix, Prefix}
 use Rattle.c_checked.specs.Expression as nodes
 use Rattle.c_checked.specs.Program.{Function}
@@ -361,6 +361,7 @@ built_in_good S RaiseException es p q = record {
   sized = refl;
   zero = λ z. absurd (cc);
 }
+built_in_good S Walk es p q = record { sound = and_true p q; sized = refl; zero = λ z. absurd (cc) }
 
 -- a call that has a meaning in some places alone, whose node has no arguments
 only_where_settled : (S : TypingContext) (b : Bool) (at : ℕ) (f : Fault) (ws : List Wanted)

@@ -9,7 +9,7 @@ use Rattle.c_lex.specs.declared.token.IntegerType.{IntegerType}
 use Rattle.c_lex.specs.declared.token.IntegerType.TheVariants as integers
 use Rattle.c_operations.specs.declared.field.Field.TheVariants as fields
 use Rattle.c_operations.specs.declared.built_in.BuiltIn.{BuiltIn}
-use Rattle.c_operations.specs.declared.built_in.BuiltIn.TheVariants.{Put, Protect, RaiseException}
+use Rattle.c_operations.specs.declared.built_in.BuiltIn.TheVariants.{Put, Protect, RaiseException, Walk}
 use Rattle.c_operations.specs.Numbers.{width}
 use Rattle.c_checked.specs.declared.expression.Fixity.TheVariants.{Postfix, Prefix}
 use Rattle.c_checked.specs.Expression as nodes
@@ -188,11 +188,13 @@ abbrev pub built_in_wants : BuiltIn → List Wanted
 built_in_wants Put = OfType (plain LongLong) ∷ []
 built_in_wants Protect = OfType void_pointer ∷ OfType int ∷ []
 built_in_wants RaiseException = OfType unsigned ∷ OfType unsigned ∷ ZeroLiteral ∷ ZeroLiteral ∷ []
+built_in_wants Walk = []
 
 abbrev pub built_in_result : BuiltIn → CType
 built_in_result Put = plain Void
 built_in_result Protect = int
 built_in_result RaiseException = plain Void
+built_in_result Walk = plain Void
 
 abbrev pub fits : Wanted → TypedNode → Bool
 fits (OfType t) a = can_become t a

@@ -3,7 +3,7 @@ use Rattle.std.proofs.Common.{◌≡◌, ℕ, zero, suc, ◌+◌, ◌-◌, ◌*�
 use Rattle.std.specs.Prelude.{◌&&◌, IfOk}
 use Rattle.std.specs.List.{AllByRecursion}
 use Rattle.std.proofs.lemmas.Bool.{eq-eqb}
-use Rattle.image_link.specs.Words.{ImportedService, LinearBody, LinearFunction, LinearFunclet, LinearProgram, CanBeImage, ImageContents, RoutineView, is_leaf, framed, leaf_if, functions_from, funclet, routines, IsRoutineNear, IsSiteNear, AreFew, HasRoom, HasPlaces, table_bytes, SiteView, room, routine_size, bounds, first_routine_at, text_bytes, infos_room, infos, ranges, first, total, text_size, xdata_begin, IsPlacement, site, image_of, services_of, linked, FitsProgram, tables_room, function_bodies, funclet_bodies, program_tables_room}
+use Rattle.image_link.specs.Words.{ImportedService, LinearBody, LinearFunction, LinearFunclet, LinearProgram, CanBeImage, ImageContents, RoutineView, is_leaf, framed, leaf_if, functions_from, funclet, no_function, routines, IsRoutineNear, IsSiteNear, AreFew, HasRoom, HasPlaces, table_bytes, SiteView, room, routine_size, bounds, first_routine_at, text_bytes, infos_room, infos, ranges, first, total, text_size, xdata_begin, IsPlacement, site, image_of, services_of, linked, FitsProgram, tables_room, function_bodies, funclet_bodies, program_tables_room}
 use Rattle.image_link.proofs.Lemmas.{code_in_room}
 use Rattle.image_link.specs.declared.placement.Placement.{Placement}
 use Rattle.image_link.specs.declared.routine.Entry.TheVariants as entries
@@ -186,13 +186,6 @@ get_first : (a b : List RoutineView) (i : ℕ) (d : RoutineView) → i < length 
 get_first [] b i d lt = absurd (omega arith)
 get_first (r ∷ a) b zero d lt = refl
 get_first (r ∷ a) b (suc i) d lt = get_first a b i d (omega arith)
-
-abbrev no_function : LinearFunction
-no_function = record {
-  parameters = 0;
-  body =
-      record { locals = 0; temporaries = 0; passed = 0; code = []; regions = [] };
-}
 
 main_is : (p : LinearProgram) → FitsProgram p → (d : RoutineView)
     → get_or (routines p) p.main d ≡ framed (get_or p.functions p.main no_function)

@@ -28,7 +28,7 @@ pub use Rattle.x64_emit.specs.Rooms.{code_room}
 pub use Rattle.image_link.specs.Fits.{FitsFunction, FitsFunclet, FitsProgram, tables_room, function_bodies, funclet_bodies, program_tables_room, FitsSlot, FitsInstruction, FitsBody, FitsKind, text_room}
 pub use Rattle.image_link.specs.Linked.{total, first, text_size, xdata_begin, IsPlacement, site, image_of, linked, services_of}
 pub use Rattle.image_link.specs.Near.{IsRoutineNear, IsFrameNear, IsEntryNear, IsSiteNear, AreFew, HasRoom, HasPlaces}
-pub use Rattle.image_link.specs.Routines.{RoutineView, function_frame, framed, is_leaf, leaf_if, functions_from, funclet, routines, leaf_layout, function_layout, leaf, funclet_frame, nothing, body_of_function, body_of_funclet, kept_by, HasParent, entry_of, funclet_layout, has_call}
+pub use Rattle.image_link.specs.Routines.{RoutineView, function_frame, framed, is_leaf, leaf_if, functions_from, funclet, routines, leaf_layout, function_layout, leaf, funclet_frame, nothing, no_function, body_of_function, body_of_funclet, kept_by, HasParent, entry_of, funclet_layout, has_call}
 pub use Rattle.image_link.specs.Places.{PlaceView, place_at, places_from}
 pub use Rattle.image_link.specs.Tables.{infos_room, infos, range_if, range_of, ranges, trailer, scope_record, scope_records, scope_table, info_if, info_room, has_except, has_finally}
 unfoldable pub use Rattle.image_link.specs.Tables.{info_bytes}

@@ -72,7 +72,7 @@ pub use Rattle.x64_emit.specs.Near.{IsInstructionNear, IsNear}
 pub use Rattle.image_link.specs.Fits.{FitsProgram, FitsFunclet, function_bodies, funclet_bodies, FitsBody, FitsFunction}
 pub use Rattle.image_link.specs.Linked.{services_of, text_begin, first, total, linked, data_size}
 pub use Rattle.image_link.specs.Near.{IsFrameNear}
-pub use Rattle.image_link.specs.Routines.{RoutineView, funclet_frame, funclet, routines, leaf_if, nothing, has_call, kept_by, HasParent, functions_from, function_frame}
+pub use Rattle.image_link.specs.Routines.{RoutineView, funclet_frame, funclet, routines, leaf_if, nothing, no_function, has_call, kept_by, HasParent, functions_from, function_frame}
 pub use Rattle.image_link.specs.Tables.{has_except, has_finally, handler_address, jump_target, scope_record}
 unfoldable pub use Rattle.image_link.specs.Tables.{info_bytes}
 pub use Rattle.image_link.specs.Text.{routine_size, check_stack_at, bounds, argument_code, routine_code, SiteView, own_addresses, thunk_at, service_thunk, front_code, routines_bytes, thunks_at}

@@ -3,8 +3,8 @@ use Rattle.std.proofs.Common.{◌≡◌, ◌≤◌, ℕ, suc, ◌+◌, List, [],
 use Rattle.std.proofs.lemmas.Bool.{eq-eqb}
 use Rattle.std.proofs.lemmas.List.{length_push, take_at, drop_at}
 use Rattle.std.specs.Prelude.{Bool, take, nat_eq, get_or, slice_get, if◌then◌else◌, Some, None}
-use Rattle.std.specs.Prelude.{is_some}
-use Rattle.lowering_follows.specs.Words.{W64, W32, Arguments, Done, Program, Function, State, Value, Outcome, Gives, Exception, set_memory, emit, and_then, Context, Raise, of_test, enter, raised, each, call_built_in, within, Instruction, LinearProgram, LinearFunction, Store, Seen, Waits, deeper, with_some, AfterCall, last_temporaries, exec, Names, expression_size, arguments_size, expression_code, node_code, argument_count, arguments_code, NodeFits, ArgumentsFit, expression_weight, node_weight, arguments_weight, HasAt, signed, BuiltIn, Put, Protect, RaiseException, raise, count_of, begin_function, waiting, built_in, protected, rights_asked, Call, CallBuiltIn, Next}
+use Rattle.std.specs.Prelude.{is_some, reverse}
+use Rattle.lowering_follows.specs.Words.{W64, W32, Arguments, Done, Program, Function, State, Value, Outcome, Gives, Exception, set_memory, emit, and_then, Context, Raise, of_test, enter, raised, each, call_built_in, within, Instruction, LinearProgram, LinearFunction, Store, Seen, Waits, deeper, with_some, AfterCall, last_temporaries, exec, Names, expression_size, arguments_size, expression_code, node_code, argument_count, arguments_code, NodeFits, ArgumentsFit, expression_weight, node_weight, arguments_weight, HasAt, signed, BuiltIn, Put, Protect, RaiseException, Walk, raise, count_of, begin_function, waiting, built_in, protected, rights_asked, Call, CallBuiltIn, Next}
 use Rattle.c_checked.specs.Expression as nodes
 use Rattle.lowering_follows.proofs.Lemmas.{Part, Site, conf, price, joins, frame_of, more, then_plain, fetch, first, stepped, prefix_self}
 use Rattle.lowering_follows.proofs.Stores.{Shape}
@@ -15,6 +15,8 @@ use Rattle.lowering_follows.proofs.NodeParts.{Kp, Wv, From, from_at, here_value}
 use Rattle.lowering_follows.proofs.Nodes.{NodeRuns, operand_runs}
 use Rattle.seh_num.specs.declared.event.Event.TheVariants as events
 use Rattle.lowering_follows.proofs.Stores.{memory_alike}
+use Rattle.lowering_follows.proofs.Environments.{functions_at as functions_here}
+use Rattle.source_meaning.specs.State.{emit_all, walk_events}
 
 -- the last temporaries are the arguments
 last_are : (ts vs : List ℕ) (count : ℕ) → length vs ≡ count
@@ -243,6 +245,21 @@ module _ (program : Program) (linear : LinearProgram) (rate body : ℕ)
         (λ mid after lower kept held. here_value program linear rate body same_globals roomy n ih
         names info z shapes context site base around (pc + 1) temps 0 mid after 0 0 0 0
         (omega arith) kept held))
+    built_in_runs Walk pc temps vs st store x o len steps light le has kept held =
+        let es = walk_events (reverse st.functions) in
+        let same : functions_here site ≡ reverse st.functions = around.functions
+        ∙ ap reverse (sym kept.2) in
+        record {
+          store = store;
+          fits = kept;
+          same = held;
+          reaches = stepped linear rate (conf context site pc (temps ++ vs) st store)
+              (pushed context site (pc + 1) temps 0 (emit_all es st) store) st (emit_all es st) 13
+              x o refl (omega arith) (omega arith) refl (es, refl)
+              (λ k. built_in_turn Walk pc temps vs st store k has len
+              ∙ ap (λ fs. pushed context site (pc + 1) temps 0 (emit_all (walk_events fs) st) store
+              (exec linear k)) same);
+        }
 
     pub built_in_node : (b : BuiltIn) (es : Arguments) (pc : ℕ) (temps : List ℕ) (st : State)
         (store : Store) → st.steps_left ≤ n → 1 + node_weight (nodes.CallBuiltIn b es) + body + 4

@@ -2,7 +2,7 @@
 use Rattle.std.proofs.Common.{◌≡◌, ◌<◌, ℕ, suc, ◌^◌, List, [], ◌∷◌, length, refl, sym, ap, subst, ◌∙◌, arith}
 use Rattle.std.proofs.lemmas.Bool.{ltb-true}
 use Rattle.std.specs.Prelude.{Bool, true, false, ◌&&◌, slice_get, Option, Some, None}
-use Rattle.lowering_follows.specs.Words.{BuiltIn, Put, Protect, RaiseException, Operation, Pure, Size, Int, Long, Conversion, Expression, On, Node, Lvalue, Global, Indirection, Element, Arguments, Done, Program, Function, are_sizes, TypingContext, is_number, size_after, unary_takes, takes, built_in_takes, constant_fits, amount_fits, change_fits, call_fits, lvalue_size, argument_sizes, expression_sound, node_sound, lvalue_sound, arguments_sound, is_constant, count_of, argument_count, ExpressionFits, LvalueFits, ArgumentsFit, NodeFits, IsCalled, Local, Next}
+use Rattle.lowering_follows.specs.Words.{BuiltIn, Put, Protect, RaiseException, Walk, Operation, Pure, Size, Int, Long, Conversion, Expression, On, Node, Lvalue, Global, Indirection, Element, Arguments, Done, Program, Function, are_sizes, TypingContext, is_number, size_after, unary_takes, takes, built_in_takes, constant_fits, amount_fits, change_fits, call_fits, lvalue_size, argument_sizes, expression_sound, node_sound, lvalue_sound, arguments_sound, is_constant, count_of, argument_count, ExpressionFits, LvalueFits, ArgumentsFit, NodeFits, IsCalled, Local, Next}
 use Rattle.c_operations.specs.declared.operation.Operation.TheVariants as operations
 use Rattle.c_operations.specs.declared.operation.Pure.TheVariants as pures
 use Rattle.c_checked.specs.Expression as nodes
@@ -60,6 +60,7 @@ built_in_count : (k : BuiltIn) → length (built_in_takes k) ≡ count_of k
 built_in_count Put = refl
 built_in_count Protect = refl
 built_in_count RaiseException = refl
+built_in_count Walk = refl
 
 called : (program : Program) (s : TypingContext) (f : ℕ) (es : Arguments) (o : Option Function)
     → slice_get program.functions f ≡ o → call_fits o (argument_sizes s es) ≡ true

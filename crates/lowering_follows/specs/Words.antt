@@ -5,7 +5,7 @@ pub use Rattle.flat_memory.specs.Memory.{protected, rights_asked, Memory}
 pub use Rattle.c_operations.specs.Numbers.{width, extended, result_of}
 pub use Rattle.c_operations.specs.Performed.{performed, signed_part}
 pub use Rattle.c_operations.specs.declared.built_in.BuiltIn.{BuiltIn}
-pub use Rattle.c_operations.specs.declared.built_in.BuiltIn.TheVariants.{Put, Protect, RaiseException}
+pub use Rattle.c_operations.specs.declared.built_in.BuiltIn.TheVariants.{Put, Protect, RaiseException, Walk}
 pub use Rattle.c_operations.specs.declared.field.Field.{Field}
 pub use Rattle.c_operations.specs.declared.operation.Operation.{Operation}
 pub use Rattle.c_operations.specs.declared.operation.Pure.{Pure}

@@ -2,7 +2,7 @@
 use Rattle.std.proofs.Common.{◌≡◌, ℕ, zero, suc, ◌+◌, ◌-◌, ◌^◌, ◌≤◌, List, [], ◌∷◌, ◌++◌, length, refl, sym, ap, subst, ◌∙◌, arith, length-append}
 use Rattle.std.proofs.lemmas.List.{length-replicate}
 use Rattle.std.specs.Prelude.{Bool, true, false, nat_eq, nat_lt, slice_get, take, replicate, get_or, ℤ, Option, Some, None}
-use Rattle.lowering_invariants.specs.Words.{Event, W32, low, signed, BuiltIn, Put, Protect, RaiseException, OperationResult, Gives, Raises, Undefined, performed, Exception, is_reserved, of_test, field_of, raised, noncontinuable, raise_event, Slot, Local, Temporary, Instruction, Region, RegionKind, FuncletKind, LinearProgram, LinearFunction, BodyName, FunctionBody, FuncletBody, Handler, Target, Resumption, AfterCall, SameOperation, Item, Waits, Searches, Unwinds, Store, Configuration, Seen, Finished, Stuck, Next, pick, read, write, with_temporary, with_temporaries, last_temporaries, set_local, at_label, forth, with_last, regions_at, regions_left, handlers, stops, flag_of, run_finally, arrive, target_past, left_store, leave_region, unwind_body, unwind, target_of, accept, consult, search, raise, resumed, answer, is_constant, operand, written, computed, tested, waiting, count_of, built_in, return, end_finally, end_funclet, end_body, not_landed, act, begin_function, instruction_at, start, main_arguments, IsTurn, IsReached, IsFinallyKind, IsFuncletOf, IsKindOf, IsWhole, MayWait, IsHandler, AreHandlers, IsStacked, owners_of, AreWorking, IsActivationOf, AreActivations, HasActivations}
+use Rattle.lowering_invariants.specs.Words.{Event, W32, low, signed, BuiltIn, Put, Protect, RaiseException, Walk, OperationResult, Gives, Raises, Undefined, performed, Exception, is_reserved, of_test, field_of, raised, noncontinuable, raise_event, Slot, Local, Temporary, Instruction, Region, RegionKind, FuncletKind, LinearProgram, LinearFunction, BodyName, FunctionBody, FuncletBody, Handler, Target, Resumption, AfterCall, SameOperation, Item, Waits, Searches, Unwinds, Store, Configuration, Seen, Finished, Stuck, Next, pick, read, write, with_temporary, with_temporaries, last_temporaries, set_local, at_label, forth, with_last, regions_at, regions_left, handlers, stops, flag_of, run_finally, arrive, target_past, left_store, leave_region, unwind_body, unwind, target_of, accept, consult, search, raise, resumed, answer, is_constant, operand, written, computed, tested, waiting, count_of, built_in, return, end_finally, end_funclet, end_body, not_landed, act, begin_function, instruction_at, start, main_arguments, IsTurn, IsReached, IsFinallyKind, IsFuncletOf, IsKindOf, IsWhole, MayWait, IsHandler, AreHandlers, IsStacked, owners_of, AreWorking, IsActivationOf, AreActivations, HasActivations}
 use Rattle.seh_num.specs.declared.event.Event.TheVariants as events
 use Rattle.source_meaning.specs.declared.ended.Ended.TheVariants as ends
 use Rattle.linear_code.specs.declared.instruction.Instruction.TheVariants as instructions
@@ -226,6 +226,7 @@ module _ (program : LinearProgram) (whole : IsWhole program) where
   raises_with RaiseException e first n h = h
   raises_with Put e first n h = absurd (cc)
   raises_with Protect e first n h = absurd (cc)
+  raises_with Walk e first n h = absurd (cc)
 
   built_in_turn : (c : Configuration) (k : BuiltIn) (vs : List ℕ)
       → (k ≡ RaiseException → Items program (Waits c.frame ∷ c.below)) → at_rest c
@@ -234,6 +235,7 @@ module _ (program : LinearProgram) (whole : IsWhole program) where
   built_in_turn c Protect vs w o = goes _ o
   built_in_turn c RaiseException vs w o = raise_turn (raised (get_or vs 0 0) (get_or vs 1 0))
       AfterCall c (w refl) o
+  built_in_turn c Walk vs w o = goes _ o
 
   tested_turn : (c : Configuration) (slot : Slot) (label v : ℕ) → at_rest c
       → Turn (Ok program) (λ next. pick (nat_eq v 0) (next (at_label label (tested slot c)))

@@ -4,7 +4,7 @@ use Rattle.std.proofs.lemmas.Bool.{eqb-true, eqb-false, leb-true}
 use Rattle.std.proofs.lemmas.List.{length-take-le}
 use Rattle.std.proofs.lemmas.Option.{slice_get_within}
 use Rattle.std.specs.Prelude.{Bool, true, false, nat_eq, nat_le, nat_lt, slice_get, take, if◌then◌else◌, get_or, Option, Some, None}
-use Rattle.lowering_invariants.specs.Words.{Event, W32, low, signed, BuiltIn, Put, Protect, RaiseException, Operation, OperationResult, Gives, Raises, Undefined, performed, Exception, is_reserved, field_of, raised, noncontinuable, raise_event, Slot, Local, Temporary, Instruction, Region, RegionKind, FuncletKind, LinearProgram, LinearBody, BodyName, FunctionBody, FuncletBody, body_of, Frame, Handler, Target, Resumption, AfterCall, SameOperation, Item, Waits, Searches, Unwinds, Store, Configuration, Seen, Finished, Stuck, Next, pick, read, write, with_temporary, with_temporaries, last_temporaries, set_local, at_label, forth, with_last, regions_at, regions_left, handlers, stops, flag_of, run_finally, arrive, target_past, left_store, leave_region, unwind_body, unwind, target_of, accept, consult, search, raise, resumed, answer, is_constant, operand, written, computed, tested, count_of, built_in, return, end_finally, end_funclet, end_body, not_landed, act, instruction_in, instruction_at, start, IsTurn, IsReached, IsWhole, MayWait, IsHandler, LandsAt, IsTarget, IsAbove, IsRaisedIn, AreHandlers, AreWaiting, IsStacked, IsAt, IsCalledBy, IsRunFor, with_written, after, depth_at, depth_in, taken, depth, WaitsDeep, AreDeep, HasDepths}
+use Rattle.lowering_invariants.specs.Words.{Event, W32, low, signed, BuiltIn, Put, Protect, RaiseException, Walk, Operation, OperationResult, Gives, Raises, Undefined, performed, Exception, is_reserved, field_of, raised, noncontinuable, raise_event, Slot, Local, Temporary, Instruction, Region, RegionKind, FuncletKind, LinearProgram, LinearBody, BodyName, FunctionBody, FuncletBody, body_of, Frame, Handler, Target, Resumption, AfterCall, SameOperation, Item, Waits, Searches, Unwinds, Store, Configuration, Seen, Finished, Stuck, Next, pick, read, write, with_temporary, with_temporaries, last_temporaries, set_local, at_label, forth, with_last, regions_at, regions_left, handlers, stops, flag_of, run_finally, arrive, target_past, left_store, leave_region, unwind_body, unwind, target_of, accept, consult, search, raise, resumed, answer, is_constant, operand, written, computed, tested, count_of, built_in, return, end_finally, end_funclet, end_body, not_landed, act, instruction_in, instruction_at, start, IsTurn, IsReached, IsWhole, MayWait, IsHandler, LandsAt, IsTarget, IsAbove, IsRaisedIn, AreHandlers, AreWaiting, IsStacked, IsAt, IsCalledBy, IsRunFor, with_written, after, depth_at, depth_in, taken, depth, WaitsDeep, AreDeep, HasDepths}
 use Rattle.seh_num.specs.declared.event.Event.TheVariants as events
 use Rattle.source_meaning.specs.declared.ended.Ended.TheVariants as ends
 use Rattle.linear_code.specs.declared.instruction.Instruction.TheVariants as instructions
@@ -390,6 +390,9 @@ module _ (program : LinearProgram) (whole : IsWhole program)
         let i = instructions.CallBuiltIn RaiseException first in
         raise_turn (raised (get_or vs 0 0) (get_or vs 1 0)) AfterCall (with_last ts c)
         (waits program whole.bodies c s i at refl ts n) (deep i at ts m)
+    built_in_turn Walk first vs ts at n m = to_turn _ refl refl
+        (with_result (with_last ts c).frame (instructions.CallBuiltIn Walk first) first 0 at
+        (λ x. refl) n)
 
     tested_turn : (slot : Slot) (label v : ℕ)
         → instruction_at program c ≡ Some (instructions.JumpIfZero slot label) → read c slot ≡ Some

@@ -7,7 +7,7 @@ pub use Rattle.flat_memory.specs.Memory.{Memory, next, may_read, may_write, with
 unfoldable pub use Rattle.flat_memory.specs.Memory.{first_refused, number_at, with_number}
 pub use Rattle.c_operations.specs.Performed.{performed, OperationResult, Gives, Raises, Undefined, fault_of, signed_part, unsigned_part, unless_reserved, unless_refused, accessed}
 pub use Rattle.c_operations.specs.declared.built_in.BuiltIn.{BuiltIn}
-pub use Rattle.c_operations.specs.declared.built_in.BuiltIn.TheVariants.{Put, Protect, RaiseException}
+pub use Rattle.c_operations.specs.declared.built_in.BuiltIn.TheVariants.{Put, Protect, RaiseException, Walk}
 pub use Rattle.c_operations.specs.declared.field.Field.{Field}
 pub use Rattle.c_operations.specs.declared.operation.Operation.{Operation}
 pub use Rattle.c_operations.specs.declared.operation.Pure.{Pure}

@@ -1,7 +1,7 @@
 -- What each instruction leads to.
 use Rattle.std.proofs.Common.{◌≡◌, inl, inr, ℕ, ◌+◌, ◌<◌, ◌⊎◌, List, ◌∷◌, refl, sym, ap, subst, ◌∙◌}
 use Rattle.std.specs.Prelude.{true, false, nat_eq, length, slice_get, take, get_or, Option, Some, None}
-use Rattle.lowering_locals.specs.Words.{BuiltIn, Put, Protect, RaiseException, Operation, OperationResult, Gives, Raises, Undefined, performed, is_reserved, field_of, raised, Slot, Local, Temporary, Instruction, LinearProgram, LinearFunction, BodyName, FunctionBody, SameOperation, AfterCall, Waits, Configuration, Finished, pick, read, with_temporary, with_temporaries, last_temporaries, set_local, at_label, forth, with_last, write, is_constant, operand, written, computed, tested, count_of, built_in, not_landed, act, instruction_at, IsTurn, IsWhole, IsCallee, Marks, outcome_of, local_given, local_in, local_written, SeenNames, IsPart, with_slot, IsLocalOf, locals_at, Leads, IsSetMap, Marked, here, AreKept, AreCovered, IsRecorded, IsGiven, Before, Written, Passed, IsStep, IsStacked}
+use Rattle.lowering_locals.specs.Words.{BuiltIn, Put, Protect, RaiseException, Walk, Operation, OperationResult, Gives, Raises, Undefined, performed, is_reserved, field_of, raised, Slot, Local, Temporary, Instruction, LinearProgram, LinearFunction, BodyName, FunctionBody, SameOperation, AfterCall, Waits, Configuration, Finished, pick, read, with_temporary, with_temporaries, last_temporaries, set_local, at_label, forth, with_last, write, is_constant, operand, written, computed, tested, count_of, built_in, not_landed, act, instruction_at, IsTurn, IsWhole, IsCallee, Marks, outcome_of, local_given, local_in, local_written, SeenNames, IsPart, with_slot, IsLocalOf, locals_at, Leads, IsSetMap, Marked, here, AreKept, AreCovered, IsRecorded, IsGiven, Before, Written, Passed, IsStep, IsStacked}
 use Rattle.source_meaning.specs.declared.ended.Ended.TheVariants as ends
 use Rattle.linear_code.specs.declared.instruction.Instruction.TheVariants as instructions
 use Rattle.lowering_locals.proofs.Lemmas.{Turn, Halts, Moves, pick_turn, some_turn, deeper_turn, kept, same_it, seen_cases, is_parameter}
@@ -119,6 +119,8 @@ module _ (program : LinearProgram) (whole : IsWhole program) (sets : BodyName �
       goes.raise_turn program sets recorded marks (instructions.CallBuiltIn RaiseException first) c
       (raised (get_or vs 0 0) (get_or vs 1 0)) AfterCall (with_last ts c) now.kept
       (now.running, now.waiting) (adds_none c.events)
+  built_in_turn Walk first vs ts at = on_turn (instructions.CallBuiltIn Walk first) _ refl refl refl
+      (leads (instructions.CallBuiltIn Walk first) at)
 
   tested_turn : (slot : Slot) (label v : ℕ) → instruction_at program c
       ≡ Some (instructions.JumpIfZero slot label)

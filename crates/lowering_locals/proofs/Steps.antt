@@ -4,7 +4,7 @@ use Rattle.std.proofs.Common.{◌≡◌, ℕ, ◌+◌, ◌-◌, List, [], ◌∷
 use Rattle.std.proofs.lemmas.List.{length-drop, length-replicate}
 use Rattle.std.specs.Prelude.{Bool, true, false, nat_eq, take, drop, get_or, replicate, slice_get, if◌then◌else◌, Option, Some, None}
 use Rattle.std.specs.Prelude.{is_some}
-use Rattle.lowering_locals.specs.Words.{Event, W32, W64, signed, BuiltIn, Put, Protect, RaiseException, Operation, OperationResult, Gives, Raises, Undefined, performed, is_reserved, of_test, field_of, raised, no_exception, Slot, Local, Temporary, Instruction, LinearProgram, LinearFunction, FunctionBody, Item, Waits, AfterCall, SameOperation, Store, Configuration, Seen, Finished, Stuck, Next, pick, with_some, deeper, read, with_temporary, with_temporaries, last_temporaries, set_local, at_label, forth, with_last, is_constant, operand, written, computed, tested, waiting, begin_function, count_of, built_in, end_body, not_landed, act, Marks, flag_set, with_mark, first_marks, outcome_of, local_in, local_given, marks_left, next_marks, AreActivationsAlike, AreLocalsAlike, IsSet, AreOperandsSet, ReadsSet}
+use Rattle.lowering_locals.specs.Words.{Event, W32, W64, signed, BuiltIn, Put, Protect, RaiseException, Walk, Operation, OperationResult, Gives, Raises, Undefined, performed, is_reserved, of_test, field_of, raised, no_exception, Slot, Local, Temporary, Instruction, LinearProgram, LinearFunction, FunctionBody, Item, Waits, AfterCall, SameOperation, Store, Configuration, Seen, Finished, Stuck, Next, pick, with_some, deeper, read, with_temporary, with_temporaries, last_temporaries, set_local, at_label, forth, with_last, is_constant, operand, written, computed, tested, waiting, begin_function, count_of, built_in, end_body, not_landed, act, Marks, flag_set, with_mark, first_marks, outcome_of, local_in, local_given, marks_left, next_marks, AreActivationsAlike, AreLocalsAlike, IsSet, AreOperandsSet, ReadsSet}
 use Rattle.seh_num.specs.declared.event.Event.TheVariants as events
 use Rattle.flat_memory.specs.Memory.{protected, rights_asked}
 use Rattle.source_meaning.specs.declared.ended.Ended.TheVariants as ends
@@ -12,7 +12,9 @@ use Rattle.linear_code.specs.declared.instruction.Instruction.TheVariants as ins
 use Rattle.lowering_locals.proofs.Lemmas.{same_it}
 use Rattle.lowering_invariants.proofs.Ready.{last_are}
 use Rattle.lowering_locals.proofs.Lists.{set_in, Alive, same_read, as_long, one_more, begun_alike, whole_alive, set_alive}
-use Rattle.lowering_locals.proofs.Events.{Adds, adds_none, adds_one, no_block_events}
+use Rattle.lowering_locals.proofs.Events.{Adds, adds_none, adds_one, adds_all, walk_is_no_block, no_block_events}
+use Rattle.linear_machine.specs.Frames.{functions_in}
+use Rattle.source_meaning.specs.State.{walk_events}
 use Rattle.lowering_locals.proofs.TurnPairs.{over_store, over, Both, Halt, Move, pick_both, some_both, deeper_both}
 use Rattle.lowering_locals.proofs.Unwinding.{AfterWrite, After, no_block_after, goes, block_both, unwind_both, raise_both, end_both}
 
@@ -83,6 +85,11 @@ module _ (program : LinearProgram) (marks : Marks) (before : List Event) where
       h
   built_in_both c ys RaiseException vs a h = raise_both program marks before
       (raised (get_or vs 0 0) (get_or vs 1 0)) AfterCall c ys a h
+  built_in_both c ys Walk vs a h =
+      let functions = functions_in (Waits c.frame ∷ c.below) in
+      goes program marks before (forth (with_last (c.frame.temporaries ++ 0 ∷ [])
+      (record c { events = c.events ++ walk_events functions }))) ys
+      (adds_all before c.events (walk_events functions) a (walk_is_no_block functions)) h
 
   both_ways : (c : Configuration) (ys : List (List ℕ)) (label v : ℕ) → Adds before c.events
       → Alive marks c.store.activations ys

@@ -4,7 +4,7 @@ pub use Rattle.seh_num.specs.declared.event.Event.{Event}
 pub use Rattle.seh_num.specs.declared.width.Width.TheVariants.{W32, W64}
 pub use Rattle.c_operations.specs.Performed.{OperationResult, Gives, Raises, Undefined, performed}
 pub use Rattle.c_operations.specs.declared.built_in.BuiltIn.{BuiltIn}
-pub use Rattle.c_operations.specs.declared.built_in.BuiltIn.TheVariants.{Put, Protect, RaiseException}
+pub use Rattle.c_operations.specs.declared.built_in.BuiltIn.TheVariants.{Put, Protect, RaiseException, Walk}
 pub use Rattle.c_operations.specs.declared.operation.Operation.{Operation}
 pub use Rattle.c_checked.specs.Expression.{Expression, On, Node, Lvalue, Global, Indirection, Element, Arguments, Done}
 pub use Rattle.c_checked.specs.LocalScopes.{SeenNames, IsPart, with_local, after_statement, expression_within, optional_within, node_within, lvalue_within, arguments_within, filter_within, after_all_declared, all_declared_within, first_seen, function_within, functions_within, IsScoped, after_declared, statement_within, statements_within, declared_within}

@@ -2,6 +2,7 @@ pub mod Back
 pub mod Below
 pub mod Example
 pub mod Front
+pub mod NameTables
 mod Octets
 pub mod Pieces
 pub mod Programs

@@ -78,3 +78,6 @@ pub const XDATA_NAME: [u8; 8] = *b".xdata\0\0";
 
 /// That of the section of the function table.
 pub const PDATA_NAME: [u8; 8] = *b".pdata\0\0";
+
+/// That of the section of the table of names (own).
+pub const NAMES_NAME: [u8; 8] = *b".sehname";

@@ -1,3 +1,4 @@
+pub mod FewFunctions
 pub mod Stacks
 pub mod LocalsLemmas
 pub mod Handlers

@@ -71,7 +71,7 @@ abbrev pub Evaluated : Program → Machine' → ℕ → Expression → Place →
 Evaluated program m left e p m' value =
     MatchOption value (Unchanged m m') (EvaluatedTo program m left e p m')
 
--- some steps that show nothing, and one that may show an event
+-- some steps that show nothing, and one that may show events
 pub record Led (program : Program) (m m' : Machine) : Type 0 where
   pub before : ℕ
   pub silent : (after program before m).state.events ≡ m.state.events
@@ -81,4 +81,4 @@ abbrev pub Advanced : Program → Machine' → Next → Machine' → MachineStep
 Advanced program m next m' step =
     (es : List Event)
     → Led program (machine_of m next es)
-    (machine_of m' (next_of step.next) (shown_after es step.shown))
+    (machine_of m' (next_of step.next) (shown_after m' es step.shown))

@@ -1,16 +1,19 @@
 -- What the code's machine represents, with what was shown.
-use Rattle.std.specs.Prelude.{◌≡◌, List, [], ◌∷◌, ◌++◌, map, reverse, Option, Some, None, Result}
+use Rattle.std.specs.Prelude.{◌≡◌, List, [], ◌∷◌, ◌++◌, map, reverse, Result}
 use Rattle.std.specs.Prelude.{IfOk}
 use Rattle.seh_num.specs.declared.event.Event.{Event}
 use Rattle.x64_memory.specs.PageMaps.{memory_of}
-use Rattle.source_meaning.specs.State.{State}
+use Rattle.source_meaning.specs.State.{State, walk_events}
 use Rattle.source_machine.specs.Frames as frames
 use Rattle.source_machine.specs.Machine.{Machine}
 use Rattle.source_steps.specs.declared.machine.Machine.{Machine as Machine'}
 use Rattle.source_steps.specs.Activations.{frames_of}
+use Rattle.source_steps.specs.Functions.{numbers_of}
 use Rattle.source_plans.specs.Views.{handler_of, frame_of, next_of}
 use Rattle.source_plans.specs.declared.frame.Next.{Next as Next'}
 use Rattle.source_steps.specs.declared.machine.MachineStep.{MachineStep}
+use Rattle.source_steps.specs.declared.machine.StepEvents.{StepEvents}
+use Rattle.source_steps.specs.declared.machine.StepEvents.TheVariants.{Nothing, One, Walk}
 
 abbrev pub state_of : Machine' → List Event → State
 state_of m es =
@@ -18,7 +21,7 @@ state_of m es =
       steps_left = m.steps_left;
       memory = memory_of m.memory;
       frames = frames_of m.activations;
-      functions = m.functions.items;
+      functions = numbers_of m.functions;
       held = m.held;
       events = es;
     }
@@ -33,9 +36,11 @@ machine_of m next es =
       next = next;
     }
 
-abbrev pub shown_after : List Event → Option Event → List Event
-shown_after es None = es
-shown_after es (Some e) = es ++ e ∷ []
+-- the events after a step that shows these; a walk shows the functions that the machine has
+abbrev pub shown_after : Machine' → List Event → StepEvents → List Event
+shown_after m es Nothing = es
+shown_after m es (One e) = es ++ e ∷ []
+shown_after m es Walk = es ++ walk_events (reverse (numbers_of m.functions))
 
 -- a machine became another by a change, which shows nothing, and this is done next
 abbrev pub Moved : Machine' → Machine' → (Machine → Machine) → Next' → Type 0
@@ -43,13 +48,13 @@ Moved m m' change next =
     (x : frames.Next) (es : List Event)
     → change (machine_of m x es) ≡ machine_of m' (next_of next) es
 
--- the same, where the change may show an event
+-- the same, where the change may show events
 abbrev pub Showed : Machine' → Machine' → (Machine → Machine) → MachineStep → Type 0
 Showed m m' change step =
     (x : frames.Next) (es : List Event)
-    → change (machine_of m x es) ≡ machine_of m' (next_of step.next) (shown_after es step.shown)
+    → change (machine_of m x es) ≡ machine_of m' (next_of step.next) (shown_after m' es step.shown)
 
--- where a change moved a machine, the step shows that change and no event
+-- where a change moved a machine, the step shows that change and no events
 abbrev pub ShowsNothing : {E : Type 0} → Result Next' E → Result MachineStep E → Type 0
 ShowsNothing next step =
     (m m' : Machine') (change : Machine → Machine)

@@ -14,7 +14,8 @@ ghost use Rattle.source_plans.specs.Views.{place_of};
 ghost use Rattle.source_steps.specs.Machines.{machine_of, shown_after, Moved, Showed};
 
 use crate::activations::with_zeros;
-use crate::machine::{Machine, MachineStep, showing, silent, too_deep};
+use crate::functions::FunctionNumber;
+use crate::machine::{Machine, MachineStep, showing, silent, too_deep, walking};
 use c_checked::checked::Checked;
 use c_checked::function::Function;
 use c_operations::built_in::BuiltIn;
@@ -63,11 +64,11 @@ impl<'p> Machine<'p> {
     /// The body of the function of this number, in an activation of its own.
     fn enter(
         &mut self,
-        number: u64,
+        number: FunctionNumber,
         function: &'p Function,
         values: Vec<u64>,
     ) -> Result<Next<'p>, AllocError>
-        ensures { IfOk result (Moved self.old self.new (λ m. model.entered m number (Some
+        ensures { IfOk result (Moved self.old self.new (λ m. model.entered m number.value (Some
             (programs.function function.now)) values.items)) }
     {
         if self.is_deep(1) {
@@ -112,6 +113,7 @@ impl<'p> Machine<'p> {
                 let task = Task::Raise(raised(first, second));
                 Ok(silent(start(task, place)))
             }
+            BuiltIn::Walk => Ok(walking(Next::Does(Action::Give(Completion::Value(0))))),
         }
     }
 
@@ -131,7 +133,10 @@ impl<'p> Machine<'p> {
             Callee::BuiltIn(function) => self.call_built_in(function, &values, place),
             Callee::Defined(index) => match program.functions.get(index as usize) {
                 None => Ok(silent(Next::Does(Action::Give(Completion::Value(0))))),
-                Some(function) => Ok(silent(self.enter(index, function, values)?)),
+                Some(function) => {
+                    let number = FunctionNumber::new(program, index);
+                    Ok(silent(self.enter(number, function, values)?))
+                }
             },
         }
     }

@@ -1,17 +1,18 @@
 //! The machine that runs an accepted program, and its steps.
 //!
 //! `machine` has memory, activations, handlers and the stack of what waits, so that no depth of a
-//! program needs the stack of the processor. `stepping` does one step, with the event that it
-//! shows, after those that `directly` can do at once; `calls`, `places`, `raises` and `giving` do
+//! program needs the stack of the processor. `stepping` does one step, with the events that
+//! it shows, after those that `directly` can do at once; `calls`, `places`, `raises` and `giving` do
 //! the parts of steps that change the machine.
 //!
-//! Proved: a step leaves the machine, and shows the event, of some steps of the definition, of
-//! which the last alone shows one. Begin with `stepping`.
+//! Proved: a step leaves the machine, and shows the events, of some steps of the definition, of
+//! which the last alone shows any. Begin with `stepping`.
 #![tactic(auto)]
 
 pub mod activations;
 pub mod calls;
 pub mod directly;
+pub mod functions;
 pub mod giving;
 pub mod machine;
 pub mod places;

@@ -1,7 +1,8 @@
 //! The machine, and what changes it.
 
-ghost use Rattle.std.specs.Prelude.{◌≡◌, ◌≤◌, ◌++◌, [], ◌∷◌, List, IfOk, OnOk};
+ghost use Rattle.std.specs.Prelude.{◌≡◌, ◌≤◌, ◌++◌, [], ◌∷◌, List, reverse, IfOk, OnOk};
 ghost use Rattle.source_meaning.specs.State as states;
+ghost use Rattle.source_meaning.specs.State.{walk_events};
 ghost use Rattle.source_meaning.specs.declared.ended.Ended.TheVariants as ends;
 ghost use Rattle.seh_num.specs.declared.event.Event.{Event as Event'};
 ghost use Rattle.source_machine.specs.Frames as frames;
@@ -10,8 +11,11 @@ ghost use Rattle.source_plans.specs.Views as views;
 ghost use Rattle.source_plans.specs.Views.{place_of};
 ghost use Rattle.source_steps.specs.Machines.{machine_of, state_of, shown_after, Moved, Showed};
 ghost use Rattle.source_steps.specs.Machines.{ShowsNothing};
+ghost use Rattle.source_steps.specs.Functions.{numbers_of};
+ghost use Rattle.source_steps.specs.declared.machine.Machine as model_machines;
 
 use crate::activations::Activations;
+use crate::functions::LiveFunctions;
 use seh_num::event::Event;
 use source_meaning::depth::{DEEPEST, TOO_DEEP};
 use source_meaning::ended::Ended;
@@ -30,8 +34,8 @@ pub struct Machine<'p> {
     pub memory: PageMap,
     /// The locals of the live activations, the outermost first.
     pub activations: Activations,
-    /// The function of each of them, by its number.
-    pub functions: Vec<u64>,
+    /// The function of each of them.
+    pub functions: LiveFunctions,
     /// What is held of the depth beside the live activations: 2 for each filter and `__finally`
     /// block that runs, or that a target has left, and 1 for each activation that one has left,
     /// until it lands.
@@ -42,21 +46,36 @@ pub struct Machine<'p> {
     pub stack: Vec<ContinuationFrame<'p>>,
 }
 
+/// The events of a step.
+#[derive(Clone, Copy)]
+pub enum StepEvents {
+    /// None.
+    Nothing,
+    /// One.
+    One(Event),
+    /// One for each live activation, innermost first: those that the machine has after the step.
+    Walk,
+}
+
 /// What is done next, and what was shown.
 #[derive(Drop)]
 pub struct MachineStep<'p> {
     /// What is done next.
     pub next: Next<'p>,
-    /// The event that the step shows, or None.
-    pub shown: Option<Event>,
+    /// The events that the step shows.
+    pub shown: StepEvents,
 }
 
 /// A step that shows nothing.
 pub fn silent<'p>(next: Next<'p>) -> MachineStep<'p>
     ensures next { views.next_of result.next ≡ views.next_of next.entry }
-    ensures shown { (es : List Event') → shown_after es result.shown ≡ es }
+    ensures shown { (m : model_machines.Machine) (es : List Event') → shown_after m es result.shown
+        ≡ es }
 {
-    MachineStep { next, shown: None }
+    MachineStep {
+        next,
+        shown: StepEvents::Nothing,
+    }
 }
 
 /// A step that shows nothing, where what is done next is there.
@@ -72,11 +91,24 @@ pub fn silently<'p>(next: Result<Next<'p>, AllocError>) -> Result<MachineStep<'p
 /// A step that shows an event.
 pub fn showing<'p>(event: Event, next: Next<'p>) -> MachineStep<'p>
     ensures next { views.next_of result.next ≡ views.next_of next.entry }
-    ensures shown { (es : List Event') → shown_after es result.shown ≡ es ++ event ∷ [] }
+    ensures shown { (m : model_machines.Machine) (es : List Event') → shown_after m es result.shown
+        ≡ es ++ event ∷ [] }
 {
     MachineStep {
         next,
-        shown: Some(event),
+        shown: StepEvents::One(event),
+    }
+}
+
+/// A step that shows the live activations.
+pub fn walking<'p>(next: Next<'p>) -> MachineStep<'p>
+    ensures next { views.next_of result.next ≡ views.next_of next.entry }
+    ensures shown { (m : model_machines.Machine) (es : List Event') → shown_after m es result.shown
+        ≡ es ++ walk_events (reverse (numbers_of m.functions)) }
+{
+    MachineStep {
+        next,
+        shown: StepEvents::Walk,
     }
 }
 

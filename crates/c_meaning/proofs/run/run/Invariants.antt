@@ -1,5 +1,4 @@
 use Rattle.std.proofs.Common.{◌≡◌, false, []}
-use Rattle.seh_io.specs.Names.{none_named}
 use Rattle.seh_io.specs.Writer.{TookEvents}
 use Rattle.c_checked.specs.Whole as whole
 use Rattle.source_machine.specs.StepLaws.{distance}
@@ -10,7 +9,7 @@ use Rattle.c_meaning.proofs.run.run.Given as goal
 
 abbrev pub invariant-loop-how : goal.invariant-loop-how
 invariant-loop-how g l =
-    Reached (TookEvents g.O.Sink.taken g.O.Sink.faults none_named) (whole.program l.program)
+    Reached (TookEvents g.O.Sink.taken g.O.Sink.faults g.N.Names.named) (whole.program l.program)
     (machine_of l.initial.machine (next_of l.initial.next) []) l.initial.lines l.machine
     (next_of l.next) l.lines
     × (l.lines.failed ≡ false)

@@ -1,6 +1,5 @@
 use Rattle.std.proofs.Common.{[], w64, to_z, of_z}
 use Rattle.std.proofs.lemmas.Int.{to_z-of_z}
-use Rattle.seh_io.specs.Names.{none_named}
 use Rattle.seh_io.specs.Writer.{TookEvents}
 use Rattle.c_checked.specs.Whole as whole
 use Rattle.source_machine.specs.Frames as frames
@@ -12,11 +11,11 @@ use Rattle.c_meaning.proofs.run.run_program.Goals as goal
 
 pub returns-in_default-clause-part : goal.returns-in_default-clause-part
 returns-in_default-clause-part g c =
-    nothing_shown g.O.Sink.taken g.O.Sink.faults c.args.lines.now _
+    nothing_shown g.O.Sink.taken g.O.Sink.faults g.N.Names.named c.args.lines.now _
 
 pub returns-in_default-first_machine-clause-part : goal.returns-in_default-first_machine-clause-part
 returns-in_default-first_machine-clause-part g c =
-    nothing_shown g.O.Sink.taken g.O.Sink.faults c.args.lines.now _
+    nothing_shown g.O.Sink.taken g.O.Sink.faults g.N.Names.named c.args.lines.now _
 
 pub returns-in-Ok-run-clause-means : goal.returns-in-Ok-run-clause-means
 returns-in-Ok-run-clause-means g c =
@@ -25,7 +24,7 @@ returns-in-Ok-run-clause-means g c =
     let vs = c.in-Ok.arguments.items in
     let is = started p c.args.arg (to_z w64 (of_z w64 c.args.arg)) c.args.budget vs made
     (to_z-of_z w64 c.args.arg c.ranges.arg) c.in-Ok-first_machine.ensures c.in-Ok.ensures in
-    means_of (TookEvents g.O.Sink.taken g.O.Sink.faults none_named) p c.args.arg c.args.budget
+    means_of (TookEvents g.O.Sink.taken g.O.Sink.faults g.N.Names.named) p c.args.arg c.args.budget
     (made (first_call p vs)) is c.args.lines.now c.run.new.lines
     (views.finish_of c.in-Ok-run.finish) c.end_of.result c.end_of.ensures c.in-Ok-run.ensures.ran
 
@@ -36,10 +35,10 @@ returns-clause-part g c =
     let vs = c.in-Ok.arguments.items in
     let is = started p c.args.arg (to_z w64 (of_z w64 c.args.arg)) c.args.budget vs made
     (to_z-of_z w64 c.args.arg c.ranges.arg) c.in-Ok-first_machine.ensures c.in-Ok.ensures in
-    part_of (TookEvents g.O.Sink.taken g.O.Sink.faults none_named) p c.args.arg c.args.budget
+    part_of (TookEvents g.O.Sink.taken g.O.Sink.faults g.N.Names.named) p c.args.arg c.args.budget
     (made (first_call p vs)) is c.args.lines.now c.run.new.lines c.in-Err.ensures.part
 
 pub returns-clause-failed : goal.returns-clause-failed
 returns-clause-failed g c =
-    has_failed g.O.Sink.taken g.O.Sink.faults (whole.program c.args.program.now) _ c.args.lines.now
+    has_failed g.O.Sink.taken g.O.Sink.faults g.N.Names.named (whole.program c.args.program.now) _ c.args.lines.now
     c.run.new.machine c.run.new.lines c.in-Err.error c.in-Err.ensures.stopped

@@ -42,7 +42,7 @@ returns-in-SetLocal c = λ x es.
     (views.action_of n)) c.in-SetLocal.is
     ∙ ap (λ m. model.with_next m (frames.Give Normal)) (c.set_local.ensures x es)
     ∙ (λ i. machine_of c.set_local.new.self (sym c.silent-in-SetLocal.ensures.next i)
-    (sym (c.silent-in-SetLocal.ensures.shown es) i))
+    (sym (c.silent-in-SetLocal.ensures.shown c.set_local.new.self es) i))
 
 pub returns-in-Guard : goal.returns-in-Guard
 returns-in-Guard c =

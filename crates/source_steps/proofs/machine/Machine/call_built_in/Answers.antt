@@ -18,4 +18,4 @@ returns-in_ok-push-in-RaiseException c = λ x es.
     c.in-RaiseException.is
     ∙ c.in_ok-push-in-RaiseException.ensures _ x es
     ∙ (λ i. machine_of c.push.new.self (sym next_is i)
-    (sym (c.silent-in-RaiseException.ensures.shown es) i))
+    (sym (c.silent-in-RaiseException.ensures.shown c.push.new.self es) i))

@@ -27,7 +27,7 @@ returns c = λ x es.
     ∙ (λ i. model.follow (record (machine_of m x es) {
       state = record (state_of m es) {
         frames = sym frames_is i;
-        functions = sym c.in_ok-push-2.ensures.items i;
+        functions = sym c.in_ok-push-2.ensures i;
       };
     })
     (frames.Push (frames.EndsCall (sym c.len-activation.ensures i))

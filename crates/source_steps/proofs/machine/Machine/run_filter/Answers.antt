@@ -16,7 +16,7 @@ returns-then-is_deep c = λ x es.
     too_deep_is _ (machine_of c.args.self.now x es) _ _
     (sym (c.is_deep.ensures es) ∙ c.if-is_deep.true)
     (λ i. machine_of c.args.self.now ((c.silent.ensures.next ∙ c.too_deep.ensures) i)
-    (c.silent.ensures.shown es i))
+    (c.silent.ensures.shown c.args.self.now es i))
 
 pub returns : goal.returns
 returns c = λ x es.
@@ -39,4 +39,4 @@ returns c = λ x es.
     (frames.Push (frames.InStatement frames.EndsFilter) next)) (sym held_is)
     ∙ c.in_ok-push.ensures next x (es ++ event ∷ [])
     ∙ (λ i. machine_of c.push.new.self (sym (c.showing.ensures.next ∙ c.evaluates.ensures) i)
-    (sym (c.showing.ensures.shown es) i))
+    (sym (c.showing.ensures.shown c.push.new.self es) i))
