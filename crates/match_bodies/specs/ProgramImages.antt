@@ -45,8 +45,10 @@ use Rattle.x64_templates.specs.Thunks.{HasThunk}
 use Rattle.x64_templates.specs.Epilogues.{IsReturn}
 use Rattle.match_stack.specs.Stack.{StackFrame, FrameIsAt, LeafIsAt, IsAsTold}
 use Rattle.match_stack.specs.ImagePlan.{ImagePlan, Gives}
+use Rattle.match_stack.specs.ControlAddresses.{NumbersFunctions}
 use Rattle.match_stack.specs.StackRecords.{IsData}
 use Rattle.seh_walk.specs.Walk.{filter_return, finally_return}
+use Rattle.seh_walk.specs.Controls.{number_at}
 use Rattle.frame_rules.specs.Bytes.{spell}
 use Rattle.frame_rules.specs.Plan as rules
 use Rattle.match_bodies.specs.CodeSites.{Sites, body_plan, links_of, begin_of, making_size, epilogue_through, arguments_code, entry_code, code_of}
@@ -291,3 +293,5 @@ module _ (t : Functions) (fs : List Funclet) (program : LinearProgram) (p : Imag
     pub callers : (name : BodyName) (b : LinearBody) → body_of program name ≡ Some b
         → FindsCallers name b
     pub callers_outside : FindsCallersOutside
+    -- where `walk` is called, the rows of names hold the code of functions alone, with their numbers
+    pub names : CallsBuiltIn program Walk → NumbersFunctions program p (number_at t)

@@ -1,7 +1,31 @@
--- The control addresses of a stack have the numbers of the functions that wait.
-use Rattle.std.proofs.Common.{◌≡◌, ℕ, ◌+◌, Some, None, List, [], ◌∷◌, Option, map, refl, ap, ◌∙◌}
+-- The control addresses of a stack: a walk comes to them, and they have the numbers of the functions
+-- that wait.
+use Rattle.std.proofs.Common.{◌≡◌, ℕ, zero, suc, ◌+◌, Some, None, List, [], ◌∷◌, Option, map, length, refl, ap, ◌∙◌, arith}
 use Rattle.std.specs.List.{filter_map, cons_option}
-use Rattle.match_stack.specs.Words.{Memory, Context, context_of, Functions, Funclet, LinearProgram, Item, Waits, Searches, Unwinds, Frame, BodyName, FunctionBody, FuncletBody, StackItem, Framed, Leaf, Searching, Unwinding, after_frame, after_leaf, ImagePlan, Activation, activations_below, BodyWaits, Linked, with_function, functions_in, control_addresses, number_of, NumbersFunctions, ControlAddressesAreOfFunctions}
+use Rattle.match_stack.specs.Words.{Memory, Context, context_of, Functions, Funclet, LinearProgram, Item, Waits, Searches, Unwinds, Frame, BodyName, FunctionBody, FuncletBody, StackItem, Framed, Leaf, Searching, Unwinding, after_frame, after_leaf, ImagePlan, Activation, activations_below, BodyWaits, Linked, with_function, functions_in, state, IsStack, control_addresses, number_of, NumbersFunctions, ControlsAreOfTheList, ControlAddressesAreOfFunctions}
+use Rattle.seh_walk.specs.Controls.{controls, controls_from, with_address}
+use Rattle.match_stack.proofs.ItemVisits.{frame_is_visited, leaf_is_visited, search_is_passed, unwinding_is_passed, stack_is_over}
+
+-- in more steps than there are items
+pub controls_are_of_the_list : ControlsAreOfTheList
+unfolding controls
+controls_are_of_the_list t m c row is zero s lt = absurd (omega arith)
+controls_are_of_the_list t m c row [] (suc k) s lt =
+    ap (controls_from (controls k t m) (state c row)) (stack_is_over t m c row s)
+controls_are_of_the_list t m c row (Framed f ∷ is) (suc k) s lt =
+    ap (controls_from (controls k t m) (state c row)) (frame_is_visited t m c row f s.0)
+    ∙ ap (with_address c.rip)
+    (controls_are_of_the_list t m (after_frame c f) 0 is k s.1 (omega arith))
+controls_are_of_the_list t m c row (Leaf back ∷ is) (suc k) s lt =
+    ap (controls_from (controls k t m) (state c row)) (leaf_is_visited t m c row back s.0)
+    ∙ ap (with_address c.rip)
+    (controls_are_of_the_list t m (after_leaf c back) 0 is k s.1 (omega arith))
+controls_are_of_the_list t m c row (Searching r ∷ is) (suc k) s lt =
+    ap (controls_from (controls k t m) (state c row)) (search_is_passed t m c row r s.0)
+    ∙ controls_are_of_the_list t m (context_of r.saved) 0 is k s.1 (omega arith)
+controls_are_of_the_list t m c row (Unwinding r ∷ is) (suc k) s lt =
+    ap (controls_from (controls k t m) (state c row)) (unwinding_is_passed t m c row r s.0)
+    ∙ controls_are_of_the_list t m r.walk r.row is k s.1 (omega arith)
 
 -- a number more, where there is one, is a function more
 one_more : (name : BodyName) (numbers functions : List ℕ)

@@ -1,14 +1,16 @@
 -- The control addresses of a stack's frames, by which the functions that wait are known.
-use Rattle.std.specs.Prelude.{◌≡◌, ℕ, ◌+◌, List, [], ◌∷◌, map, Option, Some, None}
+use Rattle.std.specs.Prelude.{◌≡◌, ℕ, ◌+◌, ◌<◌, List, [], ◌∷◌, map, length, Option, Some, None}
 use Rattle.std.specs.List.{filter_map}
 use Rattle.flat_memory.specs.Memory.{Memory}
 use Rattle.x64_machine.specs.declared.context.Context.{Context}
 use Rattle.x64_machine.specs.Contexts.{context_of}
 use Rattle.virtual_unwind.specs.CallerOf.{Functions}
+use Rattle.seh_walk.specs.Controls.{controls}
 use Rattle.host_model.specs.declared.funclet.Funclet.{Funclet}
 use Rattle.linear_code.specs.Program.{LinearProgram, LinearBody}
 use Rattle.linear_machine.specs.Frames.{BodyName, FunctionBody, FuncletBody, body_of, Item, functions_in}
-use Rattle.match_stack.specs.Stack.{StackItem, Framed, Leaf, Searching, Unwinding, after_frame, after_leaf}
+use Rattle.match_stack.specs.Stack.{StackItem, Framed, Leaf, Searching, Unwinding, IsStack, after_frame, after_leaf}
+use Rattle.match_stack.specs.PlainWalks.{state}
 use Rattle.match_stack.specs.ImagePlan.{ImagePlan, InCode}
 use Rattle.match_stack.specs.ItemMatches.{Activation, Linked}
 
@@ -19,6 +21,14 @@ control_addresses c (Framed f ∷ is) = c.rip ∷ control_addresses (after_frame
 control_addresses c (Leaf back ∷ is) = c.rip ∷ control_addresses (after_leaf c back) is
 control_addresses c (Searching r ∷ is) = control_addresses (context_of r.saved) is
 control_addresses c (Unwinding r ∷ is) = control_addresses r.walk is
+
+-- a walk over a stack comes to these, and nothing stops it
+abbrev pub ControlsAreOfTheList : Type 0
+ControlsAreOfTheList =
+    (t : Functions) (m : Memory) (c : Context) (row : ℕ) (is : List StackItem) (n : ℕ)
+    → IsStack t m c is → length is < n
+    → controls n t m (state c row)
+    ≡ record { addresses = control_addresses c is; stop = None }
 
 -- the number that an address in the code of a body has: a function's, from 1; in a funclet none
 abbrev pub number_of : BodyName → Option ℕ

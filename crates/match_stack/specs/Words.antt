@@ -55,7 +55,7 @@ pub use Rattle.host_model.specs.Dispatch.{if_placed, unwinds_on, row_before, ent
 pub use Rattle.host_model.specs.Funclets.{arrived, arrivals}
 pub use Rattle.host_model.specs.Turns.{with_event, Turn, Continues, Ends}
 pub use Rattle.host_model.specs.declared.funclet.Funclet.{Funclet}
-pub use Rattle.match_stack.specs.ControlAddresses.{control_addresses, number_of, NumbersFunctions, ControlAddressesAreOfFunctions}
+pub use Rattle.match_stack.specs.ControlAddresses.{control_addresses, number_of, NumbersFunctions, ControlsAreOfTheList, ControlAddressesAreOfFunctions}
 pub use Rattle.match_stack.specs.DispatchStates.{IsWellFormed}
 pub use Rattle.match_stack.specs.DispatchSteps.{placed_in, AsksHost, IsException, RaiseSearches, LocalUnwindUnwinds, AcceptanceUnwinds, AnswersContinue, FinallyReturnsUnwind, SearchIsAnswered, AnswersAs}
 pub use Rattle.match_stack.specs.FrameHandlers.{NoHandler, FirstHandler, NoBlock, Arrives, FirstBlock}

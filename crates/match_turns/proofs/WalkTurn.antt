@@ -2,11 +2,17 @@
 use Rattle.std.proofs.Common.{◌≡◌, ℕ, ◌+◌, ◌^◌, ◌<◌, ◌≤◌, List, [], ◌∷◌, ◌++◌, length, map, Some, None, Ok, refl, sym, ap, ◌∙◌, arith}
 use Rattle.std.specs.Prelude.{Result, slice_get}
 use Rattle.std.specs.List.{filter_map}
-use Rattle.match_turns.specs.Words.{W64, Event, address_of, RefusedAccess, Memory, loaded, Rsp, Context, context_of, State, register, rsp, Functions, Funclet, Turn, Continues, arrived, back, returned, turn, BuiltIn, Walk, Temporary, LinearProgram, Item, Waits, Configuration, Next, functions_in, waiting, act, StackItem, Activation, state, On, Moves, HaveRoom, turns_left, Setting, RepresentsAt, NumbersFunctions}
+use Rattle.match_turns.specs.Words.{W64, Event, address_of, RefusedAccess, Memory, loaded, Rsp, Context, context_of, State, register, rsp, Functions, Funclet, Turn, Continues, arrived, back, returned, turn, BuiltIn, Walk, Temporary, LinearProgram, Item, Waits, Configuration, Next, functions_in, waiting, act, StackItem, Activation, On, Moves, HaveRoom, turns_left, Setting, RepresentsAt}
+use Rattle.std.proofs.lemmas.List.{append-nil}
 use Rattle.source_meaning.specs.State.{walk_events}
+use Rattle.seh_walk.specs.Walk.{steps}
+use Rattle.seh_walk.specs.Controls.{number_at}
+use Rattle.host_model.specs.HostStep.{Printed, printed, printed_of, walked, walk_from, walking}
+use Rattle.match_stack.specs.ControlAddresses.{NumbersFunctions}
+use Rattle.seh_num.specs.declared.event.Event.TheVariants as events
 use Rattle.host_layout.specs.declared.service.Service.TheVariants as services
 use Rattle.linear_code.specs.declared.instruction.Instruction.TheVariants as instructions
-use Rattle.match_turns.proofs.Lemmas.{IsCounted, Surroundings, few_items, in_stack, walk_is_of_the_list, control_addresses_are_of_functions}
+use Rattle.match_turns.proofs.Lemmas.{IsCounted, Surroundings, few_items, in_stack, controls_are_of_the_list, control_addresses_are_of_functions}
 use Rattle.match_turns.proofs.ServiceCall.{sp, returns}
 use Rattle.match_turns.proofs.ServiceReturn.{to, there, returned_to, answered, silent_back, served}
 use Rattle.match_turns.proofs.ServiceTurns.{at_service, calls_as, pushed_memory, same_stack}
@@ -67,16 +73,16 @@ module _ (setting : Setting) (roomy : HaveRoom setting.program) where
       abbrev list : List ℕ
       list = control_addresses (context_of after.cpu) is
 
-      printed_there : printed steps t here.memory (state (context_of after.cpu) 0)
+      printed_there : printed steps t here.memory (walk_from after.cpu)
           ≡ record { events = shown; stop = None }
       printed_there =
           let low = in_stack t fs program p here.memory (context_of after.cpu) is items acts
           on.is_there.stack on.is_there.linked in
           let few = few_items t here.memory (context_of after.cpu) is on.is_there.stack
           (omega arith) in
-          walk_is_of_the_list t here.memory (context_of after.cpu) 0 is steps on.is_there.stack
-          (omega arith)
-          ∙ ap (λ es. record { events = es; stop = None })
+          ap (printed_of t) (controls_are_of_the_list t here.memory (context_of after.cpu) 0 is
+          steps on.is_there.stack (omega arith))
+          ∙ ap (λ (es : List Event). let x : Printed = record { events = es; stop = None } in x)
           (ap (λ ns. map events.At ns) (control_addresses_are_of_functions t fs program p
           (number_at t) here.memory (context_of after.cpu) is items acts numbers
           on.is_there.linked)
