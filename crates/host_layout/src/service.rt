@@ -23,7 +23,7 @@ pub enum Service {
     FilterReturn,
     /// Where a `__finally` block returns.
     FinallyReturn,
-    /// Shows the functions whose frames are live, innermost first.
+    /// Shows the function of each live activation, the innermost first.
     Walk,
 }
 

@@ -4,10 +4,11 @@ use Rattle.std.specs.Prelude.{◌&&◌, ◌||◌, ◌⊎◌}
 use Rattle.std.specs.List.{AllByRecursion, flat_map}
 use Rattle.std.proofs.lemmas.Bool.{and_from, and_parts, and_left, and_right, or_left, lt-ltb, le-ltb, le-leb, lt-leb, ltb-true, leb-true, cases_lt, false≢true}
 use Rattle.std.proofs.lemmas.List.{get_or_past}
-use Rattle.image_states.specs.Words.{IMAGE_BASE, IMAGE_RANGE_END, is_writable, Memory, may_write, Section, Image, Import, ImageContents, image_of, imports_of, sizes_of, rdata_at, end_at, section_of, mode_in, byte_in, stored_byte, with_slots, mapped, is_between, data_end, is_data, is_reserved, LinearProgram, linked, image_base, HasWholeImage, MOST_IMAGE, GUARD_START, STACK_START, STACK_END, ARENA_START, ARENA_END, FIRST_DATA, in_stack, in_arena, slots_at, import_tables, sections_of, parts_of, text_at, xdata_at, pdata_at, data_section, text_section, rdata_section, xdata_section, pdata_section, stack_mode, IsBeside, plain_mode, first_memory, HasBytes, tables_size}
+use Rattle.image_states.specs.Words.{IMAGE_BASE, IMAGE_RANGE_END, is_writable, Memory, may_write, Section, Image, Import, ImageContents, image_of, imports_of, sizes_of, rdata_at, end_at, section_of, mode_in, byte_in, stored_byte, with_slots, mapped, is_between, data_end, is_data, is_reserved, LinearProgram, linked, image_base, HasWholeImage, MOST_IMAGE, GUARD_START, STACK_START, STACK_END, ARENA_START, ARENA_END, FIRST_DATA, in_stack, in_arena, slots_at, import_tables, sections_of, parts_of, data_section, text_section, rdata_section, xdata_section, pdata_section, stack_mode, IsBeside, plain_mode, first_memory, HasBytes, tables_size}
 use Rattle.flat_memory.specs.declared.protection.Rights.TheVariants.{Nothing, ReadWrite}
 use Rattle.pe_image.specs.Imports as importing
 use Rattle.pe_image.specs.Numbers.{zeros}
+use Rattle.pe_write.specs.Program.{data_read, text_read, rdata_read, xdata_read, pdata_read}
 use Rattle.pe_write.specs.Written.{raw_size, raw_data, written, dos_header, file_header, standard_fields, windows_fields, directories, table_of}
 use Rattle.image_link.proofs.Imports.{IsWithin, slots_within, all_from}
 use Rattle.image_states.proofs.Lemmas.{listed, slots-beside, is, text_is}
@@ -78,44 +79,19 @@ module _ (program : LinearProgram) (c : HasWholeImage program) where
   r = rdata_at (sizes_of p)
 
   abbrev pub globals : Section
-  globals = record {
-    address = 0x1000;
-    size = p.data_size;
-    raw = raw_data (data_section p);
-    flags = 0xC0000040;
-  }
+  globals = data_read p
 
   abbrev pub text : Section
-  text = record {
-    address = text_at (sizes_of p);
-    size = length p.text;
-    raw = p.text;
-    flags = 0x60000020;
-  }
+  text = text_read p
 
   abbrev pub tables : Section
-  tables = record {
-    address = r;
-    size = tables_size p.imports;
-    raw = import_tables p.imports r;
-    flags = 0x40000040;
-  }
+  tables = rdata_read p
 
   abbrev pub infos : Section
-  infos = record {
-    address = xdata_at (sizes_of p);
-    size = length p.xdata;
-    raw = p.xdata;
-    flags = 0x40000040;
-  }
+  infos = xdata_read p
 
   abbrev pub functions : Section
-  functions = record {
-    address = pdata_at (sizes_of p);
-    size = length p.pdata;
-    raw = p.pdata;
-    flags = 0x40000040;
-  }
+  functions = pdata_read p
 
   low : end_at (sizes_of p) ≤ MOST_IMAGE
   low = c.small

@@ -3,10 +3,10 @@
 -- address of its name, which a 0 ends in the same section.
 use Rattle.std.specs.Prelude.{ℕ, zero, suc, ◌+◌, ◌-◌, ◌*◌, ◌<◌, Bool, true, false, ◌&&◌, nat_lt, nat_le, nat_eq, if◌then◌else◌, List, [], ◌∷◌, drop, length, slice_index_or, option_map, Option, Some, None, Result, Ok, Err}
 use Rattle.seh_num.specs.Answers.{unless, or_refused, prepend, ◌>>=◌}
-use Rattle.pe_image.specs.declared.layout.TheConstants.{NAME_COUNT_SIZE, NAME_ROW_SIZE, NAME_ROW_END, NAME_ROW_NUMBER, NAME_ROW_NAME}
+use Rattle.pe_image.specs.declared.layout.TheConstants.{SEHNAME_NAME, NAME_COUNT_SIZE, NAME_ROW_SIZE, NAME_ROW_END, NAME_ROW_NUMBER, NAME_ROW_NAME}
 use Rattle.pe_image.specs.declared.name_table.NameErr.{NameErr}
 use Rattle.pe_image.specs.Field.{field, is_there}
-use Rattle.pe_image.specs.Image.{Section}
+use Rattle.pe_image.specs.Image.{Section, Image, section_named}
 use Rattle.pe_image.specs.Imports.{terminated}
 
 pub record NameRow : Type 0 where
@@ -75,6 +75,15 @@ abbrev pub rows_of : NameSection → Result (List NameRow) NameErr
 rows_of s = do
   _ ← unless (is_there s.raw 0 NAME_COUNT_SIZE) (record { row = 0 })
   rows_from s (field 4 s.raw 0) 0 0
+
+-- those of the table in a section; without one there are none
+abbrev pub names_in : Option Section → Result (List NameRow) NameErr
+names_in None = Ok []
+names_in (Some s) = rows_of (name_section s)
+
+-- the names of an image: the rows of the table in its first section `.sehname`
+unfoldable pub names_of : Image → Result (List NameRow) NameErr
+names_of image = names_in (section_named SEHNAME_NAME image.sections)
 
 abbrev pub no_row : NameRow
 no_row = record { begin = 0; end = 0; number = 0; name = [] }
