@@ -1,12 +1,12 @@
 -- The rows of names of a program's image hold the code of its functions, with their numbers.
 use Rattle.std.proofs.Common.{◌≡◌, ◌⊎◌, ℕ, zero, suc, ◌+◌, ◌-◌, ◌<◌, ◌≤◌, Bool, true, false, leb, ltb, List, [], ◌∷◌, length, get_or, Option, Some, None, inl, inr, refl, sym, ap, subst, ◌∙◌, arith}
 use Rattle.std.specs.Prelude.{slice_get, option_map, ◌||◌}
-use Rattle.std.proofs.lemmas.Bool.{and_from, and_left, and_right, or_left, or_right, lt-ltb, le-leb, lt-leb, le-ltb, cases_lt}
+use Rattle.std.proofs.lemmas.Bool.{and_from, and_right, or_left, or_right, lt-ltb, le-leb, le-ltb, cases_lt, eq-eqb, ne_eqb}
 use Rattle.std.proofs.lemmas.Option.{slice_get_within}
 use Rattle.c_operations.specs.declared.built_in.BuiltIn.TheVariants.{Walk}
 use Rattle.linear_code.specs.declared.instruction.Instruction.TheVariants as instructions
 use Rattle.linear_machine.specs.BuiltInCalls.{CallsBuiltIn}
-use Rattle.pe_image.specs.NameRows.{NameRow, row_holding, row_or, names_of, rows_read}
+use Rattle.pe_image.specs.NameRows.{NameRow, row_holding, row_or, name_of, name_or, names_of, rows_read}
 use Rattle.seh_walk.specs.Controls.{number_at}
 use Rattle.image_link.specs.Walks.{is_walk, has_walk, functions_walk, funclets_walk, calls_walk, named_if, name_rows}
 use Rattle.match_stack.specs.ControlAddresses.{number_of, NumbersFunctions}
@@ -109,6 +109,30 @@ in_row b (g ∷ fs) index f rva from to ends low high =
           (le-leb (row f).begin rva low) (lt-ltb rva (row f).end high)))
     ]
 
+-- ---- the name of a number
+
+-- no row has the number 0
+no_name : (b : List ℕ) (fs : List LinearFunction) (index : ℕ)
+    → name_of 0 (name_rows index b fs) ≡ None
+no_name b [] index = refl
+no_name b (f ∷ fs) index =
+    ap (name_or (name_of 0 (name_rows (index + 1) b fs)) f.name)
+    (ne_eqb (index + 1) 0 (λ e. absurd (omega arith)))
+    ∙ no_name b fs (index + 1)
+
+-- a function's row is the only one with its number
+own_name : (b : List ℕ) (fs : List LinearFunction) (index f number : ℕ)
+    → number ≡ index + f + 1
+    → name_of number (name_rows index b fs) ≡ option_map (λ g. g.name) (slice_get fs f)
+own_name b [] index f number e = refl
+own_name b (g ∷ fs) index zero number e =
+    ap (name_or (name_of number (name_rows (index + 1) b fs)) g.name)
+    (eq-eqb (index + 1) number (let q : index + 1 ≡ number = omega arith in q))
+own_name b (g ∷ fs) index (suc f) number e =
+    ap (name_or (name_of number (name_rows (index + 1) b fs)) g.name)
+    (ne_eqb (index + 1) number (λ q. absurd (omega arith)))
+    ∙ own_name b fs (index + 1) f number (omega arith)
+
 -- ---- the code of bodies
 
 module _ (program : LinearProgram) (c : HasWholeImage program)
@@ -123,6 +147,14 @@ module _ (program : LinearProgram) (c : HasWholeImage program)
   rows_are : (functions_of program).rows ≡ name_rows 0 b program.functions
   rows_are = ap rows_read (names_are_read program c)
       ∙ ap (λ (w : Bool). name_rows 0 b (named_if w program.functions)) walks
+
+  pub number_is_named : (f : ℕ) → name_of (f + 1) (functions_of program).rows
+      ≡ option_map (λ g. g.name) (slice_get program.functions f)
+  number_is_named f = ap (name_of (f + 1)) rows_are
+      ∙ own_name b program.functions 0 f (f + 1) (omega arith)
+
+  pub zero_is_unnamed : name_of 0 (functions_of program).rows ≡ None
+  zero_is_unnamed = ap (name_of 0) rows_are ∙ no_name b program.functions 0
 
   -- an address in the code of a body is in its routine
   record IsInRoutine (name : BodyName) (rip : ℕ) : Type 0 where

@@ -31,7 +31,7 @@ controls_are_of_the_list t m c row (Unwinding r ∷ is) (suc k) s lt =
 one_more : (name : BodyName) (numbers functions : List ℕ)
     → numbers ≡ map (λ (f : ℕ). f + 1) functions
     → cons_option (number_of name) numbers ≡ map (λ f. f + 1) (with_function name functions)
-one_more (FunctionBody f) numbers functions e = ap (λ ns. f + 1 ∷ ns) e
+one_more (FunctionBody f) numbers functions e = ap (λ ns. (f + 1) ∷ ns) e
 one_more (FuncletBody k) numbers functions e = e
 
 module _ (t : Functions) (fs : List Funclet) (program : LinearProgram) (p : ImagePlan)
