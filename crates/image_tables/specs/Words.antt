@@ -50,6 +50,7 @@ pub use Rattle.template_code.specs.Slots.{fetched, keep, local_at, temporary_at,
 pub use Rattle.template_code.specs.Template.{template, code_from, Links, body_size, offset_of}
 unfoldable pub use Rattle.template_code.specs.Template.{template_size}
 pub use Rattle.template_code.specs.declared.layout.Layout.{Layout}
+pub use Rattle.virtual_unwind.specs.CallerOf.{name_rows}
 unfoldable pub use Rattle.virtual_unwind.specs.CallerOf.{caller_in, caller_of}
 pub use Rattle.virtual_unwind.specs.Tail.{FetchedInstr, role_of, by_role, from_item}
 unfoldable pub use Rattle.virtual_unwind.specs.Tail.{fetched_at, tail, tail_at}

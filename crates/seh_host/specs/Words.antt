@@ -10,7 +10,7 @@ pub use Rattle.pe_image.specs.Imports.{Import, imports, imports_of}
 pub use Rattle.x64_memory.specs.PageMaps.{memory_of, holds}
 pub use Rattle.x64_memory.specs.Regions.{IsWholeRegion, in_regions, region_mode, rights, with_region, mapped_over, filled}
 pub use Rattle.x64_memory.specs.declared.region.TheConstants.{ARENA}
-pub use Rattle.virtual_unwind.specs.CallerOf.{Functions, functions_of}
+pub use Rattle.virtual_unwind.specs.CallerOf.{Functions, functions_of, name_rows}
 pub use Rattle.host_model.specs.HostStep.{end_of, Host, Live, Ended, host, over}
 pub use Rattle.host_model.specs.Loading.{has_place, pages, begins_at, covers, or_else, section_of, rights_of, section_mode, in_stack, stack_mode, mode_in, byte_in, service_named, with_address, with_slots, first_cpu}
 unfoldable pub use Rattle.host_model.specs.Loading.{start}

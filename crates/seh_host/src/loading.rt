@@ -4,6 +4,7 @@ ghost use Rattle.std.specs.Prelude.{◌≡◌, true, None, Ok, IfOk, IfErr};
 ghost use Rattle.eh_tables.specs.Tables.{directory, TablesAreWhole};
 ghost use Rattle.host_model.specs.Loading as model;
 ghost use Rattle.host_model.specs.Loading.{first_cpu, has_place};
+ghost use Rattle.virtual_unwind.specs.CallerOf.{name_rows};
 ghost use Rattle.x64_memory.specs.PageMaps.{memory_of};
 ghost use Rattle.seh_host.specs.Hosts.{IsLoadRefusal};
 ghost use Rattle.seh_host.specs.Running.{running_of, first_running, image_of, event_count};
@@ -14,7 +15,7 @@ use crate::host::Host;
 use crate::mapping::{has_entry, has_place, regions};
 use eh_tables::Tables;
 use host_layout::range::FIRST_STACK;
-use pe_image::ImageView;
+use pe_image::{ImageView, NameTable};
 use seh_dispatch::filter::FuncletFilter;
 use seh_dispatch::gathering::funclets_in;
 use seh_num::extension::wrap;
@@ -94,6 +95,17 @@ fn read_tables<'image, 'bytes>(
     }
 }
 
+/// The names of an image's functions; none where they aren't read whole.
+#[tactic(auto, unfolding(pe_image::specs::NameRows::names_of))]
+fn names<'bytes>(image: &ImageView<'bytes>) -> NameTable<'bytes>
+    ensures { result ≡ name_rows image.now }
+{
+    match image.names() {
+        Ok(names) => names,
+        Err(_) => NameTable::empty(),
+    }
+}
+
 /// Loads an image: its sections, a stack and the arena are mapped, the slots of its imports hold
 /// the addresses of the host's services, a later one over an earlier, and the run is at the entry
 /// point with the argument in RCX.
@@ -101,8 +113,8 @@ fn read_tables<'image, 'bytes>(
 /// It is refused for the first reason that holds, in this order: `Table` where the function table
 /// isn't read whole; `Place` where the base isn't a multiple of 65,536, is below 4 GiB, the image's
 /// size is above 256 MiB or its end is above 2^47; `Import` where an import names none of
-/// `RaiseException`, `__C_specific_handler`, `_local_unwind`, `protect` and `put`, whatever its
-/// library is called; `Entry` where the entry point's page isn't executable.
+/// `RaiseException`, `__C_specific_handler`, `_local_unwind`, `protect`, `put` and `walk`, whatever
+/// its library is called; `Entry` where the entry point's page isn't executable.
 pub fn load<'image, 'bytes>(
     alloc: Global,
     image: &'image ImageView<'bytes>,
@@ -135,6 +147,7 @@ pub fn load<'image, 'bytes>(
         space,
         end: None,
         tables,
+        names: names(image),
         filter,
         funclets,
         instructions,

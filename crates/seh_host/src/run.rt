@@ -38,6 +38,7 @@ pub fn turn<V: Events>(host: &mut Host<'_, '_>, to: &mut V) -> Turn
     let mut counting = Counting::new(to, host.events);
     host.end = advance(
         &host.tables,
+        &host.names,
         &host.filter,
         &host.funclets,
         &mut host.instructions,

@@ -16,6 +16,7 @@ pub mod calls;
 pub mod code;
 pub mod forged;
 pub mod handled;
+pub mod named;
 pub mod one_section;
 pub mod rows;
 pub mod tables;
