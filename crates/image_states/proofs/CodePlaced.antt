@@ -258,7 +258,7 @@ module _ (program : LinearProgram) (c : HasWholeImage program) where
       (plan_of program) (sites_of program) m
   has_program = record {
     code = body_code;
-    thunks = thunks;
+    thunks = λ f called. thunks f;
     local_unwind = unwinds;
     check_stack = check_code;
   }

@@ -97,7 +97,7 @@ module _ (program : LinearProgram) (c : HasWholeImage program) where
   pub callers_outside : FindsCallersOutside (functions_of program) (funclets_of program) program
       (plan_of program) (sites_of program)
   callers_outside = record {
-    thunks = λ m f. front_at program c m (thunk_of places f) (thunk_low f);
+    thunks = λ m f called. front_at program c m (thunk_of places f) (thunk_low f);
     local_unwind = λ m.
         (let there = services_there program imports.LocalUnwind in
         front_at program c m places.local_unwind (omega arith));
