@@ -8,11 +8,12 @@ use Rattle.linear_code.specs.declared.instruction.Instruction.TheVariants as ins
 use Rattle.linear_machine.specs.BuiltInCalls.{CallsBuiltIn}
 use Rattle.pe_image.specs.NameRows.{NameRow, row_holding, row_or, name_of, name_or, names_of, rows_read}
 use Rattle.seh_walk.specs.Controls.{number_at}
-use Rattle.image_link.specs.Walks.{is_walk, has_walk, functions_walk, funclets_walk, calls_walk, named_if, name_rows}
+use Rattle.image_link.specs.Walks.{is_walk, has_walk, functions_walk, funclets_walk, calls_walk, named_if, function_rows}
 use Rattle.match_stack.specs.ControlAddresses.{number_of, NumbersFunctions}
 use Rattle.image_states.specs.Words.{Instruction, LinearBody, LinearFunction, LinearFunclet, LinearProgram, BodyName, FunctionBody, FuncletBody, body_of, function_body, funclet_body, instruction_in, RoutineView, routines, routine_size, bounds, image_of, linked, distance, Placed, end_of, image_base, template_at, functions_of, routine_of, plan_of, HasWholeImage, InCode, routines_begin}
 use Rattle.image_states.proofs.Lemmas.{no_routine, none_some, some_same, bounds_rise, as_long, away, end_inside, image_small}
 use Rattle.image_link.proofs.Bounds.{bounds_below}
+use Rattle.image_tables.proofs.NameRows.{names_are_read}
 use Rattle.image_states.proofs.Places.{is_function, is_funclet}
 use Rattle.image_states.proofs.Addresses.{place, label_inside}
 
@@ -69,7 +70,7 @@ abbrev EndBefore : List ℕ → ℕ → ℕ → ℕ → Type 0
 EndBefore b from to rva = (i : ℕ) → from ≤ i → i < to → get_or b (i + 1) 0 ≤ rva
 
 in_no_row : (b : List ℕ) (fs : List LinearFunction) (index rva : ℕ)
-    → EndBefore b index (index + length fs) rva → number_in rva (name_rows index b fs) ≡ None
+    → EndBefore b index (index + length fs) rva → number_in rva (function_rows index b fs) ≡ None
 in_no_row b [] index rva ends = refl
 in_no_row b (f ∷ fs) index rva ends =
     let row : NameRow = record {
@@ -78,7 +79,7 @@ in_no_row b (f ∷ fs) index rva ends =
       number = index + 1;
       name = f.name;
     } in
-    let others = name_rows (index + 1) b fs in
+    let others = function_rows (index + 1) b fs in
     let past = and_right (leb row.begin rva) (ltb rva row.end)
     (le-ltb rva row.end (ends index (omega arith) (omega arith))) in
     ap (λ (h : Bool). option_map (λ r. r.number) (row_or (row_holding rva others) row h)) past
@@ -86,7 +87,7 @@ in_no_row b (f ∷ fs) index rva ends =
 
 in_row : (b : List ℕ) (fs : List LinearFunction) (index f rva : ℕ) → index ≤ f
     → f < index + length fs → EndBefore b index f rva → get_or b f 0 ≤ rva
-    → rva < get_or b (f + 1) 0 → number_in rva (name_rows index b fs) ≡ Some (f + 1)
+    → rva < get_or b (f + 1) 0 → number_in rva (function_rows index b fs) ≡ Some (f + 1)
 in_row b [] index f rva from to ends low high = absurd (omega arith)
 in_row b (g ∷ fs) index f rva from to ends low high =
     let row : ℕ → NameRow = λ k. record {
@@ -96,7 +97,7 @@ in_row b (g ∷ fs) index f rva from to ends low high =
       name = g.name;
     } in
     let by : ℕ → Bool → Option ℕ = λ k h. option_map (λ r. r.number)
-    (row_or (row_holding rva (name_rows (k + 1) b fs)) (row k) h) in
+    (row_or (row_holding rva (function_rows (k + 1) b fs)) (row k) h) in
     elim (cases_lt index f) [
       | inl lt ↦ ap (by index) (and_right (leb (row index).begin rva) (ltb rva (row index).end)
           (le-ltb rva (row index).end (ends index (omega arith) lt)))
@@ -104,7 +105,7 @@ in_row b (g ∷ fs) index f rva from to ends low high =
           (λ i from to. ends i (omega arith) to) low high
       | inr ge ↦
           let same : f ≡ index = omega arith in
-          subst (λ k. number_in rva (name_rows k b (g ∷ fs)) ≡ Some (f + 1)) same
+          subst (λ k. number_in rva (function_rows k b (g ∷ fs)) ≡ Some (f + 1)) same
           (ap (by f) (and_from (leb (row f).begin rva) (ltb rva (row f).end)
           (le-leb (row f).begin rva low) (lt-ltb rva (row f).end high)))
     ]
@@ -113,23 +114,23 @@ in_row b (g ∷ fs) index f rva from to ends low high =
 
 -- no row has the number 0
 no_name : (b : List ℕ) (fs : List LinearFunction) (index : ℕ)
-    → name_of 0 (name_rows index b fs) ≡ None
+    → name_of 0 (function_rows index b fs) ≡ None
 no_name b [] index = refl
 no_name b (f ∷ fs) index =
-    ap (name_or (name_of 0 (name_rows (index + 1) b fs)) f.name)
+    ap (name_or (name_of 0 (function_rows (index + 1) b fs)) f.name)
     (ne_eqb (index + 1) 0 (λ e. absurd (omega arith)))
     ∙ no_name b fs (index + 1)
 
 -- a function's row is the only one with its number
 own_name : (b : List ℕ) (fs : List LinearFunction) (index f number : ℕ)
     → number ≡ index + f + 1
-    → name_of number (name_rows index b fs) ≡ option_map (λ g. g.name) (slice_get fs f)
+    → name_of number (function_rows index b fs) ≡ option_map (λ g. g.name) (slice_get fs f)
 own_name b [] index f number e = refl
 own_name b (g ∷ fs) index zero number e =
-    ap (name_or (name_of number (name_rows (index + 1) b fs)) g.name)
+    ap (name_or (name_of number (function_rows (index + 1) b fs)) g.name)
     (eq-eqb (index + 1) number (let q : index + 1 ≡ number = omega arith in q))
 own_name b (g ∷ fs) index (suc f) number e =
-    ap (name_or (name_of number (name_rows (index + 1) b fs)) g.name)
+    ap (name_or (name_of number (function_rows (index + 1) b fs)) g.name)
     (ne_eqb (index + 1) number (λ q. absurd (omega arith)))
     ∙ own_name b fs (index + 1) f number (omega arith)
 
@@ -144,9 +145,9 @@ module _ (program : LinearProgram) (c : HasWholeImage program)
   b = bounds (routines_begin program) rs
 
   -- the image's rows
-  rows_are : (functions_of program).rows ≡ name_rows 0 b program.functions
-  rows_are = ap rows_read (names_are_read program c)
-      ∙ ap (λ (w : Bool). name_rows 0 b (named_if w program.functions)) walks
+  rows_are : (functions_of program).rows ≡ function_rows 0 b program.functions
+  rows_are = ap rows_read (names_are_read program c.fits)
+      ∙ ap (λ (w : Bool). function_rows 0 b (named_if w program.functions)) walks
 
   pub number_is_named : (f : ℕ) → name_of (f + 1) (functions_of program).rows
       ≡ option_map (λ g. g.name) (slice_get program.functions f)
@@ -187,7 +188,7 @@ module _ (program : LinearProgram) (c : HasWholeImage program)
       }
 
   number_by : (name : BodyName) (rip : ℕ) (i : IsInRoutine name rip)
-      → number_at (functions_of program) rip ≡ number_in i.rva (name_rows 0 b program.functions)
+      → number_at (functions_of program) rip ≡ number_in i.rva (function_rows 0 b program.functions)
   number_by name rip i =
       ap (λ a. number_in a (functions_of program).rows) i.here
       ∙ ap (number_in i.rva) rows_are

@@ -14,6 +14,7 @@ use Rattle.pe_write.specs.ImportTables.{addresses_size, slots_offset, tables_siz
 use Rattle.pe_write.specs.NameTable.{NameRow, name_table_size, name_table_bytes}
 use Rattle.pe_write.specs.Program.{ImageContents, CanBeImage, sizes_of, text_at, rdata_at, xdata_at, pdata_at, names_at, end_at, data_section, text_section, rdata_section, xdata_section, pdata_section, names_section, if_named, import_directory, exception_directory, parts_of, section_with, data_read, text_read, rdata_read, xdata_read, pdata_read, names_read, sections_of, image_of, imports_of}
 use Rattle.pe_image.specs.Reading.{IsImage}
+use Rattle.pe_write.specs.declared.header.TheConstants.{DATA_NAME, TEXT_NAME, RDATA_NAME, XDATA_NAME, PDATA_NAME}
 use Rattle.pe_write.specs.declared.sizes.Sizes.{Sizes}
 use Rattle.pe_image.specs.Numbers.{zeros}
 use Rattle.pe_write.specs.Written.{SectionParts, ImageParts, IsSection, pages, placed, end_of, raw_size, raw_data, written, sections_read, image_read, CanBeWritten}
@@ -52,44 +53,19 @@ module _ (p : ImageContents) (fits : CanBeImage p) where
   r = rdata_at (sizes_of p)
 
   abbrev globals : Section
-  globals = record {
-    address = 0x1000;
-    size = p.data_size;
-    raw = raw_data (data_section p);
-    flags = 0xC0000040;
-  }
+  globals = data_read p
 
   abbrev code : Section
-  code = record {
-    address = text_at (sizes_of p);
-    size = length p.text;
-    raw = p.text;
-    flags = 0x60000020;
-  }
+  code = text_read p
 
   abbrev tables : Section
-  tables = record {
-    address = r;
-    size = tables_size p.imports;
-    raw = import_tables p.imports r;
-    flags = 0x40000040;
-  }
+  tables = rdata_read p
 
   abbrev infos : Section
-  infos = record {
-    address = xdata_at (sizes_of p);
-    size = length p.xdata;
-    raw = p.xdata;
-    flags = 0x40000040;
-  }
+  infos = xdata_read p
 
   abbrev functions : Section
-  functions = record {
-    address = pdata_at (sizes_of p);
-    size = length p.pdata;
-    raw = p.pdata;
-    flags = 0x40000040;
-  }
+  functions = pdata_read p
 
   abbrev named : List Section
   named = if_named p.names (names_read p)

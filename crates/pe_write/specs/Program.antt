@@ -159,10 +159,29 @@ parts_of p = record {
   import_addresses = address_directory p;
 }
 
--- as it is read: `.data` with what fills up its raw data
-abbrev pub section_with : ℕ → ℕ → List ℕ → ℕ → Section
-section_with address size raw flags =
-    record { address = address; size = size; raw = raw; flags = flags }
+-- its sections as they are read
+abbrev pub section_with : List ℕ → ℕ → ℕ → List ℕ → ℕ → Section
+section_with name address size raw flags =
+    record { name = name; address = address; size = size; raw = raw; flags = flags }
+
+-- with what fills up its raw data
+abbrev pub data_read : ImageContents → Section
+data_read p =
+    section_with DATA_NAME DATA_AT p.data_size (raw_data (data_section p)) data_flags
+
+abbrev pub text_read : ImageContents → Section
+text_read p = section_with TEXT_NAME (text_at (sizes_of p)) (length p.text) p.text text_flags
+
+abbrev pub rdata_read : ImageContents → Section
+rdata_read p =
+    section_with RDATA_NAME (rdata_at (sizes_of p)) (tables_size p.imports)
+    (import_tables p.imports (rdata_at (sizes_of p))) const_flags
+
+abbrev pub xdata_read : ImageContents → Section
+xdata_read p = section_with XDATA_NAME (xdata_at (sizes_of p)) (length p.xdata) p.xdata const_flags
+
+abbrev pub pdata_read : ImageContents → Section
+pdata_read p = section_with PDATA_NAME (pdata_at (sizes_of p)) (length p.pdata) p.pdata const_flags
 
 abbrev pub names_read : ImageContents → Section
 names_read p =
