@@ -1,5 +1,6 @@
 -- The image of a sound program does what the program means.
-use Rattle.std.proofs.Common.{ℕ, ◌<◌, ◌≤◌, List, length, ap, subst, arith}
+use Rattle.std.proofs.Common.{ℕ, ◌<◌, ◌≤◌, List, length, option_map, ap, subst, ◌∙◌, arith}
+use Rattle.std.proofs.lemmas.Option.{slice_get-map}
 use Rattle.std.specs.List.{AllByRecursion}
 use Rattle.std.specs.Prelude.{pos}
 use Rattle.image_runs.specs.Words.{image_of, parts_of, CanBeImage, Program, lowered, linked, HasBytes, IsLinkable, IsImageOf, CompiledRealise, CompiledShowNothingMore}
@@ -38,7 +39,7 @@ compiled_realise program l reads bytes w = record {
   shows = λ arg n lt. linked_images_show_all program l reads bytes w.read (octets program bytes w)
       (pos arg) n;
   names = λ walks k f e. functions_have_names (lowered program) k (lowered_function f) l.fits walks
-      (slice_get-map lowered_function program.functions k f e);
+      (slice_get-map lowered_function program.functions k ∙ ap (option_map lowered_function) e);
 }
 
 pub compiled_show_nothing_more : CompiledShowNothingMore
