@@ -19,6 +19,7 @@ pub mod ImageRuns
 pub mod ImageMeaning
 pub mod TextImages
 pub mod WalkFrames
+pub mod WalkEvents
 pub mod LiveFrames
 pub mod StateWalks
 pub mod InstructionWalks

@@ -1,15 +1,16 @@
 -- An image that does what a program means.
-use Rattle.std.specs.Prelude.{◌≡◌, ℕ, ◌+◌, ◌*◌, ◌^◌, ◌<◌, ◌≤◌, true, List, length, pos, None}
+use Rattle.std.specs.Prelude.{◌≡◌, ℕ, ◌+◌, ◌*◌, ◌^◌, ◌<◌, ◌≤◌, true, List, length, pos, slice_get, Some, None}
 use Rattle.std.specs.List.{AllByRecursion}
 use Rattle.host_layout.specs.declared.limit.TheConstants.{MOST_IMAGE}
 use Rattle.pe_image.specs.Image.{Image}
+use Rattle.pe_image.specs.NameRows.{function_name}
 use Rattle.pe_image.specs.Reading.{IsImage}
 use Rattle.pe_write.specs.Program.{parts_of, image_of}
 use Rattle.pe_write.specs.Written.{written}
 use Rattle.host_model.specs.Loading.{load_refusal}
 use Rattle.host_model.specs.Laws.{Covers}
 use Rattle.host_model.specs.Machine.{machine}
-use Rattle.c_checked.specs.Program.{Program}
+use Rattle.c_checked.specs.Program.{Function, Program}
 use Rattle.source_meaning.specs.Meaning.{meaning, Calm}
 use Rattle.seh_ir.specs.Lowered.{lowered}
 use Rattle.lowering_follows.specs.StepsPerTurn.{steps_per_turn_of}
@@ -17,12 +18,20 @@ use Rattle.lowering_locals.specs.Reads.{ReadsNoUnset}
 use Rattle.match_runs.specs.Ends.{run_end_of}
 use Rattle.match_runs.specs.Laws.{ShowsNoMore}
 use Rattle.image_link.specs.Linked.{linked}
+use Rattle.image_link.specs.Walks.{calls_walk}
 use Rattle.image_runs.specs.SoundImages.{IsLinkable}
+
+-- where the program calls `walk`, the number of each function, from 1 on, has the function's name in
+-- the image
+abbrev pub NamesFunctions : Image → Program → Type 0
+NamesFunctions image program =
+    calls_walk (lowered program) ≡ true → (k : ℕ) (f : Function)
+    → slice_get program.functions k ≡ Some f → function_name image (k + 1) ≡ Some f.name
 
 -- the bytes are an image of at most 256 MiB that loads. For every argument and every n, what the
 -- program shows within n steps the image shows in at most 256 n + 256 turns: its events are the
 -- first events of the run, and where the program ends within n steps the run has ended in the same
--- way with no other event.
+-- way with no other event. A program that calls `walk` has its functions' names in it.
 pub record Realises (bytes : List ℕ) (program : Program) : Type 0 where
   pub image : Image
   pub is : IsImage bytes image
@@ -32,6 +41,7 @@ pub record Realises (bytes : List ℕ) (program : Program) : Type 0 where
       (arg n : ℕ) → arg < 2 ^ 63
       → Covers (meaning program (pos arg) n).events (run_end_of (meaning program (pos arg) n).end)
       (machine bytes (pos arg) (256 * n + 256))
+  pub names : NamesFunctions image program
 
 -- in m turns it shows no more than the program shows within (m + 1) * K steps, where these are
 -- calm, and ends only as they end

@@ -14,5 +14,6 @@ pub mod main_laws;
 pub mod match_laws;
 pub mod run_laws;
 pub mod shadow_laws;
+pub mod walk_event_laws;
 pub mod walk_laws;
 pub mod walked_laws;

@@ -9,7 +9,7 @@ use Rattle.frame_rules.specs.Frame.{left_to}
 use Rattle.frame_rules.specs.Rules as rules
 use Rattle.frame_rules.proofs.Callers.{entries_are_found, leaves_are_found}
 use Rattle.host_layout.specs.declared.imported.ImportedService.{ImportedService}
-use Rattle.image_tables.proofs.Lemmas.{routine_small, services_there}
+use Rattle.image_tables.proofs.Lemmas.{routine_small, place_small}
 use Rattle.image_tables.specs.Entries as tables
 use Rattle.image_tables.proofs.Lookups.{entries_are_held, leaves_are_held_by_none, thunks_are_held_by_none}
 use Rattle.image_tables.proofs.Table.{table, table_entries, tables_are_read}
@@ -157,7 +157,7 @@ probe_ok = refl
 
 thunk_low : (p : LinearProgram) (service : ImportedService)
     → thunk_begin p service + 6 ≤ routines_begin p
-thunk_low p service = let there = services_there p service in omega arith
+thunk_low p service = let place = place_small (services_of p) service in omega arith
 
 pub thunks_are_found : ThunksAreFound
 thunks_are_found p service e s fits regions h =

@@ -6,7 +6,7 @@ use Rattle.std.proofs.lemmas.List.{drop_at, append-nil}
 use Rattle.std.proofs.Math.Seq.{take-append_seam}
 use Rattle.image_tables.specs.Words.{Section, stored, ImageContents, CanBeImage, sizes_of, text_at, xdata_at, sections_of, stores_byte, section_or, section_at, stored_in, only_if, whole, pdata_at, data_section}
 use Rattle.pe_image.proofs.Stored.{above_holds_none}
-use Rattle.pe_write.specs.Program.{data_read, text_read, rdata_read, xdata_read, pdata_read}
+use Rattle.pe_write.specs.Program.{data_read, text_read, rdata_read, xdata_read, pdata_read, names_read, if_named}
 use Rattle.pe_write.proofs.Back.{raw_length}
 use Rattle.image_tables.proofs.Lemmas.{xdata_is_at, pdata_is_at}
 
@@ -36,7 +36,7 @@ module _ (p : ImageContents) (fits : CanBeImage p) where
   code = text_read p
 
   abbrev others : List Section
-  others = rdata_read p ∷ xdata_read p ∷ pdata_read p ∷ []
+  others = rdata_read p ∷ xdata_read p ∷ pdata_read p ∷ if_named p.names (names_read p)
 
   text_is_at : (k : ℕ) → k < length p.text → stored_in (text_at (sizes_of p) + k)
       (section_at (text_at (sizes_of p) + k) (sections_of p)) ≡ drop k p.text

@@ -68,7 +68,8 @@ pub use Rattle.x64_emit.specs.Bodies.{label_list}
 pub use Rattle.x64_emit.specs.Linking.{links_of, address_or, thunk_of}
 pub use Rattle.x64_emit.specs.Near.{IsNear, IsInstructionNear, IsBaseNear, IsSlotNear, near_end, IsFieldNear}
 pub use Rattle.image_link.specs.Fits.{FitsProgram, function_bodies, funclet_bodies}
-pub use Rattle.image_link.specs.Linked.{services_of, text_begin, linked, first, total}
+pub use Rattle.image_link.specs.Linked.{text_begin, linked, first, total}
+pub use Rattle.image_link.specs.Walks.{services_of}
 pub use Rattle.image_link.specs.Near.{IsEntryNear, IsFrameNear, IsRoutineNear}
 pub use Rattle.image_link.specs.Routines.{RoutineView, routines, is_leaf, leaf_if, functions_from, funclet, has_call, nothing, funclet_frame}
 pub use Rattle.image_link.specs.Tables.{is_finally, has_except, has_finally, trailer, scope_records, scope_table, info_if, handler_address, jump_target, scope_record, info_bytes_of, infos, infos_room, range_if, ranges}

@@ -201,7 +201,8 @@ fn tables(alloc: Global, parts: Parts<'_>) -> Result<(Vec<u8>, Vec<u8>), AllocEr
     Ok((infos, table))
 }
 
-/// The services that images of tests import: all of them, whose tables take a page at most.
+/// The services that images of tests import: those that every program imports, whose tables take a
+/// page at most.
 pub fn every_service(alloc: Global) -> Result<Vec<ImportedService>, AllocError>
     ensures few { IfOk result (λ v. length v.items < 2 ^ 16) }
     ensures small { IfOk result (λ v. tables_size v.items ≤ 4096) }
@@ -224,6 +225,7 @@ pub fn built(alloc: Global, parts: Parts<'_>) -> Result<Vec<u8>, AllocError> {
     let data = parts.data.to_vec(alloc)?;
     let text = parts.text.to_vec(alloc)?;
     let imports = every_service(alloc)?;
-    let image = Image::new(imports, PAGE as u32, data, text, 0, infos, table);
+    let names = Vec::new(alloc);
+    let image = Image::new(imports, PAGE as u32, data, text, 0, infos, table, names);
     write(alloc, &image)
 }
