@@ -1,5 +1,5 @@
 -- The host's turn at `walk`, and the step of linear code that it matches.
-use Rattle.std.proofs.Common.{◌≡◌, ℕ, ◌+◌, ◌^◌, ◌<◌, ◌≤◌, List, [], ◌∷◌, ◌++◌, length, map, Some, None, Ok, refl, sym, ap, ◌∙◌, arith}
+use Rattle.std.proofs.Common.{◌≡◌, ℕ, ◌+◌, ◌^◌, ◌<◌, ◌≤◌, false, List, [], ◌∷◌, ◌++◌, length, map, Some, None, Ok, refl, sym, ap, ◌∙◌, arith}
 use Rattle.std.specs.Prelude.{Result, slice_get}
 use Rattle.std.specs.List.{filter_map}
 use Rattle.match_turns.specs.Words.{W64, Event, address_of, RefusedAccess, Memory, loaded, Rsp, Context, context_of, State, register, rsp, Functions, Funclet, Turn, Continues, arrived, back, returned, turn, BuiltIn, Walk, Temporary, LinearProgram, Item, Waits, Configuration, Next, functions_in, waiting, act, StackItem, Activation, On, Moves, HaveRoom, turns_left, Setting, RepresentsAt}
@@ -70,9 +70,6 @@ module _ (setting : Setting) (roomy : HaveRoom setting.program) where
     module _ (numbers : NumbersFunctions program p (number_at t)) (is : List StackItem)
         (acts : List Activation)
         (on : On t fs program p here.memory (context_of after.cpu) is items acts) where
-      abbrev list : List ℕ
-      list = control_addresses (context_of after.cpu) is
-
       printed_there : printed steps t here.memory (walk_from after.cpu)
           ≡ record { events = shown; stop = None }
       printed_there =
