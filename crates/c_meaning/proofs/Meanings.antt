@@ -54,7 +54,8 @@ shows_end (Gives how st) = refl
 
 -- nothing is the front of what a program shows
 pub nothing_shown : {X : Type 0} (taken : X → Option (List ℕ)) (faults : X → ℕ)
-    (x : Lines X NoNames) (meant : Shown Ended) → MeansPart (TookEvents taken faults none_named) meant x x
+    (x : Lines X NoNames) (meant : Shown Ended) → MeansPart (TookEvents taken faults none_named)
+    meant x x
 nothing_shown taken faults x meant =
     record {
       shown = [];
