@@ -1,8 +1,8 @@
 -- The text of runs, computed: a row for each kind of line.
-use Rattle.std.proofs.Common.{◌≡◌, ℕ, refl, List, [], ◌∷◌, ◌++◌, true, false, pos, negsuc}
-use Rattle.std.specs.Prelude.{codes, Some, None}
+use Rattle.std.proofs.Common.{◌≡◌, ℕ, zero, suc, refl, List, [], ◌∷◌, ◌++◌, true, false, pos, negsuc}
+use Rattle.std.specs.Prelude.{codes, Option, Some, None}
 use Rattle.std.specs.Fmt.{digits}
-use Rattle.seh_num.specs.declared.event.Event.TheVariants.{Put, Raise, Filter, Answer, Finally, Except}
+use Rattle.seh_num.specs.declared.event.Event.TheVariants.{Put, Raise, Filter, Answer, Finally, Except, At}
 use Rattle.seh_num.specs.declared.end.Reason.TheVariants.{Illegal, BadRecord, Unreadable, Backward, LostFrame}
 use Rattle.seh_num.specs.declared.end.RunEnd.TheVariants.{Exit, Unhandled, StackLimit, OutOfTurns, Stopped}
 use Rattle.seh_io.specs.Names.{no_names}
@@ -54,3 +54,25 @@ ends : end_line (StackLimit 0x0000_7FFF_FFFF_F000) ++ end_line (Stopped Illegal 
     ++ fed (codes "stopped LostFrame FFFFFFFFFFFFFFFF")
 unfolding hexadecimal fed
 ends = refl
+
+-- the first two functions are f and main, and no other number has a name
+named : ℕ → Option (List ℕ)
+named zero = None
+named (suc zero) = Some (codes "f")
+named (suc (suc zero)) = Some (codes "main")
+named (suc (suc (suc more))) = None
+
+-- names are shown with a trace and without, and numbers without a name aren't
+walk_untraced : text (At 1 ∷ Filter 1 ∷ At 3 ∷ At 2 ∷ []) (Exit (pos 0)) false named
+    ≡ fed (codes "at f") ++ fed (codes "at main") ++ fed (codes "exit 0")
+unfolding digits fed named
+walk_untraced = refl
+
+walk_traced : text (At 1 ∷ Filter 1 ∷ At 3 ∷ At 2 ∷ []) (Exit (pos 0)) true named
+    ≡ fed (codes "at f") ++ fed (codes "filter 1") ++ fed (codes "at main") ++ fed (codes "exit 0")
+unfolding digits fed named
+walk_traced = refl
+
+walk_unnamed : text (At 1 ∷ At 2 ∷ []) (Exit (pos 0)) true no_names ≡ fed (codes "exit 0")
+unfolding digits fed
+walk_unnamed = refl

@@ -5,7 +5,7 @@ use Rattle.std.specs.Prelude.{Option, Some, None}
 use Rattle.std.specs.Fmt.{decimal, signed_decimal, digit_glyph}
 use Rattle.seh_num.specs.declared.event.Code.{Code}
 use Rattle.seh_num.specs.declared.event.Event.{Event}
-use Rattle.seh_num.specs.declared.event.Event.TheVariants.{Put, Raise, Filter, Answer, Finally, Except}
+use Rattle.seh_num.specs.declared.event.Event.TheVariants.{Put, Raise, Filter, Answer, Finally, Except, At}
 use Rattle.seh_num.specs.declared.end.Reason.{Reason}
 use Rattle.seh_num.specs.declared.end.Reason.TheVariants.{Illegal, BadRecord, Unreadable, Backward, LostFrame}
 use Rattle.seh_num.specs.declared.end.RunEnd.{RunEnd}
@@ -39,6 +39,7 @@ raise_text code flag access =
     codes "raise " ++ code_text code ++ codes " " ++ flag_text flag
     ++ (if code.0 == ACCESS_VIOLATION.0 then access_text access else [])
 
+-- what is shown of an event, but for the name of a function
 abbrev pub event_text : Event → List ℕ
 event_text (Put v) = signed_decimal v
 event_text (Raise code flag access) = raise_text code flag access
@@ -46,14 +47,21 @@ event_text (Filter k) = codes "filter " ++ decimal k
 event_text (Answer v) = codes "answer " ++ signed_decimal v
 event_text (Finally k abnormal) = codes "finally " ++ decimal k ++ codes " " ++ flag_text abnormal
 event_text (Except code) = codes "except " ++ code_text code
+event_text (At number) = codes "at "
 
 -- a line feed ends a line
 abbrev pub ended : List ℕ → List ℕ
 ended text = text ++ 10 ∷ []
 
--- without a trace only what is put is shown
+-- an activation is shown by the name of its function, and isn't where that has none
+abbrev pub at_line : Option (List ℕ) → List ℕ
+at_line (Some name) = ended (codes "at " ++ name)
+at_line None = []
+
+-- without a trace only what is put and what a printed walk comes to is shown
 abbrev pub line : Bool → Event → (ℕ → Option (List ℕ)) → List ℕ
 line trace (Put v) names = ended (event_text (Put v))
+line trace (At number) names = at_line (names number)
 line true event names = ended (event_text event)
 line false event names = []
 

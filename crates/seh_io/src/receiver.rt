@@ -3,7 +3,7 @@
 ghost use Rattle.std.specs.Prelude.{◌≡◌, ℕ, ◌≤◌, List, [], ◌∷◌, ◌++◌, true, false, OnOk, OnErr, IfErr, MatchResult};
 ghost use Rattle.seh_num.specs.declared.event.Event.{Event as Event'};
 ghost use Rattle.seh_io.specs.Streams.{Rose, Grew};
-ghost use Rattle.seh_io.specs.Text.{line, end_line, lines, text};
+ghost use Rattle.seh_io.specs.Text.{line, at_line, end_line, lines, text};
 ghost use Rattle.seh_io.specs.Writer.{PutText, TookPart, TookEvents, Kept};
 ghost use Rattle.seh_io.specs.Successive.{took_none, took_more, kept_none, kept_more};
 
@@ -133,6 +133,24 @@ impl<'a, O: Sink, N> Lines<'a, O, N> {
     }
 }
 
+impl<O: Sink, N: Names> Lines<'_, O, N> {
+    /// Writes the line of an activation of the function of this number, if that has a name.
+    fn put_at(&mut self, number: u32)
+        ensures same_reference { self.new.sink.ghost_name ≡ self.old.sink.ghost_name }
+        ensures trace { self.new.trace ≡ self.old.trace }
+        ensures names { self.new.names.now ≡ self.old.names.now }
+        ensures wrote { PutText O.taken O.faults self.old
+            (at_line (N.named self.old.names.now number)) self.new }
+    {
+        let names = self.names;
+        if let Some(name) = names.name(number) {
+            self.put(b"at ");
+            self.put(name);
+            self.put(b"\n");
+        }
+    }
+}
+
 impl<O: Sink, N: Names> Events for Lines<'_, O, N> {
     ghost took = { λ x es y. TookEvents O.taken O.faults N.named x es y };
 
@@ -141,8 +159,10 @@ impl<O: Sink, N: Names> Events for Lines<'_, O, N> {
     ghost more = { λ x y z es fs p q. took_more O.taken O.faults N.named x y z es fs p q };
 
     fn take(&mut self, event: &Event) {
-        let line = event_line(self.trace, event);
-        self.put(line.as_bytes());
+        match *event {
+            Event::At(number) => self.put_at(number),
+            _ => self.put(event_line(self.trace, event).as_bytes()),
+        }
     }
 }
 

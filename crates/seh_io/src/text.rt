@@ -1,15 +1,16 @@
 //! The lines of a run's text.
 
-ghost use Rattle.std.specs.Prelude.{◌≡◌, ℕ, ◌+◌, ◌<◌, ◌≤◌, List, ◌++◌, length, take, Option, OnOk, OnErr, IfErr};
+ghost use Rattle.std.specs.Prelude.{◌≡◌, ◌+◌, ◌<◌, ◌≤◌, ◌++◌, length, take, Some, OnOk, OnErr, IfErr};
 ghost use Rattle.seh_io.specs.Streams.{Rose, Grew};
 ghost use Rattle.seh_io.specs.Lengths.{longest_access, longest_reason};
 ghost use Rattle.seh_io.specs.declared.line.TheConstants.{LONGEST_LINE, CODE_DIGITS, ADDRESS_DIGITS};
-ghost use Rattle.seh_io.specs.Text.{line, end_line, text, flag_text, code_text, address_text, access_text, reason_text, event_text};
+ghost use Rattle.seh_io.specs.Names.{no_names};
+ghost use Rattle.seh_io.specs.Text.{line, at_line, end_line, text, flag_text, code_text, address_text, access_text, reason_text, event_text};
 
 use crate::line::{ADDRESS_DIGITS, CODE_DIGITS, Line};
 use crate::names::Names;
 use crate::sink::Sink;
-use crate::writing::{WriteFault, put_all};
+use crate::writing::{WriteFault, put_after, put_all};
 use seh_num::code::ACCESS_VIOLATION;
 use seh_num::end::{Reason, RunEnd};
 use seh_num::event::{Code, Event};
@@ -105,16 +106,19 @@ fn event_text(event: &Event) -> Line
             line.text(b"except ");
             put_code(&mut line, code);
         }
+        Event::At(_) => line.text(b"at "),
     }
     line
 }
 
-/// An event's line, with its line feed; empty for an event other than `Put` without a trace.
+/// An event's line where no function has a name, with its line feed. It is empty for an `At`, and
+/// without a trace for an event other than `Put`.
 pub fn event_line(trace: bool, event: &Event) -> Line
-    ensures { (names : ℕ → Option (List ℕ)) → result ≡ line trace event.now names }
+    ensures { result ≡ line trace event.now no_names }
 {
     let shown = match event {
         Event::Put(_) => true,
+        Event::At(_) => false,
         _ => trace,
     };
     if !shown {
@@ -158,24 +162,46 @@ pub fn end_line(end: &RunEnd) -> Line
     line
 }
 
-/// Writes an event's line, or nothing for an event other than `Put` without a trace. The names are
-/// those of the functions of what runs.
+/// Writes the line of an activation whose function has this name.
+fn put_at<O: Sink>(sink: &mut O, name: &[u8]) -> Result<(), WriteFault>
+    ensures ok { OnOk result (Grew (O.taken sink.old) (at_line (Some name.now))
+        (O.taken sink.new)) }
+    ensures part { IfErr result (λ e. Grew (O.taken sink.old)
+        (take e.taken (at_line (Some name.now))) (O.taken sink.new)) }
+    ensures short { IfErr result (λ e. e.taken < length (at_line (Some name.now))) }
+    ensures cause { OnErr result (Rose (O.faults sink.old) (O.faults sink.new)) }
+    ensures faults { O.faults sink.old ≤ O.faults sink.new }
+{
+    let front = b"at ";
+    put_all(sink, front)?;
+    put_after(sink, front.len(), name)?;
+    put_after(sink, front.len() + name.len(), b"\n")
+}
+
+/// Writes an event's line: nothing for an `At` whose number has no name, nor without a trace for an
+/// event other than `Put` and `At`. The names are those of the functions of what runs.
 pub fn put_event<O: Sink, N: Names>(
     sink: &mut O,
     trace: bool,
     event: &Event,
-    _names: &N,
+    names: &N,
 ) -> Result<(), WriteFault>
     ensures ok { OnOk result (Grew (O.taken sink.old)
-        (line trace event.now (N.named _names.now)) (O.taken sink.new)) }
+        (line trace event.now (N.named names.now)) (O.taken sink.new)) }
     ensures part { IfErr result (λ e. Grew (O.taken sink.old)
-        (take e.taken (line trace event.now (N.named _names.now))) (O.taken sink.new)) }
+        (take e.taken (line trace event.now (N.named names.now))) (O.taken sink.new)) }
     ensures short { IfErr result
-        (λ e. e.taken < length (line trace event.now (N.named _names.now))) }
+        (λ e. e.taken < length (line trace event.now (N.named names.now))) }
     ensures cause { OnErr result (Rose (O.faults sink.old) (O.faults sink.new)) }
     ensures faults { O.faults sink.old ≤ O.faults sink.new }
 {
-    put_all(sink, event_line(trace, event).as_bytes())
+    let Event::At(number) = *event else {
+        return put_all(sink, event_line(trace, event).as_bytes());
+    };
+    match names.name(number) {
+        Some(name) => put_at(sink, name),
+        None => Ok(()),
+    }
 }
 
 /// Writes the last line of a run's text.

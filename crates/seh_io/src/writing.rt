@@ -1,6 +1,6 @@
 //! Whole pieces to a sink.
 
-ghost use Rattle.std.specs.Prelude.{◌≡◌, ◌<◌, ◌≤◌, length, take, OnOk, OnErr, IfErr};
+ghost use Rattle.std.specs.Prelude.{◌≡◌, ◌+◌, ◌-◌, ◌^◌, ◌<◌, ◌≤◌, length, take, OnOk, OnErr, IfErr};
 ghost use Rattle.seh_io.specs.Streams.{Rose, Grew};
 
 use crate::sink::Sink;
@@ -37,4 +37,24 @@ pub fn put_all<O: Sink>(sink: &mut O, piece: &[u8]) -> Result<(), WriteFault>
         taken += count;
     }
     Ok(())
+}
+
+/// Writes a piece that comes after so many bytes of a text, as `put_all`; the bytes that were taken
+/// are counted from the text's begin.
+pub fn put_after<O: Sink>(sink: &mut O, before: usize, piece: &[u8]) -> Result<(), WriteFault>
+    requires { before + length piece.now < 2 ^ 64 }
+    ensures ok { OnOk result (Grew (O.taken sink.old) piece.now (O.taken sink.new)) }
+    ensures part { IfErr result
+        (λ e. Grew (O.taken sink.old) (take (e.taken - before) piece.now) (O.taken sink.new)) }
+    ensures after { IfErr result (λ e. before ≤ e.taken) }
+    ensures short { IfErr result (λ e. e.taken < before + length piece.now) }
+    ensures cause { OnErr result (Rose (O.faults sink.old) (O.faults sink.new)) }
+    ensures faults { O.faults sink.old ≤ O.faults sink.new }
+{
+    match put_all(sink, piece) {
+        Ok(()) => Ok(()),
+        Err(fault) => Err(WriteFault {
+            taken: before as u64 + fault.taken,
+        }),
+    }
 }
