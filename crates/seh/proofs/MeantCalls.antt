@@ -12,7 +12,8 @@ use Rattle.seh.proofs.Headline.{headline}
 
 pub last_lines_agree : LastLinesAgree
 last_lines_agree (meant.Exit v) e h = let same : run_ends.Exit v ≡ e = cc in ap end_line same
-last_lines_agree (meant.Unhandled c) e h = let same : run_ends.Unhandled c ≡ e = cc in ap end_line same
+last_lines_agree (meant.Unhandled c) e h = let same : run_ends.Unhandled c ≡ e = cc in ap end_line
+    same
 last_lines_agree (meant.Undefined a) e h = let q : None ≡ Some e = h in absurd cc
 last_lines_agree (meant.Deep d) e h = let q : None ≡ Some e = h in absurd cc
 last_lines_agree (meant.OutOfSteps n) e h = let q : None ≡ Some e = h in absurd cc

@@ -271,4 +271,5 @@ pub same_stopped : (count : ℕ) (trace trace' : Bool) (r r' : Running) (a a' b 
     → StoppedText count trace' r a' r' b'
 same_stopped count trace trace' r r' a a' b b' e f k h =
     subst (λ c. StoppedText count trace' r c r' b') e
-    (subst (λ t. StoppedText count t r a r' b') f (subst (λ c. StoppedText count trace r a r' c) k h))
+    (subst (λ t. StoppedText count t r a r' b') f
+    (subst (λ c. StoppedText count trace r a r' c) k h))

@@ -65,8 +65,8 @@ pub fn framed<'a>(begin: u32, end: u32, scopes: &'a [ScopeRecord]) -> Function<'
     }
 }
 
-/// A scope record: the body from `begin` to before `end`, its filter or `__finally` block, and where
-/// an `__except` block begins, 0 for a `__finally` block.
+/// A scope record: the body from `begin` to before `end`, its filter or `__finally` block, and
+/// where an `__except` block begins, 0 for a `__finally` block.
 pub fn scope(begin: u32, end: u32, handler_address: u32, jump_target: u32) -> ScopeRecord {
     ScopeRecord {
         begin,

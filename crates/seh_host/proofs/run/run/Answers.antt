@@ -41,8 +41,8 @@ returns-clause-part g c =
     (ap (λ b. lines b shown.events no_names ++ end_line (end_within c.args.turns shown.end))
     c.new-lines.ensures.trace)
     (search rules)
-    (part_of_text c.args.turns c.in-Err.fault.taken c.new-lines.result.trace r (running_of host) _ _
-    _ c.unwrap_or-end.result c.write_turns.ensures.written c.end.ensures.wrote
+    (part_of_text c.args.turns c.in-Err.fault.taken c.new-lines.result.trace r (running_of host)
+    _ _ _ c.unwrap_or-end.result c.write_turns.ensures.written c.end.ensures.wrote
     (c.unwrap_or-end.ensures ∙ within c.args.turns host.end
     ∙ ap (end_within c.args.turns) (end_left host.cpu (memory_of host.space) host.end))
     c.new-lines.ensures.taken (c.in-Err.ensures.outcome).1)
@@ -57,7 +57,8 @@ returns-clause-stopped g c =
     (ap g.O.Sink.taken c.new-lines.ensures.sink)
     c.new-lines.ensures.trace
     (search rules)
-    (stopped_text c.args.turns c.in-Err.fault.taken c.new-lines.result.trace r (running_of host) _ _ _
+    (stopped_text c.args.turns c.in-Err.fault.taken c.new-lines.result.trace r (running_of host)
+    _ _ _
     c.unwrap_or-end.result c.write_turns.ensures.written c.end.ensures.wrote
     (c.unwrap_or-end.ensures ∙ within c.args.turns host.end
     ∙ ap (end_within c.args.turns) (end_left host.cpu (memory_of host.space) host.end))

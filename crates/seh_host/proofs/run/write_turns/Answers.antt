@@ -25,7 +25,8 @@ loop-i-preserved g c =
           c.args.turns c.loop-i._i r (running_of c.loop-i.host) (running_of c.turn.new.host) i.0 i.1
           i.2 c.turn.ensures.host c.turn.ensures.shown,
       c.turn.ensures.image ∙ i.3,
-      next_counted c.args.turns c.loop-i._i (event_count c.args.host.now) (event_count c.loop-i.host)
+      next_counted c.args.turns c.loop-i._i (event_count c.args.host.now)
+          (event_count c.loop-i.host)
           (event_count c.turn.new.host) r (running_of c.loop-i.host) (running_of c.turn.new.host)
           i.0 i.4 c.turn.ensures.host c.turn.ensures.counted,
     )
