@@ -5,4 +5,5 @@ pub mod RemainingSteps
 pub mod MoreSteps
 pub mod Rows
 pub mod MoreRows
+pub mod WalkRows
 pub mod SoundRows

@@ -10,7 +10,7 @@ use Rattle.c_operations.specs.declared.operation.Size.TheVariants.{Int, Long}
 use Rattle.c_operations.specs.declared.operation.Signedness.TheVariants.{Signed, Unsigned}
 use Rattle.c_checked.specs.declared.expression.Access.{Access}
 use Rattle.c_checked.specs.declared.expression.Conversion.TheVariants.{Kept, Extend}
-use Rattle.c_operations.specs.declared.built_in.BuiltIn.TheVariants.{Put, Protect, RaiseException}
+use Rattle.c_operations.specs.declared.built_in.BuiltIn.TheVariants.{Put, Protect, RaiseException, Walk}
 use Rattle.c_checked.specs.Expression.{Expression, On, Node, Constant, Read, Unary, Binary}
 use Rattle.c_checked.specs.Expression.{CallBuiltIn, ExceptionCode, AbnormalTermination, Lvalue}
 use Rattle.c_checked.specs.Expression.{Local, Global, Done, Next, arguments}
@@ -88,6 +88,9 @@ raise code flags =
 
 abbrev pub protect : ℕ → ℕ → Statement
 protect a mode = evaluate (CallBuiltIn Protect (arguments (cast a ∷ lit mode ∷ [])))
+
+abbrev pub walk : Statement
+walk = evaluate (CallBuiltIn Walk Done)
 
 abbrev pub answer : Expression → Statement
 answer e = Return (Some e)

@@ -4,6 +4,7 @@ ghost use Rattle.source_meaning.specs.Laws as laws_of;
 ghost use Rattle.source_meaning.specs.Meaning.{meaning};
 ghost use Rattle.source_meaning.specs.Rows as shown;
 ghost use Rattle.source_meaning.specs.MoreRows as shown_more;
+ghost use Rattle.source_meaning.specs.WalkRows.{WalkInFilter, WalkAfterCollision, WalkRowsAreSound};
 ghost use Rattle.source_meaning.specs.SoundRows.{RowsAreSound};
 
 /// A task is one step and then its case, and leaves no more steps than there were. What n steps
@@ -49,4 +50,11 @@ pub fn more_rows()
     ensures loops { shown_more.Loops }
     ensures deep_recursion { shown_more.DeepRecursion }
     ensures sound { RowsAreSound }
+{}
+
+/// Programs that show their live activations, from a filter, from a block and after a collision.
+pub fn walk_rows()
+    ensures walk_in_filter { WalkInFilter }
+    ensures walk_after_collision { WalkAfterCollision }
+    ensures sound { WalkRowsAreSound }
 {}
