@@ -1,8 +1,10 @@
 -- The image of a sound program does what the program means.
-use Rattle.std.proofs.Common.{ℕ, ◌<◌, ◌≤◌, List, length, ap, subst, arith}
+use Rattle.std.proofs.Common.{◌≡◌, ℕ, ◌<◌, ◌≤◌, List, length, None, refl, ap, subst, arith}
 use Rattle.std.specs.List.{AllByRecursion}
 use Rattle.std.specs.Prelude.{pos}
 use Rattle.image_runs.specs.Words.{image_of, parts_of, CanBeImage, Program, lowered, linked, HasBytes, IsLinkable, IsImageOf, CompiledRealise, CompiledShowNothingMore}
+use Rattle.pe_image.specs.NameRows.{names_of, function_name}
+use Rattle.pe_write.specs.Program.{ImageContents}
 use Rattle.pe_write.proofs.Back.{written_length}
 use Rattle.pe_write.proofs.Programs.{size_is, can_be_written}
 use Rattle.image_runs.proofs.Lemmas.{images_are_small, is, images_load}
@@ -27,6 +29,11 @@ pub octets : (program : Program) (bytes : List ℕ) → IsImageOf bytes program
 octets program bytes w = subst (λ (xs : List ℕ). AllByRecursion (λ b. b < 256) xs) w.written
     w.octets
 
+-- none of the five sections of an image is called `.sehname`
+unnamed : (p : ImageContents) (number : ℕ) → function_name (image_of p) number ≡ None
+unfolding names_of
+unnamed p number = refl
+
 pub compiled_realise : CompiledRealise
 compiled_realise program l reads bytes w = record {
   image = image_of (linked (lowered program));
@@ -35,6 +42,7 @@ compiled_realise program l reads bytes w = record {
   loads = images_load (lowered program) (lowered_is_compiled program l);
   shows = λ arg n lt. linked_images_show_all program l reads bytes w.read (octets program bytes w)
       (pos arg) n;
+  names = unnamed (linked (lowered program));
 }
 
 pub compiled_show_nothing_more : CompiledShowNothingMore

@@ -3,6 +3,7 @@ use Rattle.std.specs.Prelude.{◌≡◌, ℕ, ◌+◌, ◌*◌, ◌^◌, ◌<◌
 use Rattle.std.specs.List.{AllByRecursion}
 use Rattle.host_layout.specs.declared.limit.TheConstants.{MOST_IMAGE}
 use Rattle.pe_image.specs.Image.{Image}
+use Rattle.pe_image.specs.NameRows.{function_name}
 use Rattle.pe_image.specs.Reading.{IsImage}
 use Rattle.pe_write.specs.Program.{parts_of, image_of}
 use Rattle.pe_write.specs.Written.{written}
@@ -22,7 +23,7 @@ use Rattle.image_runs.specs.SoundImages.{IsLinkable}
 -- the bytes are an image of at most 256 MiB that loads. For every argument and every n, what the
 -- program shows within n steps the image shows in at most 256 n + 256 turns: its events are the
 -- first events of the run, and where the program ends within n steps the run has ended in the same
--- way with no other event.
+-- way with no other event. No function has a name in it.
 pub record Realises (bytes : List ℕ) (program : Program) : Type 0 where
   pub image : Image
   pub is : IsImage bytes image
@@ -32,6 +33,7 @@ pub record Realises (bytes : List ℕ) (program : Program) : Type 0 where
       (arg n : ℕ) → arg < 2 ^ 63
       → Covers (meaning program (pos arg) n).events (run_end_of (meaning program (pos arg) n).end)
       (machine bytes (pos arg) (256 * n + 256))
+  pub names : (number : ℕ) → function_name image number ≡ None
 
 -- in m turns it shows no more than the program shows within (m + 1) * K steps, where these are
 -- calm, and ends only as they end
