@@ -4,6 +4,8 @@ use Rattle.std.specs.Prelude.{option_map}
 use Rattle.std.proofs.lemmas.Bool.{le-leb}
 use Rattle.image_states.specs.Words.{Image, Import, ImageContents, image_of, Table, Entry, LinearProgram, linked, HasWholeImage, reason_unless, first_of, of_tables, table_refusal, has_place, place_refusal, first_unknown, import_refusal, is_code, has_entry, entry_refusal, load_refusal, ImagesStart, ImagesLoad}
 use Rattle.image_states.proofs.Lemmas.{listed, is, tables_are_read}
+use Rattle.pe_image.specs.NameRows.{names_of}
+use Rattle.host_model.specs.Loading.{names_refusal}
 use Rattle.host_model.specs.declared.refusal.LoadErr.{LoadErr}
 use Rattle.host_model.specs.declared.refusal.LoadErr.TheVariants as refusals
 use Rattle.image_states.proofs.Sections.{covered, above, here, past}
@@ -21,9 +23,9 @@ images_start program c bytes = record {
 
 -- ---- the load
 
-none_of : (t p i e : Option LoadErr) → t ≡ None → p ≡ None → i ≡ None → e ≡ None
-    → first_of (t ∷ p ∷ i ∷ e ∷ []) ≡ None
-none_of t p i e h1 h2 h3 h4 = rw (h1, h2, h3, h4) refl
+none_of : (t p i e n : Option LoadErr) → t ≡ None → p ≡ None → i ≡ None → e ≡ None → n ≡ None
+    → first_of (t ∷ p ∷ i ∷ e ∷ n ∷ []) ≡ None
+none_of t p i e n h1 h2 h3 h4 h5 = rw (h1, h2, h3, h4, h5) refl
 
 module _ (program : LinearProgram) (c : HasWholeImage program) where
   abbrev p : ImageContents
@@ -56,14 +58,19 @@ module _ (program : LinearProgram) (c : HasWholeImage program) where
       ∷ functions program c ∷ []) (covered 0 image.entry (text program c) (omega arith)
       (omega arith)))
 
+  -- it has no table of names
+  unnamed : names_refusal image ≡ None
+  unfolding names_of
+  unnamed = refl
+
   pub loads : load_refusal image ≡ None
   loads =
       none_of (table_refusal image) (place_refusal image) (import_refusal image)
-      (entry_refusal image)
+      (entry_refusal image) (names_refusal image)
       (ap (λ (t : Table (List Entry)). of_tables t) (tables_are_read program c.fits c.ranges))
       (ap (λ (b : Bool). reason_unless b (refusals.Place image.base)) placed)
       known
-      (ap (λ (b : Bool). reason_unless b (refusals.Entry image.entry)) entered)
+      (ap (λ (b : Bool). reason_unless b (refusals.Entry image.entry)) entered) unnamed
 
 pub images_load : ImagesLoad
 images_load program c = loads program c

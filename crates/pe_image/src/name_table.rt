@@ -141,6 +141,19 @@ impl<'a> NameSection<'a> {
 }
 
 impl<'a> NameRows<'a> {
+    /// The same rows.
+    fn copied(&self) -> NameRows<'a>
+        ensures { result ≡ self.now }
+    {
+        NameRows {
+            section: NameSection {
+                address: self.section.address,
+                raw: self.section.raw,
+            },
+            count: self.count,
+        }
+    }
+
     /// None.
     fn empty() -> NameRows<'a>
         ensures { result ≡ [] }
@@ -326,6 +339,16 @@ impl<'a> NameTable<'a> {
         };
         let ascending = rows.numbers_ascend();
         Ok(NameTable { rows, ascending })
+    }
+
+    /// The same table: it borrows what the image stores, and takes no memory.
+    pub fn copied(&self) -> NameTable<'a>
+        ensures { result ≡ self.now }
+    {
+        NameTable {
+            rows: self.rows.copied(),
+            ascending: self.ascending,
+        }
     }
 
     /// The row whose range holds an address: where the range begins, and the function's number. The

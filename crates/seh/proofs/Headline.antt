@@ -1,6 +1,6 @@
 -- A run with more turns than a program's steps need shows what the program means.
-use Rattle.std.proofs.Common.{◌≡◌, ◌+◌, ◌*◌, ◌-◌, ℕ, ℤ, pos, Some, None, ap, sym, subst, ◌∙◌, arith}
-use Rattle.seh.specs.Words.{no_names, RunEnd, Shown, text, machine, end_within, Ended, meaning, resolve, run_end, run_end_of, shown_by, end_by, status_of, meaning_status, Headline, NothingMore, Walks}
+use Rattle.std.proofs.Common.{◌≡◌, ◌+◌, ◌*◌, ◌-◌, ℕ, ℤ, List, pos, Some, None, ap, sym, subst, ◌∙◌, arith}
+use Rattle.seh.specs.Words.{no_names, RunEnd, Shown, text, machine, end_within, Ended, meaning, resolve, run_end, run_end_of, shown_by, end_by, names_read, names_by, IsCompiled, status_of, meaning_status, Headline, NothingMore, Walks}
 use Rattle.seh_num.specs.declared.end.RunEnd.TheVariants as ends
 use Rattle.host_model.specs.Laws.{Covers}
 use Rattle.host_model.proofs.Longer.{covers_then, images_cover}
@@ -17,6 +17,12 @@ same_status (meant.Unhandled c) e h =
 same_status (meant.Undefined a) e h = let q : None ≡ Some e = h in absurd cc
 same_status (meant.Deep d) e h = let q : None ≡ Some e = h in absurd cc
 same_status (meant.OutOfSteps n) e h = let q : None ≡ Some e = h in absurd cc
+
+-- a compiled image has no names
+pub no_names_by : (source image : List ℕ) → IsCompiled source image → names_by image ≡ no_names
+no_names_by source image compiled =
+    let real = compiled.realises in
+    ap names_read real.is ∙ (λ i number. real.names number i)
 
 pub headline : Headline
 headline source image compiled options arg n low enough =
@@ -39,7 +45,9 @@ headline source image compiled options arg n low enough =
       covers = covers;
       ended = ended;
       whole = λ e is. ap (λ (x : Shown RunEnd). text x.events (end_within options.turns x.end)
-          options.trace no_names) (covers.ends e is);
+          options.trace (names_by image)) (covers.ends e is)
+          ∙ ap (text meant.events (end_within options.turns (Some e)) options.trace)
+          (no_names_by source image compiled);
       status = λ last e is end_is.
           ap status_of (ended e (ap run_end_of is ∙ end_is)) ∙ same_status last e end_is;
     }

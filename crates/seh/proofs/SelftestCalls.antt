@@ -1,6 +1,6 @@
 -- What whole calls of `selftest` give, where no sink has a fault.
 use Rattle.std.proofs.Common.{◌≡◌, ◌⊎◌, inl, inr, ◌+◌, ◌*◌, ◌≤◌, ℕ, pos, List, length, false, Option, Some, Result, Err, refl, sym, ap, subst, ◌∙◌}
-use Rattle.seh.specs.Words.{Shown, RunEnd, Grew, text, IsAccepted, Program, resolve, meaning, Ended, run_end, run_end_of, RunOptions, shown_by, end_by, Call, Gave, WantedMemory, EndsWithin, ShowsMeaning, IsCompiled, IsProgramOf, Refusal, CommandOutcome, AsksSelftest, GaveSummary, SelftestReadsNothing, SelftestIsComplete, SelftestIsMeant, meant_summary, selftest_options, summary, summary_by, summary_of, status_of, meaning_status}
+use Rattle.seh.specs.Words.{no_names, names_by, Shown, RunEnd, Grew, text, IsAccepted, Program, resolve, meaning, Ended, run_end, run_end_of, RunOptions, shown_by, end_by, Call, Gave, WantedMemory, EndsWithin, ShowsMeaning, IsCompiled, IsProgramOf, Refusal, CommandOutcome, AsksSelftest, GaveSummary, SelftestReadsNothing, SelftestIsComplete, SelftestIsMeant, meant_summary, selftest_options, summary, summary_by, summary_of, status_of, meaning_status}
 use Rattle.c_syntax.specs.Program.{ExternalDeclaration}
 use Rattle.c_meaning.specs.Texts as meanings
 use Rattle.generated_program.specs.GeneratedText.{generated}
@@ -10,7 +10,7 @@ use Rattle.command_line.specs.declared.reading.TheConstants.{DEFAULT_TURNS}
 use Rattle.command_line.proofs.OneCommand.{line_once}
 use Rattle.seh.specs.Commands.{IsAnswer, IsCommandAnswer, IsUnread}
 use Rattle.seh.proofs.Calls.{Came, came_of, program_once, ran_text}
-use Rattle.seh.proofs.Headline.{headline}
+use Rattle.seh.proofs.Headline.{headline, no_names_by}
 use Rattle.seh.proofs.MeantCalls.{same_text}
 
 pub selftest_reads_nothing : SelftestReadsNothing
@@ -48,12 +48,14 @@ selftest_is_complete n whole call accepted asks =
         c.is.1)
 
 -- the summary of a run that ends as the program does is that of what it means
-same_summary : (turns n steps : ℕ) (meant : Shown Ended) (ran : Shown RunEnd) (ended : Ended)
-    (e : RunEnd) → meant.end ≡ Some ended → run_end ended ≡ Some e
+same_summary : (turns n steps : ℕ) (names : ℕ → Option (List ℕ)) (meant : Shown Ended)
+    (ran : Shown RunEnd) (ended : Ended) (e : RunEnd) → names ≡ no_names → meant.end ≡ Some ended
+    → run_end ended ≡ Some e
     → ran ≡ record { events = meant.events; end = Some e }
-    → summary_of turns n ran ≡ meant_summary n steps meant
-same_summary turns n steps meant ran ended e is runs same =
-    ap (summary_of turns n) same
+    → summary_of turns n names ran ≡ meant_summary n steps meant
+same_summary turns n steps names meant ran ended e unnamed is runs same =
+    ap (λ named. summary_of turns n named ran) unnamed
+    ∙ ap (summary_of turns n no_names) same
     ∙ ap (λ t. summary n t (length meant.events)) (same_text false steps meant ended e is runs)
 
 -- for any number of turns: a number that is written out would be counted down here
@@ -74,8 +76,9 @@ meant_by turns n steps p call is enough ends gave =
     (headline (generated n) gave.image compiled options 0 steps ends.small
     (record { argument = refl; turns = enough })) in
     let covered = shows.covers.ends ends.end (ap run_end_of ends.is ∙ ends.runs) in
-    let bytes = same_summary turns n steps (meaning p (pos 0) steps) (shown_by options gave.image)
-    ends.ended ends.end ends.is ends.runs covered in
+    let bytes = same_summary turns n steps (names_by gave.image) (meaning p (pos 0) steps)
+    (shown_by options gave.image) ends.ended ends.end
+    (no_names_by (generated n) gave.image compiled) ends.is ends.runs covered in
     record {
       ended = gave.gave.ended ∙ shows.status ends.ended ends.end ends.is ends.runs;
       wrote = subst (λ b. Grew call.out.bytes b call.out_after.bytes) bytes gave.gave.wrote;

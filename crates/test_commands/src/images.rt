@@ -55,6 +55,21 @@ fn imports_are_bound_or_refused(rt: HostRuntime) {
     all_answer(&rt, rt.alloc(), IMPORTS);
 }
 
+/// The only section is called `.sehname`: it has two bytes, which are no count of rows; or its code
+/// is a count of more rows than are stored, and another reason goes before. In the last row its name
+/// has seven of the letters.
+const NAMES: &str = r"
+exec | fourteen @ sections+0 2E 73 65 68 6E 61 6D 65 @ sections+8 02 00 | 3 ! load Names 0
+exec | fourteen @ sections+0 2E 73 65 68 6E 61 6D 65 | 3 ! load Names 0
+exec | fourteen @ sections+0 2E 73 65 68 6E 61 6D 65 @ optional+17 20 | 3 ! load Entry 8192
+exec | fourteen @ sections+0 2E 73 65 68 6E 61 6D 00 | 0 14 / exit 7
+";
+
+#[test]
+fn short_name_section(rt: HostRuntime) {
+    all_answer(&rt, rt.alloc(), NAMES);
+}
+
 /// Of an image that is refused for four reasons one is mended after another. Then the infos, which
 /// begin at 272 of the file: the first info is replaced, or the second, from 280 on; the entries
 /// begin at 296: a byte of the first two is changed; the directory counts 25 bytes, and in the last
