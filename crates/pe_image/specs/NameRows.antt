@@ -104,6 +104,10 @@ abbrev pub name_of : ℕ → List NameRow → Option (List ℕ)
 name_of number [] = None
 name_of number (r ∷ rs) = name_or (name_of number rs) r.name (nat_eq r.number number)
 
+-- the name of a number in an image; one whose table is refused has none
+abbrev pub function_name : Image → ℕ → Option (List ℕ)
+function_name image number = name_of number (rows_read (names_of image))
+
 -- the row whose range holds an address
 abbrev pub row_or : Option NameRow → NameRow → Bool → Option NameRow
 row_or others row true = Some row
@@ -112,6 +116,14 @@ row_or others row false = others
 abbrev pub row_holding : ℕ → List NameRow → Option NameRow
 row_holding rva [] = None
 row_holding rva (r ∷ rs) = row_or (row_holding rva rs) r (nat_le r.begin rva && nat_lt rva r.end)
+
+-- the name in the row whose range begins at an address: that which holds it, if it begins there
+abbrev pub name_if_begun : ℕ → Option NameRow → Option (List ℕ)
+name_if_begun rva None = None
+name_if_begun rva (Some r) = if nat_eq r.begin rva then Some r.name else None
+
+abbrev pub name_at_begin : ℕ → List NameRow → Option (List ℕ)
+name_at_begin rva rows = name_if_begun rva (row_holding rva rows)
 
 -- each row has a greater number than the one before
 abbrev pub NumbersAscend : List NameRow → Type 0
