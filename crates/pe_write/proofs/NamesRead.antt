@@ -1,9 +1,10 @@
 -- The table of names that is written, read again.
-use Rattle.std.proofs.Common.{◌≡◌, ℕ, zero, suc, ◌+◌, ◌-◌, ◌*◌, ◌^◌, ◌<◌, ◌≤◌, Bool, true, false, Some, None, Ok, List, [], ◌∷◌, ◌++◌, length, take, drop, append_assoc, refl, sym, ap, subst, ◌∙◌, arith}
+use Rattle.std.proofs.Common.{◌≡◌, ℕ, zero, suc, ◌+◌, ◌-◌, ◌*◌, ◌^◌, ◌<◌, ◌≤◌, Bool, true, false, Some, None, Ok, List, [], ◌∷◌, ◌++◌, length, take, drop, get_or, append_assoc, refl, sym, ap, subst, ◌∙◌, arith}
 use Rattle.std.specs.Prelude.{◌==◌, ◌&&◌, if◌then◌else◌, nat_le, nat_lt, option_map}
 use Rattle.std.specs.List.{position_or_len, AllByRecursion}
 use Rattle.std.proofs.lemmas.Bool.{and_from, ne_eqb, lt-ltb, le-leb}
 use Rattle.std.proofs.lemmas.List.{append-nil, length-append, length-drop, drop-drop, drop_at}
+use Rattle.std.proofs.lemmas.List.Sums.{position_or_len_is}
 use Rattle.std.proofs.Math.Seq.{take-append_seam}
 use Rattle.byteorder.specs.Endian.{little_number}
 use Rattle.seh_num.specs.Answers.{unless, or_refused, prepend, ◌>>=◌}
@@ -44,13 +45,22 @@ count_there n rest lt = four_is n lt
 
 -- ---- one name
 
+some_at : (xs rest : List ℕ) (k : ℕ) → AllByRecursion (λ (b : ℕ). 0 < b) xs → k < length xs
+    → (get_or (xs ++ 0 ∷ rest) k 0 == 0) ≡ false
+some_at [] rest k all lt = absurd (omega arith)
+some_at (x ∷ xs) rest zero all lt = ne_eqb x 0 (λ e. absurd (let some = all.0 in omega arith))
+some_at (x ∷ xs) rest (suc k) all lt = some_at xs rest k all.1 (omega arith)
+
+zero_at : (xs rest : List ℕ) → (get_or (xs ++ 0 ∷ rest) (length xs) 0 == 0) ≡ true
+zero_at [] rest = refl
+zero_at (x ∷ xs) rest = zero_at xs rest
+
 zero_after : (xs rest : List ℕ) → AllByRecursion (λ (b : ℕ). 0 < b) xs
     → position_or_len (λ x. x == 0) (xs ++ 0 ∷ rest) ≡ length xs
-zero_after [] rest all = refl
-zero_after (x ∷ xs) rest all =
-    let some = ne_eqb x 0 (λ e. absurd (let lt = all.0 in omega arith)) in
-    ap (λ (b : Bool). if b then 0 else suc (position_or_len (λ x. x == 0) (xs ++ 0 ∷ rest))) some
-    ∙ ap suc (zero_after xs rest all.1)
+zero_after xs rest all =
+    position_or_len_is (λ x. x == 0) (xs ++ 0 ∷ rest) (length xs) 0
+    (omega (arith, length-append xs (0 ∷ rest))) (λ k lt. some_at xs rest k all lt)
+    (λ lt. zero_at xs rest)
 
 name_ended : (name rest : List ℕ) → AllByRecursion (λ (b : ℕ). 0 < b) name
     → terminated (name ++ 0 ∷ rest) ≡ Some name
