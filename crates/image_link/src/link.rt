@@ -11,7 +11,6 @@ ghost use Rattle.image_link.specs.Linked as spec;
 ghost use Rattle.image_link.specs.Near.{AreFew, IsRoutineNear, HasNames, HasPlaces};
 ghost use Rattle.image_link.specs.Places.{places_from};
 ghost use Rattle.image_link.specs.Text as texts;
-ghost use Rattle.image_link.specs.Walks as walks;
 
 use crate::place::{Place, front_size, places_of};
 use crate::placement::{offset_of, placement_of, text_begin};

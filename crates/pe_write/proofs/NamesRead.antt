@@ -1,6 +1,6 @@
 -- The table of names that is written, read again.
-use Rattle.std.proofs.Common.{◌≡◌, ℕ, zero, suc, ◌+◌, ◌-◌, ◌*◌, ◌^◌, ◌<◌, ◌≤◌, Bool, true, false, Some, None, Ok, List, [], ◌∷◌, ◌++◌, length, take, drop, get_or, append_assoc, refl, sym, ap, subst, ◌∙◌, arith}
-use Rattle.std.specs.Prelude.{◌==◌, ◌&&◌, if◌then◌else◌, nat_le, nat_lt, option_map}
+use Rattle.std.proofs.Common.{◌≡◌, ℕ, zero, suc, ◌+◌, ◌-◌, ◌*◌, ◌^◌, ◌<◌, ◌≤◌, Bool, true, false, Some, None, Ok, List, [], ◌∷◌, ◌++◌, length, drop, get_or, append_assoc, refl, sym, ap, subst, ◌∙◌, arith}
+use Rattle.std.specs.Prelude.{◌==◌, if◌then◌else◌, nat_le, nat_lt, option_map}
 use Rattle.std.specs.List.{position_or_len, AllByRecursion}
 use Rattle.std.proofs.lemmas.Bool.{and_from, ne_eqb, lt-ltb, le-leb}
 use Rattle.std.proofs.lemmas.List.{append-nil, length-append, length-drop, drop-drop, drop_at}
@@ -9,14 +9,14 @@ use Rattle.std.proofs.Math.Seq.{take-append_seam}
 use Rattle.byteorder.specs.Endian.{little_number}
 use Rattle.seh_num.specs.Answers.{unless, or_refused, prepend, ◌>>=◌}
 use Rattle.pe_image.specs.Field.{field, is_there}
-use Rattle.pe_image.specs.Image.{Section, section_named}
+use Rattle.pe_image.specs.Image.{section_named}
 use Rattle.pe_image.specs.Imports.{terminated}
-use Rattle.pe_image.specs.NameRows.{NameSection, name_at, with_name, place_of, begin_in, end_in, number_in, name_in, row_in, in_order, row_at, rows_from, rows_of, names_in, names_of, name_section}
+use Rattle.pe_image.specs.NameRows.{NameSection, name_at, with_name, place_of, begin_in, end_in, number_in, name_in, row_in, in_order, row_at, rows_from, rows_of, names_in, names_of}
 use Rattle.pe_image.specs.Numbers.{u32}
 use Rattle.pe_image.specs.declared.layout.TheConstants.{SEHNAME_NAME}
 use Rattle.pe_write.specs.NameTable.{NameRow, names_offset, names_size, name_table_size, row_bytes, rows_bytes, names_bytes, counted_bytes, name_table_bytes, IsNameRow, AreInOrder, AreNames}
 use Rattle.pe_write.specs.Program.{ImageContents, CanBeImage, sizes_of, names_at, if_named, data_read, text_read, rdata_read, xdata_read, pdata_read, names_read, image_of}
-use Rattle.pe_write.proofs.NameTables.{row_length, count_length, rows_length, all_names_length, counted_length}
+use Rattle.pe_write.proofs.NameTables.{row_length, count_length, rows_length, counted_length}
 use Rattle.pe_write.proofs.Rows.{four_is}
 use Rattle.pe_write.proofs.Tables.{ended}
 

@@ -1,7 +1,7 @@
 -- The bytes of an identifier: letters, digits and `_`, none of which is 0.
 use Rattle.std.proofs.Common.{◌≡◌, ℕ, ◌+◌, ◌<◌, ◌≤◌, Bool, true, false, Option, Some, None, List, [], ◌∷◌, refl, subst, arith, inl, inr}
 use Rattle.std.specs.Prelude.{◌==◌, ◌&&◌, ◌||◌, nat_le, if◌then◌else◌, option_map}
-use Rattle.std.proofs.lemmas.Bool.{and_parts, or_parts, leb-true, eqb-true, false≢true}
+use Rattle.std.proofs.lemmas.Bool.{and_parts, or_cases, leb-true, eqb-true, false≢true}
 use Rattle.c_lex.specs.declared.integer.Suffix.{Suffix}
 use Rattle.c_lex.specs.declared.punctuator.Punctuator.{Punctuator}
 use Rattle.c_lex.specs.declared.token.IntegerType.{IntegerType}
@@ -146,9 +146,9 @@ between low high b h =
 
 byte : (b : ℕ) → is_identifier_byte b ≡ true → (0 < b) × (b < 256)
 unfolding is_identifier_byte is_letter is_digit
-byte b h = elim (or_parts _ (nat_le 48 b && nat_le b 57) h) [
-  | inl letter ↦ elim (or_parts _ (b == 95) letter) [
-    | inl cased ↦ elim (or_parts _ (nat_le 65 b && nat_le b 90) cased) [
+byte b h = elim (or_cases _ (nat_le 48 b && nat_le b 57) h) [
+  | inl letter ↦ elim (or_cases _ (b == 95) letter) [
+    | inl cased ↦ elim (or_cases _ (nat_le 65 b && nat_le b 90) cased) [
       | inl small ↦ let x = between 97 122 b small in (omega (arith, x.0), omega (arith, x.1))
       | inr large ↦ let x = between 65 90 b large in (omega (arith, x.0), omega (arith, x.1))
     ]
