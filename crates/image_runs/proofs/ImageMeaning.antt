@@ -1,15 +1,13 @@
 -- The image of a sound program does what the program means.
-use Rattle.std.proofs.Common.{ℕ, ◌<◌, ◌≤◌, List, length, option_map, ap, subst, ◌∙◌, arith}
-use Rattle.std.proofs.lemmas.Option.{slice_get-map}
+use Rattle.std.proofs.Common.{ℕ, ◌<◌, ◌≤◌, List, length, ap, subst, arith}
 use Rattle.std.specs.List.{AllByRecursion}
 use Rattle.std.specs.Prelude.{pos}
 use Rattle.image_runs.specs.Words.{image_of, parts_of, CanBeImage, Program, lowered, linked, HasBytes, IsLinkable, IsImageOf, CompiledRealise, CompiledShowNothingMore}
 use Rattle.pe_write.proofs.Back.{written_length}
 use Rattle.pe_write.proofs.Programs.{size_is, can_be_written}
-use Rattle.image_tables.proofs.NameRows.{functions_have_names}
-use Rattle.seh_ir.specs.Lowered.{lowered_function}
 use Rattle.image_runs.proofs.Lemmas.{images_are_small, is, images_load}
 use Rattle.image_runs.proofs.ImageCode.{lowered_is_compiled}
+use Rattle.image_runs.proofs.FunctionNames.{names_functions}
 use Rattle.image_runs.proofs.ImageRuns.{linked_images_show_all, linked_images_show_no_more}
 use Rattle.host_layout.specs.declared.limit.TheConstants.{MOST_IMAGE}
 
@@ -38,8 +36,7 @@ compiled_realise program l reads bytes w = record {
   loads = images_load (lowered program) (lowered_is_compiled program l);
   shows = λ arg n lt. linked_images_show_all program l reads bytes w.read (octets program bytes w)
       (pos arg) n;
-  names = λ walks k f e. functions_have_names (lowered program) k (lowered_function f) l.fits walks
-      (slice_get-map lowered_function program.functions k ∙ ap (option_map lowered_function) e);
+  names = names_functions program l;
 }
 
 pub compiled_show_nothing_more : CompiledShowNothingMore

@@ -16,6 +16,7 @@ pub mod LiveStates
 pub mod AgreementSimulation
 pub mod WholeRuns
 pub mod ImageRuns
+pub mod FunctionNames
 pub mod ImageMeaning
 pub mod TextImages
 pub mod WalkFrames

@@ -1,5 +1,5 @@
 -- An image that does what a program means.
-use Rattle.std.specs.Prelude.{◌≡◌, ℕ, ◌+◌, ◌*◌, ◌^◌, ◌<◌, ◌≤◌, true, List, length, pos, slice_get, Some, None}
+use Rattle.std.specs.Prelude.{◌≡◌, ℕ, zero, suc, ◌+◌, ◌*◌, ◌^◌, ◌<◌, ◌≤◌, true, List, length, pos, slice_get, option_map, Option, None}
 use Rattle.std.specs.List.{AllByRecursion}
 use Rattle.host_layout.specs.declared.limit.TheConstants.{MOST_IMAGE}
 use Rattle.pe_image.specs.Image.{Image}
@@ -10,7 +10,7 @@ use Rattle.pe_write.specs.Written.{written}
 use Rattle.host_model.specs.Loading.{load_refusal}
 use Rattle.host_model.specs.Laws.{Covers}
 use Rattle.host_model.specs.Machine.{machine}
-use Rattle.c_checked.specs.Program.{Function, Program}
+use Rattle.c_checked.specs.Program.{Program}
 use Rattle.source_meaning.specs.Meaning.{meaning, Calm}
 use Rattle.seh_ir.specs.Lowered.{lowered}
 use Rattle.lowering_follows.specs.StepsPerTurn.{steps_per_turn_of}
@@ -21,12 +21,17 @@ use Rattle.image_link.specs.Linked.{linked}
 use Rattle.image_link.specs.Walks.{calls_walk}
 use Rattle.image_runs.specs.SoundImages.{IsLinkable}
 
--- where the program calls `walk`, the number of each function, from 1 on, has the function's name in
--- the image
+-- the name of the function of a number, from 1 on in the order of the program's text
+abbrev pub name_in : Program → ℕ → Option (List ℕ)
+name_in program zero = None
+name_in program (suc k) = option_map (λ f. f.name) (slice_get program.functions k)
+
+-- where the program calls `walk`, the number of each function has the function's name in the image,
+-- and no other number has one
 abbrev pub NamesFunctions : Image → Program → Type 0
 NamesFunctions image program =
-    calls_walk (lowered program) ≡ true → (k : ℕ) (f : Function)
-    → slice_get program.functions k ≡ Some f → function_name image (k + 1) ≡ Some f.name
+    calls_walk (lowered program) ≡ true → (number : ℕ)
+    → function_name image number ≡ name_in program number
 
 -- the bytes are an image of at most 256 MiB that loads. For every argument and every n, what the
 -- program shows within n steps the image shows in at most 256 n + 256 turns: its events are the

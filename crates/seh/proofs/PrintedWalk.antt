@@ -1,50 +1,90 @@
 -- The text of a run has the lines of each printed walk.
-use Rattle.std.proofs.Common.{◌≡◌, ℕ, ◌+◌, Bool, true, false, List, [], ◌∷◌, ◌++◌, reverse, pos, refl, sym, ap, ◌∙◌}
-use Rattle.std.proofs.lemmas.List.{append-assoc}
-use Rattle.std.specs.Prelude.{Option, Some, None}
-use Rattle.std.specs.List.{AllByRecursion}
+use Rattle.std.proofs.Common.{◌≡◌, ℕ, ◌+◌, Bool, List, [], ◌∷◌, ◌++◌, reverse, pos, refl, sym, ap, subst, ◌∙◌}
+use Rattle.std.proofs.lemmas.List.{append_assoc}
+use Rattle.std.specs.Prelude.{Option}
 use Rattle.seh_num.specs.declared.event.Event.{Event}
-use Rattle.seh_num.specs.declared.event.Event.TheVariants as events
-use Rattle.c_operations.specs.declared.built_in.BuiltIn.TheVariants.{Walk}
-use Rattle.linear_machine.specs.BuiltInCalls.{IsNotAt}
-use Rattle.source_meaning.specs.State as states
-use Rattle.source_meaning.specs.State.{State, Outcome, Gives, state_of, walk_events}
+use Rattle.source_meaning.specs.State.{State, Result, Value, Normal, Returned, Broke, Continued, LeftTry, Target, End, Outcome, Gives, state_of, walk_events}
 use Rattle.source_meaning.specs.Meaning.{shows, ran, does, meaning}
 use Rattle.source_meaning.specs.Laws.{IsPrefixOf}
-use Rattle.source_machine.specs.Machine.{step, done}
+use Rattle.source_machine.specs.Machine.{Machine, step, done}
 use Rattle.source_machine.specs.Runs.{first, after}
 use Rattle.source_machine.specs.FrameMeanings.{comes_to}
-use Rattle.seh.specs.Words.{resolve, lines, line, names_of, walk_lines, walked_text, ComesToWalk, PrintedWalk}
-use Rattle.seh.proofs.Headline.{text_begins}
+use Rattle.source_machine.proofs.StepKeeping.{keeps_meaning}
+use Rattle.source_machine.proofs.WholeRuns.{shows_before}
+use Rattle.source_machine.proofs.RunPrefixes.{one_run}
+use Rattle.seh_io.specs.Text.{line, lines, at_line}
+use Rattle.c_checked.specs.Program.{Program}
+use Rattle.c_meaning.specs.FunctionNames.{names_of}
+use Rattle.seh.specs.Words.{resolve, text_by}
+use Rattle.seh.specs.PrintedWalk.{ComesToWalk, walk_lines, walked_text, PrintedWalk}
+use Rattle.seh.proofs.EventLines.{lines_append}
+use Rattle.seh.proofs.Headline.{headline}
 
--- ---- lines
+-- the lines of a walk's events
+walk_text : (program : Program) (trace : Bool) (functions : List ℕ)
+    → lines trace (walk_events functions) (names_of program) ≡ walk_lines program functions
+walk_text program trace [] = refl
+walk_text program trace (f ∷ functions) =
+    ap (λ xs. at_line (names_of program (f + 1)) ++ xs) (walk_text program trace functions)
 
-pub lines_append : (trace : Bool) (a b : List Event) (names : ℕ → Option (List ℕ))
-    → lines trace (a ++ b) names ≡ lines trace a names ++ lines trace b names
-lines_append trace [] b names = refl
-lines_append trace (e ∷ a) b names =
-    ap (λ xs. line trace e names ++ xs) (lines_append trace a b names)
-    ∙ sym (append-assoc (line trace e names) (lines trace a names) (lines trace b names))
+-- what is shown has the events of the last state
+shown_events : (o : Outcome) → (shows o).events ≡ (state_of o).events
+shown_events (Gives (Value v) st) = refl
+shown_events (Gives Normal st) = refl
+shown_events (Gives (Returned v) st) = refl
+shown_events (Gives Broke st) = refl
+shown_events (Gives Continued st) = refl
+shown_events (Gives LeftTry st) = refl
+shown_events (Gives (Target to exc) st) = refl
+shown_events (Gives (End e) st) = refl
 
--- names matter to a printed walk alone
-same_line : (trace : Bool) (e : Event) (names others : ℕ → Option (List ℕ)) → IsNotAt e
-    → line trace e names ≡ line trace e others
-same_line trace (events.Put v) names others h = refl
-same_line trace (events.At k) names others h = absurd h
-same_line true (events.Raise code flag access) names others h = refl
-same_line true (events.Filter k) names others h = refl
-same_line true (events.Answer v) names others h = refl
-same_line true (events.Finally k flag) names others h = refl
-same_line true (events.Except code) names others h = refl
-same_line false (events.Raise code flag access) names others h = refl
-same_line false (events.Filter k) names others h = refl
-same_line false (events.Answer v) names others h = refl
-same_line false (events.Finally k flag) names others h = refl
-same_line false (events.Except code) names others h = refl
+module _ (program : Program) (arg n : ℕ) (st : State) (c : ComesToWalk program (pos arg) n st) where
+  m : Machine
+  m = c.machine
 
-pub same_lines : (trace : Bool) (es : List Event) (names others : ℕ → Option (List ℕ))
-    → AllByRecursion IsNotAt es → lines trace es names ≡ lines trace es others
-same_lines trace [] names others h = refl
-same_lines trace (e ∷ es) names others h =
-    ap (λ xs. xs ++ lines trace es names) (same_line trace e names others h.0)
-    ∙ ap (λ xs. line trace e others ++ xs) (same_lines trace es names others h.1)
+  -- the call's step shows the walk
+  walked : (step program c.machine).state.events
+      ≡ st.events ++ walk_events (reverse st.functions)
+  walked = ap (λ next. (done program c.machine next).state.events) c.calls
+      ∙ ap (λ (s : State). s.events ++ walk_events (reverse s.functions)) c.state
+
+  -- that is among what the program means
+  meant : IsPrefixOf (st.events ++ walk_events (reverse st.functions))
+      (meaning program (pos arg) n).events
+  meant =
+      let comes : comes_to program (does program) (step program c.machine)
+      ≡ ran program (pos arg) n = keeps_meaning program c.machine
+      ∙ ap (comes_to program (does program)) (sym c.comes)
+      ∙ one_run program (pos arg) n c.steps in
+      let front = shows_before program (step program c.machine) in (
+        front.0,
+        ap (λ es. es ++ front.0) (sym walked) ∙ front.1
+            ∙ ap (λ (o : Outcome). (state_of o).events) comes
+            ∙ sym (shown_events (ran program (pos arg) n)),
+      )
+
+  -- and so are its lines
+  meant_lines : (trace : Bool)
+      → (rest : List ℕ) × (lines trace (meaning program (pos arg) n).events (names_of program)
+      ≡ walked_text program st trace ++ rest)
+  meant_lines trace =
+      let names = names_of program in
+      let fs = reverse st.functions in
+      let before = lines trace st.events names in
+      let rest = lines trace meant.0 names in (
+        rest,
+        ap (λ es. lines trace es names) (sym meant.1)
+            ∙ lines_append trace (st.events ++ walk_events fs) meant.0 names
+            ∙ ap (λ xs. xs ++ rest) (lines_append trace st.events (walk_events fs) names
+            ∙ ap (λ xs. before ++ xs) (walk_text program trace fs)),
+      )
+
+pub printed_walk : PrintedWalk
+printed_walk source image compiled options arg n st low enough c =
+    let program = (resolve source compiled.whole).program in
+    let text = (headline source image compiled options arg n low enough).begins in
+    let walk = meant_lines program arg n st c options.trace in (
+      walk.0 ++ text.0,
+      text.1 ∙ ap (λ xs. xs ++ text.0) walk.1
+          ∙ append_assoc (walked_text program st options.trace) walk.0 text.0,
+    )

@@ -8,6 +8,7 @@ ghost use Rattle.seh.specs.EntryCheckLaws.{EntryCheckIsComplete, EntriesHaveOneV
 ghost use Rattle.seh.specs.Completeness.{AcceptedTextsCompile, CompiledImagesRun};
 ghost use Rattle.seh.specs.Existence.{ImagesExist};
 ghost use Rattle.seh.specs.Headline.{Headline, NothingMore, Walks};
+ghost use Rattle.seh.specs.PrintedWalk.{PrintedWalk};
 ghost use Rattle.seh.specs.SelftestLaws.{SelftestReadsNothing, SelftestIsComplete, SelftestIsMeant};
 ghost use Rattle.seh.specs.TamePrograms.{TameProgramsWalk, TameProgramsEnd};
 
@@ -23,6 +24,14 @@ ghost use Rattle.seh.specs.TamePrograms.{TameProgramsWalk, TameProgramsEnd};
 pub fn headline()
     ensures shows { Headline }
     ensures nothing_more { NothingMore }
+{}
+
+/// The printed walk: where the run of which the meaning speaks comes to a call of `walk` within n
+/// steps, the text of the image's run, with turns enough, has after the lines of what was shown until
+/// then a line with the name of each live activation's function, innermost first: also in filters and
+/// in `__finally` blocks, and where an unwinding has left others.
+pub fn printed_walk()
+    ensures { PrintedWalk }
 {}
 
 /// Completeness: no accepted text is refused, and no image of one. What `compile` answers to an
