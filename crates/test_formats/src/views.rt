@@ -89,7 +89,7 @@ entry 2 00002030 00002040 00003000
  bytes 01000000
  info prolog 0 flags 0 frame - 0
 entries 3
-# names
+# named entries
 info 01
 table 00200000 20200000 00300000
 table 20200000 30200000 00300000
@@ -120,7 +120,7 @@ names 67 00
 shows
 refused 0 Version 2
 entries 1
-# names that overlap
+# overlapping names
 info 01
 table 00200000 20200000 00300000
 names 02000000
