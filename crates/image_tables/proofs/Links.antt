@@ -27,6 +27,7 @@ links_near p x fits h =
     (services_few p) fits.globals
     (routines_near p fits) (has_places p fits) in
     let text = n.text in
+    let services = services_few p in
     let room = h.room in
     let small = routine_small r h.near in
     let entry = entry_small r h.near in

@@ -106,7 +106,16 @@ fn image_of(rt: &impl Abort, alloc: Global, row: &str, entry: u32) -> Image<'sta
         panic!(rt; "no code");
     }
     let imports = every_service(alloc).expect(rt, "memory");
-    Image::new(imports, size, data, text, entry, xdata, pdata, Vec::new(alloc))
+    Image::new(
+        imports,
+        size,
+        data,
+        text,
+        entry,
+        xdata,
+        pdata,
+        Vec::new(alloc),
+    )
 }
 
 /// Its bytes as they are written.

@@ -108,34 +108,35 @@ every_of : (t : Bool) (x y : Word) → (if t then Some x else None) ≡ Some y �
 every_of true x y e = refl
 every_of false x y e = cc
 
+-- what a word is that doesn't begin with a letter
+abbrev other : ℕ → List ℕ → Option Word
+other b bs =
+    if b == 48 then after_zero bs
+    else (if is_digit b then integer 10 (b ∷ bs)
+    else (if b == 39 then quoted bs
+    else (if b == 47 then slash bs
+    else (if is_space b then alone Blank bs
+    else punctuator b bs))))
+
+other_no : (b : ℕ) (bs : List ℕ) → NoName (other b bs)
+other_no b bs =
+    if_no _ _ _ (after_zero_no bs) (if_no _ _ _ (integer_no 10 (b ∷ bs))
+    (if_no _ _ _ (quoted_no bs) (if_no _ _ _ (slash_no bs)
+    (if_no _ _ _ (alone_no bs) (punctuator_no b bs)))))
+
+name_or_other : (l : Bool) (b : ℕ) (bs : List ℕ)
+    → (if l then each is_identifier_byte (λ w. Lexeme (identifier_kind w)) (b ∷ bs) else other b bs)
+    ≡ Some (Lexeme kinds.Identifier) → every is_identifier_byte (b ∷ bs) ≡ true
+name_or_other true b bs e =
+    every_of (every is_identifier_byte (b ∷ bs)) (Lexeme (identifier_kind (b ∷ bs)))
+    (Lexeme kinds.Identifier) e
+name_or_other false b bs e = absurd (other_no b bs e)
+
 word_every : (bytes : List ℕ) → word bytes ≡ Some (Lexeme kinds.Identifier)
     → every is_identifier_byte bytes ≡ true
 unfolding word_from
 word_every [] e = cc
-word_every (b ∷ bs) e = by (is_letter b) e
-  where
-    abbrev other : Option Word
-    other =
-        if b == 48 then after_zero bs
-        else (if is_digit b then integer 10 (b ∷ bs)
-        else (if b == 39 then quoted bs
-        else (if b == 47 then slash bs
-        else (if is_space b then alone Blank bs
-        else punctuator b bs))))
-
-    other_no : NoName other
-    other_no =
-        if_no _ _ _ (after_zero_no bs) (if_no _ _ _ (integer_no 10 (b ∷ bs))
-        (if_no _ _ _ (quoted_no bs) (if_no _ _ _ (slash_no bs)
-        (if_no _ _ _ (alone_no bs) (punctuator_no b bs)))))
-
-    by : (l : Bool)
-        → (if l then each is_identifier_byte (λ w. Lexeme (identifier_kind w)) (b ∷ bs) else other)
-        ≡ Some (Lexeme kinds.Identifier) → every is_identifier_byte (b ∷ bs) ≡ true
-    by true e =
-        every_of (every is_identifier_byte (b ∷ bs)) (Lexeme (identifier_kind (b ∷ bs)))
-        (Lexeme kinds.Identifier) e
-    by false e = absurd (other_no e)
+word_every (b ∷ bs) e = name_or_other (is_letter b) b bs e
 
 -- ---- its bytes
 

@@ -35,7 +35,6 @@ image_of-requires-clause-places c =
     omega (arith, length-map c.args.program.now.functions.items linear_function))
     (has_places p c.requires))
 
-
 named_is : (p : LinearProgram) (walks : Bool) (fs all : List IrFunction)
     (named : List LinearFunction) → walks ≡ calls_walk p → fs ≡ all
     → map linear_function all ≡ p.functions → named ≡ named_if walks (map linear_function fs)
