@@ -12,20 +12,21 @@ use Rattle.eh_tables.specs.declared.code.UnwindOperation.{UnwindOperation}
 use Rattle.eh_tables.specs.declared.code.UnwindOperation.TheVariants.{Push, Allocate, SetFrame, Save, SaveVector, MachineFrame}
 use Rattle.eh_tables.specs.Infos.{Info}
 use Rattle.virtual_unwind.specs.Contexts.{get}
-use Rattle.virtual_unwind.specs.CallerOf.{base_if, has_frame, run_by, sets_frame, unwound}
+use Rattle.virtual_unwind.specs.CallerOf.{has_frame, run_by, sets_frame, unwound}
 use Rattle.virtual_unwind.specs.Tail.{FetchedInstr, role_of}
 use Rattle.virtual_unwind.specs.declared.tail.Role.TheVariants.{Other}
 use Rattle.frame_rules.specs.Body.{Body, Leaving, following, is_body}
 use Rattle.frame_rules.specs.Codes.{allocation, pushed, pushes, is_saved, is_ordered, is_allocated}
 use Rattle.frame_rules.specs.Epilogue.{gives_back, is_epilogue, pops}
-use Rattle.frame_rules.specs.Frame.{Framed, left_to}
+use Rattle.frame_rules.specs.Frame.{left_to}
 use Rattle.frame_rules.specs.States.{HasItems}
 use Rattle.frame_rules.proofs.Undoing.{undoing, popped_is, return_word}
 use Rattle.frame_rules.proofs.Epilogues.{pops_restore, epilogue_restores}
-use Rattle.frame_rules.proofs.Order.{Ordered, push, allocate, frame, save, ordered, ordered_rest, framed_above, pushes_whole}
+use Rattle.frame_rules.proofs.Order.{Ordered, push, allocate, frame, save, ordered, ordered_rest, pushes_whole}
 use Rattle.frame_rules.proofs.Tails.{no_tail, trails, opens_here}
 use Rattle.match_stack.specs.PlainWalks.{state}
 use Rattle.match_stack.proofs.FrameWords.{eight_numbers}
+use Rattle.match_bodies.proofs.OwedCallers.{base_is}
 use Rattle.match_bodies.specs.Callers.{Owed, IsOwed, FindsOwed, caller_owed, caller_left}
 
 -- ---- a walk's answer
@@ -186,17 +187,6 @@ unloaded_saves r (Allocate n ∷ xs) (allocate p o) = allocated_saves r (Allocat
 unloaded_saves r (SetFrame ∷ xs) (frame t p o) = allocated_saves r xs t
 unloaded_saves r (SaveVector q n ∷ xs) o = elim o [ ]
 unloaded_saves r (MachineFrame e ∷ xs) o = elim o [ ]
-
--- ---- the base of the allocation
-
--- where a frame register is set it leads to RSP
-base_is : (i : Info) (c : Context) (ops : List UnwindOperation) (b : Bool) → Ordered ops
-    → (b ≡ true → sets_frame ops ≡ true) → rsp c < 2 ^ 64 → i.frame_offset ≤ 2 ^ 64
-    → Framed i.frame_register i.frame_offset (get c) (rsp c) ops → base_if i c b ≡ rsp c
-base_is i c ops false o sets high small h = refl
-base_is i c ops true o sets high small h =
-    let e = framed_above i.frame_register i.frame_offset (get c) (rsp c) ops o (sets refl) h in
-    omega arith
 
 both_true : (a b : Bool) → (a && b) ≡ true → b ≡ true
 both_true true b e = e

@@ -33,11 +33,11 @@ use Rattle.match_bodies.proofs.PrologueSteps.{of_codes, Below, Finds, old, fits,
 -- ---- what an instruction leaves
 
 -- the memory is left, and RIP is here
-record Passes (s u : State) (a : ℕ) : Type 0 where
-  memory : u.memory ≡ s.memory
-  rip : u.cpu.rip ≡ a
+pub record Passes (s u : State) (a : ℕ) : Type 0 where
+  pub memory : u.memory ≡ s.memory
+  pub rip : u.cpu.rip ≡ a
 
-passes : (s u : State) (a : ℕ) (t : State) → u ≡ t → t.memory ≡ s.memory → t.cpu.rip ≡ a
+pub passes : (s u : State) (a : ℕ) (t : State) → u ≡ t → t.memory ≡ s.memory → t.cpu.rip ≡ a
     → Passes s u a
 passes s u a t is memory rip = record {
   memory = ap (λ (x : State). x.memory) is ∙ memory;
@@ -105,12 +105,42 @@ module _ (t : Functions) (fs : List Funclet) (f offset top from back : ℕ) (oth
   abbrev pub before : ℕ → ℕ
   before = old t fs f offset top from back others is
 
-  abbrev Under : List UnwindOperation → State → Type 0
+  abbrev pub Under : List UnwindOperation → State → Type 0
   Under ops s = Below t fs f offset top from back others is ops s
 
   abbrev pub After : (s u : State) → (next : ℕ) → List ℕ → Type 0
   After s u next rs = Made t fs f offset top from back others is close small high s u next
       (pushed rs)
+
+  -- the frame is as these codes tell
+  pub frame_made : (s u : State) (o : Owed) (next : ℕ) (ops : List UnwindOperation) → Steps s u
+      → Beneath t s o top from back others is → length u.cpu.registers ≡ 16
+      → are_allowed f ops ≡ true
+      → HoldsFrame f offset u.memory before back (registers u) ops ops → Passes s u next
+      → is_call (leading (executable s.memory 15 s.cpu.rip)) ≡ false
+      → FindsOwed t s.memory s.cpu.rip o → FindsOwed t u.memory next (of_codes f offset ops)
+      → Made t fs f offset top from back others is close small high s u next ops
+  frame_made s u o next ops st b long allowed there pass quiet found after =
+      let deep : registers u 4 + depth ops ≡ top = stack_depth u.memory before back
+      (registers u 4) (registers u 4) ops there.stack in
+      let b' : Under ops u = record {
+        above = above_stays t s u top from back others is st
+            (λ x le. ap (λ (m : Memory). m.byte x) pass.memory) b.above;
+        count = long;
+        size = depth ops;
+        at = deep;
+        owed = owed_from t fs f offset top from back others is close small high u ops allowed
+            b.owed.eight there deep;
+      } in
+      record {
+        keeps = straight t fs s u (callers_above t top back others is) st.steps quiet
+            (gives_above t s o top from back others is b found)
+            (gives_above t u (of_codes f offset ops) top from back others is b'
+            (subst (λ a. FindsOwed t u.memory a (of_codes f offset ops)) (sym pass.rip) after))
+            (let k : register u.cpu Rsp + 8 ≤ top + 8 = omega arith in k);
+        beneath = b';
+        rip = pass.rip;
+      }
 
   -- these registers are still to be popped
   left_made : (s u : State) (o : Owed) (next : ℕ) (rs : List ℕ) → Steps s u
@@ -120,8 +150,6 @@ module _ (t : Functions) (fs : List Funclet) (f offset top from back : ℕ) (oth
       → FindsOwed t u.memory next (of_codes f offset (pushed rs)) → After s u next rs
   left_made s u o next rs st b h pass quiet found after =
       let p = pushed_alone rs in
-      let deep : registers u 4 + depth (pushed rs) ≡ top = stack_depth u.memory before back h.base
-      (registers u 4) (pushed rs) h.stack in
       let there : HoldsFrame f offset u.memory before back (registers u) (pushed rs) (pushed rs) =
       record {
         stack = rebased u.memory before back h.base (registers u 4) (registers u 4) (pushed rs) p
@@ -130,25 +158,7 @@ module _ (t : Functions) (fs : List Funclet) (f offset top from back : ℕ) (oth
             (pushes_unframed (pushed rs) p);
         others = h.others;
       } in
-      let b' : Under (pushed rs) u = record {
-        above = above_stays t s u top from back others is st
-            (λ x le. ap (λ (m : Memory). m.byte x) pass.memory) b.above;
-        count = h.length;
-        size = depth (pushed rs);
-        at = deep;
-        owed = owed_from t fs f offset top from back others is close small high u (pushed rs)
-            h.allowed b.owed.eight there deep;
-      } in
-      record {
-        keeps = straight t fs s u (callers_above t top back others is) st.steps quiet
-            (gives_above t s o top from back others is b found)
-            (gives_above t u (of_codes f offset (pushed rs)) top from back others is b'
-            (subst (λ a. FindsOwed t u.memory a (of_codes f offset (pushed rs))) (sym pass.rip)
-            after))
-            (let k : register u.cpu Rsp + 8 ≤ top + 8 = omega arith in k);
-        beneath = b';
-        rip = pass.rip;
-      }
+      frame_made s u o next (pushed rs) st b h.length h.allowed there pass quiet found after
 
   -- the allocation is given back
   pub opening_made : (s u : State) (i : Instr) (more : List Instr) (ops : List UnwindOperation)
