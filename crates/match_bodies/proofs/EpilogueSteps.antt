@@ -3,7 +3,7 @@
 use Rattle.std.proofs.Common.{◌≡◌, ℕ, ◌+◌, ◌%◌, ◌^◌, ◌<◌, ◌≤◌, true, false, eqb, List, [], ◌∷◌, length, set, Ok, refl, sym, ap, subst, ◌∙◌, arith}
 use Rattle.std.proofs.lemmas.Bool.{false≢true, or_left, eq-eqb}
 use Rattle.seh_num.specs.Answers.{◌>>=◌}
-use Rattle.match_bodies.specs.Words.{Memory, executable, W64, Reg, Rsp, Instr, leading, is_encodable, State, Answer, register, with_rip, with_register, effect, load, Functions, Funclet, size, AllSmall, Steps, HasCode, StackItem, is_call, FindsOwed, Owed, calls}
+use Rattle.match_bodies.specs.Words.{Memory, executable, W64, Reg, Rsp, Instr, leading, is_encodable, State, Answer, register, with_rip, with_register, effect, load, Functions, Funclet, size, AllSmall, Steps, HasCode, StackItem, is_call, FindsReturn, FindsOwed, Owed, nothing_owed, calls}
 use Rattle.eh_tables.specs.declared.code.UnwindOperation.{UnwindOperation}
 use Rattle.x64_instr.specs.Registers.{number}
 use Rattle.x64_instr.specs.Registers as numbers
@@ -15,7 +15,7 @@ use Rattle.x64_machine.specs.Effect.{address_of}
 use Rattle.x64_machine.specs.Words.{added}
 use Rattle.x64_machine.specs.declared.cpu.Cpu.{Cpu}
 use Rattle.frame_rules.specs.Body.{are_restored}
-use Rattle.frame_rules.specs.Codes.{allocation, depth, pushed, pushes, are_pushes}
+use Rattle.frame_rules.specs.Codes.{allocation, are_allowed, depth, pushed, pushes, are_pushes}
 use Rattle.frame_rules.specs.Epilogue.{gives_back}
 use Rattle.frame_rules.specs.Frame.{HoldsFrame}
 use Rattle.frame_rules.specs.States.{registers}
@@ -211,3 +211,41 @@ module _ (t : Functions) (fs : List Funclet) (f offset top from back : ℕ) (oth
       (pop_passes s u next (before r) (numbers.register r)
       (load_at s.memory (registers s 4) (before r) there.stack.0) ef)
       (ap is_call (read_here s u i more refl code)) found after
+
+-- ---- where nothing is left to be popped
+
+pub none_left : (t : Functions) (v : State) (f offset top from back : ℕ) (others : List ℕ)
+    (is : List StackItem) → Beneath t v (of_codes f offset []) top from back others is
+    → Beneath t v nothing_owed top from back others is
+none_left t v f offset top from back others is b =
+    let o = b.owed in
+    record {
+      above = b.above;
+      count = b.count;
+      size = b.size;
+      at = b.at;
+      owed = record {
+        kept = o.kept;
+        eight = o.eight;
+        room = o.room;
+        small = omega arith;
+        allowed = refl;
+        stack = o.stack;
+        framed = tt;
+        unsaved = o.unsaved;
+      };
+    }
+
+pub returns_found : (t : Functions) (m : Memory) (at f offset : ℕ) → offset ≤ 2 ^ 64
+    → FindsOwed t m at (of_codes f offset []) → FindsReturn t m at
+returns_found t m at f offset le finds c size back others here o =
+    finds c size back others here (record {
+      kept = o.kept;
+      eight = o.eight;
+      room = o.room;
+      small = le;
+      allowed = refl;
+      stack = o.stack;
+      framed = tt;
+      unsaved = o.unsaved;
+    })

@@ -1,10 +1,9 @@
 -- Each load of a saved register before an epilogue keeps the shadow: below the routine's return
 -- address all codes are still to be undone, and past the last load those that aren't saves.
-use Rattle.std.proofs.Common.{◌≡◌, ℕ, ◌^◌, ◌<◌, Bool, true, false, ◌&&◌, ◌||◌, cond, eqb, List, [], ◌∷◌, length, set, Some, None, Ok, refl, sym, ap, subst, ◌∙◌, inl, inr}
+use Rattle.std.proofs.Common.{◌≡◌, ℕ, ◌+◌, ◌%◌, ◌^◌, ◌<◌, true, false, ◌&&◌, ◌||◌, cond, eqb, List, [], ◌∷◌, set, Some, None, Ok, refl, sym, ap, ◌∙◌, inl, inr}
 use Rattle.std.specs.Prelude.{◌⊎◌}
 use Rattle.std.proofs.lemmas.Bool.{cases_eq, and_parts, eq-eqb, ne_eqb, or_left}
-use Rattle.seh_num.specs.Answers.{◌>>=◌}
-use Rattle.match_bodies.specs.Words.{Memory, executable, W64, Reg, Instr, leading, is_encodable, State, with_rip, effect, load, Functions, Funclet, size, AllSmall, Steps, HasCode, StackItem, is_call, FindsOwed}
+use Rattle.match_bodies.specs.Words.{Memory, W64, Reg, Instr, is_encodable, State, with_rip, effect, load, Functions, Funclet, size, AllSmall, Steps, HasCode, StackItem, is_call, FindsOwed}
 use Rattle.eh_tables.specs.declared.code.UnwindOperation.{UnwindOperation}
 use Rattle.x64_instr.specs.Registers.{number}
 use Rattle.x64_instr.specs.Registers as numbers
@@ -16,7 +15,7 @@ use Rattle.x64_machine.specs.Effect.{address_of}
 use Rattle.x64_machine.specs.declared.cpu.Cpu.{Cpu}
 use Rattle.frame_rules.specs.Body.{are_restored, has, if_place, is_place, restored_by, saved_at}
 use Rattle.frame_rules.specs.Codes.{are_allowed, is_saved}
-use Rattle.frame_rules.specs.Frame.{Framed, HoldsFrame, Others, Stack}
+use Rattle.frame_rules.specs.Frame.{Framed, HoldsFrame, Stack}
 use Rattle.frame_rules.specs.Plan.{Saved, load_of, saves_then, stack_place}
 use Rattle.frame_rules.specs.States.{registers}
 use Rattle.frame_rules.proofs.Leaving.{InLoads, Known, loads}

@@ -1,6 +1,6 @@
 -- A body returns: its result is fetched, its frame is given back by the epilogue of its plan, and
 -- the return is made; the shadow is kept.
-use Rattle.std.proofs.Common.{◌≡◌, ℕ, suc, ◌+◌, ◌^◌, ◌<◌, ◌≤◌, ◌==◌, Bool, Option, Some, None, true, false, List, [], ◌∷◌, ◌++◌, length, refl, sym, ap, subst, ◌∙◌, arith, inl, length-append, append_assoc}
+use Rattle.std.proofs.Common.{◌≡◌, ℕ, suc, ◌+◌, ◌^◌, ◌<◌, ◌==◌, Bool, Option, Some, None, true, false, List, [], ◌∷◌, ◌++◌, length, refl, sym, ap, subst, ◌∙◌, arith, inl, length-append, append_assoc}
 use Rattle.std.specs.Prelude.{slice_get}
 use Rattle.std.proofs.lemmas.Bool.{and_parts, eqb-true, eq-eqb, false≢true}
 use Rattle.std.proofs.lemmas.List.{append-nil}
@@ -38,7 +38,7 @@ use Rattle.match_bodies.proofs.ShadowTurns.{return_keeps_shadow, returned_others
 use Rattle.match_bodies.proofs.InstructionEffects.{others_of}
 use Rattle.match_bodies.proofs.ReturnAddresses.{template_there}
 use Rattle.match_bodies.proofs.PrologueSteps.{of_codes, fits, holds}
-use Rattle.match_bodies.proofs.EpilogueSteps.{opening_made, pop_made}
+use Rattle.match_bodies.proofs.EpilogueSteps.{none_left, opening_made, pop_made, returns_found}
 use Rattle.match_bodies.proofs.LoadSteps.{load_made, loads_done}
 
 -- what a return fetches
@@ -51,44 +51,6 @@ pub fetch_plain : (d whole e : ℕ) (y : Layout) (x : Slot) → Fine (fetch y Ra
     → AllPlain d whole e (fetch y Rax x)
 fetch_plain d whole e y (Temporary i) f = ((f.0, inl refl), tt)
 fetch_plain d whole e y (Local i) f = fetch_local_plain d whole e y.base (local_at y i) f
-
--- ---- where nothing is left to be popped
-
-none_left : (t : Functions) (v : State) (f offset top from back : ℕ) (others : List ℕ)
-    (is : List StackItem) → Beneath t v (of_codes f offset []) top from back others is
-    → Beneath t v nothing_owed top from back others is
-none_left t v f offset top from back others is b =
-    let o = b.owed in
-    record {
-      above = b.above;
-      count = b.count;
-      size = b.size;
-      at = b.at;
-      owed = record {
-        kept = o.kept;
-        eight = o.eight;
-        room = o.room;
-        small = omega arith;
-        allowed = refl;
-        stack = o.stack;
-        framed = tt;
-        unsaved = o.unsaved;
-      };
-    }
-
-returns_found : (t : Functions) (m : Memory) (at f offset : ℕ) → offset ≤ 2 ^ 64
-    → FindsOwed t m at (of_codes f offset []) → FindsReturn t m at
-returns_found t m at f offset le finds c size back others here o =
-    finds c size back others here (record {
-      kept = o.kept;
-      eight = o.eight;
-      room = o.room;
-      small = le;
-      allowed = refl;
-      stack = o.stack;
-      framed = tt;
-      unsaved = o.unsaved;
-    })
 
 -- so many turns lead out of a body: each keeps the shadow, and then its caller has these registers
 -- again
@@ -191,20 +153,17 @@ module _ (setting : Setting) where
         + sizes fetching + 0 ≡ p.address name label + sizes fetching = omega arith in z)
         (by (p.leaf name) refl)
       where
-        abbrev to : ℕ
-        to = p.address name label + sizes fetching + 0
-
         by_saves : p.leaf name ≡ false → (ss : List Saved) → framing.saves ≡ ss
-            → FindsOwed t m to owed
+            → FindsOwed t m (load_place []) owed
         by_saves framed [] e =
-            subst (FindsOwed t m to) (bare_is e ∙ sym (owed_is framed))
+            subst (FindsOwed t m (load_place [])) (bare_is e ∙ sym (owed_is framed))
             (subst (λ (ss : List Saved). FindsOwed t m
             (load_place ss) (owed_opening framing))
             e (callers.opens m label from h at framed))
         by_saves framed (s ∷ ss) e = callers.loads m label from [] ss s h at framed e
 
-        by : (leaf : Bool) → p.leaf name ≡ leaf → FindsOwed t m to owed
-        by true leaf = subst (FindsOwed t m to) (sym (owed_none leaf))
+        by : (leaf : Bool) → p.leaf name ≡ leaf → FindsOwed t m (load_place []) owed
+        by true leaf = subst (FindsOwed t m (load_place [])) (sym (owed_none leaf))
             (callers.leaf_ends m label from h at leaf)
         by false framed = by_saves framed framing.saves refl
 
@@ -439,7 +398,7 @@ module _ (setting : Setting) where
           (loads_found left (done ++ (sv ∷ [])) e' x.memory has'')) in
           leaves_then (length more) v x st m.made.keeps
           (loads_leave left (done ++ (sv ∷ [])) (sv.register ∷ rs) e' k loadable.1 x
-          (m.made.rip ∙ to) m.made.beneath m.loaded has''
+          (m.made.rip ∙ to) m.made.beneath m.loaded has'' both.1
           (code_next v x i more both.0 code st m.made.rip) r.2)
 
       -- ---- all of it
