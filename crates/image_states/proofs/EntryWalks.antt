@@ -2,7 +2,7 @@
 -- to be undone there: in the prologue those of the instructions that have been run, in the body
 -- all, in an epilogue those whose registers no load has restored, and then the pushes that are
 -- left.
-use Rattle.std.proofs.Common.{◌≡◌, ◌≢◌, ℕ, ◌+◌, ◌-◌, ◌^◌, ◌<◌, ◌≤◌, Bool, true, false, ◌&&◌, ◌||◌, eqb, List, [], ◌∷◌, length, Option, Some, None, Ok, refl, sym, ap, subst, ◌∙◌, arith, inl, inr}
+use Rattle.std.proofs.Common.{◌≡◌, ◌≢◌, ℕ, ◌+◌, ◌-◌, ◌^◌, ◌<◌, Bool, true, false, ◌&&◌, ◌||◌, eqb, List, [], ◌∷◌, length, Option, Some, None, Ok, refl, sym, ap, subst, ◌∙◌, arith, inl, inr}
 use Rattle.std.specs.Prelude.{nat_le, nat_lt}
 use Rattle.std.proofs.lemmas.Bool.{cases_eq, false≢true, ne_eqb, eqb-false, not-true, lt-ltb}
 use Rattle.image_states.specs.Words.{Memory, Instr, Context, Entry, rsp, Functions, distance, entry_of, of_entry, tail_at, left, framed, filter_return, finally_return, operations, by_distance, past_prologue, run_or, CallerFrame, found, rising, risen, caller_in, Answer, visited, if_over, if_filter, if_finally, HasCaller, FindsReturn, popped}

@@ -3,7 +3,7 @@ use Rattle.std.proofs.Common.{◌≡◌, ◌≢◌, ℕ, ◌+◌, ◌-◌, ◌^�
 use Rattle.std.specs.Prelude.{slice_get}
 use Rattle.std.proofs.lemmas.Bool.{le-ltb, and_right}
 use Rattle.std.proofs.lemmas.List.{append-nil}
-use Rattle.image_states.specs.Words.{Memory, Rax, Instr, modrm, Table, Entry, BuiltIn, Put, Protect, RaiseException, Functions, distance, entry_of, left, framed, filter_return, finally_return, Slot, LinearBody, LinearProgram, BodyName, body_of, FrameLayout, size, sizes, fetch, check_stack, RoutineView, routines, SiteView, routine_size, argument_code, first, total, Placed, end_of, site_of, infos_begin, image_base, template_at, begin_of, making_size, FindsReturn, FindsOwed, owed_by, owed_of, HasProgram, functions_of, funclets_of, is_leaf, or_none, owed_after, routine_of, address_of, plan_of, sites_of, HasWholeImage, IsNear, entry_or, holding, thunks_at, info_bytes, thunk_of, placed_from, FindsCallers, FindsCallersOutside, services_of, routines_begin, probe_begin}
+use Rattle.image_states.specs.Words.{Memory, Rax, Instr, modrm, Table, Entry, BuiltIn, Put, Protect, RaiseException, Functions, distance, entry_of, left, framed, filter_return, finally_return, Slot, LinearBody, LinearProgram, BodyName, body_of, FrameLayout, size, sizes, fetch, check_stack, RoutineView, routines, SiteView, routine_size, argument_code, total, Placed, end_of, site_of, infos_begin, image_base, template_at, begin_of, making_size, FindsReturn, FindsOwed, owed_by, owed_of, HasProgram, functions_of, funclets_of, is_leaf, or_none, owed_after, routine_of, address_of, plan_of, sites_of, HasWholeImage, IsNear, entry_or, holding, thunks_at, info_bytes, thunk_of, placed_from, FindsCallers, FindsCallersOutside, services_of, routines_begin, probe_begin}
 use Rattle.eh_tables.specs.Tables as reading
 use Rattle.linear_code.specs.declared.instruction.Instruction.TheVariants as instructions
 use Rattle.image_states.proofs.Lemmas.{thunks_are_held_by_none, tables_are_read, end_inside, away}

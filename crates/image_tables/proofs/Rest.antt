@@ -1,9 +1,8 @@
 -- The instructions after a prologue lead from the body to the body.
-use Rattle.std.proofs.Common.{◌≡◌, ℕ, ◌+◌, ◌^◌, ◌<◌, Bool, true, ◌&&◌, List, [], ◌∷◌, ◌++◌, Some, refl, sym, ap, ◌∙◌, arith}
+use Rattle.std.proofs.Common.{◌≡◌, ℕ, ◌+◌, ◌^◌, ◌<◌, true, ◌&&◌, List, [], ◌∷◌, ◌++◌, Some, refl, ap, ◌∙◌, arith}
 use Rattle.std.specs.List.{AllByRecursion}
 use Rattle.std.proofs.lemmas.Bool.{and_parts, and_from}
 use Rattle.image_tables.specs.Words.{Rax, Instr, is_encodable, FetchedInstr, role_of, Body, following, written, may_write_all, FramePlan, IsPlan, spelled_by, operations_of, spell, Slot, Instruction, Layout, fetch, Links, template, template_size, code_from, IsInstructionNear, is_other, all_encodable, is_inner, are_inner, return_code}
-use Rattle.x64_instr.specs.declared.instruction.Instr.TheVariants as instrs
 use Rattle.frame_rules.specs.Plan.{epilogue}
 use Rattle.frame_rules.proofs.Bodies.{following-append}
 use Rattle.image_tables.proofs.Lemmas.{spells_all, plans_are_encodable, inner_following, epilogue_following, instruction_in_room}
