@@ -9,6 +9,7 @@ use Rattle.frame_rules.specs.Plan.{FramePlan}
 use Rattle.frame_rules.specs.Prologue.{bytes}
 use Rattle.frame_rules.specs.Plan as rules
 use Rattle.frame_rules.specs.Bytes.{spell, prologue_code}
+use Rattle.template_code.specs.Frames.{frame_plan}
 use Rattle.frame_layout.specs.declared.frame.Facts.{Facts}
 use Rattle.frame_layout.specs.declared.frame.FrameLayout.{FrameLayout}
 use Rattle.template_code.specs.declared.layout.TheConstants.{LARGEST_FRAME}
@@ -41,11 +42,9 @@ pub record IsLaidOut (f : Facts) (frame : FrameLayout) : Type 0 where
   pub locals : frame.locals + 8 * f.locals ≤ frame.size
   pub aligned : (frame.size + 8) % 16 ≡ 0
 
--- a frame without saved registers and without a frame register, with the displacement of the call
--- of `__chkstk`
+-- with the displacement of the call of `__chkstk`
 abbrev pub plan_of : FrameLayout → ℕ → FramePlan
-plan_of frame probe =
-    record { pushes = []; size = frame.size; frame = 0; distance = 0; saves = []; probe = probe }
+plan_of frame probe = frame_plan frame.size probe
 
 -- the bytes of the prologue
 unfoldable pub taking_size : ℕ → ℕ

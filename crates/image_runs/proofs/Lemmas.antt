@@ -9,7 +9,7 @@ pub use Rattle.x64_templates.proofs.PlacedCode.{same_number, bytes_kept, enters_
 pub use Rattle.match_runs.proofs.Steps.{at_instruction, matched_step, steps_are_matched}
 pub use Rattle.match_stack.proofs.ItemVisits.{set_head, frame_is_visited, leaf_is_visited, search_is_passed, unwinding_is_passed, stack_is_over}
 pub use Rattle.match_bodies.proofs.BodyFrames.{told_with}
-pub use Rattle.match_bodies.proofs.BodyResumption.{frame_size, waiting_allocated, frame_is}
+pub use Rattle.match_bodies.proofs.BodyResumption.{frame_size, frame_is}
 pub use Rattle.match_bodies.proofs.ChainKeeping.{Keeps, enters_keeps, stays_well_formed}
 pub use Rattle.match_bodies.proofs.FrameMaking.{making_steps}
 pub use Rattle.match_bodies.proofs.SlotPlaces.{stack_is_reserved}

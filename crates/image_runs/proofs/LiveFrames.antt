@@ -2,7 +2,9 @@
 use Rattle.std.proofs.Common.{◌≡◌, ℕ, ◌+◌, Bool, Some, List, [], ◌∷◌, length, drop, refl, sym, ap, subst, ◌∙◌, arith}
 use Rattle.std.specs.Prelude.{slice_set}
 use Rattle.image_runs.specs.Words.{Memory, Context, context_of, rsp, Functions, Funclet, LinearProgram, Item, Waits, Searches, Unwinds, StackItem, Framed, Leaf, Searching, Unwinding, IsStack, after_frame, after_leaf, ImagePlan, Activation, activations_below, BodyWaits, Linked, temporaries_end, ReturnsTo, Sites, IsProgramImage, slots_end, last_temporary, back_to, AreFrames}
-use Rattle.image_runs.proofs.Lemmas.{set_head, leaf_layout, frame_size, waiting_allocated}
+use Rattle.image_runs.proofs.Lemmas.{set_head, leaf_layout, frame_size, frame_is}
+use Rattle.match_stack.specs.Stack.{IsAsTold}
+use Rattle.image_runs.specs.LiveFrames.{KeepsCaller}
 use Rattle.image_runs.proofs.WalkFrames.{frames}
 
 set_rest : (kept : List ℕ) (v : ℕ) → drop 1 (slice_set kept 0 v) ≡ drop 1 kept
@@ -47,8 +49,7 @@ module _ (t : Functions) (fs : List Funclet) (program : LinearProgram) (p : Imag
         let w = l.0.waits in
         let size = frame_size t fs program p q image m c f b.body w.code w.body l.0.framed l.0.entry
         s.0 in
-        let told = waiting_allocated t fs program p q image m c f b.body w.code w.body l.0.framed
-        l.0.entry s.0 in (
+        let caller = after_frame c f in (
           record {
             waits = subst (λ (leaf : Bool). BodyWaits t fs program p m c (slots_end y leaf)
                 (last_temporary y b.body leaf) b acts) (sym l.0.framed)
@@ -58,7 +59,10 @@ module _ (t : Functions) (fs : List Funclet) (program : LinearProgram) (p : Imag
             back = back m (after_frame c f) is below (activations_below b.body acts) s.1 l.2
                 l.0.returns;
             after = ap (λ n. rsp c + n + 8) size;
-            kept = sym told.others;
+            kept = subst (λ (leaf : Bool). KeepsCaller t fs program p m c b.body leaf caller)
+                (sym l.0.framed) (subst (IsAsTold m c)
+                (frame_is t fs program p q image m c f b.body w.code w.body l.0.framed l.0.entry
+                l.0.slots s.0) s.0.is_told);
           },
           are_frames m (after_frame c f) is below (activations_below b.body acts) s.1 l.2,
         )
@@ -76,7 +80,8 @@ module _ (t : Functions) (fs : List Funclet) (program : LinearProgram) (p : Imag
                 l.0.returns;
             after = set_head c.kept next (let k = s.0.kept in omega arith)
                 ∙ (let z = none.frame in let e : next ≡ rsp c + y.frame + 8 = omega arith in e);
-            kept = set_rest c.kept next;
+            kept = subst (λ (leaf : Bool). KeepsCaller t fs program p m c b.body leaf
+                (after_leaf c up)) (sym l.0.leaf) (set_rest c.kept next);
           },
           are_frames m (after_leaf c up) is below (activations_below b.body acts) s.1 l.2,
         )

@@ -2,9 +2,11 @@
 use Rattle.std.proofs.Common.{◌≡◌, ℕ, ◌+◌, ◌^◌, ◌<◌, false, List, [], ◌∷◌, ◌++◌, length, Option, Some, None, Ok, refl, sym, ap, subst, ◌∙◌, arith}
 use Rattle.std.specs.Prelude.{slice_get}
 use Rattle.std.proofs.lemmas.Bool.{false≢true}
-use Rattle.image_runs.specs.Words.{Memory, Rax, Instr, chosen, Context, rsp, word, FrameIsAt, LeafIsAt, Slot, Local, Temporary, LinearBody, LinearProgram, BodyName, body_of, Layout, spelled, sizes, text_begin, linked, HasProgram, IsFramed, frame_of, functions_of, funclets_of, plan_of, sites_of, or_none, routine_of, HasWholeImage, IsReturning, fetch_local, local_at, fetch, epilogue, code_from, entry_code, entry_size, check_stack_at, routine_code, stack_frame, begin_of, code_of, LinkedReturnsWait}
+use Rattle.image_runs.specs.Words.{Memory, Rax, Instr, chosen, Context, rsp, word, FrameIsAt, LeafIsAt, Slot, Local, Temporary, LinearBody, LinearProgram, BodyName, body_of, Layout, spelled, sizes, text_begin, linked, HasProgram, IsFramed, frame_of, functions_of, funclets_of, plan_of, sites_of, or_none, routine_of, HasWholeImage, IsReturning, fetch_local, local_at, fetch, code_from, entry_code, entry_size, check_stack_at, routine_code, stack_frame, begin_of, code_of, LinkedReturnsWait}
 use Rattle.image_states.specs.Plans.{is_leaf}
 use Rattle.frame_rules.specs.Bytes.{IsExecutableAt}
+use Rattle.frame_rules.specs.Plan.{epilogue}
+use Rattle.template_code.specs.Frames.{plan_of_layout}
 use Rattle.linear_code.specs.declared.instruction.Instruction.TheVariants as instructions
 use Rattle.frame_layout.specs.declared.frame.FrameLayout.{FrameLayout}
 use Rattle.match_stack.specs.Stack.{IsAsTold}
@@ -47,6 +49,7 @@ module _ (p : LinearProgram) (m : Memory) (x : Placed) (number : ℕ) (from : Sl
       let i = instructions.Return from in
       let entry = entry_code x.begin (check_stack_at s.imports s.text) r in
       let t = template_there k y begin r.body.code number i at in
+      let last = epilogue (plan_of_layout y 0) in
       let near = near_at (IsInstructionNear y) r.body.code number i h.near.code at in
       let f = fetch_some y from in
       let some = template_some y i in
@@ -56,13 +59,13 @@ module _ (p : LinearProgram) (m : Memory) (x : Placed) (number : ℕ) (from : Sl
       let base = image_base + x.begin in
       let body = (code_split m base entry (code_from k y begin r.body.code) code).1 in
       let rest = (code_split m (base + sizes entry) t.before
-      ((fetch y Rax from ++ epilogue y.frame) ++ t.after)
+      ((fetch y Rax from ++ last) ++ t.after)
       (subst (λ (q : List Instr). IsExecutableAt m (base + sizes entry) (spelled q)) t.parts
       body)).1 in
-      let split : (fetch y Rax from ++ epilogue y.frame) ++ t.after
-      ≡ f.item ∷ ((f.left ++ epilogue y.frame) ++ t.after) = ap
-      (λ (q : List Instr). (q ++ epilogue y.frame) ++ t.after) f.parts in
-      let last = subst (λ (q : List Instr). IsExecutableAt m (base + sizes entry + sizes t.before)
+      let split : (fetch y Rax from ++ last) ++ t.after
+      ≡ f.item ∷ ((f.left ++ last) ++ t.after) = ap
+      (λ (q : List Instr). (q ++ last) ++ t.after) f.parts in
+      let whole = subst (λ (q : List Instr). IsExecutableAt m (base + sizes entry + sizes t.before)
       (spelled q)) split rest in
       let here' : base + sizes entry + sizes t.before
       ≡ image_base + template_at x number = omega arith in
@@ -73,7 +76,7 @@ module _ (p : LinearProgram) (m : Memory) (x : Placed) (number : ℕ) (from : Sl
         inside = omega arith;
         is_there = subst (λ (n : ℕ). IsExecutableAt m n (chosen f.item)) here'
             (executable_split m (base + sizes entry + sizes t.before) (chosen f.item)
-            (spelled ((f.left ++ epilogue y.frame) ++ t.after)) last).0;
+            (spelled ((f.left ++ last) ++ t.after)) whole).0;
       }
 
 -- ---- frames

@@ -1,6 +1,6 @@
 -- The frames that are live in a configuration of linear code: those of the body that runs and of
 -- each that waits, innermost first.
-use Rattle.std.specs.Prelude.{◌≡◌, ℕ, ◌+◌, ◌≤◌, List, [], ◌∷◌, length, drop, Option, Some}
+use Rattle.std.specs.Prelude.{◌≡◌, ℕ, ◌+◌, ◌≤◌, Bool, true, false, List, [], ◌∷◌, length, drop, Option, Some}
 use Rattle.flat_memory.specs.Memory.{Memory}
 use Rattle.x64_machine.specs.declared.context.Context.{Context}
 use Rattle.x64_machine.specs.Contexts.{context_of}
@@ -13,11 +13,13 @@ use Rattle.seh_walk.specs.Walk.{filter_return, finally_return}
 use Rattle.host_model.specs.declared.funclet.Funclet.{Funclet}
 use Rattle.linear_code.specs.Program.{LinearProgram}
 use Rattle.linear_machine.specs.Frames as linear
-use Rattle.linear_machine.specs.Frames.{body_of, Item, Waits, Searches, Unwinds, Configuration}
+use Rattle.linear_machine.specs.Frames.{BodyName, body_of, Item, Waits, Searches, Unwinds, Configuration}
 use Rattle.linear_machine.specs.Run.{instruction_in}
+use Rattle.match_stack.specs.Stack.{IsAsTold}
 use Rattle.match_stack.specs.PlainWalks.{state}
 use Rattle.match_stack.specs.ImagePlan.{ImagePlan}
 use Rattle.match_stack.specs.ItemMatches.{Activation, locals_of, activations_below, return_of, BodyWaits}
+use Rattle.match_bodies.specs.ProgramImages.{frame_of}
 use Rattle.match_bodies.specs.Bodies.{slots_end, last_temporary}
 use Rattle.match_runs.specs.Walked.{LiveFrame, walked}
 
@@ -32,8 +34,15 @@ module _ (t : Functions) (fs : List Funclet) (program : LinearProgram) (p : Imag
   back_to (Searches exception resumption asked rest ∷ below) = Some filter_return
   back_to (Unwinds rest target ∷ below) = Some finally_return
 
-  -- the frame of a body: RIP is in its code, its slots hold what linear code has in them, above
-  -- them is its return address, and no nonvolatile register was changed
+  -- a leaf function leaves the nonvolatile registers; what another body's codes tell of, above its
+  -- slots, gives its caller's
+  abbrev pub KeepsCaller : Memory → Context → BodyName → Bool → Context → Type 0
+  KeepsCaller m c name true caller = drop 1 caller.kept ≡ drop 1 c.kept
+  KeepsCaller m c name false caller =
+      IsAsTold m c (frame_of p name caller.rip (drop 1 caller.kept))
+
+  -- the frame of a body: RIP is in its code, its slots hold what linear code has in them, and above
+  -- them are the registers of its caller that it saved, and its return address
   pub record IsFrameOf (m : Memory) (c : Context) (b : linear.Frame) (below : List Item)
       (acts : List Activation) (f : LiveFrame) : Type 0 where
     pub waits : BodyWaits t fs program p m c (slots_end (p.layout b.body) (p.leaf b.body))
@@ -41,7 +50,7 @@ module _ (t : Functions) (fs : List Funclet) (program : LinearProgram) (p : Imag
     pub at : f.at ≡ rsp c
     pub back : back_to below ≡ Some f.caller.rip
     pub after : rsp f.caller ≡ rsp c + (p.layout b.body).frame + 8
-    pub kept : drop 1 f.caller.kept ≡ drop 1 c.kept
+    pub kept : KeepsCaller m c b.body (p.leaf b.body) f.caller
 
   -- a suspended search or unwinding: its record is at RSP, at the host's return address for it
   pub record IsRecordAt (m : Memory) (c : Context) (address : ℕ) (r : DispatchRecord) : Type 0 where

@@ -1,18 +1,20 @@
 -- Where a walk finds the callers of a routine of a linked program.
-use Rattle.std.proofs.Common.{◌≡◌, ℕ, zero, suc, ◌+◌, ◌-◌, ◌^◌, ◌<◌, ◌≤◌, true, false, List, [], ◌∷◌, ◌++◌, length, Option, Some, None, refl, sym, ap, subst, ◌∙◌, arith, append_assoc, length-append}
+use Rattle.std.proofs.Common.{◌≡◌, ℕ, zero, suc, ◌+◌, ◌-◌, ◌^◌, ◌<◌, ◌≤◌, ◌==◌, Bool, true, false, List, [], ◌∷◌, ◌++◌, length, Option, Some, None, refl, sym, ap, subst, ◌∙◌, arith, append_assoc, length-append}
 use Rattle.std.specs.Prelude.{slice_get, nat_lt}
 use Rattle.std.specs.List.{AllByRecursion}
 use Rattle.std.proofs.lemmas.Bool.{false≢true, and_from, lt-ltb, le-ltb, lt-leb}
 use Rattle.std.proofs.lemmas.List.{append-nil}
-use Rattle.image_states.specs.Words.{Memory, Rax, Instr, chosen, Entry, Functions, IsExecutableAt, spell, Slot, Instruction, LinearBody, LinearProgram, BodyName, body_of, FrameLayout, taking_size, Layout, spelled, size, sizes, fetch, code_from, IsInstructionNear, IsFrameNear, argument_code, entry_size, routine_code, Placed, body_begin, end_of, site_of, image_base, template_at, links, begin_of, making_size, give_back, code_of, HasProgram, FindsReturn, FindsOwed, Owed, owed_after, owed_by, is_leaf, or_none, functions_of, funclets_of, routine_of, plan_of, sites_of, HasWholeImage, run_or, operations, epilogue, return_code, placed, probe_begin}
+use Rattle.image_states.specs.Words.{Memory, Rax, Instr, chosen, Entry, Functions, IsExecutableAt, spell, Slot, Instruction, LinearBody, LinearProgram, BodyName, body_of, FrameLayout, taking_size, Layout, spelled, size, sizes, fetch, code_from, IsInstructionNear, IsFrameNear, argument_code, entry_size, routine_code, Placed, body_begin, end_of, site_of, image_base, template_at, links, begin_of, making_size, give_back, code_of, HasProgram, FindsReturn, FindsOwed, Owed, owed_after, owed_by, is_leaf, or_none, functions_of, funclets_of, routine_of, plan_of, sites_of, HasWholeImage, run_or, operations, return_code, placed, probe_begin}
 use Rattle.x64_instr.specs.declared.instruction.Instr.TheVariants as instrs
 use Rattle.x64_encode.proofs.Lengths.{longest}
 use Rattle.eh_tables.specs.declared.code.UnwindOperation.{UnwindOperation}
 use Rattle.eh_tables.specs.declared.code.UnwindOperation.TheVariants.{Allocate}
+use Rattle.template_code.specs.Frames.{frame_plan}
 use Rattle.template_code.specs.Jumps as jumps
+use Rattle.template_code.proofs.Frames.{ending_by, epilogue_some, epilogue_unprobed}
 use Rattle.virtual_unwind.specs.CallerOf.{run_by}
 use Rattle.frame_rules.specs.Body.{Body, following, is_body}
-use Rattle.frame_rules.specs.Plan.{spelled_by, operations_of}
+use Rattle.frame_rules.specs.Plan.{epilogue, spelled_by, operations_of}
 use Rattle.frame_rules.specs.States.{is_other}
 use Rattle.frame_rules.proofs.Bytes.{spells_all}
 use Rattle.frame_rules.proofs.Emitting.{epilogue_following}
@@ -23,9 +25,8 @@ use Rattle.image_link.specs.Text as texts
 use Rattle.image_tables.specs.Entries as tables
 use Rattle.image_tables.proofs.Arguments.{arguments_inner}
 use Rattle.image_tables.proofs.FrameRules.{plan_near, one_code}
-use Rattle.image_tables.proofs.Rest.{same_epilogue}
-use Rattle.match_bodies.specs.Callers.{owed_pops}
-use Rattle.match_bodies.specs.CodeSites.{epilogue_through, frame_plan}
+use Rattle.match_bodies.specs.Callers.{owed_opening, owed_pops}
+use Rattle.match_bodies.specs.CodeSites.{epilogue_through}
 use Rattle.match_bodies.proofs.FrameCode.{through_opening}
 use Rattle.image_states.proofs.Addresses.{place, here}
 use Rattle.image_states.proofs.Entering.{frame_same, code_same}
@@ -38,10 +39,17 @@ item_some : (i : Instr) → Inner i → 0 < size i
 unfolding size
 item_some i inner = never_empty i inner.0
 
-epilogue_some : (n : ℕ) → 0 < sizes (epilogue n)
+-- the epilogue of a frame of so many bytes, and what it is where there are some
+abbrev ending : ℕ → List Instr
+ending n = epilogue (frame_plan n 0)
+
+abbrev ends : ℕ → List Instr
+ends n = give_back n ∷ instrs.Return ∷ []
+
+ending_some : (n : ℕ) (none : Bool) → 0 < sizes (ending_by n 0 none)
 unfolding size
-epilogue_some zero = omega arith
-epilogue_some (suc n) = omega arith
+ending_some n true = omega arith
+ending_some n false = omega arith
 
 near_at : (P : Instruction → Type 0) (is : List Instruction) (number : ℕ) (i : Instruction)
     → AllByRecursion P is → slice_get is number ≡ Some i → P i
@@ -170,36 +178,36 @@ module _ (program : LinearProgram) (c : HasWholeImage program) (name : BodyName)
 
     -- the epilogue, and its return
     epilogue_leads : is_body (following 0 0 (Allocate f.size ∷ []) (spelled_by spell
-        (epilogue f.size)) (Body [])) ≡ true
+        (ending f.size)) (Body [])) ≡ true
     epilogue_leads =
         let probe = jumps.distance 10 0 in
         let q = plan_of_frame f probe in
         let most = near.1 in
         let is_plan = plan_near f 10 0 (omega arith) (omega arith) (omega arith) in
         ap (λ (os : List UnwindOperation). is_body (following 0 0 os (spelled_by spell
-        (epilogue f.size)) (Body []))) (sym (one_code f probe near.0))
+        (ending f.size)) (Body []))) (sym (one_code f probe near.0))
         ∙ ap (λ (is : List Instr). is_body (following 0 0 (operations_of q) (spelled_by spell is)
-        (Body []))) (same_epilogue f.size probe)
+        (Body []))) (epilogue_unprobed q 0)
         ∙ ap is_body (epilogue_following spell spells_all q is_plan [])
 
-    epilogue_at : (n rva : ℕ) → f.size ≡ suc n → x.begin + taking_size f.size ≤ rva → rva < end_of x
-        → IsExecutableAt m (image_base + rva) (spelled (epilogue (suc n)))
+    epilogue_at : (rva : ℕ) → x.begin + taking_size f.size ≤ rva → rva < end_of x
+        → IsExecutableAt m (image_base + rva) (spelled (ends f.size))
         → FindsOwed t m (image_base + rva) owed
-    epilogue_at n rva is' low high is_there =
+    epilogue_at rva low high is_there =
         let s = small rva high in
         let most = near.1 in
-        let to = image_base + rva + length (spelled (epilogue (suc n))) in
-        let few = longest (give_back (suc n)) in
+        let to = image_base + rva + length (spelled (ends f.size)) in
+        let few = longest (give_back f.size) in
         let less = longest instrs.Return in
-        let l = length-append (chosen (give_back (suc n))) (spelled (instrs.Return ∷ [])) in
+        let l = length-append (chosen (give_back f.size)) (spelled (instrs.Return ∷ [])) in
         let k = length-append (chosen instrs.Return) (spelled []) in
         opening_found t m (image_base + rva) (rva - x.begin) e.info
         (entry_at rva (omega arith) high) to (omega arith) (past rva low)
-        (spell (give_back (suc n))) (spell instrs.Return ∷ []) []
-        (items_are_at m (image_base + rva) (epilogue (suc n))
-        (and_from _ true (signed (suc n) (omega arith)) refl) (omega arith) is_there)
-        (subst (λ k. is_body (following 0 0 (Allocate f.size ∷ []) (spelled_by spell (epilogue k))
-        (Body [])) ≡ true) is' epilogue_leads)
+        (spell (give_back f.size)) (spell instrs.Return ∷ []) []
+        (items_are_at m (image_base + rva) (ends f.size)
+        (and_from _ true (signed f.size (omega arith)) refl) (omega arith) is_there)
+        (subst (λ (is : List Instr). is_body (following 0 0 (Allocate f.size ∷ [])
+        (spelled_by spell is) (Body [])) ≡ true) (epilogue_some f.size 0 near.0) epilogue_leads)
         (λ z. false≢true (ap is_other z))
 
     return_at' : (rva : ℕ) → x.begin + taking_size f.size ≤ rva → rva < end_of x
@@ -331,13 +339,13 @@ module _ (program : LinearProgram) (c : HasWholeImage program) (name : BodyName)
     near_return = near_at (IsInstructionNear y) x.routine.body.code label i
         (here program c name b is).near.code at
 
-    fits : sizes fetching + sizes (epilogue y.frame) + template_at x label ≤ end_of x
+    fits : sizes fetching + sizes (ending y.frame) + template_at x label ≤ end_of x
     fits = let h = th.inside in let s = template_sizes (links program x) y (template_at x label)
-        i in omega (arith, sizes_append fetching (epilogue y.frame))
+        i in omega (arith, sizes_append fetching (ending y.frame))
 
     return_there : HasProgram t (funclets_of program) program (plan_of program) (sites_of program) m
         → IsExecutableAt m (image_base + template_at x label)
-        (spelled (fetching ++ (epilogue y.frame ++ th.after)))
+        (spelled (fetching ++ (ending y.frame ++ th.after)))
     return_there has =
         let begin = image_base + body_begin x in
         let rest = (code_split m begin th.before (return_code y from ++ th.after)
@@ -346,42 +354,39 @@ module _ (program : LinearProgram) (c : HasWholeImage program) (name : BodyName)
         let h = th.here in
         let e : begin + sizes th.before ≡ image_base + template_at x label = omega arith in
         subst (λ (q : List Instr). IsExecutableAt m (image_base + template_at x label) (spelled q))
-        (append_assoc fetching (epilogue y.frame) th.after)
+        (append_assoc fetching (ending y.frame) th.after)
         (subst (λ n. IsExecutableAt m n (spelled (return_code y from ++ th.after))) e rest)
 
     -- where the epilogue begins
     epilogue_there : HasProgram t (funclets_of program) program (plan_of program) (sites_of program)
         m → IsExecutableAt m (image_base + (template_at x label + sizes fetching))
-        (spelled (epilogue y.frame ++ th.after))
+        (spelled (ending y.frame ++ th.after))
     epilogue_there has =
         let e : image_base + template_at x label + sizes fetching
         ≡ image_base + (template_at x label + sizes fetching) = omega arith in
-        subst (λ n. IsExecutableAt m n (spelled (epilogue y.frame ++ th.after))) e
-        (code_split m (image_base + template_at x label) fetching (epilogue y.frame ++ th.after)
+        subst (λ n. IsExecutableAt m n (spelled (ending y.frame ++ th.after))) e
+        (code_split m (image_base + template_at x label) fetching (ending y.frame ++ th.after)
         (return_there has)).1
 
     module _ (has : HasProgram t (funclets_of program) program (plan_of program) (sites_of program)
         m) where
-      ends_are_at : (n k rva : ℕ) → n ≡ suc k → rva ≡ template_at x label + sizes fetching
-          → IsExecutableAt m (image_base + rva) (spelled (epilogue n ++ th.after))
-          → IsExecutableAt m (image_base + rva) (spelled (epilogue (suc k)))
+      ends_are_at : (n rva : ℕ) → 0 < n
+          → IsExecutableAt m (image_base + rva) (spelled (ending n ++ th.after))
+          → IsExecutableAt m (image_base + rva) (spelled (ends n))
           × IsExecutableAt m (image_base + rva + length (chosen (give_back n)))
           (spelled (instrs.Return ∷ []))
-      ends_are_at n k rva e r is_there =
-          let whole = (code_split m (image_base + rva) (epilogue (suc k)) th.after
-          (subst (λ q. IsExecutableAt m (image_base + rva) (spelled (epilogue q ++ th.after))) e
-          is_there)).0 in (
+      ends_are_at n rva some is_there =
+          let whole = (code_split m (image_base + rva) (ends n) th.after
+          (subst (λ (q : List Instr). IsExecutableAt m (image_base + rva) (spelled (q ++ th.after)))
+          (epilogue_some n 0 some) is_there)).0 in (
             whole,
-            subst (λ q. IsExecutableAt m (image_base + rva + length (chosen (give_back q)))
-                (spelled (instrs.Return ∷ []))) (sym e)
-                (executable_split m (image_base + rva) (chosen (give_back (suc k)))
+            (executable_split m (image_base + rva) (chosen (give_back n))
                 (spelled (instrs.Return ∷ [])) whole).1,
           )
 
-      ends_size : (n k : ℕ) → n ≡ suc k → sizes (epilogue n) ≡ length (chosen (give_back n)) + 1
+      ends_size : (n : ℕ) → 0 < n → sizes (ending n) ≡ length (chosen (give_back n)) + 1
       unfolding size
-      ends_size zero k e = absurd (omega arith)
-      ends_size (suc n) k e = refl
+      ends_size n some = ap sizes (epilogue_some n 0 some)
 
       framed_return : (f : FrameLayout) → x.routine.frame ≡ Some f → (done left : List Instr)
           → fetching ≡ done ++ left → FindsOwed t m
@@ -391,29 +396,28 @@ module _ (program : LinearProgram) (c : HasWholeImage program) (name : BodyName)
           let l = least f framed in
           let same = size_is f framed in
           let whole : done ≡ fetching = sym (append-nil done) ∙ sym parts in
-          let k : f.size ≡ suc (f.size - 1) = omega arith in
           let rva = template_at x label + sizes fetching in
-          let z = ends_are_at f.size (f.size - 1) rva k refl
-          (subst (λ n. IsExecutableAt m (image_base + rva) (spelled (epilogue n ++ th.after)))
+          let z = ends_are_at f.size rva some
+          (subst (λ n. IsExecutableAt m (image_base + rva) (spelled (ending n ++ th.after)))
           same (epilogue_there has)) in
-          let size = ends_size f.size (f.size - 1) k in
-          let fit = subst (λ n. sizes fetching + sizes (epilogue n) + template_at x label
+          let size = ends_size f.size some in
+          let fit = subst (λ n. sizes fetching + sizes (ending n) + template_at x label
           ≤ end_of x) same fits in
           subst (λ (q : List Instr). FindsOwed t m (image_base + (template_at x label + sizes q))
           (owed_if (Some f))) (sym whole)
-          (epilogue_at f framed (f.size - 1) rva k (omega arith) (omega arith) z.0)
+          (epilogue_at f framed rva (omega arith) (omega arith) z.0)
       framed_return f framed done (item ∷ left) parts =
           let l = least f framed in
           let inner = inner_at done left item
           (subst AllInner parts (fetch_inner y from near_return.0)) in
           let some = item_some item inner in
           let rva = template_at x label + sizes done in
-          let split : fetching ++ (epilogue y.frame ++ th.after)
-          ≡ done ++ ((item ∷ left) ++ (epilogue y.frame ++ th.after)) = ap
-          (λ (q : List Instr). q ++ (epilogue y.frame ++ th.after)) parts
-          ∙ append_assoc done (item ∷ left) (epilogue y.frame ++ th.after) in
+          let split : fetching ++ (ending y.frame ++ th.after)
+          ≡ done ++ ((item ∷ left) ++ (ending y.frame ++ th.after)) = ap
+          (λ (q : List Instr). q ++ (ending y.frame ++ th.after)) parts
+          ∙ append_assoc done (item ∷ left) (ending y.frame ++ th.after) in
           let rest = (code_split m (image_base + template_at x label) done
-          ((item ∷ left) ++ (epilogue y.frame ++ th.after))
+          ((item ∷ left) ++ (ending y.frame ++ th.after))
           (subst (λ (q : List Instr). IsExecutableAt m (image_base + template_at x label)
           (spelled q)) split (return_there has))).1 in
           let e : image_base + template_at x label + sizes done ≡ image_base + rva = omega arith in
@@ -422,13 +426,13 @@ module _ (program : LinearProgram) (c : HasWholeImage program) (name : BodyName)
           (omega (arith, ap sizes parts, sizes_append done (item ∷ left))) inner
           (subst (λ n. IsExecutableAt m n (chosen item)) e
           (executable_split m (image_base + template_at x label + sizes done) (chosen item)
-          (spelled (left ++ (epilogue y.frame ++ th.after))) rest).0)
+          (spelled (left ++ (ending y.frame ++ th.after))) rest).0)
 
       leaf_return : x.routine.frame ≡ None → (done left : List Instr) → fetching ≡ done ++ left
           → FindsReturn t m (image_base + (template_at x label + sizes done))
       leaf_return none done left parts =
           let f' = fits in
-          let some = epilogue_some y.frame in
+          let some = ending_some y.frame (y.frame == 0) in
           leaf_at none (template_at x label + sizes done) (omega arith)
           (omega (arith, ap sizes parts, sizes_append done left))
 
@@ -438,6 +442,19 @@ module _ (program : LinearProgram) (c : HasWholeImage program) (name : BodyName)
       return_found None none done left parts = leaf_return none done left parts
       return_found (Some f) framed done left parts = framed_return f framed done left parts
 
+      -- where the frame is about to be given back
+      pub open_found : (f : FrameLayout) → x.routine.frame ≡ Some f → (probe : ℕ)
+          → FindsOwed t m (image_base + (template_at x label + sizes fetching))
+          (owed_opening (frame_plan y.frame probe))
+      open_found f framed probe =
+          subst (λ (os : List UnwindOperation). FindsOwed t m
+          (image_base + (template_at x label + sizes fetching))
+          (record { register = 0; offset = 0; codes = os }))
+          (sym (ap (λ n. operations_of (frame_plan n probe)) (size_is f framed)
+          ∙ one_code f probe (near f framed).0))
+          (framed_return f framed fetching [] (sym (append-nil fetching)))
+
+      -- and past that
       pub end_found : (f : FrameLayout) → x.routine.frame ≡ Some f → (probe : ℕ)
           → (popped left : List ℕ) → [] ≡ popped ++ left
           → FindsOwed t m (image_base + (template_at x label + sizes fetching
@@ -448,10 +465,10 @@ module _ (program : LinearProgram) (c : HasWholeImage program) (name : BodyName)
           let l = least f framed in
           let some = (near f framed).0 in
           let size' = size_is f framed in
-          let k : y.frame ≡ suc (y.frame - 1) = omega arith in
+          let more : 0 < y.frame = omega arith in
           let rva = template_at x label + sizes fetching in
-          let z = ends_are_at y.frame (y.frame - 1) rva k refl (epilogue_there has) in
-          let whole = ends_size y.frame (y.frame - 1) k in
+          let z = ends_are_at y.frame rva more (epilogue_there has) in
+          let whole = ends_size y.frame more in
           let fit = fits in
           let through = ap sizes (through_opening y.frame probe (omega arith)) in
           let same : image_base + rva + length (chosen (give_back y.frame))

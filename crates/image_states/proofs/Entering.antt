@@ -11,7 +11,8 @@ use Rattle.x64_emit.specs.Entries as link_entries
 use Rattle.image_link.specs.Routines.{entry_of}
 use Rattle.image_link.specs.Routines as link
 use Rattle.image_link.specs.Text as texts
-use Rattle.match_bodies.specs.CodeSites.{arguments_code, frame_plan}
+use Rattle.template_code.specs.Frames.{frame_plan}
+use Rattle.match_bodies.specs.CodeSites.{arguments_code}
 use Rattle.image_states.proofs.Places.{is_function, is_funclet}
 use Rattle.image_states.proofs.Addresses.{place, here}
 use Rattle.image_states.proofs.Shifts.{AreMoved, code_moved}

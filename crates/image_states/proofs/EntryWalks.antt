@@ -2,7 +2,7 @@
 -- to be undone there: in the prologue those of the instructions that have been run, in the body
 -- all, in an epilogue those whose registers no load has restored, and then the pushes that are
 -- left.
-use Rattle.std.proofs.Common.{◌≡◌, ◌≢◌, ℕ, ◌+◌, ◌-◌, ◌^◌, ◌<◌, ◌≤◌, Bool, true, false, ◌&&◌, ◌||◌, eqb, List, [], ◌∷◌, length, Option, Some, None, Ok, refl, sym, ap, subst, ◌∙◌, arith, inl, inr}
+use Rattle.std.proofs.Common.{◌≡◌, ◌≢◌, ℕ, ◌+◌, ◌-◌, ◌^◌, ◌<◌, Bool, true, false, ◌&&◌, ◌||◌, eqb, List, [], ◌∷◌, length, Option, Some, None, Ok, refl, sym, ap, subst, ◌∙◌, arith, inl, inr}
 use Rattle.std.specs.Prelude.{nat_le, nat_lt}
 use Rattle.std.proofs.lemmas.Bool.{cases_eq, false≢true, ne_eqb, eqb-false, not-true, lt-ltb}
 use Rattle.image_states.specs.Words.{Memory, Instr, Context, Entry, rsp, Functions, distance, entry_of, of_entry, tail_at, left, framed, filter_return, finally_return, operations, by_distance, past_prologue, run_or, CallerFrame, found, rising, risen, caller_in, Answer, visited, if_over, if_filter, if_finally, HasCaller, FindsReturn, popped}
@@ -12,20 +12,21 @@ use Rattle.eh_tables.specs.declared.code.UnwindOperation.{UnwindOperation}
 use Rattle.eh_tables.specs.declared.code.UnwindOperation.TheVariants.{Push, Allocate, SetFrame, Save, SaveVector, MachineFrame}
 use Rattle.eh_tables.specs.Infos.{Info}
 use Rattle.virtual_unwind.specs.Contexts.{get}
-use Rattle.virtual_unwind.specs.CallerOf.{base_if, has_frame, run_by, sets_frame, unwound}
+use Rattle.virtual_unwind.specs.CallerOf.{has_frame, run_by, sets_frame, unwound}
 use Rattle.virtual_unwind.specs.Tail.{FetchedInstr, role_of}
 use Rattle.virtual_unwind.specs.declared.tail.Role.TheVariants.{Other}
 use Rattle.frame_rules.specs.Body.{Body, Leaving, following, is_body}
 use Rattle.frame_rules.specs.Codes.{allocation, pushed, pushes, is_saved, is_ordered, is_allocated}
 use Rattle.frame_rules.specs.Epilogue.{gives_back, is_epilogue, pops}
-use Rattle.frame_rules.specs.Frame.{Framed, left_to}
+use Rattle.frame_rules.specs.Frame.{left_to}
 use Rattle.frame_rules.specs.States.{HasItems}
 use Rattle.frame_rules.proofs.Undoing.{undoing, popped_is, return_word}
 use Rattle.frame_rules.proofs.Epilogues.{pops_restore, epilogue_restores}
-use Rattle.frame_rules.proofs.Order.{Ordered, push, allocate, frame, save, ordered, ordered_rest, framed_above, pushes_whole}
+use Rattle.frame_rules.proofs.Order.{Ordered, push, allocate, frame, save, ordered, ordered_rest, pushes_whole}
 use Rattle.frame_rules.proofs.Tails.{no_tail, trails, opens_here}
 use Rattle.match_stack.specs.PlainWalks.{state}
 use Rattle.match_stack.proofs.FrameWords.{eight_numbers}
+use Rattle.match_bodies.proofs.OwedCallers.{base_is}
 use Rattle.match_bodies.specs.Callers.{Owed, IsOwed, FindsOwed, caller_owed, caller_left}
 
 -- ---- a walk's answer
@@ -186,17 +187,6 @@ unloaded_saves r (Allocate n ∷ xs) (allocate p o) = allocated_saves r (Allocat
 unloaded_saves r (SetFrame ∷ xs) (frame t p o) = allocated_saves r xs t
 unloaded_saves r (SaveVector q n ∷ xs) o = elim o [ ]
 unloaded_saves r (MachineFrame e ∷ xs) o = elim o [ ]
-
--- ---- the base of the allocation
-
--- where a frame register is set it leads to RSP
-base_is : (i : Info) (c : Context) (ops : List UnwindOperation) (b : Bool) → Ordered ops
-    → (b ≡ true → sets_frame ops ≡ true) → rsp c < 2 ^ 64 → i.frame_offset ≤ 2 ^ 64
-    → Framed i.frame_register i.frame_offset (get c) (rsp c) ops → base_if i c b ≡ rsp c
-base_is i c ops false o sets high small h = refl
-base_is i c ops true o sets high small h =
-    let e = framed_above i.frame_register i.frame_offset (get c) (rsp c) ops o (sets refl) h in
-    omega arith
 
 both_true : (a b : Bool) → (a && b) ≡ true → b ≡ true
 both_true true b e = e

@@ -2,7 +2,8 @@
 use Rattle.std.proofs.Common.{◌≡◌, ◌≢◌, ℕ, ◌+◌, ◌-◌, ◌^◌, ◌<◌, ◌≤◌, true, false, ltb, leb, List, [], ◌∷◌, ◌++◌, length, Option, Some, None, refl, sym, ap, subst, ◌∙◌, arith}
 use Rattle.std.specs.Prelude.{slice_get}
 use Rattle.std.proofs.lemmas.Bool.{le-ltb, and_right}
-use Rattle.image_states.specs.Words.{Memory, Rax, Instr, modrm, Table, Entry, BuiltIn, Put, Protect, RaiseException, Walk, Functions, distance, entry_of, left, framed, filter_return, finally_return, Slot, LinearBody, LinearProgram, BodyName, body_of, FrameLayout, size, sizes, fetch, check_stack, RoutineView, routines, SiteView, routine_size, argument_code, first, total, Placed, end_of, site_of, infos_begin, image_base, template_at, begin_of, making_size, FindsReturn, FindsOwed, owed_of, functions_of, funclets_of, is_leaf, or_none, owed_after, routine_of, address_of, plan_of, sites_of, HasWholeImage, IsNear, entry_or, holding, thunks_at, info_bytes, thunk_of, placed_from, FindsCallers, FindsCallersOutside, services_of, routines_begin, probe_begin}
+use Rattle.std.proofs.lemmas.List.{append-nil}
+use Rattle.image_states.specs.Words.{Memory, Rax, Instr, modrm, Table, Entry, BuiltIn, Put, Protect, RaiseException, Walk, Functions, distance, entry_of, left, framed, filter_return, finally_return, Slot, LinearBody, LinearProgram, BodyName, body_of, FrameLayout, size, sizes, fetch, check_stack, RoutineView, routines, SiteView, routine_size, argument_code, first, total, Placed, end_of, site_of, infos_begin, image_base, template_at, begin_of, making_size, FindsReturn, FindsOwed, owed_of, functions_of, funclets_of, is_leaf, or_none, owed_after, routine_of, address_of, plan_of, sites_of, HasWholeImage, IsNear, entry_or, holding, thunks_at, info_bytes, thunk_of, placed_from, FindsCallers, FindsCallersOutside, services_of, routines_begin, probe_begin, owed_by, HasProgram}
 use Rattle.eh_tables.specs.Tables as reading
 use Rattle.linear_code.specs.declared.instruction.Instruction.TheVariants as instructions
 use Rattle.image_states.proofs.Lemmas.{thunks_are_held_by_none, tables_are_read, end_inside, away}
@@ -12,11 +13,12 @@ use Rattle.image_link.proofs.Front.{place_small}
 use Rattle.image_tables.specs.Entries as tables
 use Rattle.image_states.proofs.Addresses.{place, label_rises, label_inside}
 use Rattle.image_states.proofs.Entering.{arguments_same}
-use Rattle.match_bodies.specs.Callers.{owed_pops}
+use Rattle.frame_rules.specs.Plan.{Saved}
+use Rattle.match_bodies.specs.Callers.{owed_opening, owed_pops}
 use Rattle.match_bodies.specs.CodeSites.{body_plan, epilogue_through}
 use Rattle.image_states.proofs.EntryWalks.{none_found}
 use Rattle.image_states.proofs.Framed.{framed_of}
-use Rattle.image_states.proofs.Callers.{leaf_at, making_at, entered_at, argument_at, argument_found, making_is, return_found, end_found}
+use Rattle.image_states.proofs.Callers.{leaf_at, making_at, entered_at, argument_at, argument_found, making_is, return_found, open_found, end_found}
 
 -- ---- where no entry is
 
@@ -158,6 +160,25 @@ module _ (program : LinearProgram) (c : HasWholeImage program) where
     at_label label from at = ap (λ (d : LinearBody). slice_get d.code label)
         (place program c name b is).body ∙ at
 
+    -- where a return fetches its result, up to the last of these instructions
+    fetched_found : (m : Memory) (label : ℕ) (from : Slot) (done left : List Instr)
+        → HasProgram (functions_of program) (funclets_of program) program (plan_of program)
+        (sites_of program) m → slice_get b.code label ≡ Some (instructions.Return from)
+        → fetch x.routine.layout Rax from ≡ done ++ left
+        → FindsOwed (functions_of program) m (address_of program name label + sizes done)
+        (owed_of (plan_of program) name)
+    fetched_found m label from done left has at parts =
+        let e : image_base + (template_at x label + sizes done)
+        ≡ address_of program name label + sizes done = omega arith in
+        subst (λ a. FindsOwed (functions_of program) m a (owed_of (plan_of program) name)) e
+        (return_found program c name b is m label from (at_label label from at) has
+        x.routine.frame refl done left parts)
+
+    -- a frame that saves nothing has no load
+    no_saves : (loaded left : List Saved) (next : Saved) → [] ≡ loaded ++ (next ∷ left) → ⊥
+    no_saves [] left next e = absurd cc
+    no_saves (s ∷ loaded) left next e = absurd cc
+
     place_of : (m : Memory) (done left : List Instr) (item : Instr)
         (split : argument_code x.routine.layout x.routine.entry ≡ done ++ (item ∷ left))
         → image_base + argument_at program c name b is m done left item split
@@ -177,12 +198,27 @@ module _ (program : LinearProgram) (c : HasWholeImage program) where
           + sizes done = place_of m done left item split in
           subst (λ a. FindsOwed (functions_of program) m a (owed_of (plan_of program) name)) e
           (argument_found program c name b is m done left item split has x.routine.frame refl));
-      returns = λ m label from done left has at parts.
-          (let e : image_base + (template_at x label + sizes done)
-          ≡ address_of program name label + sizes done = omega arith in
-          subst (λ a. FindsOwed (functions_of program) m a (owed_of (plan_of program) name)) e
-          (return_found program c name b is m label from (at_label label from at) has
-          x.routine.frame refl done left parts));
+      returns = λ m label from done left item has at parts. fetched_found m label from done
+          (item ∷ left) has at parts;
+      leaf_ends = λ m label from has at leaf.
+          (let fetching = fetch x.routine.layout Rax from in
+          let e : address_of program name label + sizes fetching
+          ≡ address_of program name label + sizes fetching + 0 = omega arith in
+          subst (FindsReturn (functions_of program) m) e
+          (subst (FindsOwed (functions_of program) m (address_of program name label
+          + sizes fetching)) (ap (owed_by ((plan_of program).entry name).info) leaf)
+          (fetched_found m label from fetching [] has at (sym (append-nil fetching)))));
+      loads = λ m label from loaded left next has at framed saves. absurd
+          (no_saves loaded left next saves);
+      opens = λ m label from has at framed.
+          (let f = framed_of x.routine.frame framed in
+          let plan = body_plan (plan_of program) (sites_of program) name in
+          let fetching = fetch x.routine.layout Rax from in
+          let e : image_base + (template_at x label + sizes fetching)
+          ≡ address_of program name label + sizes fetching + 0 = omega arith in
+          subst (λ a. FindsOwed (functions_of program) m a (owed_opening plan)) e
+          (open_found program c name b is m label from (at_label label from at) has f.0 f.1
+          plan.probe));
       ends = λ m label from popped left has at framed pushes.
           (let f = framed_of x.routine.frame framed in
           let plan = body_plan (plan_of program) (sites_of program) name in

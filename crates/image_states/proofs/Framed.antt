@@ -10,7 +10,8 @@ use Rattle.eh_tables.specs.declared.unwind_info.Trailer.TheVariants.{Nothing}
 use Rattle.frame_layout.specs.Layout.{info_of}
 use Rattle.frame_layout.proofs.Sizes.{describes}
 use Rattle.frame_rules.specs.Plan as rules
-use Rattle.match_bodies.specs.CodeSites.{body_plan, frame_plan}
+use Rattle.template_code.specs.Frames.{frame_plan}
+use Rattle.match_bodies.specs.CodeSites.{body_plan}
 use Rattle.linear_code.specs.declared.instruction.Instruction.TheVariants as instructions
 use Rattle.x64_templates.specs.Epilogues as epilogues
 use Rattle.image_tables.specs.Entries as tables

@@ -38,7 +38,7 @@ pub use Rattle.x64_machine.specs.declared.context.Context.{Context}
 pub use Rattle.x64_machine.specs.declared.cpu.Cpu.{Cpu}
 pub use Rattle.template_code.specs.Bytes.{sizes, spelled, thunk}
 unfoldable pub use Rattle.template_code.specs.Bytes.{size}
-pub use Rattle.template_code.specs.Calls.{epilogue, return_code, parameters_code, return_at, arguments_code, call_code, clear_result, passing_code, finally_arguments, address_to}
+pub use Rattle.template_code.specs.Calls.{return_code, parameters_code, return_at, arguments_code, call_code, clear_result, passing_code, finally_arguments, address_to}
 pub use Rattle.template_code.specs.Jumps.{jump, jump_equal, call, compare_zero, test_code}
 pub use Rattle.template_code.specs.Probing.{check_stack}
 pub use Rattle.template_code.specs.Slots.{fetch, operands_code, keep}

@@ -16,7 +16,8 @@ use Rattle.image_tables.proofs.CodeInMemory.{IsThere, there, code_length, routin
 use Rattle.image_tables.proofs.Arguments.{arguments_inner}
 use Rattle.image_tables.proofs.Layouts.{size_of, sized}
 use Rattle.image_tables.proofs.Links.{links_near}
-use Rattle.image_tables.proofs.Rest.{with_size, IsFine, fine_inner, fine_both, body_fine, encodable_both, spelled_both}
+use Rattle.template_code.specs.Frames.{frame_plan}
+use Rattle.image_tables.proofs.Rest.{IsFine, fine_inner, fine_both, body_fine, encodable_both, spelled_both}
 
 -- ---- plans
 
@@ -49,7 +50,7 @@ spelled_steps p at (x ∷ xs) = spelled_both (instructions_of p x) (flat_map (in
 -- ---- what comes after the prologue
 
 pub rest_fine : (p : LinearProgram) (index : ℕ) (x : Placed) (n probe : ℕ)
-    (is_plan : IsPlan (with_size n probe)) → size_of x.routine.frame ≡ n
+    (is_plan : IsPlan (frame_plan n probe)) → size_of x.routine.frame ≡ n
     → FitsProgram p → slice_get (placed p) index ≡ Some x
     → IsThere (site_of p) (linked p).text (text_begin p.globals) x
     → IsFine n probe is_plan (rest_of p x)

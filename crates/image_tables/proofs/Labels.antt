@@ -1,7 +1,9 @@
 -- Where the instructions of a body begin: each takes some bytes.
 use Rattle.std.proofs.Common.{ℕ, zero, suc, ◌+◌, ◌<◌, ◌≤◌, List, [], ◌∷◌, ◌++◌, length, Option, Some, None, arith}
-use Rattle.image_tables.specs.Words.{Rax, Rcx, Rsp, modrm, opcode_register, Slot, Local, Temporary, Instruction, Layout, size, sizes, before, fetched, temporary_at, local_at, fetch_local, keep_local, fetch, keep, operands_code, finish_code, compare_zero, jump_equal, test_code, finally_arguments, epilogue, template_size, body_size, label_list, address_or, put_back, separator_code, clear_result}
+use Rattle.image_tables.specs.Words.{Rax, Rcx, Rsp, modrm, opcode_register, Slot, Local, Temporary, Instruction, Layout, size, sizes, before, fetched, temporary_at, local_at, fetch_local, keep_local, fetch, keep, operands_code, finish_code, compare_zero, jump_equal, test_code, finally_arguments, template_size, body_size, label_list, address_or, put_back, separator_code, clear_result}
 use Rattle.linear_code.specs.declared.instruction.Instruction.TheVariants as instructions
+use Rattle.frame_rules.specs.Plan.{epilogue}
+use Rattle.template_code.specs.Frames.{plan_of_layout}
 use Rattle.image_tables.proofs.Lemmas.{sizes_append, call_size, jump_size, passing_call_size}
 
 -- ---- templates
@@ -69,7 +71,7 @@ template_some y (instructions.CallFinally funclet) = let s = call_size
 template_some y (instructions.LocalUnwind label) = let s = call_size 15 0 in omega arith
 template_some y instructions.Separator = nop_some
 template_some y (instructions.Return from) = let s = fetch_some y from in
-    omega (arith, sizes_append (fetch y Rax from) (epilogue y.frame))
+    omega (arith, sizes_append (fetch y Rax from) (epilogue (plan_of_layout y 0)))
 
 -- ---- labels
 

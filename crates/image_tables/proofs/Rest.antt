@@ -1,30 +1,17 @@
 -- The instructions after a prologue lead from the body to the body.
-use Rattle.std.proofs.Common.{◌≡◌, ℕ, zero, suc, ◌+◌, ◌^◌, ◌<◌, Bool, true, ◌&&◌, List, [], ◌∷◌, ◌++◌, Some, refl, sym, ap, ◌∙◌, arith}
+use Rattle.std.proofs.Common.{◌≡◌, ℕ, ◌+◌, ◌^◌, ◌<◌, true, ◌&&◌, List, [], ◌∷◌, ◌++◌, Some, refl, ap, ◌∙◌, arith}
 use Rattle.std.specs.List.{AllByRecursion}
-use Rattle.std.proofs.lemmas.Bool.{and_parts, and_from, ne_eqb}
-use Rattle.image_tables.specs.Words.{Rax, Instr, is_encodable, FetchedInstr, role_of, Body, following, written, may_write_all, FramePlan, IsPlan, spelled_by, operations_of, spell, Slot, Instruction, plan_of, Layout, fetch, epilogue, Links, template, template_size, code_from, IsInstructionNear, is_other, all_encodable, is_inner, are_inner, return_code}
-use Rattle.x64_instr.specs.declared.instruction.Instr.TheVariants as instrs
-use Rattle.frame_rules.specs.Plan as rules
+use Rattle.std.proofs.lemmas.Bool.{and_parts, and_from}
+use Rattle.image_tables.specs.Words.{Rax, Instr, is_encodable, FetchedInstr, role_of, Body, following, written, may_write_all, FramePlan, IsPlan, spelled_by, operations_of, spell, Slot, Instruction, Layout, fetch, Links, template, template_size, code_from, IsInstructionNear, is_other, all_encodable, is_inner, are_inner, return_code}
+use Rattle.frame_rules.specs.Plan.{epilogue}
 use Rattle.frame_rules.proofs.Bodies.{following-append}
 use Rattle.image_tables.proofs.Lemmas.{spells_all, plans_are_encodable, inner_following, epilogue_following, instruction_in_room}
 use Rattle.linear_code.specs.declared.instruction.Instruction.TheVariants as instructions
+use Rattle.template_code.specs.Frames.{frame_plan}
+use Rattle.template_code.proofs.Frames.{epilogue_unprobed}
 use Rattle.x64_emit.specs.Rooms.{code_room}
 use Rattle.image_tables.proofs.BodyInstructions.{Inner, AllInner, fetch_inner}
 use Rattle.image_tables.proofs.Templates.{AreLinksNear, template_inner}
-
--- ---- a plan with an allocation, or without
-
-abbrev pub with_size : ℕ → ℕ → FramePlan
-with_size n probe = plan_of (record { kept = 0; temporaries = 0; locals = 0; size = n }) probe
-
-abbrev by_size : ℕ → ℕ → Bool → List Instr
-by_size n probe none = rules.loads_then [] (rules.opening_then (with_size n probe) none
-    (rules.pops_then [] (instrs.Return ∷ [])))
-
-pub same_epilogue : (n probe : ℕ) → epilogue n ≡ rules.epilogue (with_size n probe)
-same_epilogue zero probe = refl
-same_epilogue (suc n) probe = sym (ap (by_size (suc n) probe)
-    (ne_eqb (suc n) 0 (λ z. (let q : suc n ≡ 0 = z in absurd (omega arith)))))
 
 -- ---- inner instructions
 
@@ -58,9 +45,9 @@ spelled_both (i ∷ a) b = ap (λ (xs : List FetchedInstr). spell i ∷ xs) (spe
 
 -- ---- bodies
 
-module _ (n probe : ℕ) (is_plan : IsPlan (with_size n probe)) where
+module _ (n probe : ℕ) (is_plan : IsPlan (frame_plan n probe)) where
   abbrev p : FramePlan
-  p = with_size n probe
+  p = frame_plan n probe
 
   -- from the body to the body
   abbrev pub Leads : List Instr → Type 0
@@ -81,16 +68,22 @@ module _ (n probe : ℕ) (is_plan : IsPlan (with_size n probe)) where
   inner_leads is h rs = inner_following spell spells_all p (spelled_by spell is) rs
       (all_inner p is refl h)
 
-  epilogue_leads : (k : ℕ) → k ≡ n → Leads (epilogue k)
+  abbrev ending : ℕ → List Instr
+  ending k = epilogue (frame_plan k 0)
+
+  ending_is : (k : ℕ) → k ≡ n → ending k ≡ epilogue p
+  ending_is k e = ap ending e ∙ epilogue_unprobed p 0
+
+  epilogue_leads : (k : ℕ) → k ≡ n → Leads (ending k)
   epilogue_leads k e rs = (
     [],
     ap (λ (is : List Instr). following 0 0 (operations_of p)
-        (spelled_by spell is) (Body rs)) (ap epilogue e ∙ same_epilogue n probe)
+        (spelled_by spell is) (Body rs)) (ending_is k e)
         ∙ epilogue_following spell spells_all p is_plan rs,
   )
 
-  epilogue_encodable : (k : ℕ) → k ≡ n → all_encodable (epilogue k) ≡ true
-  epilogue_encodable k e = ap all_encodable (ap epilogue e ∙ same_epilogue n probe)
+  epilogue_encodable : (k : ℕ) → k ≡ n → all_encodable (ending k) ≡ true
+  epilogue_encodable k e = ap all_encodable (ending_is k e)
       ∙ (plans_are_encodable p is_plan).1
 
   -- a template, a body
@@ -109,7 +102,7 @@ module _ (n probe : ℕ) (is_plan : IsPlan (with_size n probe)) where
 
   return_fine : (y : Layout) (from : Slot) → y.frame ≡ n
       → IsInstructionNear y (instructions.Return from) → IsFine (return_code y from)
-  return_fine y from e near = fine_both (fetch y Rax from) (epilogue y.frame)
+  return_fine y from e near = fine_both (fetch y Rax from) (ending y.frame)
       (fine_inner (fetch y Rax from) (fetch_inner y from near.0))
       (record { leads = epilogue_leads y.frame e; encodable = epilogue_encodable y.frame e })
 

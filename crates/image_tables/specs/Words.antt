@@ -43,7 +43,7 @@ pub use Rattle.x64_encode.specs.Chosen.{chosen, is_encodable, is_signed, little}
 unfoldable pub use Rattle.x64_encode.specs.Chosen.{modrm, opcode_register}
 pub use Rattle.template_code.specs.Bytes.{spelled, sizes, thunk}
 unfoldable pub use Rattle.template_code.specs.Bytes.{size}
-pub use Rattle.template_code.specs.Calls.{keep_register, parameter_register, stack_parameter, parameter_code, parameters_code, finally_arguments, epilogue, clear_result, return_code, arguments_code, begin_call, call_code, passing_code, field_load}
+pub use Rattle.template_code.specs.Calls.{keep_register, parameter_register, stack_parameter, parameter_code, parameters_code, finally_arguments, clear_result, return_code, arguments_code, begin_call, call_code, passing_code, field_load}
 pub use Rattle.template_code.specs.Jumps.{distance, compare_zero, jump_equal, test_code, separator_code, call}
 pub use Rattle.template_code.specs.Operations.{move, before, work, compare, extended, pure_code, high_half}
 pub use Rattle.template_code.specs.Slots.{fetched, keep, local_at, temporary_at, fetch_local, keep_local, fetch, operands_code, finish_code, put_back}

@@ -1,25 +1,27 @@
 -- The frames of bodies, as their codes tell: what of them is to be undone, and what keeps them.
--- Each is one allocation: the return address is above it, and the caller's registers are those that
--- are there.
-use Rattle.std.proofs.Common.{◌≡◌, ℕ, suc, ◌+◌, ◌^◌, ◌<◌, ◌≤◌, Bool, true, false, not, eqb, Some, Ok, List, [], ◌∷◌, length, drop, refl, sym, ap, subst, ◌∙◌, arith}
+use Rattle.std.proofs.Common.{◌≡◌, ℕ, suc, ◌+◌, ◌^◌, ◌<◌, ◌≤◌, Bool, true, false, Some, Ok, List, length, drop, refl, sym, ap, subst, ◌∙◌, arith}
 use Rattle.std.specs.Prelude.{slice_index}
-use Rattle.match_bodies.specs.Words.{Memory, Rsp, Context, context_of, kept_of, State, register, rsp, word, LinearBody, BodyName, FunctionBody, FuncletBody, body_of, Configuration, StackFrame, frame_of, HasFrame, IsFramed, Setting, IsWellFormed, AllSmall, IsAsTold, IsAllocated, IsOwed, nothing_owed, owed_of, owed_by, caller_owed, get}
-use Rattle.eh_tables.specs.declared.code.UnwindOperation.TheVariants.{Allocate}
-use Rattle.virtual_unwind.specs.CallerOf.{base_if}
+use Rattle.std.proofs.lemmas.Bool.{eqb-false, not-true}
+use Rattle.match_bodies.specs.Words.{Memory, Rsp, Context, context_of, kept_of, State, register, rsp, word, LinearBody, BodyName, FunctionBody, FuncletBody, body_of, Configuration, StackFrame, frame_of, HasFrame, IsFramed, Setting, IsWellFormed, AllSmall, IsAsTold, IsOwed, nothing_owed, owed_of, owed_by, caller_owed, get}
+use Rattle.virtual_unwind.specs.CallerOf.{has_frame, sets_frame}
 use Rattle.virtual_unwind.specs.Undone.{operations}
+use Rattle.frame_rules.specs.Bytes.{spell}
 use Rattle.frame_rules.specs.Codes.{depth}
+use Rattle.frame_rules.specs.Plan.{FramePlan, operations_of}
+use Rattle.frame_rules.proofs.Order.{Ordered, ordered}
+use Rattle.frame_rules.proofs.Planning.{codes_plan, framed_plan, ordered_plan}
 use Rattle.frame_rules.proofs.Undoing.{stack_depth}
 use Rattle.match_stack.specs.Stack.{AreAbove}
+use Rattle.match_bodies.specs.CodeSites.{body_plan}
 use Rattle.match_bodies.specs.Layouts.{IsLaidOut, IsLayoutIf}
 use Rattle.match_bodies.specs.Setting.{InBody}
 use Rattle.match_stack.proofs.FrameWords.{told_above}
 use Rattle.match_bodies.proofs.Lemmas.{wide_of, word-is, is_word}
 use Rattle.x64_machine.specs.declared.cpu.Cpu.{Cpu}
-use Rattle.match_stack.proofs.AllocatedFrames.{told_allocations}
 use Rattle.match_bodies.proofs.InstructionEffects.{others_of}
 use Rattle.match_bodies.proofs.StackTop.{leaf_layout}
-use Rattle.match_bodies.proofs.FrameCode.{HasAllocation, allocation_alone}
-use Rattle.match_bodies.proofs.OwedCallers.{returns_alone, at_return}
+use Rattle.match_bodies.proofs.FrameCode.{above_plan, plan_depth}
+use Rattle.match_bodies.proofs.OwedCallers.{base_is, returns_alone, at_return}
 
 -- the caller's registers are small where all are
 pub small_others : (s : State) → IsWellFormed s → AllSmall (others_of s.cpu.registers)
@@ -54,11 +56,6 @@ frame_with s cpu false f e h = told_with s.memory (context_of s.cpu) (context_of
 module _ (setting : Setting) where
   open setting use {functions as t, funclets as fs, program, plan as p, sites as q, image}
 
-  -- what it tells of a state
-  pub record TellsReturn (s : State) (name : BodyName) (back : ℕ) (others : List ℕ) : Type 0 where
-    pub returns : word s.memory (register s.cpu Rsp + (p.layout name).frame) ≡ Ok back
-    pub others_are : others_of s.cpu.registers ≡ others
-
   module _ (name : BodyName) (b : LinearBody) (is : body_of program name ≡ Some b) where
     pub framed_some : p.leaf name ≡ false → 0 < (p.layout name).frame
     framed_some e = some name (image.laid_out name b is) e
@@ -78,9 +75,21 @@ module _ (setting : Setting) where
             let temporaries = h.layout.temporaries in
             omega arith
 
-    -- its codes are one allocation
-    pub allocation : p.leaf name ≡ false → HasAllocation t fs program p q name
-    allocation e = allocation_alone t fs program p q name (framed_some e) (image.plans name b is e)
+    abbrev framing : FramePlan
+    framing = body_plan p q name
+
+    -- its codes are those of its plan
+    pub codes_are : p.leaf name ≡ false
+        → operations (p.entry name).info.codes ≡ operations_of framing
+    codes_are e = ap operations (image.plans name b is e).codes ∙ codes_plan spell framing
+
+    -- where it has a frame register, its codes set it
+    sets : p.leaf name ≡ false → has_frame (p.entry name).info ≡ true
+        → sets_frame (operations (p.entry name).info.codes) ≡ true
+    sets e h =
+        let same = (image.plans name b is e).frame_register in
+        ap sets_frame (codes_are e) ∙ framed_plan framing
+        (λ z. eqb-false (p.entry name).info.frame_register 0 (not-true _ h) (same ∙ z))
 
     -- what its codes tell of is owed
     pub framed_owed : (m : Memory) (c : Context) (back : ℕ) (others : List ℕ) → p.leaf name ≡ false
@@ -114,23 +123,28 @@ module _ (setting : Setting) where
           where
             by : (leaf : Bool) → p.leaf name ≡ leaf
                 → depth (owed_by (p.entry name).info leaf).codes ≡ (p.layout name).frame
-            by false e = ap depth (ap operations (allocation e).codes)
-                ∙ (let z : (p.layout name).frame + 0 ≡ (p.layout name).frame = omega arith in z)
+            by false e = ap depth (codes_are e) ∙ plan_depth (p.layout name).frame framing.probe
             by true e = sym (leaf_layout t fs program p q name b e
                 (image.laid_out name b is)).frame
+
+    -- nothing that they tell of is below its slots
+    above_frame : p.leaf name ≡ false → (at : ℕ)
+        → AreAbove (at + (p.layout name).frame) at at (operations (p.entry name).info.codes)
+    above_frame e at = subst (AreAbove (at + (p.layout name).frame) at at) (sym (codes_are e))
+        (above_plan framing (at + (p.layout name).frame) at tt (omega arith))
 
     -- and a frame is as they tell where they are owed
     pub owed_framed : (m : Memory) (c : Context) (size back : ℕ) (others : List ℕ)
         → p.leaf name ≡ false → IsOwed m c (owed_of p name) size back others
         → IsFramed p m name c back others
     owed_framed m c size back others e o =
-        let a = allocation e in
         let i = (p.entry name).info in
-        let tells : operations i.codes ≡ Allocate (p.layout name).frame ∷ [] = ap operations
-        a.codes in
         let h = subst (λ (leaf : Bool). IsOwed m c (owed_by i leaf) size back others) e o in
         let whole = owed_frame m c size back others o in
         let k = subst (λ n. IsOwed m c (owed_by i false) n back others) whole h in
+        let room = k.room in
+        let in_order = subst Ordered (sym (codes_are e))
+        (ordered (operations_of framing) (ordered_plan framing)) in
         record {
           kept = k.kept;
           eight = k.eight;
@@ -138,12 +152,12 @@ module _ (setting : Setting) where
           is_told = record {
             offset = k.small;
             allowed = k.allowed;
-            base = ap (λ r. base_if i c (not (eqb r 0))) a.no_register;
+            base = base_is i c (operations i.codes) (has_frame i) in_order (sets e) (omega arith)
+                k.small k.framed;
             stack = k.stack;
             framed = k.framed;
             others = k.unsaved;
-            above = subst (AreAbove (rsp c + (p.layout name).frame) (rsp c) (rsp c)) (sym tells)
-                (omega arith);
+            above = above_frame e (rsp c);
           };
         }
 
@@ -153,35 +167,10 @@ module _ (setting : Setting) where
       where
         by : (leaf : Bool) → p.leaf name ≡ leaf → AreAbove (at + (p.layout name).frame) at at
             (owed_by (p.entry name).info leaf).codes
-        by false e =
-            let tells = ap operations (allocation e).codes in
-            subst (AreAbove (at + (p.layout name).frame) at at) (sym tells) (omega arith)
+        by false e = above_frame e at
         by true e =
             let none = (leaf_layout t fs program p q name b e (image.laid_out name b is)).frame in
             omega arith
-
-    allocated : (m : Memory) (c : Context) (back : ℕ) (others : List ℕ) → p.leaf name ≡ false
-        → length c.kept ≡ 9 → length others ≡ 8 → IsAsTold m c (frame_of p name back others)
-        → IsAllocated m c (frame_of p name back others)
-    allocated m c back others e kept eight h =
-        let a = allocation e in
-        told_allocations m c (frame_of p name back others) a.offset a.codes kept eight h
-
-    pub tells_return : (s : State) (back : ℕ) (others : List ℕ) → length others ≡ 8
-        → HasFrame s (p.leaf name) (frame_of p name back others) → TellsReturn s name back others
-    tells_return s back others eight h = by (p.leaf name) refl h
-      where
-        by : (leaf : Bool) → p.leaf name ≡ leaf → HasFrame s leaf (frame_of p name back others)
-            → TellsReturn s name back others
-        by false e h =
-            let a = allocated s.memory (context_of s.cpu) back others e refl eight h in
-            record { returns = a.returns; others_are = a.others }
-        by true e h =
-            let none = leaf_layout t fs program p q name b e (image.laid_out name b is) in
-            let zero_frame = none.frame in
-            let z : register s.cpu Rsp + (p.layout name).frame ≡ register s.cpu Rsp =
-            omega arith in
-            record { returns = ap (word s.memory) z ∙ h.returns; others_are = h.others }
 
     -- it is there where its codes are owed
     pub frame_from : (s : State) (size back : ℕ) (others : List ℕ)
@@ -254,8 +243,3 @@ module _ (setting : Setting) where
       at.back at.others
   body_owed s c at room = frame_owed c.frame.body at.slots.code at.slots.body s at.back at.others
       at.eight room at.frame
-
-  pub body_return : (s : State) (c : Configuration) (at : InBody setting s c)
-      → TellsReturn s c.frame.body at.back at.others
-  body_return s c at = tells_return c.frame.body at.slots.code at.slots.body s at.back at.others
-      at.eight at.frame

@@ -2,19 +2,18 @@
 use Rattle.std.proofs.Common.{◌≡◌, ℕ, ◌+◌, ◌≤◌, Bool, true, false, List, [], ◌∷◌, length, Option, Some, Ok, refl, sym, ap, subst, ◌∙◌, arith}
 use Rattle.std.specs.Prelude.{slice_set, slice_get, slice_index}
 use Rattle.std.specs.List.{AllByRecursion}
-use Rattle.match_bodies.specs.Words.{Event, STACK_END, Memory, Rsp, Context, context_of, State, register, rsp, Functions, word, Funclet, Layout, Region, LinearProgram, LinearBody, LinearFunclet, BodyName, FunctionBody, FuncletBody, Frame, Item, Waits, Searches, Unwinds, body_of, holds, regions_of, StackFrame, StackItem, Framed, Leaf, FrameIsAt, after_leaf, context_below, IsWellFormed, ImagePlan, InCode, Activation, activations_below, HoldsWords, HasActivation, temporaries_end, home_end, HasSpace, below_end, BodyWaits, HasPointers, IsAbove, FuncletIsAbove, On, Sites, IsLaidOut, IsProgramImage, frame_of, slots_end, last_temporary, HasFrame, InBody, setting_of, IsAsTold, IsAllocated, get}
+use Rattle.match_bodies.specs.Words.{Event, STACK_END, Memory, Rsp, Context, context_of, State, register, rsp, Functions, word, Funclet, Layout, Region, LinearProgram, LinearBody, LinearFunclet, BodyName, FunctionBody, FuncletBody, Frame, Item, Waits, Searches, Unwinds, body_of, holds, regions_of, StackFrame, StackItem, Framed, Leaf, FrameIsAt, after_leaf, context_below, IsWellFormed, ImagePlan, InCode, Activation, activations_below, HoldsWords, HasActivation, temporaries_end, home_end, HasSpace, below_end, BodyWaits, HasPointers, IsAbove, FuncletIsAbove, On, Sites, IsLaidOut, IsProgramImage, frame_of, slots_end, last_temporary, HasFrame, InBody, setting_of, IsAsTold, get}
 use Rattle.eh_tables.specs.Tables.{Entry}
 use Rattle.virtual_unwind.specs.Undone.{operations}
 use Rattle.frame_rules.specs.Codes.{depth}
-use Rattle.eh_tables.specs.declared.code.UnwindCode.{UnwindCode}
-use Rattle.eh_tables.specs.declared.code.UnwindOperation.TheVariants.{Allocate}
-use Rattle.match_stack.proofs.AllocatedFrames.{told_allocations}
 use Rattle.match_stack.specs.HostUnwind.{on_top}
+use Rattle.match_bodies.specs.CodeSites.{body_plan}
 use Rattle.match_bodies.proofs.Lemmas.{told_depth}
 use Rattle.match_bodies.proofs.InstructionEffects.{others_of}
 use Rattle.match_bodies.proofs.StackTop.{leaf_layout}
 use Rattle.match_bodies.proofs.FramePlaces.{activation_with}
-use Rattle.match_bodies.proofs.BodyFrames.{small_others, told_with, allocation}
+use Rattle.match_bodies.proofs.BodyFrames.{codes_are, small_others, told_with}
+use Rattle.match_bodies.proofs.FrameCode.{plan_depth}
 
 all_same : (label : ℕ) (rs : List Region) → AllByRecursion
     (λ (r : Region). holds label r ≡ holds label r) rs
@@ -74,26 +73,11 @@ module _ (t : Functions) (fs : List Funclet) (program : LinearProgram) (p : Imag
           → body_of program name ≡ Some b → p.leaf name ≡ false → f.entry ≡ p.entry name
           → FrameIsAt t m c f → f.size ≡ (p.layout name).frame
       frame_size m c f name b there leaf entry s =
-          let a = allocation (setting_of t fs program p q image) name b there leaf in
-          let codes = ap (λ (e : Entry). operations e.info.codes) entry ∙ ap operations a.codes in
-          let d = ap depth codes in
+          let codes = ap (λ (e : Entry). operations e.info.codes) entry
+          ∙ codes_are (setting_of t fs program p q image) name b there leaf in
+          let d = ap depth codes ∙ plan_depth (p.layout name).frame (body_plan p q name).probe in
           let h = told_depth m c f s.is_told in
           omega arith
-
-      -- nothing else of its caller is in it
-      pub waiting_allocated : (m : Memory) (c : Context) (f : StackFrame) (name : BodyName)
-          (b : LinearBody)
-          → body_of program name ≡ Some b → p.leaf name ≡ false → f.entry ≡ p.entry name
-          → FrameIsAt t m c f → IsAllocated m c f
-      waiting_allocated m c f name b there leaf entry s =
-          let a = allocation (setting_of t fs program p q image) name b there leaf in
-          let code : ℕ → UnwindCode = λ n. record {
-            offset = a.offset;
-            operation = Allocate n;
-          } in
-          told_allocations m c f a.offset (ap (λ (e : Entry). e.info.codes) entry ∙ a.codes
-          ∙ ap (λ (n : ℕ). code n ∷ []) (sym (frame_size m c f name b there leaf entry s))) s.kept
-          s.eight s.is_told
 
       -- it is the body's
       pub frame_is : (m : Memory) (c : Context) (f : StackFrame) (name : BodyName) (b : LinearBody)

@@ -3,7 +3,7 @@
 use Rattle.std.proofs.Common.{◌≡◌, ℕ, ◌+◌, ◌%◌, ◌^◌, ◌<◌, ◌≤◌, true, false, eqb, List, [], ◌∷◌, length, set, Ok, refl, sym, ap, subst, ◌∙◌, arith}
 use Rattle.std.proofs.lemmas.Bool.{false≢true, or_left, eq-eqb}
 use Rattle.seh_num.specs.Answers.{◌>>=◌}
-use Rattle.match_bodies.specs.Words.{Memory, executable, W64, Reg, Rsp, Instr, leading, is_encodable, State, Answer, register, with_rip, with_register, effect, load, Functions, Funclet, size, AllSmall, Steps, HasCode, StackItem, is_call, FindsOwed, Owed, calls}
+use Rattle.match_bodies.specs.Words.{Memory, executable, W64, Reg, Rsp, Instr, leading, is_encodable, State, Answer, register, with_rip, with_register, effect, load, Functions, Funclet, size, AllSmall, Steps, HasCode, StackItem, is_call, FindsReturn, FindsOwed, Owed, nothing_owed, calls}
 use Rattle.eh_tables.specs.declared.code.UnwindOperation.{UnwindOperation}
 use Rattle.x64_instr.specs.Registers.{number}
 use Rattle.x64_instr.specs.Registers as numbers
@@ -15,7 +15,7 @@ use Rattle.x64_machine.specs.Effect.{address_of}
 use Rattle.x64_machine.specs.Words.{added}
 use Rattle.x64_machine.specs.declared.cpu.Cpu.{Cpu}
 use Rattle.frame_rules.specs.Body.{are_restored}
-use Rattle.frame_rules.specs.Codes.{allocation, depth, pushed, pushes, are_pushes}
+use Rattle.frame_rules.specs.Codes.{allocation, are_allowed, depth, pushed, pushes, are_pushes}
 use Rattle.frame_rules.specs.Epilogue.{gives_back}
 use Rattle.frame_rules.specs.Frame.{HoldsFrame}
 use Rattle.frame_rules.specs.States.{registers}
@@ -33,11 +33,11 @@ use Rattle.match_bodies.proofs.PrologueSteps.{of_codes, Below, Finds, old, fits,
 -- ---- what an instruction leaves
 
 -- the memory is left, and RIP is here
-record Passes (s u : State) (a : ℕ) : Type 0 where
-  memory : u.memory ≡ s.memory
-  rip : u.cpu.rip ≡ a
+pub record Passes (s u : State) (a : ℕ) : Type 0 where
+  pub memory : u.memory ≡ s.memory
+  pub rip : u.cpu.rip ≡ a
 
-passes : (s u : State) (a : ℕ) (t : State) → u ≡ t → t.memory ≡ s.memory → t.cpu.rip ≡ a
+pub passes : (s u : State) (a : ℕ) (t : State) → u ≡ t → t.memory ≡ s.memory → t.cpu.rip ≡ a
     → Passes s u a
 passes s u a t is memory rip = record {
   memory = ap (λ (x : State). x.memory) is ∙ memory;
@@ -105,12 +105,42 @@ module _ (t : Functions) (fs : List Funclet) (f offset top from back : ℕ) (oth
   abbrev pub before : ℕ → ℕ
   before = old t fs f offset top from back others is
 
-  abbrev Under : List UnwindOperation → State → Type 0
+  abbrev pub Under : List UnwindOperation → State → Type 0
   Under ops s = Below t fs f offset top from back others is ops s
 
   abbrev pub After : (s u : State) → (next : ℕ) → List ℕ → Type 0
   After s u next rs = Made t fs f offset top from back others is close small high s u next
       (pushed rs)
+
+  -- the frame is as these codes tell
+  pub frame_made : (s u : State) (o : Owed) (next : ℕ) (ops : List UnwindOperation) → Steps s u
+      → Beneath t s o top from back others is → length u.cpu.registers ≡ 16
+      → are_allowed f ops ≡ true
+      → HoldsFrame f offset u.memory before back (registers u) ops ops → Passes s u next
+      → is_call (leading (executable s.memory 15 s.cpu.rip)) ≡ false
+      → FindsOwed t s.memory s.cpu.rip o → FindsOwed t u.memory next (of_codes f offset ops)
+      → Made t fs f offset top from back others is close small high s u next ops
+  frame_made s u o next ops st b long allowed there pass quiet found after =
+      let deep : registers u 4 + depth ops ≡ top = stack_depth u.memory before back
+      (registers u 4) (registers u 4) ops there.stack in
+      let b' : Under ops u = record {
+        above = above_stays t s u top from back others is st
+            (λ x le. ap (λ (m : Memory). m.byte x) pass.memory) b.above;
+        count = long;
+        size = depth ops;
+        at = deep;
+        owed = owed_from t fs f offset top from back others is close small high u ops allowed
+            b.owed.eight there deep;
+      } in
+      record {
+        keeps = straight t fs s u (callers_above t top back others is) st.steps quiet
+            (gives_above t s o top from back others is b found)
+            (gives_above t u (of_codes f offset ops) top from back others is b'
+            (subst (λ a. FindsOwed t u.memory a (of_codes f offset ops)) (sym pass.rip) after))
+            (let k : register u.cpu Rsp + 8 ≤ top + 8 = omega arith in k);
+        beneath = b';
+        rip = pass.rip;
+      }
 
   -- these registers are still to be popped
   left_made : (s u : State) (o : Owed) (next : ℕ) (rs : List ℕ) → Steps s u
@@ -120,8 +150,6 @@ module _ (t : Functions) (fs : List Funclet) (f offset top from back : ℕ) (oth
       → FindsOwed t u.memory next (of_codes f offset (pushed rs)) → After s u next rs
   left_made s u o next rs st b h pass quiet found after =
       let p = pushed_alone rs in
-      let deep : registers u 4 + depth (pushed rs) ≡ top = stack_depth u.memory before back h.base
-      (registers u 4) (pushed rs) h.stack in
       let there : HoldsFrame f offset u.memory before back (registers u) (pushed rs) (pushed rs) =
       record {
         stack = rebased u.memory before back h.base (registers u 4) (registers u 4) (pushed rs) p
@@ -130,25 +158,7 @@ module _ (t : Functions) (fs : List Funclet) (f offset top from back : ℕ) (oth
             (pushes_unframed (pushed rs) p);
         others = h.others;
       } in
-      let b' : Under (pushed rs) u = record {
-        above = above_stays t s u top from back others is st
-            (λ x le. ap (λ (m : Memory). m.byte x) pass.memory) b.above;
-        count = h.length;
-        size = depth (pushed rs);
-        at = deep;
-        owed = owed_from t fs f offset top from back others is close small high u (pushed rs)
-            h.allowed b.owed.eight there deep;
-      } in
-      record {
-        keeps = straight t fs s u (callers_above t top back others is) st.steps quiet
-            (gives_above t s o top from back others is b found)
-            (gives_above t u (of_codes f offset (pushed rs)) top from back others is b'
-            (subst (λ a. FindsOwed t u.memory a (of_codes f offset (pushed rs))) (sym pass.rip)
-            after))
-            (let k : register u.cpu Rsp + 8 ≤ top + 8 = omega arith in k);
-        beneath = b';
-        rip = pass.rip;
-      }
+      frame_made s u o next (pushed rs) st b h.length h.allowed there pass quiet found after
 
   -- the allocation is given back
   pub opening_made : (s u : State) (i : Instr) (more : List Instr) (ops : List UnwindOperation)
@@ -201,3 +211,41 @@ module _ (t : Functions) (fs : List Funclet) (f offset top from back : ℕ) (oth
       (pop_passes s u next (before r) (numbers.register r)
       (load_at s.memory (registers s 4) (before r) there.stack.0) ef)
       (ap is_call (read_here s u i more refl code)) found after
+
+-- ---- where nothing is left to be popped
+
+pub none_left : (t : Functions) (v : State) (f offset top from back : ℕ) (others : List ℕ)
+    (is : List StackItem) → Beneath t v (of_codes f offset []) top from back others is
+    → Beneath t v nothing_owed top from back others is
+none_left t v f offset top from back others is b =
+    let o = b.owed in
+    record {
+      above = b.above;
+      count = b.count;
+      size = b.size;
+      at = b.at;
+      owed = record {
+        kept = o.kept;
+        eight = o.eight;
+        room = o.room;
+        small = omega arith;
+        allowed = refl;
+        stack = o.stack;
+        framed = tt;
+        unsaved = o.unsaved;
+      };
+    }
+
+pub returns_found : (t : Functions) (m : Memory) (at f offset : ℕ) → offset ≤ 2 ^ 64
+    → FindsOwed t m at (of_codes f offset []) → FindsReturn t m at
+returns_found t m at f offset le finds c size back others here o =
+    finds c size back others here (record {
+      kept = o.kept;
+      eight = o.eight;
+      room = o.room;
+      small = le;
+      allowed = refl;
+      stack = o.stack;
+      framed = tt;
+      unsaved = o.unsaved;
+    })

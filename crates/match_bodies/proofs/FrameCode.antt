@@ -1,25 +1,24 @@
 -- The code that makes a frame: by its size, and as the prologue of its plan.
-use Rattle.std.proofs.Common.{◌≡◌, ℕ, zero, suc, ◌++◌, sym, ◌+◌, ◌<◌, ◌≤◌, ◌==◌, Bool, true, false, not, leb, List, [], ◌∷◌, length, refl, ap, ◌∙◌, arith}
+use Rattle.std.proofs.Common.{◌≡◌, ℕ, ◌++◌, ◌+◌, ◌<◌, ◌≤◌, ◌==◌, Bool, true, false, not, List, [], ◌∷◌, length, refl, ap, ◌∙◌, arith}
 use Rattle.std.specs.Prelude.{nat_le}
 use Rattle.std.specs.List.{flat_map}
-use Rattle.std.proofs.lemmas.Bool.{ne_eqb, le-leb, lt-leb}
-use Rattle.match_bodies.specs.Words.{Instr, chosen, size, sizes, enter_code, enter_large, frame_code, LinearProgram, Functions, Funclet, ImagePlan, Sites, BodyName}
-use Rattle.eh_tables.specs.declared.code.UnwindCode.{UnwindCode}
+use Rattle.std.proofs.lemmas.Bool.{eqb-true, ne_eqb, le-leb, lt-leb}
+use Rattle.match_bodies.specs.Words.{Instr, chosen, size, sizes, enter_code, enter_large, frame_code}
 use Rattle.eh_tables.specs.declared.code.UnwindOperation.{UnwindOperation}
 use Rattle.eh_tables.specs.declared.code.UnwindOperation.TheVariants.{Allocate}
 use Rattle.x64_instr.specs.Registers.{register}
 use Rattle.x64_instr.specs.declared.instruction.Instr.TheVariants as instrs
-use Rattle.template_code.specs.Calls.{epilogue}
+use Rattle.template_code.specs.Frames.{frame_plan}
 use Rattle.template_code.specs.Jumps.{distance}
 use Rattle.frame_rules.specs.Bytes.{spell}
-use Rattle.frame_rules.specs.Codes.{are_allowed}
-use Rattle.frame_rules.specs.Plan as planned
-use Rattle.frame_rules.specs.Plan.{FramePlan, Saved, allocation_then, allocating, instructions_of, loads_then, opening_then, operations_of, pops_then, spelled_by, steps_of, turned}
-use Rattle.frame_rules.specs.Prologue.{bytes, items, codes_onto}
+use Rattle.frame_rules.specs.Codes.{are_allowed, depth, pushed}
+use Rattle.frame_rules.specs.Plan.{FramePlan, Saved, allocation_then, allocating, frame_then, instructions_of, load_of, loads_then, opening_then, operations_of, pops_then, saves_then, spelled_by, steps_of, turned}
+use Rattle.frame_rules.specs.Prologue.{bytes, items}
 use Rattle.frame_rules.proofs.Frames.{bytes-append}
+use Rattle.frame_rules.proofs.Sizes.{frame_has_its_size}
+use Rattle.match_stack.specs.Stack.{AreAbove}
 use Rattle.frame_layout.proofs.Sizes.{code_is}
-use Rattle.match_bodies.specs.CodeSites.{frame_plan, body_plan, epilogue_through, give_back}
-use Rattle.match_bodies.specs.ProgramImages.{IsPlanned}
+use Rattle.match_bodies.specs.CodeSites.{epilogue_through, give_back}
 use Rattle.match_bodies.proofs.Lemmas.{sizes_append}
 
 -- of at most a page
@@ -95,15 +94,6 @@ plan_probed n begin check = by (not (n == 0))
 
 -- ---- its epilogue
 
-abbrev epilogue_by : ℕ → ℕ → Bool → List Instr
-epilogue_by n probe none = loads_then [] (opening_then (frame_plan n probe) none
-    (pops_then [] (instrs.Return ∷ [])))
-
-pub planned_epilogue : (n probe : ℕ) → epilogue n ≡ planned.epilogue (frame_plan n probe)
-planned_epilogue zero probe = refl
-planned_epilogue (suc n) probe = sym (ap (epilogue_by (suc n) probe)
-    (ne_eqb (suc n) 0 (λ z. (let e : suc n ≡ 0 = z in absurd (omega arith)))))
-
 pops_sizes : (popped : List ℕ) (r : ℕ) → sizes (pops_then (popped ++ (r ∷ [])) [])
     ≡ sizes (pops_then popped []) + size (instrs.Pop (register r))
 pops_sizes [] r = omega arith
@@ -118,6 +108,18 @@ loads_sizes : (ss : List Saved) (is js : List Instr) (n : ℕ) → sizes is ≡ 
     → sizes (loads_then ss is) ≡ sizes (loads_then ss js) + n
 loads_sizes [] is js n e = e
 loads_sizes (s ∷ ss) is js n e = let r = loads_sizes ss is js n e in omega arith
+
+-- the loads come before what follows them
+pub loads_before : (ss : List Saved) (is : List Instr)
+    → sizes (loads_then ss is) ≡ sizes (loads_then ss []) + sizes is
+loads_before [] is = (let z : sizes is ≡ 0 + sizes is = omega arith in z)
+loads_before (s ∷ ss) is = let r = loads_before ss is in omega arith
+
+-- one load more
+pub loads_through : (done : List Saved) (s : Saved)
+    → sizes (loads_then (done ++ (s ∷ [])) []) ≡ sizes (loads_then done []) + size (load_of s)
+loads_through [] s = omega arith
+loads_through (x ∷ done) s = let r = loads_through done s in omega arith
 
 -- one pop more
 pub through_pop : (f : FramePlan) (popped : List ℕ) (r : ℕ)
@@ -135,37 +137,41 @@ through_opening n probe some = ap (λ none. opening_then (frame_plan n probe) no
 
 -- ---- its unwind codes
 
-abbrev codes_by : ℕ → ℕ → Bool → List UnwindCode
-codes_by probe n none = codes_onto [] (steps_of spell (frame_plan n probe) 0
-    (turned [] (allocation_then (not none) n [])))
+-- they lead up to its end
+pub plan_depth : (n probe : ℕ) → depth (operations_of (frame_plan n probe)) ≡ n
+plan_depth n probe = let e = frame_has_its_size (frame_plan n probe) in omega arith
 
-module _ (t : Functions) (fs : List Funclet) (program : LinearProgram) (p : ImagePlan)
-    (q : Sites) where
-  -- they are one allocation, and there is no frame register
-  pub record HasAllocation (name : BodyName) : Type 0 where
-    pub offset : ℕ
-    pub codes : (p.entry name).info.codes
-        ≡ record { offset = offset; operation = Allocate (p.layout name).frame } ∷ []
-    pub no_register : (p.entry name).info.frame_register ≡ 0
-    pub no_offset : (p.entry name).info.frame_offset ≡ 0
+above_pushes : (low base at : ℕ) (rs : List ℕ) → low ≤ at → AreAbove low base at (pushed rs)
+above_pushes low base at [] le = le
+above_pushes low base at (r ∷ rs) le = (le, above_pushes low base (at + 8) rs (omega arith))
 
-  abbrev end_of : BodyName → ℕ
-  end_of name = 0 + bytes (spelled_by spell (allocating (body_plan p q name).probe
-      (p.layout name).frame (leb (p.layout name).frame 4096)))
+above_allocation : (low base at n : ℕ) (none : Bool) (rs : List ℕ) → (n == 0) ≡ none
+    → low ≤ at + n → AreAbove low base at (allocation_then (not none) n (pushed rs))
+above_allocation low base at n true rs e le =
+    let z = eqb-true n 0 e in above_pushes low base at rs (omega arith)
+above_allocation low base at n false rs e le = above_pushes low base (at + n) rs le
 
-  codes_are : (name : BodyName) → 0 < (p.layout name).frame → IsPlanned t fs program p q name
-      → (p.entry name).info.codes
-      ≡ record { offset = end_of name; operation = Allocate (p.layout name).frame } ∷ []
-  codes_are name some h =
-      let n = (p.layout name).frame in
-      h.codes ∙ ap (codes_by (body_plan p q name).probe n) (ne_eqb n 0
-      (λ z. (let e : n ≡ 0 = z in absurd (omega arith))))
+above_framed : (low base at : ℕ) (b : Bool) (xs : List UnwindOperation) → AreAbove low base at xs
+    → AreAbove low base at (frame_then b xs)
+above_framed low base at true xs h = h
+above_framed low base at false xs h = h
 
-  pub allocation_alone : (name : BodyName) → 0 < (p.layout name).frame
-      → IsPlanned t fs program p q name → HasAllocation name
-  allocation_alone name some h = record {
-    offset = end_of name;
-    codes = codes_are name some h;
-    no_register = h.frame_register;
-    no_offset = h.frame_offset;
-  }
+-- the words of these saves are above an address
+abbrev pub AreSavedAbove : (low base : ℕ) → List Saved → Type 0
+AreSavedAbove low base [] = Unit {0}
+AreSavedAbove low base (s ∷ ss) = (low ≤ base + s.offset) × AreSavedAbove low base ss
+
+above_saves : (low base at : ℕ) (ss : List Saved) (xs : List UnwindOperation)
+    → AreSavedAbove low base ss → AreAbove low base at xs
+    → AreAbove low base at (saves_then ss xs)
+above_saves low base at [] xs a h = h
+above_saves low base at (s ∷ ss) xs a h = (a.0, above_saves low base at ss xs a.1 h)
+
+-- so are all that its codes tell of, where the allocation ends above it
+pub above_plan : (f : FramePlan) (low at : ℕ) → AreSavedAbove low at f.saves → low ≤ at + f.size
+    → AreAbove low at at (operations_of f)
+above_plan f low at saves le =
+    let xs = allocation_then (not (f.size == 0)) f.size (pushed f.pushes) in
+    above_saves low at at f.saves (frame_then (not (f.frame == 0)) xs) saves
+    (above_framed low at at (not (f.frame == 0)) xs
+    (above_allocation low at at f.size (f.size == 0) f.pushes refl le))

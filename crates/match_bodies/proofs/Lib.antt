@@ -18,6 +18,7 @@ pub mod ProbedAllocation
 pub mod PlannedPrologues
 pub mod FrameMaking
 pub mod EpilogueSteps
+pub mod LoadSteps
 pub mod CallKeeping
 pub mod EntryKeeping
 pub mod ReturnKeeping

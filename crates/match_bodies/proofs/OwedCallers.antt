@@ -1,15 +1,18 @@
 -- Codes that are still to be undone: what they rest on, and that a walk finds the caller by the
 -- return address at RSP where there are none.
 use Rattle.std.specs.Prelude.{slice_set}
-use Rattle.std.proofs.Common.{◌≡◌, ℕ, ◌+◌, ◌^◌, ◌<◌, ◌≤◌, Bool, false, Ok, List, [], ◌∷◌, length, drop, refl, sym, ap, subst, ◌∙◌, arith}
+use Rattle.std.proofs.Common.{◌≡◌, ℕ, ◌+◌, ◌^◌, ◌<◌, ◌≤◌, Bool, true, false, Ok, List, [], ◌∷◌, length, drop, refl, sym, ap, subst, ◌∙◌, arith}
 use Rattle.match_bodies.specs.Words.{Memory, Protection, with_bytes, Context, rsp, get, Functions, word, caller_above, caller_owed, HasCaller, FindsReturn, Owed, IsOwed, nothing_owed, owed_by, owed_of, ImagePlan, BodyName, StackFrame, IsAsTold}
 use Rattle.eh_tables.specs.Tables.{Entry}
+use Rattle.eh_tables.specs.Infos.{Info}
 use Rattle.eh_tables.specs.declared.code.UnwindOperation.{UnwindOperation}
 use Rattle.eh_tables.specs.declared.code.UnwindOperation.TheVariants.{Push, Allocate, SetFrame, Save, SaveVector, MachineFrame}
 use Rattle.frame_rules.specs.Codes.{depth}
 use Rattle.frame_rules.specs.Frame as rules
 use Rattle.match_stack.specs.Stack.{AreAbove, IsSavedAt}
 use Rattle.match_stack.proofs.FrameWords.{saved_low, saved_high, stack_same}
+use Rattle.virtual_unwind.specs.CallerOf.{base_if, sets_frame}
+use Rattle.frame_rules.proofs.Order.{Ordered, framed_above}
 use Rattle.frame_rules.proofs.Undoing.{stack_depth, return_word}
 use Rattle.match_bodies.proofs.Lemmas.{word-is, is_word, others_same, rest_numbers, eight_numbers}
 
@@ -63,6 +66,17 @@ owed_in m m' c o size back others protection bytes h =
       framed = h.framed;
       unsaved = h.unsaved;
     }
+
+-- ---- the base of the allocation
+
+-- where a frame register is set it leads to RSP
+pub base_is : (i : Info) (c : Context) (ops : List UnwindOperation) (b : Bool) → Ordered ops
+    → (b ≡ true → sets_frame ops ≡ true) → rsp c < 2 ^ 64 → i.frame_offset ≤ 2 ^ 64
+    → rules.Framed i.frame_register i.frame_offset (get c) (rsp c) ops → base_if i c b ≡ rsp c
+base_is i c ops false o sets high small h = refl
+base_is i c ops true o sets high small h =
+    let e = framed_above i.frame_register i.frame_offset (get c) (rsp c) ops o (sets refl) h in
+    omega arith
 
 -- ---- where the words are
 

@@ -8,7 +8,7 @@ use Rattle.linear_code.specs.declared.instruction.Instruction.TheVariants as ins
 use Rattle.match_bodies.proofs.Lemmas.{sizes_append, template_sizes, code_split, template_placed, frame_is_visited, leaf_is_visited}
 use Rattle.match_bodies.proofs.BodyFrames.{owed_framed, owed_frame}
 use Rattle.match_bodies.proofs.OwedCallers.{first_set, at_return}
-use Rattle.match_bodies.proofs.TemplateSizes.{template_some}
+use Rattle.match_bodies.proofs.TemplateSizes.{fetch_some, template_some}
 use Rattle.match_bodies.specs.Setting.{HasProgram}
 
 record First (code : List Instr) : Type 0 where
@@ -92,9 +92,10 @@ module _ (setting : Setting) where
         → FindsOwed t m (p.address name label) (owed_of p name)
     label_found label (instructions.Return from) at =
         let z : p.address name label + 0 ≡ p.address name label = omega arith in
+        let y = p.layout name in
+        let f = first_of (fetch y Rax from) (fetch_some y Rax from) in
         subst (λ a. FindsOwed t m a (owed_of p name)) z
-        ((image.callers name b is).returns m label from [] (fetch (p.layout name) Rax from) has at
-        refl)
+        ((image.callers name b is).returns m label from [] f.left f.item has at f.parts)
     label_found label i at =
         let y = p.layout name in
         let k = links_of p q name in

@@ -269,9 +269,13 @@ module _ (t : Functions) (fs : List Funclet) where
         (word_loads s.memory (register s.cpu Rsp) back ends.returns)
         (effect_here s u instrs.Return more refl code st.steps)
 
+    -- the caller has its registers again
+    pub returned_others : others_of u.cpu.registers ≡ others
+    returned_others = returned.others ∙ ends.others_are
+
     pub returned_context : context_of u.cpu ≡ above
     returned_context = context_is u back (top + 8) others returned.rip returned.stack
-        (returned.others ∙ ends.others_are)
+        returned_others
 
     pub list_after : IsStack t u.memory above is
     list_after = subst (λ (m : Memory). IsStack t m above is) (sym returned.memory) b.above.list

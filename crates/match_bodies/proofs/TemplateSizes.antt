@@ -1,9 +1,11 @@
 -- Where an instruction begins, RIP is in its code: each template has a byte at least.
 use Rattle.std.proofs.Common.{◌≡◌, ℕ, suc, ◌+◌, ◌*◌, ◌%◌, ◌<◌, ◌≤◌, List, ◌++◌, length, get_or, Option, Some, None, ap, ◌∙◌, arith, length-append}
-use Rattle.match_bodies.specs.Words.{Width, Reg, Rax, Rcx, Rsp, RegisterOrMemory, Functions, Funclet, Slot, Local, Temporary, Instruction, LinearProgram, LinearBody, BodyName, body_of, Layout, size, sizes, before, fetched, local_at, fetch_local, keep_local, fetch, keep, operands_code, finish_code, epilogue, template_size, ImagePlan, InCode, Sites, IsProgramImage, prefixes, modrm_bits, opcode_bytes, place_bytes, modrm, put_back, finally_arguments}
+use Rattle.match_bodies.specs.Words.{Width, Reg, Rax, Rcx, Rsp, RegisterOrMemory, Functions, Funclet, Slot, Local, Temporary, Instruction, LinearProgram, LinearBody, BodyName, body_of, Layout, size, sizes, before, fetched, local_at, fetch_local, keep_local, fetch, keep, operands_code, finish_code, template_size, ImagePlan, InCode, Sites, IsProgramImage, prefixes, modrm_bits, opcode_bytes, place_bytes, modrm, put_back, finally_arguments}
 use Rattle.x64_encode.specs.declared.writing.Opcode.{Opcode}
 use Rattle.x64_encode.specs.declared.writing.Opcode.TheVariants as opcodes
 use Rattle.linear_code.specs.declared.instruction.Instruction.TheVariants as instructions
+use Rattle.frame_rules.specs.Plan.{epilogue}
+use Rattle.template_code.specs.Frames.{plan_of_layout}
 use Rattle.match_bodies.proofs.Lemmas.{sizes_append, call_size, jump_size, jump_if_zero_size, call_code_size, passing_call_size, offset_next}
 
 -- ---- bytes
@@ -37,7 +39,7 @@ fetch_local_some : (o : Option ℕ) (r : Reg) (d : ℕ) → 1 ≤ sizes (fetch_l
 fetch_local_some None r d = let e = fetched_some r Rsp d in omega arith
 fetch_local_some (Some b) r d = let e = fetched_some r Rsp b in omega arith
 
-fetch_some : (y : Layout) (r : Reg) (x : Slot) → 1 ≤ sizes (fetch y r x)
+pub fetch_some : (y : Layout) (r : Reg) (x : Slot) → 1 ≤ sizes (fetch y r x)
 fetch_some y r (Temporary i) = let e = fetched_some r Rsp (y.temporaries + 8 * i) in omega arith
 fetch_some y r (Local i) = fetch_local_some y.base r (local_at y i)
 
@@ -76,7 +78,7 @@ template_some y (instructions.CallFinally funclet) = let a = call_size
 template_some y (instructions.LocalUnwind label) = let a = call_size 15 0 in omega arith
 template_some y instructions.Separator = omega arith
 template_some y (instructions.Return from) = omega
-    (arith, fetch_some y Rax from, sizes_append (fetch y Rax from) (epilogue y.frame))
+    (arith, fetch_some y Rax from, sizes_append (fetch y Rax from) (epilogue (plan_of_layout y 0)))
 
 module _ (t : Functions) (fs : List Funclet) (program : LinearProgram) (p : ImagePlan) (q : Sites)
     (image : IsProgramImage t fs program p q) where

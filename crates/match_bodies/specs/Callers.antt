@@ -8,7 +8,7 @@ use Rattle.eh_tables.specs.Infos.{Info}
 use Rattle.virtual_unwind.specs.Contexts.{get, rsp}
 use Rattle.frame_rules.specs.Codes.{are_allowed, pushed}
 use Rattle.frame_rules.specs.Frame as rules
-use Rattle.frame_rules.specs.Plan.{FramePlan}
+use Rattle.frame_rules.specs.Plan.{FramePlan, operations_of}
 use Rattle.virtual_unwind.specs.CallerOf.{Functions, CallerFrame, run_by}
 use Rattle.virtual_unwind.specs.Undone.{operations}
 use Rattle.linear_machine.specs.Frames.{BodyName}
@@ -96,7 +96,16 @@ owed_after i d =
       codes = operations (run_by d i.codes);
     }
 
--- in an epilogue, the pushes of the registers that are still to be popped
+-- where an epilogue has loaded the saved registers, all codes but their saves
+abbrev pub owed_opening : FramePlan → Owed
+owed_opening f =
+    record {
+      register = f.frame;
+      offset = f.distance;
+      codes = operations_of (record f { saves = [] });
+    }
+
+-- past that, the pushes of the registers that are still to be popped
 abbrev pub owed_pops : FramePlan → List ℕ → Owed
 owed_pops f left = record { register = f.frame; offset = f.distance; codes = pushed left }
 

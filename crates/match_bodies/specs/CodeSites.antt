@@ -17,6 +17,7 @@ use Rattle.template_code.specs.declared.layout.Layout.{Layout}
 use Rattle.template_code.specs.Bytes.{sizes}
 use Rattle.template_code.specs.Operations.{move}
 use Rattle.template_code.specs.Slots.{keep}
+use Rattle.template_code.specs.Frames.{frame_plan, plan_of_layout}
 use Rattle.template_code.specs.Calls as calls
 use Rattle.template_code.specs.Calls.{keep_register, parameters_code}
 use Rattle.template_code.specs.Jumps.{distance}
@@ -52,12 +53,6 @@ begin_of p q (FuncletBody k) = p.funclet k
 
 -- ---- what comes before the first instruction
 
--- a frame that saves nothing and has no frame register, as a frame of the rules, with the
--- displacement of the call of `__chkstk`
-abbrev pub frame_plan : ℕ → ℕ → FramePlan
-frame_plan size probe =
-    record { pushes = []; size = size; frame = 0; distance = 0; saves = []; probe = probe }
-
 -- the code that makes a frame is its prologue, in which the call ends ten bytes from the begin; a
 -- leaf function has none
 abbrev pub frame_code : ℕ → ℕ → ℕ → Bool → List Instr
@@ -67,7 +62,7 @@ frame_code size at check false = prologue_code (frame_plan size (distance (at + 
 -- the plan of a body's frame
 abbrev pub body_plan : ImagePlan → Sites → BodyName → FramePlan
 body_plan p q name =
-    frame_plan (p.layout name).frame (distance (begin_of p q name + 10) q.check_stack)
+    plan_of_layout (p.layout name) (distance (begin_of p q name + 10) q.check_stack)
 
 -- how many bytes that takes
 abbrev pub making_size : ImagePlan → Sites → BodyName → ℕ

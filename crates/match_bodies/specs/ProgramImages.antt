@@ -32,7 +32,7 @@ use Rattle.linear_code.specs.Program.{LinearProgram, LinearBody, LinearFunclet}
 use Rattle.linear_machine.specs.Frames.{BodyName, body_of, Frame, Resumption, AfterCall, SameOperation}
 use Rattle.linear_machine.specs.Run.{instruction_in}
 use Rattle.linear_machine.specs.BuiltInCalls.{CallsBuiltIn}
-use Rattle.template_code.specs.Bytes.{size, sizes}
+use Rattle.template_code.specs.Bytes.{sizes}
 use Rattle.template_code.specs.Slots.{fetch, operands_code}
 use Rattle.template_code.specs.Calls.{return_at}
 use Rattle.template_code.specs.Probing.{check_stack}
@@ -51,9 +51,10 @@ use Rattle.seh_walk.specs.Walk.{filter_return, finally_return}
 use Rattle.seh_walk.specs.Controls.{number_at}
 use Rattle.frame_rules.specs.Bytes.{spell}
 use Rattle.frame_rules.specs.Plan as rules
+use Rattle.frame_rules.specs.Plan.{Saved}
 use Rattle.match_bodies.specs.CodeSites.{Sites, body_plan, links_of, begin_of, making_size, epilogue_through, arguments_code, entry_code, code_of}
 use Rattle.match_bodies.specs.Layouts.{AreLaidOut}
-use Rattle.match_bodies.specs.Callers.{FindsReturn, FindsOwed, owed_after, owed_of, owed_pops}
+use Rattle.match_bodies.specs.Callers.{FindsReturn, FindsOwed, owed_after, owed_of, owed_opening, owed_pops}
 
 -- the service of a built-in function
 abbrev pub service_of : BuiltIn → Service
@@ -234,9 +235,16 @@ module _ (t : Functions) (fs : List Funclet) (program : LinearProgram) (p : Imag
 
   -- ---- where a walk finds callers
 
+  -- where a return has fetched its result, past these loads of saved registers
+  abbrev pub loaded_at : BodyName → (label : ℕ) → Slot → List Saved → ℕ
+  loaded_at name label from loaded =
+      p.address name label + sizes (fetch (p.layout name) Rax from)
+      + sizes (rules.loads_then loaded [])
+
   -- at a routine's first byte the return address is at RSP; while its frame is made the codes of
-  -- the instructions that have been run are still to be undone, in it all codes; and once it is
-  -- given back the pushes of registers that are still to be popped
+  -- the instructions that have been run are still to be undone, in it all codes; once an epilogue
+  -- has loaded the saved registers all but their saves; and once the frame is given back the pushes
+  -- of registers that are still to be popped
   pub record FindsCallers (name : BodyName) (b : LinearBody) : Type 0 where
     pub entries : (m : Memory) → (p.leaf name ≡ true → 0 < length b.code)
         → FindsReturn t m (begin_of p q name)
@@ -247,10 +255,25 @@ module _ (t : Functions) (fs : List Funclet) (program : LinearProgram) (p : Imag
         → HasProgram m → arguments_code program p name ≡ done ++ (item ∷ left)
         → FindsOwed t m (begin_of p q name + making_size p q name + sizes done) (owed_of p name)
     pub returns :
-        (m : Memory) (label : ℕ) (from : Slot) (done left : List Instr)
+        (m : Memory) (label : ℕ) (from : Slot) (done left : List Instr) (item : Instr)
         → HasProgram m → slice_get b.code label ≡ Some (instructions.Return from)
-        → fetch (p.layout name) Rax from ≡ done ++ left
+        → fetch (p.layout name) Rax from ≡ done ++ (item ∷ left)
         → FindsOwed t m (p.address name label + sizes done) (owed_of p name)
+    pub leaf_ends :
+        (m : Memory) (label : ℕ) (from : Slot)
+        → HasProgram m → slice_get b.code label ≡ Some (instructions.Return from)
+        → p.leaf name ≡ true → FindsReturn t m (loaded_at name label from [])
+    pub loads :
+        (m : Memory) (label : ℕ) (from : Slot) (loaded left : List Saved) (next : Saved)
+        → HasProgram m → slice_get b.code label ≡ Some (instructions.Return from)
+        → p.leaf name ≡ false → (body_plan p q name).saves ≡ loaded ++ (next ∷ left)
+        → FindsOwed t m (loaded_at name label from loaded) (owed_of p name)
+    pub opens :
+        (m : Memory) (label : ℕ) (from : Slot)
+        → HasProgram m → slice_get b.code label ≡ Some (instructions.Return from)
+        → p.leaf name ≡ false
+        → FindsOwed t m (loaded_at name label from (body_plan p q name).saves)
+        (owed_opening (body_plan p q name))
     pub ends :
         (m : Memory) (label : ℕ) (from : Slot) (popped left : List ℕ)
         → HasProgram m → slice_get b.code label ≡ Some (instructions.Return from)

@@ -41,7 +41,7 @@ pub use Rattle.x64_machine.specs.Effect.{State, register, with_rip, effect, Answ
 pub use Rattle.x64_machine.specs.declared.context.Context.{Context}
 pub use Rattle.template_code.specs.Bytes.{sizes, thunk, spelled}
 unfoldable pub use Rattle.template_code.specs.Bytes.{size}
-pub use Rattle.template_code.specs.Calls.{keep_register, enter_code, epilogue, parameter_register, stack_parameter, parameter_code, parameters_code, passing_code, return_code, information_code, finally_arguments}
+pub use Rattle.template_code.specs.Calls.{keep_register, enter_code, parameter_register, stack_parameter, parameter_code, parameters_code, passing_code, return_code, information_code, finally_arguments}
 pub use Rattle.template_code.specs.Jumps.{IsNear, call, test_code}
 pub use Rattle.template_code.specs.Operations.{before, above, work}
 pub use Rattle.template_code.specs.Probing.{check_stack, first_touch, enter_large}
@@ -72,7 +72,6 @@ pub use Rattle.match_stack.specs.ImagePlan.{ImagePlan, InCode, IsGiven}
 pub use Rattle.match_stack.specs.ItemMatches.{Activation, IsActivation, locals_of, activations_below, HoldsWords, IsInPlace, HoldsPlaces, HasActivation, HoldsLocals, ActivationHasBase, home_end, Linked, temporaries_end, HasPointers, IsAbove, HasSpace, below_end, BodyWaits, FuncletIsAbove, record_room, FrameWaits, LeafWaits}
 pub use Rattle.match_stack.specs.ListLaws.{IsLinkedStack, KeepsStack}
 pub use Rattle.match_stack.specs.PlainWalks.{state, decided_or, plain_unwind}
-pub use Rattle.match_stack.specs.AllocatedFrames.{IsAllocated}
 pub use Rattle.match_stack.specs.Stack.{IsAsTold, StackItem, Framed, Leaf, Searching, Unwinding, IsStack, after_frame, after_leaf, StackFrame, FrameIsAt, ItemIsAt, OwnedBy, context_after, LeafIsAt, Owned, caller_frame, caller_of_leaf, Agree}
 pub use Rattle.match_stack.specs.StackRecords.{On, IsData}
 pub use Rattle.match_stack.specs.WalkLaws.{context_below}

@@ -1,13 +1,15 @@
 -- A body returns: RAX has the number of its slot, and RIP and RSP are those of its return address.
-use Rattle.match_turns.proofs.KeptRegisters.{kept_moved}
-use Rattle.std.proofs.Common.{◌≡◌, ℕ, zero, suc, ◌+◌, ◌^◌, ◌<◌, ◌≤◌, true, Option, Some, None, List, ◌∷◌, length, refl, sym, ap, subst, ◌∙◌, arith, length-append}
+use Rattle.std.proofs.Common.{◌≡◌, ℕ, ◌+◌, ◌^◌, ◌<◌, ◌≤◌, ◌==◌, Bool, true, false, Option, Some, None, ◌∷◌, length, refl, sym, subst, ◌∙◌, arith, length-append}
 use Rattle.std.specs.Prelude.{slice_get}
 use Rattle.std.proofs.lemmas.List.{length-drop}
-use Rattle.match_turns.specs.Words.{kept_of, context_of, Rax, Rsp, State, register, Slot, Local, Temporary, IsSlot, Configuration, read, Layout, return_code, epilogue, fetch, local_at, fetch_local, MachineView, machine, HasBack, with_sp, moved, Returned, HaveRoom, IsWellFormed, AllKeep, counts_of, owed_of, Setting, RepresentsAt}
+use Rattle.match_turns.specs.Words.{kept_of, context_of, Rax, Rsp, State, register, Slot, Local, Temporary, IsSlot, Configuration, read, Layout, return_code, fetch, local_at, fetch_local, MachineView, machine, HasBack, with_sp, moved, Returned, HaveRoom, IsWellFormed, AllKeep, counts_of, owed_of, Setting, RepresentsAt}
+use Rattle.frame_rules.specs.Plan.{epilogue}
+use Rattle.template_code.specs.Frames.{plan_of_layout}
+use Rattle.template_code.proofs.Frames.{ending_by}
 use Rattle.x64_templates.specs.Runs.{Reaches}
 use Rattle.linear_code.specs.declared.instruction.Instruction.TheVariants as instructions
-use Rattle.match_turns.proofs.Lemmas.{body_return, body_owed, owed_return, number_small, fetch_fine, sp_moved, return_run, reaches_steps, may_read_written, word_is, reaches_keeps, stays_well_formed, IsCounted, sp_low, frame_top, room_here, holds_here, slots_here, v, frame, slots, same_state, template_here, has_slots, sp_is, index_of}
-use Rattle.match_bodies.proofs.ReturnKeeping.{fetch_plain, returns_keep}
+use Rattle.match_turns.proofs.Lemmas.{body_owed, owed_return, number_small, fetch_fine, sp_moved, return_run, reaches_steps, may_read_written, word_is, reaches_keeps, stays_well_formed, IsCounted, sp_low, frame_top, room_here, holds_here, slots_here, v, frame, slots, same_state, template_here, has_slots, sp_is, index_of}
+use Rattle.match_bodies.proofs.ReturnKeeping.{LeavesBody, fetch_plain, returns_leave}
 use Rattle.match_turns.proofs.ReturnAddressPlace.{top_of, begins_beneath}
 
 -- ---- how long a return takes
@@ -20,17 +22,19 @@ fetched_soon : (y : Layout) (x : Slot) → length (fetch y Rax x) ≤ 2
 fetched_soon y (Temporary i) = omega arith
 fetched_soon y (Local i) = fetched_by y.base (local_at y i)
 
-ends_soon : (n : ℕ) → (1 ≤ length (epilogue n)) × (length (epilogue n) ≤ 2)
-ends_soon zero = (omega arith, omega arith)
-ends_soon (suc n) = (omega arith, omega arith)
+ends_soon : (n : ℕ) (none : Bool) → (1 ≤ length (ending_by n 0 none))
+    × (length (ending_by n 0 none) ≤ 2)
+ends_soon n true = (omega arith, omega arith)
+ends_soon n false = (omega arith, omega arith)
 
 pub returns_soon : (y : Layout) (x : Slot) → (1 ≤ length (return_code y x))
     × (length (return_code y x) ≤ 4)
 returns_soon y x =
-    let n = length-append (fetch y Rax x) (epilogue y.frame) in
+    let n = length-append (fetch y Rax x) (epilogue (plan_of_layout y 0)) in
     let a = fetched_soon y x in
-    let b = (ends_soon y.frame).0 in
-    let c = (ends_soon y.frame).1 in
+    let ends = ends_soon y.frame (y.frame == 0) in
+    let b = ends.0 in
+    let c = ends.1 in
     (omega arith, omega arith)
 
 module _ (setting : Setting) (roomy : HaveRoom setting.program) where
@@ -120,26 +124,26 @@ module _ (setting : Setting) (roomy : HaveRoom setting.program) where
         ∙ sp_moved view (sp + layout.frame + 8)
         (length-drop 3 s.cpu.registers ∙ (let z = b.well_formed.count in omega arith))
 
-    -- the caller has its registers again
-    pub registers_after : kept_of after.cpu.registers ≡ (sp + layout.frame + 8) ∷ b.body.others
-    registers_after = kept_moved s.cpu.registers (sp + layout.frame + 8) sp_after
-        ∙ ap (λ (os : List ℕ). (sp + layout.frame + 8) ∷ os)
-        (body_return setting s c b.body).others_are
-
     pub well_formed_after : IsWellFormed after
     well_formed_after = stays_well_formed s after (reaches_keeps n s after reaches) has_back.small
         b.well_formed
 
-    -- each of its turns keeps the shadow
-    pub keeps : AllKeep t fs n s
-    keeps =
+    -- each of its turns keeps the shadow, and the caller has its registers again
+    pub leaves : LeavesBody t fs b.body.others after n s
+    leaves =
         let top = frame_top setting s c b counted in
         let low = sp_low setting s c b counted in
         let f = frame setting roomy s c b counted in
-        returns_keep setting c.frame.body b.body.slots.code b.body.slots.body c.frame.next from at s
+        returns_leave setting c.frame.body b.body.slots.code b.body.slots.body c.frame.next from at s
         after (top_of setting s c b counted) b.body.back b.body.others b.body.is b.rip
         (begins_beneath setting s c b counted) refl b.memory.code (omega arith)
         (fetch_plain layout.frame layout.frame 8 layout from
         (fetch_fine f.layout f.counts f.sp f.base true from
         (room_here setting s c b counted) is_there)) (reaches_steps n s after reaches) b.body.small
         (omega arith)
+
+    pub keeps : AllKeep t fs n s
+    keeps = leaves.keeps
+
+    pub registers_after : kept_of after.cpu.registers ≡ (sp + layout.frame + 8) ∷ b.body.others
+    registers_after = λ i. sp_after i ∷ leaves.others_are i

@@ -1,5 +1,4 @@
 -- A function returns: to the body that waits for it, or out of `main`.
-use Rattle.match_turns.proofs.KeptRegisters.{kept_moved}
 use Rattle.std.proofs.Common.{◌≡◌, ◌≢◌, ℕ, ◌+◌, ◌<◌, Some, None, List, [], ◌∷◌, length, refl, sym, ap, subst, ◌∙◌, arith, length-append}
 use Rattle.std.specs.Prelude.{get_or, slice_get}
 use Rattle.std.proofs.lemmas.List.{append-nil, length-drop}
@@ -9,7 +8,7 @@ use Rattle.x64_templates.specs.Runs.{Reaches}
 use Rattle.linear_code.specs.declared.instruction.Instruction.TheVariants as instructions
 use Rattle.linear_code.specs.declared.program.FuncletKind.TheVariants as kinds
 use Rattle.source_meaning.specs.declared.ended.Ended.TheVariants as ends
-use Rattle.match_turns.proofs.Lemmas.{body_return, reaches_then, sp_moved, keep_then, reaches_silently, reaches_keeps, stays_well_formed, IsCounted, v, slots, same_state, index_of}
+use Rattle.match_turns.proofs.Lemmas.{others_of, reaches_then, sp_moved, keep_then, reaches_silently, reaches_keeps, stays_well_formed, IsCounted, v, slots, same_state, index_of}
 use Rattle.match_stack.proofs.UnwindTargets.{left_activations}
 use Rattle.match_turns.proofs.CallResult.{IsSurrounded, answered}
 use Rattle.match_turns.proofs.CallReturn.{returns_at, resumes}
@@ -70,10 +69,14 @@ module _ (setting : Setting) (roomy : HaveRoom setting.program) where
         ∙ sp_moved view (sp + layout.frame + 8)
         (length-drop 3 s.cpu.registers ∙ (let k = b.well_formed.count in omega arith))
 
+    others_after : others_of after.cpu.registers ≡ b.body.others
+    others_after = subst (λ r. others_of (machine (moved (after_view r) (sp + layout.frame + 8)) back
+        run.flags).cpu.registers ≡ b.body.others)
+        (leaving.result_is setting roomy s c b counted from at x reads)
+        (leaving.leaves setting roomy s c b counted from at).others_are
+
     registers_after : kept_of after.cpu.registers ≡ (sp + layout.frame + 8) ∷ b.body.others
-    registers_after = kept_moved s.cpu.registers (sp + layout.frame + 8) sp_after
-        ∙ ap (λ (os : List ℕ). (sp + layout.frame + 8) ∷ os)
-        (body_return setting s c b.body).others_are
+    registers_after = λ i. sp_after i ∷ others_after i
 
     well_formed_after : IsWellFormed after
     well_formed_after = stays_well_formed s after (reaches_keeps n s after reaches) has_back.small

@@ -59,7 +59,7 @@ pub use Rattle.x64_machine.specs.declared.cpu.Cpu.{Cpu}
 pub use Rattle.x64_machine.specs.declared.cpu.Flags.{Flags}
 pub use Rattle.template_code.specs.Bytes.{sizes, spelled}
 unfoldable pub use Rattle.template_code.specs.Bytes.{size}
-pub use Rattle.template_code.specs.Calls.{return_code, epilogue, return_at, begin_call, call_code, clear_result, call_built_in_code, arguments_code, passing_code, parameters_code, passing_call_code, keep_register, information_code, field_at, finally_arguments, enter_code, keep_parents_base, stack_parameter, parameter_code, address_to, local_unwind_code}
+pub use Rattle.template_code.specs.Calls.{return_code, return_at, begin_call, call_code, clear_result, call_built_in_code, arguments_code, passing_code, parameters_code, passing_call_code, keep_register, information_code, field_at, finally_arguments, enter_code, keep_parents_base, stack_parameter, parameter_code, address_to, local_unwind_code}
 pub use Rattle.template_code.specs.Jumps.{IsNear, call}
 pub use Rattle.template_code.specs.Operations.{move, work, before}
 pub use Rattle.template_code.specs.Probing.{check_stack, enter_large}

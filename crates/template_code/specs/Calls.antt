@@ -13,11 +13,13 @@ use Rattle.linear_code.specs.declared.slot.Slot.{Slot}
 use Rattle.linear_code.specs.declared.slot.Slot.TheVariants.{Temporary}
 use Rattle.c_operations.specs.declared.field.Field.{Field}
 use Rattle.c_operations.specs.declared.field.Field.TheVariants.{ExceptionCode, ExceptionFlags, NumberParameters, ExceptionInformation}
+use Rattle.frame_rules.specs.Plan.{epilogue}
 use Rattle.template_code.specs.declared.layout.Layout.{Layout}
 use Rattle.template_code.specs.Bytes.{sizes}
 use Rattle.template_code.specs.Operations.{above, move}
 use Rattle.template_code.specs.Slots.{fetched, temporary_at, local_at, fetch, keep}
 use Rattle.template_code.specs.Jumps.{distance, call}
+use Rattle.template_code.specs.Frames.{plan_of_layout}
 
 -- a register to its place above RSP
 abbrev pub keep_register : Reg → ℕ → Instr
@@ -93,15 +95,9 @@ abbrev pub enter_code : ℕ → List Instr
 enter_code frame =
     instrs.Arithmetic arithmetic.Sub W64 (places.Register Rsp) (operands.Immediate frame) ∷ []
 
--- a frame of no bytes isn't given back
-abbrev pub epilogue : ℕ → List Instr
-epilogue zero = instrs.Return ∷ []
-epilogue (suc n) =
-    instrs.Arithmetic arithmetic.Add W64 (places.Register Rsp) (operands.Immediate (suc n))
-    ∷ instrs.Return ∷ []
-
+-- the result goes to RAX, and the epilogue of the frame leaves the body
 abbrev pub return_code : Layout → Slot → List Instr
-return_code y from = fetch y Rax from ++ epilogue y.frame
+return_code y from = fetch y Rax from ++ epilogue (plan_of_layout y 0)
 
 -- ---- what a filter reads
 

@@ -2,6 +2,7 @@ pub mod Bytes
 pub mod Operations
 pub mod Slots
 pub mod Jumps
+pub mod Frames
 pub mod Calls
 pub mod Probing
 pub mod Template

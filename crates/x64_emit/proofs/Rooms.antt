@@ -2,8 +2,11 @@
 use Rattle.std.proofs.Common.{ℕ, zero, suc, ◌+◌, ◌-◌, ◌*◌, ◌≤◌, Bool, true, false, cond, List, [], ◌∷◌, ◌++◌, length, Option, Some, None, arith, length-append}
 use Rattle.std.specs.Prelude.{◌==◌, ◌%◌}
 use Rattle.seh_num.specs.declared.width.Width.{Width}
-use Rattle.x64_emit.specs.Words.{W8, W16, W32, W64, Rax, Rcx, Rdx, Rsp, R8, R9, little, is_signed, has_rex, prefixes, mode, displacement, sib, at_register, place_bytes, modrm_bits, modrm, opcode_register, Slot, Local, Temporary, Instruction, Layout, size, sizes, local_at, temporary_at, fetched, fetch_local, keep_local, fetch, keep, operands_code, finish_code, compute_code, compare_zero, field_load, epilogue, passing_code, arguments_code, call_code, clear_result, call_finally_code, local_unwind_code, template_size, slot_room, instruction_room}
+use Rattle.x64_emit.specs.Words.{W8, W16, W32, W64, Rax, Rcx, Rdx, Rsp, R8, R9, little, is_signed, has_rex, prefixes, mode, displacement, sib, at_register, place_bytes, modrm_bits, modrm, opcode_register, Slot, Local, Temporary, Instruction, Layout, size, sizes, local_at, temporary_at, fetched, fetch_local, keep_local, fetch, keep, operands_code, finish_code, compute_code, compare_zero, field_load, passing_code, arguments_code, call_code, clear_result, call_finally_code, local_unwind_code, template_size, slot_room, instruction_room}
 use Rattle.seh_num.specs.Widths.{low}
+use Rattle.frame_rules.specs.Plan.{epilogue}
+use Rattle.template_code.specs.Frames.{plan_of_layout}
+use Rattle.template_code.proofs.Frames.{ending_by}
 use Rattle.x64_instr.specs.declared.register.Reg.{Reg}
 use Rattle.x64_instr.specs.declared.operand.RegisterOrMemory.TheVariants as places
 use Rattle.x64_instr.specs.declared.operand.Operand.TheVariants as operands
@@ -197,10 +200,10 @@ unfolding modrm
 epilogue_by true n = omega arith
 epilogue_by false n = omega arith
 
-epilogue_size : (n : ℕ) → sizes (epilogue n) ≤ 8
+ending_size : (n : ℕ) (none : Bool) → sizes (ending_by n 0 none) ≤ 8
 unfolding size
-epilogue_size zero = omega arith
-epilogue_size (suc n) = let e = epilogue_by (is_signed W8 W64 (suc n)) (suc n) in omega arith
+ending_size n true = omega arith
+ending_size n false = let e = epilogue_by (is_signed W8 W64 n) n in omega arith
 
 passing_size : (y : Layout) (first i n : ℕ) → sizes (passing_code y first i n) ≤ 16 * n
 passing_size y first i zero = omega arith
@@ -274,5 +277,5 @@ template_in_room y (instructions.LocalUnwind label) few = unwind_size 0 0 0
 template_in_room y instructions.Separator few = let e = nothing_size in omega arith
 template_in_room y (instructions.Return from) few =
     let a = fetch_size y Rax from in
-    let e = epilogue_size y.frame in
-    omega (arith, sizes_append (fetch y Rax from) (epilogue y.frame))
+    let e = ending_size y.frame (y.frame == 0) in
+    omega (arith, sizes_append (fetch y Rax from) (epilogue (plan_of_layout y 0)))

@@ -9,7 +9,7 @@ pub use Rattle.x64_encode.specs.Chosen.{chosen, is_signed, little, has_rex, pref
 unfoldable pub use Rattle.x64_encode.specs.Chosen.{modrm, opcode_register}
 pub use Rattle.template_code.specs.Bytes.{spelled, sizes}
 unfoldable pub use Rattle.template_code.specs.Bytes.{size}
-pub use Rattle.template_code.specs.Calls.{keep_register, arguments_code, passing_code, parameter_code, parameters_code, field_load, epilogue, call_code, clear_result, call_finally_code, local_unwind_code, finally_arguments}
+pub use Rattle.template_code.specs.Calls.{keep_register, arguments_code, passing_code, parameter_code, parameters_code, field_load, call_code, clear_result, call_finally_code, local_unwind_code, finally_arguments}
 pub use Rattle.template_code.specs.Jumps.{distance, compare_zero, test_code, call, jump_equal}
 pub use Rattle.template_code.specs.Slots.{temporary_at, fetched, fetch, local_at, fetch_local, keep_local, keep, operands_code, finish_code, compute_code}
 pub use Rattle.template_code.specs.Template.{Links, template, body_size, code_from}

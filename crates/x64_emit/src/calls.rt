@@ -4,7 +4,9 @@ ghost use Rattle.std.specs.Prelude.{◌≡◌, ◌+◌, ◌-◌, ◌<◌, ◌++�
 ghost use Rattle.x64_emit.specs.Near.{near_end, IsNear, IsSlotNear, AreArgumentsNear, IsFrameNear, IsFieldNear, ArePointersNear};
 ghost use Rattle.x64_encode.specs.Chosen.{IsEncodable};
 ghost use Rattle.linear_code.specs.declared.slot.Slot.TheVariants as slots;
+ghost use Rattle.frame_rules.specs.Plan as rules;
 ghost use Rattle.template_code.specs.Calls as spec;
+ghost use Rattle.template_code.specs.Frames.{frame_plan};
 ghost use Rattle.template_code.specs.Jumps as jumps;
 ghost use Rattle.template_code.specs.Operations as operations;
 ghost use Rattle.template_code.specs.Bytes.{spelled};
@@ -259,7 +261,7 @@ pub fn put_local_unwind(
 /// Adds what gives back a frame, if there is one, and returns.
 fn put_epilogue(code: &mut Vec<u8>, frame: u64) -> Result<(), AllocError>
     requires { IsNear frame }
-    ensures { OnOk result (Appended code.old (spec.epilogue frame) code.new) }
+    ensures { OnOk result (Appended code.old (rules.epilogue (frame_plan frame 0)) code.new) }
 {
     if frame == 0 {
         return put(code, &Instr::Return);

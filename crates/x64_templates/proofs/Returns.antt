@@ -1,7 +1,11 @@
 -- A body is entered and left, and its caller's slots outlast a call.
-use Rattle.std.proofs.Common.{◌≡◌, ℕ, zero, suc, ◌+◌, ◌-◌, ◌%◌, ◌^◌, ◌<◌, ◌≤◌, Bool, true, List, [], ◌∷◌, length, Ok, refl, sym, ap, subst, ◌∙◌, arith, get_or-set_same, length-append}
+use Rattle.std.proofs.Common.{◌≡◌, ℕ, ◌+◌, ◌-◌, ◌%◌, ◌^◌, ◌<◌, ◌≤◌, ◌==◌, Bool, true, false, List, [], ◌∷◌, length, Ok, refl, sym, ap, subst, ◌∙◌, arith, get_or-set_same, length-append}
+use Rattle.std.proofs.lemmas.Bool.{eqb-true}
 use Rattle.std.proofs.lemmas.List.{set-set}
-use Rattle.x64_templates.specs.Words.{W64, low, Memory, may_read, Rax, Rsp, Flags, added, subtracted, ◌>>=◌, State, Answer, with_rip, load, effect, Slot, BodyState, with_slot, MachineView, machine, size, sizes, fetch, keep, enter_code, sp_of, HasBack, moved, Enters, Reaches, HasCode, FramePlace, Roomy, FrameHolds, IsThere, ReachesBody, epilogue, return_code, Returned}
+use Rattle.frame_rules.specs.Plan.{epilogue}
+use Rattle.template_code.specs.Frames.{plan_of_layout}
+use Rattle.template_code.proofs.Frames.{ending_by}
+use Rattle.x64_templates.specs.Words.{W64, low, Memory, may_read, Rax, Rsp, Flags, added, subtracted, ◌>>=◌, State, Answer, with_rip, load, effect, Slot, BodyState, with_slot, MachineView, machine, size, sizes, fetch, keep, enter_code, sp_of, HasBack, moved, Enters, Reaches, HasCode, FramePlace, Roomy, FrameHolds, IsThere, ReachesBody, return_code, Returned}
 use Rattle.x64_instr.specs.declared.operand.RegisterOrMemory.TheVariants as places
 use Rattle.x64_instr.specs.declared.operand.Operand.TheVariants as operands
 use Rattle.x64_instr.specs.declared.instruction.Operation.TheVariants as arithmetic
@@ -107,19 +111,20 @@ moved_twice v a b = ap (λ (r : List ℕ). let w : MachineView =
     record { rax = v.rax; rcx = v.rcx; rdx = v.rdx; rest = r; memory = v.memory } in w)
     (set-set v.rest 1 a b)
 
-epilogue_run : (v : MachineView) (sp frame back rip : ℕ) (f : Flags) → length v.rest ≡ 13
+epilogue_run : (v : MachineView) (sp frame back rip : ℕ) (f : Flags) (none : Bool)
+    → (frame == 0) ≡ none → length v.rest ≡ 13
     → sp_of v ≡ sp → frame < 2 ^ 31 → sp < 2 ^ 47 → HasBack v.memory (sp + frame) back
-    → HasCode v.memory rip (epilogue frame) → (flags : Flags)
-    × Reaches (length (epilogue frame)) (machine v rip f)
+    → HasCode v.memory rip (ending_by frame 0 none) → (flags : Flags)
+    × Reaches (length (ending_by frame 0 none)) (machine v rip f)
     (machine (moved v (sp + frame + 8)) back flags)
-epilogue_run v sp zero back rip f n at lt high b code =
-    let z : sp + 0 ≡ sp = omega arith in
+epilogue_run v sp frame back rip f true none n at lt high b code =
+    let no_frame = eqb-true frame 0 none in
+    let z : sp + frame ≡ sp = omega arith in
     let last = one_reaches instrs.Return v (moved v (sp + 8)) rip back f f refl refl code
     (return_effect v sp back (rip + size instrs.Return) f at (omega arith)
     (subst (λ a. HasBack v.memory a back) z b)) in
     (f, subst (λ a. Reaches 1 (machine v rip f) (machine (moved v (a + 8)) back f)) (sym z) last)
-epilogue_run v sp (suc m) back rip f n at lt high b code =
-    let frame : ℕ = suc m in
+epilogue_run v sp frame back rip f false none n at lt high b code =
     let i = instrs.Arithmetic arithmetic.Add W64 (places.Register Rsp) (operands.Immediate frame) in
     let g = (added W64 (low W64 (sp_of v)) (low W64 frame)).1 in
     let parts = code_split v.memory rip (i ∷ []) (instrs.Return ∷ []) code in
@@ -149,18 +154,19 @@ return_run p from v back rip f b room is n at lt h has code =
     let y = p.layout in
     let first = fetch y Rax from in
     let w = put true v (b.slots from) in
-    let parts = code_split v.memory rip first (epilogue y.frame) code in
+    let last = epilogue (plan_of_layout y 0) in
+    let parts = code_split v.memory rip first last code in
     let r = runs_view first v w rip f (fetch_fine y p.counts p.sp p.base true from room is) parts.0
     (fetch_does y p.counts p.reserved p.sp p.base room true from v b is at h) in
-    let e = epilogue_run w p.sp y.frame back (rip + sizes first) r.left n at lt room.high has
-    parts.1 in
-    let turns : length first + length (epilogue y.frame)
-    ≡ length (return_code y from) = sym (length-append first (epilogue y.frame)) in
+    let e = epilogue_run w p.sp y.frame back (rip + sizes first) r.left (y.frame == 0) refl n at lt
+    room.high has parts.1 in
+    let turns : length first + length last
+    ≡ length (return_code y from) = sym (length-append first last) in
     record {
       flags = e.0;
       comes = subst (λ k. Reaches k (machine v rip f)
           (machine (moved w (p.sp + y.frame + 8)) back e.0)) turns
-          (reaches_then (length first) (length (epilogue y.frame)) (machine v rip f)
+          (reaches_then (length first) (length last) (machine v rip f)
           (machine w (rip + sizes first) r.left) (machine (moved w (p.sp + y.frame + 8)) back e.0)
           r.comes e.1);
     }

@@ -53,7 +53,7 @@ pub use Rattle.x64_machine.specs.declared.cpu.Cpu.{Cpu}
 pub use Rattle.x64_machine.specs.declared.cpu.Flags.{Flags}
 pub use Rattle.template_code.specs.Bytes.{sizes, spelled, thunk}
 unfoldable pub use Rattle.template_code.specs.Bytes.{size}
-pub use Rattle.template_code.specs.Calls.{return_at, begin_call, parameter_register, keep_register, stack_parameter, parameter_code, parameters_code, enter_code, field_load, information_code, keep_base, arguments_code, function_entry, call_code, passing_code, field_at, epilogue, return_code, finally_arguments, call_finally_code, address_to, local_unwind_code}
+pub use Rattle.template_code.specs.Calls.{return_at, begin_call, parameter_register, keep_register, stack_parameter, parameter_code, parameters_code, enter_code, field_load, information_code, keep_base, arguments_code, function_entry, call_code, passing_code, field_at, return_code, finally_arguments, call_finally_code, address_to, local_unwind_code}
 pub use Rattle.template_code.specs.Jumps.{distance, call, IsNear, compare_zero, jump_equal, test_code, jump_code, jump_if_zero_code, separator_code, jump}
 pub use Rattle.template_code.specs.Operations.{above, move, compare, before, work, high_half, extended, pure_code, compared, less, not_less, division}
 pub use Rattle.template_code.specs.Probing.{check_stack, enter_large, first_touch}

@@ -1,0 +1,50 @@
+-- The epilogues of frames.
+use Rattle.std.proofs.Common.{◌≡◌, ℕ, ◌<◌, ◌==◌, Bool, true, false, List, [], ◌∷◌, refl, ap, arith}
+use Rattle.std.proofs.lemmas.Bool.{ne_eqb}
+use Rattle.seh_num.specs.declared.width.Width.TheVariants.{W64}
+use Rattle.x64_instr.specs.declared.register.Reg.TheVariants.{Rsp}
+use Rattle.x64_instr.specs.declared.operand.RegisterOrMemory.TheVariants as places
+use Rattle.x64_instr.specs.declared.operand.Operand.TheVariants as operands
+use Rattle.x64_instr.specs.declared.instruction.Operation.TheVariants.{Add}
+use Rattle.x64_instr.specs.declared.instruction.Instr.{Instr}
+use Rattle.x64_instr.specs.declared.instruction.Instr.TheVariants as instrs
+use Rattle.frame_rules.specs.Plan.{FramePlan, Saved, epilogue, load_of, loads_then, opening_by, opening_then, pops_then}
+use Rattle.template_code.specs.Frames.{frame_plan}
+
+-- ---- an epilogue calls nothing: it doesn't depend on where `__chkstk` is
+
+abbrev probed : FramePlan → ℕ → FramePlan
+probed p k = record p { probe = k }
+
+opening_unprobed : (p : FramePlan) (k : ℕ) (none : Bool) → opening_by (probed p k) none
+    ≡ opening_by p none
+opening_unprobed p k true = refl
+opening_unprobed p k false = refl
+
+ending_unprobed : (p : FramePlan) (k : ℕ) (none : Bool) (is : List Instr)
+    → opening_then (probed p k) none is ≡ opening_then p none is
+ending_unprobed p k true is = refl
+ending_unprobed p k false is = ap (λ (i : Instr). i ∷ is) (opening_unprobed p k (p.frame == 0))
+
+loads_same : (ss : List Saved) (is js : List Instr) → is ≡ js → loads_then ss is ≡ loads_then ss js
+loads_same [] is js e = e
+loads_same (s ∷ ss) is js e = ap (λ (ks : List Instr). load_of s ∷ ks) (loads_same ss is js e)
+
+pub epilogue_unprobed : (p : FramePlan) (k : ℕ) → epilogue (record p { probe = k }) ≡ epilogue p
+epilogue_unprobed p k =
+    let is = pops_then p.pushes (instrs.Return ∷ []) in
+    loads_same p.saves (opening_then (probed p k) (p.size == 0) is)
+    (opening_then p (p.size == 0) is) (ending_unprobed p k (p.size == 0) is)
+
+-- ---- that of a frame that saves nothing
+
+-- by whether it has no bytes
+abbrev pub ending_by : ℕ → ℕ → Bool → List Instr
+ending_by size probe none = opening_then (frame_plan size probe) none (instrs.Return ∷ [])
+
+-- RSP is raised, and the frame left
+pub epilogue_some : (size probe : ℕ) → 0 < size → epilogue (frame_plan size probe)
+    ≡ instrs.Arithmetic Add W64 (places.Register Rsp) (operands.Immediate size)
+    ∷ instrs.Return ∷ []
+epilogue_some size probe some = ap (ending_by size probe)
+    (ne_eqb size 0 (λ z. (let e : size ≡ 0 = z in absurd (omega arith))))
