@@ -55,7 +55,8 @@ made at negative literal = record { at = at; negative = negative; literal = lite
 pub constant_once : (c d : Constant) (ts us rest end : List Token) → ts ≡ us → IsConstant c ts rest
     → IsConstant d us end → (c ≡ d) × (rest ≡ end)
 constant_once c d ts us rest end p h g =
-    let q = literal_once c.negative d.negative c.at d.at c.literal d.literal ts us rest end p h g in (
+    let q = literal_once c.negative d.negative c.at d.at c.literal d.literal ts us rest end p h g
+    in (
       ap (λ (x : ℕ). made x c.negative c.literal) q.1 ∙ ap (λ (x : Bool). made d.at x c.literal) q.0
           ∙ ap (λ (x : Literal). made d.at d.negative x) q.2,
       q.3,

@@ -289,4 +289,12 @@ chain_kept image old new i room n r has before few is rva m found =
           len = sym (one h);
         }
 
-pub ruleset chain_steps = (no_chain, no_room, first_refused, rest_refused, rest_counted, counted_fits, known_chain)
+pub ruleset chain_steps = (
+  no_chain,
+  no_room,
+  first_refused,
+  rest_refused,
+  rest_counted,
+  counted_fits,
+  known_chain,
+)

@@ -139,7 +139,8 @@ items_are_at m at (i ∷ is) h lt s =
     let p = and_parts (is_encodable i) (all_encodable is) h in
     let r = executable_split m at (chosen i) (code is) s in
     let n = length-append (chosen i) (code is) in
-    let z : at + length (chosen i) + length (code is) ≡ at + length (code (i ∷ is)) = omega arith in (
+    let z : at + length (chosen i) + length (code is) ≡ at + length (code (i ∷ is)) = omega arith
+    in (
       item_is_at m at i p.0 (omega arith) r.0,
       never_empty i p.0,
       subst (HasItems m (at + length (chosen i)) (spelled_by spell is)) z

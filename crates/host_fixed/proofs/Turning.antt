@@ -12,10 +12,12 @@ use Rattle.x64_machine.specs.declared.outcome.Stop.TheVariants as stops
 use Rattle.x64_machine.specs.Effect.{State, Answer, register, memory_after, step}
 use Rattle.virtual_unwind.specs.CallerOf.{Functions}
 use Rattle.seh_records.specs.Record.{fetched}
+use Rattle.seh_walk.specs.declared.stop_cause.StopCause.{StopCause}
+use Rattle.seh_walk.specs.Walk.{steps}
 use Rattle.host_model.specs.declared.funclet.Funclet.{Funclet}
 use Rattle.host_model.specs.Turns.{Turn, Continues, Ends}
 use Rattle.host_model.specs.Funclets.{arrived}
-use Rattle.host_model.specs.HostStep.{Host, Live, Ended, back, returned, returning, served, turned, turn, after, over}
+use Rattle.host_model.specs.HostStep.{Host, Live, Ended, back, returned, returning, Printed, printed, walk_from, walked, walked_by, served, turned, turn, after, over}
 use Rattle.x64_decoded.specs.Fixed.{KeepsFixed}
 use Rattle.x64_decoded.proofs.Keeping.{keeps_same, protect_keeps}
 use Rattle.x64_decoded.proofs.Effects.{steps_keep}
@@ -31,6 +33,14 @@ returning_keeps : (s : State) (go : State → Turn)
     → ((a : ℕ) → Keeps s.memory (go (back s a))) → Keeps s.memory (returning s go)
 returning_keeps s go h = returned_keeps s (loaded s.memory (register s.cpu Rsp) W64) go h
 
+walked_keeps : (m : Memory) (u : State) (x : Printed) → KeepsFixed m u.memory
+    → Keeps m (walked u x)
+walked_keeps m u x k = go x.stop
+  where
+    go : (stop : Option StopCause) → Keeps m (walked_by u x.events stop)
+    go None = k
+    go (Some y) = tt
+
 served_keeps : (t : Functions) (s : State) (o : Option Service) → Keeps s.memory (served t s o)
 served_keeps t s (Some services.Put) = returning_keeps s _ (λ a. keeps_same s.memory)
 served_keeps t s (Some services.Protect) = returning_keeps s _ (λ a. protect_keeps s.memory
@@ -43,6 +53,8 @@ served_keeps t s (Some services.FilterReturn) = filter_keeps t s (register s.cpu
     (fetched s.memory (register s.cpu Rsp))
 served_keeps t s (Some services.FinallyReturn) = finally_keeps t s (register s.cpu Rsp)
     (fetched s.memory (register s.cpu Rsp))
+served_keeps t s (Some services.Walk) = returning_keeps s _ (λ a. walked_keeps s.memory (back s a)
+    (printed steps t s.memory (walk_from (back s a).cpu)) (keeps_same s.memory))
 served_keeps t s (Some services.CSpecificHandler) = tt
 served_keeps t s None = tt
 

@@ -3,9 +3,9 @@ use Rattle.std.specs.Prelude.{ℕ, Bool, ◌&&◌, ◌==◌, nat_le, nat_lt, if�
 use Rattle.std.specs.Str.{bytes_eq}
 use Rattle.host_layout.specs.declared.range.TheConstants.{HOST_PAGE_START, HOST_PAGE_END}
 use Rattle.host_layout.specs.declared.name.TheConstants as names
-use Rattle.host_layout.specs.declared.service.TheConstants.{PUT_AT, PROTECT_AT, RAISE_EXCEPTION_AT, C_SPECIFIC_HANDLER_AT, LOCAL_UNWIND_AT, FILTER_RETURN_AT, FINALLY_RETURN_AT}
+use Rattle.host_layout.specs.declared.service.TheConstants.{PUT_AT, PROTECT_AT, RAISE_EXCEPTION_AT, C_SPECIFIC_HANDLER_AT, LOCAL_UNWIND_AT, FILTER_RETURN_AT, FINALLY_RETURN_AT, WALK_AT}
 use Rattle.host_layout.specs.declared.service.Service.{Service}
-use Rattle.host_layout.specs.declared.service.Service.TheVariants.{Put, Protect, RaiseException, CSpecificHandler, LocalUnwind, FilterReturn, FinallyReturn}
+use Rattle.host_layout.specs.declared.service.Service.TheVariants.{Put, Protect, RaiseException, CSpecificHandler, LocalUnwind, FilterReturn, FinallyReturn, Walk}
 
 -- the page in which they are, and no instruction
 abbrev pub in_host_page : ℕ → Bool
@@ -19,6 +19,7 @@ address_of CSpecificHandler = C_SPECIFIC_HANDLER_AT
 address_of LocalUnwind = LOCAL_UNWIND_AT
 address_of FilterReturn = FILTER_RETURN_AT
 address_of FinallyReturn = FINALLY_RETURN_AT
+address_of Walk = WALK_AT
 
 -- the service at an address
 abbrev pub service_at : ℕ → Option Service
@@ -30,7 +31,8 @@ service_at a =
     else (if a == LOCAL_UNWIND_AT then Some LocalUnwind
     else (if a == FILTER_RETURN_AT then Some FilterReturn
     else (if a == FINALLY_RETURN_AT then Some FinallyReturn
-    else None))))))
+    else (if a == WALK_AT then Some Walk
+    else None)))))))
 
 -- what an image can import, by its name
 abbrev pub service_named : List ℕ → Option Service
@@ -40,4 +42,5 @@ service_named name =
     else (if bytes_eq name names.LOCAL_UNWIND.now then Some LocalUnwind
     else (if bytes_eq name names.PROTECT.now then Some Protect
     else (if bytes_eq name names.PUT.now then Some Put
-    else None))))
+    else (if bytes_eq name names.WALK.now then Some Walk
+    else None)))))

@@ -20,12 +20,14 @@ pub enum ImportedService {
     Protect,
     /// Writes a number.
     Put,
+    /// Shows the live functions. A program imports it where it calls it.
+    Walk,
 }
 
-/// How many services images import.
-pub const IMPORTED_COUNT: u32 = 5;
+/// How many services images can import.
+pub const IMPORTED_COUNT: u32 = 6;
 
-/// All of them, in the order of their slots.
+/// Those that every program imports, in the order of their slots.
 pub const IMPORTED: [ImportedService; 5] = [
     ImportedService::RaiseException,
     ImportedService::CSpecificHandler,
@@ -45,6 +47,7 @@ impl ImportedService {
             ImportedService::LocalUnwind => name::LOCAL_UNWIND,
             ImportedService::Protect => name::PROTECT,
             ImportedService::Put => name::PUT,
+            ImportedService::Walk => name::WALK,
         }
     }
 
@@ -59,6 +62,7 @@ impl ImportedService {
             ImportedService::LocalUnwind => 2,
             ImportedService::Protect => 3,
             ImportedService::Put => 4,
+            ImportedService::Walk => 5,
         }
     }
 }

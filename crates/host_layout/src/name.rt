@@ -12,3 +12,5 @@ pub const LOCAL_UNWIND: &[u8] = b"_local_unwind";
 pub const PROTECT: &[u8] = b"protect";
 /// Writes a number.
 pub const PUT: &[u8] = b"put";
+/// Shows where the program is: each live activation by the name of its function.
+pub const WALK: &[u8] = b"walk";

@@ -3,7 +3,7 @@
 ghost use Rattle.std.specs.Prelude.{◌≡◌};
 ghost use Rattle.host_layout.specs.Services.{address_of, service_at, service_named};
 
-use crate::name::{C_SPECIFIC_HANDLER, LOCAL_UNWIND, PROTECT, PUT, RAISE_EXCEPTION};
+use crate::name::{C_SPECIFIC_HANDLER, LOCAL_UNWIND, PROTECT, PUT, RAISE_EXCEPTION, WALK};
 use crate::range::HOST_PAGE_START;
 
 /// What the host does for code that reaches one of its addresses.
@@ -23,6 +23,8 @@ pub enum Service {
     FilterReturn,
     /// Where a `__finally` block returns.
     FinallyReturn,
+    /// Shows the function of each live activation, the innermost first.
+    Walk,
 }
 
 const PUT_AT: u64 = HOST_PAGE_START + 0x10;
@@ -39,6 +41,8 @@ pub const FILTER_RETURN_AT: u64 = HOST_PAGE_START + 0x60;
 /// Where a `__finally` block returns.
 pub const FINALLY_RETURN_AT: u64 = HOST_PAGE_START + 0x70;
 
+const WALK_AT: u64 = HOST_PAGE_START + 0xB0;
+
 impl Service {
     /// The address of a service.
     pub fn address(self) -> u64
@@ -52,6 +56,7 @@ impl Service {
             Service::LocalUnwind => LOCAL_UNWIND_AT,
             Service::FilterReturn => FILTER_RETURN_AT,
             Service::FinallyReturn => FINALLY_RETURN_AT,
+            Service::Walk => WALK_AT,
         }
     }
 
@@ -67,6 +72,7 @@ impl Service {
             LOCAL_UNWIND_AT => Some(Service::LocalUnwind),
             FILTER_RETURN_AT => Some(Service::FilterReturn),
             FINALLY_RETURN_AT => Some(Service::FinallyReturn),
+            WALK_AT => Some(Service::Walk),
             _ => None,
         }
     }
@@ -85,6 +91,8 @@ impl Service {
             Some(Service::Protect)
         } else if name == PUT {
             Some(Service::Put)
+        } else if name == WALK {
+            Some(Service::Walk)
         } else {
             None
         }

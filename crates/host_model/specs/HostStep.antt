@@ -1,5 +1,6 @@
 -- One turn of the host: an instruction, a service, or the dispatch between two funclets.
-use Rattle.std.specs.Prelude.{ℕ, ◌+◌, ◌%◌, ◌^◌, Bool, true, false, ◌==◌, List, [], ◌∷◌, is_some, Option, Some, None, Result, Ok, Err}
+use Rattle.std.specs.Prelude.{ℕ, ◌+◌, ◌%◌, ◌^◌, Bool, true, false, ◌==◌, List, [], ◌∷◌, map, is_some, Option, Some, None, Result, Ok, Err}
+use Rattle.std.specs.List.{filter_map}
 use Rattle.seh_num.specs.declared.width.Width.TheVariants.{W32, W64}
 use Rattle.seh_num.specs.declared.event.Event.{Event}
 use Rattle.seh_num.specs.declared.event.Event.TheVariants as events
@@ -8,16 +9,21 @@ use Rattle.seh_num.specs.declared.end.RunEnd.{RunEnd}
 use Rattle.seh_num.specs.declared.end.RunEnd.TheVariants as ends
 use Rattle.seh_num.specs.Widths.{low, signed}
 use Rattle.flat_memory.specs.declared.access.RefusedAccess.{RefusedAccess}
-use Rattle.flat_memory.specs.Memory.{loaded, rights_asked, protected}
+use Rattle.flat_memory.specs.Memory.{Memory, loaded, rights_asked, protected}
 use Rattle.x64_instr.specs.declared.register.Reg.TheVariants.{Rax, Rcx, Rdx, Rsp}
 use Rattle.x64_machine.specs.declared.outcome.Stop.TheVariants as stops
 use Rattle.host_layout.specs.declared.service.Service.{Service}
 use Rattle.host_layout.specs.declared.service.Service.TheVariants as services
 use Rattle.host_layout.specs.Services.{service_at}
+use Rattle.x64_machine.specs.declared.cpu.Cpu.{Cpu}
+use Rattle.x64_machine.specs.Contexts.{context_of}
 use Rattle.x64_machine.specs.Effect.{State, Answer, register, with_register, with_rip, step}
 use Rattle.virtual_unwind.specs.CallerOf.{Functions}
 use Rattle.seh_records.specs.Record.{fetched}
-use Rattle.seh_walk.specs.Walk.{stop_cause}
+use Rattle.seh_walk.specs.declared.stop_cause.StopCause.{StopCause}
+use Rattle.seh_walk.specs.declared.walk.WalkState.{WalkState}
+use Rattle.seh_walk.specs.Walk.{stop_cause, steps}
+use Rattle.seh_walk.specs.Controls.{Controls, controls, number_at}
 use Rattle.host_model.specs.declared.funclet.Funclet.{Funclet}
 use Rattle.host_model.specs.Turns.{Turn, Continues, Ends, stopped, shown_in}
 use Rattle.host_model.specs.Funclets.{arrived}
@@ -59,6 +65,35 @@ protecting s u =
       memory = protected u.memory (register s.cpu Rcx) (signed W32 (register s.cpu Rdx));
     }) []
 
+-- what a printed walk shows, and what stops it, if anything does
+pub record Printed : Type 0 where
+  pub events : List Event
+  pub stop : Option StopCause
+
+-- the function of each frame whose control address is in a row of the image's names, the innermost
+-- first
+abbrev pub printed_of : Functions → Controls → Printed
+printed_of t x =
+    record { events = map events.At (filter_map (number_at t) x.addresses); stop = x.stop }
+
+abbrev pub printed : ℕ → Functions → Memory → WalkState → Printed
+printed n t m w = printed_of t (controls n t m w)
+
+-- a walk that is stopped stops the run
+abbrev pub walked_by : State → List Event → Option StopCause → Turn
+walked_by u shown None = Continues u shown
+walked_by u shown (Some y) = Ends shown (ends.Stopped y.reason y.address)
+
+abbrev pub walked : State → Printed → Turn
+walked u x = walked_by u x.events x.stop
+
+-- `walk` walks from its caller
+abbrev pub walk_from : Cpu → WalkState
+walk_from c = record { context = context_of c; row = 0 }
+
+abbrev pub walking : Functions → State → State → Turn
+walking t s u = walked u (printed steps t s.memory (walk_from u.cpu))
+
 -- no instruction can be run at RIP
 abbrev pub illegal : State → Turn
 illegal s = stopped (stop_cause reasons.Illegal s.cpu.rip)
@@ -76,6 +111,7 @@ served t s (Some services.FilterReturn) =
     filter_returned t s (register s.cpu Rsp) (fetched s.memory (register s.cpu Rsp))
 served t s (Some services.FinallyReturn) =
     finally_returned t s (register s.cpu Rsp) (fetched s.memory (register s.cpu Rsp))
+served t s (Some services.Walk) = returning s (walking t s)
 served t s (Some services.CSpecificHandler) = illegal s
 served t s None = illegal s
 

@@ -1,7 +1,7 @@
 -- How an image is placed in memory, and the state that a run starts from (PE format, "Section
 -- Table", "Import Address Table"; the stack, the arena, the services and their places are the
 -- host's own).
-use Rattle.std.specs.Prelude.{ℕ, ◌+◌, ◌-◌, ◌%◌, Bool, true, false, ◌&&◌, ◌==◌, nat_lt, nat_le, List, [], ◌∷◌, replicate, position, ℤ, Option, Some, None, option_map, Ok, Err, slice_index}
+use Rattle.std.specs.Prelude.{ℕ, ◌+◌, ◌-◌, ◌%◌, Bool, true, false, ◌&&◌, ◌==◌, nat_lt, nat_le, List, [], ◌∷◌, replicate, position, ℤ, Option, Some, None, option_map, Result, Ok, Err, slice_index}
 use Rattle.seh_num.specs.declared.width.Width.TheVariants.{W64}
 use Rattle.seh_num.specs.Widths.{wrapped}
 pub use Rattle.host_layout.specs.Ranges.{pages, in_stack}
@@ -13,6 +13,8 @@ use Rattle.flat_memory.specs.declared.protection.Rights.TheVariants.{Nothing, Re
 use Rattle.flat_memory.specs.Memory.{Memory, with_number}
 use Rattle.pe_image.specs.Image.{Section, Image, is_executable, is_writable, is_readable}
 use Rattle.pe_image.specs.Imports.{Import, imports_of}
+use Rattle.pe_image.specs.NameRows.{NameRow, names_of}
+use Rattle.pe_image.specs.declared.name_table.NameErr.{NameErr}
 use Rattle.eh_tables.specs.Answer.{Table}
 use Rattle.eh_tables.specs.Tables.{tables}
 use Rattle.x64_machine.specs.declared.cpu.Cpu.{Cpu}
@@ -168,13 +170,23 @@ has_entry image = is_code (section_of 0 image.entry image.sections)
 abbrev pub entry_refusal : Image → Option LoadErr
 entry_refusal image = reason_unless (has_entry image) (refusals.Entry image.entry)
 
+-- the table of names isn't read whole
+abbrev pub of_names : Result (List NameRow) NameErr → Option LoadErr
+of_names (Ok rows) = None
+of_names (Err e) = Some (refusals.Names e.row)
+
+-- the refusal of the table of names
+abbrev pub names_refusal : Image → Option LoadErr
+names_refusal image = of_names (names_of image)
+
 -- after the function table's
 abbrev pub later_refusal : Image → Option LoadErr
 later_refusal image =
-    first_of (place_refusal image ∷ import_refusal image ∷ entry_refusal image ∷ [])
+    first_of (place_refusal image ∷ import_refusal image ∷ entry_refusal image
+    ∷ names_refusal image ∷ [])
 
 -- the first reason that an image isn't loaded, if there is one
 abbrev pub load_refusal : Image → Option LoadErr
 load_refusal image =
     first_of (table_refusal image ∷ place_refusal image ∷ import_refusal image ∷ entry_refusal image
-    ∷ [])
+    ∷ names_refusal image ∷ [])

@@ -7,7 +7,7 @@ use Rattle.pe_image.specs.declared.refusal.ImageErr.{ImageErr}
 use Rattle.pe_image.specs.Image.{Image}
 use Rattle.pe_image.specs.Reading.{reading}
 use Rattle.eh_tables.specs.Tables.{tables, or_none}
-use Rattle.virtual_unwind.specs.CallerOf.{Functions}
+use Rattle.virtual_unwind.specs.CallerOf.{Functions, name_rows}
 use Rattle.host_model.specs.declared.funclet.Funclet.{Funclet}
 use Rattle.host_model.specs.Loading.{start}
 use Rattle.host_model.specs.Funclets.{funclets}
@@ -29,9 +29,14 @@ unfoldable pub run : Functions → List Funclet → ℕ → Host → List Event 
 run t fs zero h out = record { events = out; end = end_of h }
 run t fs (suc n) h out = or_turn t fs (run t fs n) out h
 
--- the function table of an image, where it is read whole
+-- the function table of an image and the rows of its names, each where it is read whole
 abbrev pub functions_in : Image → Functions
-functions_in image = record { base = image.base; entries = or_none (tables image) }
+functions_in image =
+    record {
+      base = image.base;
+      entries = or_none (tables image);
+      rows = name_rows image;
+    }
 
 -- a run of an image from its entry point, with the argument
 abbrev pub run_from : Image → ℤ → ℕ → Functions → Shown RunEnd

@@ -35,7 +35,8 @@ module _ (image : Image) (bytes : BTreeMap ℕ ℕ)
       let unbound : get nat_cmp bytes a ≡ None =
       subst (λ i. get nat_cmp bytes i ≡ None) same (free 0 (omega arith)) in
       let b = get_or s.raw k 0 in
-      let byte : executable_byte (code_of image) a ≡ Some b = executed image bytes bound a s here run
+      let byte : executable_byte (code_of image) a ≡ Some b = executed image bytes bound a s here
+      run
       ∙ ap (λ o. Some (byte_or o b)) unbound in
       let next_is : next a ≡ a + 1 = omega arith in
       let less : suc n - 1 ≡ n = omega arith in

@@ -1,13 +1,14 @@
 -- What comes before the routines: the thunks of the services that are imported, and `__chkstk`; and
 -- how many bytes they and the tables of imports take.
-use Rattle.std.proofs.Common.{◌≡◌, ℕ, suc, ◌+◌, ◌*◌, ◌<◌, ◌≤◌, ◌==◌, true, false, List, [], ◌∷◌, length, get_or, map, drop, drop-cons, refl, ap, ◌∙◌, arith}
+use Rattle.std.proofs.Common.{◌≡◌, ℕ, suc, ◌+◌, ◌*◌, ◌<◌, ◌≤◌, ◌==◌, Bool, true, false, List, [], ◌∷◌, length, get_or, map, drop, drop-cons, refl, ap, ◌∙◌, arith}
 use Rattle.std.specs.Prelude.{if◌then◌else◌}
 use Rattle.host_layout.specs.declared.limit.TheConstants.{MOST_IMAGE}
 use Rattle.host_layout.specs.Imported.{number_of}
-use Rattle.host_layout.specs.declared.imported.ImportedService.TheVariants.{RaiseException, CSpecificHandler, LocalUnwind, Protect, Put}
+use Rattle.host_layout.specs.declared.imported.ImportedService.TheVariants.{RaiseException, CSpecificHandler, LocalUnwind, Protect, Put, Walk}
 use Rattle.template_code.specs.Probing.{check_stack}
 use Rattle.pe_write.specs.ImportTables.{place_of}
-use Rattle.image_link.specs.Words.{ImportedService, LinearProgram, size, sizes, modrm, hint_name_size, names_size, tables_size, IsNear, thunk_at, service_thunk, front_code, front_size, services_of, AreFew}
+use Rattle.image_link.specs.Words.{ImportedService, LinearProgram, size, sizes, modrm, hint_name_size, import_names_size, tables_size, IsNear, thunk_at, service_thunk, front_code, front_size, calls_walk, services_if, services_of, IsImportedIf, IsImported, AreFew}
+use Rattle.std.proofs.lemmas.Bool.{false≢true}
 use Rattle.image_link.proofs.Lemmas.{sizes_append}
 
 -- ---- the code
@@ -45,7 +46,7 @@ module _ (imports : List ImportedService) (text rdata : ℕ) where
       ∷ map (service_thunk imports text rdata) (drop n ss)) after
 
 -- the place of a service is at most behind all others
-place_small : (ss : List ImportedService) (v : ImportedService) → place_of ss v ≤ length ss
+pub place_small : (ss : List ImportedService) (v : ImportedService) → place_of ss v ≤ length ss
 place_small [] v = omega arith
 place_small (t ∷ ts) v =
     let others = place_small ts v in
@@ -67,23 +68,47 @@ name_small CSpecificHandler = omega arith
 name_small LocalUnwind = omega arith
 name_small Protect = omega arith
 name_small Put = omega arith
+name_small Walk = omega arith
 
-names_small : (ss : List ImportedService) → names_size ss ≤ 64 * length ss
+names_small : (ss : List ImportedService) → import_names_size ss ≤ 64 * length ss
 names_small [] = omega arith
 names_small (s ∷ ss) = let n = name_small s in let r = names_small ss in omega arith
 
 pub imports_small : (ss : List ImportedService) → AreFew ss → tables_size ss ≤ 8192
 imports_small ss few = let n = names_small ss in omega arith
 
+-- the services that a program imports, by whether it calls `walk`
+pub services_are : (p : LinearProgram) (walks : Bool) → walks ≡ calls_walk p
+    → services_if walks ≡ services_of p
+unfolding services_of
+services_are p walks e = ap services_if e
+
 -- a program imports few services
 pub services_few : (p : LinearProgram) → AreFew (services_of p)
-services_few p = omega arith
+unfolding services_of
+services_few p = by (calls_walk p)
+  where
+    by : (walks : Bool) → AreFew (services_if walks)
+    by true = omega arith
+    by false = omega arith
 
--- and each of them is among them
-pub services_there : (p : LinearProgram) (v : ImportedService)
+among : (walks : Bool) (v : ImportedService) → IsImportedIf walks v
+    → place_of (services_if walks) v < length (services_if walks)
+among true RaiseException e = omega arith
+among true CSpecificHandler e = omega arith
+among true LocalUnwind e = omega arith
+among true Protect e = omega arith
+among true Put e = omega arith
+among true Walk e = omega arith
+among false RaiseException e = omega arith
+among false CSpecificHandler e = omega arith
+among false LocalUnwind e = omega arith
+among false Protect e = omega arith
+among false Put e = omega arith
+among false Walk e = absurd (false≢true e)
+
+-- and each that it imports is among them
+pub services_there : (p : LinearProgram) (v : ImportedService) → IsImported p v
     → place_of (services_of p) v < length (services_of p)
-services_there p RaiseException = omega arith
-services_there p CSpecificHandler = omega arith
-services_there p LocalUnwind = omega arith
-services_there p Protect = omega arith
-services_there p Put = omega arith
+unfolding services_of
+services_there p v e = among (calls_walk p) v e

@@ -3,7 +3,7 @@ use Rattle.std.proofs.Common.{◌≡◌, ℕ, zero, suc, ◌+◌, ◌-◌, ◌*�
 use Rattle.std.specs.Prelude.{◌&&◌, IfOk}
 use Rattle.std.specs.List.{AllByRecursion}
 use Rattle.std.proofs.lemmas.Bool.{eq-eqb}
-use Rattle.image_link.specs.Words.{ImportedService, LinearBody, LinearFunction, LinearFunclet, LinearProgram, CanBeImage, ImageContents, RoutineView, is_leaf, framed, leaf_if, functions_from, funclet, routines, IsRoutineNear, IsSiteNear, AreFew, HasRoom, HasPlaces, table_bytes, SiteView, room, routine_size, bounds, first_routine_at, text_bytes, infos_room, infos, ranges, first, total, text_size, xdata_begin, IsPlacement, site, image_of, services_of, linked, FitsProgram, tables_room, function_bodies, funclet_bodies, program_tables_room}
+use Rattle.image_link.specs.Words.{ImportedService, LinearBody, LinearFunction, LinearFunclet, LinearProgram, CanBeImage, ImageContents, RoutineView, is_leaf, framed, leaf_if, functions_from, funclet, no_function, routines, IsRoutineNear, IsSiteNear, AreFew, HasRoom, HasNames, HasPlaces, table_bytes, SiteView, room, routine_size, bounds, first_routine_at, text_bytes, infos_room, infos, ranges, first, total, text_size, xdata_begin, IsPlacement, site, image_of, NameRow, names_size, name_table_size, calls_walk, named_if, named_functions, function_rows, names_room, services_of, linked, FitsProgram, tables_room, function_bodies, funclet_bodies, program_tables_room}
 use Rattle.image_link.proofs.Lemmas.{code_in_room}
 use Rattle.image_link.specs.declared.placement.Placement.{Placement}
 use Rattle.image_link.specs.declared.routine.Entry.TheVariants as entries
@@ -52,6 +52,17 @@ site_near imports g rs functions main services few near places =
       funclets = drop_near functions (bounds (first imports g) rs) b;
     }
 
+-- the rows and the names take as many bytes as they have room
+rows_small : (index : ℕ) (b : List ℕ) (fs : List LinearFunction)
+    → 16 * length (function_rows index b fs) + names_size (function_rows index b fs) ≡ names_room fs
+rows_small index b [] = refl
+rows_small index b (f ∷ fs) = let r = rows_small (index + 1) b fs in omega arith
+
+table_small : (index : ℕ) (b : List ℕ) (fs : List LinearFunction)
+    → name_table_size (function_rows index b fs) ≤ 4 + names_room fs
+table_small index b [] = omega arith
+table_small index b (f ∷ fs) = let r = rows_small index b (f ∷ fs) in omega arith
+
 -- the tables end below 2^31
 pub tables_fit : (imports : List ImportedService) (g : List ℕ) (rs : List RoutineView)
     → AreFew imports → length g ≤ MOST_GLOBALS → AllByRecursion IsRoutineNear rs → HasRoom rs
@@ -62,15 +73,16 @@ tables_fit imports g rs services few near room =
     omega arith
 
 pub is_program : (imports : List ImportedService) (g : List ℕ) (rs : List RoutineView)
-    (functions main : ℕ) → AreFew imports → length g ≤ MOST_GLOBALS
-    → AllByRecursion IsRoutineNear rs → HasPlaces rs functions main → (d : RoutineView)
-    → CanBeImage (image_of imports g rs functions main)
-is_program imports g rs functions main services few near places d =
+    (functions main : ℕ) (named : List LinearFunction) → AreFew imports → length g ≤ MOST_GLOBALS
+    → AllByRecursion IsRoutineNear rs → HasPlaces rs functions main → HasNames rs named
+    → (d : RoutineView) → CanBeImage (image_of imports g rs functions main named)
+is_program imports g rs functions main named services few near places names d =
     let s = site imports g rs functions in
     let i = imports_small imports services in
     let t = total_small rs near in
-    let r = places.room in
+    let r = names.room in
     let n = count_small rs in
+    let table = table_small 0 (bounds (first imports g) rs) named in
     let text = text_length s rs near in
     let xdata = infos_length s (first imports g) rs in
     let pdata = tables_small s (xdata_begin imports g rs) (first imports g) rs in
@@ -116,10 +128,10 @@ module _ (imports : List ImportedService) (g b : List ℕ) (rs : List RoutineVie
   is_site_near main services few near places = subst IsSiteNear (sym site_is)
       (site_near imports g rs functions main services few near places)
 
-  pub image_is : (main entry at : ℕ) (text xdata pdata : List ℕ)
-      → entry ≡ get_or b main 0 - p.text → at ≡ first_routine_at imports p.text
-      → text ≡ text_bytes s rs → xdata ≡ infos s at rs
-      → pdata ≡ table_bytes (ranges s p.xdata at rs)
+  pub image_is : (main entry at : ℕ) (text xdata pdata : List ℕ) (rows : List NameRow)
+      (named : List LinearFunction) → entry ≡ get_or b main 0 - p.text
+      → at ≡ first_routine_at imports p.text → text ≡ text_bytes s rs → xdata ≡ infos s at rs
+      → pdata ≡ table_bytes (ranges s p.xdata at rs) → rows ≡ function_rows 0 b named
       → record {
         imports = imports;
         data_size = p.data_size;
@@ -128,8 +140,9 @@ module _ (imports : List ImportedService) (g b : List ℕ) (rs : List RoutineVie
         entry = entry;
         xdata = xdata;
         pdata = pdata;
-      } ≡ image_of imports g rs functions main
-  image_is main entry at text xdata pdata n e k i q =
+        names = rows;
+      } ≡ image_of imports g rs functions main named
+  image_is main entry at text xdata pdata rows named n e k i q w =
       let d = is.data_size in
       let begin = is.text in
       let table = is.xdata in
@@ -146,6 +159,7 @@ module _ (imports : List ImportedService) (g b : List ℕ) (rs : List RoutineVie
       ∙ ap (λ (n : ℕ). table_bytes (ranges of n (first_routine_at imports p.text) rs)) table
       ∙ ap (λ (n : ℕ). table_bytes
       (ranges of (xdata_begin imports g rs) (first_routine_at imports n) rs)) begin in
+      let rows' = w ∙ ap (λ (xs : List ℕ). function_rows 0 xs named) between in
       λ i. record {
         imports = imports;
         data_size = d i;
@@ -154,6 +168,7 @@ module _ (imports : List ImportedService) (g b : List ℕ) (rs : List RoutineVie
         entry = entry' i;
         xdata = xdata' i;
         pdata = pdata' i;
+        names = rows' i;
       }
 
 abbrev pub no_routine : RoutineView
@@ -166,7 +181,7 @@ no_routine = record {
 
 -- ---- programs
 
-functions_count : (main index : ℕ) (fs : List LinearFunction)
+pub functions_count : (main index : ℕ) (fs : List LinearFunction)
     → length (functions_from main index fs) ≡ length fs
 functions_count main index [] = refl
 functions_count main index (f ∷ fs) = let c = functions_count main (suc index) fs in omega arith
@@ -186,13 +201,6 @@ get_first : (a b : List RoutineView) (i : ℕ) (d : RoutineView) → i < length 
 get_first [] b i d lt = absurd (omega arith)
 get_first (r ∷ a) b zero d lt = refl
 get_first (r ∷ a) b (suc i) d lt = get_first a b i d (omega arith)
-
-abbrev no_function : LinearFunction
-no_function = record {
-  parameters = 0;
-  body =
-      record { locals = 0; temporaries = 0; passed = 0; code = []; regions = [] };
-}
 
 main_is : (p : LinearProgram) → FitsProgram p → (d : RoutineView)
     → get_or (routines p) p.main d ≡ framed (get_or p.functions p.main no_function)
@@ -249,13 +257,33 @@ has_places p fits =
           (framed_some (get_or p.functions p.main no_function));
     }
 
+named_within : (walks : Bool) (fs : List LinearFunction)
+    → names_room (named_if walks fs) ≤ names_room fs
+named_within true fs = omega arith
+named_within false fs = omega arith
+
+named_fewer : (walks : Bool) (fs : List LinearFunction) → length (named_if walks fs) ≤ length fs
+named_fewer true fs = omega arith
+named_fewer false fs = omega arith
+
+pub has_names : (p : LinearProgram) → FitsProgram p → HasNames (routines p) (named_functions p)
+has_names p fits =
+    let a = named_within (calls_walk p) p.functions in
+    let b = named_fewer (calls_walk p) p.functions in
+    let c = (has_places p fits).fewer in
+    let t = fits.small in
+    let u = tables_are p in
+    let v = routines_room p in
+    record { room = omega arith; fewer = omega arith }
+
 -- the image of what a program is made of
 pub linked_is : (p : LinearProgram) (image : ImageContents) (imports : List ImportedService)
-    (g : List ℕ) (rs : List RoutineView) (functions main : ℕ)
-    → image ≡ image_of imports g rs functions main → imports ≡ services_of p → g ≡ p.globals
-    → rs ≡ routines p → functions ≡ length p.functions → main ≡ p.main → image ≡ linked p
-linked_is p image imports g rs functions main e i n r f m =
-    e ∙ (λ k. image_of (i k) (n k) (r k) (f k) (m k))
+    (g : List ℕ) (rs : List RoutineView) (functions main : ℕ) (named : List LinearFunction)
+    → image ≡ image_of imports g rs functions main named → imports ≡ services_of p → g ≡ p.globals
+    → rs ≡ routines p → functions ≡ length p.functions → main ≡ p.main
+    → named ≡ named_functions p → image ≡ linked p
+linked_is p image imports g rs functions main named e i n r f m a =
+    e ∙ (λ k. image_of (i k) (n k) (r k) (f k) (m k) (a k))
 
 -- its entries take no more than what no entry of a routine needs of its room
 entries_small : (rs : List RoutineView) → AllByRecursion IsRoutineNear rs
@@ -281,6 +309,8 @@ images_are_small p fits =
     let u = tables_are p in
     let few = fits.globals in
     let small = fits.small in
+    let names = named_within (calls_walk p) p.functions in
+    let table = table_small 0 (bounds (first imports g) rs) (named_functions p) in
     let text = text_length s rs near in
     let xdata = infos_length s (first imports g) rs in
     let pdata = tables_small s (xdata_begin imports g rs) (first imports g) rs in

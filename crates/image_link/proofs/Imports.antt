@@ -4,7 +4,7 @@ use Rattle.std.specs.Prelude.{if◌then◌else◌}
 use Rattle.std.specs.List.{AllByRecursion}
 use Rattle.std.proofs.lemmas.Bool.{cases_eq, eq-eqb, ne_eqb}
 use Rattle.std.proofs.lemmas.Grind.{flat_map-append}
-use Rattle.host_layout.specs.declared.imported.ImportedService.TheVariants.{RaiseException, CSpecificHandler, LocalUnwind, Protect, Put}
+use Rattle.host_layout.specs.declared.imported.ImportedService.TheVariants.{RaiseException, CSpecificHandler, LocalUnwind, Protect, Put, Walk}
 use Rattle.host_layout.specs.Imported.{name_of, number_of, service_in_slot}
 use Rattle.pe_image.specs.Imports.{Import}
 use Rattle.pe_write.specs.ImportTables.{place_of, imported}
@@ -22,6 +22,7 @@ placed CSpecificHandler = refl
 placed LocalUnwind = refl
 placed Protect = refl
 placed Put = refl
+placed Walk = refl
 
 pub same_service : (s t : ImportedService) → number_of s ≡ number_of t → s ≡ t
 same_service s t e =

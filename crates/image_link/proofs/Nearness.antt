@@ -3,7 +3,7 @@ use Rattle.std.proofs.Common.{◌≡◌, ℕ, suc, ◌+◌, ◌<◌, ◌≤◌, 
 use Rattle.std.specs.Prelude.{◌&&◌}
 use Rattle.std.specs.List.{AllByRecursion}
 use Rattle.linear_code.specs.declared.slot.Slot.{Slot}
-use Rattle.image_link.specs.Words.{Local, Temporary, Instruction, LinearBody, LinearFunction, LinearFunclet, LinearProgram, Layout, IsBaseNear, IsSlotNear, IsInstructionNear, IsParentNear, code_room, RoutineView, is_leaf, function_frame, leaf_layout, function_layout, leaf, framed, leaf_if, functions_from, funclet_frame, nothing, body_of_function, body_of_funclet, kept_by, HasParent, entry_of, funclet_layout, funclet, routines, IsEntryNear, IsRoutineNear, FitsSlot, FitsInstruction, FitsBody, FitsFunction, FitsKind, FitsFunclet, function_bodies, funclet_bodies, text_room, FitsProgram}
+use Rattle.image_link.specs.Words.{Local, Temporary, Instruction, LinearBody, LinearFunction, LinearFunclet, LinearProgram, Layout, IsBaseNear, IsSlotNear, IsInstructionNear, IsParentNear, code_room, RoutineView, is_leaf, function_frame, leaf_layout, function_layout, leaf, framed, leaf_if, functions_from, funclet_frame, nothing, no_function, body_of_function, body_of_funclet, kept_by, HasParent, entry_of, funclet_layout, funclet, routines, IsEntryNear, IsRoutineNear, FitsSlot, FitsInstruction, FitsBody, FitsFunction, FitsKind, FitsFunclet, function_bodies, funclet_bodies, text_room, FitsProgram}
 use Rattle.linear_code.specs.declared.instruction.Instruction.TheVariants as instructions
 use Rattle.linear_code.specs.declared.program.FuncletKind.{FuncletKind}
 use Rattle.linear_code.specs.declared.program.FuncletKind.TheVariants.{Filter, Finally}
@@ -125,7 +125,7 @@ funclet_at p index fits lt = (all_at (FitsFunclet p) p.funclets index
 function_at : (p : LinearProgram) (index : ℕ) → FitsProgram p → index < length p.functions
     → FitsBody (body_of_function p index)
 function_at p index fits lt = (all_at FitsFunction p.functions index
-    (record { parameters = 0; body = nothing }) fits.functions lt).body
+    no_function fits.functions lt).body
 
 parent_near : (p : LinearProgram) (o : Option ℕ) → FitsProgram p → HasParent p o
     → IsParentNear (kept_by p o)

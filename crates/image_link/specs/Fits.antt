@@ -13,6 +13,7 @@ use Rattle.linear_code.specs.Program.{LinearBody, LinearFunction, LinearFunclet,
 use Rattle.x64_emit.specs.Near.{IsFieldNear}
 use Rattle.x64_emit.specs.Rooms.{code_room}
 use Rattle.image_link.specs.Routines.{HasParent}
+use Rattle.image_link.specs.Walks.{IsNamed, names_room}
 use Rattle.host_layout.specs.declared.limit.TheConstants.{MOST_IMAGE}
 
 -- ---- instructions
@@ -47,6 +48,7 @@ pub record FitsBody (b : LinearBody) : Type 0 where
 
 pub record FitsFunction (f : LinearFunction) : Type 0 where
   pub parameters : f.parameters ≤ MOST_PARAMETERS
+  pub some : 0 < length f.body.code
   pub body : FitsBody f.body
 
 abbrev pub FitsKind : LinearBody → FuncletKind → Type 0
@@ -96,4 +98,6 @@ pub record FitsProgram (p : LinearProgram) : Type 0 where
   pub main : p.main < length p.functions
   pub functions : AllByRecursion FitsFunction p.functions
   pub funclets : AllByRecursion (FitsFunclet p) p.funclets
-  pub small : text_room p + program_tables_room p + other_room ≤ MOST_IMAGE
+  pub names : AllByRecursion IsNamed p.functions
+  pub small : text_room p + program_tables_room p + names_room p.functions + other_room
+      ≤ MOST_IMAGE

@@ -2,6 +2,7 @@ pub mod Routines
 pub mod Text
 pub mod Places
 pub mod Tables
+pub mod Walks
 pub mod Linked
 pub mod Near
 pub mod Fits

@@ -1,24 +1,18 @@
--- The image of a program: the services that it imports, its globals, its routines, and their
--- tables.
+-- The image of a program: the services that it imports, its globals, its routines, their tables, and
+-- the names of its functions.
 use Rattle.std.specs.Prelude.{◌≡◌, ℕ, ◌+◌, ◌-◌, List, [], ◌∷◌, length, get_or, max, take, drop}
 use Rattle.host_layout.specs.declared.range.TheConstants.{DATA_AT}
 use Rattle.eh_tables.specs.Written.{table_bytes}
 use Rattle.pe_write.specs.Program.{ImageContents, rdata_after, xdata_after}
 use Rattle.pe_write.specs.Written.{pages}
-use Rattle.linear_code.specs.Program.{LinearProgram}
+use Rattle.linear_code.specs.Program.{LinearFunction, LinearProgram}
 use Rattle.host_layout.specs.declared.imported.ImportedService.{ImportedService}
-use Rattle.host_layout.specs.Imported.{services}
 use Rattle.pe_write.specs.ImportTables.{tables_size}
 use Rattle.image_link.specs.declared.placement.Placement.{Placement}
 use Rattle.image_link.specs.Routines.{RoutineView, routines}
 use Rattle.image_link.specs.Text.{SiteView, routine_size, bounds, front_size, first_routine_at, text_bytes}
 use Rattle.image_link.specs.Tables.{infos, ranges}
-
--- ---- what is imported
-
--- the services that a program imports, in the order of their slots and thunks: all of them
-abbrev pub services_of : LinearProgram → List ImportedService
-services_of p = services
+use Rattle.image_link.specs.Walks.{services_of, named_functions, function_rows}
 
 -- ---- where things are
 
@@ -67,10 +61,11 @@ site imports globals rs functions = record {
   funclets = drop functions (bounds (first imports globals) rs);
 }
 
--- ---- the image, which begins at the routine of this index
+-- ---- the image, which begins at the routine of this index, and has the names of these functions
 
-abbrev pub image_of : List ImportedService → List ℕ → List RoutineView → ℕ → ℕ → ImageContents
-image_of imports globals rs functions main =
+abbrev pub image_of : List ImportedService → List ℕ → List RoutineView → ℕ → ℕ
+    → List LinearFunction → ImageContents
+image_of imports globals rs functions main named =
     let s = site imports globals rs functions in record {
       imports = imports;
       data_size = data_size globals;
@@ -80,7 +75,10 @@ image_of imports globals rs functions main =
       xdata = infos s (first imports globals) rs;
       pdata =
           table_bytes (ranges s (xdata_begin imports globals rs) (first imports globals) rs);
+      names = function_rows 0 (bounds (first imports globals) rs) named;
     }
 
 abbrev pub linked : LinearProgram → ImageContents
-linked p = image_of (services_of p) p.globals (routines p) (length p.functions) p.main
+linked p =
+    image_of (services_of p) p.globals (routines p) (length p.functions) p.main
+    (named_functions p)

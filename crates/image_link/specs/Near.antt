@@ -16,7 +16,9 @@ use Rattle.image_link.specs.Text.{SiteView, base_of, room, routine_size}
 use Rattle.image_link.specs.Tables.{infos_room}
 use Rattle.template_code.specs.declared.layout.TheConstants.{LARGEST_FRAME}
 use Rattle.host_layout.specs.declared.limit.TheConstants.{MOST_IMAGE}
+use Rattle.linear_code.specs.Program.{LinearFunction}
 use Rattle.image_link.specs.Fits.{other_room}
+use Rattle.image_link.specs.Walks.{names_room}
 
 abbrev pub IsFrameNear : Option FrameLayout → Type 0
 IsFrameNear None = Unit {0}
@@ -49,6 +51,11 @@ pub record IsSiteNear (s : SiteView) : Type 0 where
 -- all routines and their tables have room in an image
 abbrev pub HasRoom : List RoutineView → Type 0
 HasRoom rs = room rs + infos_room rs + other_room ≤ MOST_IMAGE
+
+-- with the names of these functions, which are the first of them
+pub record HasNames (rs : List RoutineView) (named : List LinearFunction) : Type 0 where
+  pub room : room rs + infos_room rs + names_room named + other_room ≤ MOST_IMAGE
+  pub fewer : length named ≤ length rs
 
 -- they have room in one whose first routine is a function and which begins at one that isn't empty
 pub record HasPlaces (rs : List RoutineView) (functions main : ℕ) : Type 0 where

@@ -8,7 +8,7 @@ use Rattle.frame_layout.specs.declared.frame.FrameLayout.{FrameLayout}
 use Rattle.frame_layout.specs.Layout.{plan_of}
 use Rattle.frame_rules.specs.Bytes.{prologue_code}
 use Rattle.host_layout.specs.declared.imported.ImportedService.{ImportedService}
-use Rattle.host_layout.specs.declared.imported.ImportedService.TheVariants.{RaiseException, LocalUnwind, Protect, Put}
+use Rattle.host_layout.specs.declared.imported.ImportedService.TheVariants.{RaiseException, LocalUnwind, Protect, Put, Walk}
 use Rattle.pe_write.specs.ImportTables.{place_of, slot_of}
 use Rattle.template_code.specs.declared.layout.Layout.{Layout}
 use Rattle.template_code.specs.Bytes.{sizes}
@@ -82,6 +82,7 @@ thunks_at imports text =
       protect = thunk_at imports text Protect;
       raise_exception = thunk_at imports text RaiseException;
       local_unwind = thunk_at imports text LocalUnwind;
+      walk = thunk_at imports text Walk;
     }
 
 abbrev pub service_thunk : List ImportedService → ℕ → ℕ → ImportedService → Instr

@@ -7,7 +7,8 @@ pub use Rattle.linear_code.specs.declared.program.IrFunclet.{IrFunclet}
 pub use Rattle.linear_code.specs.declared.program.IrFunction.{IrFunction}
 pub use Rattle.linear_code.specs.declared.slot.Slot.TheVariants.{Local, Temporary}
 unfoldable pub use Rattle.pe_image.specs.Numbers.{u32, u16}
-pub use Rattle.pe_write.specs.ImportTables.{hint_name_size, names_size, tables_size}
+pub use Rattle.pe_write.specs.ImportTables.{hint_name_size, names_size as import_names_size, tables_size}
+pub use Rattle.pe_write.specs.NameTable.{NameRow, names_offset, names_size, name_table_size}
 pub use Rattle.pe_write.specs.Program.{CanBeImage, ImageContents}
 pub use Rattle.eh_tables.specs.Written.{table_bytes, slot, is_small, is_short, allocation, header, padded, trailer_bytes, scope_record_bytes}
 unfoldable pub use Rattle.eh_tables.specs.Written.{unwind_bytes}
@@ -26,9 +27,11 @@ pub use Rattle.x64_emit.specs.Linking.{links_of, Addresses}
 pub use Rattle.x64_emit.specs.Near.{AreNear, IsNear, IsInstructionNear, IsBaseNear, IsSlotNear}
 pub use Rattle.x64_emit.specs.Rooms.{code_room}
 pub use Rattle.image_link.specs.Fits.{FitsFunction, FitsFunclet, FitsProgram, tables_room, function_bodies, funclet_bodies, program_tables_room, FitsSlot, FitsInstruction, FitsBody, FitsKind, text_room}
-pub use Rattle.image_link.specs.Linked.{total, first, text_size, xdata_begin, IsPlacement, site, image_of, linked, services_of}
-pub use Rattle.image_link.specs.Near.{IsRoutineNear, IsFrameNear, IsEntryNear, IsSiteNear, AreFew, HasRoom, HasPlaces}
-pub use Rattle.image_link.specs.Routines.{RoutineView, function_frame, framed, is_leaf, leaf_if, functions_from, funclet, routines, leaf_layout, function_layout, leaf, funclet_frame, nothing, body_of_function, body_of_funclet, kept_by, HasParent, entry_of, funclet_layout, has_call}
+pub use Rattle.image_link.specs.Linked.{total, first, text_size, xdata_begin, IsPlacement, site, image_of, linked}
+pub use Rattle.image_link.specs.Walks.{has_walk, functions_walk, funclets_walk, calls_walk, services_if, IsImported, named_if, named_functions, IsName, IsNamed, function_rows, names_room}
+unfoldable pub use Rattle.image_link.specs.Walks.{services_of}
+pub use Rattle.image_link.specs.Near.{IsRoutineNear, IsFrameNear, IsEntryNear, IsSiteNear, AreFew, HasRoom, HasNames, HasPlaces}
+pub use Rattle.image_link.specs.Routines.{RoutineView, function_frame, framed, is_leaf, leaf_if, functions_from, funclet, routines, leaf_layout, function_layout, leaf, funclet_frame, nothing, no_function, body_of_function, body_of_funclet, kept_by, HasParent, entry_of, funclet_layout, has_call}
 pub use Rattle.image_link.specs.Places.{PlaceView, place_at, places_from}
 pub use Rattle.image_link.specs.Tables.{infos_room, infos, range_if, range_of, ranges, trailer, scope_record, scope_records, scope_table, info_if, info_room, has_except, has_finally}
 unfoldable pub use Rattle.image_link.specs.Tables.{info_bytes}

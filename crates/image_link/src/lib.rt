@@ -15,3 +15,4 @@ pub mod placement;
 pub mod routine;
 pub mod tables;
 pub mod text;
+pub mod walks;

@@ -1,14 +1,14 @@
 //! The image of a program.
 
-ghost use Rattle.std.specs.Prelude.{◌≡◌, ℕ, ◌<◌, ◌≤◌, length, take, drop, IfOk};
+ghost use Rattle.std.specs.Prelude.{◌≡◌, ℕ, ◌<◌, ◌≤◌, length, map, take, drop, IfOk};
 ghost use Rattle.std.specs.List.{AllByRecursion};
-ghost use Rattle.linear_code.specs.Program.{linear_program};
+ghost use Rattle.linear_code.specs.Program.{linear_function, linear_program};
 ghost use Rattle.pe_image.specs.Reading.{IsImage};
 ghost use Rattle.pe_write.specs.Program as images;
 ghost use Rattle.pe_write.specs.Written.{written};
 ghost use Rattle.image_link.specs.Fits.{FitsProgram};
 ghost use Rattle.image_link.specs.Linked as spec;
-ghost use Rattle.image_link.specs.Near.{AreFew, IsRoutineNear, HasPlaces};
+ghost use Rattle.image_link.specs.Near.{AreFew, IsRoutineNear, HasNames, HasPlaces};
 ghost use Rattle.image_link.specs.Places.{places_from};
 ghost use Rattle.image_link.specs.Text as texts;
 
@@ -17,20 +17,12 @@ use crate::placement::{offset_of, placement_of, text_begin};
 use crate::routine::{Routine, routines};
 use crate::tables::{Tables, tables_of};
 use crate::text::{Site, text_of};
-use host_layout::imported::{IMPORTED, ImportedService};
-use linear_code::program::IrProgram;
-use pe_write::{Image, write};
+use crate::walks::{calls_walk, function_rows, named_if, services_if};
+use host_layout::imported::ImportedService;
+use linear_code::program::{IrFunction, IrProgram};
+use pe_write::{Image, NamedRange, write};
 use seh_num::limit::MOST_GLOBALS;
 use std::alloc::{AllocError, Global};
-
-/// The services that a program imports, in the order of their slots and thunks: all of them.
-fn services_of(alloc: Global, program: &IrProgram) -> Result<Vec<ImportedService>, AllocError>
-    ensures { IfOk result (λ v. v.items ≡ spec.services_of (linear_program program.now)) }
-{
-    let mut services = Vec::new(alloc);
-    services.extend_from_slice(&IMPORTED)?;
-    Ok(services)
-}
 
 /// The addresses that a text at `text` refers to, where the first `functions` routines are
 /// functions.
@@ -61,7 +53,7 @@ fn site_of<'a>(
 }
 
 /// The image of code and tables.
-fn image_with(
+fn image_with<'a>(
     alloc: Global,
     imports: &[ImportedService],
     globals: &[u8],
@@ -69,7 +61,8 @@ fn image_with(
     code: Vec<u8>,
     entry: u32,
     tables: Tables,
-) -> Result<Image, AllocError>
+    names: Vec<NamedRange<'a>>,
+) -> Result<Image<'a>, AllocError>
     requires { images.CanBeImage (record {
       imports = imports.now;
       data_size = data_size;
@@ -78,6 +71,7 @@ fn image_with(
       entry = entry;
       xdata = tables.xdata.items;
       pdata = tables.pdata.items;
+      names = names.items;
     }) }
     ensures { IfOk result (λ image. image ≡ record {
       imports = imports.now;
@@ -87,6 +81,7 @@ fn image_with(
       entry = entry;
       xdata = tables.xdata.items;
       pdata = tables.pdata.items;
+      names = names.entry.items;
     }) }
 {
     let mut services = Vec::new(alloc);
@@ -101,12 +96,13 @@ fn image_with(
         entry,
         tables.xdata,
         tables.pdata,
+        names,
     ))
 }
 
 /// The image of routines at their places between bounds, of which the first so many are functions,
-/// and which begins at the one of the index `main`.
-fn linked(
+/// and which begins at the one of the index `main`. It has the names of the functions `named`.
+fn linked<'a>(
     alloc: Global,
     imports: &[ImportedService],
     globals: &[u8],
@@ -115,15 +111,18 @@ fn linked(
     places: &[Place],
     functions: usize,
     main: usize,
-) -> Result<Image, AllocError>
+    named: &'a [IrFunction],
+) -> Result<Image<'a>, AllocError>
     requires imports { AreFew imports.now }
     requires globals { length globals.now ≤ MOST_GLOBALS }
     requires near { AllByRecursion IsRoutineNear routines.now }
     requires places { HasPlaces routines.now functions main }
+    requires names { HasNames routines.now (map linear_function named.now) }
     requires bounds { bounds.now ≡ texts.bounds (spec.first imports.now globals.now) routines.now }
     requires placed { places.now ≡ places_from (spec.first imports.now globals.now) routines.now }
     ensures { IfOk result
-        (λ image. image ≡ spec.image_of imports.now globals.now routines.now functions main) }
+        (λ image. image ≡ spec.image_of imports.now globals.now routines.now functions main
+        (map linear_function named.now)) }
 {
     let placement = placement_of(imports, globals, routines, bounds);
     let text = placement.text;
@@ -138,6 +137,7 @@ fn linked(
         placement.xdata,
     )?;
     let entry = offset_of(bounds, main, text);
+    let names = function_rows(alloc, bounds, named)?;
     image_with(
         alloc,
         imports,
@@ -146,25 +146,29 @@ fn linked(
         code,
         entry,
         tables,
+        names,
     )
 }
 
 /// The image of routines, of which the first so many are functions, and which begins at the one of
-/// the index `main`.
-fn image_of(
+/// the index `main`. It has the names of the functions `named`.
+fn image_of<'a>(
     alloc: Global,
     imports: &[ImportedService],
     globals: &[u8],
     routines: &[Routine<'_>],
     functions: usize,
     main: usize,
-) -> Result<Image, AllocError>
+    named: &'a [IrFunction],
+) -> Result<Image<'a>, AllocError>
     requires imports { AreFew imports.now }
     requires globals { length globals.now ≤ MOST_GLOBALS }
     requires near { AllByRecursion IsRoutineNear routines.now }
     requires places { HasPlaces routines.now functions main }
+    requires names { HasNames routines.now (map linear_function named.now) }
     ensures { IfOk result
-        (λ image. image ≡ spec.image_of imports.now globals.now routines.now functions main) }
+        (λ image. image ≡ spec.image_of imports.now globals.now routines.now functions main
+        (map linear_function named.now)) }
 {
     let first = text_begin(globals) + front_size(imports);
     let places = places_of(alloc, routines, first)?;
@@ -177,6 +181,7 @@ fn image_of(
         &places.each,
         functions,
         main,
+        named,
     )
 }
 
@@ -193,7 +198,8 @@ pub fn compile_program(alloc: Global, program: &IrProgram) -> Result<Vec<u8>, Al
 {
     let routines = routines(alloc, program)?;
     let functions = program.functions.len();
-    let imports = services_of(alloc, program)?;
+    let walks = calls_walk(program);
+    let imports = services_if(alloc, walks)?;
     let image = image_of(
         alloc,
         &imports,
@@ -201,6 +207,7 @@ pub fn compile_program(alloc: Global, program: &IrProgram) -> Result<Vec<u8>, Al
         &routines,
         functions,
         program.main as usize,
+        named_if(walks, &program.functions),
     )?;
     write(alloc, &image)
 }

@@ -71,6 +71,7 @@ fn thunks_at(imports: &[ImportedService], text: u32) -> Thunks
         protect: thunk_at(imports, text, ImportedService::Protect),
         raise_exception: thunk_at(imports, text, ImportedService::RaiseException),
         local_unwind: thunk_at(imports, text, ImportedService::LocalUnwind),
+        walk: thunk_at(imports, text, ImportedService::Walk),
     }
 }
 

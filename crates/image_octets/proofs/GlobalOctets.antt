@@ -31,7 +31,8 @@ initial_octets t None (Some (Several at cs)) = repeated (stored_bytes t)
 initial_octets t (Some l) None = repeated (l.value * stored_bytes t)
 initial_octets t (Some l) (Some (Single c)) = repeated (l.value * stored_bytes t)
 initial_octets t (Some l) (Some (Several at cs)) =
-    filled_octets (l.value * stored_bytes t) (bytes_of_all (stored_bytes t) cs) (all_octets (stored_bytes t) cs)
+    filled_octets (l.value * stored_bytes t) (bytes_of_all (stored_bytes t) cs)
+    (all_octets (stored_bytes t) cs)
 
 padded_octets : (n : ℕ) (bytes : List ℕ) → AreOctets bytes → AreOctets (padded n bytes)
 padded_octets n bytes all = joined bytes (replicate ((n - length bytes % n) % n) 0) all

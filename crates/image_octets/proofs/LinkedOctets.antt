@@ -1,5 +1,6 @@
 -- The bytes of the image of a linked program are octets, where its globals are.
-use Rattle.std.proofs.Common.{ℕ, ◌+◌, List, [], ◌∷◌, length, Option, Some, None}
+use Rattle.std.specs.List.{AllByRecursion}
+use Rattle.std.proofs.Common.{ℕ, ◌+◌, Bool, true, false, List, [], ◌∷◌, length, Option, Some, None}
 use Rattle.host_layout.specs.declared.imported.ImportedService.TheVariants.{CSpecificHandler}
 use Rattle.linear_code.specs.declared.program.Region.{Region}
 use Rattle.eh_tables.specs.Written.{unwind_bytes}
@@ -7,14 +8,17 @@ use Rattle.frame_layout.specs.declared.frame.FrameLayout.{FrameLayout}
 use Rattle.frame_layout.specs.Layout.{info_of}
 use Rattle.template_code.specs.Bytes.{spelled}
 use Rattle.image_link.specs.Routines.{RoutineView, routines}
-use Rattle.image_link.specs.Text.{SiteView, own_addresses, routine_size, front_code, first_routine_at, routine_code, routine_bytes, routines_bytes, text_bytes, thunk_at}
+use Rattle.image_link.specs.Text.{SiteView, own_addresses, routine_size, front_code, first_routine_at, routine_code, routine_bytes, routines_bytes, text_bytes, thunk_at, bounds}
 use Rattle.image_link.specs.Tables.{trailer, scope_records, scope_table, info_if, info_bytes, infos, ranges}
-use Rattle.image_link.specs.Linked.{services_of, first, site, xdata_begin, linked}
+use Rattle.image_link.specs.Linked.{first, site, xdata_begin, linked}
+use Rattle.image_link.specs.Walks.{services_of, calls_walk, named_if, named_functions, IsName, IsNamed, function_rows}
+use Rattle.linear_code.specs.Program.{LinearFunction}
 use Rattle.image_octets.specs.OctetLaws.{AreOctets, LinkedAreOctets}
 use Rattle.image_octets.proofs.Octets.{joined}
 use Rattle.image_octets.proofs.InstructionOctets.{spelled_octets}
 use Rattle.image_octets.proofs.TableOctets.{table_octets, scope_octets}
 use Rattle.image_octets.proofs.InfoOctets.{info_octets}
+use Rattle.image_octets.proofs.NameOctets.{HasOctetName}
 use Rattle.image_octets.proofs.ProgramOctets.{program_octets}
 
 -- ---- code
@@ -63,12 +67,30 @@ infos_octets s at (r ∷ rs) =
     joined (info_bytes s at r) (infos s (at + routine_size r) rs)
     (one_octets s at r) (infos_octets s (at + routine_size r) rs)
 
+-- ---- the names of functions
+
+name_octets : (name : List ℕ) → IsName name → AreOctets name
+name_octets [] is = tt
+name_octets (b ∷ bs) is = (is.0.1, name_octets bs is.1)
+
+named_octets : (walks : Bool) (fs : List LinearFunction) → AllByRecursion IsNamed fs
+    → AllByRecursion IsNamed (named_if walks fs)
+named_octets true fs all = all
+named_octets false fs all = tt
+
+row_names : (index : ℕ) (b : List ℕ) (fs : List LinearFunction) → AllByRecursion IsNamed fs
+    → AllByRecursion HasOctetName (function_rows index b fs)
+row_names index b [] all = tt
+row_names index b (f ∷ fs) all = (name_octets f.name all.0, row_names (index + 1) b fs all.1)
+
 -- ---- the image
 
 pub linked_are_octets : LinkedAreOctets
-linked_are_octets p globals =
+linked_are_octets p globals names =
     let rs = routines p in
     let s = site (services_of p) p.globals rs (length p.functions) in
     let at = first (services_of p) p.globals in
     program_octets (linked p) globals (text_octets s rs) (infos_octets s at rs)
     (table_octets (ranges s (xdata_begin (services_of p) p.globals rs) at rs))
+    (row_names 0 (bounds at rs) (named_functions p)
+    (named_octets (calls_walk p) p.functions names))

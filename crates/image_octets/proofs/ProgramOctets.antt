@@ -1,21 +1,24 @@
 -- The bytes of the image of a program are octets, where those of its parts are.
 use Rattle.std.proofs.Common.{◌≡◌, ℕ, ◌+◌, ◌%◌, Bool, true, ltb, List, [], ◌∷◌, ◌++◌, length, refl}
 use Rattle.std.specs.Prelude.{◌&&◌}
-use Rattle.std.specs.List.{flat_map}
+use Rattle.std.specs.List.{flat_map, AllByRecursion}
 use Rattle.std.proofs.lemmas.Bool.{ltb-true, and_parts}
 use Rattle.host_layout.specs.declared.imported.ImportedService.{ImportedService}
-use Rattle.host_layout.specs.declared.imported.ImportedService.TheVariants.{RaiseException, CSpecificHandler, LocalUnwind, Protect, Put}
+use Rattle.host_layout.specs.declared.imported.ImportedService.TheVariants.{RaiseException, CSpecificHandler, LocalUnwind, Protect, Put, Walk}
 use Rattle.host_layout.specs.declared.name.TheConstants.{LIBRARY}
 use Rattle.pe_image.specs.Numbers.{u32, u64, zeros}
-use Rattle.pe_image.specs.declared.layout.TheConstants.{DESCRIPTOR_SIZE, HINT_SIZE}
+use Rattle.pe_image.specs.declared.layout.TheConstants.{DESCRIPTOR_SIZE, HINT_SIZE, SEHNAME_NAME}
 use Rattle.pe_write.specs.declared.header.TheConstants.{DATA_NAME, TEXT_NAME, RDATA_NAME, XDATA_NAME, PDATA_NAME}
 use Rattle.pe_write.specs.declared.import_tables.TheConstants.{UNREAD_FIELDS_SIZE}
 use Rattle.pe_write.specs.ImportTables.{name_of, lookups_at, slots_at, names_at, library_at, hint_name, hint_name_size, addresses, descriptor, import_tables}
-use Rattle.pe_write.specs.Program.{ImageContents, sizes_of, rdata_at, parts_of}
-use Rattle.pe_write.specs.Written.{written}
+use Rattle.pe_write.specs.NameTable.{NameRow}
+use Rattle.pe_write.specs.Program.{ImageContents, sizes_of, rdata_at, names_section, if_named, parts_of}
+use Rattle.pe_write.specs.Program as programs
+use Rattle.pe_write.specs.Written.{SectionParts, written}
 use Rattle.image_octets.specs.OctetLaws.{AreOctets}
 use Rattle.image_octets.proofs.Octets.{joined, mapped, four_bytes, eight_bytes, zero_bytes}
-use Rattle.image_octets.proofs.WrittenOctets.{written_octets}
+use Rattle.image_octets.proofs.WrittenOctets.{HasOctets, written_octets}
+use Rattle.image_octets.proofs.NameOctets.{HasOctetName, name_table_octets}
 
 -- ---- constants
 
@@ -37,6 +40,7 @@ name_octets CSpecificHandler = by_test (name_of CSpecificHandler) refl
 name_octets LocalUnwind = by_test (name_of LocalUnwind) refl
 name_octets Protect = by_test (name_of Protect) refl
 name_octets Put = by_test (name_of Put) refl
+name_octets Walk = by_test (name_of Walk) refl
 
 -- ---- the import tables
 
@@ -89,10 +93,16 @@ imports_octets ss at =
 
 -- ---- the image
 
+if_named_octets : (rows : List NameRow) (s : SectionParts) → HasOctets s
+    → AllByRecursion HasOctets (if_named rows s)
+if_named_octets [] s h = tt
+if_named_octets (r ∷ rs) s h = (h, tt)
+
 pub program_octets : (p : ImageContents) → AreOctets p.data_bytes → AreOctets p.text
-    → AreOctets p.xdata → AreOctets p.pdata → AreOctets (written (parts_of p))
+    → AreOctets p.xdata → AreOctets p.pdata → AllByRecursion HasOctetName p.names
+    → AreOctets (written (parts_of p))
 unfolding all_below
-program_octets p globals text xdata pdata =
+program_octets p globals text xdata pdata names =
     written_octets (parts_of p) (
       record { name = by_test DATA_NAME refl; bytes = globals },
       (
@@ -104,7 +114,13 @@ program_octets p globals text xdata pdata =
           },
           (
             record { name = by_test XDATA_NAME refl; bytes = xdata },
-            (record { name = by_test PDATA_NAME refl; bytes = pdata }, tt),
+            (
+              record { name = by_test PDATA_NAME refl; bytes = pdata },
+              if_named_octets p.names (names_section p) (record {
+                name = by_test SEHNAME_NAME refl;
+                bytes = name_table_octets p.names (programs.names_at (sizes_of p)) names;
+              }),
+            ),
           ),
         ),
       ),

@@ -127,11 +127,14 @@ directories_octets image =
     (joined (empty_directories IMAGE_DIRECTORY_ENTRY_IMPORT) (directory_entry image.imports)
     (zero_bytes (DIRECTORY_SIZE * IMAGE_DIRECTORY_ENTRY_IMPORT))
     (entry_octets image.imports))
-    (zero_bytes (DIRECTORY_SIZE * (IMAGE_DIRECTORY_ENTRY_EXCEPTION - IMAGE_DIRECTORY_ENTRY_IMPORT - 1))))
+    (zero_bytes (DIRECTORY_SIZE * (IMAGE_DIRECTORY_ENTRY_EXCEPTION - IMAGE_DIRECTORY_ENTRY_IMPORT
+    - 1))))
     (entry_octets image.exceptions))
-    (zero_bytes (DIRECTORY_SIZE * (IMAGE_DIRECTORY_ENTRY_IAT - IMAGE_DIRECTORY_ENTRY_EXCEPTION - 1))))
+    (zero_bytes (DIRECTORY_SIZE * (IMAGE_DIRECTORY_ENTRY_IAT - IMAGE_DIRECTORY_ENTRY_EXCEPTION
+    - 1))))
     (entry_octets image.import_addresses))
-    (zero_bytes (DIRECTORY_SIZE * (IMAGE_NUMBEROF_DIRECTORY_ENTRIES - IMAGE_DIRECTORY_ENTRY_IAT - 1)))
+    (zero_bytes (DIRECTORY_SIZE * (IMAGE_NUMBEROF_DIRECTORY_ENTRIES - IMAGE_DIRECTORY_ENTRY_IAT
+    - 1)))
 
 fields_octets : (s : PlacedSection) → AreOctets (section_fields s)
 unfolding section_fields

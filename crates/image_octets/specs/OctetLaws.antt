@@ -7,6 +7,7 @@ use Rattle.linear_code.specs.Program.{LinearProgram}
 use Rattle.pe_write.specs.Program.{parts_of}
 use Rattle.pe_write.specs.Written.{written}
 use Rattle.image_link.specs.Linked.{linked}
+use Rattle.image_link.specs.Walks.{IsNamed}
 
 -- the list can be the bytes of a file
 abbrev pub AreOctets : List ℕ → Type 0
@@ -15,7 +16,8 @@ AreOctets bytes = AllByRecursion (λ b. b < 256) bytes
 -- the image of a linked program
 abbrev pub LinkedAreOctets : Type 0
 LinkedAreOctets =
-    (p : LinearProgram) → AreOctets p.globals → AreOctets (written (parts_of (linked p)))
+    (p : LinearProgram) → AreOctets p.globals → AllByRecursion IsNamed p.functions
+    → AreOctets (written (parts_of (linked p)))
 
 -- the globals of the program that a text is resolved to
 abbrev pub ResolvedAreOctets : Type 0

@@ -9,13 +9,13 @@ use Rattle.match_turns.proofs.CallSteps.{returns_are_matched, calls_begin}
 use Rattle.match_turns.proofs.FuncletReturnSteps.{funclet_returns_are_matched}
 use Rattle.match_turns.proofs.FinallyCallSteps.{block_calls_are_matched}
 use Rattle.match_turns.proofs.OperationSteps.{operations, retries}
-use Rattle.match_turns.proofs.ServiceSteps.{information_is_matched, puts_are_matched, protects_are_matched}
+use Rattle.match_turns.proofs.ServiceSteps.{information_is_matched, puts_are_matched, protects_are_matched, walks_are_matched}
 use Rattle.match_turns.proofs.RaiseCall.{raises_are_matched}
 use Rattle.match_turns.proofs.LocalUnwindCall.{local_unwinds_are_matched}
 use Rattle.match_turns.proofs.DispatchOutcomeSteps.{matched_there}
 use Rattle.match_turns.proofs.BodyContinuation.{bodies_continue}
 use Rattle.c_operations.specs.declared.built_in.BuiltIn.{BuiltIn}
-use Rattle.c_operations.specs.declared.built_in.BuiltIn.TheVariants.{Put, Protect, RaiseException}
+use Rattle.c_operations.specs.declared.built_in.BuiltIn.TheVariants.{Put, Protect, RaiseException, Walk}
 use Rattle.image_runs.specs.StepMatches.{StepMatches}
 use Rattle.image_runs.proofs.AgreementFacts.{known, known_next}
 use Rattle.image_runs.proofs.AgreementSteps.{carried}
@@ -61,6 +61,8 @@ module _ (t : Functions) (fs : List Funclet) (program : LinearProgram) (p : Imag
       (inl (puts_are_matched t fs program p q image.image image.made s d first b known at))
   called_built_in Protect first at rule next = to_next (instructions.CallBuiltIn Protect first)
       (inl (protects_are_matched t fs program p q image.image image.made s d first b known at))
+  called_built_in Walk first at rule next = to_next (instructions.CallBuiltIn Walk first)
+      (inl (walks_are_matched t fs program p q image.image image.made s d first b known at))
   called_built_in RaiseException first at rule next = raises_are_matched t fs program p q
       image.image image.made image.flags s d first b known at rule next
 

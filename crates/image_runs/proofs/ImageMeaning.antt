@@ -7,6 +7,7 @@ use Rattle.pe_write.proofs.Back.{written_length}
 use Rattle.pe_write.proofs.Programs.{size_is, can_be_written}
 use Rattle.image_runs.proofs.Lemmas.{images_are_small, is, images_load}
 use Rattle.image_runs.proofs.ImageCode.{lowered_is_compiled}
+use Rattle.image_runs.proofs.FunctionNames.{names_functions}
 use Rattle.image_runs.proofs.ImageRuns.{linked_images_show_all, linked_images_show_no_more}
 use Rattle.host_layout.specs.declared.limit.TheConstants.{MOST_IMAGE}
 
@@ -35,6 +36,7 @@ compiled_realise program l reads bytes w = record {
   loads = images_load (lowered program) (lowered_is_compiled program l);
   shows = λ arg n lt. linked_images_show_all program l reads bytes w.read (octets program bytes w)
       (pos arg) n;
+  names = names_functions program l;
 }
 
 pub compiled_show_nothing_more : CompiledShowNothingMore

@@ -1,7 +1,7 @@
 -- The run of a linked image is that of the machine on its tables.
 use Rattle.std.proofs.Common.{◌≡◌, ℕ, ◌+◌, ◌*◌, zero, List, [], refl, sym, ap, subst, ◌∙◌}
 use Rattle.std.specs.Prelude.{ℤ, Result, slice_get, get_or, Some}
-use Rattle.image_runs.specs.Words.{image_of, Entry, funclets, host, run, machine_of, Program, meaning, LinearFunction, LinearProgram, nothing, HasBytes, MainBegins, lowered, ShowsAll, ShowsNoMore, linked, functions_of, funclets_of, plan_of, sites_of, IsLinkable}
+use Rattle.image_runs.specs.Words.{image_of, Entry, funclets, host, run, machine_of, Program, meaning, LinearFunction, LinearProgram, no_function, HasBytes, MainBegins, lowered, ShowsAll, ShowsNoMore, linked, functions_of, funclets_of, plan_of, sites_of, IsLinkable}
 use Rattle.host_model.specs.Machine.{machine}
 use Rattle.eh_tables.specs.Tables.{or_none}
 use Rattle.host_model.specs.Loading.{start}
@@ -36,9 +36,6 @@ module _ (program : Program) (l : IsLinkable program) (bytes : List ℕ)
 -- `main`, and that the machine comes to its beginning
 module _ (program : Program) (l : IsLinkable program) (octets : HasBytes (lowered program))
     (arg : ℤ) where
-  abbrev no_function : LinearFunction
-  no_function = record { parameters = 0; body = nothing }
-
   abbrev pub main_of : LinearFunction
   main_of = get_or (lowered program).functions (lowered program).main no_function
 

@@ -16,9 +16,11 @@ pub mod LiveStates
 pub mod AgreementSimulation
 pub mod WholeRuns
 pub mod ImageRuns
+pub mod FunctionNames
 pub mod ImageMeaning
 pub mod TextImages
 pub mod WalkFrames
+pub mod WalkEvents
 pub mod LiveFrames
 pub mod StateWalks
 pub mod InstructionWalks

@@ -80,11 +80,12 @@ module _ (t : Functions) (fs : List Funclet) (program : LinearProgram) (p : Imag
           },
           are_frames m (after_leaf c up) is below (activations_below b.body acts) s.1 l.2,
         )
-    are_frames m c (Searching r ∷ is) (Searches exception resumption asked rest ∷ below) acts s l = (
-      r,
-      record { here = s.0.at_host; is = s.0.fetches },
-      are_frames m (context_of r.saved) is below acts s.1 l.1,
-    )
+    are_frames m c (Searching r ∷ is) (Searches exception resumption asked rest ∷ below) acts s l
+        = (
+          r,
+          record { here = s.0.at_host; is = s.0.fetches },
+          are_frames m (context_of r.saved) is below acts s.1 l.1,
+        )
     are_frames m c (Unwinding r ∷ is) (Unwinds rest target ∷ below) acts s l = (
       r,
       record { here = s.0.at_host; is = s.0.fetches },

@@ -2,7 +2,7 @@
 use Rattle.std.proofs.Common.{◌≡◌, inl, zero, refl, subst, ap, []}
 use Rattle.std.specs.Prelude.{ℕ, ℤ, slice_get, get_or, Option, Some}
 use Rattle.std.proofs.lemmas.Option.{slice_get-get_or}
-use Rattle.image_runs.specs.Words.{image_of, State, Program, LinearFunction, LinearProgram, Configuration, with_some, seen, exec, start, lowered, ReadsNoUnset, started_with, turns_in_hand, turns_per_step, nothing, linked, functions_of, funclets_of, plan_of, sites_of, HasBytes, MainBegins, IsLinkable, IsSoundImage, RepresentsWhereSet, IsRunning, ShowsFramesOf, PassesTheFrames, RunsPassTheFrames}
+use Rattle.image_runs.specs.Words.{image_of, State, Program, LinearFunction, LinearProgram, Configuration, with_some, seen, exec, start, lowered, ReadsNoUnset, started_with, turns_in_hand, turns_per_step, no_function, linked, functions_of, funclets_of, plan_of, sites_of, HasBytes, MainBegins, IsLinkable, IsSoundImage, RepresentsWhereSet, IsRunning, ShowsFramesOf, PassesTheFrames, RunsPassTheFrames}
 use Rattle.host_model.specs.Loading as images
 use Rattle.image_runs.proofs.Lemmas.{continues, agreement_at_start}
 use Rattle.image_runs.proofs.FirstState.{mains_begin}
@@ -37,9 +37,6 @@ module _ (program : Program) (l : IsLinkable program) (reads : ReadsNoUnset (low
 
   module _ (octets : HasBytes linear) (arg : ℤ) (n : ℕ) (running : IsRunning (seen linear arg n))
     where
-      abbrev no_function : LinearFunction
-      no_function = record { parameters = 0; body = nothing }
-
       abbrev main : LinearFunction
       main = get_or linear.functions linear.main no_function
 

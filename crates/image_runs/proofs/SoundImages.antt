@@ -1,7 +1,7 @@
 -- All that steps of the machine ask of the image of a sound program.
 use Rattle.std.proofs.Common.{◌≡◌, ℕ, ◌<◌, [], ◌∷◌, length, get_or, Some, refl, sym, ap, ◌∙◌, arith, length-append}
 use Rattle.std.proofs.lemmas.Option.{slice_get-get_or}
-use Rattle.image_runs.specs.Words.{Program, Local, Temporary, LinearBody, LinearFunction, LinearProgram, FunctionBody, function_body, body_of, scope_of, lowered, nothing, functions_of, funclets_of, plan_of, sites_of, IsLinkable, IsSoundImage, FunctionsApart, IsField, IsPlain, LoweredHasImage}
+use Rattle.image_runs.specs.Words.{Program, Local, Temporary, LinearBody, LinearFunction, LinearProgram, FunctionBody, function_body, body_of, scope_of, lowered, no_function, functions_of, funclets_of, plan_of, sites_of, IsLinkable, IsSoundImage, FunctionsApart, IsField, IsPlain, LoweredHasImage}
 use Rattle.c_operations.specs.declared.field.Field.{Field}
 use Rattle.linear_code.specs.declared.instruction.Instruction.TheVariants as instructions
 use Rattle.linear_code.specs.declared.program.FuncletKind.{FuncletKind}
@@ -55,9 +55,6 @@ module _ (program : Program) (l : IsLinkable program) where
       (λ f. (let n = length-append (statements_code (scope_of f) f.body 1)
       (constant 0 0 ∷ instructions.Return (Temporary 0) ∷ []) in omega arith))
       program (FunctionBody k) b e
-
-  no_function : LinearFunction
-  no_function = record { parameters = 0; body = nothing }
 
   apart : FunctionsApart linear (plan_of linear) (sites_of linear)
   apart f k lt within =

@@ -11,7 +11,8 @@ module _ (t : Functions) (fs : List Funclet) (program : Program) (p : ImagePlan)
     (image : IsSoundImage t fs (lowered program) p q) (arg : ℤ) (main : LinearFunction) (s : State)
     (is_main : slice_get (lowered program).functions (lowered program).main ≡ Some main)
     (b : MainBegins t fs (lowered program) p q arg main s) where
-  pub begins : (n : ℕ) → RunBegins t fs (lowered program) turns_per_step turns_in_hand arg b.turns s n
+  pub begins : (n : ℕ) → RunBegins t fs (lowered program) turns_per_step turns_in_hand arg b.turns s
+      n
   begins n = record {
     main = main;
     is_main = is_main;

@@ -1,8 +1,9 @@
 -- An image that does what a program means.
-use Rattle.std.specs.Prelude.{◌≡◌, ℕ, ◌+◌, ◌*◌, ◌^◌, ◌<◌, ◌≤◌, true, List, length, pos, None}
+use Rattle.std.specs.Prelude.{◌≡◌, ℕ, zero, suc, ◌+◌, ◌*◌, ◌^◌, ◌<◌, ◌≤◌, true, List, length, pos, slice_get, option_map, Option, None}
 use Rattle.std.specs.List.{AllByRecursion}
 use Rattle.host_layout.specs.declared.limit.TheConstants.{MOST_IMAGE}
 use Rattle.pe_image.specs.Image.{Image}
+use Rattle.pe_image.specs.NameRows.{function_name}
 use Rattle.pe_image.specs.Reading.{IsImage}
 use Rattle.pe_write.specs.Program.{parts_of, image_of}
 use Rattle.pe_write.specs.Written.{written}
@@ -17,12 +18,25 @@ use Rattle.lowering_locals.specs.Reads.{ReadsNoUnset}
 use Rattle.match_runs.specs.Ends.{run_end_of}
 use Rattle.match_runs.specs.Laws.{ShowsNoMore}
 use Rattle.image_link.specs.Linked.{linked}
+use Rattle.image_link.specs.Walks.{calls_walk}
 use Rattle.image_runs.specs.SoundImages.{IsLinkable}
+
+-- the name of the function of a number, from 1 on in the order of the program's text
+abbrev pub name_in : Program → ℕ → Option (List ℕ)
+name_in program zero = None
+name_in program (suc k) = option_map (λ f. f.name) (slice_get program.functions k)
+
+-- where the program calls `walk`, the number of each function has the function's name in the image,
+-- and no other number has one
+abbrev pub NamesFunctions : Image → Program → Type 0
+NamesFunctions image program =
+    calls_walk (lowered program) ≡ true → (number : ℕ)
+    → function_name image number ≡ name_in program number
 
 -- the bytes are an image of at most 256 MiB that loads. For every argument and every n, what the
 -- program shows within n steps the image shows in at most 256 n + 256 turns: its events are the
 -- first events of the run, and where the program ends within n steps the run has ended in the same
--- way with no other event.
+-- way with no other event. A program that calls `walk` has its functions' names in it.
 pub record Realises (bytes : List ℕ) (program : Program) : Type 0 where
   pub image : Image
   pub is : IsImage bytes image
@@ -32,6 +46,7 @@ pub record Realises (bytes : List ℕ) (program : Program) : Type 0 where
       (arg n : ℕ) → arg < 2 ^ 63
       → Covers (meaning program (pos arg) n).events (run_end_of (meaning program (pos arg) n).end)
       (machine bytes (pos arg) (256 * n + 256))
+  pub names : NamesFunctions image program
 
 -- in m turns it shows no more than the program shows within (m + 1) * K steps, where these are
 -- calm, and ends only as they end

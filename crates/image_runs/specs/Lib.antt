@@ -15,6 +15,7 @@ pub mod RunStates
 pub mod ScratchInstructions
 pub mod InstructionStates
 pub mod WalkLaws
+pub mod WalkEvents
 pub mod RunWalks
 pub mod WalkedLaws
 pub mod TextRuns

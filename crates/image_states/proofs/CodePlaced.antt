@@ -3,12 +3,15 @@ use Rattle.std.proofs.Common.{◌≡◌, ℕ, suc, ◌+◌, ◌*◌, ◌-◌, �
 use Rattle.std.specs.List.{AllByRecursion}
 use Rattle.std.proofs.lemmas.Grind.{flat_map-append}
 use Rattle.std.proofs.lemmas.List.{append-nil}
-use Rattle.image_states.specs.Words.{Service, service_named, is_writable, Memory, may_write, chosen, modrm, Section, Import, ImageContents, image_of, imports_of, sizes_of, rdata_at, end_at, mode_in, stored_byte, with_slots, mapped, IsExecutableAt, BuiltIn, Put, Protect, RaiseException, LinearBody, LinearProgram, BodyName, body_of, spelled, size, sizes, check_stack, IsCodeAt, SiteView, routine_size, routine_code, routine_bytes, text_begin, linked, routines, site_of, image_base, begin_of, code_of, HasProgram, functions_of, funclets_of, routine_of, plan_of, sites_of, HasWholeImage, MOST_IMAGE, is_readable, number_at, may_read, name_of, slot_of, SlotsAreApart, thunk, thunk_at, service_thunk, front_code, routines_bytes, service_of, HasService, tables_size, slots_at, place_of, routines_begin}
+use Rattle.image_states.specs.Words.{Service, service_named, is_writable, Memory, may_write, chosen, modrm, Section, Import, ImageContents, image_of, imports_of, sizes_of, rdata_at, end_at, mode_in, stored_byte, with_slots, mapped, IsExecutableAt, BuiltIn, Put, Protect, RaiseException, Walk, LinearBody, LinearProgram, BodyName, body_of, spelled, size, sizes, check_stack, IsCodeAt, SiteView, routine_size, routine_code, routine_bytes, text_begin, linked, routines, site_of, image_base, begin_of, code_of, HasProgram, functions_of, funclets_of, routine_of, plan_of, sites_of, HasWholeImage, MOST_IMAGE, is_readable, number_at, may_read, name_of, slot_of, SlotsAreApart, thunk, thunk_at, service_thunk, front_code, routines_bytes, service_of, HasService, tables_size, slots_at, place_of, routines_begin}
 use Rattle.host_layout.specs.declared.service.Service.TheVariants as services
 use Rattle.host_layout.specs.Services.{address_of}
 use Rattle.host_layout.specs.declared.imported.ImportedService.{ImportedService}
 use Rattle.host_layout.specs.declared.imported.ImportedService.TheVariants as imports
 use Rattle.image_states.proofs.Lemmas.{listed, slots_read, sizes_spelled, routine_small, is, text_is, rdata_is, end_inside, code_length}
+use Rattle.image_link.specs.Walks.{IsImported}
+use Rattle.linear_machine.specs.BuiltInCalls.{CallsBuiltIn}
+use Rattle.image_states.proofs.FunctionNames.{called_is_named}
 use Rattle.image_link.proofs.Front.{imports_small, services_few, services_there, thunks_size}
 use Rattle.image_link.proofs.Imports.{thunk_there, slot_there, IsWithin, all_from}
 use Rattle.template_code.specs.Jumps.{distance}
@@ -108,9 +111,10 @@ module _ (program : LinearProgram) (c : HasWholeImage program) where
   rest = routines_bytes s (routines_begin program) (routines program)
 
   -- the thunk of a service that is imported
-  thunk_is : (v : ImportedService) → IsCodeAt m (T + 6 * place_of s.imports v) (t v)
-  thunk_is v =
-      let f = thunk_there s.imports s.text s.rdata v rest (services_there program v) in
+  thunk_is : (v : ImportedService) → IsImported program v
+      → IsCodeAt m (T + 6 * place_of s.imports v) (t v)
+  thunk_is v is_there =
+      let f = thunk_there s.imports s.text s.rdata v rest (services_there program v is_there) in
       let long = f.long in
       let at : T + length f.before ≡ T + 6 * place_of s.imports v = omega arith in
       let b = (code_split m T f.before (t v ++ f.after)
@@ -171,14 +175,14 @@ module _ (program : LinearProgram) (c : HasWholeImage program) where
       ∙ slots_read image_base (stored_byte (image_of p)) before i later service fits name apart
 
   -- the slot of a service that is imported
-  slot_reads : (v : ImportedService) (service : Service)
+  slot_reads : (v : ImportedService) (service : Service) → IsImported program v
       → service_named (name_of v) ≡ Some service
       → number_at m.byte 8 (image_base + (r + slot_of s.imports v)) ≡ address_of service
-  slot_reads v service name =
+  slot_reads v service imported name =
       let ss = s.imports in
       let l = low in
       let few = imports_small ss (services_few program) in
-      let there = services_there program v in
+      let there = services_there program v imported in
       let q = slot_there (slots_at ss r) ss v there in
       let slot = slots_at ss r + 8 * place_of ss v in
       let at : r + slot_of ss v ≡ slot = omega arith in
@@ -196,12 +200,12 @@ module _ (program : LinearProgram) (c : HasWholeImage program) where
       (plan_of program) (sites_of program) m at service
 
   -- the thunk of a service that is imported, through its slot
-  serves : (v : ImportedService) (service : Service) (at : ℕ)
+  serves : (v : ImportedService) (service : Service) (at : ℕ) → IsImported program v
       → at ≡ image_base + thunk_at s.imports s.text v
       → service_named (name_of v) ≡ Some service → Serves at service
-  serves v service at here' name =
+  serves v service at imported here' name =
       let n = 6 * place_of s.imports v in
-      let there = services_there program v in
+      let there = services_there program v imported in
       let few = imports_small s.imports (services_few program) in
       let l = low in
       let end = end_inside program c.fits in
@@ -218,7 +222,7 @@ module _ (program : LinearProgram) (c : HasWholeImage program) where
       let wide : sizes (thunk away ∷ []) ≡ 6 = sym (sizes_spelled (thunk away ∷ []))
       ∙ sym (ap length spells) ∙ long in
       let is_there = subst (λ (k : ℕ). IsCodeAt m k (spelled (thunk away ∷ []))) own
-      (subst (IsCodeAt m (T + n)) spells (thunk_is v)) in
+      (subst (IsCodeAt m (T + n)) spells (thunk_is v imported)) in
       record {
         thunk = record {
           away = away;
@@ -229,7 +233,7 @@ module _ (program : LinearProgram) (c : HasWholeImage program) where
           };
           readable = λ a le lt. readable a (omega arith) (omega arith);
           fixed = λ a le lt. fixed a (omega arith) (omega arith);
-          bound = ap (number_at m.byte 8) (sym far) ∙ slot_reads v service name;
+          bound = ap (number_at m.byte 8) (sym far) ∙ slot_reads v service imported name;
         };
         inside = record {
           low = omega arith;
@@ -243,15 +247,19 @@ module _ (program : LinearProgram) (c : HasWholeImage program) where
         };
       }
 
-  thunks : (f : BuiltIn) → Serves ((sites_of program).thunk f) (service_of f)
-  thunks Put = serves imports.Put services.Put ((sites_of program).thunk Put) refl refl
-  thunks Protect = serves imports.Protect services.Protect ((sites_of program).thunk Protect) refl
-      refl
-  thunks RaiseException = serves imports.RaiseException services.RaiseException
-      ((sites_of program).thunk RaiseException) refl refl
+  thunks : (f : BuiltIn) → CallsBuiltIn program f → Serves ((sites_of program).thunk f) (service_of f)
+  thunks Put called = serves imports.Put services.Put ((sites_of program).thunk Put) tt refl refl
+  thunks Protect called =
+      serves imports.Protect services.Protect ((sites_of program).thunk Protect) tt refl refl
+  thunks RaiseException called =
+      serves imports.RaiseException services.RaiseException
+      ((sites_of program).thunk RaiseException) tt refl refl
+  thunks Walk called =
+      serves imports.Walk services.Walk ((sites_of program).thunk Walk)
+      (called_is_named program called) refl refl
 
   unwinds : Serves (sites_of program).local_unwind services.LocalUnwind
-  unwinds = serves imports.LocalUnwind services.LocalUnwind (sites_of program).local_unwind refl
+  unwinds = serves imports.LocalUnwind services.LocalUnwind (sites_of program).local_unwind tt refl
       refl
 
   pub has_program : HasProgram (functions_of program) (funclets_of program) program

@@ -1,14 +1,16 @@
 -- The machine's first memory beside the source's.
-use Rattle.std.proofs.Common.{◌≡◌, ℕ, ◌+◌, ◌*◌, ◌-◌, ◌^◌, ◌<◌, ◌≤◌, Bool, true, false, cond, not, leb, ltb, List, [], ◌∷◌, ◌++◌, length, get_or, Option, Some, None, refl, sym, ap, ◌∙◌, arith, inl, inr}
+use Rattle.std.proofs.Common.{◌≡◌, ℕ, ◌+◌, ◌*◌, ◌-◌, ◌^◌, ◌<◌, ◌≤◌, Bool, true, false, cond, not, leb, ltb, List, [], ◌∷◌, ◌++◌, length, get_or, Option, Some, None, refl, sym, ap, subst, ◌∙◌, arith, inl, inr}
 use Rattle.std.specs.Prelude.{◌&&◌, ◌||◌, ◌⊎◌}
 use Rattle.std.specs.List.{AllByRecursion, flat_map}
 use Rattle.std.proofs.lemmas.Bool.{and_from, and_parts, and_left, and_right, or_left, lt-ltb, le-ltb, le-leb, lt-leb, ltb-true, leb-true, cases_lt, false≢true}
 use Rattle.std.proofs.lemmas.List.{get_or_past}
-use Rattle.image_states.specs.Words.{IMAGE_BASE, IMAGE_RANGE_END, is_writable, Memory, may_write, Section, Image, Import, ImageContents, image_of, imports_of, sizes_of, rdata_at, end_at, section_of, mode_in, byte_in, stored_byte, with_slots, mapped, is_between, data_end, is_data, is_reserved, LinearProgram, linked, image_base, HasWholeImage, MOST_IMAGE, GUARD_START, STACK_START, STACK_END, ARENA_START, ARENA_END, FIRST_DATA, in_stack, in_arena, slots_at, import_tables, sections_of, parts_of, text_at, xdata_at, pdata_at, data_section, text_section, rdata_section, xdata_section, pdata_section, stack_mode, IsBeside, plain_mode, first_memory, HasBytes, tables_size}
+use Rattle.image_states.specs.Words.{IMAGE_BASE, IMAGE_RANGE_END, is_writable, Memory, may_write, Section, Image, Import, ImageContents, image_of, imports_of, sizes_of, rdata_at, end_at, section_of, covers, mode_in, byte_in, stored_byte, with_slots, mapped, is_between, data_end, is_data, is_reserved, LinearProgram, linked, image_base, HasWholeImage, MOST_IMAGE, GUARD_START, STACK_START, STACK_END, ARENA_START, ARENA_END, FIRST_DATA, in_stack, in_arena, slots_at, import_tables, sections_of, parts_of, data_section, text_section, rdata_section, xdata_section, pdata_section, stack_mode, IsBeside, plain_mode, first_memory, HasBytes, tables_size}
 use Rattle.flat_memory.specs.declared.protection.Rights.TheVariants.{Nothing, ReadWrite}
 use Rattle.pe_image.specs.Imports as importing
 use Rattle.pe_image.specs.Numbers.{zeros}
-use Rattle.pe_write.specs.Written.{raw_size, raw_data, written, dos_header, file_header, standard_fields, windows_fields, directories, table_of}
+use Rattle.pe_write.specs.NameTable.{NameRow}
+use Rattle.pe_write.specs.Program.{data_read, text_read, rdata_read, xdata_read, pdata_read, names_read, names_section, if_named}
+use Rattle.pe_write.specs.Written.{SectionParts, raw_size, raw_data, written, dos_header, file_header, standard_fields, windows_fields, directories, table_of}
 use Rattle.image_link.proofs.Imports.{IsWithin, slots_within, all_from}
 use Rattle.image_states.proofs.Lemmas.{listed, slots-beside, is, text_is}
 use Rattle.match_stack.specs.StackRecords.{IsData}
@@ -24,6 +26,28 @@ written_raw p h = bytes_back (dos_header ++ file_header (parts_of p) ++ standard
     ++ windows_fields (parts_of p) ++ directories (parts_of p) ++ table_of (parts_of p))
     (flat_map raw_data (parts_of p).sections) h
 
+-- the section of names, where there is one
+named_raws : (rows : List NameRow) (s : SectionParts) (x : Section) → x.raw ≡ s.bytes
+    → AllBytes (flat_map raw_data (if_named rows s))
+    → AllByRecursion (λ (y : Section). AllBytes y.raw) (if_named rows x)
+unfolding raw_data
+named_raws [] s x e h = tt
+named_raws (r ∷ rs) s x e h = (
+  subst AllBytes (sym e)
+      (bytes_front s.bytes (zeros (raw_size s - length s.bytes)) (bytes_front (raw_data s) [] h)),
+  tt,
+)
+
+named_past : (rows : List NameRow) (base a : ℕ) (x : Section) → covers base a x ≡ false
+    → section_of base a (if_named rows x) ≡ None
+named_past [] base a x e = refl
+named_past (r ∷ rs) base a x e = past base a x [] e
+
+named_has : (rows : List NameRow) (P : Section → Type 0) (x : Section) → P x
+    → AllByRecursion P (if_named rows x)
+named_has [] P x h = tt
+named_has (r ∷ rs) P x h = (h, tt)
+
 raws : (p : ImageContents) → AllBytes (written (parts_of p))
     → AllByRecursion (λ (s : Section). AllBytes s.raw) (sections_of p)
 unfolding raw_data
@@ -34,26 +58,28 @@ raws p h =
     let r = raw_data (rdata_section p) in
     let x = raw_data (xdata_section p) in
     let q = raw_data (pdata_section p) in
-    let a1 = bytes_back d (t ++ (r ++ (x ++ (q ++ [])))) all in
-    let a2 = bytes_back t (r ++ (x ++ (q ++ []))) a1 in
-    let a3 = bytes_back r (x ++ (q ++ [])) a2 in
-    let a4 = bytes_back x (q ++ []) a3 in (
-      bytes_front d (t ++ (r ++ (x ++ (q ++ [])))) all,
+    let n = flat_map raw_data (if_named p.names (names_section p)) in
+    let a1 = bytes_back d (t ++ (r ++ (x ++ (q ++ n)))) all in
+    let a2 = bytes_back t (r ++ (x ++ (q ++ n))) a1 in
+    let a3 = bytes_back r (x ++ (q ++ n)) a2 in
+    let a4 = bytes_back x (q ++ n) a3 in
+    let a5 = bytes_back q n a4 in (
+      bytes_front d (t ++ (r ++ (x ++ (q ++ n)))) all,
       (
         bytes_front p.text (zeros (raw_size (text_section p) - length p.text))
-            (bytes_front t (r ++ (x ++ (q ++ []))) a1),
+            (bytes_front t (r ++ (x ++ (q ++ n))) a1),
         (
           bytes_front (import_tables p.imports (rdata_at (sizes_of p)))
               (zeros (raw_size (rdata_section p)
               - length (import_tables p.imports (rdata_at (sizes_of p)))))
-              (bytes_front r (x ++ (q ++ [])) a2),
+              (bytes_front r (x ++ (q ++ n)) a2),
           (
             bytes_front p.xdata (zeros (raw_size (xdata_section p) - length p.xdata))
-                (bytes_front x (q ++ []) a3),
+                (bytes_front x (q ++ n) a3),
             (
               bytes_front p.pdata (zeros (raw_size (pdata_section p) - length p.pdata))
-                  (bytes_front q [] a4),
-              tt,
+                  (bytes_front q n a4),
+              named_raws p.names (names_section p) (names_read p) refl a5,
             ),
           ),
         ),
@@ -78,44 +104,25 @@ module _ (program : LinearProgram) (c : HasWholeImage program) where
   r = rdata_at (sizes_of p)
 
   abbrev pub globals : Section
-  globals = record {
-    address = 0x1000;
-    size = p.data_size;
-    raw = raw_data (data_section p);
-    flags = 0xC0000040;
-  }
+  globals = data_read p
 
   abbrev pub text : Section
-  text = record {
-    address = text_at (sizes_of p);
-    size = length p.text;
-    raw = p.text;
-    flags = 0x60000020;
-  }
+  text = text_read p
 
   abbrev pub tables : Section
-  tables = record {
-    address = r;
-    size = tables_size p.imports;
-    raw = import_tables p.imports r;
-    flags = 0x40000040;
-  }
+  tables = rdata_read p
 
   abbrev pub infos : Section
-  infos = record {
-    address = xdata_at (sizes_of p);
-    size = length p.xdata;
-    raw = p.xdata;
-    flags = 0x40000040;
-  }
+  infos = xdata_read p
 
   abbrev pub functions : Section
-  functions = record {
-    address = pdata_at (sizes_of p);
-    size = length p.pdata;
-    raw = p.pdata;
-    flags = 0x40000040;
-  }
+  functions = pdata_read p
+
+  abbrev pub names : Section
+  names = names_read p
+
+  abbrev pub named : List Section
+  named = if_named p.names names
 
   low : end_at (sizes_of p) ≤ MOST_IMAGE
   low = c.small
@@ -124,39 +131,41 @@ module _ (program : LinearProgram) (c : HasWholeImage program) where
 
   data_there : (a : ℕ) → FIRST_DATA ≤ a → a < data_end program.globals
       → section_of image_base a (sections_of p) ≡ Some globals
-  data_there a le lt = here image_base a globals (text ∷ tables ∷ infos ∷ functions ∷ [])
+  data_there a le lt = here image_base a globals (text ∷ tables ∷ infos ∷ functions ∷ named)
       (covered image_base a globals (omega arith) (omega arith))
 
   pub outside : (a : ℕ) → (a < FIRST_DATA) ⊎ (IMAGE_RANGE_END ≤ a)
       → section_of image_base a (sections_of p) ≡ None
   outside a (inl lt) =
       let l = low in
-      past image_base a globals (text ∷ tables ∷ infos ∷ functions ∷ [])
+      past image_base a globals (text ∷ tables ∷ infos ∷ functions ∷ named)
       (below image_base a globals (omega arith))
-      ∙ past image_base a text (tables ∷ infos ∷ functions ∷ [])
+      ∙ past image_base a text (tables ∷ infos ∷ functions ∷ named)
       (below image_base a text (omega arith))
-      ∙ past image_base a tables (infos ∷ functions ∷ []) (below image_base a tables (omega arith))
-      ∙ past image_base a infos (functions ∷ []) (below image_base a infos (omega arith))
-      ∙ past image_base a functions [] (below image_base a functions (omega arith))
+      ∙ past image_base a tables (infos ∷ functions ∷ named) (below image_base a tables (omega arith))
+      ∙ past image_base a infos (functions ∷ named) (below image_base a infos (omega arith))
+      ∙ past image_base a functions named (below image_base a functions (omega arith))
+      ∙ named_past p.names image_base a names (below image_base a names (omega arith))
   outside a (inr le) =
       let l = low in
-      past image_base a globals (text ∷ tables ∷ infos ∷ functions ∷ [])
+      past image_base a globals (text ∷ tables ∷ infos ∷ functions ∷ named)
       (above image_base a globals (omega arith))
-      ∙ past image_base a text (tables ∷ infos ∷ functions ∷ [])
+      ∙ past image_base a text (tables ∷ infos ∷ functions ∷ named)
       (above image_base a text (omega arith))
-      ∙ past image_base a tables (infos ∷ functions ∷ []) (above image_base a tables (omega arith))
-      ∙ past image_base a infos (functions ∷ []) (above image_base a infos (omega arith))
-      ∙ past image_base a functions [] (above image_base a functions (omega arith))
+      ∙ past image_base a tables (infos ∷ functions ∷ named) (above image_base a tables (omega arith))
+      ∙ past image_base a infos (functions ∷ named) (above image_base a infos (omega arith))
+      ∙ past image_base a functions named (above image_base a functions (omega arith))
+      ∙ named_past p.names image_base a names (above image_base a names (omega arith))
 
   pub tables_there : (a : ℕ) → image_base + r ≤ a → a < image_base + r + tables_size p.imports
       → section_of image_base a (sections_of p) ≡ Some tables
   tables_there a le lt =
       let text' = text_is program c.fits in
-      past image_base a globals (text ∷ tables ∷ infos ∷ functions ∷ [])
+      past image_base a globals (text ∷ tables ∷ infos ∷ functions ∷ named)
       (above image_base a globals (omega arith))
-      ∙ past image_base a text (tables ∷ infos ∷ functions ∷ [])
+      ∙ past image_base a text (tables ∷ infos ∷ functions ∷ named)
       (above image_base a text (omega arith))
-      ∙ here image_base a tables (infos ∷ functions ∷ [])
+      ∙ here image_base a tables (infos ∷ functions ∷ named)
       (covered image_base a tables (omega arith) (omega arith))
 
   -- ---- slots lie in `.rdata`
@@ -349,7 +358,11 @@ module _ (program : LinearProgram) (c : HasWholeImage program) where
               (λ e. absurd (false≢true e)),
               (
                 (λ e. absurd (false≢true e)),
-                ((λ e. absurd (false≢true e)), tt),
+                (
+                  (λ e. absurd (false≢true e)),
+                  named_has p.names (λ (s : Section). IsApart (mode_in (Some s) a)) names
+                      (λ e. absurd (false≢true e)),
+                ),
               ),
             ),
           ),

@@ -11,6 +11,7 @@ use Rattle.image_states.proofs.Funclets.{funclets_begin}
 use Rattle.image_states.proofs.Giving.{gives}
 use Rattle.image_states.proofs.Resuming.{resumptions}
 use Rattle.image_states.proofs.Found.{callers, callers_outside}
+use Rattle.image_states.proofs.FunctionNames.{called_is_named, names_are_functions}
 
 module _ (program : LinearProgram) (c : HasWholeImage program) (name : BodyName) (b : LinearBody)
     (is : body_of program name ≡ Some b) where
@@ -80,4 +81,5 @@ images_are_programs program c = record {
   resumptions = λ resumption b saved. resumptions program b saved resumption;
   callers = λ name b is. callers program c name b is;
   callers_outside = callers_outside program c;
+  names = λ called. names_are_functions program c (called_is_named program called);
 }

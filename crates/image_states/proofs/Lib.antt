@@ -2,6 +2,7 @@ mod Lemmas
 pub mod Places
 pub mod Shifts
 pub mod Addresses
+pub mod FunctionNames
 pub mod Slots
 pub mod Entering
 pub mod Framed

@@ -3,7 +3,7 @@ use Rattle.std.proofs.Common.{◌≡◌, ℕ, ◌+◌, ◌≤◌, ◌==◌, Bool
 use Rattle.std.specs.Prelude.{slice_get, ◌&&◌, nat_le}
 use Rattle.std.proofs.lemmas.Bool.{and_parts, and_right, leb-true}
 use Rattle.std.proofs.lemmas.Option.{slice_get_within, get_or_from_slice_get}
-use Rattle.image_states.specs.Words.{LinearBody, LinearFunction, LinearFunclet, LinearProgram, FunctionBody, FuncletBody, function_body, funclet_body, Layout, RoutineView, has_call, leaf_if, funclet_frame, funclet, nothing, is_leaf, routine_of, plan_of, HasWholeImage, ImagePlan, FitsBody, FitsFunction, function_frame, IsFuncletSized}
+use Rattle.image_states.specs.Words.{LinearBody, LinearFunction, LinearFunclet, LinearProgram, FunctionBody, FuncletBody, function_body, funclet_body, Layout, RoutineView, has_call, leaf_if, funclet_frame, funclet, no_function, is_leaf, routine_of, plan_of, HasWholeImage, ImagePlan, FitsBody, FitsFunction, function_frame, IsFuncletSized}
 use Rattle.image_link.specs.Routines as link
 use Rattle.image_states.proofs.Lemmas.{all_at, some_same, none_some}
 use Rattle.match_bodies.specs.Layouts.{IsFuncletLayout, IsLayoutIf, IsLaidOut, AreLaidOut}
@@ -47,7 +47,7 @@ funclet_by : (program : LinearProgram) (fl : LinearFunclet) (fn : LinearFunction
     → IsFuncletLayout (funclet program fl).layout y fl.body
 funclet_by program fl fn y e same few =
     let get = get_or_from_slice_get program.functions fl.function fn
-    (record { parameters = 0; body = nothing }) e in
+    no_function e in
     let locals : (funclet program fl).layout.locals
     ≡ y.locals = ap (λ (g : LinearFunction). (function_frame g.body).locals) get ∙ sym same in
     record {

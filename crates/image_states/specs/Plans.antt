@@ -31,7 +31,8 @@ use Rattle.x64_emit.specs.Linking.{address_or, thunk_of}
 use Rattle.image_link.specs.declared.routine.Entry.TheVariants as entries
 use Rattle.image_link.specs.Routines.{nothing}
 use Rattle.image_link.specs.Text.{thunks_at}
-use Rattle.image_link.specs.Linked.{services_of, linked}
+use Rattle.image_link.specs.Linked.{linked}
+use Rattle.image_link.specs.Walks.{services_of}
 use Rattle.image_tables.specs.RoutinePlaces.{Placed, site_of, placed, probe_begin}
 use Rattle.image_tables.specs.Entries as tables
 use Rattle.image_tables.specs.CodeInMemory.{image_base, template_at}

@@ -9,7 +9,7 @@ pub use Rattle.flat_memory.specs.Memory.{Memory, may_write, may_read, is_among}
 unfoldable pub use Rattle.flat_memory.specs.Memory.{number_at, with_number}
 pub use Rattle.flat_memory.specs.Protections.{is_writable, is_readable}
 pub use Rattle.c_operations.specs.declared.built_in.BuiltIn.{BuiltIn}
-pub use Rattle.c_operations.specs.declared.built_in.BuiltIn.TheVariants.{Put, Protect, RaiseException}
+pub use Rattle.c_operations.specs.declared.built_in.BuiltIn.TheVariants.{Put, Protect, RaiseException, Walk}
 pub use Rattle.source_meaning.specs.Source.{is_between, is_data, data_end, is_reserved, plain_mode, first_memory}
 pub use Rattle.linear_code.specs.Program.{LinearBody, LinearFunclet, LinearProgram, LinearFunction}
 pub use Rattle.linear_code.specs.declared.instruction.Instruction.{Instruction}
@@ -70,9 +70,10 @@ pub use Rattle.frame_layout.specs.declared.frame.FrameLayout.{FrameLayout}
 pub use Rattle.x64_emit.specs.Linking.{address_or, thunk_of}
 pub use Rattle.x64_emit.specs.Near.{IsInstructionNear, IsNear}
 pub use Rattle.image_link.specs.Fits.{FitsProgram, FitsFunclet, function_bodies, funclet_bodies, FitsBody, FitsFunction}
-pub use Rattle.image_link.specs.Linked.{services_of, text_begin, first, total, linked, data_size}
+pub use Rattle.image_link.specs.Linked.{text_begin, first, total, linked, data_size}
+pub use Rattle.image_link.specs.Walks.{services_of}
 pub use Rattle.image_link.specs.Near.{IsFrameNear}
-pub use Rattle.image_link.specs.Routines.{RoutineView, funclet_frame, funclet, routines, leaf_if, nothing, has_call, kept_by, HasParent, functions_from, function_frame}
+pub use Rattle.image_link.specs.Routines.{RoutineView, funclet_frame, funclet, routines, leaf_if, nothing, no_function, has_call, kept_by, HasParent, functions_from, function_frame}
 pub use Rattle.image_link.specs.Tables.{has_except, has_finally, handler_address, jump_target, scope_record}
 unfoldable pub use Rattle.image_link.specs.Tables.{info_bytes}
 pub use Rattle.image_link.specs.Text.{routine_size, check_stack_at, bounds, argument_code, routine_code, SiteView, own_addresses, thunk_at, service_thunk, front_code, routines_bytes, thunks_at}

@@ -1,6 +1,6 @@
 -- The caller of every frame is found, by the function table of the image.
 use Rattle.std.proofs.Common.{◌≡◌, ◌≢◌, ℕ, ◌+◌, ◌^◌, ◌<◌, ◌≤◌, true, List, [], ◌∷◌, ◌++◌, length, Option, Some, None, refl, sym, ap, subst, ◌∙◌, arith, inl, inr}
-use Rattle.image_tables.specs.Words.{Memory, modrm, Entry, holding, or_none, FetchedInstr, bytes, items, Body, following, is_body, IsRight, HasItems, image_of, RaiseException, CSpecificHandler, LocalUnwind, Protect, Put, LinearProgram, FitsProgram, first, linked, end_of, site_of, HasRegions, entries, image_base, function_of, entries_of, caller_in, caller_of, FramedFunction, IsFound, registers, return_address, IsEntry, InBody, leaf, probe, FindsCaller, FramesAreFound, LeavesAreFound, ThunksAreFound, ProbesAreFound, routines_begin, thunk_begin}
+use Rattle.image_tables.specs.Words.{Memory, modrm, Entry, holding, or_none, FetchedInstr, bytes, items, Body, following, is_body, IsRight, HasItems, image_of, RaiseException, CSpecificHandler, LocalUnwind, Protect, Put, LinearProgram, FitsProgram, first, linked, end_of, site_of, HasRegions, entries, image_base, function_of, entries_of, name_rows, caller_in, caller_of, FramedFunction, IsFound, registers, return_address, IsEntry, InBody, leaf, probe, FindsCaller, FramesAreFound, LeavesAreFound, ThunksAreFound, ProbesAreFound, routines_begin, thunk_begin}
 use Rattle.x64_machine.specs.Contexts.{context_of}
 use Rattle.x64_machine.specs.Effect.{State}
 use Rattle.eh_tables.specs.Tables as reading
@@ -9,7 +9,7 @@ use Rattle.frame_rules.specs.Frame.{left_to}
 use Rattle.frame_rules.specs.Rules as rules
 use Rattle.frame_rules.proofs.Callers.{entries_are_found, leaves_are_found}
 use Rattle.host_layout.specs.declared.imported.ImportedService.{ImportedService}
-use Rattle.image_tables.proofs.Lemmas.{routine_small, services_there}
+use Rattle.image_tables.proofs.Lemmas.{routine_small, place_small}
 use Rattle.image_tables.specs.Entries as tables
 use Rattle.image_tables.proofs.Lookups.{entries_are_held, leaves_are_held_by_none, thunks_are_held_by_none}
 use Rattle.image_tables.proofs.Table.{table, table_entries, tables_are_read}
@@ -89,7 +89,8 @@ same_walk p fits regions e s h =
     let es : entries_of (table p fits) ≡ or_none
     (reading.tables (image_of (linked p))) = table_entries p fits regions
     ∙ sym (ap or_none (tables_are_read p fits regions)) in
-    subst (λ (xs : List Entry). IsFound (caller_in (record { base = image_base; entries = xs })
+    subst (λ (xs : List Entry). IsFound (caller_in
+    (record { base = image_base; entries = xs; rows = name_rows (image_of (linked p)) })
     s.memory (context_of s.cpu)) (left_to (registers e) (return_address e))) es h
 
 held : (p : LinearProgram) (fits : FitsProgram p) → HasRegions p → (rva : ℕ) (o : Option Entry)
@@ -156,7 +157,7 @@ probe_ok = refl
 
 thunk_low : (p : LinearProgram) (service : ImportedService)
     → thunk_begin p service + 6 ≤ routines_begin p
-thunk_low p service = let there = services_there p service in omega arith
+thunk_low p service = let place = place_small (services_of p) service in omega arith
 
 pub thunks_are_found : ThunksAreFound
 thunks_are_found p service e s fits regions h =

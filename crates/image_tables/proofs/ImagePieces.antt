@@ -4,9 +4,9 @@ use Rattle.std.proofs.Common.{◌≡◌, ℕ, ◌+◌, ◌-◌, ◌<◌, true, l
 use Rattle.std.proofs.lemmas.Bool.{and_from, eq-eqb, lt-ltb, le-leb}
 use Rattle.std.proofs.lemmas.List.{drop_at, append-nil}
 use Rattle.std.proofs.Math.Seq.{take-append_seam}
-use Rattle.image_tables.specs.Words.{Section, stored, ImageContents, CanBeImage, sizes_of, text_at, rdata_at, xdata_at, sections_of, stores_byte, section_or, section_at, stored_in, only_if, whole, import_tables, pdata_at, data_section, tables_size}
+use Rattle.image_tables.specs.Words.{Section, stored, ImageContents, CanBeImage, sizes_of, text_at, xdata_at, sections_of, stores_byte, section_or, section_at, stored_in, only_if, whole, pdata_at, data_section}
 use Rattle.pe_image.proofs.Stored.{above_holds_none}
-use Rattle.pe_write.specs.Written.{raw_data}
+use Rattle.pe_write.specs.Program.{data_read, text_read, rdata_read, xdata_read, pdata_read, names_read, if_named}
 use Rattle.pe_write.proofs.Back.{raw_length}
 use Rattle.image_tables.proofs.Lemmas.{xdata_is_at, pdata_is_at}
 
@@ -30,42 +30,13 @@ there ss rva k all front bytes more h e at =
 
 module _ (p : ImageContents) (fits : CanBeImage p) where
   abbrev globals : Section
-  globals = record {
-    address = 0x1000;
-    size = p.data_size;
-    raw = raw_data (data_section p);
-    flags = 0xC0000040;
-  }
+  globals = data_read p
 
   abbrev code : Section
-  code = record {
-    address = text_at (sizes_of p);
-    size = length p.text;
-    raw = p.text;
-    flags = 0x60000020;
-  }
+  code = text_read p
 
   abbrev others : List Section
-  others =
-      record {
-        address = rdata_at (sizes_of p);
-        size = tables_size p.imports;
-        raw = import_tables p.imports (rdata_at (sizes_of p));
-        flags = 0x40000040;
-      }
-      ∷ record {
-        address = xdata_at (sizes_of p);
-        size = length p.xdata;
-        raw = p.xdata;
-        flags = 0x40000040;
-      }
-      ∷ record {
-        address = pdata_at (sizes_of p);
-        size = length p.pdata;
-        raw = p.pdata;
-        flags = 0x40000040;
-      }
-      ∷ []
+  others = rdata_read p ∷ xdata_read p ∷ pdata_read p ∷ if_named p.names (names_read p)
 
   text_is_at : (k : ℕ) → k < length p.text → stored_in (text_at (sizes_of p) + k)
       (section_at (text_at (sizes_of p) + k) (sections_of p)) ≡ drop k p.text

@@ -10,6 +10,7 @@ use Rattle.host_model.specs.Loading.{section_of, mode_in, byte_in, stored_byte, 
 use Rattle.host_model.specs.Slots.{IsBeside}
 use Rattle.host_model.proofs.Slots.{slots-beside}
 use Rattle.image_tables.proofs.Table.{is, rdata_is}
+use Rattle.pe_write.specs.Program.{text_read}
 
 module _ (p : LinearProgram) (fits : FitsProgram p) where
   abbrev program : ImageContents
@@ -28,12 +29,7 @@ module _ (p : LinearProgram) (fits : FitsProgram p) where
   at = image_base + text_begin p.globals
 
   abbrev text : Section
-  text = record {
-    address = text_at (sizes_of program);
-    size = length code;
-    raw = code;
-    flags = 0x60000020;
-  }
+  text = text_read program
 
   low : r + 0x3000 < 2 ^ 32
   low =

@@ -6,6 +6,7 @@ pub mod RowBounds
 pub mod Infos
 pub mod Prologues
 pub mod Table
+pub mod NameRows
 pub mod Lookups
 pub mod RegionRanges
 pub mod RegionStarts

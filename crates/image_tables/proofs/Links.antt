@@ -2,20 +2,21 @@
 use Rattle.std.proofs.Common.{ℕ, ◌+◌, ◌≤◌, length, arith}
 use Rattle.image_tables.specs.Words.{BuiltIn, LinearProgram, FitsProgram, routines, entry_size, own_addresses, text_begin, linked, Placed, site_of, links, IsNear, MOST_IMAGE, thunk_of, thunks_at, near_end, services_of}
 use Rattle.host_layout.specs.declared.imported.ImportedService.TheVariants as imports
-use Rattle.c_operations.specs.declared.built_in.BuiltIn.TheVariants.{Put, Protect, RaiseException}
-use Rattle.image_tables.proofs.Lemmas.{entry_small, routine_small, labels_near, site_near, has_places, routines_near, services_few, services_there}
+use Rattle.c_operations.specs.declared.built_in.BuiltIn.TheVariants.{Put, Protect, RaiseException, Walk}
+use Rattle.image_tables.proofs.Lemmas.{entry_small, routine_small, labels_near, site_near, has_places, routines_near, services_few}
+use Rattle.image_link.proofs.Front as front
 use Rattle.image_tables.proofs.RowBounds.{below_at}
 use Rattle.image_tables.proofs.CodeInMemory.{IsThere}
 use Rattle.image_tables.proofs.Templates.{AreLinksNear}
 
 thunk_near : (p : LinearProgram) (text : ℕ) (f : BuiltIn) → text ≤ MOST_IMAGE
     → IsNear (thunk_of (thunks_at (services_of p) text) f)
-thunk_near p text Put lt =
-    let few = services_few p in let there = services_there p imports.Put in omega arith
+thunk_near p text Put lt = front.thunk_near (services_of p) text imports.Put (services_few p) lt
 thunk_near p text Protect lt =
-    let few = services_few p in let there = services_there p imports.Protect in omega arith
+    front.thunk_near (services_of p) text imports.Protect (services_few p) lt
 thunk_near p text RaiseException lt =
-    let few = services_few p in let there = services_there p imports.RaiseException in omega arith
+    front.thunk_near (services_of p) text imports.RaiseException (services_few p) lt
+thunk_near p text Walk lt = front.thunk_near (services_of p) text imports.Walk (services_few p) lt
 
 pub links_near : (p : LinearProgram) (x : Placed) → FitsProgram p
     → IsThere (site_of p) (linked p).text (text_begin p.globals) x → AreLinksNear (links p x)
@@ -26,8 +27,6 @@ links_near p x fits h =
     (services_few p) fits.globals
     (routines_near p fits) (has_places p fits) in
     let text = n.text in
-    let services = services_few p in
-    let unwind = services_there p imports.LocalUnwind in
     let room = h.room in
     let small = routine_small r h.near in
     let entry = entry_small r h.near in
@@ -39,5 +38,5 @@ links_near p x fits h =
       function = λ f. below_at near_end s.functions f 0 n.functions (omega arith);
       known = λ f. thunk_near p s.text f text;
       funclet = λ f. below_at near_end s.funclets f 0 n.funclets (omega arith);
-      local_unwind = omega arith;
+      local_unwind = front.thunk_near (services_of p) s.text imports.LocalUnwind (services_few p) text;
     }

@@ -11,7 +11,8 @@ use Rattle.eh_tables.specs.Tables as reading
 use Rattle.eh_tables.proofs.TablesAgain.{reads_ranges}
 use Rattle.eh_tables.proofs.WholeAgain.{reads_table}
 use Rattle.pe_write.specs.Program as images
-use Rattle.image_tables.proofs.Lemmas.{listed, all_append, text_length, is_program, tables_fit, has_places, no_routine, routines_near, services_few, services_there, thunk_there}
+use Rattle.image_link.specs.Walks.{named_functions}
+use Rattle.image_tables.proofs.Lemmas.{listed, all_append, text_length, is_program, tables_fit, has_places, has_names, no_routine, routines_near, services_few, services_there, thunk_there}
 use Rattle.image_link.proofs.Infos.{info_small}
 use Rattle.image_tables.specs.RegionRanges.{IsRange as IsRegionRange}
 use Rattle.image_tables.proofs.ImagePieces.{text_there, xdata_there, pdata_there}
@@ -179,8 +180,8 @@ module _ (p : LinearProgram) (fits : FitsProgram p) where
   near = routines_near p fits
 
   pub is : CanBeImage program
-  is = is_program s.imports p.globals rs (length p.functions) p.main (services_few p)
-      fits.globals near (has_places p fits) no_routine
+  is = is_program s.imports p.globals rs (length p.functions) p.main (named_functions p)
+      (services_few p) fits.globals near (has_places p fits) (has_names p fits) no_routine
 
   -- ---- its sizes
 
@@ -207,7 +208,7 @@ module _ (p : LinearProgram) (fits : FitsProgram p) where
       let v = CSpecificHandler in
       let thunk = chosen (service_thunk s.imports s.text s.rdata v) in
       let t = thunk_there s.imports s.text s.rdata v (routines_bytes s (routines_begin p) rs)
-      (services_there p v) in
+      (services_there p v tt) in
       let long = t.long in
       let n : length thunk ≡ 6 = ap length (thunk_bytes _) in
       let at : text_at (sizes_of program) + length t.before
@@ -223,7 +224,7 @@ module _ (p : LinearProgram) (fits : FitsProgram p) where
       let text = text_is in
       let fit = tables_fit s.imports p.globals rs (services_few p) fits.globals near
       (has_places p fits).room in
-      let there = services_there p CSpecificHandler in
+      let there = services_there p CSpecificHandler tt in
       let at = thunk_at s.imports s.text CSpecificHandler in
       handler_is_c image at r to s.imports there refl (omega arith) (omega arith)
       (handler_there ∙ ap (λ (n : ℕ). Some (chosen (thunk (distance (at + 6)

@@ -14,7 +14,7 @@ use Rattle.template_code.specs.Jumps.{distance}
 use Rattle.template_code.specs.Probing.{check_stack}
 use Rattle.template_code.specs.Template.{code_from}
 use Rattle.image_link.specs.Text.{argument_code, service_thunk}
-use Rattle.image_link.specs.Linked.{services_of}
+use Rattle.image_link.specs.Walks.{services_of}
 use Rattle.image_tables.specs.RoutinePlaces.{Placed, body_begin, site_of, probe_begin}
 use Rattle.image_tables.specs.Entries.{entry_of}
 use Rattle.image_tables.specs.CodeInMemory.{links}

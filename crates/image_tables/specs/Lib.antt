@@ -2,6 +2,7 @@ pub mod RoutinePlaces
 pub mod RegionRanges
 pub mod Entries
 pub mod TableLaws
+pub mod NameLaws
 pub mod Tries
 pub mod RegionLaws
 pub mod CodeInMemory

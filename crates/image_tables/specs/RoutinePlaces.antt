@@ -6,7 +6,8 @@ use Rattle.linear_code.specs.Program.{LinearProgram}
 use Rattle.image_link.specs.Routines.{RoutineView, routines}
 use Rattle.image_link.specs.Text.{SiteView, routine_size, entry_size, thunk_at, check_stack_at}
 use Rattle.image_link.specs.Tables.{info_bytes}
-use Rattle.image_link.specs.Linked.{services_of, text_begin, first, xdata_begin, site}
+use Rattle.image_link.specs.Linked.{text_begin, first, xdata_begin, site}
+use Rattle.image_link.specs.Walks.{services_of}
 
 -- a routine, the address of its first byte, and that of its unwind info, if it has one
 pub record Placed : Type 0 where

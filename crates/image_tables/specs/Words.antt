@@ -50,6 +50,7 @@ pub use Rattle.template_code.specs.Slots.{fetched, keep, local_at, temporary_at,
 pub use Rattle.template_code.specs.Template.{template, code_from, Links, body_size, offset_of}
 unfoldable pub use Rattle.template_code.specs.Template.{template_size}
 pub use Rattle.template_code.specs.declared.layout.Layout.{Layout}
+pub use Rattle.virtual_unwind.specs.CallerOf.{name_rows}
 unfoldable pub use Rattle.virtual_unwind.specs.CallerOf.{caller_in, caller_of}
 pub use Rattle.virtual_unwind.specs.Tail.{FetchedInstr, role_of, by_role, from_item}
 unfoldable pub use Rattle.virtual_unwind.specs.Tail.{fetched_at, tail, tail_at}
@@ -67,7 +68,8 @@ pub use Rattle.x64_emit.specs.Bodies.{label_list}
 pub use Rattle.x64_emit.specs.Linking.{links_of, address_or, thunk_of}
 pub use Rattle.x64_emit.specs.Near.{IsNear, IsInstructionNear, IsBaseNear, IsSlotNear, near_end, IsFieldNear}
 pub use Rattle.image_link.specs.Fits.{FitsProgram, function_bodies, funclet_bodies}
-pub use Rattle.image_link.specs.Linked.{services_of, text_begin, linked, first, total}
+pub use Rattle.image_link.specs.Linked.{text_begin, linked, first, total}
+pub use Rattle.image_link.specs.Walks.{services_of}
 pub use Rattle.image_link.specs.Near.{IsEntryNear, IsFrameNear, IsRoutineNear}
 pub use Rattle.image_link.specs.Routines.{RoutineView, routines, is_leaf, leaf_if, functions_from, funclet, has_call, nothing, funclet_frame}
 pub use Rattle.image_link.specs.Tables.{is_finally, has_except, has_finally, trailer, scope_records, scope_table, info_if, handler_address, jump_target, scope_record, info_bytes_of, infos, infos_room, range_if, ranges}

@@ -3,8 +3,8 @@
 //!
 //! Proved: the table is read again as the entries of the program's routines (`table_laws`); it has
 //! one scope record for each region, in order, and no frame larger than `LARGEST_FRAME`
-//! (`shape_laws`); of a checked program it has one row for each `__try` (`region_laws`); callers are
-//! found at every instruction boundary of functions, funclets, thunks, leaf functions and
+//! (`shape_laws`); of a checked program it has one row for each `__try` (`region_laws`); callers
+//! are found at every instruction boundary of functions, funclets, thunks, leaf functions and
 //! `__chkstk` (`frame_laws`). Begin with `specs/Entries.antt`.
 #![tactic(auto)]
 

@@ -1,5 +1,6 @@
 //! What is read of the function table of a program's image.
 
+ghost use Rattle.image_tables.specs.NameLaws.{NamesAreRead, FunctionsHaveNames};
 ghost use Rattle.image_tables.specs.TableLaws.{TablesAreRead, EntriesAreHeld, LeavesAreHeldByNone, ThunksAreHeldByNone, JumpsAreSpelled};
 
 /// The function table of a program's image is that of its routines: each that has a frame has an
@@ -13,6 +14,13 @@ pub fn lookups()
     ensures entries { EntriesAreHeld }
     ensures leaves { LeavesAreHeldByNone }
     ensures thunks { ThunksAreHeldByNone }
+{}
+
+/// The names of a program's image are the rows of its functions; where the program calls `walk`,
+/// each function's number has the function's name.
+pub fn names()
+    ensures read { NamesAreRead }
+    ensures named { FunctionsHaveNames }
 {}
 
 /// The jump to a handler is read as it is spelled.

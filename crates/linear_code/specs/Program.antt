@@ -16,6 +16,7 @@ pub record LinearBody : Type 0 where
   pub regions : List Region
 
 pub record LinearFunction : Type 0 where
+  pub name : List ℕ
   pub parameters : ℕ
   pub body : LinearBody
 
@@ -44,7 +45,8 @@ linear_body b =
     }
 
 abbrev pub linear_function : IrFunction → LinearFunction
-linear_function f = record { parameters = f.parameters; body = linear_body f.body }
+linear_function f =
+    record { name = f.name.items; parameters = f.parameters; body = linear_body f.body }
 
 abbrev pub linear_funclet : IrFunclet → LinearFunclet
 linear_funclet f =

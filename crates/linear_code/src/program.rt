@@ -44,6 +44,8 @@ pub struct IrBody {
 /// A function. Its parameters are its first locals.
 #[derive(Drop)]
 pub struct IrFunction {
+    /// The bytes of its name.
+    pub name: Vec<u8>,
     /// How many parameters it has.
     pub parameters: u64,
     /// Its code.

@@ -1,4 +1,5 @@
 mod Lemmas
+mod RunEvents
 pub mod RunLengths
 pub mod Stretch
 pub mod StretchJoins
@@ -6,3 +7,4 @@ pub mod SingleTurns
 pub mod Walks
 pub mod Ranges
 pub mod MoreTurns
+pub mod WalkEvents

@@ -4,4 +4,5 @@ pub mod Unwinding
 pub mod Searching
 pub mod Instructions
 pub mod Run
+pub mod BuiltInCalls
 pub mod Words

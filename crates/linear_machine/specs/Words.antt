@@ -18,3 +18,4 @@ pub use Rattle.linear_machine.specs.Run.{start, seen, shown, linear_meaning, ins
 unfoldable pub use Rattle.linear_machine.specs.Run.{exec}
 pub use Rattle.linear_machine.specs.Searching.{target_of, accept, begin_filter, consult, search, raise, resumed, answered, answer}
 pub use Rattle.linear_machine.specs.Unwinding.{flag_of, begin_finally, run_finally, arrive, target_past, left_store, leave_region, unwind_body, unwind}
+pub use Rattle.linear_machine.specs.BuiltInCalls.{CallsBuiltIn, IsNotAt, WalksAreCalled}

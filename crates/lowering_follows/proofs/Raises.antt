@@ -54,7 +54,8 @@ module _ (program : Program) (linear : LinearProgram) (rate body : ℕ) where
         pc = pc;
         store = store;
         fits = fits;
-        reaches = still linear rate s (unwound linear rate context site (target_of f exc.code st.held)
+        reaches = still linear rate s (unwound linear rate context site
+            (target_of f exc.code st.held)
             temps st store pc) st st r e rate refl le (prefix_self st.events)
             (λ k. same (exec linear k) ∙ accepted f exc context site pc temps st store
             (exec linear k) t h);

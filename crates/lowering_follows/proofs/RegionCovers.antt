@@ -21,7 +21,8 @@ module _ (linear : LinearProgram) where
   bare b rs regions q e c = c ∙ ap (λ x. x ++ rs) e
 
   -- inside the region of a `__try`, which is after those of its body
-  pub inside_own : (b : BodyName) (rs : List Region) (own : Region) (body rest : List Region) (q : ℕ)
+  pub inside_own : (b : BodyName) (rs : List Region) (own : Region) (body rest : List Region)
+      (q : ℕ)
       → held q rest ≡ own ∷ [] → regions_at linear b q ≡ held q (body ++ rest) ++ rs
       → regions_at linear b q ≡ held q body ++ (own ∷ rs)
   inside_own b rs own body rest q e c =

@@ -114,7 +114,8 @@ module _ (program : Program) (linear : LinearProgram) (rate most own : ℕ) wher
           numbered = omega arith;
           funclet = (funclet, there, refl);
           code = code_is_at (FuncletBody (k - 1)) funclet.body home [] 0 funclet.body.code
-              (whole_is_at funclet.body.code) (whole_cover linear (FuncletBody (k - 1)) funclet.body home 0
+              (whole_is_at funclet.body.code)
+              (whole_cover linear (FuncletBody (k - 1)) funclet.body home 0
               (0 + length funclet.body.code));
           fits = expression_fits program own true
               (record i.scope { code = true; information = true }) knows e (both_left _ _ ok);
@@ -424,7 +425,8 @@ module _ (program : Program) (linear : LinearProgram) (rate most own : ℕ) wher
                 (guarded_alike program linear rate most own i scope at_end a) owner (try ∷ rs) at j
                 (both_left _ _ ok)
                 (omega arith) (front lb.code at guarded _ h)
-                (λ q lo hi. inside_own linear b rs try rb (try ∷ []) q (own_in try [] q lo (omega arith))
+                (λ q lo hi. inside_own linear b rs try rb (try ∷ []) q
+                (own_in try [] q lo (omega arith))
                 (c q lo (omega arith)))
                 (front linear.funclets j fb (funclet ∷ fl) f)
                 (count_front (j + 1) (funclets body) (k ∷ funclets last) n);

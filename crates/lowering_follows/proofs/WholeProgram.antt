@@ -228,7 +228,8 @@ module _ (program : Program) (linear : LinearProgram) (rate body : ℕ)
         inner csite
         (Stays program linear rate body (scope_of fn).names (new ∷ []) inner store') end)
         (all (within program n) fn.body inner (begun n)) (omega arith, omega arith, omega arith)
-        refl refl (prefix_self (begun n).events) (λ j. fetch linear rate c0 instructions.Separator j f.starts.0)
+        refl refl (prefix_self (begun n).events)
+        (λ j. fetch linear rate c0 instructions.Separator j f.starts.0)
         (all_runs program linear rate body n bodies (scope_of fn) new (new ∷ []) inner csite store'
         fn.body 1 (begun n) store' (omega arith) f.quick f.placed
         (record {

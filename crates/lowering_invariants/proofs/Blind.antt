@@ -47,7 +47,8 @@ module _ (program : Program) (own : ℕ) where
   statements_blind : (ss : Statements) (scope : LoweringContext) (at : ℕ)
       → IsOutside scope.names.exception → StatementsFit program own ss
       → AllBlind (statements_code scope ss at)
-  statements_blind ss scope at o h = statements_all IsBlind Outside (ExpressionFits program own false)
+  statements_blind ss scope at o h = statements_all IsBlind Outside
+      (ExpressionFits program own false)
       (ExpressionFits program own true) (λ x. x < own) (λ names m k le o. tt) instructions_blind ss
       scope at (statements_notes ss) (omega arith) o h
 

@@ -239,7 +239,8 @@ module _ (program : Program) (linear : LinearProgram)
         );
         funclets = part_of (Fine linear) j (j + 1 + length fl) j _ (omega arith) (omega arith)
             (both_parts (Fine linear) j (j + 1) (j + 1 + length fl)
-            (one_part (Fine linear) j (subst (Fine linear) same (fine (k - 1) funclet there (record {
+            (one_part (Fine linear) j (subst (Fine linear) same
+            (fine (k - 1) funclet there (record {
               regions = own_body.1;
               code = append program linear callee name' code ends own_body.0 (tt, tt);
             })))) inner.funclets);
@@ -296,7 +297,8 @@ module _ (program : Program) (linear : LinearProgram)
         (λ inside. statements_have last (FuncletBody (k - 1)) (in_funclet (k - 1) owner) inside
         (finally_names names) 0 fits.1))
 
-    pub statements_have : (ss : Statements) (name : BodyName) (owner : Owner) → IsOwner linear name owner
+    pub statements_have : (ss : Statements) (name : BodyName) (owner : Owner) → IsOwner linear name
+        owner
         → (names : Names) (at : ℕ) → StatementsFit program own ss
         → HasFunclets name (statements_regions ss at) (statements_funclets owner names ss)
         (funclets ss)

@@ -47,7 +47,8 @@ arguments_plain d whole e y first lt = (
 
 -- those from the fifth on
 pub passing_plain : (d whole e : ℕ) (y : Layout) (first i n : ℕ)
-    → temporary_at y (first + i + n) < 2 ^ 31 → 8 * (i + n) ≤ d → d < 2 ^ 31 → AllPlain d whole e (passing_code y first i n)
+    → temporary_at y (first + i + n) < 2 ^ 31 → 8 * (i + n) ≤ d → d < 2 ^ 31 → AllPlain d whole e
+    (passing_code y first i n)
 passing_plain d whole e y first i zero lt le small = tt
 passing_plain d whole e y first i (suc n) lt le small = (
   fetched_plain d whole e Rsp (temporary_at y (first + i)) (omega arith),

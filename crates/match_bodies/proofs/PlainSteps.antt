@@ -74,7 +74,8 @@ module _ (setting : Setting) (roomy : HaveRoom setting.program) where
         (at_other c label values ts landed d.memory c.events)) → 1 ≤ n
         → n + 3 * length ts ≤ most + 3 * length c.frame.temporaries
         → Moves t fs program most turns_left (RepresentsAt setting) s c i
-    moves_within most i n label rip d values ts landed r at lt small leaves free keep acts some few =
+    moves_within most i n label rip d values ts landed r at lt small leaves free keep acts some
+        few =
         let m = to_label setting roomy s c b counted around n label rip d values ts
         landed c.events r at lt small leaves free keep in
         let store : locals_of (with_values b.body.acts c.frame.activation values)

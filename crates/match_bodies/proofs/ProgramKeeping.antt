@@ -114,7 +114,8 @@ module _ (t : Functions) (fs : List Funclet) (program : LinearProgram) (p : Imag
             has_code_there m m' (begin_of p q name) (code_of program p q name b)
             (subst (SameThere m m' (begin_of p q name)) (sym (code_size name b e)) inside)
             (h.code name b e);
-        thunks = λ f. service_there m m' (q.thunk f) (service_of f) keeps (h.thunks f);
+        thunks = λ f called. service_there m m' (q.thunk f) (service_of f) keeps
+            (h.thunks f called);
         local_unwind = service_there m m' q.local_unwind services.LocalUnwind keeps h.local_unwind;
         check_stack = has_code_there m m' q.check_stack check_stack
             (there m m' q.check_stack (q.check_stack + sizes check_stack) keeps image.check_stack)

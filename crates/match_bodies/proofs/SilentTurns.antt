@@ -67,7 +67,7 @@ module _ (t : Functions) (fs : List Funclet) (program : LinearProgram) (p : Imag
     program_kept m m' k h = record {
       code = λ name b e. code_kept m m' (begin_of p q name) (code_of program p q name b) k
           (h.code name b e);
-      thunks = λ f. service_kept m m' (q.thunk f) (service_of f) k (h.thunks f);
+      thunks = λ f called. service_kept m m' (q.thunk f) (service_of f) k (h.thunks f called);
       local_unwind = service_kept m m' q.local_unwind services.LocalUnwind k h.local_unwind;
       check_stack = code_kept m m' q.check_stack check_stack k h.check_stack;
     }

@@ -20,7 +20,7 @@ use Rattle.host_model.specs.declared.funclet.Funclet.{Funclet}
 use Rattle.host_model.specs.Funclets.{by_kind, arrivals}
 use Rattle.c_operations.specs.declared.operation.Operation.{Operation}
 use Rattle.c_operations.specs.declared.built_in.BuiltIn.{BuiltIn}
-use Rattle.c_operations.specs.declared.built_in.BuiltIn.TheVariants.{Put, Protect, RaiseException}
+use Rattle.c_operations.specs.declared.built_in.BuiltIn.TheVariants.{Put, Protect, RaiseException, Walk}
 use Rattle.source_meaning.specs.Source.{is_reserved}
 use Rattle.linear_code.specs.declared.slot.Slot.{Slot}
 use Rattle.linear_code.specs.declared.slot.Slot.TheVariants.{Temporary}
@@ -31,6 +31,7 @@ use Rattle.linear_code.specs.declared.program.FuncletKind.TheVariants.{Filter, F
 use Rattle.linear_code.specs.Program.{LinearProgram, LinearBody, LinearFunclet}
 use Rattle.linear_machine.specs.Frames.{BodyName, body_of, Frame, Resumption, AfterCall, SameOperation}
 use Rattle.linear_machine.specs.Run.{instruction_in}
+use Rattle.linear_machine.specs.BuiltInCalls.{CallsBuiltIn}
 use Rattle.template_code.specs.Bytes.{size, sizes}
 use Rattle.template_code.specs.Slots.{fetch, operands_code}
 use Rattle.template_code.specs.Calls.{return_at}
@@ -44,8 +45,10 @@ use Rattle.x64_templates.specs.Thunks.{HasThunk}
 use Rattle.x64_templates.specs.Epilogues.{IsReturn}
 use Rattle.match_stack.specs.Stack.{StackFrame, FrameIsAt, LeafIsAt, IsAsTold}
 use Rattle.match_stack.specs.ImagePlan.{ImagePlan, Gives}
+use Rattle.match_stack.specs.ControlAddresses.{NumbersFunctions}
 use Rattle.match_stack.specs.StackRecords.{IsData}
 use Rattle.seh_walk.specs.Walk.{filter_return, finally_return}
+use Rattle.seh_walk.specs.Controls.{number_at}
 use Rattle.frame_rules.specs.Bytes.{spell}
 use Rattle.frame_rules.specs.Plan as rules
 use Rattle.match_bodies.specs.CodeSites.{Sites, body_plan, links_of, begin_of, making_size, epilogue_through, arguments_code, entry_code, code_of}
@@ -57,6 +60,7 @@ abbrev pub service_of : BuiltIn → Service
 service_of Put = services.Put
 service_of Protect = services.Protect
 service_of RaiseException = services.RaiseException
+service_of Walk = services.Walk
 
 -- the frame of a body: its slots end at its return address
 abbrev pub frame_of : ImagePlan → BodyName → (back : ℕ) → List ℕ → StackFrame
@@ -121,11 +125,11 @@ module _ (t : Functions) (fs : List Funclet) (program : LinearProgram) (p : Imag
     pub inside : IsInImage at (at + 6)
     pub slot : IsInImage (at + 6 + thunk.away) (at + 6 + thunk.away + 8)
 
-  -- all code of the program, with its thunks and `__chkstk`
+  -- all code of the program, with the thunks of what it calls and `__chkstk`
   pub record HasProgram (m : Memory) : Type 0 where
     pub code : (name : BodyName) (b : LinearBody) → body_of program name ≡ Some b
         → HasCode m (begin_of p q name) (code_of program p q name b)
-    pub thunks : (f : BuiltIn) → HasService m (q.thunk f) (service_of f)
+    pub thunks : (f : BuiltIn) → CallsBuiltIn program f → HasService m (q.thunk f) (service_of f)
     pub local_unwind : HasService m q.local_unwind services.LocalUnwind
     pub check_stack : HasCode m q.check_stack check_stack
 
@@ -258,7 +262,7 @@ module _ (t : Functions) (fs : List Funclet) (program : LinearProgram) (p : Imag
   -- so it is where no entry of the function table is: in thunks, in `__chkstk`, and at the host's
   -- services
   pub record FindsCallersOutside : Type 0 where
-    pub thunks : (m : Memory) (f : BuiltIn) → FindsReturn t m (q.thunk f)
+    pub thunks : (m : Memory) (f : BuiltIn) → CallsBuiltIn program f → FindsReturn t m (q.thunk f)
     pub local_unwind : (m : Memory) → FindsReturn t m q.local_unwind
     pub check_stack : (m : Memory) (d : ℕ) → d < sizes check_stack
         → FindsReturn t m (q.check_stack + d)
@@ -289,3 +293,5 @@ module _ (t : Functions) (fs : List Funclet) (program : LinearProgram) (p : Imag
     pub callers : (name : BodyName) (b : LinearBody) → body_of program name ≡ Some b
         → FindsCallers name b
     pub callers_outside : FindsCallersOutside
+    -- where `walk` is called, the rows of names hold the code of functions alone, with their numbers
+    pub names : CallsBuiltIn program Walk → NumbersFunctions program p (number_at t)

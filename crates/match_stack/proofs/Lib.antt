@@ -26,3 +26,4 @@ pub mod DispatchSteps
 pub mod FilterAnswers
 pub mod HostRegisters
 pub mod AllocatedFrames
+pub mod ControlAddresses

@@ -19,4 +19,5 @@ pub mod DispatchSteps
 pub mod FilterReturns
 pub mod RegisterLaws
 pub mod AllocatedFrames
+pub mod ControlAddresses
 pub mod Words

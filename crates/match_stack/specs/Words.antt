@@ -13,7 +13,7 @@ pub use Rattle.source_meaning.specs.State.{Exception}
 pub use Rattle.linear_code.specs.Program.{LinearProgram}
 pub use Rattle.linear_code.specs.declared.program.Region.{Region}
 pub use Rattle.linear_code.specs.declared.program.RegionKind.{RegionKind}
-pub use Rattle.linear_machine.specs.Frames.{Item, Searches, Unwinds, Frame, Waits, Handler, Resumption, Configuration, Next, BodyName, Target, Store, Seen, FunctionBody, FuncletBody, body_of}
+pub use Rattle.linear_machine.specs.Frames.{Item, Searches, Unwinds, Frame, Waits, Handler, Resumption, Configuration, Next, BodyName, Target, Store, Seen, FunctionBody, FuncletBody, body_of, with_function, functions_in}
 unfoldable pub use Rattle.linear_machine.specs.Frames.{pick}
 pub use Rattle.linear_machine.specs.Regions.{handlers, holds, handlers_in, regions_of, handlers_of, leads_to, stops}
 pub use Rattle.linear_machine.specs.Searching.{accept, raise, resumed, consult}
@@ -55,6 +55,7 @@ pub use Rattle.host_model.specs.Dispatch.{if_placed, unwinds_on, row_before, ent
 pub use Rattle.host_model.specs.Funclets.{arrived, arrivals}
 pub use Rattle.host_model.specs.Turns.{with_event, Turn, Continues, Ends}
 pub use Rattle.host_model.specs.declared.funclet.Funclet.{Funclet}
+pub use Rattle.match_stack.specs.ControlAddresses.{control_addresses, number_of, NumbersFunctions, ControlsAreOfTheList, ControlAddressesAreOfFunctions}
 pub use Rattle.match_stack.specs.DispatchStates.{IsWellFormed}
 pub use Rattle.match_stack.specs.DispatchSteps.{placed_in, AsksHost, IsException, RaiseSearches, LocalUnwindUnwinds, AcceptanceUnwinds, AnswersContinue, FinallyReturnsUnwind, SearchIsAnswered, AnswersAs}
 pub use Rattle.match_stack.specs.FrameHandlers.{NoHandler, FirstHandler, NoBlock, Arrives, FirstBlock}

@@ -4,6 +4,7 @@
 //! does. Begin reading with `specs/Stack` and `specs/ItemMatches`, then the laws.
 #![tactic(auto)]
 
+pub mod control_laws;
 pub mod list_laws;
 pub mod record_laws;
 pub mod register_laws;

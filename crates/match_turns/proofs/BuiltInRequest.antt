@@ -3,7 +3,7 @@
 use Rattle.match_turns.proofs.KeptRegisters.{saved_kept}
 use Rattle.std.proofs.Common.{◌≡◌, ℕ, ◌+◌, ◌-◌, ◌%◌, ◌^◌, ◌<◌, ◌≤◌, Some, List, [], ◌∷◌, length, Ok, refl, sym, ap, subst, ◌∙◌, arith, length-set, set, drop}
 use Rattle.std.specs.Prelude.{◌==◌, false, slice_get, take}
-use Rattle.match_turns.specs.Words.{kept_of, W64, loaded, IMAGE_BASE, IMAGE_RANGE_END, STACK_START, STACK_END, address_of, Rsp, Instr, opcode_register, Cpu, State, register, BuiltIn, Put, Protect, RaiseException, Temporary, BodyState, LinearBody, Configuration, body_of, regions_of, waiting, instruction_at, Layout, size, sizes, put_back, keep, temporary_at, call, IsNear, return_at, begin_call, clear_result, template, template_size, MachineView, machine, pushed, HasCode, KeepsAbove, IsWellFormed, IsLive, Comes, links_of, service_of, IsWellMade, IsKnown, Setting, InBody, IsMachineMemory, IsResumed, RepresentsAt, arguments_code}
+use Rattle.match_turns.specs.Words.{kept_of, W64, loaded, IMAGE_BASE, IMAGE_RANGE_END, STACK_START, STACK_END, address_of, Rsp, Instr, opcode_register, Cpu, State, register, BuiltIn, Put, Protect, RaiseException, Walk, Temporary, BodyState, LinearBody, Configuration, body_of, regions_of, waiting, instruction_at, Layout, size, sizes, put_back, keep, temporary_at, call, IsNear, return_at, begin_call, clear_result, template, template_size, MachineView, machine, pushed, HasCode, KeepsAbove, IsWellFormed, IsLive, Comes, links_of, service_of, CallsBuiltIn, IsWellMade, IsKnown, Setting, InBody, IsMachineMemory, IsResumed, RepresentsAt, arguments_code}
 use Rattle.x64_templates.specs.Runs.{Reaches}
 use Rattle.std.proofs.lemmas.List.{length-drop}
 use Rattle.linear_code.specs.declared.instruction.Instruction.TheVariants as instructions
@@ -11,7 +11,7 @@ use Rattle.match_turns.proofs.Lemmas.{dropped, kept_by_rest, sizes_append, call_
 use Rattle.match_turns.proofs.FunctionFrame.{same_itself}
 use Rattle.match_turns.proofs.CallResult.{offset_most}
 use Rattle.match_turns.proofs.BuiltInCall.{with_arguments_of, ServiceReached, service_reached}
-use Rattle.match_turns.proofs.BuiltInShadow.{built_in_keeps}
+use Rattle.match_turns.proofs.BuiltInShadow.{calls_it, built_in_keeps}
 use Rattle.match_turns.proofs.HostRequest.{Asks, asks_host}
 use Rattle.match_turns.proofs.DispatchMemory.{memory_untouched}
 use Rattle.match_turns.proofs.ReturnAddressPush as pushing
@@ -24,11 +24,13 @@ service_low : (f : BuiltIn) → (1 ≤ address_of (service_of f))
 service_low Put = (omega arith, omega arith)
 service_low Protect = (omega arith, omega arith)
 service_low RaiseException = (omega arith, omega arith)
+service_low Walk = (omega arith, omega arith)
 
 service_live : (f : BuiltIn) → (address_of (service_of f) == 0) ≡ false
 service_live Put = refl
 service_live Protect = refl
 service_live RaiseException = refl
+service_live Walk = refl
 
 pub clear_size : size clear_result ≡ 5
 unfolding size opcode_register
@@ -74,6 +76,9 @@ module _ (setting : Setting) (made : IsWellMade setting.program setting.plan) wh
 
     pub here : slice_get body.code c.frame.next ≡ Some (instructions.CallBuiltIn f first)
     here = code_at setting made s c b known (instructions.CallBuiltIn f first) at
+
+    abbrev called_here : CallsBuiltIn program f
+    called_here = calls_it setting made.room s c b f first here
 
     pub room : first + 4 ≤ body.temporaries
     room = has_slots setting made.room s c b counted (instructions.CallBuiltIn f first) here
@@ -123,8 +128,8 @@ module _ (setting : Setting) (made : IsWellMade setting.program setting.plan) wh
         let n = back_near in
         let l = n.0 in
         let h = n.1 in
-        let a = (b.memory.code.thunks f).inside.low in
-        let z = (b.memory.code.thunks f).inside.high in
+        let a = (b.memory.code.thunks f called_here).inside.low in
+        let z = (b.memory.code.thunks f called_here).inside.high in
         (omega arith, omega arith, omega arith, omega arith)
 
     resumed : IsResumed setting c.frame.body body c.frame.next back
@@ -159,7 +164,7 @@ module _ (setting : Setting) (made : IsWellMade setting.program setting.plan) wh
         (sp_is setting made.room s c b counted) (holds_here setting s c b counted)
         (let l = low in let h = top in pushing.below view sp back (omega arith) (omega arith)
         b.memory.data_alone b.memory.stack)
-        near code_here (b.memory.code.thunks f).thunk
+        near code_here (b.memory.code.thunks f called_here).thunk
 
     -- with the arguments in their registers
     abbrev pub given : MachineView

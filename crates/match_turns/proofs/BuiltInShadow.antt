@@ -1,7 +1,7 @@
 -- Each turn of a call of a built-in function, up to its service, keeps the shadow.
-use Rattle.std.proofs.Common.{◌≡◌, ℕ, ◌+◌, ◌-◌, Some, List, [], ◌∷◌, ◌++◌, refl, arith, inl}
+use Rattle.std.proofs.Common.{◌≡◌, ℕ, ◌+◌, ◌-◌, Option, Some, List, [], ◌∷◌, ◌++◌, refl, ap, ◌∙◌, arith, inl}
 use Rattle.std.specs.Prelude.{slice_get}
-use Rattle.match_turns.specs.Words.{address_of, Memory, Rsp, Instr, opcode_register, State, register, BuiltIn, Put, Protect, RaiseException, Temporary, Configuration, Layout, size, sizes, put_back, keep, temporary_at, IsNear, call, return_at, clear_result, AllKeep, HaveRoom, service_of, FindsReturn, Setting, IsResumed, RepresentsAt, arguments_code}
+use Rattle.match_turns.specs.Words.{address_of, Memory, Rsp, Instr, opcode_register, State, register, BuiltIn, Put, Protect, RaiseException, Walk, Temporary, LinearBody, Configuration, instruction_in, Layout, size, sizes, put_back, keep, temporary_at, IsNear, call, return_at, clear_result, AllKeep, HaveRoom, service_of, FindsReturn, CallsBuiltIn, Setting, IsResumed, RepresentsAt, arguments_code}
 use Rattle.x64_templates.specs.Runs.{Reaches}
 use Rattle.linear_code.specs.declared.instruction.Instruction.TheVariants as instructions
 use Rattle.match_turns.proofs.Lemmas.{sizes_append, call_size, others_of, StepsTo, reaches_steps, steps_split, keeps_split, AllPlain, arguments_plain, calls_keep, CalleeBegins, callee_begins, thunk_keeps, IsCounted, sp_low, room_here, has_slots}
@@ -12,7 +12,7 @@ unfolding size opcode_register
 clear_size = refl
 
 module _ (setting : Setting) (roomy : HaveRoom setting.program) where
-  open setting use {functions as t, funclets as fs, plan as p, sites as q, image}
+  open setting use {functions as t, funclets as fs, program, plan as p, sites as q, image}
 
   service_found : (f : BuiltIn) (m : Memory) → FindsReturn t m (address_of (service_of f))
   service_found Put m = image.callers_outside.services m (address_of (service_of Put)) (omega arith)
@@ -22,6 +22,20 @@ module _ (setting : Setting) (roomy : HaveRoom setting.program) where
   service_found RaiseException m = image.callers_outside.services m
       (address_of (service_of RaiseException)) (omega arith) (omega arith)
       (λ e. absurd (omega arith)) (λ e. absurd (omega arith))
+  service_found Walk m = image.callers_outside.services m (address_of (service_of Walk)) (omega arith)
+      (omega arith) (λ e. absurd (omega arith)) (λ e. absurd (omega arith))
+
+  -- the program calls it
+  abbrev pub calls_it : (s : State) (c : Configuration) (b : RepresentsAt setting s c)
+      (f : BuiltIn) (first : ℕ)
+      → slice_get b.body.slots.code.code c.frame.next ≡ Some (instructions.CallBuiltIn f first)
+      → CallsBuiltIn program f
+  calls_it s c b f first at = record {
+    name = c.frame.body;
+    label = c.frame.next;
+    first = first;
+    calls = ap (λ (o : Option LinearBody). instruction_in o c.frame.next) b.body.slots.body ∙ at;
+  }
 
   module _ (s : State) (c : Configuration) (b : RepresentsAt setting s c)
       (counted : IsCounted setting c) (f : BuiltIn) (first : ℕ)
@@ -29,6 +43,9 @@ module _ (setting : Setting) (roomy : HaveRoom setting.program) where
       (w : State) (run : Reaches 7 s w) (there : w.cpu.rip ≡ address_of (service_of f))
       (near : IsNear (return_at (p.layout c.frame.body) first
       (p.address c.frame.body c.frame.next + 5)) (q.thunk f)) where
+    abbrev called_here : CallsBuiltIn program f
+    called_here = calls_it s c b f first at
+
     abbrev y : Layout
     y = p.layout c.frame.body
 
@@ -78,14 +95,14 @@ module _ (setting : Setting) (roomy : HaveRoom setting.program) where
 
     called : CalleeBegins setting c.frame.body b.body.slots.code b.body.slots.body c.frame.next
         (instructions.CallBuiltIn f first) at (λ h. h) before after next (q.thunk f) refl next_is
-        near c.frame.next resumed (λ m. image.callers_outside.thunks m f) s halves.0
+        near c.frame.next resumed (λ m. image.callers_outside.thunks m f called_here) s halves.0
         (top_of setting s c b counted) b.body.back b.body.others b.body.is b.rip
         (begins_beneath setting s c b counted) refl
         (let l = sp_low setting s c b counted in omega arith) b.memory.code plain halves.1 sp
     called =
         callee_begins setting c.frame.body b.body.slots.code b.body.slots.body c.frame.next
         (instructions.CallBuiltIn f first) at (λ h. h) before after next (q.thunk f) refl next_is
-        near c.frame.next resumed (λ m. image.callers_outside.thunks m f) s halves.0
+        near c.frame.next resumed (λ m. image.callers_outside.thunks m f called_here) s halves.0
         (top_of setting s c b counted) b.body.back b.body.others b.body.is b.rip
         (begins_beneath setting s c b counted) refl
         (let l = sp_low setting s c b counted in omega arith) b.memory.code plain halves.1 sp
@@ -96,11 +113,11 @@ module _ (setting : Setting) (roomy : HaveRoom setting.program) where
         keeps_split t fs 6 1 s halves.0 halves.1
         (calls_keep setting c.frame.body b.body.slots.code b.body.slots.body c.frame.next
         (instructions.CallBuiltIn f first) at (λ h. h) before after next (q.thunk f) refl next_is
-        near c.frame.next resumed (λ m. image.callers_outside.thunks m f) s halves.0
+        near c.frame.next resumed (λ m. image.callers_outside.thunks m f called_here) s halves.0
         (top_of setting s c b counted) b.body.back b.body.others b.body.is b.rip
         (begins_beneath setting s c b counted) refl
         (let l = sp_low setting s c b counted in omega arith) b.memory.code plain halves.1)
         (thunk_keeps setting halves.0 w (sp - 8) sp next (others_of s.cpu.registers) _
         called.beneath_it (q.thunk f) (address_of (service_of f)) called.rip
-        (called.program_there.thunks f).thunk halves.2 there
-        (λ m. image.callers_outside.thunks m f) (service_found f))
+        (called.program_there.thunks f called_here).thunk halves.2 there
+        (λ m. image.callers_outside.thunks m f called_here) (service_found f))

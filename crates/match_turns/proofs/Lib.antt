@@ -57,6 +57,7 @@ pub mod ArenaRights
 pub mod ServiceCall
 pub mod ServiceReturn
 pub mod ServiceTurns
+pub mod WalkTurn
 pub mod ServiceSteps
 pub mod WaitingBodies
 pub mod KeptRegisters

@@ -3,12 +3,12 @@ use Rattle.std.proofs.Common.{◌≡◌, ℕ, zero, suc, ◌+◌, ◌^◌, ◌<�
 use Rattle.std.specs.Prelude.{slice_get}
 use Rattle.std.proofs.lemmas.Bool.{ne_eqb}
 use Rattle.std.proofs.lemmas.List.{length-set}
-use Rattle.match_turns.specs.Words.{opcode_register, IMAGE_BASE, IMAGE_RANGE_END, STACK_START, STACK_END, address_of, W64, loaded, Rsp, Flags, State, register, BuiltIn, Put, Protect, RaiseException, Temporary, Instruction, BodyState, Configuration, Layout, size, sizes, keep, IsNear, call, return_at, begin_call, call_code, clear_result, template_size, body_size, offset_of, MachineView, machine, pushed, HasCode, IsLive, Comes, HaveRoom, service_of, Setting, RepresentsAt, arguments_code}
+use Rattle.match_turns.specs.Words.{opcode_register, IMAGE_BASE, IMAGE_RANGE_END, STACK_START, STACK_END, address_of, W64, loaded, Rsp, Flags, State, register, BuiltIn, Put, Protect, RaiseException, Walk, Temporary, Instruction, BodyState, Configuration, Layout, size, sizes, keep, IsNear, call, return_at, begin_call, call_code, clear_result, template_size, body_size, offset_of, MachineView, machine, pushed, HasCode, IsLive, Comes, HaveRoom, service_of, CallsBuiltIn, Setting, RepresentsAt, arguments_code}
 use Rattle.x64_templates.specs.Runs.{Reaches}
 use Rattle.linear_code.specs.declared.instruction.Instruction.TheVariants as instructions
 use Rattle.match_turns.proofs.Lemmas.{sizes_append, call_size, call_code_size, code_split, reaches_silently, IsCounted, room_here, holds_here, sp_low, frame_top, frame, slots, v, sp_is, same_state, has_slots, template_here, next_address}
 use Rattle.match_turns.proofs.BuiltInCall.{ServiceReached, with_arguments_of, service_reached}
-use Rattle.match_turns.proofs.BuiltInShadow.{built_in_keeps}
+use Rattle.match_turns.proofs.BuiltInShadow.{calls_it, built_in_keeps}
 use Rattle.match_turns.proofs.HostPage.{host_silent}
 use Rattle.match_turns.proofs.ReturnAddressPush.{below, returns_there}
 
@@ -21,6 +21,7 @@ service_low : (f : BuiltIn) → (0 < address_of (service_of f))
 service_low Put = (omega arith, omega arith)
 service_low Protect = (omega arith, omega arith)
 service_low RaiseException = (omega arith, omega arith)
+service_low Walk = (omega arith, omega arith)
 
 -- an instruction of a body begins within it
 offset_most : (y : Layout) (body : List Instruction) (number : ℕ)
@@ -44,6 +45,9 @@ module _ (setting : Setting) (roomy : HaveRoom setting.program) where
       (counted : IsCounted setting c) (f : BuiltIn) (first : ℕ)
       (at : slice_get b.body.slots.code.code c.frame.next ≡ Some (instructions.CallBuiltIn f first))
     where
+      abbrev called_here : CallsBuiltIn program f
+      called_here = calls_it setting roomy s c b f first at
+
       abbrev pub layout : Layout
       layout = p.layout c.frame.body
 
@@ -107,7 +111,7 @@ module _ (setting : Setting) (roomy : HaveRoom setting.program) where
           let n = back_near in
           let l = n.0 in
           let h = n.1 in
-          let inside = (b.memory.code.thunks f).inside in
+          let inside = (b.memory.code.thunks f called_here).inside in
           let k = inside.low in
           let z = inside.high in
           (omega arith, omega arith, omega arith, omega arith)
@@ -122,7 +126,7 @@ module _ (setting : Setting) (roomy : HaveRoom setting.program) where
           (below view sp back (let l = low in omega arith) top b.memory.data_alone b.memory.stack)
           near
           (template_here setting roomy s c b counted (instructions.CallBuiltIn f first) at)
-          (b.memory.code.thunks f).thunk
+          (b.memory.code.thunks f called_here).thunk
 
       pub flags_there : Flags
       flags_there = reached.flags

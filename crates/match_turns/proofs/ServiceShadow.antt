@@ -2,7 +2,7 @@
 -- the body again.
 use Rattle.std.proofs.Common.{◌≡◌, ℕ, ◌+◌, ◌^◌, ◌<◌, ◌≤◌, List, [], ◌∷◌, Ok, Err, refl, ap, subst, ◌∙◌, arith}
 use Rattle.std.specs.Prelude.{Result, if◌then◌else◌}
-use Rattle.match_turns.specs.Words.{W64, RefusedAccess, address_of, service_at, in_host_page, Memory, executable, loaded, Rsp, leading, Context, context_of, State, register, hosted, execute, step, rsp, distance, readable, filter_return, finally_return, arrivals, BuiltIn, Put, Protect, RaiseException, Configuration, state, activations_below, KeepsStack, drop_below, started, served, GivesCallers, WalkGives, KeepsShadow, caller_above, owed_of, service_of, Setting, HasProgram, RepresentsAt}
+use Rattle.match_turns.specs.Words.{W64, RefusedAccess, address_of, service_at, in_host_page, Memory, executable, loaded, Rsp, leading, Context, context_of, State, register, hosted, execute, step, rsp, distance, readable, filter_return, finally_return, arrivals, BuiltIn, Put, Protect, RaiseException, Walk, Configuration, state, activations_below, KeepsStack, drop_below, started, served, GivesCallers, WalkGives, KeepsShadow, caller_above, owed_of, service_of, Setting, HasProgram, RepresentsAt}
 use Rattle.virtual_unwind.specs.Undone.{word}
 use Rattle.x64_machine.specs.declared.outcome.Stop.TheVariants as stops
 use Rattle.match_turns.proofs.Lemmas.{finds_return, owed_with, frame_owed, frame_stays, kept_here, reads_other, kept_by_other_memories, none_below, one_below, host_keeps, on_stack, gives_caller, IsCounted, sp_low, frame_top, caller_here, Below}
@@ -18,6 +18,8 @@ host_step Protect s e = ap (λ b. if in_host_page b then Err (hosted b (service_
     (leading (executable s.memory 15 s.cpu.rip))) e
 host_step RaiseException s e = ap (λ b. if in_host_page b then Err (hosted b (service_at b))
     else execute s (leading (executable s.memory 15 s.cpu.rip))) e
+host_step Walk s e = ap (λ b. if in_host_page b then Err (hosted b (service_at b)) else execute s
+    (leading (executable s.memory 15 s.cpu.rip))) e
 
 -- the service's own call is dropped
 call_over : (f : BuiltIn) (sp : ℕ) (u : State) (c d : Context) (cs : List Context) → rsp c < sp + 8
@@ -27,6 +29,7 @@ call_over Put sp u c d cs below above = one_below sp c (d ∷ cs) below ∙ none
 call_over Protect sp u c d cs below above = one_below sp c (d ∷ cs) below
     ∙ none_below sp (d ∷ cs) above
 call_over RaiseException sp u c d cs below above = none_below sp (d ∷ cs) above
+call_over Walk sp u c d cs below above = one_below sp c (d ∷ cs) below ∙ none_below sp (d ∷ cs) above
 
 service_found : (f : BuiltIn) → (0 < address_of (service_of f))
     × (address_of (service_of f) < 0x100000000) × (address_of (service_of f) ≡ filter_return → ⊥)
@@ -44,6 +47,7 @@ service_found RaiseException = (
   λ e. absurd (omega arith),
   λ e. absurd (omega arith),
 )
+service_found Walk = (omega arith, omega arith, λ e. absurd (omega arith), λ e. absurd (omega arith))
 
 module _ (setting : Setting) where
   open setting use {functions as t, funclets as fs, program, plan as p, image}

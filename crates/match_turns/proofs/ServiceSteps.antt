@@ -1,11 +1,15 @@
 -- Each of these steps is matched.
-use Rattle.std.proofs.Common.{◌≡◌, ℕ, ◌+◌, ◌<◌, Bool, true, false, Option, Some, None, length, refl, sym, ap, ◌∙◌}
+use Rattle.std.proofs.Common.{◌≡◌, ℕ, ◌+◌, ◌<◌, Bool, true, false, List, ◌∷◌, Option, Some, None, length, refl, sym, ap, subst, ◌∙◌}
 use Rattle.std.specs.Prelude.{slice_get}
-use Rattle.match_turns.specs.Words.{State, BuiltIn, Put, Protect, Local, Instruction, LinearProgram, Configuration, instruction_at, LandsWell, IsWellMade, IsKnown, Setting, setting_of, RepresentsAt}
+use Rattle.match_turns.specs.Words.{Rsp, address_of, back, register, context_of, waiting, Waits, StackItem, On, return_at, MachineView, machine, pushed, service_of, State, BuiltIn, Put, Protect, Walk, Local, Instruction, LinearProgram, Configuration, instruction_at, LandsWell, IsWellMade, IsKnown, Setting, setting_of, RepresentsAt}
 use Rattle.linear_code.specs.declared.instruction.Instruction.TheVariants as instructions
 use Rattle.match_turns.proofs.Lemmas.{some_is, counted_here, around_here, code_at, held_here, goes_inside, ready_here}
-use Rattle.match_turns.specs.ServiceLaws.{InformationIsMatched, PutsAreMatched, ProtectsAreMatched}
+use Rattle.match_turns.specs.ServiceLaws.{InformationIsMatched, PutsAreMatched, ProtectsAreMatched, WalksAreMatched}
 use Rattle.match_turns.proofs.ServiceTurns.{put_step, protect_step}
+use Rattle.match_turns.proofs.BuiltInRequest as asking
+use Rattle.match_turns.proofs.BuiltInShadow.{calls_it}
+use Rattle.match_turns.proofs.HostRequest.{Asks}
+use Rattle.match_turns.proofs.WalkTurn.{walk_step}
 use Rattle.match_turns.proofs.FilterInformationStep.{information_step}
 
 -- only a landing follows what has landed
@@ -88,3 +92,48 @@ protects_are_matched t fs program p q image made s c first b known e =
     (held_here setting made s c b known)
     (ready_here setting made s c b known i e)
     (nothing_landed program c i c.frame.landed known.stacked.landed e refl)
+
+-- where `walk` returns to, the body that calls it is on top of the list
+module _ (setting : Setting) (made : IsWellMade setting.program setting.plan) (s : State)
+    (c : Configuration) (b : RepresentsAt setting s c) (known : IsKnown setting.program c)
+    (first : ℕ) (e : instruction_at setting.program c ≡ Some (instructions.CallBuiltIn Walk first))
+    where
+      open setting use {functions as t, funclets as fs, program, plan as p}
+
+      abbrev given : MachineView
+      given = asking.given setting made s c b known Walk first e
+
+      -- the state at the service, where the call's code begins at an address
+      abbrev to : ℕ → ℕ
+      to a = return_at (p.layout c.frame.body) first (a + 5)
+
+      abbrev there : ℕ → State
+      there a = machine (pushed given (register s.cpu Rsp) (to a)) (address_of (service_of Walk))
+          s.cpu.flags
+
+      abbrev stack : List StackItem
+      stack = (asking.asks setting made s c b known Walk first e).is
+
+      abbrev OnAt : ℕ → Type 0
+      OnAt a = On t fs program p (there a).memory (context_of (back (there a) (to a)).cpu) stack
+          (Waits (waiting c first).frame ∷ c.below) b.body.acts
+
+      on_top : OnAt s.cpu.rip
+      on_top = subst OnAt (sym b.rip) (asking.asks setting made s c b known Walk first e).asks.on
+
+pub walks_are_matched : WalksAreMatched
+walks_are_matched t fs program p q image made s c first b known e =
+    let setting : Setting = setting_of t fs program p q image in
+    let i = instructions.CallBuiltIn Walk first in
+    let here = call_here setting made s c b known Walk first e in
+    walk_step setting made.room s c b
+    (counted_here setting made c known)
+    (around_here setting made s c b known) first here
+    (framed setting made s c b known Walk first e)
+    (within setting made s c b known Walk first e)
+    (held_here setting made s c b known)
+    (ready_here setting made s c b known i e)
+    (nothing_landed program c i c.frame.landed known.stacked.landed e refl)
+    (image.names (calls_it setting made.room s c b Walk first here))
+    (stack setting made s c b known first e) b.body.acts
+    (on_top setting made s c b known first e)

@@ -21,7 +21,7 @@ module _ (t : Functions) (fs : List Funclet) where
   hosted_turn s a = arrived t fs (turned t s (cond (in_host_page a) (Err (hosted a (service_at a)))
       (execute s (leading (executable s.memory 15 s.cpu.rip)))))
 
-  at_service : (s : State) (a : ℕ) → s.cpu.rip ≡ a → turn t fs s ≡ hosted_turn s a
+  pub at_service : (s : State) (a : ℕ) → s.cpu.rip ≡ a → turn t fs s ≡ hosted_turn s a
   unfolding turn step
   at_service s a e = ap (hosted_turn s) e
 
@@ -48,7 +48,7 @@ given_in [] (suc first) k = λ i. 0
 given_in (x ∷ ts) (suc first) k = given_in ts first k
     ∙ (let z : suc (first + k) ≡ suc first + k = omega arith in ap (λ i. get_or (x ∷ ts) i 0) z)
 
-calls_as : (program : LinearProgram) (c : Configuration) (f : BuiltIn) (first : ℕ)
+pub calls_as : (program : LinearProgram) (c : Configuration) (f : BuiltIn) (first : ℕ)
     → length c.frame.temporaries ≡ first + count_of f → (next : Next)
     → act program (instructions.CallBuiltIn f first) next c
     ≡ built_in program next f (drop first c.frame.temporaries) (waiting c first)
@@ -84,7 +84,7 @@ module _ (setting : Setting) (roomy : HaveRoom setting.program) where
         (slice_get-get_or c.frame.temporaries (first + k) 0 lt)
         ∙ sym (given_in c.frame.temporaries first k)
 
-    pushed_memory : IsMachineMemory setting
+    pub pushed_memory : IsMachineMemory setting
         (memory_there setting roomy s c b counted around f first at framed within held fits free)
         c.store.memory
     pushed_memory =
@@ -101,7 +101,7 @@ module _ (setting : Setting) (roomy : HaveRoom setting.program) where
         (pushed_untouched v from ret (omega arith) h b.memory.data_alone b.memory.stack) b.memory
         (pushed_data v from ret (omega arith) h b.memory.data_alone b.memory.stack)
 
-    same_stack : (m : Memory) (from : ℕ) → KeepsStack m m from
+    pub same_stack : (m : Memory) (from : ℕ) → KeepsStack m m from
     same_stack m from = record {
       bytes = λ a l u. refl;
       protection = λ a l u. refl;

@@ -1,10 +1,11 @@
--- What is claimed of steps that read a filter's exception, and of calls of `put` and `protect`.
+-- What is claimed of steps that read a filter's exception, and of calls of `put`, `protect` and
+-- `walk`.
 use Rattle.std.specs.Prelude.{◌≡◌, ℕ, List, Some}
 use Rattle.x64_machine.specs.Effect.{State}
 use Rattle.virtual_unwind.specs.CallerOf.{Functions}
 use Rattle.host_model.specs.declared.funclet.Funclet.{Funclet}
 use Rattle.c_operations.specs.declared.field.Field.{Field}
-use Rattle.c_operations.specs.declared.built_in.BuiltIn.TheVariants.{Put, Protect}
+use Rattle.c_operations.specs.declared.built_in.BuiltIn.TheVariants.{Put, Protect, Walk}
 use Rattle.linear_code.specs.declared.slot.Slot.{Slot}
 use Rattle.linear_code.specs.declared.instruction.Instruction.TheVariants as instructions
 use Rattle.linear_code.specs.Program.{LinearProgram}
@@ -51,3 +52,14 @@ ProtectsAreMatched =
     → instruction_at program c ≡ Some (instructions.CallBuiltIn Protect first)
     → Moves t fs program turns_per_step turns_left (RepresentsAt t fs program p q) s c
     (instructions.CallBuiltIn Protect first)
+
+-- `walk` shows the functions that wait, innermost first, and its result is 0
+abbrev pub WalksAreMatched : Type 0
+WalksAreMatched =
+    (t : Functions) (fs : List Funclet) (program : LinearProgram) (p : ImagePlan) (q : Sites)
+    → IsProgramImage t fs program p q → IsWellMade program p
+    → (s : State) (c : Configuration) (first : ℕ)
+    → RepresentsAt t fs program p q s c → IsKnown program c
+    → instruction_at program c ≡ Some (instructions.CallBuiltIn Walk first)
+    → Moves t fs program turns_per_step turns_left (RepresentsAt t fs program p q) s c
+    (instructions.CallBuiltIn Walk first)

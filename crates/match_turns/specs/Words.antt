@@ -12,7 +12,7 @@ pub use Rattle.flat_memory.specs.declared.access.RefusedAccess.{RefusedAccess}
 pub use Rattle.flat_memory.specs.declared.protection.Protection.{Protection}
 pub use Rattle.c_operations.specs.Performed.{Raises, Gives, OperationResult, performed, Undefined}
 pub use Rattle.c_operations.specs.declared.built_in.BuiltIn.{BuiltIn}
-pub use Rattle.c_operations.specs.declared.built_in.BuiltIn.TheVariants.{Put, Protect, RaiseException}
+pub use Rattle.c_operations.specs.declared.built_in.BuiltIn.TheVariants.{Put, Protect, RaiseException, Walk}
 pub use Rattle.c_operations.specs.declared.field.Field.{Field}
 pub use Rattle.c_operations.specs.declared.field.Field.TheVariants.{ExceptionCode, ExceptionFlags, NumberParameters, ExceptionInformation}
 pub use Rattle.c_operations.specs.declared.operation.Operation.{Operation}
@@ -30,6 +30,7 @@ pub use Rattle.linear_code.specs.declared.program.Region.{Region}
 pub use Rattle.linear_code.specs.declared.program.RegionKind.{RegionKind}
 pub use Rattle.linear_code.specs.declared.slot.Slot.{Slot}
 pub use Rattle.linear_code.specs.declared.slot.Slot.TheVariants.{Local, Temporary}
+pub use Rattle.linear_machine.specs.BuiltInCalls.{CallsBuiltIn}
 pub use Rattle.linear_machine.specs.Frames.{Configuration, AfterCall, SameOperation, read, BodyName, FunctionBody, FuncletBody, body_of, Frame, Item, Waits, Searches, Unwinds, with_last, Next, deeper, last_temporaries, function_body, Finished, local_of, Seen, Handler, Target, Resumption, Store, funclet_body, forth, set_local, Running, Stuck}
 unfoldable pub use Rattle.linear_machine.specs.Frames.{with_some, pick}
 pub use Rattle.linear_machine.specs.Instructions.{waiting, begin_function, act, end_finally, local_unwind, end_funclet, end_body, return, written, is_constant, operand, computed, count_of, built_in}

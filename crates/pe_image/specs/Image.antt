@@ -1,12 +1,15 @@
 -- An image as it is read, and what is stored in it.
-use Rattle.std.specs.Prelude.{◌≡◌, ℕ, ◌+◌, ◌-◌, ◌%◌, ◌≤◌, bit_and, Bool, true, false, not, ◌&&◌, ◌==◌, nat_lt, nat_le, List, [], ◌∷◌, length, take, drop, Option, Some, None}
+use Rattle.std.specs.Prelude.{◌≡◌, ℕ, ◌+◌, ◌-◌, ◌%◌, ◌≤◌, bit_and, Bool, true, false, not, ◌&&◌, ◌==◌, nat_lt, nat_le, List, [], ◌∷◌, length, take, drop, find, Option, Some, None}
+use Rattle.std.specs.Str.{bytes_eq}
 use Rattle.host_layout.specs.declared.range.TheConstants.{PAGE}
 use Rattle.pe_image.specs.declared.layout.TheConstants.{IMAGE_SCN_MEM_EXECUTE, IMAGE_SCN_MEM_READ, IMAGE_SCN_MEM_WRITE}
 use Rattle.pe_image.specs.declared.directory.DataDirectory.{DataDirectory}
 
--- a section: where it lies from the image base on, how many bytes it takes there, those that the
--- file stores of it from its front on (the others are 0), and its characteristics
+-- a section: its name of eight bytes, where it lies from the image base on, how many bytes it takes
+-- there, those that the file stores of it from its front on (the others are 0), and its
+-- characteristics
 pub record Section : Type 0 where
+  pub name : List ℕ
   pub address : ℕ
   pub size : ℕ
   pub raw : List ℕ
@@ -21,6 +24,10 @@ pub record Image : Type 0 where
   pub sections : List Section
   pub imports : DataDirectory
   pub exceptions : DataDirectory
+
+-- the first section of a name
+abbrev pub section_named : List ℕ → List Section → Option Section
+section_named name ss = find (λ s. bytes_eq s.name name) ss
 
 -- ---- what a section's characteristics allow (PE format, "Section Flags")
 

@@ -3,10 +3,10 @@
 -- address of its name, which a 0 ends in the same section.
 use Rattle.std.specs.Prelude.{ℕ, zero, suc, ◌+◌, ◌-◌, ◌*◌, ◌<◌, Bool, true, false, ◌&&◌, nat_lt, nat_le, nat_eq, if◌then◌else◌, List, [], ◌∷◌, drop, length, slice_index_or, option_map, Option, Some, None, Result, Ok, Err}
 use Rattle.seh_num.specs.Answers.{unless, or_refused, prepend, ◌>>=◌}
-use Rattle.pe_image.specs.declared.layout.TheConstants.{NAME_COUNT_SIZE, NAME_ROW_SIZE, NAME_ROW_END, NAME_ROW_NUMBER, NAME_ROW_NAME}
+use Rattle.pe_image.specs.declared.layout.TheConstants.{SEHNAME_NAME, NAME_COUNT_SIZE, NAME_ROW_SIZE, NAME_ROW_END, NAME_ROW_NUMBER, NAME_ROW_NAME}
 use Rattle.pe_image.specs.declared.name_table.NameErr.{NameErr}
 use Rattle.pe_image.specs.Field.{field, is_there}
-use Rattle.pe_image.specs.Image.{Section}
+use Rattle.pe_image.specs.Image.{Section, Image, section_named}
 use Rattle.pe_image.specs.Imports.{terminated}
 
 pub record NameRow : Type 0 where
@@ -76,6 +76,15 @@ rows_of s = do
   _ ← unless (is_there s.raw 0 NAME_COUNT_SIZE) (record { row = 0 })
   rows_from s (field 4 s.raw 0) 0 0
 
+-- those of the table in a section; without one there are none
+abbrev pub names_in : Option Section → Result (List NameRow) NameErr
+names_in None = Ok []
+names_in (Some s) = rows_of (name_section s)
+
+-- the names of an image: the rows of the table in its first section `.sehname`
+unfoldable pub names_of : Image → Result (List NameRow) NameErr
+names_of image = names_in (section_named SEHNAME_NAME image.sections)
+
 abbrev pub no_row : NameRow
 no_row = record { begin = 0; end = 0; number = 0; name = [] }
 
@@ -95,6 +104,10 @@ abbrev pub name_of : ℕ → List NameRow → Option (List ℕ)
 name_of number [] = None
 name_of number (r ∷ rs) = name_or (name_of number rs) r.name (nat_eq r.number number)
 
+-- the name of a number in an image; one whose table is refused has none
+abbrev pub function_name : Image → ℕ → Option (List ℕ)
+function_name image number = name_of number (rows_read (names_of image))
+
 -- the row whose range holds an address
 abbrev pub row_or : Option NameRow → NameRow → Bool → Option NameRow
 row_or others row true = Some row
@@ -103,6 +116,14 @@ row_or others row false = others
 abbrev pub row_holding : ℕ → List NameRow → Option NameRow
 row_holding rva [] = None
 row_holding rva (r ∷ rs) = row_or (row_holding rva rs) r (nat_le r.begin rva && nat_lt rva r.end)
+
+-- the name in the row whose range begins at an address: that which holds it, if it begins there
+abbrev pub name_if_begun : ℕ → Option NameRow → Option (List ℕ)
+name_if_begun rva None = None
+name_if_begun rva (Some r) = if nat_eq r.begin rva then Some r.name else None
+
+abbrev pub name_at_begin : ℕ → List NameRow → Option (List ℕ)
+name_at_begin rva rows = name_if_begun rva (row_holding rva rows)
 
 -- each row has a greater number than the one before
 abbrev pub NumbersAscend : List NameRow → Type 0

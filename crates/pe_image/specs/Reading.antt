@@ -5,7 +5,7 @@ use Rattle.host_layout.specs.Ranges.{pages}
 use Rattle.pe_image.specs.declared.directory.DataDirectory.{DataDirectory}
 use Rattle.pe_image.specs.declared.image_layout.ImageLayout.{ImageLayout}
 use Rattle.pe_image.specs.declared.image_layout.ImageLayout.TheVariants as layouts
-use Rattle.pe_image.specs.declared.layout.TheConstants.{DOS_HEADER_SIZE, IMAGE_DOS_SIGNATURE, E_LFANEW, FILE_HEADER_SIZE, IMAGE_NT_SIGNATURE, MACHINE, IMAGE_FILE_MACHINE_AMD64, NUMBER_OF_SECTIONS, SIZE_OF_OPTIONAL_HEADER, IMAGE_NT_OPTIONAL_HDR64_MAGIC, ADDRESS_OF_ENTRY_POINT, IMAGE_BASE, SIZE_OF_IMAGE, NUMBER_OF_RVA_AND_SIZES, DIRECTORIES, DIRECTORY_SIZE, IMAGE_DIRECTORY_ENTRY_IMPORT, IMAGE_DIRECTORY_ENTRY_EXCEPTION, SECTION_HEADER_SIZE, VIRTUAL_SIZE, VIRTUAL_ADDRESS, SIZE_OF_RAW_DATA, POINTER_TO_RAW_DATA, CHARACTERISTICS, SIZE_IN_DIRECTORY}
+use Rattle.pe_image.specs.declared.layout.TheConstants.{DOS_HEADER_SIZE, IMAGE_DOS_SIGNATURE, E_LFANEW, FILE_HEADER_SIZE, IMAGE_NT_SIGNATURE, MACHINE, IMAGE_FILE_MACHINE_AMD64, NUMBER_OF_SECTIONS, SIZE_OF_OPTIONAL_HEADER, IMAGE_NT_OPTIONAL_HDR64_MAGIC, ADDRESS_OF_ENTRY_POINT, IMAGE_BASE, SIZE_OF_IMAGE, NUMBER_OF_RVA_AND_SIZES, DIRECTORIES, DIRECTORY_SIZE, IMAGE_DIRECTORY_ENTRY_IMPORT, IMAGE_DIRECTORY_ENTRY_EXCEPTION, SECTION_HEADER_SIZE, SECTION_NAME_SIZE, VIRTUAL_SIZE, VIRTUAL_ADDRESS, SIZE_OF_RAW_DATA, POINTER_TO_RAW_DATA, CHARACTERISTICS, SIZE_IN_DIRECTORY}
 use Rattle.pe_image.specs.declared.refusal.ImageErr.{ImageErr}
 use Rattle.pe_image.specs.declared.refusal.ImageErr.TheVariants as refusals
 use Rattle.pe_image.specs.declared.table.SectionHeader.{SectionHeader}
@@ -115,6 +115,7 @@ size_of (suc n) raw_size = suc n
 
 abbrev pub header_at : List ℕ → ℕ → SectionHeader
 header_at bytes at = record {
+  name = take SECTION_NAME_SIZE (drop at bytes);
   size = size_of (field 4 bytes (at + VIRTUAL_SIZE)) (field 4 bytes (at + SIZE_OF_RAW_DATA));
   address = field 4 bytes (at + VIRTUAL_ADDRESS);
   raw_size = field 4 bytes (at + SIZE_OF_RAW_DATA);
@@ -154,6 +155,7 @@ all_laid_out byte_count limit index end (s ∷ ss) = do
 abbrev pub section_of : List ℕ → SectionHeader → Section
 section_of bytes s =
     record {
+      name = s.name;
       address = s.address;
       size = s.size;
       raw = take (min s.size s.raw_size) (drop s.raw_at bytes);

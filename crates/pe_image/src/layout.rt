@@ -65,6 +65,9 @@ pub const IMAGE_NUMBEROF_DIRECTORY_ENTRIES: usize = 16;
 /// The size of a section header (PE format, "Section Table").
 pub const SECTION_HEADER_SIZE: usize = 40;
 
+/// The size of its field Name, at its front: a name that is shorter has zeros after it.
+pub const SECTION_NAME_SIZE: usize = 8;
+
 /// The field VirtualSize of a section header: how many bytes it takes in the image.
 pub const VIRTUAL_SIZE: usize = 8;
 
@@ -120,6 +123,9 @@ pub const HINT_SIZE: usize = 2;
 /// How many addresses there are, relative to an image base: no lookup table has more entries, and
 /// no image more libraries.
 pub const ADDRESS_COUNT: u64 = 0x1_0000_0000;
+
+/// The name of the section that has a table of names (own).
+pub const SEHNAME_NAME: [u8; SECTION_NAME_SIZE] = *b".sehname";
 
 /// The size of the count in front of the rows of a table of names (own).
 pub const NAME_COUNT_SIZE: usize = 4;

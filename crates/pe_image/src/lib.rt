@@ -3,8 +3,8 @@
 //! [`ImageView::read`] reads the bytes of a file without copying them, and refuses by the first
 //! check that fails ([`ImageErr`]). [`ImageView::read_outline`] reads an image without its imports,
 //! in a file or as a loader mapped it ([`ImageLayout`]). The view then answers its sections
-//! ([`SectionView`]) and what is stored at an address. Reading is lenient: any DOS stub, image base and number of directories
-//! will do, and raw data may be longer or shorter than a section's size.
+//! ([`SectionView`]) and what is stored at an address. Reading is lenient: any DOS stub, image base
+//! and number of directories will do, and raw data may be longer or shorter than a section's size.
 //!
 //! Addresses of sections, entries and directories are relative to the image base.
 //!

@@ -141,6 +141,19 @@ impl<'a> NameSection<'a> {
 }
 
 impl<'a> NameRows<'a> {
+    /// The same rows.
+    fn copied(&self) -> NameRows<'a>
+        ensures { result ≡ self.now }
+    {
+        NameRows {
+            section: NameSection {
+                address: self.section.address,
+                raw: self.section.raw,
+            },
+            count: self.count,
+        }
+    }
+
     /// None.
     fn empty() -> NameRows<'a>
         ensures { result ≡ [] }
@@ -193,9 +206,11 @@ impl<'a> NameRows<'a> {
         self.section.range(index)
     }
 
-    /// The row whose range holds an address: where the range begins, and the function's number.
-    fn row(&self, rva: u64) -> Option<(u64, u32)>
-        ensures { result ≡ option_map (λ r. (r.begin, r.number)) (spec.row_holding rva self.now) }
+    /// The index of the row whose range holds an address.
+    fn place(&self, rva: u64) -> Option<u32>
+        ensures within { IfSome result (λ k. k < length self.now) }
+        ensures row { option_map (λ k. slice_index_or self.now k spec.no_row) result
+            ≡ spec.row_holding rva self.now }
     {
         let mut low = 0;
         let mut high = self.count;
@@ -207,10 +222,30 @@ impl<'a> NameRows<'a> {
             } else if rva < range.begin as u64 {
                 high = middle;
             } else {
-                return Some((range.begin as u64, range.number));
+                return Some(middle);
             }
         }
         None
+    }
+
+    /// The row whose range holds an address: where the range begins, and the function's number.
+    fn row(&self, rva: u64) -> Option<(u64, u32)>
+        ensures { result ≡ option_map (λ r. (r.begin, r.number)) (spec.row_holding rva self.now) }
+    {
+        let index = self.place(rva)?;
+        let range = self.range(index);
+        Some((range.begin as u64, range.number))
+    }
+
+    /// The name in the row whose range begins at an address.
+    fn name_at_begin(&self, rva: u64) -> Option<&'a [u8]>
+        ensures { option_map (λ b. b.now) result ≡ spec.name_at_begin rva self.now }
+    {
+        let index = self.place(rva)?;
+        if self.range(index).begin as u64 != rva {
+            return None;
+        }
+        self.section.name(index)
     }
 
     /// The name in the first row with a number.
@@ -306,12 +341,30 @@ impl<'a> NameTable<'a> {
         Ok(NameTable { rows, ascending })
     }
 
+    /// The same table: it borrows what the image stores, and takes no memory.
+    pub fn copied(&self) -> NameTable<'a>
+        ensures { result ≡ self.now }
+    {
+        NameTable {
+            rows: self.rows.copied(),
+            ascending: self.ascending,
+        }
+    }
+
     /// The row whose range holds an address: where the range begins, and the function's number. The
     /// rows are searched by halves.
     pub fn row(&self, rva: u64) -> Option<(u64, u32)>
         ensures { result ≡ option_map (λ r. (r.begin, r.number)) (spec.row_holding rva self.now) }
     {
         self.rows.row(rva)
+    }
+
+    /// The name in the row whose range begins at an address, if there is one. The rows are searched
+    /// by halves.
+    pub fn name_at_begin(&self, rva: u64) -> Option<&'a [u8]>
+        ensures { option_map (λ b. b.now) result ≡ spec.name_at_begin rva self.now }
+    {
+        self.rows.name_at_begin(rva)
     }
 
     /// The name of the function of a number: that of the first row with the number. Where the

@@ -1,15 +1,18 @@
 //! A section of an image that was read.
 
-ghost use Rattle.std.specs.Prelude.{◌≡◌, ℕ, ◌<◌, ◌≤◌, ◌-◌, ◌^◌, length, drop, slice_index_or};
+ghost use Rattle.std.specs.Prelude.{◌≡◌, ℕ, ◌<◌, ◌≤◌, ◌-◌, ◌^◌, length, drop, slice_index_or, option_map};
 ghost use Rattle.pe_image.specs.Image.{Section, AreAscending, section_at, stored_in};
 ghost use Rattle.pe_image.specs.Image as spec;
 
-use crate::layout::{IMAGE_SCN_MEM_EXECUTE, IMAGE_SCN_MEM_READ, IMAGE_SCN_MEM_WRITE};
+use crate::layout::{
+    IMAGE_SCN_MEM_EXECUTE, IMAGE_SCN_MEM_READ, IMAGE_SCN_MEM_WRITE, SECTION_NAME_SIZE,
+};
 use std::marker::Model;
 
-/// A section of an image: where it lies, and what the file stores of it.
+/// A section of an image: its name, where it lies, and what the file stores of it.
 #[derive(Drop)]
 pub struct SectionView<'a> {
+    name: [u8; SECTION_NAME_SIZE],
     address: u32,
     size: u32,
     raw: &'a [u8],
@@ -22,6 +25,7 @@ impl<'a> Model for SectionView<'a> {
     ghost Value = { Section };
 
     ghost view = { λ s. record {
+      name = s.name;
       address = s.address;
       size = s.size;
       raw = s.raw.now;
@@ -30,15 +34,35 @@ impl<'a> Model for SectionView<'a> {
 }
 
 impl<'a> SectionView<'a> {
-    pub(crate) fn new(address: u32, size: u32, raw: &'a [u8], flags: u32) -> SectionView<'a>
-        ensures { result ≡ record { address = address; size = size; raw = raw.now; flags = flags } }
+    pub(crate) fn new(
+        name: [u8; SECTION_NAME_SIZE],
+        address: u32,
+        size: u32,
+        raw: &'a [u8],
+        flags: u32,
+    ) -> SectionView<'a>
+        ensures { result ≡ record {
+          name = name;
+          address = address;
+          size = size;
+          raw = raw.now;
+          flags = flags;
+        } }
     {
         SectionView {
+            name,
             address,
             size,
             raw,
             flags,
         }
+    }
+
+    /// Its name (PE format, "Section Table"), with zeros after one of fewer bytes.
+    pub fn name(&self) -> [u8; SECTION_NAME_SIZE]
+        ensures { result ≡ self.now.name }
+    {
+        self.name
     }
 
     /// Where it begins, relative to the image base.
@@ -103,6 +127,16 @@ impl<'a> SectionView<'a> {
     {
         self.flags & (IMAGE_SCN_MEM_EXECUTE | IMAGE_SCN_MEM_READ | IMAGE_SCN_MEM_WRITE) != 0
     }
+}
+
+/// The first section of a name.
+pub fn section_named<'v, 'a>(
+    sections: &'v [SectionView<'a>],
+    name: [u8; SECTION_NAME_SIZE],
+) -> Option<&'v SectionView<'a>>
+    ensures { option_map (λ s. s.now) result ≡ spec.section_named name sections.now }
+{
+    sections.iter().find(|s| s.name() == name)
 }
 
 /// How many of ascending sections begin at or below an address.

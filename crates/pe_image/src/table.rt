@@ -8,8 +8,8 @@ ghost use Rattle.pe_image.specs.Reading.{headers_from, all_placed, sections_of};
 use crate::fields::u32_at;
 use crate::image_layout::ImageLayout;
 use crate::layout::{
-    CHARACTERISTICS, POINTER_TO_RAW_DATA, SECTION_HEADER_SIZE, SIZE_OF_RAW_DATA, VIRTUAL_ADDRESS,
-    VIRTUAL_SIZE,
+    CHARACTERISTICS, POINTER_TO_RAW_DATA, SECTION_HEADER_SIZE, SECTION_NAME_SIZE, SIZE_OF_RAW_DATA,
+    VIRTUAL_ADDRESS, VIRTUAL_SIZE,
 };
 use crate::refusal::ImageErr;
 use crate::section::SectionView;
@@ -19,6 +19,8 @@ use std::alloc::Global;
 /// A section header (PE format, "Section Table").
 #[derive(Clone, Copy, Debug)]
 pub struct SectionHeader {
+    /// Its name, with zeros after one of fewer bytes.
+    pub name: [u8; SECTION_NAME_SIZE],
     /// How many bytes the section takes in the image: VirtualSize, or SizeOfRawData where that is
     /// 0.
     pub size: u32,
@@ -39,9 +41,12 @@ impl SectionHeader {
         requires { at + SECTION_HEADER_SIZE ≤ length bytes.now }
         ensures { result ≡ spec.header_at bytes.now at }
     {
+        let mut name = [0; SECTION_NAME_SIZE];
+        name.copy_from_slice(&bytes[at..at + SECTION_NAME_SIZE]);
         let virtual_size = u32_at(bytes, at + VIRTUAL_SIZE);
         let raw_size = u32_at(bytes, at + SIZE_OF_RAW_DATA);
         SectionHeader {
+            name,
             size: if virtual_size == 0 {
                 raw_size
             } else {
@@ -103,7 +108,7 @@ impl SectionHeader {
         } else {
             &bytes[self.raw_at as usize..self.raw_at as usize + stored]
         };
-        SectionView::new(self.address, self.size, raw, self.flags)
+        SectionView::new(self.name, self.address, self.size, raw, self.flags)
     }
 }
 

@@ -1,9 +1,10 @@
 //! An image that was read.
 
-ghost use Rattle.std.specs.Prelude.{◌≡◌, ◌<◌, ◌^◌, Ok, length, option_map, IfOk, IfErr};
+ghost use Rattle.std.specs.Prelude.{◌≡◌, ◌<◌, ◌^◌, Ok, Err, length, option_map, IfOk, IfErr};
 ghost use Rattle.pe_image.specs.Image.{AreAscending, section_at, stored, stored_in};
 ghost use Rattle.pe_image.specs.Bound.{bound_name};
 ghost use Rattle.pe_image.specs.Imports.{imports, imports_of};
+ghost use Rattle.pe_image.specs.NameRows.{names_of};
 ghost use Rattle.pe_image.specs.Answer.{Refuses};
 ghost use Rattle.pe_image.specs.Reading.{HasHeaders, IsImage, ImageIsRefused};
 ghost use Rattle.pe_image.specs.Reading.{sectioned_importing, reading_in, outline_alone};
@@ -13,13 +14,14 @@ use crate::image_layout::ImageLayout;
 use crate::import::stored;
 use crate::import_check::check_imports;
 use crate::imports::{Imports, bound_names};
-use crate::layout::{IMAGE_DIRECTORY_ENTRY_EXCEPTION, IMAGE_DIRECTORY_ENTRY_IMPORT};
+use crate::layout::{IMAGE_DIRECTORY_ENTRY_EXCEPTION, IMAGE_DIRECTORY_ENTRY_IMPORT, SEHNAME_NAME};
+use crate::name_table::{NameErr, NameTable};
 use crate::reading::{
     check_headers, directory, entry_point, image_base, image_end, image_size, section_count,
     sections_at,
 };
 use crate::refusal::ImageErr;
-use crate::section::{SectionView, stored_from};
+use crate::section::{SectionView, section_named, stored_from};
 use crate::table::sections;
 use std::alloc::Global;
 use std::collections::BTreeMap;
@@ -183,6 +185,20 @@ impl<'a> ImageView<'a> {
         ensures { option_map (λ b. b.now) result ≡ bound_name slot (imports_of self.now) }
     {
         self.names.get(&slot).copied()
+    }
+
+    /// The names of its functions: the table in its first section that is called `.sehname`. An
+    /// image without such a section has none. Of a mapped image all of the section's size is read,
+    /// as of each of its sections.
+    #[tactic(auto, unfolding(crate::specs::NameRows::names_of))]
+    pub fn names(&self) -> Result<NameTable<'a>, NameErr>
+        ensures rows { IfOk result (λ t. names_of self.now ≡ Ok t) }
+        ensures refusal { IfErr result (λ e. names_of self.now ≡ Err e) }
+    {
+        match section_named(&self.sections, SEHNAME_NAME) {
+            Some(section) => NameTable::read(section),
+            None => Ok(NameTable::empty()),
+        }
     }
 
     /// Where the function table lies.

@@ -76,6 +76,7 @@ laid_out b limit index end address page raw_at (s ∷ ss) whole up below e =
     let two : (address % 4096 == 0) ≡ true = eq-eqb (address % 4096) 0 (omega arith) in
     let fits : is_laid_out (length b) limit end
     (record {
+      name = s.name;
       size = s.size;
       address = address;
       raw_size = raw_size s;
@@ -109,7 +110,13 @@ sections_again b address raw_at (s ∷ ss) e =
     let raw = raw_again b raw_at s ss e in
     let others = sections_again b (address + pages s.size) (raw_at + raw_size s) ss
     (raw_more b raw_at s ss e) in
-    λ i. record { address = address; size = s.size; raw = raw i; flags = s.flags } ∷ others i
+    λ i. record {
+      name = s.name;
+      address = address;
+      size = s.size;
+      raw = raw i;
+      flags = s.flags;
+    } ∷ others i
 
 -- ---- the whole
 

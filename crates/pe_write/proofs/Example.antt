@@ -57,8 +57,20 @@ is_written = refl
 
 abbrev sections : List Section
 sections =
-    record { address = 0x1000; size = 4096; raw = []; flags = 0xC0000040 }
-    ∷ record { address = 0x2000; size = 6; raw = code; flags = 0x60000020 }
+    record {
+      name = 46 ∷ 100 ∷ 97 ∷ 116 ∷ 97 ∷ 0 ∷ 0 ∷ 0 ∷ [];
+      address = 0x1000;
+      size = 4096;
+      raw = [];
+      flags = 0xC0000040;
+    }
+    ∷ record {
+      name = 46 ∷ 116 ∷ 101 ∷ 120 ∷ 116 ∷ 0 ∷ 0 ∷ 0 ∷ [];
+      address = 0x2000;
+      size = 6;
+      raw = code;
+      flags = 0x60000020;
+    }
     ∷ []
 
 is_read : IsImage bytes (record {

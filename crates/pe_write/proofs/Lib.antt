@@ -2,6 +2,8 @@ pub mod Back
 pub mod Below
 pub mod Example
 pub mod Front
+pub mod NameTables
+pub mod NamesRead
 mod Octets
 pub mod Pieces
 pub mod Programs

@@ -1,8 +1,9 @@
 -- The image of a program can be written, and is read as the image that it describes.
-use Rattle.std.proofs.Common.{◌≡◌, ℕ, ◌+◌, ◌-◌, ◌^◌, ◌<◌, ◌≤◌, true, ltb, leb, None, Result, Ok, Err, List, [], ◌∷◌, length, take, drop, refl, sym, ap, subst, ◌∙◌, arith}
+use Rattle.std.proofs.Common.{◌≡◌, ℕ, ◌+◌, ◌-◌, ◌^◌, ◌<◌, ◌≤◌, true, ltb, leb, Result, Ok, Err, List, [], ◌∷◌, length, take, drop, refl, sym, ap, subst, ◌∙◌, arith}
 use Rattle.std.specs.Global.{Vec}
 use Rattle.std.specs.Prelude.{IfOk, OnOk}
 use Rattle.std.specs.declared.alloc.AllocError.{AllocError}
+use Rattle.std.specs.List.{AllByRecursion}
 use Rattle.std.proofs.lemmas.Bool.{and_from, lt-ltb, le-leb}
 use Rattle.std.proofs.lemmas.List.{take_all}
 use Rattle.std.proofs.Math.Seq.{take-append_seam}
@@ -10,61 +11,67 @@ use Rattle.pe_image.specs.Image.{Section, stores_byte, section_or, section_at, s
 use Rattle.pe_image.specs.Imports.{Import, imports, or_none}
 use Rattle.pe_image.specs.Imports as importing
 use Rattle.pe_write.specs.ImportTables.{addresses_size, slots_offset, tables_size, import_tables}
-use Rattle.pe_write.specs.Program.{ImageContents, CanBeImage, sizes_of, text_at, rdata_at, xdata_at, pdata_at, end_at, data_section, text_section, rdata_section, xdata_section, pdata_section, import_directory, exception_directory, parts_of, sections_of, image_of, imports_of}
+use Rattle.pe_write.specs.NameTable.{NameRow, name_table_size, name_table_bytes}
+use Rattle.pe_write.specs.Program.{ImageContents, CanBeImage, sizes_of, text_at, rdata_at, xdata_at, pdata_at, names_at, end_at, data_section, text_section, rdata_section, xdata_section, pdata_section, names_section, if_named, import_directory, exception_directory, parts_of, section_with, data_read, text_read, rdata_read, xdata_read, pdata_read, names_read, sections_of, image_of, imports_of}
 use Rattle.pe_image.specs.Reading.{IsImage}
+use Rattle.pe_write.specs.declared.header.TheConstants.{DATA_NAME, TEXT_NAME, RDATA_NAME, XDATA_NAME, PDATA_NAME}
 use Rattle.pe_write.specs.declared.sizes.Sizes.{Sizes}
 use Rattle.pe_image.specs.Numbers.{zeros}
-use Rattle.pe_write.specs.Written.{SectionParts, ImageParts, end_of, raw_size, raw_data, written, image_read, CanBeWritten}
+use Rattle.pe_write.specs.Written.{SectionParts, ImageParts, IsSection, pages, placed, end_of, raw_size, raw_data, written, sections_read, image_read, CanBeWritten}
 use Rattle.pe_write.proofs.Back.{raw_length, is_read, written_length}
 use Rattle.pe_image.proofs.Stored.{above_holds_none}
+use Rattle.pe_write.proofs.NameTables.{names_length}
 use Rattle.pe_write.proofs.Tables.{tables_length, tables_read}
+
+-- ---- the section of names, where there is one
+
+named_end : (a b c d e : SectionParts) (rows : List NameRow) (s : SectionParts)
+    → s.size ≡ name_table_size rows → end_of (a ∷ b ∷ c ∷ d ∷ e ∷ if_named rows s)
+    ≡ 4096 + pages a.size + pages b.size + pages c.size + pages d.size + pages e.size
+    + pages (name_table_size rows)
+named_end a b c d e [] s same = omega arith
+named_end a b c d e (r ∷ rs) s same = let n = ap pages same in omega arith
+
+named_read : (rows : List NameRow) (address raw_at : ℕ) (s : SectionParts)
+    → take s.size (raw_data s) ≡ s.bytes → sections_read (placed address raw_at (if_named rows s))
+    ≡ if_named rows (section_with s.name address s.size s.bytes s.flags)
+named_read [] address raw_at s e = refl
+named_read (r ∷ rs) address raw_at s e =
+    λ i. section_with s.name address s.size (e i) s.flags ∷ []
+
+named_fit : (rows : List NameRow) (s : SectionParts) → IsSection s
+    → AllByRecursion IsSection (if_named rows s)
+named_fit [] s fits = tt
+named_fit (r ∷ rs) s fits = (fits, tt)
+
+named_few : (rows : List NameRow) (s : SectionParts) → length (if_named rows s) ≤ 1
+named_few [] s = omega arith
+named_few (r ∷ rs) s = omega arith
 
 module _ (p : ImageContents) (fits : CanBeImage p) where
   abbrev r : ℕ
   r = rdata_at (sizes_of p)
 
   abbrev globals : Section
-  globals = record {
-    address = 0x1000;
-    size = p.data_size;
-    raw = raw_data (data_section p);
-    flags = 0xC0000040;
-  }
+  globals = data_read p
 
   abbrev code : Section
-  code = record {
-    address = text_at (sizes_of p);
-    size = length p.text;
-    raw = p.text;
-    flags = 0x60000020;
-  }
+  code = text_read p
 
   abbrev tables : Section
-  tables = record {
-    address = r;
-    size = tables_size p.imports;
-    raw = import_tables p.imports r;
-    flags = 0x40000040;
-  }
+  tables = rdata_read p
 
   abbrev infos : Section
-  infos = record {
-    address = xdata_at (sizes_of p);
-    size = length p.xdata;
-    raw = p.xdata;
-    flags = 0x40000040;
-  }
+  infos = xdata_read p
 
   abbrev functions : Section
-  functions = record {
-    address = pdata_at (sizes_of p);
-    size = length p.pdata;
-    raw = p.pdata;
-    flags = 0x40000040;
-  }
+  functions = pdata_read p
+
+  abbrev named : List Section
+  named = if_named p.names (names_read p)
 
   abbrev others : List Section
-  others = infos ∷ functions ∷ []
+  others = infos ∷ functions ∷ named
 
   stored_of_data : length (raw_data (data_section p)) ≤ p.data_size
   stored_of_data = let e = raw_length (data_section p) in let h = fits.stored in
@@ -108,7 +115,7 @@ module _ (p : ImageContents) (fits : CanBeImage p) where
       let at = xdata_at (sizes_of p) in
       let back : at + k - at ≡ k = omega arith in
       ap (stored_in (at + k)) (past_tables (at + k) (omega arith)
-      ∙ ap (section_or (section_at (at + k) (functions ∷ [])) infos)
+      ∙ ap (section_or (section_at (at + k) (functions ∷ named)) infos)
       (inside (at + k) infos (omega arith) (omega arith)))
       ∙ ap (λ n. drop n p.xdata) back
 
@@ -120,9 +127,9 @@ module _ (p : ImageContents) (fits : CanBeImage p) where
       let back : at + k - at ≡ k = omega arith in
       ap (stored_in (at + k))
       (past_tables (at + k) (omega arith)
-      ∙ ap (section_or (section_at (at + k) (functions ∷ [])) infos)
+      ∙ ap (section_or (section_at (at + k) (functions ∷ named)) infos)
       (above_holds_none (at + k) infos (omega arith))
-      ∙ ap (section_or None functions) (inside (at + k) functions (omega arith) (omega arith)))
+      ∙ ap (section_or (section_at (at + k) named) functions) (inside (at + k) functions (omega arith) (omega arith)))
       ∙ ap (λ n. drop n p.pdata) back
 
   pub imports_are : imports (image_of p) ≡ Ok (imports_of p)
@@ -153,8 +160,17 @@ module _ (p : ImageContents) (fits : CanBeImage p) where
   unfolding raw_data
   pdata_is = take-append_seam p.pdata (zeros (raw_size (pdata_section p) - length p.pdata))
 
+  names_is : take (name_table_size p.names) (raw_data (names_section p))
+      ≡ name_table_bytes p.names (names_at (sizes_of p))
+  unfolding raw_data
+  names_is =
+      let table = name_table_bytes p.names (names_at (sizes_of p)) in
+      ap (λ n. take n (raw_data (names_section p))) (sym (names_length p.names (names_at (sizes_of p))))
+      ∙ take-append_seam table (zeros (raw_size (names_section p) - length table))
+
   pub size_is : end_of (parts_of p).sections ≡ end_at (sizes_of p)
-  size_is = omega arith
+  size_is = named_end (data_section p) (text_section p) (rdata_section p) (xdata_section p)
+      (pdata_section p) p.names (names_section p) refl ∙ omega arith
 
   pub image_is : image_read (parts_of p) ≡ image_of p
   image_is = λ i. record {
@@ -162,32 +178,14 @@ module _ (p : ImageContents) (fits : CanBeImage p) where
     entry = text_at (sizes_of p) + p.entry;
     size = size_is i;
     sections =
-        record { address = 0x1000; size = p.data_size; raw = data_is i; flags = 0xC0000040 }
-        ∷ record {
-          address = text_at (sizes_of p);
-          size = length p.text;
-          raw = text_is i;
-          flags = 0x60000020;
-        }
-        ∷ record {
-          address = r;
-          size = tables_size p.imports;
-          raw = rdata_is i;
-          flags = 0x40000040;
-        }
-        ∷ record {
-          address = xdata_at (sizes_of p);
-          size = length p.xdata;
-          raw = xdata_is i;
-          flags = 0x40000040;
-        }
-        ∷ record {
-          address = pdata_at (sizes_of p);
-          size = length p.pdata;
-          raw = pdata_is i;
-          flags = 0x40000040;
-        }
-        ∷ [];
+        section_with DATA_NAME 0x1000 p.data_size (data_is i) 0xC0000040
+        ∷ section_with TEXT_NAME (text_at (sizes_of p)) (length p.text) (text_is i) 0x60000020
+        ∷ section_with RDATA_NAME r (tables_size p.imports) (rdata_is i) 0x40000040
+        ∷ section_with XDATA_NAME (xdata_at (sizes_of p)) (length p.xdata) (xdata_is i) 0x40000040
+        ∷ section_with PDATA_NAME (pdata_at (sizes_of p)) (length p.pdata) (pdata_is i) 0x40000040
+        ∷ named_read p.names (names_at (sizes_of p)) (1024 + raw_size (data_section p)
+        + raw_size (text_section p) + raw_size (rdata_section p) + raw_size (xdata_section p)
+        + raw_size (pdata_section p)) (names_section p) names_is i;
     imports = import_directory p;
     exceptions = exception_directory p;
   }
@@ -217,13 +215,17 @@ module _ (p : ImageContents) (fits : CanBeImage p) where
                 record { name = refl; flags = omega arith; stored = omega arith },
                 (
                   record { name = refl; flags = omega arith; stored = omega arith },
-                  tt,
+                  named_fit p.names (names_section p) (record {
+                    name = refl;
+                    flags = omega arith;
+                    stored = omega (arith, names_length p.names (names_at (sizes_of p)));
+                  }),
                 ),
               ),
             ),
           ),
         );
-        table = omega arith;
+        table = omega (arith, named_few p.names (names_section p));
         end = omega (arith, size_is);
         imports = (omega arith, omega arith);
         exceptions = (omega arith, omega arith);
@@ -258,6 +260,11 @@ pub rdata_fits : (p : ImageContents) (s : Sizes) (n : ℕ) → CanBeImage p → 
     → n ≡ rdata_at s → n + tables_size p.imports < 2 ^ 32
 rdata_fits p s n is e1 e2 = let e = is.end in let at : n ≡ rdata_at (sizes_of p) = e2
     ∙ ap rdata_at e1 in omega arith
+
+pub names_fit : (p : ImageContents) (s : Sizes) (n : ℕ) → CanBeImage p → s ≡ sizes_of p
+    → n ≡ names_at s → n + name_table_size p.names < 2 ^ 32
+names_fit p s n is e1 e2 = let e = is.end in let at : n ≡ names_at (sizes_of p) = e2
+    ∙ ap names_at e1 in omega arith
 
 pub text_fits : (p : ImageContents) (s : Sizes) (n : ℕ) → CanBeImage p → s ≡ sizes_of p
     → n ≡ text_at s → n + p.entry < 2 ^ 32

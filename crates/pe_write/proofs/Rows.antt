@@ -1,9 +1,10 @@
 -- The section table that is written, read again.
-use Rattle.std.proofs.Common.{◌≡◌, ℕ, zero, suc, ◌+◌, ◌*◌, ◌/◌, ◌%◌, ◌^◌, ◌<◌, ◌≤◌, ◌≢◌, List, [], ◌∷◌, ◌++◌, length, drop, sum_by, refl, sym, ap, ◌∙◌, append_assoc, arith, inl, inr}
+use Rattle.std.proofs.Common.{◌≡◌, ℕ, zero, suc, ◌+◌, ◌*◌, ◌/◌, ◌%◌, ◌^◌, ◌<◌, ◌≤◌, ◌≢◌, List, [], ◌∷◌, ◌++◌, length, take, drop, sum_by, refl, sym, ap, ◌∙◌, append_assoc, arith, inl, inr}
 use Rattle.std.specs.List.{AllByRecursion}
 use Rattle.std.proofs.lemmas.Bool.{cases_eq}
 use Rattle.std.proofs.lemmas.List.{length-append, drop-drop, drop_at}
 use Rattle.std.proofs.lemmas.List.Sums.{sum_by-cons}
+use Rattle.std.proofs.Math.Seq.{take-append_seam}
 use Rattle.byteorder.specs.Endian.{little_number}
 use Rattle.pe_write.proofs.Below.{raw_below}
 use Rattle.pe_image.specs.declared.table.SectionHeader.{SectionHeader}
@@ -66,6 +67,7 @@ size_again s fits = elim (cases_eq s.size 0) [
 abbrev pub headers_read : List PlacedSection → List SectionHeader
 headers_read [] = []
 headers_read (s ∷ ss) = record {
+  name = s.parts.name;
   size = s.parts.size;
   address = s.address;
   raw_size = raw_size s.parts;
@@ -90,8 +92,16 @@ module _ (s : PlacedSection) (fits : IsSection s.parts) (size : s.parts.size < 2
       ∙ ap (field 4 ((front ++ s.parts.name) ++ (section_fields s ++ rest))) place
       ∙ field_after 4 (front ++ s.parts.name) (section_fields s ++ rest) k
 
+  name_there : take 8 (drop (length front) (front ++ (section_header s ++ rest))) ≡ s.parts.name
+  name_there =
+      ap (take 8) (drop_at front (section_header s ++ rest) (length front) refl
+      ∙ append_assoc s.parts.name (section_fields s) rest)
+      ∙ ap (λ n. take n (s.parts.name ++ (section_fields s ++ rest))) (sym fits.name)
+      ∙ take-append_seam s.parts.name (section_fields s ++ rest)
+
   row_read : header_at (front ++ (section_header s ++ rest)) (length front)
       ≡ record {
+        name = s.parts.name;
         size = s.parts.size;
         address = s.address;
         raw_size = raw_size s.parts;
@@ -106,7 +116,14 @@ module _ (s : PlacedSection) (fits : IsSection s.parts) (size : s.parts.size < 2
       let e5 = at_field 28 36 refl ∙ flags_there s rest fits.flags in
       let e6 = ap (λ n. size_of n (field 4 (front ++ (section_header s ++ rest))
       (length front + 16))) e1 ∙ ap (size_of s.parts.size) e2 ∙ size_again s.parts fits in
-      λ i. record { size = e6 i; address = e3 i; raw_size = e2 i; raw_at = e4 i; flags = e5 i }
+      λ i. record {
+        name = name_there i;
+        size = e6 i;
+        address = e3 i;
+        raw_size = e2 i;
+        raw_at = e4 i;
+        flags = e5 i;
+      }
 
 pub fields_length : (s : PlacedSection) → length (section_fields s) ≡ 32
 unfolding section_fields u32 zeros

@@ -6,7 +6,7 @@ use Rattle.std.proofs.lemmas.Bool.{ne_eqb, lt-ltb, le-leb}
 use Rattle.std.proofs.lemmas.List.{append-nil, length-append, length-drop, drop-drop, drop_at}
 use Rattle.byteorder.specs.Endian.{little_number}
 use Rattle.host_layout.specs.declared.imported.ImportedService.{ImportedService}
-use Rattle.host_layout.specs.declared.imported.ImportedService.TheVariants.{RaiseException, CSpecificHandler, LocalUnwind, Protect, Put}
+use Rattle.host_layout.specs.declared.imported.ImportedService.TheVariants.{RaiseException, CSpecificHandler, LocalUnwind, Protect, Put, Walk}
 use Rattle.host_layout.specs.declared.name.TheConstants.{LIBRARY}
 use Rattle.seh_num.specs.Answers.{◌>>=◌, onto, prepend}
 use Rattle.pe_image.specs.Field.{field}
@@ -48,8 +48,9 @@ hint_name_length CSpecificHandler = refl
 hint_name_length LocalUnwind = refl
 hint_name_length Protect = refl
 hint_name_length Put = refl
+hint_name_length Walk = refl
 
-ended : (b : List ℕ) (n : ℕ) → position_or_len (λ x. x == 0) b ≡ n → n < length b
+pub ended : (b : List ℕ) (n : ℕ) → position_or_len (λ x. x == 0) b ≡ n → n < length b
     → terminated b ≡ Some (take n b)
 ended b n e lt =
     ap (λ k. option_map (λ j. take j b) (cond (nat_lt k (length b)) (Some k) None)) e
@@ -78,6 +79,8 @@ named Protect rest =
     ended (drop 2 (hint_name Protect ++ rest)) 7 refl (name_inside Protect rest)
 named Put rest =
     ended (drop 2 (hint_name Put ++ rest)) 3 refl (name_inside Put rest)
+named Walk rest =
+    ended (drop 2 (hint_name Walk ++ rest)) 4 refl (name_inside Walk rest)
 
 hinted_is : (s : ImportedService) (rest : List ℕ) → hinted (hint_name s ++ rest) ≡ Some (name_of s)
 hinted_is s rest =

@@ -1,3 +1,4 @@
 pub mod ImportTables
+pub mod NameTable
 pub mod Program
 pub mod Written

@@ -175,6 +175,7 @@ written image =
 abbrev pub section_read : PlacedSection → Section
 section_read s =
     record {
+      name = s.parts.name;
       address = s.address;
       size = s.parts.size;
       raw = take s.parts.size (raw_data s.parts);

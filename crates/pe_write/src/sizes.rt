@@ -1,6 +1,6 @@
 //! Where the sections of a program's image lie.
 
-ghost use Rattle.std.specs.Prelude.{◌≡◌};
+ghost use Rattle.std.specs.Prelude.{◌≡◌, ◌<◌, ◌^◌};
 ghost use Rattle.pe_write.specs.Program as spec;
 
 use host_layout::range::{DATA_AT, pages};
@@ -28,9 +28,9 @@ pub fn xdata_after(data_size: u32, text_size: u32, rdata_size: u32) -> u64
     rdata_after(data_size, text_size) + pages(rdata_size as u64)
 }
 
-/// How many bytes the sections of an image take. They say where each of the five lies, relative to
-/// the image base: `.data` after the page of the headers, and each other one after the pages of the
-/// one before.
+/// How many bytes the sections of an image take. They say where each of them lies, relative to the
+/// image base: `.data` after the page of the headers, and each other one after the pages of the one
+/// before.
 #[derive(Clone, Copy, Debug, PartialEq, Eq)]
 pub struct Sizes {
     /// `.data`.
@@ -43,6 +43,8 @@ pub struct Sizes {
     pub xdata_size: u32,
     /// `.pdata`.
     pub pdata_size: u32,
+    /// `.sehname`: 0 where the image has none.
+    pub names_size: u32,
 }
 
 impl Sizes {
@@ -74,10 +76,18 @@ impl Sizes {
         self.xdata_at() + pages(self.xdata_size as u64)
     }
 
+    /// Where `.sehname` begins, if there is one.
+    pub fn names_at(&self) -> u64
+        ensures value { result ≡ spec.names_at self.now }
+        ensures small { result < 2 ^ 36 }
+    {
+        self.pdata_at() + pages(self.pdata_size as u64)
+    }
+
     /// Where the image ends.
     pub fn end_at(&self) -> u64
         ensures { result ≡ spec.end_at self.now }
     {
-        self.pdata_at() + pages(self.pdata_size as u64)
+        self.names_at() + pages(self.names_size as u64)
     }
 }

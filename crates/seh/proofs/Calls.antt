@@ -75,7 +75,8 @@ image_loads text image is =
     record { image = is.realises.image; is = is.realises.is; loads = is.realises.loads }
 
 -- a function table that is read isn't refused
-pub table_read : (t : Table (List Entry)) (es : List Entry) (e : TableErr) → t ≡ Ok es → t ≡ Err e → ⊥
+pub table_read : (t : Table (List Entry)) (es : List Entry) (e : TableErr) → t ≡ Ok es → t ≡ Err e
+    → ⊥
 table_read t es e is refused = let q : Ok es ≡ Err e = sym is ∙ refused in cc
 
 -- ---- faults
@@ -184,7 +185,8 @@ module _ (call : Call) (out : HadNoFault call.out call.out_after)
   abbrev pub Tells : Result CommandOutcome Refusal → Type 0
   Tells answer = Reported answer call.err call.err_after call.status
 
-  pub wanted : (answer : Result CommandOutcome Refusal) → answer ≡ Err refusals.NoMemory → Tells answer
+  pub wanted : (answer : Result CommandOutcome Refusal) → answer ≡ Err refusals.NoMemory → Tells
+      answer
       → WantedMemory call
   wanted answer none told = of_refusal refusals.NoMemory call err (subst Tells none told)
 
@@ -466,6 +468,7 @@ meaning_is_complete source p options call short is asks =
     from (Err (refusals.Load e)) reported h = told (Err (refusals.Load e)) reported h
     from (Err refusals.WriteFault) reported h = told (Err refusals.WriteFault) reported h
 
-    by : WantedMemory call ⊎ Came (Meaning options) call → WantedMemory call ⊎ MeantBy call asks.out asks.err options p
+    by : WantedMemory call ⊎ Came (Meaning options) call → WantedMemory call ⊎ MeantBy call asks.out
+        asks.err options p
     by (inl w) = inl w
     by (inr c) = from c.answer c.reported c.is

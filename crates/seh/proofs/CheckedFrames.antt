@@ -6,7 +6,7 @@ use Rattle.pe_image.specs.Image.{Image}
 use Rattle.eh_tables.specs.declared.range.RuntimeFunction.{RuntimeFunction}
 use Rattle.eh_tables.specs.Answer.{Table}
 use Rattle.eh_tables.specs.Tables.{Entry, Tables, directory, entries, tables, or_none, entries_of, holding}
-use Rattle.virtual_unwind.specs.CallerOf.{distance, caller_in, caller_of}
+use Rattle.virtual_unwind.specs.CallerOf.{name_rows, distance, caller_in, caller_of}
 use Rattle.frame_rules.specs.Frame.{left_to}
 use Rattle.frame_rules.specs.States.{registers, return_address}
 use Rattle.frame_rules.specs.Rules.{IsFound}
@@ -55,5 +55,6 @@ checked_callers_are_found bytes n checked entry e s d octets place code held at 
     same held in
     let found = yes_finds_callers bytes CHECK_STACK t n entry e s d table verdict code holds at rip
     inside in
-    subst (λ (es : List Entry). IsFound (caller_in (record { base = image.base; entries = es })
+    subst (λ (es : List Entry). IsFound (caller_in
+    (record { base = image.base; entries = es; rows = name_rows image })
     s.memory (context_of s.cpu)) (left_to (registers e) (return_address e))) (sym same) found

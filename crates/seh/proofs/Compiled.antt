@@ -19,7 +19,7 @@ use Rattle.pe_image.specs.Reading.{reading}
 use Rattle.pe_write.specs.Program.{image_of}
 use Rattle.host_model.specs.declared.refusal.LoadErr.{LoadErr}
 use Rattle.host_model.specs.declared.refusal.LoadErr.TheVariants as loads
-use Rattle.host_model.specs.Loading.{reason_unless, first_of, table_refusal, has_place, place_refusal, import_refusal, entry_refusal, load_refusal}
+use Rattle.host_model.specs.Loading.{reason_unless, first_of, table_refusal, has_place, place_refusal, import_refusal, entry_refusal, names_refusal, load_refusal}
 use Rattle.image_code.proofs.ImageBounds.{IsBounded, bounded}
 use Rattle.image_runs.specs.ImageMeaning.{Realises}
 use Rattle.seh.specs.Images.{IsKeptByCode}
@@ -43,7 +43,7 @@ no_reason false e h = absurd cc
 pub placed : (image : Image) → load_refusal image ≡ None → has_place image ≡ true
 placed image h = no_reason (has_place image) (loads.Place image.base)
     (second_none (table_refusal image) (place_refusal image)
-    (import_refusal image ∷ entry_refusal image ∷ []) h)
+    (import_refusal image ∷ entry_refusal image ∷ names_refusal image ∷ []) h)
 
 -- an image that is loaded is within bounds
 image_bounded : (bytes : List ℕ) (p : Program) → IsImageOf bytes p → Realises bytes p

@@ -36,7 +36,8 @@ use Rattle.image_link.specs.Near.{IsSiteNear}
 use Rattle.image_link.specs.Routines.{RoutineView, routines}
 use Rattle.image_link.specs.Tables.{info_bytes}
 use Rattle.image_link.specs.Text.{SiteView, routine_size, first_routine_at, routines_bytes}
-use Rattle.image_link.specs.Linked.{services_of, text_begin, linked}
+use Rattle.image_link.specs.Linked.{text_begin, linked}
+use Rattle.image_link.specs.Walks.{services_of}
 use Rattle.image_link.proofs.Entries.{routine_small}
 use Rattle.image_link.proofs.Front.{services_few}
 use Rattle.image_link.proofs.Images.{site_near, has_places}

@@ -4,7 +4,7 @@ use Rattle.x64_machine.specs.Contexts.{context_of}
 use Rattle.pe_image.specs.Image.{Image}
 use Rattle.pe_image.specs.Reading.{reading}
 use Rattle.eh_tables.specs.Tables.{Entry, Tables, entries_of, holding, or_none, tables}
-use Rattle.virtual_unwind.specs.CallerOf.{distance, caller_in, caller_of}
+use Rattle.virtual_unwind.specs.CallerOf.{name_rows, distance, caller_in, caller_of}
 use Rattle.frame_rules.specs.Frame.{left_to}
 use Rattle.frame_rules.specs.States.{registers, return_address}
 use Rattle.frame_rules.specs.Rules.{IsFound}
@@ -46,7 +46,8 @@ compiled_leaves_are_found text image compiled rest e s held body first in_body =
     let same : or_none (tables read) ≡ entries_of t = ap or_none given.read ∙ sym listed in
     let holds = subst (λ (es : List Entry). holding (distance read.base s.cpu.rip) es ≡ None)
     same held in
-    subst (λ (es : List Entry). IsFound (caller_in (record { base = read.base; entries = es })
+    subst (λ (es : List Entry). IsFound (caller_in
+    (record { base = read.base; entries = es; rows = name_rows read })
     s.memory (context_of s.cpu)) (left_to (registers e) (return_address e))) (sym same)
     (leaves_are_found t rest e s holds body first in_body)
 

@@ -25,7 +25,7 @@ program_has_image p fits globals =
     let contents : ImageContents = linked (lowered p) in
     let can : CanBeImage contents = is (lowered p) fits in
     record {
-      octets = linked_are_octets (lowered p) globals;
+      octets = linked_are_octets (lowered p) globals fits.names;
       written = refl;
       read = subst (IsImage (linked_bytes p)) (image_is contents can)
           (read_again (parts_of contents) (can_be_written contents can));

@@ -16,12 +16,12 @@ use Rattle.host_layout.specs.declared.limit.TheConstants.{MOST_IMAGE}
 use Rattle.template_code.specs.Bytes.{spelled}
 use Rattle.template_code.specs.Probing.{check_stack}
 use Rattle.template_code.proofs.Sizes.{sizes_spelled}
-use Rattle.pe_write.specs.ImportTables.{place_of, slot_of}
+use Rattle.pe_write.specs.ImportTables.{slot_of}
 use Rattle.x64_emit.specs.declared.entry.TheConstants.{THUNK_SIZE}
 use Rattle.x64_emit.proofs.Nearby.{near_signed}
 use Rattle.image_link.specs.Near.{AreFew}
 use Rattle.image_link.specs.Text.{service_thunk, thunk_at, front_code, front_size}
-use Rattle.image_link.proofs.Front.{front_sizes, thunks_size}
+use Rattle.image_link.proofs.Front.{front_sizes, place_small, thunks_size}
 use Rattle.image_tables.proofs.Callers.{probe_ok}
 use Rattle.image_tables.proofs.CodeInMemory.{executable_split, code_split}
 use Rattle.image_tables.proofs.Handlers.{thunk_bytes}
@@ -42,9 +42,9 @@ module _ (imports : List ImportedService) (text rdata : ℕ) where
 
   -- a thunk can be spelled, where the image is small
   pub thunk_near : AreFew imports → text ≤ MOST_IMAGE → rdata ≤ MOST_IMAGE
-      → (v : ImportedService) → place_of imports v < length imports
-      → is_encodable (thunk v) ≡ true
-  thunk_near few low near v there =
+      → (v : ImportedService) → is_encodable (thunk v) ≡ true
+  thunk_near few low near v =
+      let place = place_small imports v in
       near_signed (thunk_at imports text v + THUNK_SIZE) (rdata + slot_of imports v) (omega arith)
       (omega arith)
 

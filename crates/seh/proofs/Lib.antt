@@ -6,7 +6,9 @@ pub mod CompiledEntries
 mod FrontThunks
 pub mod UncoveredRoutines
 pub mod Compiled
+mod EventLines
 pub mod Headline
+pub mod PrintedWalk
 pub mod Meanings
 pub mod Completeness
 pub mod TamePrograms

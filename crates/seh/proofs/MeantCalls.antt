@@ -1,7 +1,8 @@
 -- What is compiled and run is what the text means, call by call.
 use Rattle.std.proofs.Common.{◌≡◌, ◌⊎◌, inl, inr, ◌≤◌, ℕ, pos, length, List, [], ◌∷◌, ◌++◌, Bool, Option, Some, None, refl, sym, ap, subst, ◌∙◌}
-use Rattle.seh.specs.Words.{no_names, text_limit, Shown, RunEnd, Grew, text, lines, end_line, Program, resolve, meaning, Ended, run_end, run_end_of, RunOptions, end_by, text_by, Call, Asks, Gave, WantedMemory, EndsWithin, GaveMeaning, LastLinesAgree, CompiledIsMeant, RunIsMeant, AreEnough, ShowsMeaning, IsCompiled, IsProgramOf, status_of, meaning_status}
+use Rattle.seh.specs.Words.{text_limit, Shown, RunEnd, Grew, text, lines, end_line, Program, resolve, meaning, Ended, run_end, run_end_of, RunOptions, end_by, text_by, Call, Asks, Gave, WantedMemory, EndsWithin, GaveMeaning, LastLinesAgree, CompiledIsMeant, RunIsMeant, AreEnough, ShowsMeaning, IsCompiled, IsProgramOf, status_of, meaning_status}
 use Rattle.seh_num.specs.declared.end.RunEnd.TheVariants as run_ends
+use Rattle.c_meaning.specs.FunctionNames.{names_of}
 use Rattle.c_meaning.specs.Texts as meanings
 use Rattle.source_meaning.specs.declared.ended.Ended.TheVariants as meant
 use Rattle.command_line.specs.declared.command.Command.TheVariants.{Compile}
@@ -12,17 +13,18 @@ use Rattle.seh.proofs.Headline.{headline}
 
 pub last_lines_agree : LastLinesAgree
 last_lines_agree (meant.Exit v) e h = let same : run_ends.Exit v ≡ e = cc in ap end_line same
-last_lines_agree (meant.Unhandled c) e h = let same : run_ends.Unhandled c ≡ e = cc in ap end_line same
+last_lines_agree (meant.Unhandled c) e h = let same : run_ends.Unhandled c ≡ e = cc in ap end_line
+    same
 last_lines_agree (meant.Undefined a) e h = let q : None ≡ Some e = h in absurd cc
 last_lines_agree (meant.Deep d) e h = let q : None ≡ Some e = h in absurd cc
 last_lines_agree (meant.OutOfSteps n) e h = let q : None ≡ Some e = h in absurd cc
 
 -- so the texts are the same
-pub same_text : (trace : Bool) (n : ℕ) (shown : Shown Ended) (ended : Ended) (e : RunEnd)
-    → shown.end ≡ Some ended → run_end ended ≡ Some e
-    → text shown.events e trace no_names ≡ meanings.text trace n shown
-same_text trace n shown ended e is runs =
-    let front = lines trace shown.events no_names in
+pub same_text : (trace : Bool) (n : ℕ) (shown : Shown Ended) (names : ℕ → Option (List ℕ))
+    (ended : Ended) (e : RunEnd) → shown.end ≡ Some ended → run_end ended ≡ Some e
+    → text shown.events e trace names ≡ meanings.text trace n shown names
+same_text trace n shown names ended e is runs =
+    let front = lines trace shown.events names in
     sym (ap (λ (x : Option Ended). front ++ meanings.ended_line (meanings.ended_within n x)) is
     ∙ ap (λ line. front ++ line) (last_lines_agree ended e runs))
 
@@ -39,12 +41,13 @@ meant_by source image p options arg n call is compiled enough ends gave =
       declarations = compiled.whole;
       checked = record { accepted = compiled.accepted; resolved = refl };
     }) is in
-    let shows : ShowsMeaning (meaning p (pos arg) n) image options =
-    subst (λ q. ShowsMeaning (meaning q (pos arg) n) image options) same
+    let shows : ShowsMeaning (meaning p (pos arg) n) (names_of p) image options =
+    subst (λ q. ShowsMeaning (meaning q (pos arg) n) (names_of q) image options) same
     (headline source image compiled options arg n ends.small enough) in
     let end = ap run_end_of ends.is ∙ ends.runs in
     let bytes = shows.whole ends.end end
-    ∙ same_text options.trace n (meaning p (pos arg) n) ends.ended ends.end ends.is ends.runs in
+    ∙ same_text options.trace n (meaning p (pos arg) n) (names_of p) ends.ended ends.end ends.is
+    ends.runs in
     record {
       ended = gave.ended ∙ shows.status ends.ended ends.end ends.is ends.runs;
       wrote = subst (λ b. Grew call.out.bytes b call.out_after.bytes) bytes gave.wrote;

@@ -163,7 +163,8 @@ module _ (bytes : List ℕ) (whole each : Call)
   refused s is (inl none) = inl none
   refused s is (inr e) = inr (inr (e ∙ sym is))
 
-  both_images : (e f : ImageErr) → Tells (Err (refusals.Image e)) → TellsEach (Err (refusals.Image f))
+  both_images : (e f : ImageErr) → Tells (Err (refusals.Image e)) → TellsEach
+      (Err (refusals.Image f))
       → Agree
   both_images e f told told' = by (image_status e) (image_status f)
     where

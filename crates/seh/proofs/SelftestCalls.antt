@@ -2,6 +2,7 @@
 use Rattle.std.proofs.Common.{◌≡◌, ◌⊎◌, inl, inr, ◌+◌, ◌*◌, ◌≤◌, ℕ, pos, List, length, false, Option, Some, Result, Err, refl, sym, ap, subst, ◌∙◌}
 use Rattle.seh.specs.Words.{Shown, RunEnd, Grew, text, IsAccepted, Program, resolve, meaning, Ended, run_end, run_end_of, RunOptions, shown_by, end_by, Call, Gave, WantedMemory, EndsWithin, ShowsMeaning, IsCompiled, IsProgramOf, Refusal, CommandOutcome, AsksSelftest, GaveSummary, SelftestReadsNothing, SelftestIsComplete, SelftestIsMeant, meant_summary, selftest_options, summary, summary_by, summary_of, status_of, meaning_status}
 use Rattle.c_syntax.specs.Program.{ExternalDeclaration}
+use Rattle.c_meaning.specs.FunctionNames.{names_of}
 use Rattle.c_meaning.specs.Texts as meanings
 use Rattle.generated_program.specs.GeneratedText.{generated}
 use Rattle.command_line.specs.declared.command.Command.{Command}
@@ -47,19 +48,11 @@ selftest_is_complete n whole call accepted asks =
         (end_by (selftest_options DEFAULT_TURNS)) (generated n) whole accepted c.answer c.reported
         c.is.1)
 
--- the summary of a run that ends as the program does is that of what it means
-same_summary : (turns n steps : ℕ) (meant : Shown Ended) (ran : Shown RunEnd) (ended : Ended)
-    (e : RunEnd) → meant.end ≡ Some ended → run_end ended ≡ Some e
-    → ran ≡ record { events = meant.events; end = Some e }
-    → summary_of turns n ran ≡ meant_summary n steps meant
-same_summary turns n steps meant ran ended e is runs same =
-    ap (summary_of turns n) same
-    ∙ ap (λ t. summary n t (length meant.events)) (same_text false steps meant ended e is runs)
-
 -- for any number of turns: a number that is written out would be counted down here
 meant_by : (turns n steps : ℕ) (p : Program) (call : Call) → IsProgramOf (generated n) p
     → 256 * steps + 256 ≤ turns → (ends : EndsWithin p 0 steps) → GaveSummary turns n call
-    → Gave (meaning_status ends.ended) (meant_summary n steps (meaning p (pos 0) steps)) call
+    → Gave (meaning_status ends.ended)
+    (meant_summary n steps (meaning p (pos 0) steps) (names_of p)) call
 meant_by turns n steps p call is enough ends gave =
     let options = selftest_options turns in
     let compiled = gave.compiled in
@@ -69,13 +62,19 @@ meant_by turns n steps p call is enough ends gave =
       declarations = compiled.whole;
       checked = record { accepted = compiled.accepted; resolved = refl };
     }) is in
-    let shows : ShowsMeaning (meaning p (pos 0) steps) gave.image options =
-    subst (λ q. ShowsMeaning (meaning q (pos 0) steps) gave.image options) same
+    let names = names_of p in
+    let shows : ShowsMeaning (meaning p (pos 0) steps) names gave.image options =
+    subst (λ q. ShowsMeaning (meaning q (pos 0) steps) (names_of q) gave.image options) same
     (headline (generated n) gave.image compiled options 0 steps ends.small
     (record { argument = refl; turns = enough })) in
     let covered = shows.covers.ends ends.end (ap run_end_of ends.is ∙ ends.runs) in
-    let bytes = same_summary turns n steps (meaning p (pos 0) steps) (shown_by options gave.image)
-    ends.ended ends.end ends.is ends.runs covered in
+    let meant = meaning p (pos 0) steps in
+    let text = shows.whole ends.end (ap run_end_of ends.is ∙ ends.runs)
+    ∙ same_text false steps meant names ends.ended ends.end ends.is ends.runs in
+    let bytes : summary_by turns n gave.image ≡ meant_summary n steps meant names =
+    ap (λ t. summary n t (length (shown_by options gave.image).events)) text
+    ∙ ap (λ (x : Shown RunEnd). summary n (meanings.text false steps meant names)
+    (length x.events)) covered in
     record {
       ended = gave.gave.ended ∙ shows.status ends.ended ends.end ends.is ends.runs;
       wrote = subst (λ b. Grew call.out.bytes b call.out_after.bytes) bytes gave.gave.wrote;
@@ -88,6 +87,7 @@ selftest_is_meant n steps p call is asks enough ends =
   where
     by : WantedMemory call ⊎ GaveSummary DEFAULT_TURNS n call
         → WantedMemory call
-        ⊎ Gave (meaning_status ends.ended) (meant_summary n steps (meaning p (pos 0) steps)) call
+        ⊎ Gave (meaning_status ends.ended)
+        (meant_summary n steps (meaning p (pos 0) steps) (names_of p)) call
     by (inl w) = inl w
     by (inr gave) = inr (meant_by DEFAULT_TURNS n steps p call is enough ends gave)

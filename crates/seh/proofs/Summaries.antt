@@ -2,7 +2,7 @@
 use Rattle.std.proofs.Common.{◌≡◌, ◌+◌, ◌<◌, ◌≤◌, ◌^◌, ℕ, List, ◌++◌, length, take, min, Option, refl, sym, ap, ◌∙◌, append_assoc, arith, subst, false}
 use Rattle.seh_io.specs.Streams.{HasCount}
 use Rattle.seh_io.specs.Successive.{grew_more}
-use Rattle.seh.specs.Words.{no_names, Shown, RunEnd, Rose, Grew, last_count, text, TookPart, end_within}
+use Rattle.seh.specs.Words.{Shown, RunEnd, Rose, Grew, last_count, text, TookPart, end_within}
 use Rattle.seh.specs.Selftests.{program_line, events_line, summary_of}
 use Rattle.seh.proofs.Inputs.{took_front}
 
@@ -48,9 +48,9 @@ pub counted_all : (before n after : ℕ) → before ≡ 0 → after < 2 ^ 64 →
     → after ≡ min n last_count
 counted_all before n after none small counted = omega (arith, none, small, counted)
 
-module _ (turns n : ℕ) (shown : Shown RunEnd) where
+module _ (turns n : ℕ) (names : ℕ → Option (List ℕ)) (shown : Shown RunEnd) where
   abbrev run_text : List ℕ
-  run_text = text shown.events (end_within turns shown.end) false no_names
+  run_text = text shown.events (end_within turns shown.end) false names
 
   abbrev last_line : List ℕ
   last_line = events_line (length shown.events)
@@ -58,7 +58,7 @@ module _ (turns n : ℕ) (shown : Shown RunEnd) where
   -- cut off in the first line
   pub cut_in_program : (a b : Option (List ℕ)) (line : List ℕ) (count : ℕ)
       → line ≡ program_line n → count < length line → Grew a (take count line) b
-      → Cut a (summary_of turns n shown) b
+      → Cut a (summary_of turns n names shown) b
   cut_in_program a b line count is short grew = (
     count,
     cut_first a b (program_line n) (run_text ++ last_line) count
@@ -72,7 +72,7 @@ module _ (turns n : ℕ) (shown : Shown RunEnd) where
 
     -- in the text of the run
     pub cut_in_run : (c : Option (List ℕ)) (count : ℕ) → TookPart b run_text c count
-        → Cut a (summary_of turns n shown) c
+        → Cut a (summary_of turns n names shown) c
     cut_in_run c count took =
         cut_second a b c (program_line n) (run_text ++ last_line) count began
         (cut_first b c run_text last_line count took)
@@ -81,7 +81,7 @@ module _ (turns n : ℕ) (shown : Shown RunEnd) where
         (ends : end ≡ last_line) where
       -- in the last line
       pub cut_in_events : (count : ℕ) → count < length end → Grew c (take count end) d
-          → Cut a (summary_of turns n shown) d
+          → Cut a (summary_of turns n names shown) d
       cut_in_events count short grew =
           let inner = cut_second b c d run_text last_line count ran
           (subst (λ (s : List ℕ). TookPart c s d count) ends (took_front c end d count short grew))
@@ -89,7 +89,7 @@ module _ (turns n : ℕ) (shown : Shown RunEnd) where
           cut_second a b d (program_line n) (run_text ++ last_line) inner.0 began inner.1
 
       -- nowhere
-      pub wrote_summary : Grew c end d → Grew a (summary_of turns n shown) d
+      pub wrote_summary : Grew c end d → Grew a (summary_of turns n names shown) d
       wrote_summary last =
           grew_more a b d (program_line n) (run_text ++ last_line) began
           (grew_more b c d run_text last_line ran

@@ -23,10 +23,11 @@ use Rattle.image_link.specs.Near.{IsSiteNear}
 use Rattle.image_link.specs.Routines.{RoutineView, routines}
 use Rattle.image_link.specs.Tables.{info_bytes}
 use Rattle.image_link.specs.Text.{SiteView, routine_size, frame_code, argument_code, front_code, front_size, routine_code, routines_bytes}
-use Rattle.image_link.specs.Linked.{services_of, text_begin, linked, total}
+use Rattle.image_link.specs.Linked.{text_begin, linked, total}
+use Rattle.image_link.specs.Walks.{services_of}
 use Rattle.image_link.proofs.Bounds.{text_length}
 use Rattle.image_link.proofs.Entries.{routine_small}
-use Rattle.image_link.proofs.Front.{services_few, services_there}
+use Rattle.image_link.proofs.Front.{services_few}
 use Rattle.image_link.proofs.Images.{site_near, has_places}
 use Rattle.image_link.proofs.Nearness.{routines_near}
 use Rattle.pe_image.specs.Image.{Image, Section, is_executable}
@@ -157,7 +158,7 @@ module _ (p : LinearProgram) (fits : FitsProgram p) (m : Memory) (text : HasText
       let bytes = routines_bytes s (routines_begin p) (routines p) in
       let text' = near.text in
       let fine = λ (v : ImportedService). thunk_near s.imports s.text s.rdata near.imports near.text
-      near.rdata v (services_there p v) in
+      near.rdata v in
       let items = front_there s.imports s.text s.rdata m begin bytes fine (omega arith) text in
       let to : begin + front_size s.imports ≡ image_base + routines_begin p = omega arith in
       let x = piece_in_front s.imports s.text s.rdata m image_base (routines_begin p) rva

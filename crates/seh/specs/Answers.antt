@@ -1,5 +1,5 @@
 -- What comes of the input of a command, and by what cause.
-use Rattle.std.specs.Prelude.{◌≡◌, ℕ, ◌+◌, ◌<◌, ◌≤◌, List, [], length, Some, None, Result, Ok, Err}
+use Rattle.std.specs.Prelude.{◌≡◌, ℕ, ◌+◌, ◌<◌, ◌≤◌, List, [], length, Option, Some, None, Result, Ok, Err}
 use Rattle.std.specs.Option.{ForSome}
 use Rattle.seh_num.specs.declared.end.RunEnd.{RunEnd}
 use Rattle.seh_num.specs.Shown.{Shown}
@@ -10,7 +10,9 @@ use Rattle.seh_io.specs.Names.{no_names}
 use Rattle.seh_io.specs.Text.{text}
 use Rattle.seh_io.specs.Writer.{TookPart}
 use Rattle.pe_image.specs.Image.{Image}
-use Rattle.pe_image.specs.Reading.{IsImage, ImageIsRefused}
+use Rattle.pe_image.specs.NameRows.{function_name}
+use Rattle.pe_image.specs.Reading.{reading, IsImage, ImageIsRefused}
+use Rattle.pe_image.specs.declared.refusal.ImageErr.{ImageErr}
 use Rattle.table_view.specs.View.{view}
 use Rattle.host_model.specs.declared.refusal.LoadErr.{LoadErr}
 use Rattle.host_model.specs.Loading.{load_refusal}
@@ -48,9 +50,17 @@ shown_by options bytes = machine bytes options.argument options.turns
 abbrev pub end_by : RunOptions → List ℕ → RunEnd
 end_by options bytes = end_within options.turns (shown_by options bytes).end
 
+-- the names of an image's functions; bytes that are no image have none
+abbrev pub names_read : Result Image ImageErr → ℕ → Option (List ℕ)
+names_read (Ok image) = function_name image
+names_read (Err e) = no_names
+
+abbrev pub names_by : List ℕ → ℕ → Option (List ℕ)
+names_by bytes = names_read (reading bytes)
+
 abbrev pub text_by : RunOptions → List ℕ → List ℕ
 text_by options bytes =
-    text (shown_by options bytes).events (end_by options bytes) options.trace no_names
+    text (shown_by options bytes).events (end_by options bytes) options.trace (names_by bytes)
 
 -- the bytes are an image that loads
 pub record Loads (bytes : List ℕ) : Type 0 where

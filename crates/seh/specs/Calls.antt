@@ -8,6 +8,7 @@ use Rattle.c_syntax.specs.Program.{ExternalDeclaration}
 use Rattle.c_checked.specs.Program.{Program}
 use Rattle.source_meaning.specs.Meaning.{meaning}
 use Rattle.source_meaning.specs.declared.ended.Ended.{Ended}
+use Rattle.c_meaning.specs.FunctionNames.{names_of}
 use Rattle.c_meaning.specs.Texts as meanings
 use Rattle.c_text.specs.Texts.{IsAccepted}
 use Rattle.pe_image.specs.Image.{Image}
@@ -148,7 +149,8 @@ pub record EndsWithin (p : Program) (arg n : ℕ) : Type 0 where
 -- the call gave what the program means: its whole text, and the status of its end
 abbrev pub GaveMeaning : (p : Program) (arg n : ℕ) → EndsWithin p arg n → RunOptions → Call → Type 0
 GaveMeaning p arg n ends options call =
-    Gave (meaning_status ends.ended) (meanings.text options.trace n (meaning p (pos arg) n)) call
+    Gave (meaning_status ends.ended)
+    (meanings.text options.trace n (meaning p (pos arg) n) (names_of p)) call
 
 -- the bytes that `out` took in a call
 pub record Took (bytes : List ℕ) (call : Call) : Type 0 where

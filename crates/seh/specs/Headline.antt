@@ -1,14 +1,14 @@
 -- What compiling and running come to together.
-use Rattle.std.specs.Prelude.{◌≡◌, ℕ, ◌+◌, ◌*◌, ◌^◌, ◌<◌, ◌≤◌, true, List, pos, Some, None}
+use Rattle.std.specs.Prelude.{◌≡◌, ℕ, ◌+◌, ◌*◌, ◌^◌, ◌<◌, ◌≤◌, true, List, ◌++◌, pos, Option, Some, None}
 use Rattle.seh_num.specs.declared.end.RunEnd.{RunEnd}
 use Rattle.seh_num.specs.Shown.{Shown}
-use Rattle.seh_io.specs.Names.{no_names}
-use Rattle.seh_io.specs.Text.{text}
+use Rattle.seh_io.specs.Text.{lines, text}
 use Rattle.source_meaning.specs.declared.ended.Ended.{Ended}
 use Rattle.host_model.specs.Laws.{Covers}
 use Rattle.host_model.specs.Machine.{machine}
 use Rattle.source_meaning.specs.Meaning.{meaning, Calm}
 use Rattle.c_resolved.specs.Program.{resolve}
+use Rattle.c_meaning.specs.FunctionNames.{names_of}
 use Rattle.match_runs.specs.Ends.{run_end, run_end_of}
 use Rattle.match_runs.specs.Laws.{ShowsNoMore}
 use Rattle.image_runs.specs.ShadowWalks.{WalksTheShadow}
@@ -22,13 +22,17 @@ pub record AreEnough (options : RunOptions) (arg n : ℕ) : Type 0 where
   pub argument : options.argument ≡ pos arg
   pub turns : 256 * n + 256 ≤ options.turns
 
--- a run of the image with these options shows the events of a meaning first; where the meaning has
--- an end that runs have, the run has this end, with its status, and its text is that of the meaning
-pub record ShowsMeaning (meant : Shown Ended) (image : List ℕ) (options : RunOptions) : Type 0 where
+-- a run of the image with these options shows the events of a meaning first, and its text begins
+-- with their lines, which have the names of the program's functions; where the meaning has an end
+-- that runs have, the run has this end, with its status, and its text is that of the meaning
+pub record ShowsMeaning (meant : Shown Ended) (names : ℕ → Option (List ℕ)) (image : List ℕ)
+    (options : RunOptions) : Type 0 where
   pub covers : Covers meant.events (run_end_of meant.end) (shown_by options image)
+  pub begins : (rest : List ℕ)
+      × (text_by options image ≡ lines options.trace meant.events names ++ rest)
   pub ended : (e : RunEnd) → run_end_of meant.end ≡ Some e → end_by options image ≡ e
   pub whole : (e : RunEnd) → run_end_of meant.end ≡ Some e
-      → text_by options image ≡ text meant.events e options.trace no_names
+      → text_by options image ≡ text meant.events e options.trace names
   pub status :
       (ended : Ended) (e : RunEnd) → meant.end ≡ Some ended → run_end ended ≡ Some e
       → status_of (end_by options image) ≡ meaning_status ended
@@ -40,7 +44,7 @@ Headline =
     → let program = (resolve source compiled.whole).program in
     (options : RunOptions) (arg n : ℕ)
     → arg < 2 ^ 63 → AreEnough options arg n
-    → ShowsMeaning (meaning program (pos arg) n) image options
+    → ShowsMeaning (meaning program (pos arg) n) (names_of program) image options
 
 -- and nothing more: a run shows no event and has no end that the program hasn't within so many
 -- steps, where these touch no reserved byte and aren't too deep

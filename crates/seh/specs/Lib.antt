@@ -8,6 +8,7 @@ pub mod Selftests
 pub mod Checks
 pub mod EntryChecks
 pub mod Headline
+pub mod PrintedWalk
 pub mod Meanings
 pub mod Commands
 pub mod Completeness

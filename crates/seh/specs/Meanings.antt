@@ -7,6 +7,7 @@ use Rattle.c_checked.specs.Program.{Program}
 use Rattle.source_meaning.specs.Meaning as model
 use Rattle.source_meaning.specs.declared.ended.Ended.{Ended}
 use Rattle.c_text.specs.Texts.{IsCheckedAs, TextIsRefused}
+use Rattle.c_meaning.specs.FunctionNames.{names_of}
 use Rattle.c_meaning.specs.Texts as texts
 use Rattle.c_meaning.specs.declared.interpret.MeanErr.TheVariants.{Memory}
 use Rattle.command_line.specs.declared.command.RunOptions.{RunOptions}
@@ -22,7 +23,8 @@ abbrev pub shown_of : RunOptions → Program → Shown Ended
 shown_of options p = model.meaning p options.argument options.turns
 
 abbrev pub text_of : RunOptions → Program → List ℕ
-text_of options p = texts.text options.trace options.turns (shown_of options p)
+text_of options p =
+    texts.text options.trace options.turns (shown_of options p) (names_of p)
 
 -- the text is accepted, and is this program
 pub record IsProgramOf (text : List ℕ) (p : Program) : Type 0 where

@@ -115,6 +115,7 @@ load_text (loads.Table e) = table_text e
 load_text (loads.Place base) = named (codes "load Place ") base
 load_text (loads.Import index) = named (codes "load Import ") index
 load_text (loads.Entry rva) = named (codes "load Entry ") rva
+load_text (loads.Names row) = named (codes "load Names ") row
 load_text loads.Memory = codes "no memory"
 
 abbrev pub refusal_text : Refusal → List ℕ

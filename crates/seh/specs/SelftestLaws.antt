@@ -1,8 +1,9 @@
 -- Whole calls of `selftest` in which no sink has a fault.
-use Rattle.std.specs.Prelude.{◌≡◌, ◌⊎◌, ℕ, ◌+◌, ◌*◌, ◌≤◌, List, length, false, pos}
+use Rattle.std.specs.Prelude.{◌≡◌, ◌⊎◌, ℕ, ◌+◌, ◌*◌, ◌≤◌, List, length, false, pos, Option}
 use Rattle.seh_num.specs.Shown.{Shown}
 use Rattle.c_syntax.specs.Program.{ExternalDeclaration}
 use Rattle.c_checked.specs.Program.{Program}
+use Rattle.c_meaning.specs.FunctionNames.{names_of}
 use Rattle.c_meaning.specs.Texts as meanings
 use Rattle.c_text.specs.Texts.{IsAccepted}
 use Rattle.generated_program.specs.GeneratedText.{generated}
@@ -48,8 +49,9 @@ SelftestIsComplete =
     → WantedMemory call ⊎ GaveSummary DEFAULT_TURNS n call
 
 -- the summary of what a program means within so many steps
-abbrev pub meant_summary : ℕ → ℕ → Shown Ended → List ℕ
-meant_summary n steps shown = summary n (meanings.text false steps shown) (length shown.events)
+abbrev pub meant_summary : ℕ → ℕ → Shown Ended → (ℕ → Option (List ℕ)) → List ℕ
+meant_summary n steps shown names =
+    summary n (meanings.text false steps shown names) (length shown.events)
 
 -- and where it ends within so many steps, with turns enough, the summary is that of its meaning
 abbrev pub SelftestIsMeant : Type 0
@@ -58,4 +60,5 @@ SelftestIsMeant =
     → IsProgramOf (generated n) p → AsksSelftest n call → 256 * steps + 256 ≤ DEFAULT_TURNS
     → (ends : EndsWithin p 0 steps)
     → WantedMemory call
-    ⊎ Gave (meaning_status ends.ended) (meant_summary n steps (meaning p (pos 0) steps)) call
+    ⊎ Gave (meaning_status ends.ended)
+    (meant_summary n steps (meaning p (pos 0) steps) (names_of p)) call

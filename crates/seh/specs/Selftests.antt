@@ -1,16 +1,15 @@
 -- What comes of the generated program of a number: the summary of its run.
-use Rattle.std.specs.Prelude.{◌≡◌, ℕ, List, ◌++◌, length, codes, min, false, pos, Result}
+use Rattle.std.specs.Prelude.{◌≡◌, ℕ, List, ◌++◌, length, codes, min, false, pos, Option, Result}
 use Rattle.seh_num.specs.declared.end.RunEnd.{RunEnd}
 use Rattle.seh_num.specs.Shown.{Shown}
 use Rattle.seh_io.specs.Streams.{last_count}
-use Rattle.seh_io.specs.Names.{no_names}
 use Rattle.seh_io.specs.Text.{text, ended}
 use Rattle.seh_host.specs.Turns.{end_within}
 use Rattle.generated_program.specs.GeneratedText.{generated}
 use Rattle.command_line.specs.declared.command.RunOptions.{RunOptions}
 use Rattle.seh.specs.declared.outcome.CommandOutcome.{CommandOutcome}
 use Rattle.seh.specs.declared.refusal.Refusal.{Refusal}
-use Rattle.seh.specs.Answers.{Judged, shown_by, end_by, IsWrittenRun, IsImageAnswer}
+use Rattle.seh.specs.Answers.{Judged, shown_by, end_by, names_by, IsWrittenRun, IsImageAnswer}
 use Rattle.seh.specs.Refusals.{named}
 use Rattle.seh.specs.Streams.{Stream}
 
@@ -28,9 +27,9 @@ summary n text events = program_line n ++ (text ++ events_line events)
 
 -- the summary of what is shown within so many turns: its text has no trace, and its events of all
 -- kinds are counted
-abbrev pub summary_of : ℕ → ℕ → Shown RunEnd → List ℕ
-summary_of turns n shown =
-    summary n (text shown.events (end_within turns shown.end) false no_names)
+abbrev pub summary_of : ℕ → ℕ → (ℕ → Option (List ℕ)) → Shown RunEnd → List ℕ
+summary_of turns n names shown =
+    summary n (text shown.events (end_within turns shown.end) false names)
     (length shown.events)
 
 -- a generated program is run with argument 0 and without a trace
@@ -39,7 +38,8 @@ selftest_options turns = record { turns = turns; argument = pos 0; trace = false
 
 -- the summary of an image's run
 abbrev pub summary_by : ℕ → ℕ → List ℕ → List ℕ
-summary_by turns n image = summary_of turns n (shown_by (selftest_options turns) image)
+summary_by turns n image =
+    summary_of turns n (names_by image) (shown_by (selftest_options turns) image)
 
 -- what comes of an image that is run for its summary
 abbrev pub IsSummaryAnswer : ℕ → ℕ → Judged

@@ -23,7 +23,7 @@ pub use Rattle.seh_host.specs.Running.{Running, first_running, run_of, running_o
 pub use Rattle.seh_host.specs.Turns.{end_within, taken_before}
 pub use Rattle.match_runs.specs.Ends.{run_end, run_end_of}
 pub use Rattle.image_link.specs.Linked.{linked}
-pub use Rattle.seh.specs.Answers.{text_limit, image_limit, Judged, FromInput, Loads, IsInputAnswer, IsCompileAnswer, IsWrittenRun, IsRunAnswer, IsImageAnswer, IsTextRunAnswer, IsShowAnswer, end_by, text_by, IsRefusedLoad, shown_by, IsInput, LostFew, IsInputRefusal}
+pub use Rattle.seh.specs.Answers.{text_limit, image_limit, Judged, FromInput, Loads, IsInputAnswer, IsCompileAnswer, IsWrittenRun, IsRunAnswer, IsImageAnswer, IsTextRunAnswer, IsShowAnswer, end_by, text_by, IsRefusedLoad, shown_by, names_read, names_by, IsInput, LostFew, IsInputRefusal}
 pub use Rattle.seh.specs.Calls.{Call, HadNoFault, Asks, Gave, WantedMemory, CompileIsComplete, RunIsComplete, MeaningIsComplete, ShowIsComplete, ExecIsComplete, TextsHaveOneImage, EndsWithin, GaveMeaning, LastLinesAgree, CompiledIsMeant, RunIsMeant}
 pub use Rattle.seh.specs.Headline.{Headline, NothingMore, Walks, AreEnough, ShowsMeaning}
 pub use Rattle.seh.specs.Images.{IsCompiled, IsTextRefusal, steps_per_turn}

@@ -8,6 +8,7 @@ ghost use Rattle.seh.specs.EntryCheckLaws.{EntryCheckIsComplete, EntriesHaveOneV
 ghost use Rattle.seh.specs.Completeness.{AcceptedTextsCompile, CompiledImagesRun};
 ghost use Rattle.seh.specs.Existence.{ImagesExist};
 ghost use Rattle.seh.specs.Headline.{Headline, NothingMore, Walks};
+ghost use Rattle.seh.specs.PrintedWalk.{PrintedWalk};
 ghost use Rattle.seh.specs.SelftestLaws.{SelftestReadsNothing, SelftestIsComplete, SelftestIsMeant};
 ghost use Rattle.seh.specs.TamePrograms.{TameProgramsWalk, TameProgramsEnd};
 
@@ -23,6 +24,14 @@ ghost use Rattle.seh.specs.TamePrograms.{TameProgramsWalk, TameProgramsEnd};
 pub fn headline()
     ensures shows { Headline }
     ensures nothing_more { NothingMore }
+{}
+
+/// The printed walk: where the run of which the meaning speaks comes to a call of `walk` within n
+/// steps, the text of the image's run, with turns enough, has after the lines of what was shown until
+/// then a line with the name of each live activation's function, innermost first: also in filters and
+/// in `__finally` blocks, and where an unwinding has left others.
+pub fn printed_walk()
+    ensures { PrintedWalk }
 {}
 
 /// Completeness: no accepted text is refused, and no image of one. What `compile` answers to an
@@ -74,9 +83,10 @@ pub fn calls()
 {}
 
 /// From a text to what is written, in two calls or in one. Where the program ends within n steps by
-/// a return of `main` or an unhandled exception, `compile` and then `exec` of what it wrote, with at
-/// least `256 * n + 256` turns, write the text of the meaning and have its status; so does `run`. A
-/// text has one image at most, and the last lines of a run and of a meaning that end alike are one.
+/// a return of `main` or an unhandled exception, `compile` and then `exec` of what it wrote, with
+/// at least `256 * n + 256` turns, write the text of the meaning and have its status; so does
+/// `run`. A text has one image at most, and the last lines of a run and of a meaning that end alike
+/// are one.
 pub fn meant_calls()
     ensures one_image { TextsHaveOneImage }
     ensures last_line { LastLinesAgree }
@@ -119,9 +129,9 @@ pub fn compiled_frames()
 {}
 
 /// What `check --each` says of an image: each entry of an image has one verdict, and so the image
-/// has one text. Where no stream has a fault and memory isn't wanting, `check` and `check --each` of
-/// the same bytes end with one status: that of yes where each entry is without a fault, that of no
-/// where one isn't, and that of a refusal where the image or its function table is refused.
+/// has one text. Where no stream has a fault and memory isn't wanting, `check` and `check --each`
+/// of the same bytes end with one status: that of yes where each entry is without a fault, that of
+/// no where one isn't, and that of a refusal where the image or its function table is refused.
 pub fn checked_entries()
     ensures one_verdict_each { EntriesHaveOneVerdictEach }
     ensures statuses { StatusesAgree }

@@ -256,6 +256,7 @@ fn load_text(error: &LoadErr) -> Line
         LoadErr::Place { base } => named(&mut line, b"load Place ", *base),
         LoadErr::Import { index } => named(&mut line, b"load Import ", *index),
         LoadErr::Entry { rva } => named(&mut line, b"load Entry ", *rva),
+        LoadErr::Names { row } => named(&mut line, b"load Names ", *row),
         LoadErr::Memory => line.text(b"no memory"),
     }
     line

@@ -78,8 +78,8 @@ fn caller_chained<S: ReadSpace>(
     }
 }
 
-/// The caller of a frame, in an image that lies at `base`. The infos that one is chained to are read
-/// where it is chained.
+/// The caller of a frame, in an image that lies at `base`. The infos that one is chained to are
+/// read where it is chained.
 #[tactic(auto, using(crate::proofs::Covered::refused, crate::proofs::Covered::none, crate::proofs::Covered::alone))]
 pub fn caller<S: ReadSpace>(
     tables: &Tables<'_, '_>,

@@ -1,6 +1,7 @@
 pub mod RecordPlacement
 pub mod FilterRows
 pub mod TurnEvents
+pub mod WalkSteps
 pub mod ServiceReturn
 pub mod FaultTurns
 pub mod TurnOutcomes

@@ -1,6 +1,6 @@
 -- Events before those of a turn.
 use Rattle.std.proofs.Common.{◌≡◌, Some, None, [], ◌∷◌, refl, ap, ◌∙◌}
-use Rattle.seh_dispatch.specs.Words.{Event, Memory, Cpu, Turn, Continues, Ends, with_event, Made, led, turn_of, led_turn, made_turn, silent, all_silent}
+use Rattle.seh_dispatch.specs.Words.{Event, Memory, Cpu, Functions, Turn, Continues, Ends, with_event, Made, TurnMade, Told, led, turn_of, led_turn, made_turn, turn_made, silent, all_silent, all_told}
 use Rattle.seh_dispatch.specs.declared.outcome.TurnOutcome as code
 use Rattle.seh_dispatch.specs.declared.outcome.Led.{Led}
 
@@ -33,4 +33,14 @@ pub made_told : (c : Cpu) (m : Memory) (x : Led) (e : Event) (t : Turn) → led_
     → made_turn c m (record { first = Some e; rest = x }) ≡ with_event e t
 made_told c m x e t f = led_one e (led_turn c m x) ∙ ap (with_event e) f
 
-pub ruleset leading = (led_silent, led_told, made_silent, made_later, made_told)
+pub all_told_turn : (t : Functions) (c : Cpu) (m : Memory) (x : TurnMade) (o : code.TurnOutcome)
+    (u : Turn) → x ≡ all_told o → turn_of c m o ≡ u → turn_made t c m x ≡ u
+all_told_turn t c m x o u e f = ap (turn_made t c m) e
+    ∙ made_silent c m (all_silent o) o u refl f
+
+pub told_later : (t : Functions) (c : Cpu) (m : Memory) (x : Led) (u : Turn) → led_turn c m x ≡ u
+    → turn_made t c m (Told (record { first = None; rest = x })) ≡ u
+told_later t c m x u f = made_later c m x u f
+
+pub ruleset leading =
+    (led_silent, led_told, made_silent, made_later, made_told, all_told_turn, told_later)

@@ -1,6 +1,8 @@
 -- A turn by what the code made of it.
-use Rattle.std.proofs.Common.{◌≡◌, ◌++◌, Bool, true, false, eqb, Option, List, [], refl, sym, ap, ◌∙◌}
-use Rattle.seh_dispatch.specs.Words.{Event, RunEnd, Memory, Cpu, State, state, step, Functions, distance, Funclet, Continues, Ends, arrivals, arrived, turn, turned, over, host, Made, listed, led, turn_of, made_turn, left, over_if, over_cpu}
+use Rattle.std.proofs.Common.{◌≡◌, ◌++◌, Bool, true, false, eqb, Option, Some, None, List, [], refl, sym, ap, ◌∙◌}
+use Rattle.seh_dispatch.specs.Words.{Event, RunEnd, Memory, Cpu, State, state, step, Functions, distance, Funclet, Continues, Ends, arrivals, arrived, turn, turned, over, host, Printed, walked, walked_by, Made, TurnMade, listed, led, turn_of, made_turn, turn_made, left, over_if, over_cpu}
+use Rattle.seh_num.specs.declared.end.RunEnd.TheVariants.{Stopped}
+use Rattle.seh_walk.specs.declared.stop_cause.StopCause.{StopCause}
 use Rattle.seh_dispatch.specs.declared.outcome.TurnOutcome as code
 use Rattle.seh_dispatch.specs.declared.outcome.TurnOutcome.TheVariants as outcomes
 
@@ -9,23 +11,17 @@ abbrev pub all_shown : Functions → List Funclet → Cpu → Made → Option Ev
 all_shown t fs c made shown = (listed made.first ++ (listed made.rest.first ++ listed shown))
     ++ arrivals c (distance t.base c.rip) 1 fs
 
-pub goes_turn : (t : Functions) (fs : List Funclet) (s : State) (c : Cpu) (m : Memory) (made : Made)
-    (shown : Option Event) → made_turn c m made ≡ turned t s (step s)
-    → made.rest.outcome ≡ outcomes.Continues shown
-    → turn t fs s ≡ Continues (state c m) (all_shown t fs c made shown)
-unfolding turn
-goes_turn t fs s c m made shown e f = ap (arrived t fs)
-    (sym e ∙ ap (λ (o : code.TurnOutcome). led (listed made.first)
-    (led (listed made.rest.first) (turn_of c m o))) f)
+pub goes_turn : (t : Functions) (fs : List Funclet) (c : Cpu) (m : Memory) (made : Made)
+    (shown : Option Event) → made.rest.outcome ≡ outcomes.Continues shown
+    → arrived t fs (made_turn c m made) ≡ Continues (state c m) (all_shown t fs c made shown)
+goes_turn t fs c m made shown f = ap (λ (o : code.TurnOutcome). arrived t fs
+    (led (listed made.first) (led (listed made.rest.first) (turn_of c m o)))) f
 
-pub ends_turn : (t : Functions) (fs : List Funclet) (s : State) (c : Cpu) (m : Memory) (made : Made)
-    (end : RunEnd) → made_turn c m made ≡ turned t s (step s)
-    → made.rest.outcome ≡ outcomes.Ends end → turn t fs s
+pub ends_turn : (t : Functions) (fs : List Funclet) (c : Cpu) (m : Memory) (made : Made)
+    (end : RunEnd) → made.rest.outcome ≡ outcomes.Ends end → arrived t fs (made_turn c m made)
     ≡ Ends (listed made.first ++ (listed made.rest.first ++ [])) end
-unfolding turn
-ends_turn t fs s c m made end e f = ap (arrived t fs)
-    (sym e ∙ ap (λ (o : code.TurnOutcome). led (listed made.first)
-    (led (listed made.rest.first) (turn_of c m o))) f)
+ends_turn t fs c m made end f = ap (λ (o : code.TurnOutcome). arrived t fs
+    (led (listed made.first) (led (listed made.rest.first) (turn_of c m o)))) f
 
 pub left_over : (c : Cpu) (m : Memory) → left c m (over_cpu c) ≡ host (state c m)
 left_over c m = go (eqb c.rip 0)
@@ -33,3 +29,23 @@ left_over c m = go (eqb c.rip 0)
     go : (b : Bool) → left c m (over_if c b) ≡ over (state c m) b
     go true = refl
     go false = refl
+
+-- the turn that was made
+pub turn_is : (t : Functions) (fs : List Funclet) (s : State) (c : Cpu) (m : Memory)
+    (x y : TurnMade) → turn_made t c m x ≡ turned t s (step s) → x ≡ y
+    → arrived t fs (turn_made t c m y) ≡ turn t fs s
+unfolding turn
+turn_is t fs s c m x y e f = ap (arrived t fs) (sym (ap (turn_made t c m) f) ∙ e)
+
+-- a printed walk that is stopped, and one that comes to its end
+pub walk_stops : (t : Functions) (fs : List Funclet) (c : Cpu) (m : Memory) (x : Printed)
+    (y : StopCause) → Some y ≡ x.stop
+    → arrived t fs (walked (state c m) x) ≡ Ends x.events (Stopped y.reason y.address)
+walk_stops t fs c m x y e =
+    ap (λ (o : Option StopCause). arrived t fs (walked_by (state c m) x.events o)) (sym e)
+
+pub walk_goes : (t : Functions) (fs : List Funclet) (c : Cpu) (m : Memory) (x : Printed)
+    → None ≡ x.stop → arrived t fs (walked (state c m) x)
+    ≡ Continues (state c m) (x.events ++ arrivals c (distance t.base c.rip) 1 fs)
+walk_goes t fs c m x e =
+    ap (λ (o : Option StopCause). arrived t fs (walked_by (state c m) x.events o)) (sym e)

@@ -9,13 +9,18 @@ use Rattle.seh_num.specs.declared.end.RunEnd.TheVariants as ends
 use Rattle.flat_memory.specs.Memory.{Memory}
 use Rattle.x64_machine.specs.declared.cpu.Cpu.{Cpu}
 use Rattle.x64_machine.specs.Effect.{register, with_register, state}
+use Rattle.virtual_unwind.specs.CallerOf.{Functions}
 use Rattle.seh_walk.specs.declared.stop_cause.StopCause.{StopCause}
+use Rattle.seh_walk.specs.Walk.{steps}
 use Rattle.host_model.specs.Turns.{Turn, Continues, Ends}
+use Rattle.host_model.specs.HostStep.{printed, walked, walk_from}
 use Rattle.seh_dispatch.specs.FuncletLists.{listed}
 use Rattle.seh_dispatch.specs.declared.outcome.TurnOutcome as code
 use Rattle.seh_dispatch.specs.declared.outcome.TurnOutcome.TheVariants as outcomes
 use Rattle.seh_dispatch.specs.declared.outcome.Led.{Led}
 use Rattle.seh_dispatch.specs.declared.outcome.Made.{Made}
+use Rattle.seh_dispatch.specs.declared.outcome.TurnMade.{TurnMade}
+use Rattle.seh_dispatch.specs.declared.outcome.TurnMade.TheVariants.{Told, Walks}
 
 -- events before those of a turn
 abbrev pub led : List Event → Turn → Turn
@@ -32,11 +37,19 @@ led_turn c m made = led (listed made.first) (turn_of c m made.outcome)
 abbrev pub made_turn : Cpu → Memory → Made → Turn
 made_turn c m made = led (listed made.first) (led_turn c m made.rest)
 
+-- a printed walk from the state that is left
+abbrev pub turn_made : Functions → Cpu → Memory → TurnMade → Turn
+turn_made t c m (Told made) = made_turn c m made
+turn_made t c m Walks = walked (state c m) (printed steps t m (walk_from c))
+
 abbrev pub silent : code.TurnOutcome → Led
 silent o = record { first = None; outcome = o }
 
 abbrev pub all_silent : code.TurnOutcome → Made
 all_silent o = record { first = None; rest = silent o }
+
+abbrev pub all_told : code.TurnOutcome → TurnMade
+all_told o = Told (all_silent o)
 
 abbrev pub stopped_outcome : StopCause → code.TurnOutcome
 stopped_outcome y = outcomes.Ends (ends.Stopped y.reason y.address)

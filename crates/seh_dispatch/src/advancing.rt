@@ -2,26 +2,31 @@
 
 ghost use Rattle.std.specs.Prelude.{◌≡◌, ◌-◌, ◌<◌, ◌^◌, None, length};
 ghost use Rattle.eh_tables.specs.Tables.{TablesAreWhole};
-ghost use Rattle.virtual_unwind.specs.CallerOf.{functions_of, distance};
+ghost use Rattle.flat_memory.specs.Memory.{Memory};
+ghost use Rattle.virtual_unwind.specs.CallerOf.{functions_of, name_rows, distance};
 ghost use Rattle.x64_machine.specs.Effect.{state};
 ghost use Rattle.x64_decoded.specs.Caches.{IsCoherent};
 ghost use Rattle.host_model.specs.Turns.{shown_in};
-ghost use Rattle.host_model.specs.Funclets.{arrivals};
+ghost use Rattle.host_model.specs.Funclets.{arrivals, arrived};
 ghost use Rattle.host_model.specs.HostStep.{turn, after};
-ghost use Rattle.seh_dispatch.specs.FuncletLists.{AreAscending, listed};
+ghost use Rattle.seh_dispatch.specs.FuncletLists.{AreAscending};
 ghost use Rattle.seh_dispatch.specs.Filters.{Admits};
+ghost use Rattle.seh_dispatch.specs.Outcomes.{made_turn, turn_made};
+ghost use Rattle.seh_dispatch.specs.declared.outcome.TurnMade.TheVariants.{Walks};
 ghost use Rattle.seh_dispatch.specs.TurnEnds.{left};
 ghost use Rattle.seh_dispatch.specs.TurnEnds.{over_cpu};
 
 use crate::arrival::{arrival, may_arrive};
 use crate::filter::FuncletFilter;
-use crate::outcome::TurnOutcome;
+use crate::outcome::{Made, TurnMade, TurnOutcome};
 use crate::serving::make;
+use crate::telling::tell;
+use crate::walking::print_walk;
 use eh_tables::Tables;
 use host_model::funclet::Funclet;
+use pe_image::NameTable;
 use seh_io::receiver::Events;
 use seh_num::end::RunEnd;
-use seh_num::event::Event;
 use seh_num::extension::sign_extend;
 use seh_num::width::Width;
 use x64_decoded::cache::InstructionCache;
@@ -39,15 +44,6 @@ fn over(cpu: &Cpu) -> Option<RunEnd>
     }
     let status = sign_extend(Width::W32, cpu.register(Reg::Rax));
     Some(RunEnd::Exit(status as i32))
-}
-
-/// Gives a receiver an event, if there is one.
-fn tell<V: Events>(to: &mut V, event: Option<Event>)
-    ensures { V.took to.old (listed event) to.new }
-{
-    if let Some(event) = event {
-        to.take(&event);
-    }
 }
 
 /// What follows where a turn has left RIP: the event of the funclet there, and the end at 0.
@@ -72,27 +68,24 @@ fn arrive<V: Events>(
     over(cpu)
 }
 
-/// One turn from a state that hasn't ended, whatever it comes to.
-#[cold]
-#[inline(never)]
-fn dispatch<S: AddressSpace, V: Events>(
+/// What follows where it is known what a turn shows: the event of the funclet at which it arrives,
+/// and the end.
+fn conclude<V: Events>(
     tables: &Tables,
     filter: &FuncletFilter,
     funclets: &[Funclet],
-    cpu: &mut Cpu,
-    space: &mut S,
+    cpu: &Cpu,
+    made: Made,
     to: &mut V,
 ) -> Option<RunEnd>
-    requires whole { TablesAreWhole tables.now }
     requires admitted { Admits filter.now funclets.now }
     requires few { length funclets.now < 2 ^ 32 - 1 }
     requires ascending { AreAscending 0 funclets.now }
-    ensures host { left cpu.new (S.memory space.new) result
-        ≡ after (turn (functions_of tables.now) funclets.now (state cpu.old (S.memory space.old))) }
-    ensures shown { V.took to.old (shown_in
-        (turn (functions_of tables.now) funclets.now (state cpu.old (S.memory space.old)))) to.new }
+    ensures host { (m : Memory) → left cpu.now m result
+        ≡ after (arrived (functions_of tables.now) funclets.now (made_turn cpu.now m made)) }
+    ensures shown { (m : Memory) → V.took to.old (shown_in
+        (arrived (functions_of tables.now) funclets.now (made_turn cpu.now m made))) to.new }
 {
-    let made = make(tables, cpu, space);
     tell(to, made.first);
     tell(to, made.rest.first);
     match made.rest.outcome {
@@ -104,11 +97,71 @@ fn dispatch<S: AddressSpace, V: Events>(
     }
 }
 
+/// Prints a walk from the state of a processor, and what follows.
+fn conclude_walk<S: AddressSpace, V: Events>(
+    tables: &Tables,
+    names: &NameTable,
+    filter: &FuncletFilter,
+    funclets: &[Funclet],
+    cpu: &Cpu,
+    space: &S,
+    to: &mut V,
+) -> Option<RunEnd>
+    requires whole { TablesAreWhole tables.now }
+    requires names { names.now ≡ name_rows tables.now.image }
+    requires admitted { Admits filter.now funclets.now }
+    requires few { length funclets.now < 2 ^ 32 - 1 }
+    requires ascending { AreAscending 0 funclets.now }
+    ensures host { left cpu.now (S.memory space.now) result
+        ≡ after (arrived (functions_of tables.now) funclets.now
+        (turn_made (functions_of tables.now) cpu.now (S.memory space.now) Walks)) }
+    ensures shown { V.took to.old (shown_in (arrived (functions_of tables.now) funclets.now
+        (turn_made (functions_of tables.now) cpu.now (S.memory space.now) Walks))) to.new }
+{
+    match print_walk(tables, names, cpu, space, to) {
+        Some(cause) => Some(RunEnd::Stopped {
+            why: cause.reason,
+            address: cause.address,
+        }),
+        None => arrive(tables, filter, funclets, cpu, to),
+    }
+}
+
+/// One turn from a state that hasn't ended, whatever it comes to.
+#[cold]
+#[inline(never)]
+#[tactic(auto, unfolding(host_model::specs::HostStep::turn))]
+fn dispatch<S: AddressSpace, V: Events>(
+    tables: &Tables,
+    names: &NameTable,
+    filter: &FuncletFilter,
+    funclets: &[Funclet],
+    cpu: &mut Cpu,
+    space: &mut S,
+    to: &mut V,
+) -> Option<RunEnd>
+    requires whole { TablesAreWhole tables.now }
+    requires names { names.now ≡ name_rows tables.now.image }
+    requires admitted { Admits filter.now funclets.now }
+    requires few { length funclets.now < 2 ^ 32 - 1 }
+    requires ascending { AreAscending 0 funclets.now }
+    ensures host { left cpu.new (S.memory space.new) result
+        ≡ after (turn (functions_of tables.now) funclets.now (state cpu.old (S.memory space.old))) }
+    ensures shown { V.took to.old (shown_in
+        (turn (functions_of tables.now) funclets.now (state cpu.old (S.memory space.old)))) to.new }
+{
+    match make(tables, cpu, space) {
+        TurnMade::Told(made) => conclude(tables, filter, funclets, cpu, made, to),
+        TurnMade::Walks => conclude_walk(tables, names, filter, funclets, cpu, space, to),
+    }
+}
+
 /// One turn from a state that hasn't ended, in memory of any kind: how the run ended in it, if it
 /// did. The receiver takes what the turn shows, in order. The cache, which agrees with memory, does
 /// so after a turn in which the run hasn't ended. No memory of the system is taken.
 pub fn advance<S: AddressSpace, V: Events>(
     tables: &Tables,
+    names: &NameTable,
     filter: &FuncletFilter,
     funclets: &[Funclet],
     instructions: &mut InstructionCache,
@@ -117,6 +170,7 @@ pub fn advance<S: AddressSpace, V: Events>(
     to: &mut V,
 ) -> Option<RunEnd>
     requires whole { TablesAreWhole tables.now }
+    requires names { names.now ≡ name_rows tables.now.image }
     requires admitted { Admits filter.now funclets.now }
     requires few { length funclets.now < 2 ^ 32 - 1 }
     requires ascending { AreAscending 0 funclets.now }
@@ -130,5 +184,5 @@ pub fn advance<S: AddressSpace, V: Events>(
     if step(cpu, space, instructions) {
         return arrive(tables, filter, funclets, cpu, to);
     }
-    dispatch(tables, filter, funclets, cpu, space, to)
+    dispatch(tables, names, filter, funclets, cpu, space, to)
 }

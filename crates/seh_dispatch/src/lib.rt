@@ -15,3 +15,5 @@ pub mod filter;
 pub mod gathering;
 pub mod outcome;
 pub mod serving;
+pub mod telling;
+pub mod walking;

@@ -31,6 +31,15 @@ pub struct Made {
     pub rest: Led,
 }
 
+/// What a turn comes to.
+#[derive(Clone, Copy, Debug, PartialEq, Eq)]
+pub enum TurnMade {
+    /// What is shown is known already.
+    Told(Made),
+    /// A walk from the processor's state is printed.
+    Walks,
+}
+
 /// Nothing is shown first.
 pub fn silent(outcome: TurnOutcome) -> Led
     ensures { result ≡ spec.silent outcome }
@@ -49,4 +58,11 @@ pub fn all_silent(outcome: TurnOutcome) -> Made
         first: None,
         rest: silent(outcome),
     }
+}
+
+/// Nothing is shown but what the outcome shows.
+pub fn all_told(outcome: TurnOutcome) -> TurnMade
+    ensures { result ≡ spec.all_told outcome }
+{
+    TurnMade::Told(all_silent(outcome))
 }

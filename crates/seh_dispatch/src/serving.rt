@@ -11,11 +11,11 @@ ghost use Rattle.host_layout.specs.declared.service.Service.TheVariants as servi
 ghost use Rattle.x64_machine.specs.Effect.{register, state, step};
 ghost use Rattle.host_model.specs.Dispatch as dispatch;
 ghost use Rattle.host_model.specs.HostStep as spec;
-ghost use Rattle.seh_dispatch.specs.Outcomes.{turn_of, led_turn, made_turn, back_of, stopped_outcome};
+ghost use Rattle.seh_dispatch.specs.Outcomes.{turn_of, led_turn, turn_made, back_of, stopped_outcome};
 
 use crate::answering::{filter_return, finally_return};
 use crate::dispatching::{raise, stopped, unwind_locally};
-use crate::outcome::{Led, Made, TurnOutcome, all_silent, silent};
+use crate::outcome::{Led, Made, TurnMade, TurnOutcome, all_told, silent};
 use eh_tables::Tables;
 use host_layout::service::Service;
 use seh_num::end::{Reason, RunEnd};
@@ -152,6 +152,22 @@ fn local_unwind<S: AddressSpace>(tables: &Tables, cpu: &mut Cpu, space: &mut S) 
     }
 }
 
+/// Returns, with a walk from the caller to be printed.
+#[tactic(auto, using(crate::proofs::ServiceReturn::returning_steps))]
+fn walk<S: AddressSpace>(tables: &Tables, cpu: &mut Cpu, space: &S) -> TurnMade
+    ensures { turn_made (functions_of tables.now) cpu.new (S.memory space.now) result
+        ≡ spec.served (functions_of tables.now) (state cpu.old (S.memory space.now))
+        (Some services.Walk) }
+{
+    match back(cpu, space) {
+        None => all_told(unreadable(cpu)),
+        Some(after) => {
+            *cpu = after;
+            TurnMade::Walks
+        }
+    }
+}
+
 /// What a service does.
 #[tactic(auto, using(crate::proofs::TurnEvents::leading))]
 fn serve<S: AddressSpace>(
@@ -159,22 +175,23 @@ fn serve<S: AddressSpace>(
     cpu: &mut Cpu,
     space: &mut S,
     service: Option<Service>,
-) -> Made
+) -> TurnMade
     requires { TablesAreWhole tables.now }
-    ensures { made_turn cpu.new (S.memory space.new) result
+    ensures { turn_made (functions_of tables.now) cpu.new (S.memory space.new) result
         ≡ spec.served (functions_of tables.now) (state cpu.old (S.memory space.old)) service }
 {
     match service {
-        Some(Service::Put) => all_silent(put(cpu, space)),
-        Some(Service::Protect) => all_silent(protect(cpu, space)),
+        Some(Service::Put) => all_told(put(cpu, space)),
+        Some(Service::Protect) => all_told(protect(cpu, space)),
         Some(Service::RaiseException) => {
             let rest = raise_exception(tables, cpu, space);
-            Made { first: None, rest }
+            TurnMade::Told(Made { first: None, rest })
         }
-        Some(Service::LocalUnwind) => all_silent(local_unwind(tables, cpu, space)),
-        Some(Service::FilterReturn) => filter_return(tables, cpu, space),
-        Some(Service::FinallyReturn) => all_silent(finally_return(tables, cpu, space)),
-        Some(Service::CSpecificHandler) | None => all_silent(stopped(StopCause {
+        Some(Service::LocalUnwind) => all_told(local_unwind(tables, cpu, space)),
+        Some(Service::FilterReturn) => TurnMade::Told(filter_return(tables, cpu, space)),
+        Some(Service::FinallyReturn) => all_told(finally_return(tables, cpu, space)),
+        Some(Service::Walk) => walk(tables, cpu, space),
+        Some(Service::CSpecificHandler) | None => all_told(stopped(StopCause {
             reason: Reason::Illegal,
             address: cpu.rip,
         })),
@@ -183,26 +200,27 @@ fn serve<S: AddressSpace>(
 
 /// A turn, but for the event of the funclet at which it arrives.
 #[tactic(auto, using(crate::proofs::TurnEvents::leading))]
-pub fn make<S: AddressSpace>(tables: &Tables, cpu: &mut Cpu, space: &mut S) -> Made
+pub fn make<S: AddressSpace>(tables: &Tables, cpu: &mut Cpu, space: &mut S) -> TurnMade
     requires { TablesAreWhole tables.now }
-    ensures { made_turn cpu.new (S.memory space.new) result ≡ spec.turned (functions_of tables.now)
-        (state cpu.old (S.memory space.old)) (step (state cpu.old (S.memory space.old))) }
+    ensures { turn_made (functions_of tables.now) cpu.new (S.memory space.new) result
+        ≡ spec.turned (functions_of tables.now) (state cpu.old (S.memory space.old))
+        (step (state cpu.old (S.memory space.old))) }
 {
     let rip = cpu.rip;
     match step(cpu, space) {
-        StepOutcome::Next => all_silent(TurnOutcome::Continues(None)),
+        StepOutcome::Next => all_told(TurnOutcome::Continues(None)),
         StepOutcome::Fault { code, access } => {
             let saved = *cpu;
             let rest = raised(tables, cpu, space, code, 0, access, &saved);
-            Made { first: None, rest }
+            TurnMade::Told(Made { first: None, rest })
         }
         StepOutcome::Host { address } => serve(tables, cpu, space, Service::at(address)),
-        StepOutcome::Illegal => all_silent(stopped(StopCause {
+        StepOutcome::Illegal => all_told(stopped(StopCause {
             reason: Reason::Illegal,
             address: rip,
         })),
         StepOutcome::Guard { address } => {
-            all_silent(TurnOutcome::Ends(RunEnd::StackLimit { address }))
+            all_told(TurnOutcome::Ends(RunEnd::StackLimit { address }))
         }
     }
 }

@@ -2,10 +2,12 @@
 use Rattle.std.proofs.Common.{◌≡◌, ℕ, suc, ◌+◌, ◌-◌, ◌≤◌, ◌<◌, Bool, true, false, List, [], ◌++◌, Option, Some, refl, sym, ap, subst, ◌∙◌, arith, inl, inr, append_assoc}
 use Rattle.std.proofs.lemmas.Bool.{cases_Bool, true≢false}
 use Rattle.std.proofs.lemmas.List.{append-nil}
-use Rattle.seh_host.specs.Words.{RunEnd, no_names, none_named, lines, end_line, text, Writer, writer_of, Wrote, TookEvents, TookPart, Functions, Host, Live, Ended, end_of, Running, made, shown_made, after_turn, shown_of, run_of, answer_of, end_within}
+use Rattle.seh_host.specs.Words.{RunEnd, named_by, image_named, lines, end_line, text, Writer, writer_of, Wrote, TookEvents, TookPart, Functions, Host, Live, Ended, end_of, Running, made, shown_made, after_turn, shown_of, run_of, answer_of, end_within}
+use Rattle.seh_num.specs.declared.event.Event.{Event}
 use Rattle.seh_num.specs.Shown.{Shown}
 use Rattle.seh_io.specs.Streams.{Grew}
-use Rattle.seh_io.specs.declared.names.NoNames.{NoNames}
+use Rattle.pe_image.specs.NameRows.{NameRow}
+use Rattle.seh_host.specs.declared.names.ImageNames.{ImageNames}
 use Rattle.seh_io.specs.declared.receiver.Lines.{Lines}
 use Rattle.seh_io.specs.Successive.{wrote_more, took_none, took_more, lines_append}
 use Rattle.seh_host.proofs.Lemmas.{wrote_nothing, ran_part}
@@ -73,22 +75,22 @@ taken_whole x z t p is = (
 )
 
 module _ (n k : ℕ) (trace : Bool) (r r' : Running) (x z : Writer) (le : k ≤ n)
-    (host : r' ≡ made k r) (w : Wrote x (lines trace (shown_made k r) no_names) z) where
+    (host : r' ≡ made k r) (w : Wrote x (lines trace (shown_made k r) (named_by r.functions.rows)) z) where
   -- where a line couldn't be written, nothing is written of later ones
-  later : z.failed ≡ true → Wrote x (lines trace (shown_made n r) no_names) z
+  later : z.failed ≡ true → Wrote x (lines trace (shown_made n r) (named_by r.functions.rows)) z
   later was =
       let rest = shown_in_turns r.functions r.funclets (n - k) (made k r).host in
       let sum : n ≡ k + (n - k) = omega arith in
       let all : shown_made n r ≡ shown_made k r ++ rest = ap (λ m. shown_made m r) sum
       ∙ shown_more r.functions r.funclets k (n - k) r.host in
-      subst (λ t. Wrote x t z) (sym (ap (λ es. lines trace es no_names) all
-      ∙ lines_append trace (shown_made k r) rest no_names))
-      (wrote_more x z z (lines trace (shown_made k r) no_names) (lines trace rest no_names) w
-      (wrote_nothing z (lines trace rest no_names) was))
+      subst (λ t. Wrote x t z) (sym (ap (λ es. lines trace es (named_by r.functions.rows)) all
+      ∙ lines_append trace (shown_made k r) rest (named_by r.functions.rows)))
+      (wrote_more x z z (lines trace (shown_made k r) (named_by r.functions.rows)) (lines trace rest (named_by r.functions.rows)) w
+      (wrote_nothing z (lines trace rest (named_by r.functions.rows)) was))
 
   pub written : (z.failed ≡ false → (made n r ≡ made k r) × (shown_made n r ≡ shown_made k r))
       → (j : ℕ) → k ≤ j + 1 → (more : List ℕ)
-      × Grew x.taken (lines trace (shown_made j r) no_names ++ more) z.taken
+      × Grew x.taken (lines trace (shown_made j r) (named_by r.functions.rows) ++ more) z.taken
       → Written n trace r x r' z
   written all j last before = record {
     stopped = record {
@@ -104,40 +106,55 @@ module _ (n k : ℕ) (trace : Bool) (r r' : Running) (x z : Writer) (le : k ≤ 
     wrote = elim (cases_Bool z.failed) [
       | inl was ↦ later was
       | inr is ↦ subst
-          (λ es. Wrote x (lines trace es no_names) z) (sym (all is).1) w
+          (λ es. Wrote x (lines trace es (named_by r.functions.rows)) z) (sym (all is).1) w
     ];
   }
 
 -- ---- one turn more, with the lines of what it shows
 
-module _ {X : Type 0} (taken : X → Option (List ℕ)) (faults : X → ℕ) (l0 l n : Lines X NoNames)
+-- lines with the names of what runs
+lines_named : {X : Type 0} (taken : X → Option (List ℕ)) (faults : X → ℕ) (l n : Lines X ImageNames)
+    (rows : List NameRow) (es : List Event) → l.names.now.table ≡ rows
+    → TookEvents taken faults image_named l es n
+    → Wrote (writer_of taken faults l) (lines l.trace es (named_by rows)) (writer_of taken faults n)
+lines_named taken faults l n rows es same took =
+    subst (λ (named : List NameRow). Wrote (writer_of taken faults l)
+    (lines l.trace es (named_by named)) (writer_of taken faults n)) same took.wrote
+
+module _ {X : Type 0} (taken : X → Option (List ℕ)) (faults : X → ℕ) (l0 l n : Lines X ImageNames)
     (count i : ℕ) (r0 r r' : Running)
-    (at : r ≡ made i r0) (is : l.failed ≡ false)
-    (took : TookEvents taken faults none_named l0 (shown_made i r0) l) (goes : r' ≡ after_turn r)
-    (shows : TookEvents taken faults none_named l (shown_of r) n) where
+    (at : r ≡ made i r0) (is : l.failed ≡ false) (same : l0.names.now.table ≡ r0.functions.rows)
+    (took : TookEvents taken faults image_named l0 (shown_made i r0) l) (goes : r' ≡ after_turn r)
+    (shows : TookEvents taken faults image_named l (shown_of r) n) where
   pub next_host : r' ≡ made (i + 1) r0
   next_host = goes ∙ ap after_turn at ∙ sym (one_more i (i + 1) r0 refl)
 
-  pub next_took : TookEvents taken faults none_named l0 (shown_made (i + 1) r0) n
+  pub next_took : TookEvents taken faults image_named l0 (shown_made (i + 1) r0) n
   next_took =
-      subst (λ es. TookEvents taken faults none_named l0 es n)
+      subst (λ es. TookEvents taken faults image_named l0 es n)
       (ap (λ (s : Running). shown_made i r0 ++ shown_of s) at
       ∙ sym (shown_by_one i (i + 1) r0 refl))
-      (took_more taken faults none_named l0 l n (shown_made i r0) (shown_of r) took shows)
+      (took_more taken faults image_named l0 l n (shown_made i r0) (shown_of r) took shows)
+
+  next_wrote : Wrote (writer_of taken faults l0)
+      (lines l0.trace (shown_made (i + 1) r0) (named_by r0.functions.rows))
+      (writer_of taken faults n)
+  next_wrote =
+      lines_named taken faults l0 n r0.functions.rows (shown_made (i + 1) r0) same next_took
 
   before_it : (more : List ℕ)
-      × Grew (taken l0.sink.now) (lines l0.trace (shown_made i r0) no_names ++ more)
+      × Grew (taken l0.sink.now) (lines l0.trace (shown_made i r0) (named_by r0.functions.rows) ++ more)
       (taken n.sink.now)
   before_it =
       taken_before (writer_of taken faults l0) (writer_of taken faults l) (writer_of taken faults n)
-      (lines l0.trace (shown_made i r0) no_names) (lines l.trace (shown_of r) no_names)
-      took.wrote is shows.wrote
+      (lines l0.trace (shown_made i r0) (named_by r0.functions.rows)) (lines l.trace (shown_of r) (image_named l.names.now))
+      (lines_named taken faults l0 l r0.functions.rows (shown_made i r0) same took) is shows.wrote
 
   pub stops : i < count → n.failed ≡ true → Written count l0.trace r0 (writer_of taken faults l0) r'
       (writer_of taken faults n)
   stops lt was =
       written count (i + 1) l0.trace r0 r' (writer_of taken faults l0) (writer_of taken faults n)
-      (omega arith) next_host next_took.wrote
+      (omega arith) next_host next_wrote
       (λ not. absurd (true≢false (sym was ∙ not))) i (omega arith) before_it
 
   pub over : i < count → turns.Ended ≡ answer_of r.host
@@ -148,31 +165,33 @@ module _ {X : Type 0} (taken : X → Option (List ℕ)) (faults : X → ℕ) (l0
       let far = stays i count r0 e (omega arith) in
       let near = stays i (i + 1) r0 e (omega arith) in
       written count (i + 1) l0.trace r0 r' (writer_of taken faults l0) (writer_of taken faults n)
-      (omega arith) next_host next_took.wrote
+      (omega arith) next_host next_wrote
       (λ _. (far.0 ∙ sym near.0, far.1 ∙ sym near.1)) i (omega arith) before_it
 
 -- all turns made
-pub all_made : {X : Type 0} (taken : X → Option (List ℕ)) (faults : X → ℕ) (l0 n : Lines X NoNames)
+pub all_made : {X : Type 0} (taken : X → Option (List ℕ)) (faults : X → ℕ) (l0 n : Lines X ImageNames)
     (count i : ℕ) (r0 r' : Running) → i ≡ count → r' ≡ made i r0 → n.failed ≡ false
-    → TookEvents taken faults none_named l0 (shown_made i r0) n
+    → l0.names.now.table ≡ r0.functions.rows
+    → TookEvents taken faults image_named l0 (shown_made i r0) n
     → Written count l0.trace r0 (writer_of taken faults l0) r' (writer_of taken faults n)
-all_made taken faults l0 n count i r0 r' e host is took =
+all_made taken faults l0 n count i r0 r' e host is same took =
     let host' : r' ≡ made count r0 = host ∙ ap (λ k. made k r0) e in
-    let took' = subst (λ k. TookEvents taken faults none_named l0 (shown_made k r0) n) e took in
+    let took' = subst (λ k. TookEvents taken faults image_named l0 (shown_made k r0) n) e took in
+    let wrote = lines_named taken faults l0 n r0.functions.rows (shown_made count r0) same took' in
     written count count l0.trace r0 r' (writer_of taken faults l0) (writer_of taken faults n)
-    (omega arith) host' took'.wrote
+    (omega arith) host' wrote
     (λ _. (refl, refl)) count (omega arith) (taken_whole (writer_of taken faults l0)
-    (writer_of taken faults n) (lines l0.trace (shown_made count r0) no_names) took'.wrote is)
+    (writer_of taken faults n) (lines l0.trace (shown_made count r0) (named_by r0.functions.rows)) wrote is)
 
 -- before the first
 pub none_made : (r : Running) → r ≡ made 0 r
 unfolding after_turns
 none_made r = refl
 
-pub none_taken : {X : Type 0} (taken : X → Option (List ℕ)) (faults : X → ℕ) (l : Lines X NoNames)
-    (r : Running) → TookEvents taken faults none_named l (shown_made 0 r) l
+pub none_taken : {X : Type 0} (taken : X → Option (List ℕ)) (faults : X → ℕ) (l : Lines X ImageNames)
+    (r : Running) → TookEvents taken faults image_named l (shown_made 0 r) l
 unfolding shown_in_turns
-none_taken taken faults l r = took_none taken faults none_named l
+none_taken taken faults l r = took_none taken faults image_named l
 
 -- ---- the end's line, after the lines of turns
 
@@ -213,13 +232,13 @@ pub part_of_text : (count taken : ℕ) (trace : Bool) (r r' : Running) (x y z : 
     → Written count trace r x r' y → Wrote y (end_line end) z
     → end ≡ end_within count (end_of r'.host) → x.count ≡ 0 → taken ≡ z.count
     → TookPart x.taken
-    (text (run_of count r).events (end_within count (run_of count r).end) trace no_names)
+    (text (run_of count r).events (end_within count (run_of count r).end) trace (named_by r.functions.rows))
     z.taken taken
 part_of_text count taken trace r r' x y z end w q is fresh e =
     subst (λ t. TookPart x.taken t z.taken taken)
-    (ap (λ es. lines trace es no_names ++ end_line (end_within count (run_of count r).end))
+    (ap (λ es. lines trace es (named_by r.functions.rows) ++ end_line (end_within count (run_of count r).end))
     (events_of count r))
-    (ran_part x y z (lines trace (shown_made count r) no_names)
+    (ran_part x y z (lines trace (shown_made count r) (named_by r.functions.rows))
     (end_line (end_within count (run_of count r).end)) w.wrote last taken fresh e)
   where
     last : Wrote y (end_line (end_within count (run_of count r).end)) z
@@ -246,9 +265,9 @@ stopped_then count trace r r' x y z u w q = record {
   before = (
     w.stopped.before.0 ++ q.part,
     subst (λ t. Grew x.taken t z.taken)
-        (append_assoc (lines trace (shown_made w.stopped.whole r) no_names) w.stopped.before.0
+        (append_assoc (lines trace (shown_made w.stopped.whole r) (named_by r.functions.rows)) w.stopped.before.0
         q.part)
-        (grew_then x.taken y.taken z.taken (lines trace (shown_made w.stopped.whole r) no_names
+        (grew_then x.taken y.taken z.taken (lines trace (shown_made w.stopped.whole r) (named_by r.functions.rows)
         ++ w.stopped.before.0) q.part w.stopped.before.1 q.grew),
   );
 }
@@ -261,7 +280,7 @@ pub stopped_text : (count taken : ℕ) (trace : Bool) (r r' : Running) (x y z : 
 stopped_text count taken trace r r' x y z end w q is fresh e = record {
   stopped = stopped_then count trace r r' x y z (end_line end) w q;
   count = taken;
-  front = ran_part x y z (lines trace (shown_made w.stopped.turns_made r) no_names)
+  front = ran_part x y z (lines trace (shown_made w.stopped.turns_made r) (named_by r.functions.rows))
       (end_line (end_within count (end_of r'.host))) w.made_lines
       (subst (λ last. Wrote y (end_line last) z) is q) taken fresh e;
 }
@@ -271,4 +290,5 @@ pub same_stopped : (count : ℕ) (trace trace' : Bool) (r r' : Running) (a a' b 
     → StoppedText count trace' r a' r' b'
 same_stopped count trace trace' r r' a a' b b' e f k h =
     subst (λ c. StoppedText count trace' r c r' b') e
-    (subst (λ t. StoppedText count t r a r' b') f (subst (λ c. StoppedText count trace r a r' c) k h))
+    (subst (λ t. StoppedText count t r a r' b') f
+    (subst (λ c. StoppedText count trace r a r' c) k h))

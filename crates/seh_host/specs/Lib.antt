@@ -1,5 +1,6 @@
 pub mod Mapping
 pub mod Hosts
+pub mod Names
 pub mod Running
 pub mod Counting
 pub mod Counts

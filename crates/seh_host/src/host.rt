@@ -1,5 +1,6 @@
 ghost use Rattle.std.specs.Prelude.{◌≡◌, ◌-◌, ◌<◌, ◌^◌, None, length};
 ghost use Rattle.eh_tables.specs.Tables.{TablesAreWhole, entries_of};
+ghost use Rattle.virtual_unwind.specs.CallerOf.{name_rows};
 ghost use Rattle.x64_memory.specs.PageMaps.{memory_of};
 ghost use Rattle.x64_decoded.specs.Caches.{IsCoherent};
 ghost use Rattle.host_model.specs.Funclets as spec;
@@ -7,6 +8,7 @@ ghost use Rattle.seh_dispatch.specs.Filters.{Admits};
 
 use eh_tables::Tables;
 use host_model::funclet::Funclet;
+use pe_image::NameTable;
 use seh_dispatch::filter::FuncletFilter;
 use seh_num::end::RunEnd;
 use x64_decoded::cache::InstructionCache;
@@ -14,7 +16,7 @@ use x64_machine::cpu::Cpu;
 use x64_memory::page_map::PageMap;
 
 /// An image that is run: its registers and memory, and how its run ended, once it has; with its
-/// function table, which is read whole, its funclets with their filter, and instructions that were
+/// function table, which is read whole, the names of its functions, its funclets with their filter, and instructions that were
 /// decoded before, which agree with memory while the run lasts.
 #[derive(Drop)]
 pub struct Host<'image, 'bytes> {
@@ -22,11 +24,13 @@ pub struct Host<'image, 'bytes> {
     pub(crate) space: PageMap,
     pub(crate) end: Option<RunEnd>,
     pub(crate) tables: Tables<'image, 'bytes>,
+    pub(crate) names: NameTable<'bytes>,
     pub(crate) filter: FuncletFilter,
     pub(crate) funclets: Vec<Funclet>,
     pub(crate) instructions: InstructionCache,
     pub(crate) events: u64,
     ghost whole: { TablesAreWhole tables },
+    ghost named: { names ≡ name_rows tables.image },
     ghost few: { length funclets.items < 2 ^ 32 - 1 },
     ghost admitted: { Admits filter funclets.items },
     ghost listed: { funclets.items ≡ spec.funclets (entries_of tables) },

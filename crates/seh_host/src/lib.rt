@@ -10,6 +10,7 @@ pub mod counting;
 pub mod host;
 pub mod loading;
 pub mod mapping;
+pub mod names;
 pub mod run;
 
 pub use eh_tables::TableErr;

@@ -1,9 +1,10 @@
 //! From an image to a host.
 
-ghost use Rattle.std.specs.Prelude.{◌≡◌, true, None, Ok, IfOk, IfErr};
+ghost use Rattle.std.specs.Prelude.{◌≡◌, true, None, Some, Ok, IfOk, IfErr};
 ghost use Rattle.eh_tables.specs.Tables.{directory, TablesAreWhole};
 ghost use Rattle.host_model.specs.Loading as model;
 ghost use Rattle.host_model.specs.Loading.{first_cpu, has_place};
+ghost use Rattle.virtual_unwind.specs.CallerOf.{name_rows};
 ghost use Rattle.x64_memory.specs.PageMaps.{memory_of};
 ghost use Rattle.seh_host.specs.Hosts.{IsLoadRefusal};
 ghost use Rattle.seh_host.specs.Running.{running_of, first_running, image_of, event_count};
@@ -14,7 +15,7 @@ use crate::host::Host;
 use crate::mapping::{has_entry, has_place, regions};
 use eh_tables::Tables;
 use host_layout::range::FIRST_STACK;
-use pe_image::ImageView;
+use pe_image::{ImageView, NameTable};
 use seh_dispatch::filter::FuncletFilter;
 use seh_dispatch::gathering::funclets_in;
 use seh_num::extension::wrap;
@@ -59,23 +60,29 @@ fn mapped(alloc: Global, image: &ImageView<'_>) -> Result<PageMap, AllocError>
     Ok(space)
 }
 
-/// The first reason that an image isn't loaded, whose function table was read whole.
-fn refusal(image: &ImageView<'_>) -> Option<LoadErr>
-    ensures first { result ≡ model.later_refusal image.now }
-    ensures place { result ≡ None → has_place image.now ≡ true }
+/// The names of an image's functions, or the first reason that it isn't loaded. Its function table
+/// was read whole.
+fn read_names<'bytes>(image: &ImageView<'bytes>) -> Result<NameTable<'bytes>, LoadErr>
+    ensures read { IfOk result (λ t. t ≡ name_rows image.now) }
+    ensures place { IfOk result (λ _. has_place image.now ≡ true) }
+    ensures accepted { IfOk result (λ _. model.later_refusal image.now ≡ None) }
+    ensures refused { IfErr result (λ e. model.later_refusal image.now ≡ Some e) }
 {
     if !has_place(image) {
-        return Some(LoadErr::Place { base: image.base() });
+        return Err(LoadErr::Place { base: image.base() });
     }
     if let Some(index) = first_unknown(image) {
-        return Some(LoadErr::Import {
+        return Err(LoadErr::Import {
             index: index as u64,
         });
     }
     if !has_entry(image) {
-        return Some(LoadErr::Entry { rva: image.entry() });
+        return Err(LoadErr::Entry { rva: image.entry() });
     }
-    None
+    match image.names() {
+        Ok(names) => Ok(names),
+        Err(e) => Err(LoadErr::Names { row: e.row }),
+    }
 }
 
 /// The function table of an image, read whole.
@@ -101,8 +108,9 @@ fn read_tables<'image, 'bytes>(
 /// It is refused for the first reason that holds, in this order: `Table` where the function table
 /// isn't read whole; `Place` where the base isn't a multiple of 65,536, is below 4 GiB, the image's
 /// size is above 256 MiB or its end is above 2^47; `Import` where an import names none of
-/// `RaiseException`, `__C_specific_handler`, `_local_unwind`, `protect` and `put`, whatever its
-/// library is called; `Entry` where the entry point's page isn't executable.
+/// `RaiseException`, `__C_specific_handler`, `_local_unwind`, `protect`, `put` and `walk`, whatever
+/// its library is called; `Entry` where the entry point's page isn't executable; `Names` where the
+/// table of names isn't read whole.
 pub fn load<'image, 'bytes>(
     alloc: Global,
     image: &'image ImageView<'bytes>,
@@ -115,9 +123,7 @@ pub fn load<'image, 'bytes>(
     ensures refused { IfErr result (λ e. IsLoadRefusal image.now e) }
 {
     let tables = read_tables(alloc, image)?;
-    if let Some(refusal) = refusal(image) {
-        return Err(refusal);
-    }
+    let names = read_names(image)?;
     let Ok(space) = mapped(alloc, image) else {
         return Err(LoadErr::Memory);
     };
@@ -135,6 +141,7 @@ pub fn load<'image, 'bytes>(
         space,
         end: None,
         tables,
+        names,
         filter,
         funclets,
         instructions,

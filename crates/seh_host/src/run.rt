@@ -3,10 +3,10 @@
 ghost use Rattle.std.specs.Prelude.{◌≡◌, ◌≤◌, ◌+◌, ℕ, List, [], ◌∷◌, false, IfOk, IfErr, OnOk, OnErr, length};
 ghost use Rattle.seh_num.specs.declared.event.Event.{Event as Event'};
 ghost use Rattle.seh_io.specs.Streams.{Rose, Grew, HasCount};
-ghost use Rattle.seh_io.specs.Names.{no_names};
 ghost use Rattle.seh_io.specs.Text.{text};
 ghost use Rattle.seh_io.specs.Writer.{TookPart, writer_of};
 ghost use Rattle.host_model.specs.HostStep as model;
+ghost use Rattle.seh_host.specs.Names.{named_by};
 ghost use Rattle.seh_host.specs.Running.{running_of, after_turn, shown_of, run_of, made, shown_made, image_of, event_count};
 ghost use Rattle.seh_host.specs.Counts.{CountedTurns};
 ghost use Rattle.seh_host.specs.Writing.{StoppedText, Written, run_text};
@@ -15,8 +15,8 @@ ghost use Rattle.seh_host.specs.Turns.{answer_of, end_within, taken_before};
 use crate::RunEnd;
 use crate::counting::Counting;
 use crate::host::{Host, Turn};
+use crate::names::ImageNames;
 use seh_dispatch::advancing::advance;
-use seh_io::names::NoNames;
 use seh_io::receiver::{Events, Lines};
 use seh_io::sink::Sink;
 
@@ -38,6 +38,7 @@ pub fn turn<V: Events>(host: &mut Host<'_, '_>, to: &mut V) -> Turn
     let mut counting = Counting::new(to, host.events);
     host.end = advance(
         &host.tables,
+        &host.names,
         &host.filter,
         &host.funclets,
         &mut host.instructions,
@@ -51,8 +52,13 @@ pub fn turn<V: Events>(host: &mut Host<'_, '_>, to: &mut V) -> Turn
 
 /// Makes turns until the run has ended, at most so many, and writes the line of each event. It
 /// stops at the first line that can't be written.
-fn write_turns<O: Sink>(host: &mut Host<'_, '_>, turns: u64, lines: &mut Lines<'_, O>)
-    requires { lines.old.failed ≡ false }
+fn write_turns<O: Sink>(
+    host: &mut Host<'_, '_>,
+    turns: u64,
+    lines: &mut Lines<'_, O, ImageNames<'_>>,
+)
+    requires whole { lines.old.failed ≡ false }
+    requires named { lines.old.names.now.table ≡ (running_of host.old).functions.rows }
     ensures image { image_of host.new ≡ image_of host.old }
     ensures same_reference { lines.new.sink.ghost_name ≡ lines.old.sink.ghost_name }
     ensures trace { lines.new.trace ≡ lines.old.trace }
@@ -85,7 +91,8 @@ pub enum RunErr {
 
 /// Runs a host for at most so many turns, and writes the lines of what it shows and of its end.
 ///
-/// With `trace` each event has its line, else what is put alone. The last line is that of the end
+/// With `trace` each event has its line, else what is put, and each function of a printed walk that
+/// has a name in the image. The last line is that of the end
 /// that is answered. The host is then as its turns left it, so that a later run begins there; one
 /// that has ended answers the same end. After `Write` the sink has taken a part of the text from
 /// the front, of `taken` bytes (a count that stays at 2^64 - 1). No turn was made after the one
@@ -99,7 +106,8 @@ pub fn run<O: Sink>(
 ) -> Result<RunEnd, RunErr>
     ensures end { IfOk result (λ e. e ≡ end_within turns (run_of turns (running_of host.old)).end) }
     ensures text { IfOk result (λ e. Grew (O.taken sink.old)
-        (text (run_of turns (running_of host.old)).events e trace no_names) (O.taken sink.new)) }
+        (text (run_of turns (running_of host.old)).events e trace
+        (named_by (running_of host.old).functions.rows)) (O.taken sink.new)) }
     ensures part { IfErr result (λ e. TookPart (O.taken sink.old)
         (run_text turns trace (running_of host.old)) (O.taken sink.new) (taken_before e)) }
     ensures host { IfOk result (λ _. running_of host.new ≡ made turns (running_of host.old)) }
@@ -114,7 +122,10 @@ pub fn run<O: Sink>(
         (event_count host.old + length (run_of turns (running_of host.old)).events)
         (event_count host.new)) }
 {
-    let mut lines = Lines::new(sink, trace, &NoNames);
+    let names = ImageNames {
+        table: host.names.copied(),
+    };
+    let mut lines = Lines::new(sink, trace, &names);
     write_turns(host, turns, &mut lines);
     let end = host.end.unwrap_or(RunEnd::OutOfTurns { turns });
     match lines.end(&end) {

@@ -27,6 +27,7 @@ scope_of f = function_scope (own_locals f) (1 + statements_size f.body + 1)
 
 abbrev pub lowered_function : Function → LinearFunction
 lowered_function f = record {
+  name = f.name;
   parameters = length f.parameters;
   body =
       body_with (all_locals f) (Separator ∷ statements_code (scope_of f) f.body 1 ++ constant 0 0

@@ -77,7 +77,10 @@ fn lower_function(alloc: Global, f: &Function) -> Result<IrFunction, AllocError>
     let mut regions = Vec::new(alloc);
     statements_regions(&mut regions, &f.body, 1)?;
     let body = body_with(locals, code, regions)?;
+    let mut name = Vec::new(alloc);
+    name.extend_from_slice(&f.name)?;
     Ok(IrFunction {
+        name,
         parameters: f.parameters.len() as u64,
         body,
     })

@@ -27,7 +27,7 @@ pub enum Event {
     },
     /// An `__except` block took over for an exception.
     Except(Code),
-    /// A printed walk came to an activation of the function of this number. Numbers begin with 1, in
-    /// the order of the program's text.
+    /// A printed walk came to an activation of the function of this number. Numbers begin with 1,
+    /// in the order of the program's text.
     At(u32),
 }

@@ -5,7 +5,8 @@ use Rattle.virtual_unwind.specs.Contexts.{rsp}
 use Rattle.virtual_unwind.specs.CallerOf.{Functions}
 use Rattle.seh_records.specs.Laws.{AreBytes}
 use Rattle.seh_walk.specs.declared.walk.WalkState.{WalkState}
-use Rattle.seh_walk.specs.Walk.{Visited, Over, Past, Frame, Broken, visited}
+use Rattle.seh_walk.specs.Walk.{Visited, Over, Past, Frame, Broken, visited, steps}
+use Rattle.seh_walk.specs.Controls.{controls, controls_from}
 
 -- a walk can continue from there
 abbrev pub ContinuesAt : Visited → WalkState → Type 0
@@ -25,3 +26,11 @@ abbrev pub WalksStayBelow : Type 0
 WalksStayBelow =
     (t : Functions) (m : Memory) (w u : WalkState) → AreBytes m.byte → rsp w.context < 2 ^ 64
     → ContinuesAt (visited t m w) u → rsp u.context < 2 ^ 64
+
+-- the control addresses of a walk are its own one, at a frame, and those of the walk that continues
+-- there: no bound cuts them off
+abbrev pub ControlsAreOfTheWalk : Type 0
+ControlsAreOfTheWalk =
+    (t : Functions) (m : Memory) (w : WalkState) → AreBytes m.byte → 0 < rsp w.context
+    → rsp w.context < 2 ^ 64
+    → controls steps t m w ≡ controls_from (controls steps t m) w (visited t m w)

@@ -102,8 +102,8 @@ pub fn first_searched(
 
 /// The first row, from an index on, whose `__finally` block an unwinding runs at a frame whose
 /// entry was found: in the body of an entry with UNW_FLAG_UHANDLER, a row that holds the address
-/// and is that of a `__finally` block. In the target's frame no row is asked from the first on that holds
-/// the target or lands there.
+/// and is that of a `__finally` block. In the target's frame no row is asked from the first on that
+/// holds the target or lands there.
 pub fn first_unwound(
     found: Option<&FunctionEntry>,
     in_body: bool,

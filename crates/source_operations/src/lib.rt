@@ -3,7 +3,8 @@
 //! `pure` has the results without faults, `performing` division, loads and stores, with their
 //! faults, and `memory` the memory of a program's globals.
 //!
-//! Proved: each is its definition (crates c_operations and source_meaning), with its faults. Begin with
+//! Proved: each is its definition (crates c_operations and source_meaning), with its faults. Begin
+//! with
 //! `pure`.
 #![tactic(auto)]
 

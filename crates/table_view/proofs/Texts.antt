@@ -2,6 +2,7 @@
 use Rattle.std.proofs.Common.{◌≡◌, ℕ, zero, suc, ◌+◌, ◌<◌, ◌≤◌, List, [], ◌++◌, length, drop, get_or, drop-cons, Ok, Err, false, subst, sym, ap, ◌∙◌, arith}
 use Rattle.std.proofs.lemmas.List.{drop_all}
 use Rattle.pe_image.specs.Image.{Image}
+use Rattle.pe_image.specs.NameRows.{NameRow, names_of, rows_read}
 use Rattle.eh_tables.specs.declared.range.RuntimeFunction.{RuntimeFunction}
 use Rattle.eh_tables.specs.declared.refusal.TableErr.{TableErr}
 use Rattle.eh_tables.specs.Tables.{Tables, entry_at, no_range, end_before, directory}
@@ -35,33 +36,38 @@ end_next rs index zero e = absurd (omega arith)
 end_next rs index (suc k) e = let h : k ≡ index = omega arith in
     ap (λ n. (get_or rs n no_range).end) h
 
-pub entry_first : (t : Tables) (index : ℕ) → index < length t.ranges
-    → all_lines t.image index (end_before t.ranges index) (drop index t.ranges)
-    ≡ entry_lines index (entry_at t index) ++ all_lines t.image (index + 1)
+pub entry_first : (names : List NameRow) (t : Tables) (index : ℕ) → index < length t.ranges
+    → all_lines names t.image index (end_before t.ranges index) (drop index t.ranges)
+    ≡ entry_lines names index (entry_at t index) ++ all_lines names t.image (index + 1)
     (end_before t.ranges (index + 1)) (drop (index + 1) t.ranges)
-entry_first t index lt =
+entry_first names t index lt =
     let e : suc index ≡ index + 1 = omega arith in
     let r = get_or t.ranges index no_range in
-    ap (all_lines t.image index (end_before t.ranges index)) (drop-cons t.ranges index no_range lt)
-    ∙ ap (λ n. entry_lines index (entry_at t index)
-    ++ all_lines t.image (index + 1) r.end (drop n t.ranges)) e
-    ∙ ap (λ n. entry_lines index (entry_at t index)
-    ++ all_lines t.image (index + 1) n (drop (index + 1) t.ranges))
+    ap (all_lines names t.image index (end_before t.ranges index))
+    (drop-cons t.ranges index no_range lt)
+    ∙ ap (λ n. entry_lines names index (entry_at t index)
+    ++ all_lines names t.image (index + 1) r.end (drop n t.ranges)) e
+    ∙ ap (λ n. entry_lines names index (entry_at t index)
+    ++ all_lines names t.image (index + 1) n (drop (index + 1) t.ranges))
     (sym (end_next t.ranges index (index + 1) (omega arith)))
 
-pub entries_over : (t : Tables) (index : ℕ) → length t.ranges ≤ index
-    → all_lines t.image index (end_before t.ranges index) (drop index t.ranges) ≡ []
-entries_over t index le = ap (all_lines t.image index (end_before t.ranges index))
+pub entries_over : (names : List NameRow) (t : Tables) (index : ℕ) → length t.ranges ≤ index
+    → all_lines names t.image index (end_before t.ranges index) (drop index t.ranges) ≡ []
+entries_over names t index le = ap (all_lines names t.image index (end_before t.ranges index))
     (drop_all index t.ranges le)
 
-pub table_read : (t : Tables) (image : Image) → directory image ≡ Ok t.ranges → t.image ≡ image
-    → all_lines t.image 0 0 t.ranges ++ count_line (length t.ranges) ≡ view image
-table_read t image is same = ap (λ (i : Image). all_lines i 0 0 t.ranges
-    ++ count_line (length t.ranges)) same ∙ ap (table_lines image) (sym is)
+pub table_read : (names : List NameRow) (t : Tables) (image : Image)
+    → names ≡ rows_read (names_of image) → directory image ≡ Ok t.ranges → t.image ≡ image
+    → all_lines names t.image 0 0 t.ranges ++ count_line (length t.ranges) ≡ view image
+table_read names t image named is same =
+    ap (λ (i : Image). all_lines names i 0 0 t.ranges ++ count_line (length t.ranges)) same
+    ∙ ap (λ (rs : List NameRow). all_lines rs image 0 0 t.ranges
+    ++ count_line (length t.ranges)) named
+    ∙ ap (table_lines (rows_read (names_of image)) image) (sym is)
 
 pub table_refused : (image : Image) (e : TableErr) → directory image ≡ Err e
-    → table_lines image (Err e) ≡ view image
-table_refused image e is = ap (table_lines image) (sym is)
+    → table_lines (rows_read (names_of image)) image (Err e) ≡ view image
+table_refused image e is = ap (table_lines (rows_read (names_of image)) image) (sym is)
 
 -- ---- what became of the whole
 

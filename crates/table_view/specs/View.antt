@@ -6,6 +6,7 @@ use Rattle.std.specs.Fmt.{decimal}
 use Rattle.hex.specs.Hex.{encode_lower}
 use Rattle.seh_io.specs.Text.{hexadecimal, ended}
 use Rattle.pe_image.specs.Image.{Image}
+use Rattle.pe_image.specs.NameRows.{NameRow, names_of, rows_read, name_at_begin}
 use Rattle.eh_tables.specs.declared.code.UnwindOperation.{UnwindOperation}
 use Rattle.eh_tables.specs.declared.code.UnwindOperation.TheVariants.{Push, Allocate, SetFrame, Save, SaveVector, MachineFrame}
 use Rattle.eh_tables.specs.declared.code.UnwindCode.{UnwindCode}
@@ -166,23 +167,31 @@ refused_table_line e = ended (codes "refused table " ++ directory_text e)
 
 -- ---- the view
 
--- an entry's lines, or the one of its refusal
-abbrev pub entry_lines : ℕ → Result Entry TableErr → List ℕ
-entry_lines index (Ok e) = entry_line index e.range ++ info_lines e.info
-entry_lines index (Err e) = refused_line index e
+-- the name of the function whose code begins where the entry does
+abbrev pub name_line : Option (List ℕ) → List ℕ
+name_line None = []
+name_line (Some name) = codes " name " ++ ended name
+
+-- an entry's lines, of which its name in a table of names is the last, or the one of its refusal
+abbrev pub entry_lines : List NameRow → ℕ → Result Entry TableErr → List ℕ
+entry_lines names index (Ok e) =
+    entry_line index e.range ++ info_lines e.info ++ name_line (name_at_begin e.range.begin names)
+entry_lines names index (Err e) = refused_line index e
 
 -- from an index on, after an entry that ends there
-abbrev pub all_lines : Image → ℕ → ℕ → List RuntimeFunction → List ℕ
-all_lines image index last [] = []
-all_lines image index last (r ∷ rs) =
-    entry_lines index (entry image index last r) ++ all_lines image (index + 1) r.end rs
+abbrev pub all_lines : List NameRow → Image → ℕ → ℕ → List RuntimeFunction → List ℕ
+all_lines names image index last [] = []
+all_lines names image index last (r ∷ rs) =
+    entry_lines names index (entry image index last r)
+    ++ all_lines names image (index + 1) r.end rs
 
 abbrev pub count_line : ℕ → List ℕ
 count_line n = ended (codes "entries " ++ decimal n)
 
-abbrev pub table_lines : Image → Result (List RuntimeFunction) TableErr → List ℕ
-table_lines image (Ok rs) = all_lines image 0 0 rs ++ count_line (length rs)
-table_lines image (Err e) = refused_table_line e ++ count_line 0
+abbrev pub table_lines : List NameRow → Image → Result (List RuntimeFunction) TableErr → List ℕ
+table_lines names image (Ok rs) = all_lines names image 0 0 rs ++ count_line (length rs)
+table_lines names image (Err e) = refused_table_line e ++ count_line 0
 
+-- without names where the table of names is refused
 abbrev pub view : Image → List ℕ
-view image = table_lines image (directory image)
+view image = table_lines (rows_read (names_of image)) image (directory image)

@@ -1,8 +1,9 @@
 //! The view, written.
 
-ghost use Rattle.std.specs.Prelude.{◌≡◌, ◌≤◌, ◌<◌, ◌*◌, ◌++◌, length, true, false, OnOk, OnErr, IfErr};
+ghost use Rattle.std.specs.Prelude.{◌≡◌, ◌≤◌, ◌<◌, ◌*◌, ◌++◌, length, Some, true, false, OnOk, OnErr, IfErr};
 ghost use Rattle.std.specs.List.{flat_map};
 ghost use Rattle.hex.specs.Hex.{encode_lower};
+ghost use Rattle.pe_image.specs.NameRows.{names_of, name_at_begin, rows_read};
 ghost use Rattle.seh_io.specs.Streams.{Rose, Grew};
 ghost use Rattle.seh_io.specs.Writer.{PutText, TookPart};
 ghost use Rattle.table_view.specs.View as spec;
@@ -14,7 +15,7 @@ use crate::row::{
 };
 use arrayvec::ArrayVec;
 use eh_tables::{Entry, Info, MOST_INFO_BYTES, TableErr, Tables};
-use pe_image::ImageView;
+use pe_image::{ImageView, NameTable};
 use seh_io::line::Line;
 use seh_io::names::NoNames;
 use seh_io::receiver::Lines;
@@ -121,28 +122,69 @@ fn put_info<O: Sink>(out: &mut Lines<'_, O>, info: &Info<'_>)
     put_scopes(out, info);
 }
 
-/// The lines of an entry, or the one of its refusal.
-fn put_entry<O: Sink>(out: &mut Lines<'_, O>, index: u64, entry: &Result<Entry<'_>, TableErr>)
+/// The line of a name.
+fn put_name<O: Sink>(out: &mut Lines<'_, O>, name: &[u8])
     ensures same_reference { out.new.sink.ghost_name ≡ out.old.sink.ghost_name }
-    ensures wrote { PutText O.taken O.faults out.old (spec.entry_lines index entry.now) out.new }
+    ensures wrote { PutText O.taken O.faults out.old (spec.name_line (Some name.now)) out.new }
+{
+    out.put(b" name ");
+    out.put(name);
+    out.put(b"\n");
+}
+
+/// The line of the name in the row that begins at an address, if there is one. The rows are searched
+/// by halves.
+fn put_name_at<O: Sink>(out: &mut Lines<'_, O>, names: &NameTable<'_>, rva: u32)
+    ensures same_reference { out.new.sink.ghost_name ≡ out.old.sink.ghost_name }
+    ensures wrote { PutText O.taken O.faults out.old
+        (spec.name_line (name_at_begin rva names.now)) out.new }
+{
+    match names.name_at_begin(rva as u64) {
+        Some(name) => put_name(out, name),
+        None => {}
+    }
+}
+
+/// The lines of an entry, or the one of its refusal.
+fn put_entry<O: Sink>(
+    out: &mut Lines<'_, O>,
+    names: &NameTable<'_>,
+    index: u64,
+    entry: &Result<Entry<'_>, TableErr>,
+)
+    ensures same_reference { out.new.sink.ghost_name ≡ out.old.sink.ghost_name }
+    ensures wrote { PutText O.taken O.faults out.old
+        (spec.entry_lines names.now index entry.now) out.new }
 {
     match entry {
         Ok(entry) => {
-            out.put(entry_line(index, entry.range()).as_bytes());
+            let range = entry.range();
+            out.put(entry_line(index, range).as_bytes());
             put_info(out, entry.info());
+            put_name_at(out, names, range.begin);
         }
         Err(error) => out.put(refused_line(index, error).as_bytes()),
     }
 }
 
 /// The lines of all entries.
-fn put_entries<O: Sink>(out: &mut Lines<'_, O>, tables: &Tables<'_, '_>)
+fn put_entries<O: Sink>(out: &mut Lines<'_, O>, names: &NameTable<'_>, tables: &Tables<'_, '_>)
     ensures same_reference { out.new.sink.ghost_name ≡ out.old.sink.ghost_name }
     ensures wrote { PutText O.taken O.faults out.old
-        (spec.all_lines tables.now.image 0 0 tables.now.ranges) out.new }
+        (spec.all_lines names.now tables.now.image 0 0 tables.now.ranges) out.new }
 {
     for index in 0..tables.len() {
-        put_entry(out, index, &tables.entry(index));
+        put_entry(out, names, index, &tables.entry(index));
+    }
+}
+
+/// The names of an image's functions; none where the table of names is refused.
+fn names<'a>(image: &ImageView<'a>) -> NameTable<'a>
+    ensures { result ≡ rows_read (names_of image.now) }
+{
+    match image.names() {
+        Ok(names) => names,
+        Err(_) => NameTable::empty(),
     }
 }
 
@@ -151,9 +193,10 @@ fn put_table<O: Sink>(out: &mut Lines<'_, O>, image: &ImageView<'_>)
     ensures same_reference { out.new.sink.ghost_name ≡ out.old.sink.ghost_name }
     ensures wrote { PutText O.taken O.faults out.old (spec.view image.now) out.new }
 {
+    let names = names(image);
     match Tables::of(image) {
         Ok(tables) => {
-            put_entries(out, &tables);
+            put_entries(out, &names, &tables);
             out.put(count_line(tables.len()).as_bytes());
         }
         Err(error) => {
@@ -164,7 +207,8 @@ fn put_table<O: Sink>(out: &mut Lines<'_, O>, image: &ImageView<'_>)
 }
 
 /// Writes the view of an image's function table, line by line. An entry that is refused is one
-/// line.
+/// line. An entry that begins where a row of the image's table of names does has its name; where
+/// that table is refused no entry has one.
 ///
 /// After a fault the sink has taken a part of the text from the front, of `taken` bytes; that count
 /// stays at 2^64 - 1.

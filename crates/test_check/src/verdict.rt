@@ -1,7 +1,7 @@
 //! What is reported of a text, and tables of texts.
 //!
-//! A table is one text. Each line after its first is a row, `TEXT => VERDICT`: a program's text, and
-//! what is reported of it: `accepted`, or the rule that it breaks and the place.
+//! A table is one text. Each line after its first is a row, `TEXT => VERDICT`: a program's text,
+//! and what is reported of it: `accepted`, or the rule that it breaks and the place.
 
 ghost use Rattle.c_lex.specs.Text.{IsTokens};
 

@@ -1,8 +1,9 @@
-//! What the program answers for words and an input, over memory, and whether it is what a row wants.
+//! What the program answers for words and an input, over memory, and whether it is what a row
+//! wants.
 //!
 //! What a row wants is `CODE LINES ! LINES`: the status as the number that the process ends with,
-//! the lines of `out`, and those of `err`, which are left out where there are none. Lines are joined
-//! by ` / ` or by line feeds; one with `~` at its end has no line feed.
+//! the lines of `out`, and those of `err`, which are left out where there are none. Lines are
+//! joined by ` / ` or by line feeds; one with `~` at its end has no line feed.
 
 use seh::top::top;
 use seh_io::plain::{SliceSource, VecSink};

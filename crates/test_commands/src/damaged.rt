@@ -8,8 +8,8 @@ use std::process::Abort;
 /// A row is `NAME | WORDS | INPUT | WANTED`, where what comes after the name is as in other tables.
 /// Entries and infos: of an image whose infos begin at 272 of the file and whose entries at 296, a
 /// field is changed; `load Entry` is what follows where the table is read whole. Records: one has
-/// the byte of its mark or its kind changed, and its RSP that of its own address; the frame to which
-/// is unwound is at address 8; a jump target is in `.data`.
+/// the byte of its mark or its kind changed, and its RSP that of its own address; the frame to
+/// which is unwound is at address 8; a jump target is in `.data`.
 const DAMAGED: &str = r"
 equal_begins | exec | tables @ file+308 00 | 3 ! table Unsorted 1
 empty_range | exec | tables @ file+300 00 | 3 ! table EmptyRange 0
@@ -41,8 +41,8 @@ fn damaged_images_are_refused_or_stop(rt: HostRuntime) {
 }
 
 /// To which lengths the image is cut, from the first to the last one, and the refusal. The headers
-/// end at 528, those of five sections counted; `.data` has no bytes in the file, and the others have
-/// theirs from 1024 on.
+/// end at 528, those of five sections counted; `.data` has no bytes in the file, and the others
+/// have theirs from 1024 on.
 const CUT: &str = r"
 headers_cut | 0 63 | 3 ! image Truncated 0
 headers_cut | 64 87 | 3 ! image Truncated 64

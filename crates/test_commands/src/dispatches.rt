@@ -18,8 +18,8 @@ fn dispatches_are_shown(rt: HostRuntime) {
     all_answer(&rt, rt.alloc(), TRACES);
 }
 
-/// The record of the raise is at 0x707FF990, and the walk that meets it can't continue; no record is
-/// where the code says that one is; one has no room above the stack's end, in an image with a
+/// The record of the raise is at 0x707FF990, and the walk that meets it can't continue; no record
+/// is where the code says that one is; one has no room above the stack's end, in an image with a
 /// function table and in one without; and the one scope record's jump target, which in a `main`
 /// that is the second function comes after 8 bytes of the first info, 12 of the second and the
 /// table's count, is in `.data`.

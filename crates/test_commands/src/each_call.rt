@@ -52,8 +52,8 @@ fn reads_fail(rt: &impl Abort, alloc: Global, command: &str, input: &[u8], most:
     }
 }
 
-/// The same of `out`: it has taken the front of what is written where no call fails; where each call
-/// takes one byte, as many bytes as there were calls before.
+/// The same of `out`: it has taken the front of what is written where no call fails; where each
+/// call takes one byte, as many bytes as there were calls before.
 fn writes_fail(rt: &impl Abort, alloc: Global, command: &str, input: &[u8], most: usize) {
     let none = honest(most);
     let whole = call_with_failures(rt, alloc, command, input, none);

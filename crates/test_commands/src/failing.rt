@@ -1,6 +1,7 @@
 //! Faults of the streams.
 //!
-//! A row is `COMMAND READ WRITE LINE MOST | INPUT | WANTED`: the call of the source, of `out` and of
+//! A row is `COMMAND READ WRITE LINE MOST | INPUT | WANTED`: the call of the source, of `out` and
+//! of
 //! `err` that fails, 0 where none does, and how many bytes each call of all three moves.
 
 use crate::calls::fits;
@@ -87,8 +88,8 @@ fn calls_fail(rt: HostRuntime) {
     all_answer(&rt, rt.alloc(), ROWS);
 }
 
-/// Each call of `out` that takes one byte fails in turn: what was taken are the bytes before it, and
-/// nothing else is tried.
+/// Each call of `out` that takes one byte fails in turn: what was taken are the bytes before it,
+/// and nothing else is tried.
 fn fails_at_each(rt: &impl Abort, alloc: Global, command: &str, text: &[u8], whole: &[u8]) {
     for taken in 0..whole.len() {
         let calls = Calls {

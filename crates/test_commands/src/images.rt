@@ -2,10 +2,10 @@
 
 use crate::inputs::all_answer;
 
-/// An empty file, one of zeros, and an image without its last byte. Then one field is wrong, and the
-/// others are right: the base of `load Place` is no multiple of 65,536, below 4 GiB, and at 2^47; an
-/// image is a page more than 256 MiB; an entry point is in no section, and in one that isn't
-/// executable. In the second row of fields the headers end a byte after the file.
+/// An empty file, one of zeros, and an image without its last byte. Then one field is wrong, and
+/// the others are right: the base of `load Place` is no multiple of 65,536, below 4 GiB, and at
+/// 2^47; an image is a page more than 256 MiB; an entry point is in no section, and in one that
+/// isn't executable. In the second row of fields the headers end a byte after the file.
 const FIELDS: &str = r"
 exec | bytes | 3 ! image Truncated 0
 exec | bytes 64*00 | 3 ! image NotPe 0
@@ -35,8 +35,8 @@ fn each_check_refuses(rt: HostRuntime) {
     all_answer(&rt, rt.alloc(), FIELDS);
 }
 
-/// A library more has its slot over the first one, or over halves of the first two. Then one byte of
-/// the names, which begin at 448 with 24 bytes for each, is changed; and the first entry of the
+/// A library more has its slot over the first one, or over halves of the first two. Then one byte
+/// of the names, which begin at 448 with 24 bytes for each, is changed; and the first entry of the
 /// lookup table, which is at 336, is an ordinal.
 const IMPORTS: &str = r"
 exec | importing | 0 2146435120 / 2146435136 / 2146435152 / 2146435104 / 2146435088 / exit 7
@@ -53,6 +53,21 @@ exec | importing @ file+343 80 | 3 ! image ImportBad 0
 #[test]
 fn imports_are_bound_or_refused(rt: HostRuntime) {
     all_answer(&rt, rt.alloc(), IMPORTS);
+}
+
+/// The only section is called `.sehname`: it has two bytes, which are no count of rows; or its code
+/// is a count of more rows than are stored, and another reason goes before. In the last row its name
+/// has seven of the letters.
+const NAMES: &str = r"
+exec | fourteen @ sections+0 2E 73 65 68 6E 61 6D 65 @ sections+8 02 00 | 3 ! load Names 0
+exec | fourteen @ sections+0 2E 73 65 68 6E 61 6D 65 | 3 ! load Names 0
+exec | fourteen @ sections+0 2E 73 65 68 6E 61 6D 65 @ optional+17 20 | 3 ! load Entry 8192
+exec | fourteen @ sections+0 2E 73 65 68 6E 61 6D 00 | 0 14 / exit 7
+";
+
+#[test]
+fn short_name_section(rt: HostRuntime) {
+    all_answer(&rt, rt.alloc(), NAMES);
 }
 
 /// Of an image that is refused for four reasons one is mended after another. Then the infos, which

@@ -2,11 +2,12 @@
 //!
 //! A row is `WORDS | INPUT | WANTED`. An input is `text` with a text of C, `compiled` with a text,
 //! for the image of it, `bytes` with bytes, `code` with the bytes of the code of an image of one
-//! section, `infos` with the bytes of unwind infos, which are at 0x3000, and `chain` with the number
-//! of such infos, of which each but the last is chained to the next one; or the name of an image. After it come changes, each after ` @ `: `cut` with the length
-//! to which it is cut, or a place `PART+DISTANCE`, the distance in decimal, and the bytes that are
-//! put there. A word of bytes is two digits, `TIMES*BYTE`, or a name after `'`; what comes after any
-//! other word on a line isn't read.
+//! section, `infos` with the bytes of unwind infos, which are at 0x3000, and `chain` with the
+//! number of such infos, of which each but the last is chained to the next one; or the name of an
+//! image. After it come changes, each after ` @ `: `cut` with the length to which it is cut, or a
+//! place `PART+DISTANCE`, the distance in decimal, and the bytes that are put there. A word of
+//! bytes is two digits, `TIMES*BYTE`, or a name after `'`; what comes after any other word on a
+//! line isn't read.
 
 use crate::calls::{answers, compiled};
 use std::alloc::{AllocError, Global};
@@ -140,7 +141,8 @@ fn spelled(rt: &impl Abort, alloc: Global, text: &str) -> Vec<u8> {
     bytes
 }
 
-/// So many infos, of which each but the last is chained to the next one. Each of those has 16 bytes.
+/// So many infos, of which each but the last is chained to the next one. Each of those has 16
+/// bytes.
 fn chain(rt: &impl Abort, alloc: Global, count: &str) -> Vec<u8> {
     let mut infos = Vec::new(alloc);
     for next in 1..count.parse::<u8>().unwrap_or(1) {

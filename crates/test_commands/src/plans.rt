@@ -6,8 +6,8 @@ use seh_io::planned::{MemSink, MemSource, Plan};
 use std::alloc::Global;
 use std::process::Abort;
 
-/// Which call of the source, of `out` and of `err` fails, 0 where none does, and how many bytes each
-/// call moves at most.
+/// Which call of the source, of `out` and of `err` fails, 0 where none does, and how many bytes
+/// each call moves at most.
 #[derive(Clone, Copy)]
 pub struct Calls {
     pub read: u64,

@@ -5,10 +5,11 @@ use crate::inputs::all_answer;
 use std::alloc::Global;
 use std::process::Abort;
 
-/// The infos of the first rows are of a prologue that pushes RBX and takes 32 bytes of stack; of one
-/// whose allocation has no room for its operand; and one of version 2. In the last row `main` has 40
-/// bytes, after five thunks of 6 and the 21 of `__chkstk`. Its prologue is `sub rsp, 40`, of 4 bytes:
-/// home space and a temporary (UWOP_ALLOC_SMALL with 40 / 8 - 1). A `nop` of one byte is after it.
+/// The infos of the first rows are of a prologue that pushes RBX and takes 32 bytes of stack; of
+/// one whose allocation has no room for its operand; and one of version 2. In the last row `main`
+/// has 40 bytes, after five thunks of 6 and the 21 of `__chkstk`. Its prologue is `sub rsp, 40`, of
+/// 4 bytes: home space and a temporary (UWOP_ALLOC_SMALL with 40 / 8 - 1). A `nop` of one byte is
+/// after it.
 const VIEWS: &str = r"
 show | tables @ optional+140 24 @ file+272 01 05 02 00 05 32 01 30 01 07 01 00 07 01 00 00 02 7*00 | 0 entry 0 00002000 0000201F 00003000 /  bytes 0105020005320130 /  info prolog 5 flags 0 frame - 0 /  code 5 alloc 32 /  code 1 push rbx / refused 1 Op 0 / refused 2 Version 2 / entries 3
 show | tables @ optional+140 00 @ file+272 01 05 02 00 05 32 01 30 01 07 01 00 07 01 00 00 02 7*00 | 0 entries 0

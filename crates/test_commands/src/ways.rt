@@ -1,7 +1,7 @@
 //! The ways to show what a text does, and the rows that each has to show.
 //!
-//! The tables are those of `test_texts`. Without `--trace` the lines of the numbers and of the end are
-//! left of what a row wants.
+//! The tables are those of `test_texts`. Without `--trace` the lines of the numbers and of the end
+//! are left of what a row wants.
 
 use crate::calls::{answers, compiled, says, words_of};
 use std::alloc::Global;

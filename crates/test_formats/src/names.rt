@@ -1,4 +1,5 @@
-//! Tables of names: which row is refused, the row that holds an address, the name of a number.
+//! Tables of names: which row is refused, the row that holds an address, the name of a number; and
+//! the table of an image.
 
 use crate::checks::{is_refused, shows};
 use crate::rows::{bytes_of, number};
@@ -7,6 +8,7 @@ use std::alloc::Global;
 use std::process::Abort;
 use test_tables::one_section::{PLAIN, image};
 use test_tables::rows::columns_of;
+use test_tables::tables::put;
 
 /// What a section at 0x1000 stores of a table, and the first row that isn't right.
 const REFUSED: &str = r"
@@ -119,4 +121,44 @@ fn first_name_of_a_number(rt: HostRuntime) {
     let none = NameTable::empty();
     shows(&rt, rt.alloc(), &none.row(16), "None", "no rows");
     shows(&rt, rt.alloc(), &none.name(1), "None", "no rows");
+}
+
+/// Where the header of the only section is, with its name in front.
+const SECTION_HEADER: usize = 200;
+
+/// Addresses, and the name of the row that begins at each of them.
+const BEGUN: &str = r"
+0F | None
+10 | Some([102])
+11 | None
+20 | Some([103])
+28 | None
+";
+
+#[test]
+fn names_of_an_image(rt: HostRuntime) {
+    let mut file = file_of(&rt, rt.alloc(), &[FIRST, SECOND, NAMES]);
+    put(&mut file, SECTION_HEADER, b".sehname");
+    let view = ImageView::read(rt.alloc(), &file).expect(&rt, "an image");
+    let table = view.names().expect(&rt, "a table");
+    has_names(&rt, rt.alloc(), &table, 1);
+    for row in BEGUN.lines().skip(1) {
+        let columns = columns_of(row);
+        let name = table.name_at_begin(number(&rt, columns[0]));
+        shows(&rt, rt.alloc(), &name, columns[1], row);
+    }
+}
+
+#[test]
+fn image_without_names(rt: HostRuntime) {
+    let mut file = file_of(&rt, rt.alloc(), &[FIRST, OVERLAPPING, NAMES]);
+    let view = ImageView::read(rt.alloc(), &file).expect(&rt, "an image");
+    let none = view.names().expect(&rt, "no table");
+    shows(&rt, rt.alloc(), &none.row(16), "None", "no rows");
+    drop(none);
+    drop(view);
+    put(&mut file, SECTION_HEADER, b".sehname");
+    let named = ImageView::read(rt.alloc(), &file).expect(&rt, "an image");
+    let found = named.names().err();
+    is_refused(&rt, rt.alloc(), &found, "NameErr { row: 1 }", OVERLAPPING);
 }

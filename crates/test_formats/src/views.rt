@@ -7,14 +7,14 @@ use std::alloc::Global;
 use std::process::Abort;
 use table_view::view;
 use test_tables::rows::columns_of;
-use test_tables::tables::{ENTRY, table_image};
+use test_tables::tables::{ENTRY, put, table_image};
 
 /// The info of a function that begins with `push rbx; sub rsp, 32`.
 const INFO: [u8; 8] = [1, 5, 2, 0, 5, 0x32, 1, 0x30];
 
 /// What is shown of images. A part begins with a line `# NAME`; lines `info` have the bytes of the
-/// unwind infos and lines `table` those of the function table. After a line `shows` comes what is
-/// shown. Of the part `codes` llvm-readobj prints these codes; in `refused entry` the second of
+/// unwind infos, lines `table` those of the function table, and lines `names`, where there are any,
+/// those of a section `.sehname` at 0x5000. After a line `shows` comes what is shown. Of the part `codes` llvm-readobj prints these codes; in `refused entry` the second of
 /// three entries is refused.
 const VIEWS: &str = r"
 # example
@@ -89,6 +89,58 @@ entry 2 00002030 00002040 00003000
  bytes 01000000
  info prolog 0 flags 0 frame - 0
 entries 3
+# named entries
+info 01
+table 00200000 20200000 00300000
+table 20200000 30200000 00300000
+table 38200000 40200000 00300000
+names 02000000
+names 00200000 20200000 01000000 24500000
+names 20200000 40200000 02000000 29500000
+names 6D61696E 00 67 00
+shows
+entry 0 00002000 00002020 00003000
+ bytes 01000000
+ info prolog 0 flags 0 frame - 0
+ name main
+entry 1 00002020 00002030 00003000
+ bytes 01000000
+ info prolog 0 flags 0 frame - 0
+ name g
+entry 2 00002038 00002040 00003000
+ bytes 01000000
+ info prolog 0 flags 0 frame - 0
+entries 3
+# refused entry with a name
+info 02
+table 00200000 20200000 00300000
+names 01000000
+names 00200000 20200000 01000000 14500000
+names 67 00
+shows
+refused 0 Version 2
+entries 1
+# overlapping names
+info 01
+table 00200000 20200000 00300000
+names 02000000
+names 00200000 20200000 01000000 24500000
+names 1F200000 40200000 02000000 29500000
+names 6D61696E 00 67 00
+shows
+entry 0 00002000 00002020 00003000
+ bytes 01000000
+ info prolog 0 flags 0 frame - 0
+entries 1
+# half a count of names
+info 01
+table 00200000 20200000 00300000
+names 0000
+shows
+entry 0 00002000 00002020 00003000
+ bytes 01000000
+ info prolog 0 flags 0 frame - 0
+entries 1
 # operand past the count
 info 01 07 01 00 07 01
 table 00200000 20200000 00300000
@@ -137,6 +189,22 @@ fn bytes_after(rt: &impl Abort, alloc: Global, lines: &str, word: &str) -> Vec<u
     bytes
 }
 
+/// An image of a part with a third section, `.sehname`, at 0x5000: its header follows those of the
+/// other two, and its bytes are the last of the file.
+fn with_names(rt: &impl Abort, mut image: Vec<u8>, names: &[u8]) -> Vec<u8> {
+    let size = ((names.len() % 65536) as u32).to_le_bytes();
+    put(&mut image, 0x46, &[3]); // NumberOfSections
+    put(&mut image, 0x90, &[0, 0x60]); // SizeOfImage
+    put(&mut image, 0x198, b".sehname");
+    put(&mut image, 0x1A0, &size); // VirtualSize
+    put(&mut image, 0x1A4, &[0, 0x50]); // VirtualAddress
+    put(&mut image, 0x1A8, &size); // SizeOfRawData
+    put(&mut image, 0x1AC, &[0, 0x14]); // PointerToRawData
+    put(&mut image, 0x1BC, &[0x40, 0, 0, 0x40]); // Characteristics
+    image.extend_from_slice(names).expect(rt, "memory");
+    image
+}
+
 /// Compares what is shown of an image's table with lines, of which the last has no end here.
 fn shows_lines(rt: &impl Abort, alloc: Global, bytes: &[u8], lines: &str, head: &str) {
     let image = ImageView::read(alloc, bytes).expect(rt, "an image");
@@ -152,7 +220,11 @@ fn shows_part(rt: &impl Abort, alloc: Global, part: &str) {
     let (head, lines) = part.split_once("\nshows\n").unwrap_or((part, ""));
     let infos = bytes_after(rt, alloc, head, "info");
     let entries = bytes_after(rt, alloc, head, "table");
-    let bytes = table_image(alloc, &infos, &entries).expect(rt, "memory");
+    let names = bytes_after(rt, alloc, head, "names");
+    let mut bytes = table_image(alloc, &infos, &entries).expect(rt, "memory");
+    if !names.is_empty() {
+        bytes = with_names(rt, bytes, &names);
+    }
     shows_lines(rt, alloc, &bytes, lines.trim_end(), head);
 }
 

@@ -89,7 +89,7 @@ fn image_bytes(rt: &impl Abort, alloc: Global) -> Vec<u8> {
 
 /// The image of a row, `SIZE | DATA | TEXT | XDATA | PDATA`, of parts that take a page each at
 /// most, which begins so many bytes after the front of its code.
-fn image_of(rt: &impl Abort, alloc: Global, row: &str, entry: u32) -> Image {
+fn image_of(rt: &impl Abort, alloc: Global, row: &str, entry: u32) -> Image<'static> {
     let columns = columns_of(row);
     let size = (number(rt, columns[0]) % 65536) as u32;
     if size % 4096 != 0 || size < 4096 || size > 8192 {
@@ -106,7 +106,7 @@ fn image_of(rt: &impl Abort, alloc: Global, row: &str, entry: u32) -> Image {
         panic!(rt; "no code");
     }
     let imports = every_service(alloc).expect(rt, "memory");
-    Image::new(imports, size, data, text, entry, xdata, pdata)
+    Image::new(imports, size, data, text, entry, xdata, pdata, Vec::new(alloc))
 }
 
 /// Its bytes as they are written.
@@ -157,15 +157,17 @@ fn lays_sections(rt: HostRuntime) {
         rdata_size: 222,
         xdata_size: 0,
         pdata_size: 12,
+        names_size: 25,
     };
     let numbers = [
         sizes.text_at(),
         sizes.rdata_at(),
         sizes.xdata_at(),
         sizes.pdata_at(),
+        sizes.names_at(),
         sizes.end_at(),
     ];
-    are(&rt, &numbers, "3000 4000 5000 5000 6000");
+    are(&rt, &numbers, "3000 4000 5000 5000 6000 7000");
     let image = image_of(&rt, rt.alloc(), "1000 | | C3", 0);
     are(&rt, &[image.sizes().rdata_at()], "3000");
 }

@@ -36,7 +36,8 @@ fn all_show(rt: &impl Abort, alloc: Global, table: &str) -> Result<(), Fail> {
 
 /// A filter accepts, and a `__finally` block runs; unwindings collide; a raise is continued; one
 /// that can't be isn't; an access is made again; a local unwind runs `__finally` blocks; a filter
-/// raises; a handler accepts a fault at once; nobody handles an exception; and a landing is no code.
+/// raises; a handler accepts a fault at once; nobody handles an exception; and a landing is no
+/// code.
 const HANDLED: &str = r"
 filter_and_finally | raise E0000001 0 / filter 2 / answer 2 / finally 1 1 / 1 / except E0000001 / 3 / exit 0
 raise_in_finally | raise E0000001 0 / filter 2 / answer 1 / finally 1 1 / 1 / raise E0000002 0 / filter 2 / answer 1 / except E0000002 / 5 / exit 7
@@ -61,8 +62,8 @@ fn exceptions_are_handled(rt: HostRuntime) -> Result<(), Fail> {
 /// exception, 3758096385, and RBX and RBP that the callee pushed, 9 and 4.
 ///
 /// The second search of the second image continues after the block that raised: at the callee's
-/// next row, which isn't a filter's, and then asks both filters of `main` anew. The second unwinding
-/// runs that next row and the block of `main`; the block that raised isn't run again.
+/// next row, which isn't a filter's, and then asks both filters of `main` anew. The second
+/// unwinding runs that next row and the block of `main`; the block that raised isn't run again.
 const PASSED: &str = r"
 caller_and_callee | raise E0000001 0 / filter 1 / answer 0 / filter 2 / answer 1 / finally 3 1 / 1887436656 / finally 4 1 / 5 / except E0000001 / 3758096385 / 9 / 4 / exit 7
 store_and_collision | raise C0000005 0 write 0000000020000000 / filter 1 / answer -1 / 5 / raise E0000001 0 / filter 2 / answer 0 / filter 3 / answer 1 / finally 5 1 / 1 / raise E0000002 0 / filter 2 / answer 0 / filter 3 / answer 1 / finally 6 1 / 2 / finally 4 1 / 4 / except E0000002 / 3 / exit 7
@@ -73,10 +74,10 @@ fn exceptions_pass_to_callers(rt: HostRuntime) -> Result<(), Fail> {
     all_show(&rt, rt.alloc(), PASSED)
 }
 
-/// No record is at the returns, or placed past the stack, or where it ends below address 0. A return
-/// address would be at 0x707FFFE0 + 40, above the stack's end. A service's return address can't be
-/// read in the guard: `put`, `protect`, `RaiseException` and `_local_unwind`, by the last byte of
-/// their addresses; none does anything else.
+/// No record is at the returns, or placed past the stack, or where it ends below address 0. A
+/// return address would be at 0x707FFFE0 + 40, above the stack's end. A service's return address
+/// can't be read in the guard: `put`, `protect`, `RaiseException` and `_local_unwind`, by the last
+/// byte of their addresses; none does anything else.
 const STACK: &str = r"
 plain RETURNS_AS_FILTER | stopped BadRecord 00000000707FFFD8
 plain RETURNS_AS_FINALLY | stopped BadRecord 00000000707FFFD8

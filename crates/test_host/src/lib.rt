@@ -13,3 +13,5 @@ mod one_section;
 mod records;
 #[cfg(test)]
 mod shown;
+#[cfg(test)]
+mod walked;

@@ -59,13 +59,14 @@ const STATUSES: &str = r"
 ";
 
 /// Accesses of memory that isn't mapped, a page of the arena, a page of code, below the stack, and
-/// of the return address of `put` above it.
+/// of the return addresses of `put` and `walk` above it.
 const ACCESSES: &str = r"
 0 | 48 8B 0C 25 10 00 00 00 | mov rcx,[0x10] | raise C0000005 0 read 0000000000000010 / unhandled C0000005
 0 | 89 04 25 00 00 00 20 | mov [0x20000000],eax | raise C0000005 0 write 0000000020000000 / unhandled C0000005
 0 | 89 05 00 00 00 00 | mov [rip],eax | raise C0000005 0 write 0000000140001006 / unhandled C0000005
 0 | BC 00 00 00 70 50 | mov esp,0x70000000; push rax | stack limit 000000006FFFFFF8
 0 | BC 00 00 80 70 B8 10 00 F0 7F 50 C3 | mov esp,0x70800000; mov eax,put; push rax; ret | stopped Unreadable 0000000070800000
+0 | BC 00 00 80 70 B8 B0 00 F0 7F 50 C3 | mov esp,0x70800000; mov eax,walk; push rax; ret | stopped Unreadable 0000000070800000
 ";
 
 /// No instruction is there: a byte that begins none in 64-bit mode, the stack, which isn't

@@ -65,8 +65,8 @@ pub fn framed<'a>(begin: u32, end: u32, scopes: &'a [ScopeRecord]) -> Function<'
     }
 }
 
-/// A scope record: the body from `begin` to before `end`, its filter or `__finally` block, and where
-/// an `__except` block begins, 0 for a `__finally` block.
+/// A scope record: the body from `begin` to before `end`, its filter or `__finally` block, and
+/// where an `__except` block begins, 0 for a `__finally` block.
 pub fn scope(begin: u32, end: u32, handler_address: u32, jump_target: u32) -> ScopeRecord {
     ScopeRecord {
         begin,
@@ -201,7 +201,8 @@ fn tables(alloc: Global, parts: Parts<'_>) -> Result<(Vec<u8>, Vec<u8>), AllocEr
     Ok((infos, table))
 }
 
-/// The services that images of tests import: all of them, whose tables take a page at most.
+/// The services that images of tests import: those that every program imports, whose tables take a
+/// page at most.
 pub fn every_service(alloc: Global) -> Result<Vec<ImportedService>, AllocError>
     ensures few { IfOk result (λ v. length v.items < 2 ^ 16) }
     ensures small { IfOk result (λ v. tables_size v.items ≤ 4096) }
@@ -224,6 +225,7 @@ pub fn built(alloc: Global, parts: Parts<'_>) -> Result<Vec<u8>, AllocError> {
     let data = parts.data.to_vec(alloc)?;
     let text = parts.text.to_vec(alloc)?;
     let imports = every_service(alloc)?;
-    let image = Image::new(imports, PAGE as u32, data, text, 0, infos, table);
+    let names = Vec::new(alloc);
+    let image = Image::new(imports, PAGE as u32, data, text, 0, infos, table, names);
     write(alloc, &image)
 }

@@ -1,8 +1,8 @@
 //! Each binary operator at the edges of each type.
 //!
 //! The values are those of C's rules (C11, 6.3 and 6.5) with the widths of the Microsoft compiler;
-//! a line of numbers is of one left operand with each right one. A row's text is the type, its edges
-//! and their number.
+//! a line of numbers is of one left operand with each right one. A row's text is the type, its
+//! edges and their number.
 
 /// The binary operators of a type's edges, each with each.
 pub const PROGRAM: &str = r"

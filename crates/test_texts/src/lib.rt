@@ -1,7 +1,8 @@
 //! Whole texts, each with what it has to show: the tables that the tests of `rows` read.
 //!
-//! A table is one text. A row is `# NAME; OPTIONS: TEXT`, and then a line `=> CODE LINES ! LINES`: the
-//! status as the number that the process ends with, the lines of `out` with `--trace`, and those of
+//! A table is one text. A row is `# NAME; OPTIONS: TEXT`, and then a line `=> CODE LINES ! LINES`:
+//! the status as the number that the process ends with, the lines of `out` with `--trace`, and
+//! those of
 //! `err`, which are left out where there are none. Lines are joined by ` / ` or by line feeds.
 //! `$TIMES*PIECE$` stands for a piece so many times; in a program that many rows fill, `$0$`, `$1$`
 //! and `$2$` stand for the columns of a row's text.

@@ -1,7 +1,8 @@
 //! Casts, unary operators, assignments that compute, and operands of two types.
 //!
-//! The values are those of C's rules (C11, 6.3 and 6.5) with the widths of the Microsoft compiler. A
-//! row's text is the type with its edges and their number, or with its least and its greatest number.
+//! The values are those of C's rules (C11, 6.3 and 6.5) with the widths of the Microsoft compiler.
+//! A row's text is the type with its edges and their number, or with its least and its greatest
+//! number.
 
 /// The casts and unary operators of a type's edges.
 pub const UNARY_PROGRAM: &str = r"

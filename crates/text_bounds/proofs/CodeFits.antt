@@ -1,12 +1,12 @@
 -- The linear code of an accepted text within the limits can be linked.
-use Rattle.std.proofs.Common.{ℕ, ◌*◌, ◌≡◌, ◌+◌, ◌-◌, ◌≤◌, List, [], ◌∷◌, length, map, Option, Some, None, refl, arith}
+use Rattle.std.proofs.Common.{ℕ, ◌*◌, ◌≡◌, ◌+◌, ◌-◌, ◌<◌, ◌≤◌, List, [], ◌∷◌, length, map, Option, Some, None, refl, arith}
 use Rattle.std.specs.List.{AllByRecursion}
 use Rattle.std.proofs.lemmas.Bool.{leb-true}
-use Rattle.text_bounds.specs.Words.{Program, Function, resolve, Local, Temporary, Instruction, LinearBody, LinearFunclet, LinearProgram, lowered_function, all_funclets, lowered, tables_room, function_bodies, funclet_bodies, IsSound, LinearFunction, FitsSlot, FitsInstruction, FitsBody, FitsFunction, FitsKind, FitsFunclet, text_room, program_tables_room, other_room, AcceptedFits, TextsFit}
+use Rattle.text_bounds.specs.Words.{Program, Function, resolve, Local, Temporary, Instruction, LinearBody, LinearFunclet, LinearProgram, lowered_function, all_funclets, lowered, tables_room, function_bodies, funclet_bodies, IsSound, LinearFunction, FitsSlot, FitsInstruction, FitsBody, FitsFunction, FitsKind, FitsFunclet, text_room, program_tables_room, names_room, other_room, file_of, empty_file, AcceptedFits, TextsFit}
 use Rattle.c_operations.specs.declared.field.Field.{Field}
 use Rattle.c_operations.specs.declared.field.Field.TheVariants as fields
 use Rattle.c_checked.specs.Sound as sound
-use Rattle.c_lex.proofs.Covering.{few_tokens}
+use Rattle.c_lex.proofs.Covering.{few_tokens, ranges_rise, every_byte}
 use Rattle.c_syntax.proofs.NodesOfPrograms.{program as program_nodes}
 use Rattle.text_bounds.proofs.Lemmas.{accepted_is_sound}
 use Rattle.linear_code.specs.declared.slot.Slot.{Slot}
@@ -23,6 +23,8 @@ use Rattle.x64_emit.specs.Near.{IsFieldNear}
 use Rattle.image_link.specs.Routines as links
 use Rattle.text_bounds.proofs.ProgramRooms.{lowered_is_bounded}
 use Rattle.text_bounds.proofs.CodeIsBounded.{code_is_bounded}
+use Rattle.text_bounds.proofs.NamesSpelled.{functions_spelled}
+use Rattle.text_bounds.proofs.NamesWithin.{functions_named, names_within}
 use Rattle.host_layout.specs.declared.limit.TheConstants.{MOST_IMAGE}
 
 -- ---- bodies have the temporaries that their code uses
@@ -31,7 +33,7 @@ abbrev IsCounted : LinearBody → Type 0
 IsCounted b = b.temporaries ≡ temporaries_in b.code
 
 abbrev FunctionIsCounted : LinearFunction → Type 0
-FunctionIsCounted f = IsCounted f.body
+FunctionIsCounted f = IsCounted f.body × (0 < length f.body.code)
 
 abbrev FuncletIsCounted : LinearFunclet → Type 0
 FuncletIsCounted f = IsCounted f.body
@@ -39,7 +41,7 @@ FuncletIsCounted f = IsCounted f.body
 functions_counted : (fs : List Function) → AllByRecursion FunctionIsCounted
     (map lowered_function fs)
 functions_counted [] = tt
-functions_counted (f ∷ fs) = (refl, functions_counted fs)
+functions_counted (f ∷ fs) = ((refl, omega arith), functions_counted fs)
 
 funclets_counted : (number : ℕ) (fs : List Function)
     → AllByRecursion FuncletIsCounted (all_funclets number fs)
@@ -102,7 +104,8 @@ functions_fit [] s c few = tt
 functions_fit (f ∷ fs) s c few = (
   record {
     parameters = s.0.parameters;
-    body = body_fits f.body s.0.body c.0 (omega arith);
+    some = c.0.1;
+    body = body_fits f.body s.0.body c.0.0 (omega arith);
   },
   functions_fit fs s.1 c.1 (omega arith),
 )
@@ -145,7 +148,7 @@ sound_counts program h =
     }
 
 pub accepted_fits : AcceptedFits
-accepted_fits text xs within accepted few =
+accepted_fits text xs within accepted few short named =
     let program = (resolve text xs).program in
     let p = lowered program in
     let s = accepted_is_small text xs within accepted in
@@ -154,7 +157,9 @@ accepted_fits text xs within accepted few =
     let g = n.funclets in
     let b = lowered_is_bounded program in
     let c = code_is_bounded text xs in
-    let all : text_room p + program_tables_room p + other_room ≤ MOST_IMAGE = omega arith in
+    let names = functions_named text (file_of text xs empty_file).scope xs 1 in
+    let all : text_room p + program_tables_room p + names_room p.functions + other_room
+    ≤ MOST_IMAGE = omega arith in
     let globals = s.globals in
     record {
       globals = omega arith;
@@ -163,6 +168,7 @@ accepted_fits text xs within accepted few =
           (omega arith);
       funclets = funclets_fit p p.funclets s.funclets (funclets_counted 0 program.functions)
           (omega arith);
+      names = named;
       small = all;
     }
 
@@ -170,4 +176,8 @@ pub texts_fit : TextsFit
 texts_fit text tokens xs lexed derives within accepted short =
     let a = few_tokens text tokens lexed in
     let b = program_nodes text xs tokens derives in
-    accepted_fits text xs within accepted (omega arith)
+    let names = names_within text xs tokens 0 (length text) derives
+    (ranges_rise text tokens lexed) in
+    accepted_fits text xs within accepted (omega arith) (omega arith)
+    (functions_spelled text (file_of text xs empty_file).scope xs tokens 0 text 1 refl
+    (every_byte text tokens lexed) derives)

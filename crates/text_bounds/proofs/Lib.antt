@@ -7,6 +7,9 @@ pub mod ExpressionRooms
 pub mod StatementRooms
 pub mod ProgramRooms
 pub mod CodeIsBounded
+pub mod NameBytes
+pub mod NamesSpelled
+pub mod NamesWithin
 pub mod CodeFits
 pub mod OperatorNesting
 pub mod ExpressionNesting

@@ -1,5 +1,6 @@
 -- What is claimed of every accepted text within the limits and the linear code of its program.
 use Rattle.std.specs.Prelude.{◌≤◌, ℕ, ◌*◌, List, length}
+use Rattle.std.specs.List.{AllByRecursion}
 use Rattle.host_layout.specs.declared.limit.TheConstants.{MOST_TEXT}
 use Rattle.c_lex.specs.declared.token.Token.{Token}
 use Rattle.c_lex.specs.Text.{IsTokens}
@@ -11,6 +12,8 @@ use Rattle.c_resolved.specs.Accepted.{Accepted}
 use Rattle.c_resolved.specs.Program.{resolve}
 use Rattle.seh_ir.specs.Lowered.{lowered}
 use Rattle.image_link.specs.Fits.{FitsProgram}
+use Rattle.image_link.specs.Walks.{IsNamed}
+use Rattle.text_bounds.specs.Names.{name_bytes}
 use Rattle.text_bounds.specs.Rooms.{functions_room}
 
 -- no text's code takes more than 220 bytes for each of its nodes
@@ -19,12 +22,14 @@ CodeIsBounded =
     (text : List ℕ) (xs : List ExternalDeclaration)
     → functions_room (resolve text xs).program.functions ≤ 220 * nodes_of xs
 
--- each accepted text within the limits can be linked, where its nodes are no more than the bytes of
--- the longest text
+-- each accepted text within the limits can be linked, where its nodes, and the bytes of its
+-- functions' names, are no more than the bytes of the longest text, and these are names
 abbrev pub AcceptedFits : Type 0
 AcceptedFits =
     (text : List ℕ) (xs : List ExternalDeclaration) → Within text xs → Accepted text xs
-    → nodes_of xs ≤ MOST_TEXT → FitsProgram (lowered (resolve text xs).program)
+    → nodes_of xs ≤ MOST_TEXT → name_bytes xs ≤ MOST_TEXT
+    → AllByRecursion IsNamed (lowered (resolve text xs).program).functions
+    → FitsProgram (lowered (resolve text xs).program)
 
 -- the program of tokens of a text
 abbrev pub TextsFit : Type 0

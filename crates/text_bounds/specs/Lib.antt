@@ -1,5 +1,6 @@
 pub mod Weights
 pub mod WeightLaws
+pub mod Names
 pub mod Rooms
 pub mod RoomLaws
 pub mod BoundLaws

@@ -39,6 +39,8 @@ pub use Rattle.lowering_follows.specs.StepsPerTurn.{weight_of, steps_per_turn_of
 pub use Rattle.lowering_invariants.specs.Nesting.{expression_nesting, node_nesting, expression_reads, node_reads, arguments_nesting, arguments_read, lvalue_nesting, lvalue_reads, most_of_optional, most_of_declared, most_of_filter, most_of_statement, most_of, AreShallow}
 pub use Rattle.x64_emit.specs.Rooms.{instruction_room, code_room}
 pub use Rattle.image_link.specs.Fits.{tables_room, function_bodies, funclet_bodies, FitsSlot, FitsInstruction, FitsBody, FitsFunction, FitsKind, FitsFunclet, text_room, program_tables_room, other_room, room}
+pub use Rattle.image_link.specs.Walks.{IsName, IsNamed, names_room}
+pub use Rattle.text_bounds.specs.Names.{name_bytes}
 pub use Rattle.text_bounds.specs.BoundLaws.{AcceptedFits, TextsFit, CodeIsBounded}
 pub use Rattle.text_bounds.specs.Rooms.{conversion_room, expression_room, read_room, write_room, locate_room, node_room, arguments_room, discarded_room, condition_room, initialiser_room, returned_room, all_declared_room, statement_room, statements_room, functions_room, address_room, declared_room, filter_room}
 pub use Rattle.text_bounds.specs.Weights.{Weights, optional, NodesAdd, StatementsAdd}

@@ -26,12 +26,14 @@ fn has_byte<S: CodeSpace>(space: &S, at: u64, byte: u8) -> bool
 fn has_bytes<S: CodeSpace>(space: &S, at: u64, bytes: &[u8]) -> bool
     ensures { result ≡ spec.has_bytes (S.memory space.now) at bytes.now }
 {
-    match bytes {
-        [] => true,
-        [first, rest @ ..] => {
-            has_byte(space, at, *first) && has_bytes(space, at.wrapping_add(1), rest)
+    let mut next = at;
+    for byte in bytes {
+        if !has_byte(space, next, *byte) {
+            return false;
         }
+        next = next.wrapping_add(1);
     }
+    true
 }
 
 /// Whether an instruction, whose next one is at an address, is a call of a routine of these bytes.

@@ -1,6 +1,8 @@
 -- The caller of a frame, by cases: a leaf, the prologue, the epilogue, the body.
 use Rattle.std.specs.Prelude.{ℕ, ◌+◌, ◌-◌, ◌^◌, ◌%◌, Bool, true, false, not, ◌==◌, ◌&&◌, ◌||◌, nat_lt, nat_le, List, [], ◌∷◌, Option, Some, None, Ok, Err}
 use Rattle.flat_memory.specs.Memory.{Memory}
+use Rattle.pe_image.specs.Image.{Image}
+use Rattle.pe_image.specs.NameRows.{NameRow, names_of, rows_read}
 use Rattle.x64_instr.specs.declared.instruction.Instr.{Instr}
 use Rattle.x64_machine.specs.declared.context.Context.{Context}
 use Rattle.eh_tables.specs.declared.code.UnwindOperation.{UnwindOperation}
@@ -112,13 +114,20 @@ risen c f false = Err (Backward (rsp c))
 abbrev pub rising : Context → CallerFrame → Answer CallerFrame
 rising c f = risen c f (nat_lt (rsp c) (rsp f.context))
 
--- what is asked of an image: its base, and the entries of its function table
+-- what is asked of an image: its base, the entries of its function table, and the rows of its table
+-- of names
 pub record Functions : Type 0 where
   pub base : ℕ
   pub entries : List Entry
+  pub rows : List NameRow
+
+-- the rows of an image's names, where they are read whole
+abbrev pub name_rows : Image → List NameRow
+name_rows image = rows_read (names_of image)
 
 abbrev pub functions_of : Tables → Functions
-functions_of t = record { base = t.image.base; entries = entries_of t }
+functions_of t =
+    record { base = t.image.base; entries = entries_of t; rows = name_rows t.image }
 
 -- the entry whose range covers an address of the memory
 abbrev pub entry_of : Functions → ℕ → Option Entry

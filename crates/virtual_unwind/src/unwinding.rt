@@ -246,7 +246,7 @@ pub fn caller_at<S: ReadSpace>(
 ) -> Result<Caller, UnwindErr>
     requires { TablesAreWhole tables.now }
     ensures { result ≡ shown (spec.caller_in
-        (record { base = base; entries = entries_of tables.now })
+        (record (spec.functions_of tables.now) { base = base })
         (S.memory space.now) context.now) }
 {
     let rva = context.rip.wrapping_sub(base);

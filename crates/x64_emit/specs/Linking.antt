@@ -1,7 +1,7 @@
 -- Where everything is that code refers to.
 use Rattle.std.specs.Prelude.{ℕ, List, get_or}
 use Rattle.c_operations.specs.declared.built_in.BuiltIn.{BuiltIn}
-use Rattle.c_operations.specs.declared.built_in.BuiltIn.TheVariants.{Put, Protect, RaiseException}
+use Rattle.c_operations.specs.declared.built_in.BuiltIn.TheVariants.{Put, Protect, RaiseException, Walk}
 use Rattle.template_code.specs.Template.{Links}
 use Rattle.x64_emit.specs.declared.links.Thunks.{Thunks}
 use Rattle.x64_emit.specs.Near.{IsNear, AreNear}
@@ -22,6 +22,7 @@ pub record AreAddressesNear (a : Addresses) : Type 0 where
   pub protect : IsNear a.thunks.protect
   pub raise_exception : IsNear a.thunks.raise_exception
   pub local_unwind : IsNear a.thunks.local_unwind
+  pub walk : IsNear a.thunks.walk
 
 abbrev pub address_or : List ℕ → ℕ → ℕ → ℕ
 address_or addresses index other = get_or addresses index other
@@ -30,6 +31,7 @@ abbrev pub thunk_of : Thunks → BuiltIn → ℕ
 thunk_of t Put = t.put
 thunk_of t Protect = t.protect
 thunk_of t RaiseException = t.raise_exception
+thunk_of t Walk = t.walk
 
 -- labels past the last instruction are the body's end
 abbrev pub links_of : Addresses → Links

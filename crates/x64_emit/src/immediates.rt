@@ -12,41 +12,16 @@ use std::alloc::AllocError;
 fn constant(value: u64) -> [u8; 10]
     ensures { result ≡ 0x48 ∷ 0xB8 ∷ little 8 value }
 {
-    let second = value / 256;
-    let third = second / 256;
-    let fourth = third / 256;
-    let fifth = fourth / 256;
-    let sixth = fifth / 256;
-    let seventh = sixth / 256;
-    let eighth = seventh / 256;
-    [
-        0x48,
-        0xB8,
-        (value % 256) as u8,
-        (second % 256) as u8,
-        (third % 256) as u8,
-        (fourth % 256) as u8,
-        (fifth % 256) as u8,
-        (sixth % 256) as u8,
-        (seventh % 256) as u8,
-        (eighth % 256) as u8,
-    ]
+    let [a, b, c, d, e, f, g, h] = value.to_le_bytes();
+    [0x48, 0xB8, a, b, c, d, e, f, g, h]
 }
 
 /// An opcode and a displacement of 32 bits.
 fn displaced(opcode: u8, displacement: u32) -> [u8; 5]
     ensures { result ≡ opcode ∷ little 4 displacement }
 {
-    let second = displacement / 256;
-    let third = second / 256;
-    let fourth = third / 256;
-    [
-        opcode,
-        (displacement % 256) as u8,
-        (second % 256) as u8,
-        (third % 256) as u8,
-        (fourth % 256) as u8,
-    ]
+    let [a, b, c, d] = displacement.to_le_bytes();
+    [opcode, a, b, c, d]
 }
 
 /// Adds a move of a number of 64 bits to RAX.

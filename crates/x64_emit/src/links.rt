@@ -19,6 +19,8 @@ pub struct Thunks {
     pub raise_exception: u32,
     /// The thunk of `_local_unwind`.
     pub local_unwind: u32,
+    /// The thunk of `walk`, in a program that imports it.
+    pub walk: u32,
 }
 
 /// Thunks of a program that has none.
@@ -27,6 +29,7 @@ pub const NO_THUNKS: Thunks = Thunks {
     protect: 0,
     raise_exception: 0,
     local_unwind: 0,
+    walk: 0,
 };
 
 /// Where everything is that the code of a body refers to, relative to the image base.
@@ -141,6 +144,7 @@ impl<'a> Links<'a> {
             BuiltIn::Put => self.thunks.put,
             BuiltIn::Protect => self.thunks.protect,
             BuiltIn::RaiseException => self.thunks.raise_exception,
+            BuiltIn::Walk => self.thunks.walk,
         })
     }
 

@@ -12,19 +12,22 @@ there o n none some = let q : None ≡ Some (decimal n) = none ∙ some in cc
 
 pub returns-in-None-clause-usage : goal.returns-in-None-clause-usage
 returns-in-None-clause-usage c =
-    let text_is = c.in-None.ensures ∙ first_value-rows (found_of c.args.matches.now) (codes "number")
+    let text_is = c.in-None.ensures ∙ first_value-rows (found_of c.args.matches.now)
+    (codes "number")
     in
     (refl, λ n h. there _ n text_is h.0)
 
 pub returns-in-Some-number_of-clause-found : goal.returns-in-Some-number_of-clause-found
 returns-in-Some-number_of-clause-found c =
-    let text_is = c.in-Some.ensures ∙ first_value-rows (found_of c.args.matches.now) (codes "number")
+    let text_is = c.in-Some.ensures ∙ first_value-rows (found_of c.args.matches.now)
+    (codes "number")
     in
     let number = c.in-Some-number_of.ensures.some in
     (sym text_is ∙ ap Some number.0, number.1)
 
 pub returns-in-None-number_of-clause-usage : goal.returns-in-None-number_of-clause-usage
 returns-in-None-number_of-clause-usage c =
-    let text_is = c.in-Some.ensures ∙ first_value-rows (found_of c.args.matches.now) (codes "number")
+    let text_is = c.in-Some.ensures ∙ first_value-rows (found_of c.args.matches.now)
+    (codes "number")
     in
     (refl, λ n h. c.in-None-number_of.ensures.none refl n h.1 (the_same _ _ (text_is ∙ h.0)))

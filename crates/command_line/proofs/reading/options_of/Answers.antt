@@ -8,7 +8,8 @@ use Rattle.command_line.proofs.reading.options_of.Goals as goal
 
 pub returns-in-Err-clause-usage : goal.returns-in-Err-clause-usage
 returns-in-Err-clause-usage c =
-    let text_is = c.get_str.ensures ∙ first_value-rows (found_of c.args.matches.now) (codes "turns") in (
+    let text_is = c.get_str.ensures ∙ first_value-rows (found_of c.args.matches.now)
+    (codes "turns") in (
       c.in-Err.ensures.usage.0,
       λ o h. c.in-Err.ensures.usage.1 o.turns
           (subst (λ t. IsNumber 10000000 t o.turns) (sym text_is) h.turns),
@@ -16,7 +17,8 @@ returns-in-Err-clause-usage c =
 
 pub returns-in-Err-number_or-clause-usage : goal.returns-in-Err-number_or-clause-usage
 returns-in-Err-number_or-clause-usage c =
-    let text_is = c.get_str-2.ensures ∙ first_value-rows (found_of c.args.matches.now) (codes "arg") in (
+    let text_is = c.get_str-2.ensures ∙ first_value-rows (found_of c.args.matches.now)
+    (codes "arg") in (
       c.in-Err-number_or.ensures.usage.0,
       λ o h. c.in-Err-number_or.ensures.usage.1 h.argument.0
           (subst (λ t. IsNumber 0 t h.argument.0) (sym text_is) h.argument.1),
@@ -24,11 +26,14 @@ returns-in-Err-number_or-clause-usage c =
 
 pub returns-clause-found : goal.returns-clause-found
 returns-clause-found c =
-    let turns_is = c.get_str.ensures ∙ first_value-rows (found_of c.args.matches.now) (codes "turns") in
-    let argument_is = c.get_str-2.ensures ∙ first_value-rows (found_of c.args.matches.now) (codes "arg") in
+    let turns_is = c.get_str.ensures ∙ first_value-rows (found_of c.args.matches.now)
+    (codes "turns") in
+    let argument_is = c.get_str-2.ensures ∙ first_value-rows (found_of c.args.matches.now)
+    (codes "arg") in
     let n = c.in-Ok-number_or.argument in
     let argument = subst (λ t. IsNumber 0 t n) argument_is c.in-Ok-number_or.ensures.found in
-    let small = number_small 0 (first_of (codes "arg") (rows_of (found_of c.args.matches.now))) n (omega arith) argument in
+    let small = number_small 0 (first_of (codes "arg") (rows_of (found_of c.args.matches.now))) n
+    (omega arith) argument in
     record {
       turns = subst (λ t. IsNumber 10000000 t c.in-Ok.turns) turns_is c.in-Ok.ensures.found;
       argument = (n, argument, omega (arith, ints));

@@ -8,7 +8,8 @@ use Rattle.unwind_check.specs.EntryVerdicts.{AreEntryVerdicts}
 use Rattle.image_code.specs.Verdicts.{checked_code}
 use Rattle.image_code.proofs.validation.validate_image_entries.Goals as goal
 
-pub returns-in-Ok-validate_entries-clause-verdicts : goal.returns-in-Ok-validate_entries-clause-verdicts
+pub returns-in-Ok-validate_entries-clause-verdicts :
+    goal.returns-in-Ok-validate_entries-clause-verdicts
 returns-in-Ok-validate_entries-clause-verdicts c =
     let image = c.args.image.now in
     let t = c.in_ok-tables.tables in

@@ -1,19 +1,21 @@
-use Rattle.std.proofs.Common.{◌≡◌, ℕ, ◌≤◌, List, length, refl, sym, subst, ◌∙◌, arith}
+use Rattle.std.proofs.Common.{◌≡◌, ℕ, ◌≤◌, Bool, List, length, map, refl, sym, ap, subst, ◌∙◌, arith}
 use Rattle.std.specs.Prelude.{IfOk}
 use Rattle.std.specs.List.{AllByRecursion}
 use Rattle.std.proofs.lemmas.List.{length-map}
 use Rattle.pe_image.specs.Reading.{IsImage}
 use Rattle.pe_write.specs.Program as images
 use Rattle.pe_write.specs.Written.{written}
-use Rattle.image_link.specs.Words.{ImageContents, linear_program, linear_function, RoutineView, routines, IsRoutineNear, AreFew, HasPlaces}
-use Rattle.image_link.proofs.Front.{services_few}
+use Rattle.image_link.specs.Words.{ImageContents, LinearProgram, LinearFunction, IrFunction, linear_program, linear_function, RoutineView, routines, IsRoutineNear, AreFew, HasNames, HasPlaces, calls_walk, named_if, named_functions}
+use Rattle.image_link.proofs.Front.{services_are, services_few}
 use Rattle.image_link.proofs.Nearness.{routines_near}
-use Rattle.image_link.proofs.Images.{has_places, linked_is}
+use Rattle.image_link.proofs.Images.{has_places, has_names, linked_is}
 use Rattle.image_link.proofs.link.compile_program.Goals as goal
 
 pub image_of-requires-clause-imports : goal.image_of-requires-clause-imports
 image_of-requires-clause-imports c =
-    subst AreFew (sym (c.deref.ensures.value ∙ c.in_ok-imports.ensures))
+    subst AreFew (sym (c.deref.ensures.value ∙ c.in_ok-imports.ensures
+    ∙ services_are (linear_program c.args.program.now) c.calls_walk-walks.result
+    c.calls_walk-walks.ensures))
     (services_few (linear_program c.args.program.now))
 
 pub image_of-requires-clause-near : goal.image_of-requires-clause-near
@@ -33,16 +35,37 @@ image_of-requires-clause-places c =
     omega (arith, length-map c.args.program.now.functions.items linear_function))
     (has_places p c.requires))
 
+
+named_is : (p : LinearProgram) (walks : Bool) (fs all : List IrFunction)
+    (named : List LinearFunction) → walks ≡ calls_walk p → fs ≡ all
+    → map linear_function all ≡ p.functions → named ≡ named_if walks (map linear_function fs)
+    → named ≡ named_functions p
+named_is p walks fs all named w e is same =
+    same ∙ (λ i. named_if (w i) ((ap (map linear_function) e ∙ is) i))
+
+pub image_of-requires-clause-names : goal.image_of-requires-clause-names
+image_of-requires-clause-names c =
+    let p = linear_program c.args.program.now in
+    subst (λ (rs : List RoutineView). HasNames rs (map linear_function c.named_if.result.now))
+    (sym (c.deref-3.ensures.value ∙ c.in_ok-routines.ensures))
+    (subst (HasNames (routines p))
+    (sym (named_is p c.calls_walk-walks.result c.deref-4.result.now c.args.program.now.functions.items
+    _ c.calls_walk-walks.ensures c.deref-4.ensures.value refl c.named_if.ensures))
+    (has_names p c.requires))
+
 pub returns-clause-bytes : goal.returns-clause-bytes
 returns-clause-bytes c =
     let p = linear_program c.args.program.now in
     let n = c.len-functions.ensures in
     let o = c.args.program.now.functions.ok in
     let same = linked_is p c.in_ok-image.image c.deref.result.now c.deref-2.result.now
-    c.deref-3.result.now c.len-functions.result p.main c.in_ok-image.ensures
-    (c.deref.ensures.value ∙ c.in_ok-imports.ensures) c.deref-2.ensures.value
+    c.deref-3.result.now c.len-functions.result p.main _ c.in_ok-image.ensures
+    (c.deref.ensures.value ∙ c.in_ok-imports.ensures
+    ∙ services_are p c.calls_walk-walks.result c.calls_walk-walks.ensures) c.deref-2.ensures.value
     (c.deref-3.ensures.value ∙ c.in_ok-routines.ensures)
-    (omega (arith, length-map c.args.program.now.functions.items linear_function)) refl in
+    (omega (arith, length-map c.args.program.now.functions.items linear_function)) refl
+    (named_is p c.calls_walk-walks.result c.deref-4.result.now c.args.program.now.functions.items
+    _ c.calls_walk-walks.ensures c.deref-4.ensures.value refl c.named_if.ensures) in
     subst (λ (x : ImageContents). IfOk c.write.result
     (λ bytes. bytes.items ≡ written (images.parts_of x))) same c.write.ensures.written
 
@@ -52,10 +75,13 @@ returns-clause-image c =
     let n = c.len-functions.ensures in
     let o = c.args.program.now.functions.ok in
     let same = linked_is p c.in_ok-image.image c.deref.result.now c.deref-2.result.now
-    c.deref-3.result.now c.len-functions.result p.main c.in_ok-image.ensures
-    (c.deref.ensures.value ∙ c.in_ok-imports.ensures) c.deref-2.ensures.value
+    c.deref-3.result.now c.len-functions.result p.main _ c.in_ok-image.ensures
+    (c.deref.ensures.value ∙ c.in_ok-imports.ensures
+    ∙ services_are p c.calls_walk-walks.result c.calls_walk-walks.ensures) c.deref-2.ensures.value
     (c.deref-3.ensures.value ∙ c.in_ok-routines.ensures)
-    (omega (arith, length-map c.args.program.now.functions.items linear_function)) refl in
+    (omega (arith, length-map c.args.program.now.functions.items linear_function)) refl
+    (named_is p c.calls_walk-walks.result c.deref-4.result.now c.args.program.now.functions.items
+    _ c.calls_walk-walks.ensures c.deref-4.ensures.value refl c.named_if.ensures) in
     subst (λ (x : ImageContents). IfOk c.write.result
     (λ bytes. IsImage bytes.items (images.image_of x))) same c.write.ensures.read_again
 
@@ -65,9 +91,12 @@ returns-clause-small c =
     let n = c.len-functions.ensures in
     let o = c.args.program.now.functions.ok in
     let same = linked_is p c.in_ok-image.image c.deref.result.now c.deref-2.result.now
-    c.deref-3.result.now c.len-functions.result p.main c.in_ok-image.ensures
-    (c.deref.ensures.value ∙ c.in_ok-imports.ensures) c.deref-2.ensures.value
+    c.deref-3.result.now c.len-functions.result p.main _ c.in_ok-image.ensures
+    (c.deref.ensures.value ∙ c.in_ok-imports.ensures
+    ∙ services_are p c.calls_walk-walks.result c.calls_walk-walks.ensures) c.deref-2.ensures.value
     (c.deref-3.ensures.value ∙ c.in_ok-routines.ensures)
-    (omega (arith, length-map c.args.program.now.functions.items linear_function)) refl in
+    (omega (arith, length-map c.args.program.now.functions.items linear_function)) refl
+    (named_is p c.calls_walk-walks.result c.deref-4.result.now c.args.program.now.functions.items
+    _ c.calls_walk-walks.ensures c.deref-4.ensures.value refl c.named_if.ensures) in
     subst (λ (x : ImageContents). IfOk c.write.result
     (λ bytes. length bytes.items ≤ images.end_at (images.sizes_of x))) same c.write.ensures.small

@@ -1,5 +1,5 @@
 use Rattle.std.proofs.Common.{sym, ap, subst}
-use Rattle.host_layout.specs.declared.imported.ImportedService.TheVariants.{RaiseException, LocalUnwind, Protect, Put}
+use Rattle.host_layout.specs.declared.imported.ImportedService.TheVariants.{RaiseException, LocalUnwind, Protect, Put, Walk}
 use Rattle.x64_emit.specs.declared.links.Thunks.{Thunks}
 use Rattle.image_link.specs.Words.{ImportedService, IsNear, thunk_at}
 use Rattle.image_link.proofs.Front.{thunk_near}
@@ -21,4 +21,5 @@ new-requires c =
           (near RaiseException);
       local_unwind = subst IsNear (sym (ap (λ (t : Thunks). t.local_unwind) thunks))
           (near LocalUnwind);
+      walk = subst IsNear (sym (ap (λ (t : Thunks). t.walk) thunks)) (near Walk);
     }

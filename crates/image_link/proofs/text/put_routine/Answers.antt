@@ -50,7 +50,8 @@ returns c =
     })) begin r) in
     on_ok _ _ c.put_code.result (λ e. e
     ∙ ap (λ (a : Addresses). old ++ spelled (code_at
-    (check_stack_at c.site.inside.imports.now c.site.inside.text) (links_of a) begin r)) c.links_of-links.ensures
+    (check_stack_at c.site.inside.imports.now c.site.inside.text) (links_of a) begin r))
+    c.links_of-links.ensures
     ∙ ap (λ (s : SiteView). of s c.deref.result.now c.place.inside.labels.end) c.site.view_is
     ∙ ap (λ (ls : List ℕ). of c.args.site.now ls c.place.inside.labels.end)
     (c.deref.ensures.value ∙ ap (λ (p : PlaceView). p.labels) placed)

@@ -6,4 +6,5 @@ returns c = record {
   information = lemma.information_is_matched;
   puts = lemma.puts_are_matched;
   protects = lemma.protects_are_matched;
+  walks = lemma.walks_are_matched;
 }

@@ -6,7 +6,8 @@ use Rattle.seh.proofs.selftest.selftest.Goals as goal
 pub returns-in-Ok-image_of : goal.returns-in-Ok-image_of
 returns-in-Ok-image_of g c =
     let image = c.deref-in-Ok-image_of.result.now in
-    of_image (summary_by c.args.turns c.args.number) (end_by (selftest_options c.args.turns)) _ image
+    of_image (summary_by c.args.turns c.args.number) (end_by (selftest_options c.args.turns)) _
+    image
     _ _ c.run_program.result
     (subst (λ (t : List ℕ). IsCompiled t image) (c.deref.ensures.value ∙ c.in-Ok.ensures.text)
     (subst (λ (bytes : List ℕ). IsCompiled c.deref.result.now bytes)

@@ -1,56 +1,36 @@
-use Rattle.std.proofs.Common.{◌++◌, append-nil, sym, ap, ◌∙◌, subst}
-use Rattle.seh_dispatch.specs.Words.{functions_of, distance, state, shown_in, arrivals, after, listed, left}
-use Rattle.seh_dispatch.proofs.TurnOutcomes.{goes_turn, ends_turn, left_over}
+use Rattle.std.proofs.Common.{ap, subst, ◌∙◌}
+use Rattle.seh_dispatch.specs.Words.{Turn, functions_of, state, shown_in, after, Told, Walks}
+use Rattle.seh_dispatch.proofs.TurnOutcomes.{turn_is}
 use Rattle.seh_dispatch.proofs.advancing.dispatch.Goals as goal
 
-pub returns-in-Ends-clause-host : goal.returns-in-Ends-clause-host
-returns-in-Ends-clause-host g c =
-    let s = state c.args.cpu.now (g.S.CodeSpace.memory c.args.space.now) in
-    sym (ap after (ends_turn (functions_of c.args.tables.now) c.args.funclets.now s
-    c.make-made.new.cpu (g.S.CodeSpace.memory c.make-made.new.space) c.make-made.result
-    c.in-Ends.end c.make-made.ensures c.in-Ends.is))
+pub returns-in-Told-clause-host : goal.returns-in-Told-clause-host
+returns-in-Told-clause-host g c =
+    let m = g.S.CodeSpace.memory c.make.new.space in
+    c.conclude.ensures.host m
+    ∙ ap after (turn_is (functions_of c.args.tables.now) c.args.funclets.now
+    (state c.args.cpu.now (g.S.CodeSpace.memory c.args.space.now)) c.make.new.cpu m c.make.result
+    (Told c.in-Told.made) c.make.ensures c.in-Told.is)
 
-pub returns-in-Ends-clause-shown : goal.returns-in-Ends-clause-shown
-returns-in-Ends-clause-shown g c =
-    let s = state c.args.cpu.now (g.S.CodeSpace.memory c.args.space.now) in
-    let made = c.make-made.result in
-    let turned = ends_turn (functions_of c.args.tables.now) c.args.funclets.now s
-    c.make-made.new.cpu (g.S.CodeSpace.memory c.make-made.new.space) made c.in-Ends.end
-    c.make-made.ensures c.in-Ends.is in
-    subst (λ es. g.V.Events.took c.args.to.now es c.tell-2.new.to)
-    (ap (λ es. listed made.first ++ es) (sym (append-nil (listed made.rest.first)))
-    ∙ sym (ap shown_in turned))
-    (g.met.V.Events.more c.args.to.now c.tell.new.to c.tell-2.new.to (listed made.first)
-    (listed made.rest.first) c.tell.ensures c.tell-2.ensures)
+pub returns-in-Told-clause-shown : goal.returns-in-Told-clause-shown
+returns-in-Told-clause-shown g c =
+    let m = g.S.CodeSpace.memory c.make.new.space in
+    subst (λ (x : Turn). g.V.Events.took c.args.to.now (shown_in x) c.conclude.new.to)
+    (turn_is (functions_of c.args.tables.now) c.args.funclets.now
+    (state c.args.cpu.now (g.S.CodeSpace.memory c.args.space.now)) c.make.new.cpu m c.make.result
+    (Told c.in-Told.made) c.make.ensures c.in-Told.is) (c.conclude.ensures.shown m)
 
-pub returns-in-Continues-clause-host : goal.returns-in-Continues-clause-host
-returns-in-Continues-clause-host g c =
-    let s = state c.args.cpu.now (g.S.CodeSpace.memory c.args.space.now) in
-    let cpu = c.make-made.new.cpu in
-    let m = g.S.CodeSpace.memory c.make-made.new.space in
-    ap (left cpu m) c.arrive.ensures.end
-    ∙ left_over cpu m
-    ∙ sym (ap after (goes_turn (functions_of c.args.tables.now) c.args.funclets.now s cpu m
-    c.make-made.result c.in-Continues.event c.make-made.ensures c.in-Continues.is))
+pub returns-in-Walks-clause-host : goal.returns-in-Walks-clause-host
+returns-in-Walks-clause-host g c =
+    let m = g.S.CodeSpace.memory c.make.new.space in
+    c.conclude_walk.ensures.host
+    ∙ ap after (turn_is (functions_of c.args.tables.now) c.args.funclets.now
+    (state c.args.cpu.now (g.S.CodeSpace.memory c.args.space.now)) c.make.new.cpu m c.make.result
+    Walks c.make.ensures c.in-Walks.is)
 
-pub returns-in-Continues-clause-shown : goal.returns-in-Continues-clause-shown
-returns-in-Continues-clause-shown g c =
-    let s = state c.args.cpu.now (g.S.CodeSpace.memory c.args.space.now) in
-    let cpu = c.make-made.new.cpu in
-    let made = c.make-made.result in
-    let fs = c.args.funclets.now in
-    let t = functions_of c.args.tables.now in
-    let first = listed made.first in
-    let second = listed made.rest.first in
-    let event = listed c.in-Continues.event in
-    let more = g.met.V.Events.more in
-    let turned = goes_turn t fs s cpu (g.S.CodeSpace.memory c.make-made.new.space) made
-    c.in-Continues.event c.make-made.ensures c.in-Continues.is in
-    subst (λ es. g.V.Events.took c.args.to.now es c.arrive.new.to)
-    (sym (ap shown_in turned))
-    (more c.args.to.now c.tell-in-Continues.new.to c.arrive.new.to
-    (first ++ (second ++ event)) (arrivals cpu (distance t.base cpu.rip) 1 fs)
-    (more c.args.to.now c.tell.new.to c.tell-in-Continues.new.to first (second ++ event)
-    c.tell.ensures (more c.tell.new.to c.tell-2.new.to c.tell-in-Continues.new.to second event
-    c.tell-2.ensures c.tell-in-Continues.ensures))
-    c.arrive.ensures.shown)
+pub returns-in-Walks-clause-shown : goal.returns-in-Walks-clause-shown
+returns-in-Walks-clause-shown g c =
+    let m = g.S.CodeSpace.memory c.make.new.space in
+    subst (λ (x : Turn). g.V.Events.took c.args.to.now (shown_in x) c.conclude_walk.new.to)
+    (turn_is (functions_of c.args.tables.now) c.args.funclets.now
+    (state c.args.cpu.now (g.S.CodeSpace.memory c.args.space.now)) c.make.new.cpu m c.make.result
+    Walks c.make.ensures c.in-Walks.is) c.conclude_walk.ensures.shown

@@ -1,14 +1,14 @@
 use Rattle.std.proofs.Common.{◌∙◌}
 use Rattle.seh_dispatch.specs.Words.{functions_of, state, step}
 use Rattle.seh_dispatch.proofs.FaultTurns.{fault_turned}
-use Rattle.seh_dispatch.proofs.TurnEvents.{made_later}
+use Rattle.seh_dispatch.proofs.TurnEvents.{told_later}
 use Rattle.seh_dispatch.proofs.serving.make.Goals as goal
 
 pub returns-in-Fault : goal.returns-in-Fault
 returns-in-Fault g c =
     let t = functions_of c.args.tables.now in
     let m = g.S.CodeSpace.memory c.args.space.now in
-    made_later c.raised-rest.new.cpu (g.S.CodeSpace.memory c.raised-rest.new.space)
+    told_later t c.raised-rest.new.cpu (g.S.CodeSpace.memory c.raised-rest.new.space)
     c.raised-rest.result _
     (c.raised-rest.ensures ∙ fault_turned t c.args.cpu.now c.step.new.cpu m
     (g.S.CodeSpace.memory c.step.new.space) c.in-Fault.code c.in-Fault.access

@@ -1,4 +1,4 @@
-use Rattle.std.proofs.Common.{◌≡◌, refl, ◌+◌, sym, ap, subst, ◌∙◌, w64, to_z, of_z}
+use Rattle.std.proofs.Common.{◌≡◌, ◌+◌, sym, ap, subst, ◌∙◌, w64, to_z, of_z}
 use Rattle.std.proofs.lemmas.Int.{to_z-of_z}
 use Rattle.seh_host.specs.Words.{memory_of, Functions, first_cpu, start, Live, host, over}
 use Rattle.host_model.specs.Funclets.{funclets}
@@ -23,7 +23,7 @@ returns-clause-loaded c =
     let going : Live (record { cpu = c.first_cpu.result; memory = memory_of c.in-Ok.space })
     ≡ host (start image c.args.arg) = (λ i. Live (record { cpu = cpu i; memory = memory i }))
     ∙ sym (ap (over (start image c.args.arg))
-    (place_above image image.entry (c.in_default.ensures.place refl))) in
+    (place_above image image.entry c.in_ok-names.ensures.place)) in
     λ i. record { functions = functions i; funclets = listed i; host = going i }
 
 pub invariant_of-result-clause-coherent : goal.invariant_of-result-clause-coherent

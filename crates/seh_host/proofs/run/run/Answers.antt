@@ -1,6 +1,7 @@
 use Rattle.std.proofs.Common.{◌++◌, ◌+◌, length, ap, subst, ◌∙◌, rules}
 use Rattle.seh_io.specs.Streams.{HasCount}
-use Rattle.seh_host.specs.Words.{no_names, lines, end_line, memory_of, running_of, run_of, end_within, event_count}
+use Rattle.seh_host.specs.Words.{named_by, lines, end_line, memory_of, running_of, run_of, end_within, event_count}
+use Rattle.seh_host.specs.declared.names.ImageNames.{ImageNames}
 use Rattle.seh_host.proofs.Lemmas.{ran_whole, same_grew, same_part}
 use Rattle.seh_host.proofs.Runs.{within, end_left}
 use Rattle.seh_host.proofs.Writing.{before_ok, events_of, end_answered, part_of_text, stopped_text, same_stopped}
@@ -22,9 +23,9 @@ returns-in-Ok-clause-text g c =
     same_grew (g.O.Sink.taken c.new-lines.result.sink.now) (g.O.Sink.taken c.args.sink.now)
     (g.O.Sink.taken c.end.new.self.sink.now) _ _ _
     (ap g.O.Sink.taken c.new-lines.ensures.sink)
-    (ap (λ es. lines c.new-lines.result.trace es no_names ++ end_line c.unwrap_or-end.result)
+    (ap (λ es. lines c.new-lines.result.trace es (named_by r.functions.rows) ++ end_line c.unwrap_or-end.result)
     (events_of c.args.turns r)
-    ∙ ap (λ b. lines b (run_of c.args.turns r).events no_names ++ end_line c.unwrap_or-end.result)
+    ∙ ap (λ b. lines b (run_of c.args.turns r).events (named_by r.functions.rows) ++ end_line c.unwrap_or-end.result)
     c.new-lines.ensures.trace)
     (search rules)
     (ran_whole _ _ _ _ _ c.write_turns.ensures.written.wrote c.end.ensures.wrote
@@ -38,11 +39,11 @@ returns-clause-part g c =
     same_part (g.O.Sink.taken c.new-lines.result.sink.now) (g.O.Sink.taken c.args.sink.now)
     (g.O.Sink.taken c.end.new.self.sink.now) _ _ _ c.in-Err.fault.taken
     (ap g.O.Sink.taken c.new-lines.ensures.sink)
-    (ap (λ b. lines b shown.events no_names ++ end_line (end_within c.args.turns shown.end))
+    (ap (λ b. lines b shown.events (named_by r.functions.rows) ++ end_line (end_within c.args.turns shown.end))
     c.new-lines.ensures.trace)
     (search rules)
-    (part_of_text c.args.turns c.in-Err.fault.taken c.new-lines.result.trace r (running_of host) _ _
-    _ c.unwrap_or-end.result c.write_turns.ensures.written c.end.ensures.wrote
+    (part_of_text c.args.turns c.in-Err.fault.taken c.new-lines.result.trace r (running_of host)
+    _ _ _ c.unwrap_or-end.result c.write_turns.ensures.written c.end.ensures.wrote
     (c.unwrap_or-end.ensures ∙ within c.args.turns host.end
     ∙ ap (end_within c.args.turns) (end_left host.cpu (memory_of host.space) host.end))
     c.new-lines.ensures.taken (c.in-Err.ensures.outcome).1)
@@ -57,7 +58,8 @@ returns-clause-stopped g c =
     (ap g.O.Sink.taken c.new-lines.ensures.sink)
     c.new-lines.ensures.trace
     (search rules)
-    (stopped_text c.args.turns c.in-Err.fault.taken c.new-lines.result.trace r (running_of host) _ _ _
+    (stopped_text c.args.turns c.in-Err.fault.taken c.new-lines.result.trace r (running_of host)
+    _ _ _
     c.unwrap_or-end.result c.write_turns.ensures.written c.end.ensures.wrote
     (c.unwrap_or-end.ensures ∙ within c.args.turns host.end
     ∙ ap (end_within c.args.turns) (end_left host.cpu (memory_of host.space) host.end))
@@ -70,3 +72,8 @@ returns-in-Ok-clause-all_counted g c =
     (event_count c.write_turns.new.host)) (events_of c.args.turns r)
     (c.write_turns.ensures.all_counted
     (before_ok _ _ _ c.end.ensures.wrote c.in-Ok.ensures.outcome))
+
+pub write_turns-requires-clause-named : goal.write_turns-requires-clause-named
+write_turns-requires-clause-named g c =
+    ap (λ (n : ImageNames). n.table) c.new-lines.ensures.names ∙ c.copied.ensures
+    ∙ c.args.host.now.named

@@ -7,7 +7,7 @@ use Rattle.seh_host.proofs.run.write_turns.Goals as goal
 pub loop-i-init : goal.loop-i-init
 loop-i-init g c = (
   none_made (running_of c.args.host.now),
-  c.requires,
+  c.requires.whole,
   none_taken g.O.Sink.taken g.O.Sink.faults c.args.lines.now (running_of c.args.host.now),
   refl,
   none_counted (running_of c.args.host.now) (event_count c.args.host.now),
@@ -19,13 +19,14 @@ loop-i-preserved g c =
     let r = running_of c.args.host.now in (
       next_host g.O.Sink.taken g.O.Sink.faults c.args.lines.now c.loop-i.lines c.turn.new.to
           c.args.turns c.loop-i._i r (running_of c.loop-i.host) (running_of c.turn.new.host) i.0 i.1
-          i.2 c.turn.ensures.host c.turn.ensures.shown,
+          c.requires.named i.2 c.turn.ensures.host c.turn.ensures.shown,
       c.if-lines.false,
       next_took g.O.Sink.taken g.O.Sink.faults c.args.lines.now c.loop-i.lines c.turn.new.to
           c.args.turns c.loop-i._i r (running_of c.loop-i.host) (running_of c.turn.new.host) i.0 i.1
-          i.2 c.turn.ensures.host c.turn.ensures.shown,
+          c.requires.named i.2 c.turn.ensures.host c.turn.ensures.shown,
       c.turn.ensures.image ∙ i.3,
-      next_counted c.args.turns c.loop-i._i (event_count c.args.host.now) (event_count c.loop-i.host)
+      next_counted c.args.turns c.loop-i._i (event_count c.args.host.now)
+          (event_count c.loop-i.host)
           (event_count c.turn.new.host) r (running_of c.loop-i.host) (running_of c.turn.new.host)
           i.0 i.4 c.turn.ensures.host c.turn.ensures.counted,
     )
@@ -35,7 +36,8 @@ returns-in-Ended-clause-written g c =
     let i = c.loop-i.invariant in
     over g.O.Sink.taken g.O.Sink.faults c.args.lines.now c.loop-i.lines c.turn.new.to c.args.turns
     c.loop-i._i (running_of c.args.host.now) (running_of c.loop-i.host)
-    (running_of c.turn.new.host) i.0 i.1 i.2 c.turn.ensures.host c.turn.ensures.shown
+    (running_of c.turn.new.host) i.0 i.1 c.requires.named i.2 c.turn.ensures.host
+    c.turn.ensures.shown
     c.loop-i-test.true c.in-Ended.ensures.answer
 
 pub returns-in-Ended-clause-counted : goal.returns-in-Ended-clause-counted
@@ -59,7 +61,8 @@ returns-then-lines-clause-written g c =
     let i = c.loop-i.invariant in
     stops g.O.Sink.taken g.O.Sink.faults c.args.lines.now c.loop-i.lines c.turn.new.to c.args.turns
     c.loop-i._i (running_of c.args.host.now) (running_of c.loop-i.host)
-    (running_of c.turn.new.host) i.0 i.1 i.2 c.turn.ensures.host c.turn.ensures.shown
+    (running_of c.turn.new.host) i.0 i.1 c.requires.named i.2 c.turn.ensures.host
+    c.turn.ensures.shown
     c.loop-i-test.true c.if-lines.true
 
 pub returns-then-lines-clause-counted : goal.returns-then-lines-clause-counted
@@ -88,4 +91,5 @@ pub returns-clause-written : goal.returns-clause-written
 returns-clause-written g c =
     let i = c.loop-i.invariant in
     all_made g.O.Sink.taken g.O.Sink.faults c.args.lines.now c.loop-i.lines c.args.turns c.loop-i._i
-    (running_of c.args.host.now) (running_of c.loop-i.host) (omega arith) i.0 i.1 i.2
+    (running_of c.args.host.now) (running_of c.loop-i.host) (omega arith) i.0 i.1
+    c.requires.named i.2

@@ -10,7 +10,8 @@ returns-in-Ok-clause-wrote g c =
     (two _ _ _ _ _ c.put_entries.ensures.wrote
     (same _ _ _ _ c.put.ensures.wrote (c.as_bytes.ensures.value ∙ c.count_line.ensures
     ∙ ap count_line c.len.ensures)))
-    (table_read c.in-Ok.tables c.args.image.now read.0 read.1)
+    (table_read c.names-names.result c.in-Ok.tables c.args.image.now c.names-names.ensures read.0
+    read.1)
 
 pub returns-in-Err-clause-wrote : goal.returns-in-Err-clause-wrote
 returns-in-Err-clause-wrote g c =

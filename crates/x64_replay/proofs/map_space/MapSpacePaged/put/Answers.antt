@@ -15,7 +15,8 @@ returns-in-Some c =
     let q : Page = record { protection = p.protection; bytes = c.put_bytes.new.bytes } in
     let had : pages_of m (c.args.at / 4096) ≡ Some p = sym c.in-Some.ensures.value in
     number_put (pages_of m) p q n c.args.at c.args.value had (omega arith) (omega arith)
-    (λ i. c.put_bytes.ensures i ∙ ap (λ k. page_with_number p.bytes (c.args.at % 4096) k c.args.value i)
+    (λ i. c.put_bytes.ensures i ∙ ap (λ k. page_with_number p.bytes (c.args.at % 4096) k
+    c.args.value i)
     c.bytes-count.ensures.value) refl _
     (page_put m (c.get_mut.follows.lender q) (c.args.at / 4096) q
     ((c.get_mut.follows.holds q).3 (search rules)))

@@ -15,7 +15,8 @@ returns-in-Some c =
     let p = c.in-Some.page.now in
     let len : length p.bytes ≡ 4096 = search rules in
     let fits : (i : ℕ) → get_or p.bytes i 0 < 256 = search rules in
-    let rest = stretch_some pages c.args.at p (sym c.in-Some.ensures.value) (omega arith) len fits in
+    let rest = stretch_some pages c.args.at p (sym c.in-Some.ensures.value) (omega arith) len fits
+    in
     let all : take (4096 - c.args.at % 4096) (drop (c.args.at % 4096) p.bytes)
     ≡ drop (c.args.at % 4096) p.bytes = take_all (4096 - c.args.at % 4096)
     (drop (c.args.at % 4096) p.bytes) (omega (arith, length-drop (c.args.at % 4096) p.bytes)) in

@@ -1,6 +1,6 @@
 use Rattle.std.proofs.Common.{ℕ, ◌≤◌, ◌<◌, ◌-◌, length, get_or}
 use Rattle.pe_image.specs.NameRows.{no_row}
-use Rattle.pe_image.proofs.name_table.NameRows.row.Given as goal
+use Rattle.pe_image.proofs.name_table.NameRows.place.Given as goal
 
 abbrev pub invariant-loop-low : goal.invariant-loop-low
 invariant-loop-low l = record {

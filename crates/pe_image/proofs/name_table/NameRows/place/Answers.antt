@@ -1,8 +1,8 @@
-use Rattle.std.proofs.Common.{◌≡◌, ◌+◌, ◌-◌, ◌/◌, ◌<◌, length, get_or, option_map, Some, inl, inr, ap, sym, ◌∙◌, arith}
+use Rattle.std.proofs.Common.{◌≡◌, ◌+◌, ◌-◌, ◌/◌, ◌<◌, length, get_or, inl, inr, ap, sym, arith}
 use Rattle.std.proofs.lemmas.Bool.{cases_lt}
-use Rattle.pe_image.specs.NameRows.{NameRow, no_row}
+use Rattle.pe_image.specs.NameRows.{no_row}
 use Rattle.pe_image.proofs.NameRows.{table_known, ends_before, not_empty, one_holds, none_between}
-use Rattle.pe_image.proofs.name_table.NameRows.row.Goals as goal
+use Rattle.pe_image.proofs.name_table.NameRows.place.Goals as goal
 
 pub loop-low-init : goal.loop-low-init
 loop-low-init c =
@@ -52,8 +52,8 @@ loop-low-preserved c =
       above = λ lt. omega arith;
     }
 
-pub returns-else-rva-range : goal.returns-else-rva-range
-returns-else-rva-range c =
+pub returns-else-rva-range-clause-row : goal.returns-else-rva-range-clause-row
+returns-else-rva-range-clause-row c =
     let known = table_known c.self.inside.section c.self.inside.count c.args.self.now
     c.self.invariant c.self.view_is in
     let l = c.loop-low in
@@ -65,16 +65,13 @@ returns-else-rva-range c =
     let end = c.range-range.ensures.end in
     let low = c.if-rva-range.false in
     let high = c.if-range-rva.false in
-    (λ i. Some (begin i, c.range-range.ensures.number i))
-    ∙ sym (ap (option_map (λ (r : NameRow). (r.begin, r.number)))
-    (one_holds c.args.rva 0 rows middle known.order inside (omega arith) (omega arith)))
+    sym (one_holds c.args.rva 0 rows middle known.order inside (omega arith) (omega arith))
 
-pub returns : goal.returns
-returns c =
+pub returns-clause-row : goal.returns-clause-row
+returns-clause-row c =
     let known = table_known c.self.inside.section c.self.inside.count c.args.self.now
     c.self.invariant c.self.view_is in
     let l = c.loop-low in
     let over = c.loop-low-test.false in
-    sym (ap (option_map (λ (r : NameRow). (r.begin, r.number)))
-    (none_between c.args.rva 0 c.args.self.now l.high known.order
-    (λ j lt. l.invariant.below j (omega arith)) l.invariant.within l.invariant.above))
+    sym (none_between c.args.rva 0 c.args.self.now l.high known.order
+    (λ j lt. l.invariant.below j (omega arith)) l.invariant.within l.invariant.above)
