@@ -24,7 +24,7 @@
  *    points to may be read for as long as the call takes (of the last parameters: written).
  *  - Nothing else writes what is passed, and what is written overlaps nothing else that is passed.
  *  - A count of bytes, or of elements times their size, is below 2^63.
- *  - 64 KiB of stack are left; for seh_validate 1 MiB, and its probe has at most 4,096 bytes.
+ *  - 64 KiB of stack are left, and for seh_validate 1 MiB.
  *  - malloc, realloc and free are one allocator's, which aligns a block as C demands. No call is
  *    made in a signal handler that may have interrupted malloc. A call takes one block, of 32 bytes
  *    for each section of the image, since an image may have up to 65,535 of them; seh_scopes takes

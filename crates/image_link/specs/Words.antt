@@ -28,7 +28,7 @@ pub use Rattle.x64_emit.specs.Near.{AreNear, IsNear, IsInstructionNear, IsBaseNe
 pub use Rattle.x64_emit.specs.Rooms.{code_room}
 pub use Rattle.image_link.specs.Fits.{FitsFunction, FitsFunclet, FitsProgram, tables_room, function_bodies, funclet_bodies, program_tables_room, FitsSlot, FitsInstruction, FitsBody, FitsKind, text_room}
 pub use Rattle.image_link.specs.Linked.{total, first, text_size, xdata_begin, IsPlacement, site, image_of, linked}
-pub use Rattle.image_link.specs.Walks.{has_walk, functions_walk, funclets_walk, calls_walk, services_if, IsImported, named_if, named_functions, IsName, IsNamed, function_rows, names_room}
+pub use Rattle.image_link.specs.Walks.{has_walk, functions_walk, funclets_walk, calls_walk, services_if, IsImported, IsImportedIf, named_if, named_functions, IsName, IsNamed, function_rows, names_room}
 unfoldable pub use Rattle.image_link.specs.Walks.{services_of}
 pub use Rattle.image_link.specs.Near.{IsRoutineNear, IsFrameNear, IsEntryNear, IsSiteNear, AreFew, HasRoom, HasNames, HasPlaces}
 pub use Rattle.image_link.specs.Routines.{RoutineView, function_frame, framed, is_leaf, leaf_if, functions_from, funclet, routines, leaf_layout, function_layout, leaf, funclet_frame, nothing, no_function, body_of_function, body_of_funclet, kept_by, HasParent, entry_of, funclet_layout, has_call}

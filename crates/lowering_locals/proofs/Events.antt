@@ -70,4 +70,5 @@ module _ (before : List Event) where
       → begins_block (drop (length before) (es ++ events.Finally k abnormal ∷ [])) ≡ true
   block_events es k abnormal a =
       let e = events.Finally k abnormal in
-      added (es ++ e ∷ []) (a.more ++ e ∷ []) (joined es (e ∷ []) a) ∙ ends_with_block a.more k abnormal
+      added (es ++ e ∷ []) (a.more ++ e ∷ []) (joined es (e ∷ []) a)
+      ∙ ends_with_block a.more k abnormal

@@ -97,29 +97,29 @@ protects_are_matched t fs program p q image made s c first b known e =
 module _ (setting : Setting) (made : IsWellMade setting.program setting.plan) (s : State)
     (c : Configuration) (b : RepresentsAt setting s c) (known : IsKnown setting.program c)
     (first : ℕ) (e : instruction_at setting.program c ≡ Some (instructions.CallBuiltIn Walk first))
-    where
-      open setting use {functions as t, funclets as fs, program, plan as p}
+  where
+    open setting use {functions as t, funclets as fs, program, plan as p}
 
-      abbrev given : MachineView
-      given = asking.given setting made s c b known Walk first e
+    abbrev given : MachineView
+    given = asking.given setting made s c b known Walk first e
 
-      -- the state at the service, where the call's code begins at an address
-      abbrev to : ℕ → ℕ
-      to a = return_at (p.layout c.frame.body) first (a + 5)
+    -- the state at the service, where the call's code begins at an address
+    abbrev to : ℕ → ℕ
+    to a = return_at (p.layout c.frame.body) first (a + 5)
 
-      abbrev there : ℕ → State
-      there a = machine (pushed given (register s.cpu Rsp) (to a)) (address_of (service_of Walk))
-          s.cpu.flags
+    abbrev there : ℕ → State
+    there a = machine (pushed given (register s.cpu Rsp) (to a)) (address_of (service_of Walk))
+        s.cpu.flags
 
-      abbrev stack : List StackItem
-      stack = (asking.asks setting made s c b known Walk first e).is
+    abbrev stack : List StackItem
+    stack = (asking.asks setting made s c b known Walk first e).is
 
-      abbrev OnAt : ℕ → Type 0
-      OnAt a = On t fs program p (there a).memory (context_of (back (there a) (to a)).cpu) stack
-          (Waits (waiting c first).frame ∷ c.below) b.body.acts
+    abbrev OnAt : ℕ → Type 0
+    OnAt a = On t fs program p (there a).memory (context_of (back (there a) (to a)).cpu) stack
+        (Waits (waiting c first).frame ∷ c.below) b.body.acts
 
-      on_top : OnAt s.cpu.rip
-      on_top = subst OnAt (sym b.rip) (asking.asks setting made s c b known Walk first e).asks.on
+    on_top : OnAt s.cpu.rip
+    on_top = subst OnAt (sym b.rip) (asking.asks setting made s c b known Walk first e).asks.on
 
 pub walks_are_matched : WalksAreMatched
 walks_are_matched t fs program p q image made s c first b known e =

@@ -2,9 +2,10 @@
 use Rattle.std.proofs.Common.{◌≡◌, ℕ, ◌+◌, ◌^◌, ◌<◌, ◌≤◌, false, List, [], ◌∷◌, ◌++◌, length, map, Some, None, Ok, refl, sym, ap, ◌∙◌, arith}
 use Rattle.std.specs.Prelude.{Result, slice_get}
 use Rattle.std.specs.List.{filter_map}
-use Rattle.match_turns.specs.Words.{W64, Event, address_of, RefusedAccess, Memory, loaded, Rsp, Context, context_of, State, register, rsp, Functions, Funclet, Turn, Continues, arrived, back, returned, turn, BuiltIn, Walk, Temporary, LinearProgram, Item, Waits, Configuration, Next, functions_in, waiting, act, StackItem, Activation, On, Moves, HaveRoom, turns_left, Setting, RepresentsAt}
+use Rattle.match_turns.specs.Words.{W64, Event, address_of, RefusedAccess, Memory, loaded, Rsp, Context, context_of, State, register, rsp, Functions, Funclet, Turn, Continues, arrived, back, returned, turn, BuiltIn, Walk, Temporary, LinearProgram, Item, Waits, Configuration, Next, waiting, act, StackItem, Activation, On, Moves, HaveRoom, turns_left, Setting, RepresentsAt}
 use Rattle.std.proofs.lemmas.List.{append-nil}
 use Rattle.source_meaning.specs.State.{walk_events}
+use Rattle.linear_machine.specs.Frames.{functions_in}
 use Rattle.seh_walk.specs.Walk.{steps}
 use Rattle.seh_walk.specs.Controls.{number_at}
 use Rattle.host_model.specs.HostStep.{Printed, printed, printed_of, walked, walk_from, walking}

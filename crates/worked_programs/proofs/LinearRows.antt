@@ -3,7 +3,7 @@ use Rattle.std.proofs.Common.{refl}
 use Rattle.source_meaning.specs.Meaning.{computed}
 use Rattle.linear_machine.specs.Run.{computed_linear}
 use Rattle.worked_programs.specs.LeftActivations.{LeftActivations}
-use Rattle.worked_programs.specs.LinearRows.{SumAndReturn, NullStoreCaught, FilterThenFinally, ContinueSameOperand, ReturnFlags, LeaveFlags, DivisionFaults, DivisionByZero, RaiseInFilter, RaiseInFinally, ContinueNoncontinuable, FilterAskedOnce, CollidedTwice, TargetInOuterActivation, TwoFilters, BreakThroughFinally, ReturnThroughTwo, StoreAcrossPages, FaultAddress, ReservedAccess, Conversions, Operators, SixArguments, Loops, DeepRecursion, EndlessRecursion, SumToArgument}
+use Rattle.worked_programs.specs.LinearRows.{SumAndReturn, NullStoreCaught, FilterThenFinally, ContinueSameOperand, ReturnFlags, LeaveFlags, DivisionFaults, DivisionByZero, RaiseInFilter, RaiseInFinally, ContinueNoncontinuable, FilterAskedOnce, CollidedTwice, WalkInFilter, WalkAfterCollision, TargetInOuterActivation, TwoFilters, BreakThroughFinally, ReturnThroughTwo, StoreAcrossPages, FaultAddress, ReservedAccess, Conversions, Operators, SixArguments, Loops, DeepRecursion, EndlessRecursion, SumToArgument}
 
 pub sum_and_return : SumAndReturn
 unfolding computed computed_linear
@@ -56,6 +56,14 @@ filter_asked_once = refl
 pub collided_twice : CollidedTwice
 unfolding computed computed_linear
 collided_twice = refl
+
+pub walk_in_filter : WalkInFilter
+unfolding computed computed_linear
+walk_in_filter = refl
+
+pub walk_after_collision : WalkAfterCollision
+unfolding computed computed_linear
+walk_after_collision = refl
 
 pub target_in_outer_activation : TargetInOuterActivation
 unfolding computed computed_linear

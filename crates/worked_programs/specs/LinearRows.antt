@@ -4,6 +4,7 @@ use Rattle.c_checked.specs.Program.{Program}
 use Rattle.source_meaning.specs.Meaning.{meaning}
 use Rattle.source_meaning.specs.Rows.{sum_and_return, null_store_caught, filter_then_finally, continue_same_operand, return_flags, leave_flags, division_faults, division_by_zero, raise_in_filter, raise_in_finally, continue_noncontinuable}
 use Rattle.source_meaning.specs.MoreRows.{filter_asked_once, collided_twice, target_in_outer_activation, two_filters, break_through_finally, return_through_two, store_across_pages, fault_address, reserved_access, conversions, operators, six_arguments, loops, deep_recursion, endless_recursion, sum_to_argument}
+use Rattle.source_meaning.specs.WalkRows.{walk_in_filter, walk_after_collision}
 use Rattle.linear_machine.specs.Run.{linear_meaning}
 use Rattle.seh_ir.specs.Lowered.{lowered}
 
@@ -49,6 +50,12 @@ FilterAskedOnce = Agrees filter_asked_once 0 100
 
 abbrev pub CollidedTwice : Type 0
 CollidedTwice = Agrees collided_twice 0 100
+
+abbrev pub WalkInFilter : Type 0
+WalkInFilter = Agrees walk_in_filter 0 100
+
+abbrev pub WalkAfterCollision : Type 0
+WalkAfterCollision = Agrees walk_after_collision 0 100
 
 abbrev pub TargetInOuterActivation : Type 0
 TargetInOuterActivation = Agrees target_in_outer_activation 0 100

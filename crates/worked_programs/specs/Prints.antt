@@ -13,10 +13,11 @@ use Rattle.c_resolved.specs.Program.{resolve}
 abbrev pub at : ℕ → ℕ → Identifier
 at start end = record { start = start; end = end }
 
--- without a trace numbers alone are shown
+-- without a trace numbers and walks alone are shown
 abbrev pub numbers : List Event → List Event
 numbers [] = []
 numbers (events.Put v ∷ es) = events.Put v ∷ numbers es
+numbers (events.At k ∷ es) = events.At k ∷ numbers es
 numbers (e ∷ es) = numbers es
 
 abbrev pub visible : Bool → List Event → List Event

@@ -1,7 +1,7 @@
 //! What the linear code of worked programs shows.
 
 ghost use Rattle.worked_programs.specs.LeftActivations.{LeftActivations};
-ghost use Rattle.worked_programs.specs.LinearRows.{SumAndReturn, NullStoreCaught, FilterThenFinally, ContinueSameOperand, ReturnFlags, LeaveFlags, DivisionFaults, DivisionByZero, RaiseInFilter, RaiseInFinally, ContinueNoncontinuable, FilterAskedOnce, CollidedTwice, TargetInOuterActivation, TwoFilters, BreakThroughFinally, ReturnThroughTwo, StoreAcrossPages, FaultAddress, ReservedAccess, Conversions, Operators, SixArguments, Loops, DeepRecursion, EndlessRecursion, SumToArgument};
+ghost use Rattle.worked_programs.specs.LinearRows.{SumAndReturn, NullStoreCaught, FilterThenFinally, ContinueSameOperand, ReturnFlags, LeaveFlags, DivisionFaults, DivisionByZero, RaiseInFilter, RaiseInFinally, ContinueNoncontinuable, FilterAskedOnce, CollidedTwice, WalkInFilter, WalkAfterCollision, TargetInOuterActivation, TwoFilters, BreakThroughFinally, ReturnThroughTwo, StoreAcrossPages, FaultAddress, ReservedAccess, Conversions, Operators, SixArguments, Loops, DeepRecursion, EndlessRecursion, SumToArgument};
 
 /// Each program shows by its linear code, in three turns a step, what it means.
 pub fn rows()
@@ -18,6 +18,8 @@ pub fn rows()
     ensures continue_noncontinuable { ContinueNoncontinuable }
     ensures filter_asked_once { FilterAskedOnce }
     ensures collided_twice { CollidedTwice }
+    ensures walk_in_filter { WalkInFilter }
+    ensures walk_after_collision { WalkAfterCollision }
     ensures target_in_outer_activation { TargetInOuterActivation }
     ensures two_filters { TwoFilters }
     ensures break_through_finally { BreakThroughFinally }

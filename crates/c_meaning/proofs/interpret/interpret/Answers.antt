@@ -51,7 +51,8 @@ returns-in-Err-Write-clause-part g c =
     same_part (g.O.Sink.taken c.new-lines.result.sink.now) (g.O.Sink.taken c.args.sink.now)
     (g.O.Sink.taken c.run_program.new.lines.sink.now) _ _ _ c.run_program.new.lines.taken
     (ap g.O.Sink.taken c.new-lines.ensures.sink) text_is (search rules)
-    (front_written names _ _ c.args.trace c.new-lines.result.trace c.args.budget shown q.shown q.front.0
+    (front_written names _ _ c.args.trace c.new-lines.result.trace c.args.budget shown q.shown
+    q.front.0
     c.new-lines.ensures.trace q.front.1 q.took_shown.wrote c.new-lines.ensures.taken)
 
 pub returns-in-Ok-outcome-clause-text : goal.returns-in-Ok-outcome-clause-text
@@ -66,8 +67,8 @@ returns-in-Ok-outcome-clause-text g c =
     (meaning.meaning (whole.program c.args.program.now) c.args.arg c.args.budget) (named_by ns))
     c.new-lines.ensures.names in
     let means = c.in-Ok.ensures.means in
-    let whole_is = whole_text names c.args.trace c.new-lines.result.trace c.args.budget shown c.in-Ok.end
-    _ c.as_bytes.result.now c.new-lines.ensures.trace means.ended
+    let whole_is = whole_text names c.args.trace c.new-lines.result.trace c.args.budget shown
+    c.in-Ok.end _ c.as_bytes.result.now c.new-lines.ensures.trace means.ended
     c.unwrap_or-ended.ensures (c.as_bytes.ensures.value ∙ c.ended_line.ensures) in
     same_grew (g.O.Sink.taken c.new-lines.result.sink.now) (g.O.Sink.taken c.args.sink.now)
     (g.O.Sink.taken c.put.new.self.sink.now) _ _ _
@@ -88,8 +89,8 @@ returns-clause-part g c =
     (meaning.meaning (whole.program c.args.program.now) c.args.arg c.args.budget) (named_by ns))
     c.new-lines.ensures.names in
     let means = c.in-Ok.ensures.means in
-    let whole_is = whole_text names c.args.trace c.new-lines.result.trace c.args.budget shown c.in-Ok.end
-    _ c.as_bytes.result.now c.new-lines.ensures.trace means.ended
+    let whole_is = whole_text names c.args.trace c.new-lines.result.trace c.args.budget shown
+    c.in-Ok.end _ c.as_bytes.result.now c.new-lines.ensures.trace means.ended
     c.unwrap_or-ended.ensures (c.as_bytes.ensures.value ∙ c.ended_line.ensures) in
     same_part (g.O.Sink.taken c.new-lines.result.sink.now) (g.O.Sink.taken c.args.sink.now)
     (g.O.Sink.taken c.put.new.self.sink.now) _ _ _ c.in-Err.fault.taken

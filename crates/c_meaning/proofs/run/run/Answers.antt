@@ -9,15 +9,16 @@ use Rattle.c_meaning.proofs.run.run.Goals as goal
 
 pub loop-how-init : goal.loop-how-init
 loop-how-init g c = (
-  at_first (TookEvents g.O.Sink.taken g.O.Sink.faults g.N.Names.named) (whole.program c.args.program.now)
-      c.args.machine.now (next_of c.args.first) c.args.lines.now
+  at_first (TookEvents g.O.Sink.taken g.O.Sink.faults g.N.Names.named)
+      (whole.program c.args.program.now) c.args.machine.now (next_of c.args.first) c.args.lines.now
       (took_none g.O.Sink.taken g.O.Sink.faults g.N.Names.named c.args.lines.now),
   c.requires.fresh,
 )
 
 pub loop-how-preserved : goal.loop-how-preserved
 loop-how-preserved g c = (
-  one_more (TookEvents g.O.Sink.taken g.O.Sink.faults g.N.Names.named) (whole.program c.args.program.now)
+  one_more (TookEvents g.O.Sink.taken g.O.Sink.faults g.N.Names.named)
+      (whole.program c.args.program.now)
       (took_more g.O.Sink.taken g.O.Sink.faults g.N.Names.named)
       (machine_of c.args.machine.now (next_of c.args.first) []) c.args.lines.now
       c.loop-how.machine (next_of c.loop-how.next) c.loop-how.lines c.turn.new.machine
@@ -27,7 +28,8 @@ loop-how-preserved g c = (
 
 pub loop-how-smaller : goal.loop-how-smaller
 loop-how-smaller g c =
-    nearer (TookEvents g.O.Sink.taken g.O.Sink.faults g.N.Names.named) (whole.program c.args.program.now)
+    nearer (TookEvents g.O.Sink.taken g.O.Sink.faults g.N.Names.named)
+    (whole.program c.args.program.now)
     c.loop-how.machine (next_of c.loop-how.next) c.loop-how.lines c.turn.new.machine
     (next_of c.in-Ok.after) c.turn.new.to
     (not_over _ c.finish_of.result c.finish_of.ensures c.in_default.not-Some)

@@ -40,5 +40,6 @@ returns-clause-part g c =
 
 pub returns-clause-failed : goal.returns-clause-failed
 returns-clause-failed g c =
-    has_failed g.O.Sink.taken g.O.Sink.faults g.N.Names.named (whole.program c.args.program.now) _ c.args.lines.now
+    has_failed g.O.Sink.taken g.O.Sink.faults g.N.Names.named
+    (whole.program c.args.program.now) _ c.args.lines.now
     c.run.new.machine c.run.new.lines c.in-Err.error c.in-Err.ensures.stopped

@@ -53,15 +53,15 @@ offset_of-entry-requires-clause-after c =
     past c.args.bounds.now (first c.args.imports.now c.args.globals.now) c.args.routines.now
     c.args.main c.placement_of-placement.result.text c.requires.bounds (omega arith) (omega arith)
 
-pub function_rows-names-requires-clause-between : goal.function_rows-names-requires-clause-between
-function_rows-names-requires-clause-between c =
+pub function_rows-requires-clause-between : goal.function_rows-requires-clause-between
+function_rows-requires-clause-between c =
     let fewer = c.requires.names.fewer in
     let inside = there c.args.bounds.now (first c.args.imports.now c.args.globals.now)
     c.args.routines.now (length (map linear_function c.args.named.now)) c.requires.bounds fewer in
     omega (arith, length-map c.args.named.now linear_function)
 
-pub function_rows-names-requires-clause-few : goal.function_rows-names-requires-clause-few
-function_rows-names-requires-clause-few c =
+pub function_rows-requires-clause-few : goal.function_rows-requires-clause-few
+function_rows-requires-clause-few c =
     let fewer = c.requires.names.fewer in
     let room = c.requires.names.room in
     let few = count_small c.args.routines.now in
