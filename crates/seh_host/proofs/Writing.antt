@@ -85,7 +85,8 @@ module _ (n k : ℕ) (trace : Bool) (r r' : Running) (x z : Writer) (le : k ≤ 
       ∙ shown_more r.functions r.funclets k (n - k) r.host in
       subst (λ t. Wrote x t z) (sym (ap (λ es. lines trace es (run_names r)) all
       ∙ lines_append trace (shown_made k r) rest (run_names r)))
-      (wrote_more x z z (lines trace (shown_made k r) (run_names r)) (lines trace rest (run_names r)) w
+      (wrote_more x z z (lines trace (shown_made k r) (run_names r))
+      (lines trace rest (run_names r)) w
       (wrote_nothing z (lines trace rest (run_names r)) was))
 
   pub written : (z.failed ≡ false → (made n r ≡ made k r) × (shown_made n r ≡ shown_made k r))
@@ -147,7 +148,8 @@ module _ {X : Type 0} (taken : X → Option (List ℕ)) (faults : X → ℕ) (l0
       (taken n.sink.now)
   before_it =
       taken_before (writer_of taken faults l0) (writer_of taken faults l) (writer_of taken faults n)
-      (lines l0.trace (shown_made i r0) (run_names r0)) (lines l.trace (shown_of r) (image_named l.names.now))
+      (lines l0.trace (shown_made i r0) (run_names r0))
+      (lines l.trace (shown_of r) (image_named l.names.now))
       (lines_named taken faults l0 l r0.functions.rows (shown_made i r0) same took) is shows.wrote
 
   pub stops : i < count → n.failed ≡ true → Written count l0.trace r0 (writer_of taken faults l0) r'
@@ -169,8 +171,9 @@ module _ {X : Type 0} (taken : X → Option (List ℕ)) (faults : X → ℕ) (l0
       (λ _. (far.0 ∙ sym near.0, far.1 ∙ sym near.1)) i (omega arith) before_it
 
 -- all turns made
-pub all_made : {X : Type 0} (taken : X → Option (List ℕ)) (faults : X → ℕ) (l0 n : Lines X ImageNames)
-    (count i : ℕ) (r0 r' : Running) → i ≡ count → r' ≡ made i r0 → n.failed ≡ false
+pub all_made : {X : Type 0} (taken : X → Option (List ℕ)) (faults : X → ℕ)
+    (l0 n : Lines X ImageNames) (count i : ℕ) (r0 r' : Running)
+    → i ≡ count → r' ≡ made i r0 → n.failed ≡ false
     → l0.names.now.table ≡ r0.functions.rows
     → TookEvents taken faults image_named l0 (shown_made i r0) n
     → Written count l0.trace r0 (writer_of taken faults l0) r' (writer_of taken faults n)
@@ -188,8 +191,8 @@ pub none_made : (r : Running) → r ≡ made 0 r
 unfolding after_turns
 none_made r = refl
 
-pub none_taken : {X : Type 0} (taken : X → Option (List ℕ)) (faults : X → ℕ) (l : Lines X ImageNames)
-    (r : Running) → TookEvents taken faults image_named l (shown_made 0 r) l
+pub none_taken : {X : Type 0} (taken : X → Option (List ℕ)) (faults : X → ℕ)
+    (l : Lines X ImageNames) (r : Running) → TookEvents taken faults image_named l (shown_made 0 r) l
 unfolding shown_in_turns
 none_taken taken faults l r = took_none taken faults image_named l
 

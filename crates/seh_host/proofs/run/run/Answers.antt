@@ -25,7 +25,8 @@ returns-in-Ok-clause-text g c =
     (ap g.O.Sink.taken c.new-lines.ensures.sink)
     (ap (λ es. lines c.new-lines.result.trace es (run_names r) ++ end_line c.unwrap_or-end.result)
     (events_of c.args.turns r)
-    ∙ ap (λ b. lines b (run_of c.args.turns r).events (run_names r) ++ end_line c.unwrap_or-end.result)
+    ∙ ap (λ b. lines b (run_of c.args.turns r).events (run_names r)
+    ++ end_line c.unwrap_or-end.result)
     c.new-lines.ensures.trace)
     (search rules)
     (ran_whole _ _ _ _ _ c.write_turns.ensures.written.wrote c.end.ensures.wrote
