@@ -1,6 +1,6 @@
 -- The caller of every frame is found, by the function table of the image.
 use Rattle.std.proofs.Common.{◌≡◌, ◌≢◌, ℕ, ◌+◌, ◌^◌, ◌<◌, ◌≤◌, true, List, [], ◌∷◌, ◌++◌, length, Option, Some, None, refl, sym, ap, subst, ◌∙◌, arith, inl, inr}
-use Rattle.image_tables.specs.Words.{Memory, modrm, Entry, holding, or_none, FetchedInstr, bytes, items, Body, following, is_body, IsRight, HasItems, image_of, RaiseException, CSpecificHandler, LocalUnwind, Protect, Put, LinearProgram, FitsProgram, first, linked, end_of, site_of, HasRegions, entries, image_base, function_of, entries_of, name_rows, caller_in, caller_of, FramedFunction, IsFound, registers, return_address, IsEntry, InBody, leaf, probe, FindsCaller, FramesAreFound, LeavesAreFound, ThunksAreFound, ProbesAreFound, routines_begin, thunk_begin}
+use Rattle.image_tables.specs.Words.{Memory, modrm, Entry, holding, or_none, FetchedInstr, bytes, items, Body, following, is_body, IsRight, HasItems, image_of, RaiseException, CSpecificHandler, LocalUnwind, Protect, Put, LinearProgram, FitsProgram, services_of, first, linked, end_of, site_of, HasRegions, entries, image_base, function_of, entries_of, name_rows, caller_in, caller_of, FramedFunction, IsFound, registers, return_address, IsEntry, InBody, leaf, probe, FindsCaller, FramesAreFound, LeavesAreFound, ThunksAreFound, ProbesAreFound, routines_begin, thunk_begin}
 use Rattle.x64_machine.specs.Contexts.{context_of}
 use Rattle.x64_machine.specs.Effect.{State}
 use Rattle.eh_tables.specs.Tables as reading
