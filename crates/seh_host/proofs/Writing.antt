@@ -192,7 +192,8 @@ unfolding after_turns
 none_made r = refl
 
 pub none_taken : {X : Type 0} (taken : X → Option (List ℕ)) (faults : X → ℕ)
-    (l : Lines X ImageNames) (r : Running) → TookEvents taken faults image_named l (shown_made 0 r) l
+    (l : Lines X ImageNames) (r : Running)
+    → TookEvents taken faults image_named l (shown_made 0 r) l
 unfolding shown_in_turns
 none_taken taken faults l r = took_none taken faults image_named l
 
