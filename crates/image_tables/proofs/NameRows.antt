@@ -130,7 +130,7 @@ module _ (p : LinearProgram) (fits : FitsProgram p) where
       (let le = most in omega arith) in
       record {
         each = rows_are b (length p.functions) few rises all_below 0 (named_functions p)
-            (named_length (calls_walk p) p.functions)
+            (let some = named_length (calls_walk p) p.functions in omega arith)
             (named_all (calls_walk p) p.functions fits.names);
         order = in_order b 0 0 (named_functions p) (omega arith);
       }
