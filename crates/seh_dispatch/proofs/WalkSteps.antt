@@ -49,7 +49,8 @@ found_step k t m w (Frame c u) = let ns = filter_map (number_at t) (controls k t
 pub printed_step : (n k : ℕ) (t : Functions) (m : Memory) (w : WalkState)
     (r : Result WalkState (Option StopCause)) → n ≡ k + 1 → r ≡ followed (visited t m w)
     → after_events (shown_at t w (visited t m w)) (rest_of k t m r) ≡ printed n t m w
-printed_step n k t m w r e f = ap (λ q. after_events (shown_at t w (visited t m w)) (rest_of k t m q)) f
+printed_step n k t m w r e f =
+    ap (λ q. after_events (shown_at t w (visited t m w)) (rest_of k t m q)) f
     ∙ found_step k t m w (visited t m w) ∙ one_step n k t m w (visited t m w) e refl
 
 pub printed-none : (n : ℕ) (t : Functions) (m : Memory) (w : WalkState) → n ≡ 0
