@@ -34,7 +34,8 @@ module _ (options : RunOptions) (p : Program) (again : ℤ) (same : again ≡ op
   part_same a b n h = subst (λ t. TookPart a t b n) text_same h
 
   pub front_same : (text : List ℕ) (out out' : Stream) → IsProgramOf text p
-      → (part : List ℕ) × ((rest : List ℕ) × (whole ≡ part ++ rest)) × Grew out.bytes part out'.bytes
+      → (part : List ℕ) × ((rest : List ℕ) × (whole ≡ part ++ rest))
+      × Grew out.bytes part out'.bytes
       → TookMeaningFront options text out out'
   front_same text out out' is h = record {
     program = p;

@@ -79,6 +79,6 @@ returns-in-Ok-put_all-clause-whole g c =
     ∙ ap (λ (n : ℕ). ended (named (codes "events ") n)) counted in
     wrote_summary c.args.turns c.args.number
     (run_names (running_of c.args.host.now)) shown
-          (taken c.args.out.now) (taken c.put_all.new.sink)
+    (taken c.args.out.now) (taken c.put_all.new.sink)
     c.as_bytes.result.now line c.in-Ok.ensures.ok (taken c.run.new.sink)
     (taken c.put_all-2.new.sink) ran c.as_bytes-2.result.now ends c.in-Ok-put_all.ensures.ok
