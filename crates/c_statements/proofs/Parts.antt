@@ -1,8 +1,9 @@
 -- A statement by what was made of its parts, one after another.
 use Rattle.std.proofs.Common.{◌≡◌, ℕ, ◌+◌, List, [], ◌∷◌, ◌++◌, map, refl, sym, ap, subst, ◌∙◌, append_assoc}
-use Rattle.c_statements.specs.Words.{Expr, Stmt, SymbolTable, with_block, least_of, kept, Walk, Resolves, numbering, resolved_at, Scope, Environment, Numbering, ResolvedStatements, Value, inside, condition, only, resolve_statement, resolve_statements, MakesOne, MakesPart, MakesBlock, MakesGoverned, Expression, Statement, statement, statements}
+use Rattle.c_statements.specs.Words.{Expr, Stmt, SymbolTable, with_block, opened, closed, environment, least_of, kept, Walk, Resolves, numbering, resolved_at, Scope, Environment, Numbering, ResolvedStatements, Value, inside, condition, only, resolve_statement, resolve_statements, MakesOne, MakesPart, MakesBlock, MakesGoverned, Expression, Statement, Statements, statement, statements}
 use Rattle.c_checked.specs.Expression.{expression}
 use Rattle.c_checked.specs.Statement as checked
+use Rattle.c_locals.specs.declared.environment.Environment.{Environment as Environment'}
 use Rattle.c_statements.proofs.Lemmas.{kept_more}
 use Rattle.c_syntax.specs.Statement as trees
 use Rattle.c_syntax.specs.declared.statement.Stmt.{Stmt as Read}
@@ -106,4 +107,46 @@ if_else_is was middle now b w0 w1 w2 e s o made a at c t u m k p =
           kept_more (least_of w0.worst) (least_of w1.worst) (least_of w2.worst)
           (v.faults ++ r.faults) q.faults m.faults j.faults
           ∙ ap (kept (least_of w0.worst)) (append_assoc v.faults r.faults q.faults);
+    }
+
+-- ---- in a block of its own, whose names end with it
+
+pub part_is : (e : Environment') (t t1 t2 t3 : SymbolTable) (w w' : Walk) (list : List Stmt)
+    (made : Stmt) (s : Statement)
+    → t1 ≡ opened t
+    → Resolves t1 t2 w w' (map checked.statement list)
+    (resolve_statement s (environment e t1.around) t1.block (numbering w))
+    → t3 ≡ closed t2 → checked.statement made ≡ only (map checked.statement list)
+    → MakesPart t t3 w w' made
+    (resolve_statement s (environment e (t.block ∷ t.around)) [] (numbering w))
+part_is e t t1 t2 t3 w w' list made s begins m0 ends is =
+    let m : Resolves (opened t) t2 w w' (map checked.statement list)
+    (resolve_statement s (environment e (t.block ∷ t.around)) [] (numbering w)) = subst
+    (λ (k : SymbolTable). Resolves k t2 w w' (map checked.statement list)
+    (resolve_statement s (environment e k.around) k.block (numbering w))) begins m0 in
+    record {
+      names = ends ∙ ap closed m.names;
+      done = is ∙ ap only m.done;
+      counts = m.counts;
+      faults = m.faults;
+    }
+
+pub block_is : (e : Environment') (t t1 t2 t3 : SymbolTable) (w w' : Walk) (made : List Stmt)
+    (ss : Statements)
+    → t1 ≡ opened t
+    → Resolves t1 t2 w w' (map checked.statement made)
+    (resolve_statements ss (environment e t1.around) t1.block (numbering w))
+    → t3 ≡ closed t2
+    → MakesBlock t t3 w w' made
+    (resolve_statements ss (environment e (t.block ∷ t.around)) [] (numbering w))
+block_is e t t1 t2 t3 w w' made ss begins m0 ends =
+    let m : Resolves (opened t) t2 w w' (map checked.statement made)
+    (resolve_statements ss (environment e (t.block ∷ t.around)) [] (numbering w)) = subst
+    (λ (k : SymbolTable). Resolves k t2 w w' (map checked.statement made)
+    (resolve_statements ss (environment e k.around) k.block (numbering w))) begins m0 in
+    record {
+      names = ends ∙ ap closed m.names;
+      done = m.done;
+      counts = m.counts;
+      faults = m.faults;
     }

@@ -35,7 +35,8 @@ pub record MakesOne (b : Scope) (before after : Walk) (made : Stmt)
   pub faults : least_of after.worst ≡ kept (least_of before.worst) r.faults
 
 -- the statement that is a part of another one, whose names end with it
-pub record MakesPart (was now : SymbolTable) (before after : Walk) (made : Stmt) (r : ResolvedStatements) : Type 0 where
+pub record MakesPart (was now : SymbolTable) (before after : Walk) (made : Stmt)
+    (r : ResolvedStatements) : Type 0 where
   pub names : now ≡ was
   pub done : statement made ≡ only r.done
   pub counts : numbering after ≡ r.counts
@@ -50,8 +51,8 @@ pub record MakesBlock (was now : SymbolTable) (before after : Walk) (made : List
   pub faults : least_of after.worst ≡ kept (least_of before.worst) r.faults
 
 -- a condition, and then the statement that it governs
-pub record MakesGoverned (was now : SymbolTable) (before after : Walk) (e : Expr) (made : Stmt) (v : Value)
-    (r : ResolvedStatements) : Type 0 where
+pub record MakesGoverned (was now : SymbolTable) (before after : Walk) (e : Expr) (made : Stmt)
+    (v : Value) (r : ResolvedStatements) : Type 0 where
   pub condition : expression e ≡ v.value
   pub names : now ≡ was
   pub done : statement made ≡ only r.done

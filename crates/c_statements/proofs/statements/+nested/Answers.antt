@@ -6,10 +6,17 @@ use Rattle.c_statements.specs.Words.{SymbolTable, Stmt, Walk, MakesPart, MakesBl
 use Rattle.c_resolved.specs.Statements as definitions
 use Rattle.c_statements.proofs.Going.{resolved_from, goes, gone}
 use Rattle.c_statements.proofs.Guarded.{for_is, ends_as_before, except_is, finally_is}
-use Rattle.c_statements.proofs.Parts.{one_is, part_in, block_in, governed_in, governed_is, if_else_is}
+use Rattle.c_statements.proofs.Parts.{one_is, part_in, block_in, block_is, governed_in, governed_is, if_else_is}
 use Rattle.c_statements.proofs.Trees as read
 use Rattle.c_statements.proofs.statements.+nested.Goals as goal
 use Rattle.c_syntax.specs.Statement as trees
+
+pub items-returns : goal.items-returns
+items-returns _ c =
+    block_is c.args.env.now c.args.names.now c.open.new.self c.statements.new.names
+    c.close.new.self c.args.walk.now c.statements.new.walk c.in_ok-made.made.items
+    (statements (map statement c.args.list.now)) c.in_ok-open.ensures.opened c.in_ok-made.ensures
+    c.close.ensures
 
 pub governed-returns-in-Ok : goal.governed-returns-in-Ok
 governed-returns-in-Ok _ c =
@@ -27,14 +34,14 @@ governed-returns-in-Ok _ c =
     governed_is t c.part.new.names w first c.part.new.walk c.in_ok-value.value c.in-Ok.made.value v f
     c.in_ok-value.ensures.value c.in_ok-value.ensures.faults refl c.in-Ok.ensures
 
-pub for_loop-returns-in-Ok-part-clause-names : goal.for_loop-returns-in-Ok-part-clause-names
-for_loop-returns-in-Ok-part-clause-names _ c =
+pub for_loop-returns-clause-names : goal.for_loop-returns-clause-names
+for_loop-returns-clause-names _ c =
     ends_as_before c.args.names.now c.open.new.self c.for_initialiser.new.names c.part.new.names
     c.close.new.self _ c.in_ok-open.ensures.opened c.in_ok-beginning.ensures.names
     c.in-Ok-part.ensures.names c.close.ensures
 
-pub for_loop-returns-in-Ok-part-clause-made : goal.for_loop-returns-in-Ok-part-clause-made
-for_loop-returns-in-Ok-part-clause-made _ c =
+pub for_loop-returns-clause-made : goal.for_loop-returns-clause-made
+for_loop-returns-clause-made _ c =
     let w = c.args.walk.now in
     let w1 = c.for_initialiser.new.walk in
     let w2 : Walk = record {
