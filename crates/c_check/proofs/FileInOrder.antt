@@ -2,7 +2,7 @@
 use Rattle.std.proofs.Common.{◌≡◌, ℕ, ◌+◌, List, [], ◌++◌, map, drop, append-nil, sym, ap, ◌∙◌}
 use Rattle.std.specs.Prelude.{None, not}
 use Rattle.c_check.proofs.Lemmas.{kept_more}
-use Rattle.c_check.specs.Words.{least_of, kept, block_of, IsFile, Duplicate, UserFunction, File, parameter_types, named, file_of, spelled, is_taken, with_name, unless_holds, Parameter, CType, Identifier, external_declaration}
+use Rattle.c_check.specs.Words.{least_of, kept, SymbolTable, with_block, IsFile, Duplicate, UserFunction, File, parameter_types, named, file_of, spelled, is_taken, with_name, unless_holds, Parameter, CType, Identifier, external_declaration}
 use Rattle.c_locals.proofs.GlobalPlaces.{at_file}
 use Rattle.c_locals.specs.declared.globals.File.{File as File'}
 use Rattle.c_syntax.specs.declared.declaration.ExternalDeclaration.{ExternalDeclaration as ExternalDeclaration'}
@@ -10,20 +10,21 @@ use Rattle.c_syntax.specs.declared.declaration.ExternalDeclaration.{ExternalDecl
 -- the file after the name of a function
 pub function_named : (text : List ℕ) (t : CType) (n : Identifier) (ps : List Parameter)
     (f f' : File')
-    → block_of f'.names.entries ≡ with_name (block_of f.names.entries) (spelled text n)
-    (UserFunction f.functions t (parameter_types ps))
+    → f'.names ≡ with_block f.names (with_name f.names.block (spelled text n)
+    (UserFunction f.functions t (parameter_types ps)))
     → f'.bytes.items ≡ f.bytes.items → f'.functions ≡ f.functions + 1
     → least_of f'.worst ≡ kept (least_of f.worst)
-    (unless_holds (not (is_taken (block_of f.names.entries) (spelled text n))) n.start Duplicate)
+    (unless_holds (not (is_taken f.names.block (spelled text n))) n.start Duplicate)
     → (d : File) → IsFile f d → IsFile f' (named text n
     (UserFunction d.functions t (parameter_types ps)) d.bytes (d.functions + 1) [] d)
 function_named text t n ps f f' names bytes functions faults d h =
-    let duplicate = unless_holds (not (is_taken (block_of f.names.entries) (spelled text n)))
+    let duplicate = unless_holds (not (is_taken f.names.block (spelled text n)))
     n.start Duplicate in
     at_file (λ k. IsFile f' (named text n (UserFunction k.functions t (parameter_types ps)) k.bytes
     (k.functions + 1) [] k)) f d h
     (record {
-      scope = names;
+      scope = ap (λ (k : SymbolTable). k.block) names;
+      around = ap (λ (k : SymbolTable). k.around) names ∙ h.around;
       bytes = bytes;
       functions = functions;
       faults = kept_more None (least_of f.worst) (least_of f'.worst) d.faults duplicate h.faults

@@ -1,15 +1,13 @@
 -- Functions, one after another.
 use Rattle.std.proofs.Common.{◌≡◌, ℕ, ◌+◌, ◌<◌, List, [], ◌∷◌, ◌++◌, map, length, drop, get_or, append-nil, append_assoc, Option, refl, sym, ap, ◌∙◌, subst}
 use Rattle.std.proofs.lemmas.List.{map-append}
-use Rattle.std.specs.Borrow.{Bor}
 use Rattle.c_checked.proofs.Items.{next_of}
-use Rattle.c_check.specs.Words.{Progress, sizes_of, function, least_of, kept, FaultAt, with_parameters, parameter_faults, result_size, around, function_of, functions_of, Scope, spelled, Numbering, resolve_statements, Parameter, CType, Identifier, ExternalDeclaration, Globals, Function, external_declaration}
+use Rattle.c_check.specs.Words.{SymbolTable, Progress, sizes_of, function, least_of, kept, FaultAt, with_parameters, parameter_faults, result_size, around, function_of, functions_of, Scope, spelled, Numbering, resolve_statements, Parameter, CType, Identifier, ExternalDeclaration, Globals, Function, external_declaration}
 use Rattle.c_check.specs.Functions.{AddsFunctions}
 use Rattle.c_checked.specs.declared.function.Function.{Function as Function'}
 use Rattle.c_checked.specs.Program as checked_program
 use Rattle.c_checked.specs.Statement as checked
 use Rattle.c_check.proofs.Lemmas.{kept_append, kept_more}
-use Rattle.c_expressions.specs.declared.scopes.Entity.{Entity as Entity'}
 use Rattle.c_resolved.specs.Program as definitions
 use Rattle.c_locals.specs.declared.environment.Walk.{Walk}
 use Rattle.c_locals.specs.WalkResults.{Resolves}
@@ -22,12 +20,12 @@ use Rattle.c_syntax.specs.Statement.{Statements}
 -- what is made of a function's parts, with the walk over its body
 pub function_added : (before after : Progress) (text : List ℕ) (file : Scope) (t : CType)
     (n : Identifier) (ps : List Parameter) (body : Statements) (block : Scope)
-    (names : List (Bor (List ℕ) × Entity')) (walk walk' : Walk) (done : List checked.Statement)
+    (was names : SymbolTable) (walk walk' : Walk) (done : List checked.Statement)
     (made : Function')
     → block ≡ with_parameters text ps [] 0 → walk.sizes.items ≡ sizes_of ps
     → walk.number ≡ before.number → least_of walk.worst
     ≡ kept (least_of before.worst) (parameter_faults text ps [])
-    → Resolves names walk walk' done (resolve_statements body (around text file t) block
+    → Resolves was names walk walk' done (resolve_statements body (around text file t) block
     (numbering walk))
     → function made ≡ record {
       name = spelled text n;
@@ -39,15 +37,15 @@ pub function_added : (before after : Progress) (text : List ℕ) (file : Scope) 
     → after.done.items ≡ before.done.items ++ made ∷ [] → after.number ≡ walk'.number
     → after.worst ≡ walk'.worst
     → AddsFunctions before after (function_of text file t n ps body before.number)
-function_added before after text file t n ps body block names walk walk' done made is sizes number
+function_added before after text file t n ps body block was names walk walk' done made is sizes number
     parameters resolves is_made pushed next worst =
     let start : Numbering = record { sizes = sizes_of ps; number = before.number } in
     let begun : numbering walk ≡ start = λ i. record { sizes = sizes i; number = number i } in
     let m = resolve_statements body (around text file t) (with_parameters text ps [] 0) start in
-    let r : Resolves names walk walk' done m =
-    subst (λ b. Resolves names walk walk' done
+    let r : Resolves was names walk walk' done m =
+    subst (λ b. Resolves was names walk walk' done
     (resolve_statements body (around text file t) b start)) is
-    (subst (λ k. Resolves names walk walk' done
+    (subst (λ k. Resolves was names walk walk' done
     (resolve_statements body (around text file t) block k)) begun resolves) in
     let whole : checked_program.Function = record {
       name = spelled text n;
