@@ -79,6 +79,9 @@ fn built_in_function(name: &[u8]) -> Option<Entity<'static>>
     if same(name, b"RaiseException") {
         return Some(Entity::BuiltInFunction(BuiltIn::RaiseException));
     }
+    if same(name, b"walk") {
+        return Some(Entity::BuiltInFunction(BuiltIn::Walk));
+    }
     if same(name, b"GetExceptionCode") {
         return Some(Entity::CodeFunction);
     }

@@ -36,7 +36,7 @@ fits_append fs zs [] b h k = k
 fits_append fs zs (x ∷ a) b h k = (h.0, fits_append fs zs a b h.1 k)
 
 built_ins_fit : (fs : List Function) (zs : List Size) → ScopeFits fs zs built_ins
-built_ins_fit fs zs = (tt, (tt, (tt, (tt, (tt, (tt, (tt, (tt, tt))))))))
+built_ins_fit fs zs = (tt, (tt, (tt, (tt, (tt, (tt, (tt, (tt, (tt, tt)))))))))
 
 pub meaning_fits : (fs : List Function) (zs : List Size) (scope : Scope) → ScopeFits fs zs scope
     → (name : List ℕ) → MeaningFits fs zs (meaning_in scope name)

@@ -1,7 +1,7 @@
 -- Names by their bytes, and what they mean where an expression is.
 use Rattle.std.specs.Prelude.{ℕ, ◌-◌, Bool, true, false, ◌&&◌, nat_eq, if◌then◌else◌, List, [], ◌∷◌, take, drop, Option, Some, None}
 use Rattle.c_syntax.specs.declared.expression.Identifier.{Identifier}
-use Rattle.c_operations.specs.declared.built_in.BuiltIn.TheVariants.{Put, Protect, RaiseException}
+use Rattle.c_operations.specs.declared.built_in.BuiltIn.TheVariants.{Put, Protect, RaiseException, Walk}
 use Rattle.c_resolved.specs.Expressions.{Entity, BuiltInFunction, CodeFunction, AbnormalFunction, BuiltInConstant, Names}
 
 abbrev pub spelled : List ℕ → Identifier → List ℕ
@@ -29,8 +29,8 @@ names_in text scope =
       abnormal = false;
     }
 
--- put, protect, RaiseException, GetExceptionCode, AbnormalTermination, and the three constants of
--- filters, the accepting one first
+-- put, protect, RaiseException, walk, GetExceptionCode, AbnormalTermination, and the three
+-- constants of filters, the accepting one first
 abbrev pub built_ins : Scope
 built_ins =
     ((112 ∷ 117 ∷ 116 ∷ []), BuiltInFunction Put)
@@ -39,6 +39,7 @@ built_ins =
       (82 ∷ 97 ∷ 105 ∷ 115 ∷ 101 ∷ 69 ∷ 120 ∷ 99 ∷ 101 ∷ 112 ∷ 116 ∷ 105 ∷ 111 ∷ 110 ∷ []),
       BuiltInFunction RaiseException,
     )
+    ∷ ((119 ∷ 97 ∷ 108 ∷ 107 ∷ []), BuiltInFunction Walk)
     ∷ (
       (71 ∷ 101 ∷ 116 ∷ 69 ∷ 120 ∷ 99 ∷ 101 ∷ 112 ∷ 116 ∷ 105 ∷ 111 ∷ 110 ∷ 67 ∷ 111 ∷ 100 ∷ 101
           ∷ []),

@@ -1,4 +1,3 @@
-pub mod FewFunctions
 pub mod Stacks
 pub mod LocalsLemmas
 pub mod Handlers

@@ -45,13 +45,14 @@ int main(void){ x = 1; put(y()); main(); return 0; } int x; int y(void){ return 
 int main(void){ int x; { int x; { char x; } } for (int x;;) { int x; break; } for (int x;;) break; return 0; } => accepted
 int main(void){ int x = x; int y = 1, z = y; int main; main = 2; return 0; } => accepted
 int f(int a){ { int a; } return a; } int a; int main(void){ int f; f = a; return 0; } => accepted
-int main(void){ put(1); protect(0, 1); RaiseException(1, 0, 0, (0)); int x = EXCEPTION_CONTINUE_SEARCH + EXCEPTION_CONTINUE_EXECUTION; return 0; } => accepted
+int main(void){ put(1); protect(0, 1); RaiseException(1, 0, 0, (0)); walk(); int x = EXCEPTION_CONTINUE_SEARCH + EXCEPTION_CONTINUE_EXECUTION; return 0; } => accepted
 int main(void){ if (1) { int x; } else { int x; } while (0) { int x; } int x; return 0; } => accepted
 int main(void){ x; return 0; } => UnknownName 16
 int main(void){ x = 1; return 0; } => UnknownName 16
 int main(void){ f(); return 0; } => UnknownName 16
 int main(void){ int y; y(); return 0; } => UnknownName 23
 int main(void){ put; return 0; } => UnknownName 16
+int main(void){ walk; return 0; } => UnknownName 16
 int main(void){ main; return 0; } => UnknownName 16
 int main(void){ GetExceptionCode; return 0; } => UnknownName 16
 int main(void){ RaiseException = 1; return 0; } => UnknownName 16
@@ -74,6 +75,9 @@ int x, *x; int main(void){  return 0; } => Duplicate 8
 int main(void){  return 0; } int main(void){ return 1; } => Duplicate 33
 int put; int main(void){  return 0; } => Duplicate 4
 int protect(void){ return 1; } int main(void){  return 0; } => Duplicate 4
+void walk(void){ } int main(void){  return 0; } => Duplicate 5
+int walk; int main(void){  return 0; } => Duplicate 4
+int main(void){ int walk; return 0; } => Duplicate 20
 int EXCEPTION_EXECUTE_HANDLER; int main(void){  return 0; } => Duplicate 4
 int GetExceptionCode[3]; int main(void){  return 0; } => Duplicate 4
 int AbnormalTermination; int main(void){  return 0; } => Duplicate 4

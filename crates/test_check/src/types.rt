@@ -99,6 +99,7 @@ int f(void){ return 1; } int h(int a, int b){ return a; } int main(void){ h(); r
 int f(void){ return 1; } int h(int a, int b){ return a; } int main(void){ put(); return 0; } => ArgCount 74
 int f(void){ return 1; } int h(int a, int b){ return a; } int main(void){ put(1, 2); return 0; } => ArgCount 74
 int f(void){ return 1; } int h(int a, int b){ return a; } int main(void){ protect(0); return 0; } => ArgCount 74
+int f(void){ return 1; } int h(int a, int b){ return a; } int main(void){ walk(1); return 0; } => ArgCount 74
 int f(void){ return 1; } int h(int a, int b){ return a; } int main(void){ RaiseException(1, 0, 0); return 0; } => ArgCount 74
 int f(void){ return 1; } int h(int a, int b){ return a; } int main(void){ RaiseException(1, 0, 0, 0, 0); return 0; } => ArgCount 74
 int f(void){ return 1; } int h(int a, int b){ return a; } int main(void){ main(1); return 0; } => ArgCount 74
@@ -111,6 +112,7 @@ int *p; int main(void){ RaiseException(1, 0, 0, '\0'); return 0; } => TypeClash 
 int *p; int main(void){ RaiseException(1, 0, -0, 0); return 0; } => TypeClash 45
 int *p; int main(void){ RaiseException(p, 0, 0, 0); return 0; } => TypeClash 39
 int *p; int main(void){ put(p); return 0; } => TypeClash 28
+int *p; int main(void){ put(walk()); return 0; } => TypeClash 28
 int *p; int main(void){ protect(1, 0); return 0; } => TypeClash 32
 int *p; int main(void){ protect(p, p); return 0; } => TypeClash 35
 int *p; int main(void){ RaiseException(1, 0, p, 0); return 0; } => TypeClash 45

@@ -3,7 +3,7 @@
 use crate::calls::{Shown, answer, compiled, words_of};
 use crate::ways::{COMPILED, MEANING, TEXT, WAYS, all_show};
 use std::process::Abort;
-use test_texts::{binary, depths, examples, handlers, refused, texts, unary};
+use test_texts::{binary, depths, examples, handlers, refused, texts, unary, walks};
 
 /// Expressions, calls and loops show what they mean, and a recursion returns as often as it called.
 #[test]
@@ -64,6 +64,12 @@ fn faults(rt: HostRuntime) {
 #[test]
 fn nested_and_collided(rt: HostRuntime) {
     all_show(&rt, rt.alloc(), &WAYS, &TEXT, handlers::NESTED);
+}
+
+/// A walk shows the functions of the live activations, innermost first.
+#[test]
+fn walks(rt: HostRuntime) {
+    all_show(&rt, rt.alloc(), &WAYS, &TEXT, walks::WALKS);
 }
 
 /// A program of depth 1,000 ends by itself; hundreds of frames are searched and unwound.

@@ -1,7 +1,7 @@
 //! The programs of examples/, as they are there, each with the text beside it.
 
 /// An exception that a filter accepts, or nobody; a body that is left, and an exception that is
-/// continued; an exception in a filter and in a `__finally` block.
+/// continued; an exception in a filter and in a `__finally` block; a walk.
 pub const EXAMPLES: &str = r"
 # sum: int main(void){ put(2+3*4); return 7; }
 => 0 14 / exit 7
@@ -171,4 +171,19 @@ int main(void) {
   return 0;
 }
 => 0 raise E0000001 0 / filter 2 / answer 0 / finally 1 1 / raise E0000002 0 / filter 2 / answer 1 / except E0000002 / 2 / exit 0
+# walk:
+// walk() names the live functions, innermost first: while a filter runs all of them are live, and
+// in the __except block those that it called are gone.
+int asks(void) { walk(); return 1; }
+void fails(void) { RaiseException(0xE0000001, 0, 0, 0); }
+void works(void) { fails(); }
+int main(void) {
+  __try {
+    works();
+  } __except (asks()) {
+    walk();
+  }
+  return 0;
+}
+=> 0 raise E0000001 0 / filter 1 / at asks / at fails / at works / at main / answer 1 / except E0000001 / at main / exit 0
 ";

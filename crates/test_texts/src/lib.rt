@@ -15,3 +15,4 @@ pub mod handlers;
 pub mod refused;
 pub mod texts;
 pub mod unary;
+pub mod walks;

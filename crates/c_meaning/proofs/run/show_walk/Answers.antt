@@ -1,4 +1,4 @@
-use Rattle.std.proofs.Common.{sym, ap, ◌∙◌, subst}
+use Rattle.std.proofs.Common.{sym, ap, ◌∙◌, subst, arith}
 use Rattle.c_meaning.proofs.Walks.{none_walked, one_walked}
 use Rattle.c_meaning.proofs.run.show_walk.Goals as goal
 
