@@ -6,10 +6,17 @@ use Rattle.c_statements.specs.Words.{SymbolTable, Stmt, Walk, MakesPart, MakesBl
 use Rattle.c_resolved.specs.Statements as definitions
 use Rattle.c_statements.proofs.Going.{resolved_from, goes, gone}
 use Rattle.c_statements.proofs.Guarded.{for_is, ends_as_before, except_is, finally_is}
-use Rattle.c_statements.proofs.Parts.{one_is, part_in, block_in, block_is, governed_in, governed_is, if_else_is}
+use Rattle.c_statements.proofs.Parts.{one_is, part_in, part_is, block_in, block_is, governed_in, governed_is, if_else_is}
 use Rattle.c_statements.proofs.Trees as read
 use Rattle.c_statements.proofs.statements.+nested.Goals as goal
 use Rattle.c_syntax.specs.Statement as trees
+
+pub part-returns : goal.part-returns
+part-returns _ c =
+    part_is c.args.env.now c.args.names.now c.open.new.self c.statement.new.names
+    c.close.new.self c.args.walk.now c.statement.new.walk c.in_ok-made.made.items _
+    (statement c.args.s.now) c.in_ok-open.ensures.opened c.in_ok-made.ensures c.close.ensures
+    (ap checked.statement c.in_ok-new.ensures.ok ∙ c.only.ensures)
 
 pub items-returns : goal.items-returns
 items-returns _ c =
