@@ -1,6 +1,6 @@
 -- A statement by what was made of its parts, one after another.
-use Rattle.std.proofs.Common.{◌≡◌, ℕ, ◌+◌, List, [], ◌∷◌, ◌++◌, map, Some, None, refl, sym, ap, subst, ◌∙◌, append_assoc}
-use Rattle.c_statements.specs.Words.{Expr, Stmt, SymbolTable, with_block, opened, closed, environment, in_loop, least_of, kept, Walk, Resolves, numbering, resolved_at, Scope, Environment, Numbering, ResolvedStatements, Value, inside, condition, only, resolve_statement, resolve_statements, MakesOne, MakesPart, MakesBlock, MakesGoverned, Expression, Statement, Statements, statement, statements}
+use Rattle.std.proofs.Common.{◌≡◌, ℕ, ◌+◌, List, [], ◌∷◌, ◌++◌, map, refl, sym, ap, subst, ◌∙◌, append_assoc}
+use Rattle.c_statements.specs.Words.{Expr, Stmt, SymbolTable, with_block, opened, closed, environment, least_of, kept, Walk, Resolves, numbering, resolved_at, Scope, Environment, Numbering, ResolvedStatements, Value, inside, condition, only, resolve_statement, resolve_statements, MakesOne, MakesPart, MakesBlock, MakesGoverned, Expression, Statement, Statements, statement, statements}
 use Rattle.c_checked.specs.Expression.{expression}
 use Rattle.c_checked.specs.Statement as checked
 use Rattle.c_locals.specs.declared.environment.Environment.{Environment as Environment'}
@@ -107,73 +107,6 @@ if_else_is was middle now b w0 w1 w2 e s o made a at c t u m k p =
           kept_more (least_of w0.worst) (least_of w1.worst) (least_of w2.worst)
           (v.faults ++ r.faults) q.faults m.faults j.faults
           ∙ ap (kept (least_of w0.worst)) (append_assoc v.faults r.faults q.faults);
-    }
-
--- ---- statements with one part
-
-pub block_one : (t t1 : SymbolTable) (b : Scope) (w0 w1 : Walk) (vs : List Stmt) (made : Stmt)
-    (a : Environment) (ss : Statements)
-    → MakesBlock t t1 w0 w1 vs (resolve_statements ss (inside a b) [] (numbering w0))
-    → checked.statement made ≡ checked.Block (checked.statements (map checked.statement vs))
-    → MakesOne b w0 w1 made (resolve_statement (trees.Block ss) a b (numbering w0))
-block_one t t1 b w0 w1 vs made a ss m p =
-    record {
-      done =
-          ap (λ x. x ∷ []) (p ∙ ap (λ x. checked.Block (checked.statements x)) m.done);
-      counts = m.counts;
-      block = refl;
-      faults = m.faults;
-    }
-
-pub if_one : (t t1 : SymbolTable) (b : Scope) (w0 w1 : Walk) (e : Expr) (s made : Stmt)
-    (a : Environment) (at : ℕ) (c : Expression) (u : Statement)
-    → MakesGoverned t t1 w0 w1 e s (condition at (resolved_at a b c))
-    (resolve_statement u (inside a b) [] (numbering w0))
-    → checked.statement made ≡ checked.If (expression e) (checked.statement s)
-    → MakesOne b w0 w1 made (resolve_statement (trees.If at c u) a b (numbering w0))
-if_one t t1 b w0 w1 e s made a at c u m p =
-    record {
-      done =
-          ap (λ x. x ∷ [])
-          (p ∙ ap (λ x. checked.If x (checked.statement s)) m.condition
-          ∙ ap (checked.If (condition at (resolved_at a b c)).value) m.done);
-      counts = m.counts;
-      block = refl;
-      faults = m.faults;
-    }
-
-pub while_one : (t t1 : SymbolTable) (b : Scope) (w0 w1 : Walk) (e : Expr) (s made : Stmt)
-    (a : Environment) (at : ℕ) (c : Expression) (u : Statement)
-    → MakesGoverned t t1 w0 w1 e s (condition at (resolved_at a b c))
-    (resolve_statement u (in_loop (inside a b)) [] (numbering w0))
-    → checked.statement made ≡ checked.For [] None (Some (expression e)) None (checked.statement s)
-    → MakesOne b w0 w1 made (resolve_statement (trees.While at c u) a b (numbering w0))
-while_one t t1 b w0 w1 e s made a at c u m p =
-    record {
-      done =
-          ap (λ x. x ∷ [])
-          (p ∙ ap (λ x. checked.For [] None (Some x) None (checked.statement s)) m.condition
-          ∙ ap (checked.For [] None (Some (condition at (resolved_at a b c)).value) None) m.done);
-      counts = m.counts;
-      block = refl;
-      faults = m.faults;
-    }
-
-pub do_one : (t t1 : SymbolTable) (b : Scope) (w0 w1 : Walk) (e : Expr) (s made : Stmt)
-    (a : Environment) (at : ℕ) (c : Expression) (u : Statement)
-    → MakesGoverned t t1 w0 w1 e s (condition at (resolved_at a b c))
-    (resolve_statement u (in_loop (inside a b)) [] (numbering w0))
-    → checked.statement made ≡ checked.DoWhile (checked.statement s) (expression e)
-    → MakesOne b w0 w1 made (resolve_statement (trees.DoWhile u at c) a b (numbering w0))
-do_one t t1 b w0 w1 e s made a at c u m p =
-    record {
-      done =
-          ap (λ x. x ∷ [])
-          (p ∙ ap (checked.DoWhile (checked.statement s)) m.condition
-          ∙ ap (λ x. checked.DoWhile x (condition at (resolved_at a b c)).value) m.done);
-      counts = m.counts;
-      block = refl;
-      faults = m.faults;
     }
 
 -- ---- in a block of its own, whose names end with it

@@ -1,7 +1,6 @@
 -- The statements that were read, as those of the definitions, one equation for each kind that a
 -- proof cites.
-use Rattle.std.proofs.Common.{◌≡◌, ℕ, Some, None, sym, ap, ◌∙◌, map}
-use Rattle.std.specs.Prelude.{option_map}
+use Rattle.std.proofs.Common.{◌≡◌, ℕ, Some, sym, ap, ◌∙◌, map}
 use Rattle.c_syntax.specs.declared.expression.Expr.{Expr}
 use Rattle.c_syntax.specs.declared.statement.Stmt.{Stmt}
 use Rattle.c_syntax.specs.declared.statement.Stmt.TheVariants as stmts
@@ -45,39 +44,3 @@ pub if_some : (at : ℕ) (c : Expr) (s : _) (o : _) (t : _) (x : Stmt) → x ≡
     (statement t.value)
 if_some at c s o t x is n = ap statement is ∙ ap (λ k. statement (stmts.If at c s k)) n
     ∙ if_else_is at c s t
-
--- without an `else`
-pub if_none : (at : ℕ) (c : Expr) (s : _) (o : _) (x : Stmt) → x ≡ stmts.If at c s o → o ≡ None
-    → statement x ≡ trees.If at (expression c) (statement s.value)
-if_none at c s o x is n = ap statement is ∙ ap (λ k. statement (stmts.If at c s k)) n
-    ∙ ap statement (sym (stmts.rolls-If at c s None))
-    ∙ fold-roll-Stmt Statement node (opened.If at c s None)
-
-pub while_is : (at : ℕ) (c : Expr) (s : _)
-    → statement (stmts.While at c s) ≡ trees.While at (expression c) (statement s.value)
-while_is at c s = ap statement (sym (stmts.rolls-While at c s))
-    ∙ fold-roll-Stmt Statement node (opened.While at c s)
-
-pub do_is : (s : _) (at : ℕ) (c : Expr)
-    → statement (stmts.Do s at c) ≡ trees.DoWhile (statement s.value) at (expression c)
-do_is s at c = ap statement (sym (stmts.rolls-Do s at c))
-    ∙ fold-roll-Stmt Statement node (opened.Do s at c)
-
-pub block_is : (b : _) → statement (stmts.Block b) ≡ trees.Block (statements (map statement b.items))
-block_is b = ap statement (sym (stmts.rolls-Block b))
-    ∙ fold-roll-Stmt Statement node (opened.Block b)
-
-pub evaluate_is : (e : _) → statement (stmts.Expression e) ≡ trees.Evaluate (option_map expression e)
-evaluate_is e = ap statement (sym (stmts.rolls-Expression e))
-    ∙ fold-roll-Stmt Statement node (opened.Expression e)
-
-pub return_is : (at : ℕ) (e : _)
-    → statement (stmts.Return at e) ≡ trees.Return at (option_map expression e)
-return_is at e = ap statement (sym (stmts.rolls-Return at e))
-    ∙ fold-roll-Stmt Statement node (opened.Return at e)
-
-pub for_is : (at : ℕ) (f : _) (c n : _) (s : _)
-    → statement (stmts.For at f c n s) ≡ trees.For at (trees.first f) (option_map expression c)
-    (option_map expression n) (statement s.value)
-for_is at f c n s = ap statement (sym (stmts.rolls-For at f c n s))
-    ∙ fold-roll-Stmt Statement node (opened.For at f c n s)

@@ -41,14 +41,14 @@ governed-returns-in-Ok _ c =
     governed_is t c.part.new.names w first c.part.new.walk c.in_ok-value.value c.in-Ok.made.value v f
     c.in_ok-value.ensures.value c.in_ok-value.ensures.faults refl c.in-Ok.ensures
 
-pub for_loop-returns-clause-names : goal.for_loop-returns-clause-names
-for_loop-returns-clause-names _ c =
+pub for_loop-returns-in-Ok-part-clause-names : goal.for_loop-returns-in-Ok-part-clause-names
+for_loop-returns-in-Ok-part-clause-names _ c =
     ends_as_before c.args.names.now c.open.new.self c.for_initialiser.new.names c.part.new.names
     c.close.new.self _ c.in_ok-open.ensures.opened c.in_ok-beginning.ensures.names
     c.in-Ok-part.ensures.names c.close.ensures
 
-pub for_loop-returns-clause-made : goal.for_loop-returns-clause-made
-for_loop-returns-clause-made _ c =
+pub for_loop-returns-in-Ok-part-clause-made : goal.for_loop-returns-in-Ok-part-clause-made
+for_loop-returns-in-Ok-part-clause-made _ c =
     let w = c.args.walk.now in
     let w1 = c.for_initialiser.new.walk in
     let w2 : Walk = record {
