@@ -94,6 +94,12 @@ parameters_on text list i p block block' first w w' next e q h =
           ∙ ap (λ l. kept w (parameter_faults text l block)) (sym next) ∙ h.faults;
     }
 
+-- the innermost block alone is another one
+pub still_around : (start t t' : SymbolTable) (b : Scope) → t' ≡ with_block t b
+    → t ≡ with_block start t.block → t' ≡ with_block start t'.block
+still_around start t t' b e same = e ∙ ap (λ (k : SymbolTable). with_block k b) same
+    ∙ ap (with_block start) (sym (ap (λ (k : SymbolTable). k.block) e))
+
 pub parameters_end : (text : List ℕ) (list : List Parameter) (i : ℕ) (start t : SymbolTable)
     (first w : Option FaultAt)
     → length list ≤ i → t ≡ with_block start t.block

@@ -1,19 +1,17 @@
-use Rattle.std.proofs.Common.{◌≡◌, [], ap, refl, ◌∙◌, drop, length, subst}
-use Rattle.c_check.proofs.FunctionsInOrder.{function_added}
+use Rattle.std.proofs.Common.{◌≡◌, [], ap, refl, ◌∙◌, drop, length}
+use Rattle.c_check.proofs.FunctionsInOrder.{ends_as_before, function_inside}
 use Rattle.c_check.proofs.functions.function.Goals as goal
-use Rattle.c_check.specs.Words.{SymbolTable, around, closed, names_around, opened, scopes_of, with_block, with_parameters, resolve_statements}
+use Rattle.c_check.specs.Words.{SymbolTable, opened, with_block, with_parameters}
 use Rattle.c_checked.specs.Statement as checked
-use Rattle.c_locals.specs.Views.{numbering}
-use Rattle.c_locals.specs.WalkResults.{Resolves}
 use Rattle.std.specs.Prelude.{map}
 use Rattle.c_syntax.specs.Statement as trees
 
 pub returns-clause-names : goal.returns-clause-names
 returns-clause-names c =
-    let block = with_parameters c.args.text.now c.args.list.now [] 0 in
-    c.close.ensures ∙ ap closed (c.in_ok-made.ensures.names
-    ∙ ap (λ (k : SymbolTable). with_block k _) (c.in_ok-declare_all.ensures.names
-    ∙ ap (λ (k : SymbolTable). with_block k block) c.in_ok-open.ensures.opened))
+    ends_as_before c.args.names.now c.open.new.self c.declare_all.new.names c.body.new.names
+    c.close.new.self (with_parameters c.args.text.now c.args.list.now [] 0) _
+    c.in_ok-open.ensures.opened c.in_ok-declare_all.ensures.names c.in_ok-made.ensures.names
+    c.close.ensures
 
 pub returns-clause-added : goal.returns-clause-added
 returns-clause-added c =
@@ -31,14 +29,9 @@ returns-clause-added c =
     let declared : c.declare_all.new.names ≡ with_block (opened t) block =
     c.in_ok-declare_all.ensures.names
     ∙ ap (λ (k : SymbolTable). with_block k block) c.in_ok-open.ensures.opened in
-    let made = subst (λ (k : SymbolTable). Resolves c.declare_all.new.names c.body.new.names _
-    c.body.new.walk done (resolve_statements body
-    (around text (names_around k.around) c.args.returns) k.block (numbering _))) declared
-    c.in_ok-made.ensures in
-    function_added c.args.progress.now _ text (scopes_of t) c.args.returns
-    c.args.name list body block c.declare_all.new.names c.body.new.names _
-    c.body.new.walk done _ refl
-    c.in_ok-sizes_of.ensures refl c.in_ok-declare_all.ensures.faults made
+    function_inside c.args.progress.now _ text t c.declare_all.new.names c.body.new.names
+    c.args.returns c.args.name list body _ c.body.new.walk done _ declared
+    c.in_ok-sizes_of.ensures refl c.in_ok-declare_all.ensures.faults c.in_ok-made.ensures
     (λ i. record {
       name = name i;
       parameters = parameters i;

@@ -1,7 +1,7 @@
-use Rattle.std.proofs.Common.{◌<◌, ◌≤◌, length, ap, sym, ◌∙◌, arith}
-use Rattle.c_check.proofs.ParametersInOrder.{next_at, parameters_on, parameters_end}
+use Rattle.std.proofs.Common.{◌<◌, ◌≤◌, length, ap, arith}
+use Rattle.c_check.proofs.ParametersInOrder.{next_at, still_around, parameters_on, parameters_end}
 use Rattle.c_check.proofs.parameters.declare_all.Goals as goal
-use Rattle.c_check.specs.Words.{SymbolTable, least_of, with_block}
+use Rattle.c_check.specs.Words.{SymbolTable, least_of}
 
 pub loop-i-preserved : goal.loop-i-preserved
 loop-i-preserved c =
@@ -10,8 +10,7 @@ loop-i-preserved c =
     let t = c.loop-i.names in
     let one = c.in_ok-parameter.ensures in
     let below : c.loop-i.i < length list = omega arith in (
-      one.names ∙ ap (λ (k : SymbolTable). with_block k _) c.loop-i.invariant.0
-          ∙ ap (with_block start) (sym (ap (λ (k : SymbolTable). k.block) one.names)),
+      still_around start t c.parameter.new.names _ one.names c.loop-i.invariant.0,
       parameters_on c.args.text.now list c.loop-i.i _ t.block c.parameter.new.names.block
           (least_of c.args.worst.now) (least_of c.loop-i.worst)
           (least_of c.parameter.new.worst) (next_at list c.loop-i.i _ below)
