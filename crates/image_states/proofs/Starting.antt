@@ -7,10 +7,11 @@ use Rattle.image_link.specs.Walks.{services_if, services_of, calls_walk}
 use Rattle.pe_write.specs.ImportTables.{imported, slots_at}
 use Rattle.pe_write.specs.Program.{rdata_at, sizes_of}
 use Rattle.image_states.proofs.Lemmas.{listed, is, tables_are_read}
-use Rattle.pe_image.specs.NameRows.{names_of}
 use Rattle.host_model.specs.Loading.{names_refusal}
 use Rattle.host_model.specs.declared.refusal.LoadErr.{LoadErr}
 use Rattle.host_model.specs.declared.refusal.LoadErr.TheVariants as refusals
+use Rattle.image_tables.proofs.NameRows.{names_are_read}
+use Rattle.host_model.specs.Loading.{of_names}
 use Rattle.image_states.proofs.Sections.{covered, above, here, past}
 use Rattle.image_states.proofs.Data.{globals, text, tables, infos, functions, named, agrees, stack_writes, arena_alone, data_alone}
 use Rattle.image_states.proofs.CodePlaced.{has_program}
@@ -73,10 +74,9 @@ module _ (program : LinearProgram) (c : HasWholeImage program) where
       ∷ functions program c ∷ named program c) (covered 0 image.entry (text program c) (omega arith)
       (omega arith)))
 
-  -- it has no table of names
+  -- its table of names, where it has one, is read
   unnamed : names_refusal image ≡ None
-  unfolding names_of
-  unnamed = refl
+  unnamed = ap of_names (names_are_read program c.fits)
 
   pub loads : load_refusal image ≡ None
   loads =

@@ -1,6 +1,6 @@
 -- The caller of every frame is found, by the function table of the image.
 use Rattle.std.proofs.Common.{◌≡◌, ◌≢◌, ℕ, ◌+◌, ◌^◌, ◌<◌, ◌≤◌, true, List, [], ◌∷◌, ◌++◌, length, Option, Some, None, refl, sym, ap, subst, ◌∙◌, arith, inl, inr}
-use Rattle.image_tables.specs.Words.{Memory, modrm, Entry, holding, or_none, FetchedInstr, bytes, items, Body, following, is_body, IsRight, HasItems, image_of, RaiseException, CSpecificHandler, LocalUnwind, Protect, Put, LinearProgram, FitsProgram, first, linked, end_of, site_of, HasRegions, entries, image_base, function_of, entries_of, name_rows, caller_in, caller_of, FramedFunction, IsFound, registers, return_address, IsEntry, InBody, leaf, probe, FindsCaller, FramesAreFound, LeavesAreFound, ThunksAreFound, ProbesAreFound, routines_begin, thunk_begin}
+use Rattle.image_tables.specs.Words.{Memory, modrm, Entry, holding, or_none, FetchedInstr, bytes, items, Body, following, is_body, IsRight, HasItems, image_of, RaiseException, CSpecificHandler, LocalUnwind, Protect, Put, LinearProgram, FitsProgram, services_of, first, linked, end_of, site_of, HasRegions, entries, image_base, function_of, entries_of, name_rows, caller_in, caller_of, FramedFunction, IsFound, registers, return_address, IsEntry, InBody, leaf, probe, FindsCaller, FramesAreFound, LeavesAreFound, ThunksAreFound, ProbesAreFound, routines_begin, thunk_begin}
 use Rattle.x64_machine.specs.Contexts.{context_of}
 use Rattle.x64_machine.specs.Effect.{State}
 use Rattle.eh_tables.specs.Tables as reading
@@ -9,7 +9,7 @@ use Rattle.frame_rules.specs.Frame.{left_to}
 use Rattle.frame_rules.specs.Rules as rules
 use Rattle.frame_rules.proofs.Callers.{entries_are_found, leaves_are_found}
 use Rattle.host_layout.specs.declared.imported.ImportedService.{ImportedService}
-use Rattle.image_tables.proofs.Lemmas.{routine_small, place_small}
+use Rattle.image_tables.proofs.Lemmas.{routine_small, place_small, services_few}
 use Rattle.image_tables.specs.Entries as tables
 use Rattle.image_tables.proofs.Lookups.{entries_are_held, leaves_are_held_by_none, thunks_are_held_by_none}
 use Rattle.image_tables.proofs.Table.{table, table_entries, tables_are_read}
@@ -162,6 +162,7 @@ thunk_low p service = let place = place_small (services_of p) service in omega a
 pub thunks_are_found : ThunksAreFound
 thunks_are_found p service e s fits regions h =
     let few = fits.globals in
+    let services = services_few p in
     let low = thunk_low p service in
     let high = h.high in
     unheld p fits regions e s (thunk_of p service) h.rva (omega arith) h.here
@@ -170,6 +171,7 @@ thunks_are_found p service e s fits regions h =
 pub probes_are_found : ProbesAreFound
 probes_are_found p e s fits regions h =
     let few = fits.globals in
+    let services = services_few p in
     let high = h.high in
     unheld p fits regions e s probe h.rva (omega arith) h.here
     (thunks_are_held_by_none p h.rva fits (omega arith)) probe_ok h.entry h.body

@@ -53,7 +53,10 @@ bound_next : (at : ℕ) (rs : List RoutineView) (i : ℕ) (d : RoutineView) → 
     → get_or (bounds at rs) (i + 1) 0 ≡ get_or (bounds at rs) i 0 + routine_size (get_or rs i d)
 bound_next at [] i d lt = absurd (omega arith)
 bound_next at (r ∷ rs) zero d lt = bound_first (at + routine_size r) rs
-bound_next at (r ∷ rs) (suc i) d lt = bound_next (at + routine_size r) rs i d (omega arith)
+bound_next at (r ∷ rs) (suc i) d lt =
+    let next : suc i + 1 ≡ suc (i + 1) = omega arith in
+    ap (λ k. get_or (bounds at (r ∷ rs)) k 0) next
+    ∙ bound_next (at + routine_size r) rs i d (omega arith)
 
 -- ---- rows
 
@@ -127,7 +130,7 @@ module _ (p : LinearProgram) (fits : FitsProgram p) where
       (let le = most in omega arith) in
       record {
         each = rows_are b (length p.functions) few rises all_below 0 (named_functions p)
-            (named_length (calls_walk p) p.functions)
+            (let some = named_length (calls_walk p) p.functions in omega arith)
             (named_all (calls_walk p) p.functions fits.names);
         order = in_order b 0 0 (named_functions p) (omega arith);
       }

@@ -299,6 +299,8 @@ module _ (p : LinearProgram) (fits : FitsProgram p) where
       let most = size.1 in
       let t = text_is in
       let end = is.end in
+      let there = services_there p CSpecificHandler tt in
+      let services = services_few p in
       let by = scopes_by info at r f r.body.regions front more ranges close.regions le e here in
       record {
         own = record {

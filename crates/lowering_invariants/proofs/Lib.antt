@@ -30,5 +30,8 @@ pub mod NoBlocks
 pub mod BlockSeparators
 pub mod CallRegions
 pub mod UnwindLabels
+pub mod RegionRanges
+pub mod UnwindTargets
+pub mod Separators
 pub mod BlindExpressions
 pub mod Blind

@@ -1,5 +1,5 @@
 -- Lists of numbers of 64 bits, and numbers that are read of them.
-use Rattle.std.proofs.Common.{◌≡◌, ℕ, zero, suc, ◌+◌, ◌-◌, ◌^◌, ◌<◌, List, [], ◌∷◌, ◌++◌, subst, arith}
+use Rattle.std.proofs.Common.{◌≡◌, ℕ, zero, suc, ◌^◌, ◌<◌, List, [], ◌∷◌, ◌++◌, subst, arith}
 use Rattle.std.specs.List.{AllByRecursion}
 use Rattle.std.specs.Prelude.{Bool, true, false, nat_eq, slice_get, slice_set, take, drop, replicate, if◌then◌else◌, get_or, Option, Some, None}
 use Rattle.lowering_invariants.specs.Words.{Field, Exception, of_test, field_of, parameter_of, BodyName, FunctionBody, FuncletBody, Store, set_local, left_store, IsSmallAccess, AreSmall, IsSmallException}

@@ -14,6 +14,7 @@ pub mod BoundLaws
 pub mod BlockSeparators
 pub mod CallRegions
 pub mod UnwindLabels
+pub mod Separators
 pub mod Blind
 pub mod PlaceLaws
 pub mod Words

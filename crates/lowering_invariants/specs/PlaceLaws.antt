@@ -11,6 +11,7 @@ use Rattle.linear_machine.specs.Frames.{BodyName, body_of}
 use Rattle.seh_ir.specs.Lowered.{lowered}
 use Rattle.lowering_invariants.specs.BlockSeparators.{IsFollowed}
 use Rattle.lowering_invariants.specs.CallRegions.{HasSameRegions}
+use Rattle.lowering_invariants.specs.Separators.{HasSeparators}
 use Rattle.lowering_invariants.specs.UnwindLabels.{StaysInside}
 use Rattle.lowering_invariants.specs.Blind.{IsFilterBody}
 
@@ -28,6 +29,11 @@ abbrev pub LoweredStaysInside : Type 0
 LoweredStaysInside =
     (program : Program) (name : BodyName) (b : LinearBody) → body_of (lowered program) name ≡ Some b
     → StaysInside b
+
+abbrev pub LoweredHasSeparators : Type 0
+LoweredHasSeparators =
+    (program : Program) (name : BodyName) (b : LinearBody) → body_of (lowered program) name ≡ Some b
+    → HasSeparators name b
 
 -- the flag that says how a `__finally` block is run (Microsoft C language reference,
 -- `AbnormalTermination`) is a local of its body

@@ -1,6 +1,6 @@
 //! Laws of places in the linear code of a program.
 
-ghost use Rattle.lowering_invariants.specs.PlaceLaws.{LoweredIsFollowed, LoweredHasSameRegions, LoweredStaysInside, LoweredHasFlags, LoweredInformsFilters};
+ghost use Rattle.lowering_invariants.specs.PlaceLaws.{LoweredIsFollowed, LoweredHasSameRegions, LoweredStaysInside, LoweredHasSeparators, LoweredHasFlags, LoweredInformsFilters};
 
 /// An instruction that does nothing is after each that runs `__finally` blocks.
 pub fn lowered_is_followed()
@@ -15,6 +15,14 @@ pub fn lowered_has_same_regions()
 /// Each local unwind goes to an instruction of its body.
 pub fn lowered_stays_inside()
     ensures inside { LoweredStaysInside }
+{}
+
+/// No region begins or ends between a call and the instruction after it, none is empty, and none
+/// begins where its function does. Each `__except` block begins inside the regions that hold it.
+/// Each region that holds the target of a local unwind holds the local unwind too, or begins at the
+/// target.
+pub fn lowered_has_separators()
+    ensures separators { LoweredHasSeparators }
 {}
 
 /// The flag of each `__finally` block is one of the locals of its body.

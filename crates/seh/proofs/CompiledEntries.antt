@@ -87,6 +87,7 @@ module _ (p : LinearProgram) (fits : FitsProgram p) (b : IsBounded (image_of (li
   probe_there =
       let at = probe_begin p in
       let few = near.text in
+      let services = services_few p in
       let long : length CHECK_STACK ≡ 21 = refl in
       bytes_there image b at CHECK_STACK (omega arith)
       (subst (IsExecutableAt (mapped image) (image_base + at)) (sym check_stack_spelled)
@@ -108,6 +109,7 @@ module _ (p : LinearProgram) (fits : FitsProgram p) (b : IsBounded (image_of (li
     call_there : has_bytes (code_of image) ((x.begin + 5 + 5 + away) % 2 ^ 64) CHECK_STACK ≡ true
     call_there =
         let few = near.text in
+        let services = services_few p in
         let end = end_low in
         let to : (x.begin + 5 + 5 + away) % 2 ^ 64 ≡ probe_begin p =
         omega arith in

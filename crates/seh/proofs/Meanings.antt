@@ -16,22 +16,26 @@ module _ (options : RunOptions) (p : Program) (again : ℤ) (same : again ≡ op
   ended_same e h = h ∙ ap (λ a. texts.ended_within options.turns (meaning p a options.turns).end)
       same
 
-  text_same : texts.text options.trace options.turns shown (names_of p) ≡ text_of options p
+  -- the whole text
+  abbrev whole : List ℕ
+  whole = texts.text options.trace options.turns shown (names_of p)
+
+  text_same : whole ≡ text_of options p
   text_same = ap (λ a. texts.text options.trace options.turns (meaning p a options.turns)
       (names_of p)) same
 
-  pub grew_same : (a b : Option (List ℕ)) → Grew a (texts.text options.trace options.turns shown (names_of p)) b
+  pub grew_same : (a b : Option (List ℕ)) → Grew a whole b
       → Grew a (text_of options p) b
   grew_same a b h = subst (λ t. Grew a t b) text_same h
 
   pub part_same : (a b : Option (List ℕ)) (n : ℕ)
-      → TookPart a (texts.text options.trace options.turns shown (names_of p)) b n
+      → TookPart a whole b n
       → TookPart a (text_of options p) b n
   part_same a b n h = subst (λ t. TookPart a t b n) text_same h
 
   pub front_same : (text : List ℕ) (out out' : Stream) → IsProgramOf text p
-      → (part : List ℕ) × ((rest : List ℕ) × (texts.text options.trace options.turns shown (names_of p)
-      ≡ part ++ rest)) × Grew out.bytes part out'.bytes
+      → (part : List ℕ) × ((rest : List ℕ) × (whole ≡ part ++ rest))
+      × Grew out.bytes part out'.bytes
       → TookMeaningFront options text out out'
   front_same text out out' is h = record {
     program = p;
@@ -40,17 +44,17 @@ module _ (options : RunOptions) (p : Program) (again : ℤ) (same : again ≡ op
   }
 
   pub write_same : (e : MeanErr) (n : ℕ) → e ≡ Write n → (a b : Option (List ℕ))
-      → texts.TookFront e a (texts.text options.trace options.turns shown (names_of p)) b
+      → texts.TookFront e a whole b
       → TookPart a (text_of options p) b n
   write_same e n is a b h = part_same a b n (subst
-      (λ x. texts.TookFront x a (texts.text options.trace options.turns shown (names_of p)) b) is h)
+      (λ x. texts.TookFront x a whole b) is h)
 
   pub memory_same : (e : MeanErr) → e ≡ Memory → (text : List ℕ) (out out' : Stream)
       → IsProgramOf text p → texts.TookFront e out.bytes
-      (texts.text options.trace options.turns shown (names_of p)) out'.bytes
+      whole out'.bytes
       → TookMeaningFront options text out out'
   memory_same e is text out out' found h = front_same text out out' found
-      (subst (λ x. texts.TookFront x out.bytes (texts.text options.trace options.turns shown (names_of p))
+      (subst (λ x. texts.TookFront x out.bytes whole
       out'.bytes) is h)
 
 pub rose_of : (e : MeanErr) (n : ℕ) → e ≡ Write n → (f f' : ℕ) → texts.MeaningHasCause e f f'

@@ -6,7 +6,7 @@ use Rattle.seh_num.specs.declared.event.Event.{Event}
 use Rattle.source_meaning.specs.State.{State, Result, Value, Normal, Returned, Broke, Continued, LeftTry, Target, End, Outcome, Gives, state_of, walk_events}
 use Rattle.source_meaning.specs.Meaning.{shows, ran, does, meaning}
 use Rattle.source_meaning.specs.Laws.{IsPrefixOf}
-use Rattle.source_machine.specs.Machine.{Machine, step, done}
+use Rattle.source_machine.specs.Machine.{step, done}
 use Rattle.source_machine.specs.Runs.{first, after}
 use Rattle.source_machine.specs.FrameMeanings.{comes_to}
 use Rattle.source_machine.proofs.StepKeeping.{keeps_meaning}
@@ -39,9 +39,6 @@ shown_events (Gives (Target to exc) st) = refl
 shown_events (Gives (End e) st) = refl
 
 module _ (program : Program) (arg n : ℕ) (st : State) (c : ComesToWalk program (pos arg) n st) where
-  m : Machine
-  m = c.machine
-
   -- the call's step shows the walk
   walked : (step program c.machine).state.events
       ≡ st.events ++ walk_events (reverse st.functions)

@@ -31,7 +31,8 @@ use Rattle.image_link.proofs.Front.{services_few}
 use Rattle.image_link.proofs.Images.{site_near, has_places}
 use Rattle.image_link.proofs.Nearness.{routines_near}
 use Rattle.pe_image.specs.Image.{Image, Section, is_executable}
-use Rattle.pe_write.specs.Program.{image_of}
+use Rattle.pe_write.specs.NameTable.{NameRow}
+use Rattle.pe_write.specs.Program.{image_of, if_named, names_read}
 use Rattle.host_model.specs.Loading.{mapped}
 use Rattle.image_code.proofs.ImageBounds.{IsBounded}
 use Rattle.image_code.proofs.LoadedItems.{items_there}
@@ -139,6 +140,7 @@ module _ (p : LinearProgram) (fits : FitsProgram p) (m : Memory) (text : HasText
       → is_body (following 0 0 [] rest (Body [])) ≡ true → IsPiece rva
   in_front rva begin end rest low high inside there right =
       let text' = near.text in
+      let services = services_few p in
       record {
         begin = begin;
         end = end;
@@ -157,6 +159,7 @@ module _ (p : LinearProgram) (fits : FitsProgram p) (m : Memory) (text : HasText
       let begin = image_base + s.text in
       let bytes = routines_bytes s (routines_begin p) (routines p) in
       let text' = near.text in
+      let services = services_few p in
       let fine = λ (v : ImportedService). thunk_near s.imports s.text s.rdata near.imports near.text
       near.rdata v in
       let items = front_there s.imports s.text s.rdata m begin bytes fine (omega arith) text in
@@ -204,6 +207,13 @@ module _ (p : LinearProgram) (fits : FitsProgram p) (m : Memory) (text : HasText
 
 -- ---- in an image
 
+-- a section that is there where rows are, and isn't executed
+unexecuted : (rows : List NameRow) (named section : Section) (n : ℕ) → is_executable named ≡ false
+    → slice_get (if_named rows named) n ≡ Some section → is_executable section ≡ false
+unexecuted [] named section n inert is = absurd (none_some is)
+unexecuted (r ∷ rs) named section zero inert is = sym (ap is_executable (some_same is)) ∙ inert
+unexecuted (r ∷ rs) named section (suc n) inert is = absurd (none_some is)
+
 module _ (p : LinearProgram) (fits : FitsProgram p) (b : IsBounded (image_of (linked p))) where
   abbrev image : Image
   image = image_of (linked p)
@@ -241,4 +251,6 @@ module _ (p : LinearProgram) (fits : FitsProgram p) (b : IsBounded (image_of (li
   uncovered_code_is_routines (suc (suc (suc (suc zero)))) section rva is runs low high none =
       absurd (false≢true (ap is_executable (some_same is) ∙ runs))
   uncovered_code_is_routines (suc (suc (suc (suc (suc n))))) section rva is runs low high none =
-      absurd (none_some is)
+      let contents = linked p in
+      absurd (false≢true (sym (unexecuted contents.names (names_read contents) section n refl is)
+      ∙ runs))

@@ -27,9 +27,9 @@ pub fn headline()
 {}
 
 /// The printed walk: where the run of which the meaning speaks comes to a call of `walk` within n
-/// steps, the text of the image's run, with turns enough, has after the lines of what was shown until
-/// then a line with the name of each live activation's function, innermost first: also in filters and
-/// in `__finally` blocks, and where an unwinding has left others.
+/// steps, the text of the image's run, with turns enough, has after the lines of what was shown
+/// until then a line with the name of each live activation's function, innermost first: also in
+/// filters and in `__finally` blocks, and where an unwinding has left others.
 pub fn printed_walk()
     ensures { PrintedWalk }
 {}

@@ -4,8 +4,7 @@
 ghost use Rattle.std.specs.Prelude.{◌≡◌, ◌≤◌, length, IfOk, IfErr};
 ghost use Rattle.seh_io.specs.Streams.{Grew};
 ghost use Rattle.seh_io.specs.Text.{ended};
-ghost use Rattle.seh_host.specs.Names.{named_by};
-ghost use Rattle.seh_host.specs.Running.{running_of, run_of, event_count};
+ghost use Rattle.seh_host.specs.Running.{running_of, run_of, run_names, event_count};
 ghost use Rattle.seh_host.specs.Turns.{end_within};
 ghost use Rattle.seh.specs.Answers.{IsCutOff};
 ghost use Rattle.seh.specs.Refusals.{named};
@@ -51,11 +50,11 @@ fn write_summary<O: Sink>(
     requires { event_count host.old ≡ 0 }
     ensures end { IfOk result (λ e. e ≡ end_within turns (run_of turns (running_of host.old)).end) }
     ensures whole { IfOk result (λ e. Grew (O.taken out.old)
-        (summary_of turns number (named_by (running_of host.old).functions.rows)
+        (summary_of turns number (run_names (running_of host.old))
         (run_of turns (running_of host.old))) (O.taken out.new)) }
     ensures fault { IfErr result (λ e. e ≡ Refusal.WriteFault) }
     ensures cut_off { IfErr result
-        (λ e. IsCutOff (summary_of turns number (named_by (running_of host.old).functions.rows)
+        (λ e. IsCutOff (summary_of turns number (run_names (running_of host.old))
         (run_of turns (running_of host.old)))
         (stream O.taken O.faults out.old) (stream O.taken O.faults out.new)) }
 {

@@ -4,6 +4,7 @@ pub mod TurnEvents
 pub mod WalkSteps
 pub mod ServiceReturn
 pub mod FaultTurns
+pub mod ServiceTurns
 pub mod TurnOutcomes
 pub mod TableEntries
 pub mod FuncletOrder

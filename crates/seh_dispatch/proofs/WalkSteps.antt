@@ -1,28 +1,25 @@
 -- A printed walk, step by step.
-use Rattle.std.proofs.Common.{◌≡◌, ℕ, zero, suc, ◌+◌, ◌<◌, List, [], ◌∷◌, ◌++◌, map, Option, Some, None, refl, sym, ap, subst, ◌∙◌, append-nil, append_assoc, arith}
+use Rattle.std.proofs.Common.{◌≡◌, ℕ, zero, suc, ◌+◌, List, [], ◌++◌, map, Option, Some, None, Result, Ok, Err, refl, sym, ap, subst, ◌∙◌, append-nil, append_assoc, arith}
 use Rattle.std.specs.Prelude.{option_map}
 use Rattle.std.specs.List.{filter_map, cons_option}
 use Rattle.seh_num.specs.declared.event.Event.TheVariants as events
 use Rattle.seh_walk.specs.declared.stop_cause.StopCause.{StopCause}
 use Rattle.seh_walk.specs.declared.walk.WalkState.{WalkState}
-use Rattle.seh_walk.specs.declared.walk.WalkItem as code
-use Rattle.seh_walk.specs.declared.walk.WalkItem.TheVariants as items
 use Rattle.seh_walk.specs.Walk.{Visited, Over, Past, Frame, Broken, visited}
-use Rattle.seh_walk.specs.Seen.{seen}
 use Rattle.seh_walk.specs.Controls.{controls, controls_from, number_at}
-use Rattle.virtual_unwind.specs.declared.frame.Caller.{Caller}
-use Rattle.seh_dispatch.specs.Words.{Event, Memory, Functions, Printed, printed, printed_of, listed}
+use Rattle.seh_dispatch.specs.Words.{Event, Memory, Functions, Printed, printed, printed_of, listed, followed, shown_at}
 
-abbrev no_more : Option StopCause → Printed
+abbrev pub no_more : Option StopCause → Printed
 no_more stop = record { events = []; stop = stop }
 
 -- these events, and then what others show
 abbrev after_events : List Event → Printed → Printed
 after_events es x = record { events = es ++ x.events; stop = x.stop }
 
--- what is shown at a frame's control address
-abbrev at_frame : Functions → WalkState → List Event
-at_frame t w = listed (option_map events.At (number_at t w.context.rip))
+-- what is printed after a step
+abbrev pub rest_of : ℕ → Functions → Memory → Result WalkState (Option StopCause) → Printed
+rest_of n t m (Ok u) = printed n t m u
+rest_of n t m (Err stop) = no_more stop
 
 shown_first : (o : Option ℕ) (ns : List ℕ)
     → map events.At (cons_option o ns) ≡ listed (option_map events.At o) ++ map events.At ns
@@ -40,25 +37,21 @@ one_step zero k t m w x e f = absurd (omega arith)
 one_step (suc n) k t m w x e f = let h : k ≡ n = omega arith in
     ap (λ j. found j t m w x) h ∙ ap (found n t m w) f
 
-module _ (n k : ℕ) (t : Functions) (m : Memory) (w : WalkState) (item : code.WalkItem)
-    (e : n ≡ k + 1) (f : seen t w item ≡ visited t m w) where
-  pub printed-past : (u : WalkState) → item ≡ items.Past u → printed k t m u ≡ printed n t m w
-  printed-past u is = one_step n k t m w (Past u) e (sym (ap (seen t w) is) ∙ f)
+found_step : (k : ℕ) (t : Functions) (m : Memory) (w : WalkState) (x : Visited)
+    → after_events (shown_at t w x) (rest_of k t m (followed x)) ≡ found k t m w x
+found_step k t m w Over = refl
+found_step k t m w (Past u) = refl
+found_step k t m w (Broken y) = refl
+found_step k t m w (Frame c u) = let ns = filter_map (number_at t) (controls k t m u).addresses in
+    ap (λ es. record { events = es; stop = (controls k t m u).stop })
+    (sym (shown_first (number_at t w.context.rip) ns))
 
-  pub printed-frame : (c : Caller) (u : WalkState) → item ≡ items.Frame c u
-      → after_events (at_frame t w) (printed k t m u) ≡ printed n t m w
-  printed-frame c u is =
-      let ns = filter_map (number_at t) (controls k t m u).addresses in
-      ap (λ es. record { events = es; stop = (controls k t m u).stop })
-      (sym (shown_first (number_at t w.context.rip) ns))
-      ∙ one_step n k t m w (seen t w (items.Frame c u)) e (sym (ap (seen t w) is) ∙ f)
-
-  pub printed-over : item ≡ items.Over → no_more None ≡ printed n t m w
-  printed-over is = one_step n k t m w Over e (sym (ap (seen t w) is) ∙ f)
-
-  pub printed-broken : (y : StopCause) → item ≡ items.Broken y
-      → no_more (Some y) ≡ printed n t m w
-  printed-broken y is = one_step n k t m w (Broken y) e (sym (ap (seen t w) is) ∙ f)
+pub printed_step : (n k : ℕ) (t : Functions) (m : Memory) (w : WalkState)
+    (r : Result WalkState (Option StopCause)) → n ≡ k + 1 → r ≡ followed (visited t m w)
+    → after_events (shown_at t w (visited t m w)) (rest_of k t m r) ≡ printed n t m w
+printed_step n k t m w r e f =
+    ap (λ q. after_events (shown_at t w (visited t m w)) (rest_of k t m q)) f
+    ∙ found_step k t m w (visited t m w) ∙ one_step n k t m w (visited t m w) e refl
 
 pub printed-none : (n : ℕ) (t : Functions) (m : Memory) (w : WalkState) → n ≡ 0
     → no_more None ≡ printed n t m w
@@ -102,3 +95,14 @@ module _ {X : Type 0} (took : X → List Event → X → Type 0) where
 
     pub stop_is : (stop : Option StopCause) → no_more stop ≡ rest → stop ≡ whole.stop
     stop_is stop e = ap (λ x. x.stop) e ∙ sym h.stop
+
+  -- a step of a printed walk of which the front was shown
+  pub shows_step : (more : (x y z : X) (es fs : List Event) → took x es y → took y fs z
+      → took x (es ++ fs) z) (old new last : X) (whole : Printed) (n k : ℕ) (t : Functions)
+      (m : Memory) (w : WalkState) (r : Result WalkState (Option StopCause))
+      → Shows took old whole new (printed n t m w) → n ≡ k + 1 → r ≡ followed (visited t m w)
+      → took new (shown_at t w (visited t m w)) last
+      → Shows took old whole last (rest_of k t m r)
+  shows_step more old new last whole n k t m w r h e f given =
+      shows_more old new whole (printed n t m w) h more (shown_at t w (visited t m w)) last
+      (rest_of k t m r) given (printed_step n k t m w r e f)

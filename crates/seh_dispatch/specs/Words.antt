@@ -19,6 +19,7 @@ pub use Rattle.host_model.specs.Turns.{Continues, Turn, Ends, stopped, with_even
 pub use Rattle.host_model.specs.declared.funclet.Funclet.{Funclet}
 pub use Rattle.seh_dispatch.specs.FuncletLists.{AreAscending, funclet_of, funclets_of, listed}
 pub use Rattle.seh_dispatch.specs.Marks.{AreMarked}
+pub use Rattle.seh_dispatch.specs.PrintedSteps.{followed, shown_at}
 pub use Rattle.seh_dispatch.specs.Outcomes.{back_of, led, turn_of, led_turn, made_turn, turn_made, silent, all_silent, all_told}
 pub use Rattle.seh_dispatch.specs.TurnEnds.{left, over_if, over_cpu}
 pub use Rattle.seh_dispatch.specs.declared.filter.TheConstants.{REMAINDERS}

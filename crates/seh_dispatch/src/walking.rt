@@ -4,9 +4,14 @@ ghost use Rattle.std.specs.Prelude.{◌≡◌, option_map};
 ghost use Rattle.seh_num.specs.declared.event.Event.TheVariants as events;
 ghost use Rattle.eh_tables.specs.Tables.{TablesAreWhole};
 ghost use Rattle.virtual_unwind.specs.CallerOf.{functions_of, name_rows};
-ghost use Rattle.seh_walk.specs.Walk.{steps};
+ghost use Rattle.virtual_unwind.specs.CallerOf.{Functions as Functions'};
+ghost use Rattle.seh_walk.specs.declared.walk.WalkState.{WalkState as WalkState'};
+ghost use Rattle.seh_walk.specs.Seen.{seen};
+ghost use Rattle.seh_walk.specs.Walk.{steps, visited};
 ghost use Rattle.seh_walk.specs.Controls.{number_at};
 ghost use Rattle.host_model.specs.HostStep.{printed, walk_from};
+ghost use Rattle.seh_dispatch.specs.FuncletLists.{listed};
+ghost use Rattle.seh_dispatch.specs.PrintedSteps.{followed, shown_at};
 
 use crate::telling::tell;
 use eh_tables::Tables;
@@ -31,6 +36,51 @@ fn event_at(tables: &Tables, names: &NameTable, address: u64) -> Option<Event>
     }
 }
 
+/// What a printed walk shows of what it finds at its state.
+fn event_found(tables: &Tables, names: &NameTable, at: &WalkState, item: &WalkItem) -> Option<Event>
+    requires { names.now ≡ name_rows tables.now.image }
+    ensures { listed result ≡ shown_at (functions_of tables.now) at.now
+        (seen (functions_of tables.now) at.now item.now) }
+{
+    match *item {
+        WalkItem::Frame(_, _) => event_at(tables, names, at.context.rip),
+        WalkItem::Over | WalkItem::Past(_) | WalkItem::Broken(_) => None,
+    }
+}
+
+/// The state that a walk continues from after what it finds; at its end, what stops it, if anything
+/// does.
+fn follow(item: WalkItem) -> Result<WalkState, Option<StopCause>>
+    ensures { (t : Functions') (w : WalkState') → result ≡ followed (seen t w item) }
+{
+    match item {
+        WalkItem::Over => Err(None),
+        WalkItem::Broken(cause) => Err(Some(cause)),
+        WalkItem::Past(next) | WalkItem::Frame(_, next) => Ok(next),
+    }
+}
+
+/// One step of a printed walk: the state that the walk continues from; at its end, what stops it,
+/// if anything does.
+fn print_step<S: AddressSpace, V: Events>(
+    tables: &Tables,
+    names: &NameTable,
+    space: &S,
+    at: &WalkState,
+    to: &mut V,
+) -> Result<WalkState, Option<StopCause>>
+    requires whole { TablesAreWhole tables.now }
+    requires names { names.now ≡ name_rows tables.now.image }
+    ensures next { result
+        ≡ followed (visited (functions_of tables.now) (S.memory space.now) at.now) }
+    ensures shown { V.took to.old (shown_at (functions_of tables.now) at.now
+        (visited (functions_of tables.now) (S.memory space.now) at.now)) to.new }
+{
+    let item = visit(tables, space, at).item;
+    tell(to, event_found(tables, names, at, &item));
+    follow(item)
+}
+
 /// Gives a receiver the function of each frame, the innermost first, of a walk from the state of a
 /// processor: each whose control address is in a row of the image's names. What stops the walk is
 /// answered, if anything does. No memory is taken.
@@ -53,14 +103,9 @@ pub fn print_walk<S: AddressSpace, V: Events>(
         row: 0,
     };
     for _i in 0..0xFFFF_FFFF_FFFF_FFFFu64 {
-        match visit(tables, space, &at).item {
-            WalkItem::Over => return None,
-            WalkItem::Broken(cause) => return Some(cause),
-            WalkItem::Past(next) => at = next,
-            WalkItem::Frame(_, next) => {
-                tell(to, event_at(tables, names, at.context.rip));
-                at = next;
-            }
+        match print_step(tables, names, space, &at, to) {
+            Ok(next) => at = next,
+            Err(stop) => return stop,
         }
     }
     None

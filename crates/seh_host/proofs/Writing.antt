@@ -2,7 +2,7 @@
 use Rattle.std.proofs.Common.{◌≡◌, ℕ, suc, ◌+◌, ◌-◌, ◌≤◌, ◌<◌, Bool, true, false, List, [], ◌++◌, Option, Some, refl, sym, ap, subst, ◌∙◌, arith, inl, inr, append_assoc}
 use Rattle.std.proofs.lemmas.Bool.{cases_Bool, true≢false}
 use Rattle.std.proofs.lemmas.List.{append-nil}
-use Rattle.seh_host.specs.Words.{RunEnd, named_by, image_named, lines, end_line, text, Writer, writer_of, Wrote, TookEvents, TookPart, Functions, Host, Live, Ended, end_of, Running, made, shown_made, after_turn, shown_of, run_of, answer_of, end_within}
+use Rattle.seh_host.specs.Words.{RunEnd, named_by, image_named, lines, end_line, text, Writer, writer_of, Wrote, TookEvents, TookPart, Functions, Host, Live, Ended, end_of, Running, made, shown_made, after_turn, shown_of, run_of, run_names, answer_of, end_within}
 use Rattle.seh_num.specs.declared.event.Event.{Event}
 use Rattle.seh_num.specs.Shown.{Shown}
 use Rattle.seh_io.specs.Streams.{Grew}
@@ -75,22 +75,23 @@ taken_whole x z t p is = (
 )
 
 module _ (n k : ℕ) (trace : Bool) (r r' : Running) (x z : Writer) (le : k ≤ n)
-    (host : r' ≡ made k r) (w : Wrote x (lines trace (shown_made k r) (named_by r.functions.rows)) z) where
+    (host : r' ≡ made k r) (w : Wrote x (lines trace (shown_made k r) (run_names r)) z) where
   -- where a line couldn't be written, nothing is written of later ones
-  later : z.failed ≡ true → Wrote x (lines trace (shown_made n r) (named_by r.functions.rows)) z
+  later : z.failed ≡ true → Wrote x (lines trace (shown_made n r) (run_names r)) z
   later was =
       let rest = shown_in_turns r.functions r.funclets (n - k) (made k r).host in
       let sum : n ≡ k + (n - k) = omega arith in
       let all : shown_made n r ≡ shown_made k r ++ rest = ap (λ m. shown_made m r) sum
       ∙ shown_more r.functions r.funclets k (n - k) r.host in
-      subst (λ t. Wrote x t z) (sym (ap (λ es. lines trace es (named_by r.functions.rows)) all
-      ∙ lines_append trace (shown_made k r) rest (named_by r.functions.rows)))
-      (wrote_more x z z (lines trace (shown_made k r) (named_by r.functions.rows)) (lines trace rest (named_by r.functions.rows)) w
-      (wrote_nothing z (lines trace rest (named_by r.functions.rows)) was))
+      subst (λ t. Wrote x t z) (sym (ap (λ es. lines trace es (run_names r)) all
+      ∙ lines_append trace (shown_made k r) rest (run_names r)))
+      (wrote_more x z z (lines trace (shown_made k r) (run_names r))
+      (lines trace rest (run_names r)) w
+      (wrote_nothing z (lines trace rest (run_names r)) was))
 
   pub written : (z.failed ≡ false → (made n r ≡ made k r) × (shown_made n r ≡ shown_made k r))
       → (j : ℕ) → k ≤ j + 1 → (more : List ℕ)
-      × Grew x.taken (lines trace (shown_made j r) (named_by r.functions.rows) ++ more) z.taken
+      × Grew x.taken (lines trace (shown_made j r) (run_names r) ++ more) z.taken
       → Written n trace r x r' z
   written all j last before = record {
     stopped = record {
@@ -106,7 +107,7 @@ module _ (n k : ℕ) (trace : Bool) (r r' : Running) (x z : Writer) (le : k ≤ 
     wrote = elim (cases_Bool z.failed) [
       | inl was ↦ later was
       | inr is ↦ subst
-          (λ es. Wrote x (lines trace es (named_by r.functions.rows)) z) (sym (all is).1) w
+          (λ es. Wrote x (lines trace es (run_names r)) z) (sym (all is).1) w
     ];
   }
 
@@ -137,17 +138,18 @@ module _ {X : Type 0} (taken : X → Option (List ℕ)) (faults : X → ℕ) (l0
       (took_more taken faults image_named l0 l n (shown_made i r0) (shown_of r) took shows)
 
   next_wrote : Wrote (writer_of taken faults l0)
-      (lines l0.trace (shown_made (i + 1) r0) (named_by r0.functions.rows))
+      (lines l0.trace (shown_made (i + 1) r0) (run_names r0))
       (writer_of taken faults n)
   next_wrote =
       lines_named taken faults l0 n r0.functions.rows (shown_made (i + 1) r0) same next_took
 
   before_it : (more : List ℕ)
-      × Grew (taken l0.sink.now) (lines l0.trace (shown_made i r0) (named_by r0.functions.rows) ++ more)
+      × Grew (taken l0.sink.now) (lines l0.trace (shown_made i r0) (run_names r0) ++ more)
       (taken n.sink.now)
   before_it =
       taken_before (writer_of taken faults l0) (writer_of taken faults l) (writer_of taken faults n)
-      (lines l0.trace (shown_made i r0) (named_by r0.functions.rows)) (lines l.trace (shown_of r) (image_named l.names.now))
+      (lines l0.trace (shown_made i r0) (run_names r0))
+      (lines l.trace (shown_of r) (image_named l.names.now))
       (lines_named taken faults l0 l r0.functions.rows (shown_made i r0) same took) is shows.wrote
 
   pub stops : i < count → n.failed ≡ true → Written count l0.trace r0 (writer_of taken faults l0) r'
@@ -169,8 +171,9 @@ module _ {X : Type 0} (taken : X → Option (List ℕ)) (faults : X → ℕ) (l0
       (λ _. (far.0 ∙ sym near.0, far.1 ∙ sym near.1)) i (omega arith) before_it
 
 -- all turns made
-pub all_made : {X : Type 0} (taken : X → Option (List ℕ)) (faults : X → ℕ) (l0 n : Lines X ImageNames)
-    (count i : ℕ) (r0 r' : Running) → i ≡ count → r' ≡ made i r0 → n.failed ≡ false
+pub all_made : {X : Type 0} (taken : X → Option (List ℕ)) (faults : X → ℕ)
+    (l0 n : Lines X ImageNames) (count i : ℕ) (r0 r' : Running)
+    → i ≡ count → r' ≡ made i r0 → n.failed ≡ false
     → l0.names.now.table ≡ r0.functions.rows
     → TookEvents taken faults image_named l0 (shown_made i r0) n
     → Written count l0.trace r0 (writer_of taken faults l0) r' (writer_of taken faults n)
@@ -181,15 +184,16 @@ all_made taken faults l0 n count i r0 r' e host is same took =
     written count count l0.trace r0 r' (writer_of taken faults l0) (writer_of taken faults n)
     (omega arith) host' wrote
     (λ _. (refl, refl)) count (omega arith) (taken_whole (writer_of taken faults l0)
-    (writer_of taken faults n) (lines l0.trace (shown_made count r0) (named_by r0.functions.rows)) wrote is)
+    (writer_of taken faults n) (lines l0.trace (shown_made count r0) (run_names r0)) wrote is)
 
 -- before the first
 pub none_made : (r : Running) → r ≡ made 0 r
 unfolding after_turns
 none_made r = refl
 
-pub none_taken : {X : Type 0} (taken : X → Option (List ℕ)) (faults : X → ℕ) (l : Lines X ImageNames)
-    (r : Running) → TookEvents taken faults image_named l (shown_made 0 r) l
+pub none_taken : {X : Type 0} (taken : X → Option (List ℕ)) (faults : X → ℕ)
+    (l : Lines X ImageNames) (r : Running)
+    → TookEvents taken faults image_named l (shown_made 0 r) l
 unfolding shown_in_turns
 none_taken taken faults l r = took_none taken faults image_named l
 
@@ -232,13 +236,13 @@ pub part_of_text : (count taken : ℕ) (trace : Bool) (r r' : Running) (x y z : 
     → Written count trace r x r' y → Wrote y (end_line end) z
     → end ≡ end_within count (end_of r'.host) → x.count ≡ 0 → taken ≡ z.count
     → TookPart x.taken
-    (text (run_of count r).events (end_within count (run_of count r).end) trace (named_by r.functions.rows))
+    (text (run_of count r).events (end_within count (run_of count r).end) trace (run_names r))
     z.taken taken
 part_of_text count taken trace r r' x y z end w q is fresh e =
     subst (λ t. TookPart x.taken t z.taken taken)
-    (ap (λ es. lines trace es (named_by r.functions.rows) ++ end_line (end_within count (run_of count r).end))
+    (ap (λ es. lines trace es (run_names r) ++ end_line (end_within count (run_of count r).end))
     (events_of count r))
-    (ran_part x y z (lines trace (shown_made count r) (named_by r.functions.rows))
+    (ran_part x y z (lines trace (shown_made count r) (run_names r))
     (end_line (end_within count (run_of count r).end)) w.wrote last taken fresh e)
   where
     last : Wrote y (end_line (end_within count (run_of count r).end)) z
@@ -265,9 +269,9 @@ stopped_then count trace r r' x y z u w q = record {
   before = (
     w.stopped.before.0 ++ q.part,
     subst (λ t. Grew x.taken t z.taken)
-        (append_assoc (lines trace (shown_made w.stopped.whole r) (named_by r.functions.rows)) w.stopped.before.0
+        (append_assoc (lines trace (shown_made w.stopped.whole r) (run_names r)) w.stopped.before.0
         q.part)
-        (grew_then x.taken y.taken z.taken (lines trace (shown_made w.stopped.whole r) (named_by r.functions.rows)
+        (grew_then x.taken y.taken z.taken (lines trace (shown_made w.stopped.whole r) (run_names r)
         ++ w.stopped.before.0) q.part w.stopped.before.1 q.grew),
   );
 }
@@ -280,7 +284,7 @@ pub stopped_text : (count taken : ℕ) (trace : Bool) (r r' : Running) (x y z : 
 stopped_text count taken trace r r' x y z end w q is fresh e = record {
   stopped = stopped_then count trace r r' x y z (end_line end) w q;
   count = taken;
-  front = ran_part x y z (lines trace (shown_made w.stopped.turns_made r) (named_by r.functions.rows))
+  front = ran_part x y z (lines trace (shown_made w.stopped.turns_made r) (run_names r))
       (end_line (end_within count (end_of r'.host))) w.made_lines
       (subst (λ last. Wrote y (end_line last) z) is q) taken fresh e;
 }

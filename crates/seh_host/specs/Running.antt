@@ -1,9 +1,10 @@
 -- What a host means.
-use Rattle.std.specs.Prelude.{ℕ, List, [], ℤ}
+use Rattle.std.specs.Prelude.{ℕ, List, [], ℤ, Option}
 use Rattle.virtual_unwind.specs.CallerOf.{Functions, functions_of}
 use Rattle.x64_memory.specs.PageMaps.{memory_of}
 use Rattle.seh_dispatch.specs.TurnEnds.{left}
 use Rattle.seh_host.specs.declared.host.Host as code
+use Rattle.seh_host.specs.Names.{named_by}
 use Rattle.host_model.specs.declared.funclet.Funclet.{Funclet}
 use Rattle.host_model.specs.HostStep.{Host, host, next, shown_next}
 use Rattle.seh_num.specs.declared.event.Event.{Event}
@@ -34,6 +35,10 @@ after_turn r = record r { host = next r.functions r.funclets r.host }
 
 abbrev pub shown_of : Running → List Event
 shown_of r = shown_next r.functions r.funclets r.host
+
+-- the names by which a run's events are written
+abbrev pub run_names : Running → ℕ → Option (List ℕ)
+run_names r = named_by r.functions.rows
 
 -- the image that a host keeps
 abbrev pub image_of : code.Host → Image

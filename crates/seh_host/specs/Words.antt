@@ -15,5 +15,5 @@ pub use Rattle.host_model.specs.Loading.{has_place, pages, begins_at, covers, or
 unfoldable pub use Rattle.host_model.specs.Loading.{start}
 pub use Rattle.seh_host.specs.Names.{named_by, image_named}
 pub use Rattle.seh_host.specs.Mapping.{stack, section_region, regions_of, with_raw, unbound}
-pub use Rattle.seh_host.specs.Running.{Running, made, shown_made, after_turn, shown_of, run_of, running_of, image_of, event_count}
+pub use Rattle.seh_host.specs.Running.{Running, made, shown_made, after_turn, shown_of, run_of, run_names, running_of, image_of, event_count}
 pub use Rattle.seh_host.specs.Turns.{end_within, answer_of}

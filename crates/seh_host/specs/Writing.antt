@@ -4,15 +4,14 @@ use Rattle.seh_io.specs.Streams.{Grew}
 use Rattle.seh_io.specs.Text.{lines, end_line, text}
 use Rattle.seh_io.specs.Writer.{Writer, Wrote, TookPart}
 use Rattle.host_model.specs.HostStep.{end_of}
-use Rattle.seh_host.specs.Names.{named_by}
-use Rattle.seh_host.specs.Running.{Running, made, shown_made, run_of}
+use Rattle.seh_host.specs.Running.{Running, made, shown_made, run_of, run_names}
 use Rattle.seh_host.specs.Turns.{end_within}
 
 -- the text of a run of at most so many turns
 abbrev pub run_text : ℕ → Bool → Running → List ℕ
 run_text turns trace r =
     text (run_of turns r).events (end_within turns (run_of turns r).end) trace
-    (named_by r.functions.rows)
+    (run_names r)
 
 -- a line couldn't be written: no turn was made after the one that shows it, so that the lines of
 -- all turns but the last were taken whole
@@ -24,7 +23,7 @@ pub record Stopped (turns : ℕ) (trace : Bool) (r : Running) (taken : Option (L
   pub whole : ℕ
   pub last : turns_made ≤ whole + 1
   pub before : (more : List ℕ)
-      × Grew taken (lines trace (shown_made whole r) (named_by r.functions.rows) ++ more) taken'
+      × Grew taken (lines trace (shown_made whole r) (run_names r) ++ more) taken'
 
 -- and nothing was taken but lines of the turns that were made, and after all of these the line of
 -- the end that they leave
@@ -33,7 +32,7 @@ pub record StoppedText (turns : ℕ) (trace : Bool) (r : Running) (taken : Optio
   pub stopped : Stopped turns trace r taken r' taken'
   pub count : ℕ
   pub front : TookPart taken
-      (lines trace (shown_made stopped.turns_made r) (named_by r.functions.rows)
+      (lines trace (shown_made stopped.turns_made r) (run_names r)
       ++ end_line (end_within turns (end_of r'.host)))
       taken' count
 
@@ -42,6 +41,6 @@ pub record StoppedText (turns : ℕ) (trace : Bool) (r : Running) (taken : Optio
 pub record Written (turns : ℕ) (trace : Bool) (r : Running) (old : Writer) (r' : Running)
     (new : Writer) : Type 0 where
   pub stopped : Stopped turns trace r old.taken r' new.taken
-  pub made_lines : Wrote old (lines trace (shown_made stopped.turns_made r) (named_by r.functions.rows)) new
+  pub made_lines : Wrote old (lines trace (shown_made stopped.turns_made r) (run_names r)) new
   pub all : new.failed ≡ false → r' ≡ made turns r
-  pub wrote : Wrote old (lines trace (shown_made turns r) (named_by r.functions.rows)) new
+  pub wrote : Wrote old (lines trace (shown_made turns r) (run_names r)) new

@@ -16,8 +16,8 @@ use x64_machine::cpu::Cpu;
 use x64_memory::page_map::PageMap;
 
 /// An image that is run: its registers and memory, and how its run ended, once it has; with its
-/// function table, which is read whole, the names of its functions, its funclets with their filter, and instructions that were
-/// decoded before, which agree with memory while the run lasts.
+/// function table, which is read whole, the names of its functions, its funclets with their filter,
+/// and instructions that were decoded before, which agree with memory while the run lasts.
 #[derive(Drop)]
 pub struct Host<'image, 'bytes> {
     pub(crate) cpu: Cpu,

@@ -6,8 +6,7 @@ ghost use Rattle.seh_io.specs.Streams.{Rose, Grew, HasCount};
 ghost use Rattle.seh_io.specs.Text.{text};
 ghost use Rattle.seh_io.specs.Writer.{TookPart, writer_of};
 ghost use Rattle.host_model.specs.HostStep as model;
-ghost use Rattle.seh_host.specs.Names.{named_by};
-ghost use Rattle.seh_host.specs.Running.{running_of, after_turn, shown_of, run_of, made, shown_made, image_of, event_count};
+ghost use Rattle.seh_host.specs.Running.{running_of, after_turn, shown_of, run_of, made, shown_made, run_names, image_of, event_count};
 ghost use Rattle.seh_host.specs.Counts.{CountedTurns};
 ghost use Rattle.seh_host.specs.Writing.{StoppedText, Written, run_text};
 ghost use Rattle.seh_host.specs.Turns.{answer_of, end_within, taken_before};
@@ -92,12 +91,12 @@ pub enum RunErr {
 /// Runs a host for at most so many turns, and writes the lines of what it shows and of its end.
 ///
 /// With `trace` each event has its line, else what is put, and each function of a printed walk that
-/// has a name in the image. The last line is that of the end
-/// that is answered. The host is then as its turns left it, so that a later run begins there; one
-/// that has ended answers the same end. After `Write` the sink has taken a part of the text from
-/// the front, of `taken` bytes (a count that stays at 2^64 - 1). No turn was made after the one
-/// whose line failed, and no byte was taken of a turn that wasn't made. The host keeps its image in
-/// both, and counts what its turns show, with `trace` or without.
+/// has a name in the image. The last line is that of the end that is answered. The host is then as
+/// its turns left it, so that a later run begins there; one that has ended answers the same end.
+/// After `Write` the sink has taken a part of the text from the front, of `taken` bytes (a count
+/// that stays at 2^64 - 1). No turn was made after the one whose line failed, and no byte was taken
+/// of a turn that wasn't made. The host keeps its image in both, and counts what its turns show,
+/// with `trace` or without.
 pub fn run<O: Sink>(
     host: &mut Host<'_, '_>,
     turns: u64,
@@ -107,7 +106,7 @@ pub fn run<O: Sink>(
     ensures end { IfOk result (λ e. e ≡ end_within turns (run_of turns (running_of host.old)).end) }
     ensures text { IfOk result (λ e. Grew (O.taken sink.old)
         (text (run_of turns (running_of host.old)).events e trace
-        (named_by (running_of host.old).functions.rows)) (O.taken sink.new)) }
+        (run_names (running_of host.old))) (O.taken sink.new)) }
     ensures part { IfErr result (λ e. TookPart (O.taken sink.old)
         (run_text turns trace (running_of host.old)) (O.taken sink.new) (taken_before e)) }
     ensures host { IfOk result (λ _. running_of host.new ≡ made turns (running_of host.old)) }

@@ -132,8 +132,8 @@ fn put_name<O: Sink>(out: &mut Lines<'_, O>, name: &[u8])
     out.put(b"\n");
 }
 
-/// The line of the name in the row that begins at an address, if there is one. The rows are searched
-/// by halves.
+/// The line of the name in the row that begins at an address, if there is one. The rows are
+/// searched by halves.
 fn put_name_at<O: Sink>(out: &mut Lines<'_, O>, names: &NameTable<'_>, rva: u32)
     ensures same_reference { out.new.sink.ghost_name ≡ out.old.sink.ghost_name }
     ensures wrote { PutText O.taken O.faults out.old

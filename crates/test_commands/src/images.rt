@@ -56,8 +56,8 @@ fn imports_are_bound_or_refused(rt: HostRuntime) {
 }
 
 /// The only section is called `.sehname`: it has two bytes, which are no count of rows; or its code
-/// is a count of more rows than are stored, and another reason goes before. In the last row its name
-/// has seven of the letters.
+/// is a count of more rows than are stored, and another reason goes before. In the last row its
+/// name has seven of the letters.
 const NAMES: &str = r"
 exec | fourteen @ sections+0 2E 73 65 68 6E 61 6D 65 @ sections+8 02 00 | 3 ! load Names 0
 exec | fourteen @ sections+0 2E 73 65 68 6E 61 6D 65 | 3 ! load Names 0

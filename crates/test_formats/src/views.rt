@@ -14,8 +14,9 @@ const INFO: [u8; 8] = [1, 5, 2, 0, 5, 0x32, 1, 0x30];
 
 /// What is shown of images. A part begins with a line `# NAME`; lines `info` have the bytes of the
 /// unwind infos, lines `table` those of the function table, and lines `names`, where there are any,
-/// those of a section `.sehname` at 0x5000. After a line `shows` comes what is shown. Of the part `codes` llvm-readobj prints these codes; in `refused entry` the second of
-/// three entries is refused.
+/// those of a section `.sehname` at 0x5000. After a line `shows` comes what is shown. Of the part
+/// `codes` llvm-readobj prints these codes; in `refused entry` the second of three entries is
+/// refused.
 const VIEWS: &str = r"
 # example
 info 01 05 02 00 05 32 01 30

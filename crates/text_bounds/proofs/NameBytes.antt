@@ -1,8 +1,7 @@
 -- The bytes of an identifier: letters, digits and `_`, none of which is 0.
-use Rattle.std.proofs.Common.{◌≡◌, ℕ, ◌+◌, ◌<◌, ◌≤◌, Bool, true, false, Option, Some, None, List, [], ◌∷◌, refl, subst, arith, inl, inr}
+use Rattle.std.proofs.Common.{◌≡◌, ℕ, ◌+◌, ◌*◌, ◌<◌, ◌≤◌, Bool, true, false, Option, Some, None, List, [], ◌∷◌, refl, subst, arith, inl, inr}
 use Rattle.std.specs.Prelude.{◌==◌, ◌&&◌, ◌||◌, nat_le, if◌then◌else◌, option_map}
 use Rattle.std.proofs.lemmas.Bool.{and_parts, or_cases, leb-true, eqb-true, false≢true}
-use Rattle.c_lex.specs.declared.integer.Suffix.{Suffix}
 use Rattle.c_lex.specs.declared.punctuator.Punctuator.{Punctuator}
 use Rattle.c_lex.specs.declared.token.IntegerType.{IntegerType}
 use Rattle.c_lex.specs.declared.token.Kind.TheVariants as kinds
@@ -11,7 +10,7 @@ use Rattle.c_lex.specs.declared.word.Word.TheVariants.{Lexeme, Blank}
 use Rattle.c_lex.specs.Characters.{char, escaped, quoted}
 use Rattle.c_lex.specs.Comments.{is_space, after_end, ended, comment}
 use Rattle.c_lex.specs.Identifiers.{is_letter, is_digit, is_identifier_byte, identifier_kind}
-use Rattle.c_lex.specs.Integers.{literal, place_value, is_digit_of, suffix_of, typed, type_of, integer, hexadecimal, after_zero}
+use Rattle.c_lex.specs.Integers.{digit, literal, place_value, is_digit_of, suffix_of, typed, type_of, integer, hexadecimal, after_zero}
 use Rattle.c_lex.specs.Longest.{every, each, span}
 use Rattle.c_lex.specs.Words.{alone, lone, punctuator, slash, word_from, word}
 use Rattle.c_lex.specs.Punctuators.{punctuator_of}
@@ -38,16 +37,13 @@ typed_no : (n : ℕ) (o : Option IntegerType) → NoName (Some (typed n o))
 typed_no n None e = cc
 typed_no n (Some t) e = cc
 
-literal_no : (base n : ℕ) (s : Suffix) → NoName (Some (literal base n s))
-unfolding literal
-literal_no base n s = typed_no n (type_of (base == 10) s n)
-
 integer_no : (base : ℕ) (bytes : List ℕ) → NoName (integer base bytes)
-unfolding integer
+unfolding integer literal
 integer_no base bytes =
     let parts = span (is_digit_of base) bytes in
-    option_no (literal base (place_value base parts.0)) (suffix_of parts.1)
-    (literal_no base (place_value base parts.0))
+    let n = place_value base parts.0 in
+    option_no (literal base n) (suffix_of parts.1)
+    (λ s. typed_no n (type_of (base == 10) s n))
 
 hexadecimal_no : (bytes : List ℕ) → NoName (hexadecimal bytes)
 hexadecimal_no [] = none_no
@@ -67,11 +63,12 @@ quoted_no : (bytes : List ℕ) → NoName (quoted bytes)
 unfolding quoted
 quoted_no [] e = cc
 quoted_no (b ∷ []) e = cc
-quoted_no (b ∷ (q ∷ [])) = if_no _ (Some (char b)) None (char_no b) none_no
-quoted_no (s ∷ (b ∷ (q ∷ []))) =
-    if_no _ (option_map char (escaped b)) None (option_no char (escaped b) char_no) none_no
+quoted_no (b ∷ (q ∷ [])) e = if_no _ (Some (char b)) None (char_no b) none_no e
+quoted_no (s ∷ (b ∷ (q ∷ []))) e =
+    if_no _ (option_map char (escaped b)) None (option_no char (escaped b) char_no) none_no e
 quoted_no (s ∷ (x ∷ (a ∷ (b ∷ [])))) e = cc
-quoted_no (s ∷ (x ∷ (a ∷ (b ∷ (q ∷ []))))) = if_no _ _ None (char_no _) none_no
+quoted_no (s ∷ (x ∷ (a ∷ (b ∷ (q ∷ []))))) e =
+    if_no _ _ None (char_no (16 * digit a + digit b)) none_no e
 quoted_no (s ∷ (x ∷ (a ∷ (b ∷ (q ∷ (c ∷ bs)))))) e = cc
 
 lone_no : (o : Option Punctuator) → NoName (Some (lone o))

@@ -55,10 +55,10 @@ function_within text t n ps body ts mid at end h r =
     (both (parameters ps text h.after_parenthesis h.after_parameters h.parameters)
     (statements.block text h.after_parameters mid h.body
     (statements.items body text h.body.after_brace mid h.body.items))) in
-    let ends = past h.after_name rest.front mid n.end end rest.split named.1.1 in
+    let ends = past h.after_name rest.front mid n.end end rest.split named.2 in
     let first = begins.later in
     let start = named.0 in
-    let some = named.1.0 in
+    let some = named.1 in
     let last = ends.later in
     record { from = ends.from; later = omega arith; rises = ends.rises }
 

@@ -1,4 +1,4 @@
-use Rattle.std.proofs.Common.{ℕ, ◌+◌, List, ◌++◌, ap, ◌∙◌}
+use Rattle.std.proofs.Common.{ℕ, List, ◌++◌, ap, ◌∙◌}
 use Rattle.image_link.specs.Words.{RoutineView, PlaceView, own_addresses, info_if, info_bytes}
 use Rattle.image_link.proofs.Lemmas.{on_ok}
 use Rattle.image_link.proofs.tables.put_routine.Goals as goal

@@ -1,7 +1,7 @@
 use Rattle.std.proofs.Common.{sym, ap, subst}
 use Rattle.host_layout.specs.declared.imported.ImportedService.TheVariants.{RaiseException, LocalUnwind, Protect, Put, Walk}
 use Rattle.x64_emit.specs.declared.links.Thunks.{Thunks}
-use Rattle.image_link.specs.Words.{ImportedService, IsNear, thunk_at}
+use Rattle.image_link.specs.Words.{ImportedService, IsNear}
 use Rattle.image_link.proofs.Front.{thunk_near}
 use Rattle.image_link.proofs.text.links_of.Goals as goal
 

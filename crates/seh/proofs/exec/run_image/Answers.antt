@@ -1,7 +1,7 @@
 use Rattle.std.proofs.Common.{rules, ap, ◌∙◌, subst, w64, FitsSigned}
 use Rattle.std.proofs.lemmas.Int.{to_z-of_z}
 use Rattle.seh.specs.Words.{Shown, RunEnd, end_by, running_of, first_running, end_within, taken_before, Grew, text, TookPart, shown_by}
-use Rattle.seh_host.specs.Names.{named_by}
+use Rattle.seh_host.specs.Running.{run_names}
 use Rattle.seh.proofs.Shown.{shown_is, named_is}
 use Rattle.seh.proofs.exec.run_image.Goals as goal
 
@@ -25,9 +25,9 @@ returns-in-Ok-run g c =
       ends,
       subst (λ t. Grew (g.O.Sink.taken c.args.out.now) t (g.O.Sink.taken c.run.new.sink))
           (ap (λ (s : Shown RunEnd). text s.events c.in-Ok-run.end c.args.options.trace
-          (named_by r.functions.rows)) same
+          (run_names r)) same
           ∙ ap (λ e. text (shown_by c.args.options c.args.bytes.now).events e
-          c.args.options.trace (named_by r.functions.rows)) ends
+          c.args.options.trace (run_names r)) ends
           ∙ ap (text (shown_by c.args.options c.args.bytes.now).events
           (end_by c.args.options c.args.bytes.now) c.args.options.trace) named)
           c.in-Ok-run.ensures.text,
@@ -55,7 +55,7 @@ returns g c =
           subst (λ t. TookPart (g.O.Sink.taken c.args.out.now) t (g.O.Sink.taken c.run.new.sink)
               (taken_before c.in-Err-run.field-0))
               (ap (λ (s : Shown RunEnd). text s.events (end_within c.args.options.turns s.end)
-              c.args.options.trace (named_by r.functions.rows)) same
+              c.args.options.trace (run_names r)) same
               ∙ ap (text (shown_by c.args.options c.args.bytes.now).events
               (end_by c.args.options c.args.bytes.now) c.args.options.trace) named)
               c.in-Err-run.ensures.part,

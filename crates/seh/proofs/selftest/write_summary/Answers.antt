@@ -1,8 +1,7 @@
 use Rattle.std.proofs.Common.{◌≡◌, ◌∙◌, List, ℕ, length, false, ap, subst, arith}
 use Rattle.std.specs.Prelude.{codes}
 use Rattle.seh_io.specs.Text.{ended, text}
-use Rattle.seh_host.specs.Names.{named_by}
-use Rattle.seh_host.specs.Running.{event_count}
+use Rattle.seh_host.specs.Running.{event_count, run_names}
 use Rattle.seh.specs.Words.{RunEnd, Grew, taken_before, running_of, run_of}
 use Rattle.seh.specs.Refusals.{named}
 use Rattle.seh.specs.Selftests.{program_line, events_line}
@@ -17,7 +16,7 @@ returns-in-Err-clause-cut_off g c =
     c.as_bytes.ensures.value ∙ c.number_line-first.ensures in (
       c.in-Err.ensures.cause,
       cut_in_program c.args.turns c.args.number
-          (named_by (running_of c.args.host.now).functions.rows) shown (taken c.args.out.now)
+          (run_names (running_of c.args.host.now)) shown (taken c.args.out.now)
           (taken c.put_all.new.sink) c.as_bytes.result.now c.in-Err.field-0.taken line
           c.in-Err.ensures.short c.in-Err.ensures.part,
     )
@@ -30,7 +29,8 @@ returns-in-Err-run-clause-cut_off g c =
     c.as_bytes.ensures.value ∙ c.number_line-first.ensures in (
       rose_later _ _ _ c.put_all.ensures.faults c.in-Err-run.ensures.cause,
       cut_in_run c.args.turns c.args.number
-          (named_by (running_of c.args.host.now).functions.rows) shown (taken c.args.out.now) (taken c.put_all.new.sink)
+          (run_names (running_of c.args.host.now)) shown
+          (taken c.args.out.now) (taken c.put_all.new.sink)
           c.as_bytes.result.now line c.in-Ok.ensures.ok (taken c.run.new.sink)
           (taken_before c.in-Err-run.field-0) c.in-Err-run.ensures.part,
     )
@@ -43,7 +43,7 @@ returns-in-Err-put_all-clause-cut_off g c =
     c.as_bytes.ensures.value ∙ c.number_line-first.ensures in
     let ran = subst
     (λ (e : RunEnd). Grew (taken c.put_all.new.sink) (text shown.events e false
-    (named_by (running_of c.args.host.now).functions.rows))
+    (run_names (running_of c.args.host.now)))
     (taken c.run.new.sink)) c.in-Ok-run.ensures.end c.in-Ok-run.ensures.text in
     let counted = c.events.ensures
     ∙ counted_all (event_count c.args.host.now) (length shown.events) (event_count c.run.new.host)
@@ -54,7 +54,7 @@ returns-in-Err-put_all-clause-cut_off g c =
       rose_later _ _ _ c.put_all.ensures.faults
           (rose_later _ _ _ c.run.ensures.faults c.in-Err-put_all.ensures.cause),
       cut_in_events c.args.turns c.args.number
-          (named_by (running_of c.args.host.now).functions.rows) shown (taken c.args.out.now)
+          (run_names (running_of c.args.host.now)) shown (taken c.args.out.now)
           (taken c.put_all.new.sink) c.as_bytes.result.now line c.in-Ok.ensures.ok
           (taken c.run.new.sink) (taken c.put_all-2.new.sink) ran c.as_bytes-2.result.now ends
           c.in-Err-put_all.field-0.taken c.in-Err-put_all.ensures.short
@@ -69,7 +69,7 @@ returns-in-Ok-put_all-clause-whole g c =
     c.as_bytes.ensures.value ∙ c.number_line-first.ensures in
     let ran = subst
     (λ (e : RunEnd). Grew (taken c.put_all.new.sink) (text shown.events e false
-    (named_by (running_of c.args.host.now).functions.rows))
+    (run_names (running_of c.args.host.now)))
     (taken c.run.new.sink)) c.in-Ok-run.ensures.end c.in-Ok-run.ensures.text in
     let counted = c.events.ensures
     ∙ counted_all (event_count c.args.host.now) (length shown.events) (event_count c.run.new.host)
@@ -78,6 +78,7 @@ returns-in-Ok-put_all-clause-whole g c =
     c.as_bytes-2.ensures.value ∙ c.number_line-last.ensures
     ∙ ap (λ (n : ℕ). ended (named (codes "events ") n)) counted in
     wrote_summary c.args.turns c.args.number
-    (named_by (running_of c.args.host.now).functions.rows) shown (taken c.args.out.now) (taken c.put_all.new.sink)
+    (run_names (running_of c.args.host.now)) shown
+    (taken c.args.out.now) (taken c.put_all.new.sink)
     c.as_bytes.result.now line c.in-Ok.ensures.ok (taken c.run.new.sink)
     (taken c.put_all-2.new.sink) ran c.as_bytes-2.result.now ends c.in-Ok-put_all.ensures.ok

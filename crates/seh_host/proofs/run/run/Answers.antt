@@ -1,6 +1,6 @@
 use Rattle.std.proofs.Common.{◌++◌, ◌+◌, length, ap, subst, ◌∙◌, rules}
 use Rattle.seh_io.specs.Streams.{HasCount}
-use Rattle.seh_host.specs.Words.{named_by, lines, end_line, memory_of, running_of, run_of, end_within, event_count}
+use Rattle.seh_host.specs.Words.{lines, end_line, memory_of, running_of, run_of, run_names, end_within, event_count}
 use Rattle.seh_host.specs.declared.names.ImageNames.{ImageNames}
 use Rattle.seh_host.proofs.Lemmas.{ran_whole, same_grew, same_part}
 use Rattle.seh_host.proofs.Runs.{within, end_left}
@@ -23,9 +23,10 @@ returns-in-Ok-clause-text g c =
     same_grew (g.O.Sink.taken c.new-lines.result.sink.now) (g.O.Sink.taken c.args.sink.now)
     (g.O.Sink.taken c.end.new.self.sink.now) _ _ _
     (ap g.O.Sink.taken c.new-lines.ensures.sink)
-    (ap (λ es. lines c.new-lines.result.trace es (named_by r.functions.rows) ++ end_line c.unwrap_or-end.result)
+    (ap (λ es. lines c.new-lines.result.trace es (run_names r) ++ end_line c.unwrap_or-end.result)
     (events_of c.args.turns r)
-    ∙ ap (λ b. lines b (run_of c.args.turns r).events (named_by r.functions.rows) ++ end_line c.unwrap_or-end.result)
+    ∙ ap (λ b. lines b (run_of c.args.turns r).events (run_names r)
+    ++ end_line c.unwrap_or-end.result)
     c.new-lines.ensures.trace)
     (search rules)
     (ran_whole _ _ _ _ _ c.write_turns.ensures.written.wrote c.end.ensures.wrote
@@ -39,7 +40,7 @@ returns-clause-part g c =
     same_part (g.O.Sink.taken c.new-lines.result.sink.now) (g.O.Sink.taken c.args.sink.now)
     (g.O.Sink.taken c.end.new.self.sink.now) _ _ _ c.in-Err.fault.taken
     (ap g.O.Sink.taken c.new-lines.ensures.sink)
-    (ap (λ b. lines b shown.events (named_by r.functions.rows) ++ end_line (end_within c.args.turns shown.end))
+    (ap (λ b. lines b shown.events (run_names r) ++ end_line (end_within c.args.turns shown.end))
     c.new-lines.ensures.trace)
     (search rules)
     (part_of_text c.args.turns c.in-Err.fault.taken c.new-lines.result.trace r (running_of host)

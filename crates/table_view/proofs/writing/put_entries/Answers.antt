@@ -12,9 +12,11 @@ loop-index-preserved g c = record {
   rest = λ z p. c.loop-index.invariant.rest z
       (then_rest _ _ z (entry_lines c.args.names.now c.loop-index.index
       (entry_at c.args.tables.now c.loop-index.index)) _ _
-      (entry_first c.args.names.now c.args.tables.now c.loop-index.index (omega (arith, c.len-index-end.ensures)))
+      (entry_first c.args.names.now c.args.tables.now c.loop-index.index
+      (omega (arith, c.len-index-end.ensures)))
       (same _ _ _ _ c.put_entry.ensures.wrote
-      (ap (λ (r : Result Entry TableErr). entry_lines c.args.names.now c.loop-index.index r) c.entry.ensures)) p);
+      (ap (λ (r : Result Entry TableErr). entry_lines c.args.names.now c.loop-index.index r)
+      c.entry.ensures)) p);
 }
 
 pub returns-clause-wrote : goal.returns-clause-wrote

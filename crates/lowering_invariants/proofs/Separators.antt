@@ -1,0 +1,220 @@
+-- Every lowered body has its separators.
+use Rattle.std.proofs.Common.{◌≡◌, ◌⊎◌, inl, inr, ℕ, ◌+◌, ◌<◌, ◌≤◌, List, [], ◌∷◌, length, refl, sym, ap, subst, ◌∙◌, arith, length-append}
+use Rattle.std.proofs.lemmas.Bool.{and_parts, leb-true, ltb-true}
+use Rattle.std.specs.List.{AllByRecursion}
+use Rattle.std.specs.Prelude.{true, nat_le, nat_lt, slice_get, Some}
+use Rattle.lowering_invariants.specs.Words.{Expression, Filter, Always, Funclet, Function, Program, Statements, Local, Temporary, Instruction, LocalUnwind, Region, RegionKind, LinearBody, BodyName, FunctionBody, FuncletBody, body_of, holds, statements_size, Owner, Names, LoweringContext, finally_scope, constant, expression_code, statements_code, except_kind, statements_regions, finally_funclet, filter_funclet, scope_of, lowered_function, lowered, IsInside, BeginsApart, LandsInside, HasLanding, LeadsForth, LoweredHasSeparators}
+use Rattle.linear_code.specs.declared.instruction.Instruction.TheVariants.{Landing, Return}
+use Rattle.linear_code.specs.declared.program.RegionKind.TheVariants as kinds
+use Rattle.linear_machine.proofs.Walks.{holds_yes}
+use Rattle.lowering_invariants.proofs.Lemmas.{statements_length, HoldsOfAnyPieces, statements_any, all_append, IsSegmentAt, front, back, whole_is_at}
+use Rattle.lowering_invariants.proofs.BlockSeparators.{lowered_is_followed}
+use Rattle.lowering_invariants.proofs.EveryBody.{every_body, every_function}
+use Rattle.lowering_invariants.proofs.NoBlocks.{expression_no_blocks}
+use Rattle.lowering_invariants.proofs.ReturnRegions.{calls_stay}
+use Rattle.lowering_invariants.proofs.RegionRanges.{IsWithin, AreWithin, statements_within, NoneBegin, NoneMeet, statements_none_meet}
+use Rattle.lowering_invariants.proofs.StackTargets.{all_map}
+use Rattle.lowering_invariants.proofs.UnwindLabels.{lowered_stays_inside}
+use Rattle.lowering_invariants.proofs.UnwindTargets.{IsClear, LeadsOn, AllLead, lead_append, plain_lead, statements_lead, lead_at, within_clear}
+
+-- ---- what a region holds
+
+held_between : (label : ℕ) (r : Region) → holds label r ≡ true
+    → (r.begin ≤ label) × (label < r.end)
+held_between label r h =
+    let p = and_parts (nat_le r.begin label) (nat_lt label r.end) h in
+    (leb-true r.begin label p.0, ltb-true label r.end p.1)
+
+all_with : {X : Type 0} (P Q R : X → Type 0) (xs : List X) → ((x : X) → P x → Q x → R x)
+    → AllByRecursion P xs → AllByRecursion Q xs → AllByRecursion R xs
+all_with P Q R [] f h k = tt
+all_with P Q R (x ∷ xs) f h k = (f x h.0 k.0, all_with P Q R xs f h.1 k.1)
+
+-- ---- blocks begin where their regions end
+
+module _ (code : List Instruction) where
+  abbrev LandsAt : ℕ → RegionKind → Type 0
+  LandsAt end (kinds.Finally k) = Unit {0}
+  LandsAt end (kinds.Filter k target) =
+      (slot : ℕ) × (target ≡ end) × (slice_get code end ≡ Some (Landing (Local slot)))
+  LandsAt end (kinds.Always target) =
+      (slot : ℕ) × (target ≡ end) × (slice_get code end ≡ Some (Landing (Local slot)))
+
+  abbrev Lands : Region → Type 0
+  Lands r = LandsAt r.end r.kind
+
+  kind_lands : (f : Filter) (end x : ℕ) → slice_get code end ≡ Some (Landing (Local x))
+      → LandsAt end (except_kind f end)
+  kind_lands Always end x e = (x, refl, e)
+  kind_lands (Funclet k c) end x e = (x, refl, e)
+
+  pieces_land : HoldsOfAnyPieces (λ at xs rs. IsSegmentAt code at xs → AllByRecursion Lands rs)
+  pieces_land = record {
+    none = λ at s. tt;
+    both = λ at to xs ys rs qs e h k s. all_append Lands rs qs (h (front code at xs ys s))
+        (k (back code at to xs ys e s));
+    of_separator = λ at s. tt;
+    of_jump = λ at label l s. tt;
+    of_unwind = λ at label l s. tt;
+    of_landing = λ names m begin end at f le n o b t l s.
+        (kind_lands f (at + 1) names.free s.1.0, tt);
+    of_finally = λ k begin at o b t s. (tt, tt);
+    of_zeroed = λ x at d s. tt;
+    of_discarded = λ names m e at n h c s. tt;
+    of_condition = λ names m e label at n h l c s. tt;
+    of_initialiser = λ names m x e at n d h c s. tt;
+    of_repeated = λ names m e end begin at n h l b c s. tt;
+    of_return = λ names m e exit at n h w c s. tt;
+  }
+
+  statements_land : (ss : Statements) (scope : LoweringContext) (at : ℕ)
+      → IsSegmentAt code at (statements_code scope ss at)
+      → AllByRecursion Lands (statements_regions ss at)
+  statements_land = statements_any
+      (λ at xs rs. IsSegmentAt code at xs → AllByRecursion Lands rs) pieces_land
+
+-- ---- whole bodies
+
+record IsSeparate (b : LinearBody) : Type 0 where
+  pub regions : AllByRecursion (IsInside (length b.code)) b.regions
+  pub landings : AllByRecursion (λ (r : Region). HasLanding b r.kind) b.regions
+  pub leads : (label to : ℕ) → slice_get b.code label ≡ Some (LocalUnwind to)
+      → LeadsOn b.regions label (label + 1) to
+
+-- a block begins where no region begins
+lands_inside : (b : LinearBody) (end target slot : ℕ) → target ≡ end
+    → slice_get b.code end ≡ Some (Landing (Local slot)) → NoneBegin end b.regions
+    → LandsInside b target
+lands_inside b end target slot e g none = record {
+  slot = slot;
+  landing = ap (slice_get b.code) e ∙ g;
+  inside = all_map (λ (r : Region). r.begin ≡ end → ⊥)
+      (λ (r : Region). holds target r ≡ true → r.begin < target) b.regions
+      (λ r apart h. (let p = (held_between target r h).0 in omega arith)) none;
+}
+
+has_landing : (b : LinearBody) (end : ℕ) (k : RegionKind) → LandsAt b.code end k
+    → NoneBegin end b.regions → HasLanding b k
+has_landing b end (kinds.Finally k) l none = tt
+has_landing b end (kinds.Filter k target) l none = lands_inside b end target l.0 l.1 l.2 none
+has_landing b end (kinds.Always target) l none = lands_inside b end target l.0 l.1 l.2 none
+
+-- the code of statements from a place on, and something after it
+separate : (ss : Statements) (scope : LoweringContext) (b : LinearBody) (at : ℕ)
+    → b.regions ≡ statements_regions ss at → at + statements_size ss ≤ length b.code
+    → IsSegmentAt b.code at (statements_code scope ss at) → AllLead b.regions 0 b.code
+    → IsSeparate b
+separate ss scope b at e l s leads =
+    let within = subst (AreWithin at (at + statements_size ss)) (sym e) (statements_within ss at) in
+    let lands = subst (AllByRecursion (Lands b.code)) (sym e)
+    (statements_land b.code ss scope at s) in
+    let apart = subst NoneMeet (sym e) (statements_none_meet ss at) in
+    record {
+      regions = all_map (IsWithin at (at + statements_size ss)) (IsInside (length b.code)) b.regions
+          (λ r w. (let h = w.ends in record { some = w.some; before = omega arith })) within;
+      landings = all_with (Lands b.code) (λ (r : Region). NoneBegin r.end b.regions)
+          (λ (r : Region). HasLanding b r.kind) b.regions
+          (λ r h k. has_landing b r.end r.kind h k) lands apart;
+      leads = λ label to g. lead_at b.regions b.code 0 label label to (omega arith) leads g;
+    }
+
+filter_separate : (owner : Owner) (names : Names) (e : Expression)
+    → IsSeparate (filter_funclet owner names e).body
+filter_separate owner names e =
+    let code = (filter_funclet owner names e).body.code in
+    record {
+      regions = tt;
+      landings = tt;
+      leads = λ label to g. lead_at [] code 0 label label to (omega arith)
+          (lead_append [] 0 (length (expression_code names e 0 0)) (expression_code names e 0 0)
+          (Return (Temporary 0) ∷ []) (omega arith) (plain_lead [] 0 (expression_code names e 0 0)
+          (expression_no_blocks names e 0 0)) (tt, tt)) g;
+    }
+
+block_separate : (owner : Owner) (names : Names) (last : Statements)
+    → IsSeparate (finally_funclet owner names last).body
+block_separate owner names last =
+    let b = (finally_funclet owner names last).body in
+    let scope = finally_scope names in
+    let code = statements_code scope last 0 in
+    let ends = Return (Local names.free) ∷ [] in
+    let n = length-append code ends in
+    let l = statements_length scope last 0 in
+    let to = statements_size last in
+    separate last scope b 0 refl (omega arith) (front b.code 0 code ends (whole_is_at b.code))
+    (lead_append b.regions 0 to code ends (omega arith)
+    (statements_lead b.regions last scope 0 to (omega arith)
+    (record { exit = tt; loop_end = tt; loop_next = tt }) (λ low high p q h. h)) (tt, tt))
+
+function_separate : (f : Function) → IsSeparate (lowered_function f).body
+function_separate f =
+    let b = (lowered_function f).body in
+    let scope = scope_of f in
+    let code = statements_code scope f.body 1 in
+    let ends = constant 0 0 ∷ Return (Temporary 0) ∷ [] in
+    let n = length-append code ends in
+    let l = statements_length scope f.body 1 in
+    let to = 1 + statements_size f.body in
+    let exit = within_clear 1 to 1 (to + 1) b.regions (omega arith) (statements_within f.body 1) in
+    separate f.body scope b 1 refl (omega arith) (front b.code 1 code ends (whole_is_at b.code).1) (
+      tt,
+      lead_append b.regions 1 to code ends (omega arith)
+          (statements_lead b.regions f.body scope 1 to refl
+          (record { exit = (omega arith, exit); loop_end = tt; loop_next = tt })
+          (λ low high p q h. h)) (tt, (tt, tt)),
+    )
+
+-- ---- where bodies begin
+
+abbrev StartsApart : LinearBody → Type 0
+StartsApart b = BeginsApart (FunctionBody 0) b
+
+function_starts : (f : Function) → StartsApart (lowered_function f).body
+function_starts f = (
+  refl,
+  all_map (IsWithin 1 (1 + statements_size f.body)) (λ (r : Region). 0 < r.begin)
+      (statements_regions f.body 1) (λ r w. (let b = w.begins in omega arith))
+      (statements_within f.body 1),
+)
+
+begins_apart : (program : Program) (name : BodyName) (b : LinearBody)
+    → body_of (lowered program) name ≡ Some b → BeginsApart name b
+begins_apart program (FunctionBody k) b e = every_function StartsApart function_starts program k b e
+begins_apart program (FuncletBody k) b e = tt
+
+-- ---- all bodies
+
+holds_from : (label to : ℕ) (r : Region) → label < to → IsClear label to r → holds to r ≡ true
+    → (holds label r ≡ true) ⊎ (r.begin ≡ to)
+holds_from label to r l (inl c) h = let p = held_between to r h in
+    inl (holds_yes r label c (omega arith))
+holds_from label to r l (inr (inl c)) h = let p = held_between to r h in inr (omega arith)
+holds_from label to r l (inr (inr c)) h = let p = held_between to r h in absurd (omega arith)
+
+leads_forth : (b : LinearBody) (label to : ℕ) → to < length b.code
+    → LeadsOn b.regions label (label + 1) to → LeadsForth b label to
+leads_forth b label to there h =
+    let forth : label < to = omega arith in
+    record {
+      forth = forth;
+      there = there;
+      inside = all_map (IsClear label to)
+          (λ (r : Region). holds to r ≡ true → (holds label r ≡ true) ⊎ (r.begin ≡ to)) b.regions
+          (λ r c. holds_from label to r forth c) h.1;
+    }
+
+pub lowered_has_separators : LoweredHasSeparators
+lowered_has_separators program name b e =
+    let separate = every_body IsSeparate filter_separate block_separate function_separate program
+    name b e in
+    let stay = calls_stay program name b e in
+    record {
+      returns = stay.within;
+      calls = stay.hold;
+      blocks = lowered_is_followed program name b e;
+      regions = separate.regions;
+      begin = begins_apart program name b e;
+      landings = separate.landings;
+      unwinds = λ label to g. leads_forth b label to (lowered_stays_inside program name b e label
+          to g) (separate.leads label to g);
+    }

@@ -1,0 +1,64 @@
+-- What stands around calls, where regions begin and end, and where blocks and local unwinds land.
+--
+-- A return address is never the place of an epilogue, nor where a region begins or ends: the
+-- template of a call keeps the result after it (crate template_code, `call_code`), and after those
+-- that run `__finally` blocks, which end with their calls, is an instruction that does nothing.
+use Rattle.std.specs.Prelude.{◌≡◌, ◌⊎◌, ℕ, ◌+◌, ◌<◌, true, length, slice_get, Some}
+use Rattle.std.specs.List.{AllByRecursion}
+use Rattle.linear_code.specs.declared.slot.Slot.TheVariants.{Local}
+use Rattle.linear_code.specs.declared.instruction.Instruction.{Instruction}
+use Rattle.linear_code.specs.declared.instruction.Instruction.TheVariants.{Landing, LocalUnwind, Separator}
+use Rattle.linear_code.specs.declared.program.Region.{Region}
+use Rattle.linear_code.specs.declared.program.RegionKind.{RegionKind}
+use Rattle.linear_code.specs.declared.program.RegionKind.TheVariants.{Finally, Filter, Always}
+use Rattle.linear_code.specs.Program.{LinearBody}
+use Rattle.linear_machine.specs.Frames.{BodyName, FunctionBody, FuncletBody}
+use Rattle.linear_machine.specs.Regions.{holds}
+use Rattle.lowering_invariants.specs.BlockSeparators.{IsFollowed}
+use Rattle.lowering_invariants.specs.CallRegions.{HasSameRegions}
+use Rattle.lowering_invariants.specs.ReturnRegions.{is_call}
+
+-- a region of a body of n instructions has some, and one comes after it
+pub record IsInside (n : ℕ) (r : Region) : Type 0 where
+  pub some : r.begin < r.end
+  pub before : r.end < n
+
+-- a function begins with an instruction that does nothing, before all regions; a funclet begins
+-- with what keeps its establisher frame (crate image_tables, `LoweredBeginsPastPrologues`)
+abbrev pub BeginsApart : BodyName → LinearBody → Type 0
+BeginsApart (FunctionBody f) b =
+    (slice_get b.code 0 ≡ Some Separator)
+    × AllByRecursion (λ (r : Region). 0 < r.begin) b.regions
+BeginsApart (FuncletBody k) b = Unit {0}
+
+-- an `__except` block begins at this label, and each region that holds it begins before it
+pub record LandsInside (b : LinearBody) (label : ℕ) : Type 0 where
+  pub slot : ℕ
+  pub landing : slice_get b.code label ≡ Some (Landing (Local slot))
+  pub inside : AllByRecursion (λ (r : Region). holds label r ≡ true → r.begin < label) b.regions
+
+abbrev pub HasLanding : LinearBody → RegionKind → Type 0
+HasLanding b (Finally k) = Unit {0}
+HasLanding b (Filter k target) = LandsInside b target
+HasLanding b (Always target) = LandsInside b target
+
+-- a local unwind leads forth, to an instruction of its body. A region that holds the target holds
+-- the local unwind too, and so begins before the target; or it begins there, as that of a `__try`
+-- that comes at once after a loop, out of which a `break` leads
+pub record LeadsForth (b : LinearBody) (label to : ℕ) : Type 0 where
+  pub forth : label < to
+  pub there : to < length b.code
+  pub inside : AllByRecursion (λ (r : Region). holds to r ≡ true
+      → (holds label r ≡ true) ⊎ (r.begin ≡ to)) b.regions
+
+pub record HasSeparators (name : BodyName) (b : LinearBody) : Type 0 where
+  -- a call returns to its body, and no region begins or ends before the instruction there
+  pub returns : (label : ℕ) (i : Instruction) → slice_get b.code label ≡ Some i → is_call i ≡ true
+      → label + 1 < length b.code
+  pub calls : HasSameRegions b
+  pub blocks : IsFollowed b
+  pub regions : AllByRecursion (IsInside (length b.code)) b.regions
+  pub begin : BeginsApart name b
+  pub landings : AllByRecursion (λ (r : Region). HasLanding b r.kind) b.regions
+  pub unwinds : (label to : ℕ) → slice_get b.code label ≡ Some (LocalUnwind to)
+      → LeadsForth b label to
