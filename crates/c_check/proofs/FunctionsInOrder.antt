@@ -1,15 +1,13 @@
 -- Functions, one after another.
 use Rattle.std.proofs.Common.{◌≡◌, ℕ, ◌+◌, ◌<◌, List, [], ◌∷◌, ◌++◌, map, length, drop, get_or, append-nil, append_assoc, Option, refl, sym, ap, ◌∙◌, subst}
 use Rattle.std.proofs.lemmas.List.{map-append}
-use Rattle.std.specs.Borrow.{Bor}
 use Rattle.c_checked.proofs.Items.{next_of}
-use Rattle.c_check.specs.Words.{Progress, sizes_of, function, least_of, kept, FaultAt, with_parameters, parameter_faults, result_size, around, function_of, functions_of, Scope, spelled, Numbering, resolve_statements, Parameter, CType, Identifier, ExternalDeclaration, Globals, Function, external_declaration}
+use Rattle.c_check.specs.Words.{SymbolTable, names_around, scopes_of, with_block, opened, closed, Progress, sizes_of, function, least_of, kept, FaultAt, with_parameters, parameter_faults, result_size, around, function_of, functions_of, Scope, spelled, Numbering, resolve_statements, Parameter, CType, Identifier, ExternalDeclaration, Globals, Function, external_declaration}
 use Rattle.c_check.specs.Functions.{AddsFunctions}
 use Rattle.c_checked.specs.declared.function.Function.{Function as Function'}
 use Rattle.c_checked.specs.Program as checked_program
 use Rattle.c_checked.specs.Statement as checked
 use Rattle.c_check.proofs.Lemmas.{kept_append, kept_more}
-use Rattle.c_expressions.specs.declared.scopes.Entity.{Entity as Entity'}
 use Rattle.c_resolved.specs.Program as definitions
 use Rattle.c_locals.specs.declared.environment.Walk.{Walk}
 use Rattle.c_locals.specs.WalkResults.{Resolves}
@@ -20,14 +18,14 @@ use Rattle.c_syntax.specs.Statement.{Statements}
 -- ---- a function
 
 -- what is made of a function's parts, with the walk over its body
-pub function_added : (before after : Progress) (text : List ℕ) (file : Scope) (t : CType)
+function_added : (before after : Progress) (text : List ℕ) (file : Scope) (t : CType)
     (n : Identifier) (ps : List Parameter) (body : Statements) (block : Scope)
-    (names : List (Bor (List ℕ) × Entity')) (walk walk' : Walk) (done : List checked.Statement)
+    (was names : SymbolTable) (walk walk' : Walk) (done : List checked.Statement)
     (made : Function')
     → block ≡ with_parameters text ps [] 0 → walk.sizes.items ≡ sizes_of ps
     → walk.number ≡ before.number → least_of walk.worst
     ≡ kept (least_of before.worst) (parameter_faults text ps [])
-    → Resolves names walk walk' done (resolve_statements body (around text file t) block
+    → Resolves was names walk walk' done (resolve_statements body (around text file t) block
     (numbering walk))
     → function made ≡ record {
       name = spelled text n;
@@ -39,15 +37,15 @@ pub function_added : (before after : Progress) (text : List ℕ) (file : Scope) 
     → after.done.items ≡ before.done.items ++ made ∷ [] → after.number ≡ walk'.number
     → after.worst ≡ walk'.worst
     → AddsFunctions before after (function_of text file t n ps body before.number)
-function_added before after text file t n ps body block names walk walk' done made is sizes number
+function_added before after text file t n ps body block was names walk walk' done made is sizes number
     parameters resolves is_made pushed next worst =
     let start : Numbering = record { sizes = sizes_of ps; number = before.number } in
     let begun : numbering walk ≡ start = λ i. record { sizes = sizes i; number = number i } in
     let m = resolve_statements body (around text file t) (with_parameters text ps [] 0) start in
-    let r : Resolves names walk walk' done m =
-    subst (λ b. Resolves names walk walk' done
+    let r : Resolves was names walk walk' done m =
+    subst (λ b. Resolves was names walk walk' done
     (resolve_statements body (around text file t) b start)) is
-    (subst (λ k. Resolves names walk walk' done
+    (subst (λ k. Resolves was names walk walk' done
     (resolve_statements body (around text file t) block k)) begun resolves) in
     let whole : checked_program.Function = record {
       name = spelled text n;
@@ -71,6 +69,40 @@ function_added before after text file t n ps body block names walk walk' done ma
       faults = kept_more (least_of before.worst) (least_of walk.worst) (least_of after.worst)
           (parameter_faults text ps []) m.faults parameters (ap least_of worst ∙ r.faults);
     }
+
+-- the same where its parameters are the names of a block in the file's
+pub function_inside : (before after : Progress) (text : List ℕ) (start was names : SymbolTable)
+    (t : CType) (n : Identifier) (ps : List Parameter) (body : Statements) (walk walk' : Walk)
+    (done : List checked.Statement) (made : Function')
+    → was ≡ with_block (opened start) (with_parameters text ps [] 0)
+    → walk.sizes.items ≡ sizes_of ps → walk.number ≡ before.number → least_of walk.worst
+    ≡ kept (least_of before.worst) (parameter_faults text ps [])
+    → Resolves was names walk walk' done (resolve_statements body
+    (around text (names_around was.around) t) was.block (numbering walk))
+    → function made ≡ record {
+      name = spelled text n;
+      parameters = sizes_of ps;
+      locals = drop (length ps) walk'.sizes.items;
+      returns = result_size t;
+      body = checked.statements done;
+    }
+    → after.done.items ≡ before.done.items ++ made ∷ [] → after.number ≡ walk'.number
+    → after.worst ≡ walk'.worst
+    → AddsFunctions before after (function_of text (scopes_of start) t n ps body before.number)
+function_inside before after text start was names t n ps body walk walk' done made begins sizes
+    number parameters resolves is_made pushed next worst =
+    function_added before after text (scopes_of start) t n ps body (with_parameters text ps [] 0) was
+    names walk walk' done made refl sizes number parameters
+    (subst (λ (k : SymbolTable). Resolves was names walk walk' done (resolve_statements body
+    (around text (names_around k.around) t) k.block (numbering walk))) begins resolves) is_made
+    pushed next worst
+
+-- the names after a function are those before it
+pub ends_as_before : (t t1 t2 t3 t4 : SymbolTable) (b b' : Scope) → t1 ≡ opened t
+    → t2 ≡ with_block t1 b → t3 ≡ with_block t2 b' → t4 ≡ closed t3 → t4 ≡ t
+ends_as_before t t1 t2 t3 t4 b b' begins parameters body ends =
+    ends ∙ ap closed (body ∙ ap (λ (k : SymbolTable). with_block k b') (parameters
+    ∙ ap (λ (k : SymbolTable). with_block k b) begins))
 
 -- ---- the first declaration, and the others
 

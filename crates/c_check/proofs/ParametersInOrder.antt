@@ -1,8 +1,9 @@
 -- Parameters, one after another.
-use Rattle.std.proofs.Common.{◌≡◌, ℕ, ◌+◌, ◌<◌, Bool, true, false, cond, List, [], ◌∷◌, ◌++◌, map, length, drop, get_or, add-one, Option, Some, refl, sym, ap, ◌∙◌}
+use Rattle.std.proofs.Common.{◌≡◌, ℕ, ◌+◌, ◌<◌, ◌≤◌, Bool, true, false, cond, List, [], ◌∷◌, ◌++◌, map, length, drop, get_or, add-one, Option, Some, refl, sym, ap, ◌∙◌}
 use Rattle.std.specs.Prelude.{not}
 use Rattle.std.proofs.Math.Seq.{drop-cons}
-use Rattle.c_check.specs.Words.{faults_of_parameter, kept, Duplicate, TypeClash, Entity, LocalVariable, FaultAt, with_parameters, parameter_faults, Scope, spelled, same_bytes, meaning_in, built_ins, is_some, is_taken, with_name, unless_holds, Parameter}
+use Rattle.std.proofs.lemmas.List.{drop_all}
+use Rattle.c_check.specs.Words.{SymbolTable, with_block, faults_of_parameter, kept, Duplicate, TypeClash, Entity, LocalVariable, FaultAt, with_parameters, parameter_faults, Scope, spelled, same_bytes, meaning_in, built_ins, is_some, is_taken, with_name, unless_holds, Parameter}
 use Rattle.c_check.proofs.Lemmas.{kept_append}
 use Rattle.c_resolved.specs.Types.{is_scalar}
 
@@ -93,9 +94,23 @@ parameters_on text list i p block block' first w w' next e q h =
           ∙ ap (λ l. kept w (parameter_faults text l block)) (sym next) ∙ h.faults;
     }
 
-pub record AreParameters (text : List ℕ) (list : List Parameter) (block : Scope)
-    (first w : Option FaultAt) : Type 0 where
-  pub names : block ≡ with_parameters text list [] 0
-  pub faults : w ≡ kept first (parameter_faults text list [])
+-- the innermost block alone is another one
+pub still_around : (start t t' : SymbolTable) (b : Scope) → t' ≡ with_block t b
+    → t ≡ with_block start t.block → t' ≡ with_block start t'.block
+still_around start t t' b e same = e ∙ ap (λ (k : SymbolTable). with_block k b) same
+    ∙ ap (with_block start) (sym (ap (λ (k : SymbolTable). k.block) e))
+
+pub parameters_end : (text : List ℕ) (list : List Parameter) (i : ℕ) (start t : SymbolTable)
+    (first w : Option FaultAt)
+    → length list ≤ i → t ≡ with_block start t.block
+    → StillParameters text list i t.block first w
+    → (t ≡ with_block start (with_parameters text list [] 0))
+    × (w ≡ kept first (parameter_faults text list []))
+parameters_end text list i start t first w past same h =
+    let none = drop_all i list past in (
+      same ∙ ap (with_block start) (ap (λ l. with_parameters text l t.block i) (sym none)
+          ∙ h.names),
+      ap (λ l. kept w (parameter_faults text l t.block)) (sym none) ∙ h.faults,
+    )
 
 -- ---- sizes

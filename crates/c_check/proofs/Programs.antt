@@ -1,9 +1,9 @@
 -- Programs: the faults of `main`, of the file and of the functions together.
-use Rattle.std.proofs.Common.{◌≡◌, ℕ, List, ◌++◌, map, Option, Some, None, sym, ap, ◌∙◌, subst}
+use Rattle.std.proofs.Common.{◌≡◌, ℕ, List, ◌++◌, append-nil, map, Option, Some, None, sym, ap, ◌∙◌, subst}
 use Rattle.std.specs.Prelude.{option_map}
 use Rattle.c_check.proofs.Swapped.{kept_after_other}
 use Rattle.c_check.specs.declared.check.Resolved.{Resolved as Resolved'}
-use Rattle.c_check.specs.Words.{Progress, function, broken, least_of, kept, block_of, IsFile, Accepted, reported, FaultAt, functions_of, file_of, empty_file, resolve, ExternalDeclaration}
+use Rattle.c_check.specs.Words.{Progress, function, broken, least_of, kept, scopes_of, names_around, IsFile, Accepted, reported, FaultAt, functions_of, file_of, empty_file, resolve, ExternalDeclaration}
 use Rattle.c_check.specs.Entry.{main_in}
 use Rattle.c_check.specs.Programs.{IsResolved}
 use Rattle.c_check.proofs.Lemmas.{kept_append}
@@ -24,25 +24,28 @@ all_kept a b c main file functions p q r =
 pub program_resolved : (text : List ℕ) (xs : List ExternalDeclaration) (file : File')
     (worst : Least) (main : ℕ) (made : Progress) (p : Resolved')
     → IsFile file (file_of text xs empty_file)
-    → main ≡ (main_in xs (block_of file.names.entries)).number
-    → least_of worst ≡ kept (least_of file.worst) (main_in xs (block_of file.names.entries)).faults
-    → map function made.done.items ≡ (functions_of text (block_of file.names.entries) xs 1).done
+    → main ≡ (main_in xs (scopes_of file.names)).number
+    → least_of worst ≡ kept (least_of file.worst) (main_in xs (scopes_of file.names)).faults
+    → map function made.done.items ≡ (functions_of text (scopes_of file.names) xs 1).done
     → least_of made.worst ≡ kept (least_of worst)
-    (functions_of text (block_of file.names.entries) xs 1).faults
+    (functions_of text (scopes_of file.names) xs 1).faults
     → p ≡ record { functions = made.done; main = main; globals = file.bytes; worst = made.worst }
     → IsResolved p (resolve text xs)
 program_resolved text xs file worst main made p is number main_faults done faults whole =
     let d = file_of text xs empty_file in
+    let named : scopes_of file.names ≡ d.scope =
+    ap (λ k. file.names.block ++ names_around k) is.around ∙ append-nil file.names.block
+    ∙ is.scope in
     let entry : main ≡ (main_in xs d.scope).number = number
-    ∙ ap (λ names. (main_in xs names).number) is.scope in
+    ∙ ap (λ names. (main_in xs names).number) named in
     let functions : map function made.done.items ≡ (functions_of text d.scope xs 1).done = done
-    ∙ ap (λ names. (functions_of text names xs 1).done) is.scope in
+    ∙ ap (λ names. (functions_of text names xs 1).done) named in
     let first : least_of worst ≡ kept (least_of file.worst)
     (main_in xs d.scope).faults = main_faults
-    ∙ ap (λ names. kept (least_of file.worst) (main_in xs names).faults) is.scope in
+    ∙ ap (λ names. kept (least_of file.worst) (main_in xs names).faults) named in
     let last : least_of made.worst ≡ kept (least_of worst)
     (functions_of text d.scope xs 1).faults = faults
-    ∙ ap (λ names. kept (least_of worst) (functions_of text names xs 1).faults) is.scope in
+    ∙ ap (λ names. kept (least_of worst) (functions_of text names xs 1).faults) named in
     subst (λ q. IsResolved q (resolve text xs)) (sym whole)
     (record {
       program = λ i. record { functions = functions i; main = entry i; globals = is.bytes i };

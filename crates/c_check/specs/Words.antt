@@ -11,7 +11,7 @@ pub use Rattle.c_resolved.specs.Scopes.{spelled, Scope, same_bytes, meaning_in, 
 pub use Rattle.c_resolved.specs.Statements.{is_taken, with_name, unless_holds, Numbering, resolve_statements, is_some}
 pub use Rattle.c_resolved.specs.declared.fault.Fault.TheVariants.{Duplicate, TypeClash, NoMain, UnknownName, NotLvalue, ArgCount, LeaveOutsideTry, JumpOutOfFinally, JumpOutsideLoop, CodeOutsideFilter, InfoOutsideFilter, AbnormalOutsideFinally, BadInitialiser}
 pub use Rattle.c_expressions.specs.Kept.{least_of, kept, broken, kept_one}
-pub use Rattle.c_expressions.specs.Views.{block_of}
+pub use Rattle.c_expressions.specs.SymbolTables.{SymbolTable, names_around, scopes_of, opened, closed, with_block}
 pub use Rattle.c_locals.specs.Files.{IsFile}
 pub use Rattle.c_check.specs.Parameters.{sizes_of, faults_of_parameter}
 pub use Rattle.c_check.specs.declared.functions.Progress.{Progress}

@@ -50,10 +50,10 @@ fn resolve(alloc: Global, text: &[u8], xs: &[ExternalDeclaration]) -> Result<Res
     ensures { let program = map external_declaration xs.now in
         IfOk result (λ p. IsResolved p (definitions.resolve text.now program)) }
 {
-    let file = file(alloc, text, xs)?;
+    let mut file = file(alloc, text, xs)?;
     let mut worst = file.worst;
     let main = main_of(&file.names, xs, &mut worst);
-    let made = functions(alloc, text, &file.names, worst, xs)?;
+    let made = functions(alloc, text, &mut file.names, worst, xs)?;
     Ok(Resolved {
         functions: made.done,
         main,

@@ -7,8 +7,8 @@ ghost use Rattle.c_resolved.specs.Program as definitions;
 ghost use Rattle.c_syntax.specs.Program as syntax;
 
 use c_expressions::least::Least;
-use c_expressions::name_table::NameTable;
 use c_expressions::scopes::Entity;
+use c_expressions::symbol_table::SymbolTable;
 use c_locals::globals::{File, globals, name};
 use c_syntax::declaration::ExternalDeclaration;
 use std::alloc::{AllocError, Global};
@@ -64,7 +64,7 @@ fn empty<'a>(alloc: Global, text: &[u8]) -> File<'a>
     ensures { IsFile result definitions.empty_file }
 {
     File {
-        names: NameTable::of_file(alloc, text),
+        names: SymbolTable::new(alloc, text),
         bytes: Vec::new(alloc),
         functions: 0,
         worst: Least { found: None },

@@ -3,14 +3,15 @@
 ghost use Rattle.std.specs.Prelude.{◌≡◌, map, option_map};
 ghost use Rattle.c_check.specs.Entry.{is_main, main_in};
 ghost use Rattle.c_expressions.specs.Kept.{AddsFaults};
-ghost use Rattle.c_expressions.specs.Views.{block_of, entity};
+ghost use Rattle.c_expressions.specs.SymbolTables.{scopes_of};
+ghost use Rattle.c_expressions.specs.Views.{entity};
 ghost use Rattle.c_resolved.specs.Program as definitions;
 ghost use Rattle.c_resolved.specs.Scopes.{meaning_in};
 ghost use Rattle.c_syntax.specs.Program as syntax;
 
 use c_expressions::least::Least;
-use c_expressions::name_table::NameTable;
-use c_expressions::scopes::{Entity, Scopes, declared};
+use c_expressions::scopes::{Entity, declared};
+use c_expressions::symbol_table::SymbolTable;
 use c_expressions::values::unless_holds;
 use c_resolved::fault::Fault;
 use c_syntax::declaration::{ExternalDeclaration, Parameter};
@@ -52,20 +53,20 @@ fn is_main(returns: CType, list: &[Parameter]) -> bool
 }
 
 /// What the file declares `main` as.
-fn meaning_of_main<'a>(names: &NameTable<'a>) -> Option<Entity<'a>>
+fn meaning_of_main<'a>(names: &SymbolTable<'a>) -> Option<Entity<'a>>
     ensures { option_map entity result ≡
-        meaning_in (block_of names.now.entries) definitions.main_name }
+        meaning_in (scopes_of names.now) definitions.main_name }
 {
-    declared(b"main", &Scopes::File(names))
+    declared(b"main", names)
 }
 
 /// The number of `main`. There has to be a function of that name, which returns an `int` and takes
 /// nothing, or a `long long`.
-pub fn main_of(names: &NameTable<'_>, xs: &[ExternalDeclaration], worst: &mut Least) -> u64
+pub fn main_of(names: &SymbolTable<'_>, xs: &[ExternalDeclaration], worst: &mut Least) -> u64
     ensures number { let program = map syntax.external_declaration xs.now in
-        result ≡ (main_in program (block_of names.now.entries)).number }
+        result ≡ (main_in program (scopes_of names.now)).number }
     ensures faults { let program = map syntax.external_declaration xs.now in
-        AddsFaults worst.old worst.new (main_in program (block_of names.now.entries)).faults }
+        AddsFaults worst.old worst.new (main_in program (scopes_of names.now)).faults }
 {
     match meaning_of_main(names) {
         Some(

@@ -4,7 +4,7 @@ ghost use Rattle.std.specs.Prelude.{◌≡◌, ◌∷◌, [], drop, IfOk, OnOk, 
 ghost use Rattle.c_check.specs.Functions.{AddsFunctions};
 ghost use Rattle.c_checked.specs.Program.{function};
 ghost use Rattle.c_expressions.specs.Kept.{AddsFaults};
-ghost use Rattle.c_expressions.specs.Views.{block_of};
+ghost use Rattle.c_expressions.specs.SymbolTables.{scopes_of};
 ghost use Rattle.c_resolved.specs.Program as definitions;
 ghost use Rattle.c_syntax.specs.Program as syntax;
 ghost use Rattle.c_syntax.specs.Statement as trees;
@@ -12,8 +12,8 @@ ghost use Rattle.c_syntax.specs.Statement as trees;
 use crate::parameters;
 use c_checked::function::Function;
 use c_expressions::least::Least;
-use c_expressions::name_table::NameTable;
 use c_expressions::scopes::spelled;
+use c_expressions::symbol_table::SymbolTable;
 use c_locals::environment::Walk;
 use c_operations::operation::Size;
 use c_statements::statements;
@@ -56,26 +56,29 @@ fn rest_of(alloc: Global, sizes: &[Size], first: usize) -> Result<Vec<Size>, All
 fn function<'t>(
     alloc: Global,
     text: &'t [u8],
-    file: &NameTable<'t>,
+    names: &mut SymbolTable<'t>,
     progress: &mut Progress,
     returns: CType,
     name: Identifier,
     list: &[Parameter],
     body: &[Stmt],
 ) -> Result<(), AllocError>
-    ensures { let names = block_of file.now.entries in
+    ensures names { OnOk result (names.new ≡ names.old) }
+    ensures added { let file = scopes_of names.old in
         let made = trees.statements (map trees.statement body.now) in
         let number = progress.old.number in
-        let f = definitions.function_of text.now names returns name list.now made number in
+        let f = definitions.function_of text.now file returns name list.now made number in
         OnOk result (AddsFunctions progress.old progress.new f) }
 {
-    let mut block = parameters::block_of(alloc, text, file, &mut progress.worst, list)?;
+    names.open(alloc)?;
+    parameters::declare_all(text, names, &mut progress.worst, list)?;
     let mut walk = Walk {
         sizes: parameters::sizes_of(alloc, list)?,
         number: progress.number,
         worst: progress.worst,
     };
-    let made = statements::body(alloc, text, file, returns, &mut block, &mut walk, body)?;
+    let made = statements::body(alloc, text, returns, names, &mut walk, body)?;
+    names.close();
     progress.number = walk.number;
     progress.worst = walk.worst;
     progress.done.push(Function {
@@ -92,13 +95,14 @@ fn function<'t>(
 fn one<'t>(
     alloc: Global,
     text: &'t [u8],
-    file: &NameTable<'t>,
+    names: &mut SymbolTable<'t>,
     progress: &mut Progress,
     x: &ExternalDeclaration,
 ) -> Result<(), AllocError>
-    ensures { let names = block_of file.now.entries in
+    ensures names { OnOk result (names.new ≡ names.old) }
+    ensures added { let file = scopes_of names.old in
         let one = syntax.external_declaration x.now ∷ [] in
-        let f = definitions.functions_of text.now names one progress.old.number in
+        let f = definitions.functions_of text.now file one progress.old.number in
         OnOk result (AddsFunctions progress.old progress.new f) }
 {
     match x {
@@ -109,7 +113,7 @@ fn one<'t>(
             parameters,
             body,
         } => function(
-            alloc, text, file, progress, *returns, *name, parameters, body,
+            alloc, text, names, progress, *returns, *name, parameters, body,
         ),
     }
 }
@@ -119,15 +123,16 @@ fn one<'t>(
 pub fn functions<'t>(
     alloc: Global,
     text: &'t [u8],
-    file: &NameTable<'t>,
+    names: &mut SymbolTable<'t>,
     worst: Least,
     xs: &[ExternalDeclaration],
 ) -> Result<Progress, AllocError>
+    ensures names { OnOk result (names.new ≡ names.old) }
     ensures done { let program = map syntax.external_declaration xs.now in
-        let f = definitions.functions_of text.now (block_of file.now.entries) program 1 in
+        let f = definitions.functions_of text.now (scopes_of names.old) program 1 in
         IfOk result (λ p. map function p.done.items ≡ f.done) }
     ensures faults { let program = map syntax.external_declaration xs.now in
-        let f = definitions.functions_of text.now (block_of file.now.entries) program 1 in
+        let f = definitions.functions_of text.now (scopes_of names.old) program 1 in
         IfOk result (λ p. AddsFaults worst p.worst f.faults) }
 {
     let mut progress = Progress {
@@ -136,7 +141,7 @@ pub fn functions<'t>(
         worst,
     };
     for x in xs {
-        one(alloc, text, file, &mut progress, x)?;
+        one(alloc, text, names, &mut progress, x)?;
     }
     Ok(progress)
 }

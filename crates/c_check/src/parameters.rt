@@ -4,15 +4,15 @@
 ghost use Rattle.std.specs.Prelude.{◌≡◌, [], IfOk, OnOk};
 ghost use Rattle.c_check.specs.Parameters.{faults_of_parameter, sizes_of};
 ghost use Rattle.c_expressions.specs.Kept.{AddsFaults};
-ghost use Rattle.c_expressions.specs.Views.{block_of};
+ghost use Rattle.c_expressions.specs.SymbolTables.{with_block};
 ghost use Rattle.c_resolved.specs.Expressions.{LocalVariable};
 ghost use Rattle.c_resolved.specs.Program as definitions;
 ghost use Rattle.c_resolved.specs.Scopes.{spelled};
 ghost use Rattle.c_resolved.specs.Statements.{with_name};
 
 use c_expressions::least::Least;
-use c_expressions::name_table::NameTable;
-use c_expressions::scopes::{Entity, Scopes, declare, is_taken, spelled};
+use c_expressions::scopes::{Entity, declare, is_taken, spelled};
+use c_expressions::symbol_table::SymbolTable;
 use c_expressions::values::unless_holds;
 use c_operations::operation::Size;
 use c_resolved::fault::Fault;
@@ -36,42 +36,41 @@ fn parameter<'t>(
     text: &'t [u8],
     number: u64,
     p: Parameter,
-    block: &mut NameTable<'t>,
+    names: &mut SymbolTable<'t>,
     worst: &mut Least,
 ) -> Result<(), AllocError>
-    ensures block { let names = block_of block.old.entries in
-        let with_it = with_name names (spelled text.now p.name) (LocalVariable number p.«of») in
-        OnOk result (block_of block.new.entries ≡ with_it) }
-    ensures faults { let faults = faults_of_parameter text.now p (block_of block.old.entries) in
+    ensures names { let block = names.old.block in
+        let with_it = with_name block (spelled text.now p.name) (LocalVariable number p.«of») in
+        OnOk result (names.new ≡ with_block names.old with_it) }
+    ensures faults { let faults = faults_of_parameter text.now p names.old.block in
         OnOk result (AddsFaults worst.old worst.new faults) }
 {
     let name = spelled(text, p.name);
     unless_holds(
         worst,
-        !is_taken(name, block),
+        !is_taken(name, names),
         p.name.start,
         Fault::Duplicate,
     );
     unless_holds(worst, is_scalar(p.of), p.name.start, Fault::TypeClash);
-    declare(name, Entity::LocalVariable { number, of: p.of }, block)
+    declare(name, Entity::LocalVariable { number, of: p.of }, names)
 }
 
-/// The block of a function's parameters, which are numbered from 0 on, in the file of these names.
-pub fn block_of<'t>(
-    alloc: Global,
+/// A function's parameters, which are numbered from 0 on, in a block that has no names yet.
+pub fn declare_all<'t>(
     text: &'t [u8],
-    file: &NameTable<'t>,
+    names: &mut SymbolTable<'t>,
     worst: &mut Least,
     list: &[Parameter],
-) -> Result<NameTable<'t>, AllocError>
-    ensures block { let names = definitions.with_parameters text.now list.now [] 0 in
-        IfOk result (λ block. block_of block.entries ≡ names) }
+) -> Result<(), AllocError>
+    requires { names.old.block ≡ [] }
+    ensures names { let block = definitions.with_parameters text.now list.now [] 0 in
+        OnOk result (names.new ≡ with_block names.old block) }
     ensures faults { let faults = definitions.parameter_faults text.now list.now [] in
         OnOk result (AddsFaults worst.old worst.new faults) }
 {
-    let mut block = NameTable::of_block(alloc, &Scopes::File(file));
     for (i, p) in list.iter().enumerate() {
-        parameter(text, i as u64, *p, &mut block, worst)?;
+        parameter(text, i as u64, *p, names, worst)?;
     }
-    Ok(block)
+    Ok(())
 }

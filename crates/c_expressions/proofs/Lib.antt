@@ -5,4 +5,4 @@ pub mod Valued
 pub mod Passing
 pub mod Calling
 pub mod Ruled
-pub mod NameTables
+pub mod Tables

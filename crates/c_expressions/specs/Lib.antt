@@ -1,7 +1,9 @@
 pub mod Kept
 pub mod Rules
 pub mod TextHashers
-pub mod NameTables
+pub mod Entities
+pub mod Declarations
+pub mod SymbolTables
 pub mod Views
 pub mod Calls
 pub mod Values

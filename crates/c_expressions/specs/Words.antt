@@ -10,4 +10,5 @@ pub use Rattle.c_types.specs.Views.{typed_node}
 pub use Rattle.c_expressions.specs.Calls.{resolved_all, put_before, put_after, passed_of}
 pub use Rattle.c_expressions.specs.Kept.{kept, kept_one, least_of}
 pub use Rattle.c_expressions.specs.Rules.{allowed_call, assigning_to, assigning_at, rule_of_two, assigning}
-pub use Rattle.c_expressions.specs.Views.{wanted, entity, names_after, block_of, built_in_functions, built_in_constants, names_of, scopes_of}
+pub use Rattle.c_expressions.specs.Views.{wanted, entity, built_in_functions, built_in_constants, names_of}
+pub use Rattle.c_expressions.specs.SymbolTables.{scopes_of}

@@ -1,7 +1,7 @@
 //! Names and expressions: the type and the node of each expression, or the least rule it breaks.
 //!
-//! `scopes` has the names of blocks and of the file, and `context` what a name means where an
-//! expression is; `primary` what has no operands; `rules` the rules on the types of operands,
+//! `symbol_table` has the names of open blocks and of the file, `scopes` what they mean, and
+//! `context` what a name means where an expression is; `primary` what has no operands; `rules` the rules on the types of operands,
 //! whose operators are those of `c_types`; `places` the operands that have to be lvalues; `calls`
 //! the arguments of calls; `expressions::resolve` walks an expression (C11, 6.5; Microsoft C
 //! reference, "try-except statement"); `values` has the rules on an expression in a statement. The
@@ -15,11 +15,11 @@ pub mod calls;
 pub mod context;
 pub mod expressions;
 pub mod least;
-pub mod name_table;
 pub mod places;
 pub mod primary;
 pub mod rules;
 pub mod scopes;
+pub mod symbol_table;
 pub mod text_hasher;
 pub mod values;
 pub mod wanted;

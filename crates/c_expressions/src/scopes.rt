@@ -1,12 +1,12 @@
 //! Names, and what they mean.
 
-ghost use Rattle.std.specs.Prelude.{◌≡◌, ◌++◌, None, OnOk, option_map};
+ghost use Rattle.std.specs.Prelude.{◌≡◌, ◌++◌, OnOk, option_map};
 ghost use Rattle.c_resolved.specs.Scopes.{spelled, same_bytes, meaning_in, built_ins};
 ghost use Rattle.c_resolved.specs.Statements.{is_taken, with_name};
-ghost use Rattle.c_expressions.specs.Views.{entity, block_of, scopes_of, built_in_functions};
-ghost use Rattle.c_expressions.specs.Views.{built_in_constants};
+ghost use Rattle.c_expressions.specs.Views.{entity, built_in_functions, built_in_constants};
+ghost use Rattle.c_expressions.specs.SymbolTables.{scopes_of, with_block};
 
-use crate::name_table::NameTable;
+use crate::symbol_table::SymbolTable;
 use c_operations::built_in::BuiltIn;
 use c_syntax::declaration::Parameter;
 use c_syntax::expression::{CType, Identifier};
@@ -40,14 +40,6 @@ pub enum Entity<'a> {
     AbnormalFunction,
     /// One of the constants of filters, as a number of 32 bits.
     BuiltInConstant(u64),
-}
-
-/// The blocks around a place, innermost first, and the file last. Each has its names in the order
-/// of their declarations.
-#[derive(Clone, Copy)]
-pub enum Scopes<'t, 's> {
-    File(&'s NameTable<'t>),
-    Inside(&'s NameTable<'t>, &'s Scopes<'t, 's>),
 }
 
 /// The bytes of an identifier.
@@ -126,66 +118,46 @@ pub fn built_in(name: &[u8]) -> Option<Entity<'static>>
     }
 }
 
-/// What a name that isn't built in means in a block.
-#[tactic(auto, using(crate::proofs::Names::block_is))]
-fn in_block<'a>(name: &[u8], block: &NameTable<'a>) -> Option<Entity<'a>>
-    requires { meaning_in built_ins name.now ≡ None }
-    ensures { option_map entity result ≡ meaning_in (block_of block.now.entries) name.now }
+/// What a name is declared as, the innermost block first.
+pub fn declared<'t>(name: &[u8], names: &SymbolTable<'t>) -> Option<Entity<'t>>
+    ensures { option_map entity result ≡ meaning_in (scopes_of names.now) name.now }
 {
-    block.get(name)
-}
-
-/// What a name that isn't built in means, the innermost block first.
-#[tactic(auto, using(crate::proofs::Names::meaning_append))]
-pub fn declared<'t>(name: &[u8], scopes: &Scopes<'t, '_>) -> Option<Entity<'t>>
-    requires { meaning_in built_ins name.now ≡ None }
-    ensures { option_map entity result ≡ meaning_in (scopes_of scopes.now) name.now }
-{
-    match scopes {
-        Scopes::File(names) => in_block(name, names),
-        Scopes::Inside(names, outer) => match in_block(name, names) {
-            Some(found) => Some(found),
-            None => declared(name, outer),
-        },
-    }
+    names.get(name)
 }
 
 /// What a name means: what it is built in for, else what it is declared as.
 #[tactic(auto, using(crate::proofs::Names::meaning_append))]
-pub fn meaning<'t>(name: &[u8], scopes: &Scopes<'t, '_>) -> Option<Entity<'t>>
-    ensures { option_map entity result ≡ meaning_in (built_ins ++ scopes_of scopes.now) name.now }
+pub fn meaning<'t>(name: &[u8], names: &SymbolTable<'t>) -> Option<Entity<'t>>
+    ensures { option_map entity result ≡ meaning_in (built_ins ++ scopes_of names.now) name.now }
 {
     match built_in(name) {
         Some(found) => Some(found),
-        None => declared(name, scopes),
+        None => declared(name, names),
     }
 }
 
-/// Whether a name is built in, or the block has it already.
+/// Whether a name is built in, or the innermost block has it already.
 #[tactic(auto, using(crate::proofs::Names::meaning_append))]
-pub fn is_taken(name: &[u8], block: &NameTable<'_>) -> bool
-    ensures { result ≡ is_taken (block_of block.now.entries) name.now }
+pub fn is_taken(name: &[u8], names: &SymbolTable<'_>) -> bool
+    ensures { result ≡ is_taken names.now.block name.now }
 {
     match built_in(name) {
         Some(_) => true,
-        None => match in_block(name, block) {
-            Some(_) => true,
-            None => false,
-        },
+        None => names.is_declared(name),
     }
 }
 
-/// A declaration in a block; the first one of a name counts.
+/// A declaration in the innermost block; the first one of a name counts.
 pub fn declare<'a>(
     name: &'a [u8],
     meaning: Entity<'a>,
-    block: &mut NameTable<'a>,
+    names: &mut SymbolTable<'a>,
 ) -> Result<(), AllocError>
-    ensures { OnOk result (block_of block.new.entries ≡ with_name (block_of block.old.entries)
-        name.now (entity meaning.entry)) }
+    ensures { OnOk result (names.new ≡ with_block names.old
+        (with_name names.old.block name.now (entity meaning.entry))) }
 {
-    if is_taken(name, block) {
+    if is_taken(name, names) {
         return Ok(());
     }
-    block.insert(name, meaning)
+    names.insert(name, meaning)
 }

@@ -3,7 +3,7 @@ use Rattle.std.proofs.Common.{◌≡◌, ℕ, ◌+◌, ◌<◌, ◌≤◌, List,
 use Rattle.std.proofs.lemmas.List.{drop_all}
 use Rattle.std.specs.Prelude.{OnOk, None, not, option_map}
 use Rattle.c_locals.proofs.Lemmas.{next_of, kept_more}
-use Rattle.c_locals.specs.Words.{Duplicate, TypeClash, spelled, with_name, is_taken, unless_holds, bytes_in, is_scalar, CType, least_of, kept, block_of, FaultAt, File, with_global, with_globals, global_entity, padded, initial_value, length_faults, first_data, Base}
+use Rattle.c_locals.specs.Words.{Duplicate, TypeClash, spelled, with_name, is_taken, unless_holds, bytes_in, is_scalar, CType, least_of, kept, SymbolTable, with_block, FaultAt, File, with_global, with_globals, global_entity, padded, initial_value, length_faults, first_data, Base}
 use Rattle.c_locals.specs.declared.globals.File.{File as File'}
 use Rattle.c_locals.specs.Files.{IsFile}
 use Rattle.c_syntax.specs.declared.declaration.Global.{Global as Global'}
@@ -16,7 +16,7 @@ on_both A B (Err e) a b = tt
 -- the file as the code has it, with these faults
 abbrev pub seen : File' → List FaultAt → File
 seen f fs = record {
-  scope = block_of f.names.entries;
+  scope = f.names.block;
   bytes = f.bytes.items;
   functions = f.functions;
   faults = fs;
@@ -44,10 +44,10 @@ pub placed : (text : List ℕ) (base : Base) (g : Global') (f f' : File') (d : F
     (w1 w2 w3 : Option FaultAt)
     → (let of : CType = record { base = base; pointers = g.pointers } in
     let n = spelled text g.name in
-    let block = block_of f.names.entries in
+    let block = f.names.block in
     let own = initial_value of g.length (option_map trees.initialiser g.initialiser) in
-    block_of f'.names.entries ≡ with_name block n
-    (global_entity of (first_data + length (padded (bytes_in of) f.bytes.items)) g.length)
+    f'.names ≡ with_block f.names (with_name block n
+    (global_entity of (first_data + length (padded (bytes_in of) f.bytes.items)) g.length))
     → f'.bytes.items ≡ padded (bytes_in of) f.bytes.items ++ own.bytes
     → f'.functions ≡ f.functions
     → w1 ≡ kept (least_of f.worst) (unless_holds (not (is_taken block n)) g.name.start Duplicate)
@@ -58,11 +58,12 @@ pub placed : (text : List ℕ) (base : Base) (g : Global') (f f' : File') (d : F
 placed text base g f f' d w1 w2 w3 names bytes functions k1 k2 k3 k4 h =
     at_file (λ k. IsFile f' (with_global text base (trees.global g) k)) f d h
     (record {
-      scope = names;
+      scope = ap (λ (k : SymbolTable). k.block) names;
+      around = ap (λ (k : SymbolTable). k.around) names ∙ h.around;
       bytes = bytes;
       functions = functions;
       faults = five_kept None (least_of f.worst) w1 w2 w3 (least_of f'.worst) d.faults
-          (unless_holds (not (is_taken (block_of f.names.entries) (spelled text g.name)))
+          (unless_holds (not (is_taken f.names.block (spelled text g.name)))
           g.name.start
           Duplicate)
           (unless_holds (is_scalar (record { base = base; pointers = g.pointers })) g.name.start

@@ -1,14 +1,12 @@
 -- Where a statement is, wherever that lies in memory.
-use Rattle.std.specs.Prelude.{ℕ, List, Option, true, false, ◌++◌, option_map}
-use Rattle.std.specs.Borrow.{Bor}
-use Rattle.c_expressions.specs.declared.scopes.Entity.{Entity}
-use Rattle.c_expressions.specs.Views.{block_of, scopes_of}
+use Rattle.std.specs.Prelude.{List, Option, true, option_map}
+use Rattle.c_expressions.specs.SymbolTables.{SymbolTable, names_around}
 use Rattle.c_locals.specs.declared.environment.Environment.{Environment as Environment'}
 use Rattle.c_locals.specs.declared.environment.Reach.{Reach as Reach'}
 use Rattle.c_locals.specs.declared.environment.Reach.TheVariants as reaches
 use Rattle.c_locals.specs.declared.environment.Walk.{Walk}
-use Rattle.c_resolved.specs.Expressions.{Names, ResolvedExpression, resolve_expression}
-use Rattle.c_resolved.specs.Scopes.{Scope, spelled, meaning_in, built_ins}
+use Rattle.c_resolved.specs.Expressions.{ResolvedExpression, resolve_expression}
+use Rattle.c_resolved.specs.Scopes.{Scope}
 use Rattle.c_resolved.specs.Statements.{Reach, Nowhere, Beyond, Near, past_finally, Environment, Numbering, Value, Optional, optional, names_at, filter_names}
 use Rattle.c_syntax.specs.declared.expression.Expr.{Expr}
 use Rattle.c_syntax.specs.Expression.{Expression, expression}
@@ -18,11 +16,12 @@ reach reaches.Nowhere = Nowhere
 reach reaches.Beyond = Beyond
 reach reaches.Near = Near
 
-abbrev pub environment : Environment' → Environment
-environment a =
+-- in a block that these are around
+abbrev pub environment : Environment' → List Scope → Environment
+environment a around =
     record {
       text = a.text.now;
-      outer = scopes_of a.outer.now;
+      outer = names_around around;
       returns = a.returns;
       loop = reach a.loops;
       body = reach a.body;
@@ -35,10 +34,6 @@ abbrev pub numbering : Walk → Numbering
 numbering w = record { sizes = w.sizes.items; number = w.number }
 
 -- ---- further inside
-
--- with these names around
-abbrev pub within : Environment → Scope → Environment
-within a scope = record a { outer = scope }
 
 abbrev pub in_loop : Environment → Environment
 in_loop a = record a { loop = Near }
@@ -63,44 +58,24 @@ in_last a =
 
 -- ---- expressions
 
--- with these names around
-abbrev pub names_within : Environment → Scope → Names
-names_within a scope =
-    record {
-      entity = λ n. meaning_in (built_ins ++ scope) (spelled a.text n);
-      code = a.code;
-      information = false;
-      abnormal = a.abnormal;
-    }
-
-abbrev pub filter_names_within : Environment → Scope → Names
-filter_names_within a scope =
-    record {
-      entity = λ n. meaning_in (built_ins ++ scope) (spelled a.text n);
-      code = true;
-      information = true;
-      abnormal = a.abnormal;
-    }
-
 abbrev pub resolved_at : Environment → Scope → Expression → ResolvedExpression
 resolved_at a block e = resolve_expression (names_at a block) e
 
 abbrev pub filter_resolved_at : Environment → Scope → Expression → ResolvedExpression
 filter_resolved_at a block e = resolve_expression (filter_names a block) e
 
--- ---- expressions of the text, in a block with these entries
+-- ---- expressions of the text, in the innermost of these blocks
 
-abbrev pub resolved_in : Environment' → List (Bor (List ℕ) × Entity) → Expr → ResolvedExpression
-resolved_in a entries e = resolved_at (environment a) (block_of entries) (expression e)
+abbrev pub resolved_in : Environment' → SymbolTable → Expr → ResolvedExpression
+resolved_in a names e = resolved_at (environment a names.around) names.block (expression e)
 
-abbrev pub filter_resolved_in : Environment' → List (Bor (List ℕ) × Entity) → Expr
-    → ResolvedExpression
-filter_resolved_in a entries e =
-    filter_resolved_at (environment a) (block_of entries) (expression e)
+abbrev pub filter_resolved_in : Environment' → SymbolTable → Expr → ResolvedExpression
+filter_resolved_in a names e =
+    filter_resolved_at (environment a names.around) names.block (expression e)
 
 -- by a rule on its value, where there is an expression
-abbrev pub optional_in : (Expression → ResolvedExpression → Value) → Environment'
-    → List (Bor (List ℕ) × Entity) → Option Expr → Optional
-optional_in rule a entries e =
-    optional (λ x. rule x (resolved_at (environment a) (block_of entries) x))
+abbrev pub optional_in : (Expression → ResolvedExpression → Value) → Environment' → SymbolTable
+    → Option Expr → Optional
+optional_in rule a names e =
+    optional (λ x. rule x (resolved_at (environment a names.around) names.block x))
     (option_map expression e)

@@ -13,7 +13,8 @@ pub use Rattle.c_resolved.specs.Types.{is_scalar, size_of, bytes_in, is_void}
 pub use Rattle.c_resolved.specs.declared.fault.Fault.TheVariants.{Duplicate, TypeClash}
 pub use Rattle.c_types.specs.Views.{typed_node}
 pub use Rattle.c_expressions.specs.Kept.{least_of, kept}
-pub use Rattle.c_expressions.specs.Views.{block_of, entity}
+pub use Rattle.c_expressions.specs.SymbolTables.{SymbolTable, with_block}
+pub use Rattle.c_expressions.specs.Views.{entity}
 pub use Rattle.c_expressions.specs.declared.least.Least.{Least}
 pub use Rattle.c_locals.specs.Values.{MayEvaluate, Evaluates, ResolvesFilter}
 pub use Rattle.c_locals.specs.Views.{numbering, resolved_at, filter_resolved_at, environment}

@@ -9,7 +9,6 @@ ghost use Rattle.c_resolved.specs.Statements as definitions;
 ghost use Rattle.c_resolved.specs.Statements.{is_taken, unless_holds};
 ghost use Rattle.c_resolved.specs.Types.{is_scalar};
 ghost use Rattle.c_expressions.specs.Kept.{AddsFaults};
-ghost use Rattle.c_expressions.specs.Views.{block_of};
 ghost use Rattle.c_locals.specs.WalkResults.{Resolves, IsBeginning, declares};
 ghost use Rattle.c_locals.specs.Views.{environment, numbering};
 ghost use Rattle.c_syntax.specs.Statement as trees;
@@ -19,8 +18,8 @@ use crate::evaluated::{any_or_none, to_type_or_none};
 use c_checked::expression::Expr as Checked;
 use c_checked::statement::{Declared, Stmt};
 use c_expressions::least::Least;
-use c_expressions::name_table::NameTable;
 use c_expressions::scopes::{self, Entity, is_taken, spelled};
+use c_expressions::symbol_table::SymbolTable;
 use c_expressions::values::unless_holds;
 use c_operations::operation::Size;
 use c_resolved::fault::Fault;
@@ -42,16 +41,16 @@ pub struct Beginning {
 fn check_local<'t>(
     worst: &mut Least,
     text: &'t [u8],
-    block: &NameTable<'t>,
+    names: &SymbolTable<'t>,
     name: Identifier,
     of: CType,
 )
     ensures { AddsFaults worst.old worst.new
-        (unless_holds (not (is_taken (block_of block.now.entries) (spelled text.now name)))
+        (unless_holds (not (is_taken names.now.block (spelled text.now name)))
         name.start Duplicate
         ++ unless_holds (is_scalar of) name.start TypeClash) }
 {
-    let taken = is_taken(spelled(text, name), block);
+    let taken = is_taken(spelled(text, name), names);
     unless_holds(worst, !taken, name.start, Fault::Duplicate);
     unless_holds(worst, is_scalar(of), name.start, Fault::TypeClash);
 }
@@ -65,29 +64,29 @@ fn count_of(sizes: &Vec<Size>) -> u64
 /// A local: its name is visible in its own initialiser (C11, 6.2.1 p7).
 fn declare<'t>(
     alloc: Global,
-    env: &Environment<'t, '_>,
+    env: &Environment<'t>,
     base: Base,
     local: &Local,
-    block: &mut NameTable<'t>,
+    names: &mut SymbolTable<'t>,
     walk: &mut Walk,
 ) -> Result<Declared, AllocError>
-    ensures { IfOk result (λ d. Resolves block.new.entries walk.old walk.new (declares d ∷ [])
-        (definitions.declare (environment env.now) base (trees.local local.now)
-        (block_of block.old.entries) (numbering walk.old))) }
+    ensures { IfOk result (λ d. Resolves names.old names.new walk.old walk.new (declares d ∷ [])
+        (definitions.declare (environment env.now names.old.around) base (trees.local local.now)
+        names.old.block (numbering walk.old))) }
 {
     let of = CType {
         base,
         pointers: local.pointers,
     };
     let number = count_of(&walk.sizes);
-    check_local(&mut walk.worst, env.text, block, local.name, of);
+    check_local(&mut walk.worst, env.text, names, local.name, of);
     scopes::declare(
         spelled(env.text, local.name),
         Entity::LocalVariable { number, of },
-        block,
+        names,
     )?;
     walk.sizes.push(size_of(of))?;
-    let value = to_type_or_none(alloc, env, block, &mut walk.worst, of, &local.initialiser)?;
+    let value = to_type_or_none(alloc, env, names, &mut walk.worst, of, &local.initialiser)?;
     Ok(Declared {
         local: number,
         value,
@@ -97,19 +96,19 @@ fn declare<'t>(
 /// Locals in their order.
 fn declare_each<'t>(
     alloc: Global,
-    env: &Environment<'t, '_>,
+    env: &Environment<'t>,
     base: Base,
     locals: &[Local],
-    block: &mut NameTable<'t>,
+    names: &mut SymbolTable<'t>,
     walk: &mut Walk,
 ) -> Result<Vec<Declared>, AllocError>
-    ensures { IfOk result (λ v. Resolves block.new.entries walk.old walk.new (map declares v.items)
-        (definitions.declare_all (environment env.now) base (map trees.local locals.now)
-        (block_of block.old.entries) (numbering walk.old))) }
+    ensures { IfOk result (λ v. Resolves names.old names.new walk.old walk.new (map declares v.items)
+        (definitions.declare_all (environment env.now names.old.around) base (map trees.local locals.now)
+        names.old.block (numbering walk.old))) }
 {
     let mut made = Vec::new(alloc);
     for local in locals {
-        made.push(declare(alloc, env, base, local, block, walk)?)?;
+        made.push(declare(alloc, env, base, local, names, walk)?)?;
     }
     Ok(made)
 }
@@ -124,31 +123,31 @@ fn as_statements(alloc: Global, made: Vec<Declared>) -> Result<Vec<Stmt>, AllocE
 /// The locals of a declaration.
 pub fn declare_all<'t>(
     alloc: Global,
-    env: &Environment<'t, '_>,
+    env: &Environment<'t>,
     base: Base,
     locals: &[Local],
-    block: &mut NameTable<'t>,
+    names: &mut SymbolTable<'t>,
     walk: &mut Walk,
 ) -> Result<Vec<Stmt>, AllocError>
-    ensures { IfOk result (λ v. Resolves block.new.entries walk.old walk.new (map statement v.items)
-        (definitions.declare_all (environment env.now) base (map trees.local locals.now)
-        (block_of block.old.entries) (numbering walk.old))) }
+    ensures { IfOk result (λ v. Resolves names.old names.new walk.old walk.new (map statement v.items)
+        (definitions.declare_all (environment env.now names.old.around) base (map trees.local locals.now)
+        names.old.block (numbering walk.old))) }
 {
-    let made = declare_each(alloc, env, base, locals, block, walk)?;
+    let made = declare_each(alloc, env, base, locals, names, walk)?;
     as_statements(alloc, made)
 }
 
 /// What a `for` does first, in a block of its own.
 pub fn for_initialiser<'t>(
     alloc: Global,
-    env: &Environment<'t, '_>,
+    env: &Environment<'t>,
     initialiser: &ForInitialiser,
-    block: &mut NameTable<'t>,
+    names: &mut SymbolTable<'t>,
     walk: &mut Walk,
 ) -> Result<Beginning, AllocError>
-    requires { block.old.entries ≡ [] }
-    ensures { IfOk result (λ b. IsBeginning block.new.entries walk.old walk.new b
-        (definitions.resolve_for_initialiser (environment env.now) (trees.first initialiser.now)
+    requires { names.old.block ≡ [] }
+    ensures { IfOk result (λ b. IsBeginning names.old names.new walk.old walk.new b
+        (definitions.resolve_for_initialiser (environment env.now names.old.around) (trees.first initialiser.now)
         (numbering walk.old))) }
 {
     match initialiser {
@@ -158,7 +157,7 @@ pub fn for_initialiser<'t>(
                 env,
                 declaration.base,
                 &declaration.locals,
-                block,
+                names,
                 walk,
             )?;
             Ok(Beginning {
@@ -167,7 +166,7 @@ pub fn for_initialiser<'t>(
             })
         }
         ForInitialiser::Expression(e) => {
-            let first = any_or_none(alloc, env, block, &mut walk.worst, e)?;
+            let first = any_or_none(alloc, env, names, &mut walk.worst, e)?;
             Ok(Beginning {
                 declared: Vec::new(alloc),
                 first,

@@ -1,16 +1,17 @@
 //! Where a statement is, and what a walk over a function carries along.
 
-ghost use Rattle.std.specs.Prelude.{◌≡◌, ◌+◌, IfOk, OnOk};
+ghost use Rattle.std.specs.Prelude.{◌≡◌, ◌+◌, List, IfOk, OnOk};
 ghost use Rattle.c_resolved.specs.Statements as definitions;
-ghost use Rattle.c_resolved.specs.Statements.{with_number};
+ghost use Rattle.c_resolved.specs.Scopes.{Scope};
+ghost use Rattle.c_resolved.specs.Statements.{filter_names, names_at, with_number};
 ghost use Rattle.c_expressions.specs.Kept.{AddsFaults};
-ghost use Rattle.c_expressions.specs.Views.{names_of, scopes_of};
-ghost use Rattle.c_locals.specs.Views.{reach, environment, numbering, within, in_loop, in_body};
-ghost use Rattle.c_locals.specs.Views.{in_handler, in_last, names_within, filter_names_within};
+ghost use Rattle.c_expressions.specs.Views.{names_of};
+ghost use Rattle.c_locals.specs.Views.{reach, environment, numbering, in_loop, in_body};
+ghost use Rattle.c_locals.specs.Views.{in_handler, in_last};
 
 use c_expressions::context::Context;
 use c_expressions::least::Least;
-use c_expressions::scopes::Scopes;
+use c_expressions::symbol_table::SymbolTable;
 use c_operations::operation::Size;
 use c_resolved::fault::Fault;
 use c_syntax::expression::CType;
@@ -27,11 +28,9 @@ pub enum Reach {
 
 /// Where a statement is, and what names and jumps mean there.
 #[derive(Clone, Copy)]
-pub struct Environment<'t, 's> {
+pub struct Environment<'t> {
     /// The program's text.
     pub text: &'t [u8],
-    /// The names of the file and of the blocks around the statement's own.
-    pub outer: &'s Scopes<'t, 's>,
     /// The type that the function returns.
     pub returns: CType,
     /// What `break` and `continue` find.
@@ -98,19 +97,10 @@ pub fn jump(worst: &mut Least, found: Reach, fault: Fault, at: u64)
     }
 }
 
-/// Inside a block, with these names around.
-pub fn within<'t, 's>(env: &Environment<'t, '_>, scopes: &'s Scopes<'t, 's>) -> Environment<'t, 's>
-    ensures { environment result ≡ within (environment env.now) (scopes_of scopes.now) }
-{
-    Environment {
-        outer: scopes,
-        ..*env
-    }
-}
-
 /// Inside a loop.
-pub fn in_loop<'t, 's>(env: &Environment<'t, 's>) -> Environment<'t, 's>
-    ensures { environment result ≡ in_loop (environment env.now) }
+pub fn in_loop<'t>(env: &Environment<'t>) -> Environment<'t>
+    ensures { (around : List Scope) → environment result around ≡
+        in_loop (environment env.now around) }
 {
     Environment {
         loops: Reach::Near,
@@ -119,8 +109,9 @@ pub fn in_loop<'t, 's>(env: &Environment<'t, 's>) -> Environment<'t, 's>
 }
 
 /// Inside the body of a `__try`.
-pub fn in_body<'t, 's>(env: &Environment<'t, 's>) -> Environment<'t, 's>
-    ensures { environment result ≡ in_body (environment env.now) }
+pub fn in_body<'t>(env: &Environment<'t>) -> Environment<'t>
+    ensures { (around : List Scope) → environment result around ≡
+        in_body (environment env.now around) }
 {
     Environment {
         body: Reach::Near,
@@ -129,15 +120,17 @@ pub fn in_body<'t, 's>(env: &Environment<'t, 's>) -> Environment<'t, 's>
 }
 
 /// Inside the block of an `__except`.
-pub fn in_handler<'t, 's>(env: &Environment<'t, 's>) -> Environment<'t, 's>
-    ensures { environment result ≡ in_handler (environment env.now) }
+pub fn in_handler<'t>(env: &Environment<'t>) -> Environment<'t>
+    ensures { (around : List Scope) → environment result around ≡
+        in_handler (environment env.now around) }
 {
     Environment { code: true, ..*env }
 }
 
 /// Inside a `__finally` block.
-pub fn in_last<'t, 's>(env: &Environment<'t, 's>) -> Environment<'t, 's>
-    ensures { environment result ≡ in_last (environment env.now) }
+pub fn in_last<'t>(env: &Environment<'t>) -> Environment<'t>
+    ensures { (around : List Scope) → environment result around ≡
+        in_last (environment env.now around) }
 {
     Environment {
         loops: past_finally(env.loops),
@@ -148,29 +141,28 @@ pub fn in_last<'t, 's>(env: &Environment<'t, 's>) -> Environment<'t, 's>
     }
 }
 
-/// Where an expression of a statement is, with these names around.
-pub fn context<'t, 's>(env: &Environment<'t, '_>, scopes: &'s Scopes<'t, 's>) -> Context<'t, 's>
-    ensures { names_of result ≡ names_within (environment env.now) (scopes_of scopes.now) }
+/// Where an expression of a statement is, with these names.
+pub fn context<'t, 's>(env: &Environment<'t>, names: &'s SymbolTable<'t>) -> Context<'t, 's>
+    ensures { names_of result ≡
+        names_at (environment env.now names.now.around) names.now.block }
 {
     Context {
         text: env.text,
-        scopes,
+        names,
         code: env.code,
         information: false,
         abnormal: env.abnormal,
     }
 }
 
-/// Where the expression of a filter is, with these names around.
-pub fn filter_context<'t, 's>(
-    env: &Environment<'t, '_>,
-    scopes: &'s Scopes<'t, 's>,
-) -> Context<'t, 's>
-    ensures { names_of result ≡ filter_names_within (environment env.now) (scopes_of scopes.now) }
+/// Where the expression of a filter is, with these names.
+pub fn filter_context<'t, 's>(env: &Environment<'t>, names: &'s SymbolTable<'t>) -> Context<'t, 's>
+    ensures { names_of result ≡
+        filter_names (environment env.now names.now.around) names.now.block }
 {
     Context {
         text: env.text,
-        scopes,
+        names,
         code: true,
         information: true,
         abnormal: env.abnormal,

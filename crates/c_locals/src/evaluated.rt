@@ -5,7 +5,6 @@ ghost use Rattle.c_resolved.specs.declared.fault.Fault.TheVariants.{TypeClash};
 ghost use Rattle.c_resolved.specs.Expressions.{fault_at};
 ghost use Rattle.c_resolved.specs.Statements as definitions;
 ghost use Rattle.c_expressions.specs.Kept.{AddsFaults};
-ghost use Rattle.c_expressions.specs.Views.{block_of};
 ghost use Rattle.c_locals.specs.Values.{Evaluates, MayEvaluate};
 ghost use Rattle.c_locals.specs.Views.{environment, resolved_in, optional_in};
 ghost use Rattle.c_syntax.specs.Expression.{expression, start};
@@ -15,8 +14,7 @@ use crate::environment::{Environment, context};
 use c_checked::expression::Expr as Checked;
 use c_expressions::expressions::resolve;
 use c_expressions::least::Least;
-use c_expressions::name_table::NameTable;
-use c_expressions::scopes::Scopes;
+use c_expressions::symbol_table::SymbolTable;
 use c_expressions::values;
 use c_resolved::fault::Fault;
 use c_syntax::expression::{CType, Expr};
@@ -27,132 +25,131 @@ use std::alloc::{AllocError, Global};
 /// The type and the node of an expression in a block.
 fn resolved_at<'t>(
     alloc: Global,
-    env: &Environment<'t, '_>,
-    block: &NameTable<'t>,
+    env: &Environment<'t>,
+    names: &SymbolTable<'t>,
     worst: &mut Least,
     e: &Expr,
 ) -> Result<Option<TypedNode>, AllocError>
     ensures found { IfOk result (λ r. FindsTyped r
-        (resolved_in env.now block.now.entries e.now).found) }
+        (resolved_in env.now names.now e.now).found) }
     ensures faults { OnOk result (AddsFaults worst.old worst.new
-        (resolved_in env.now block.now.entries e.now).faults) }
+        (resolved_in env.now names.now e.now).faults) }
 {
-    let scopes = Scopes::Inside(block, env.outer);
-    resolve(alloc, &context(env, &scopes), worst, e)
+    resolve(alloc, &context(env, names), worst, e)
 }
 
 /// Any value, or none.
 pub fn any<'t>(
     alloc: Global,
-    env: &Environment<'t, '_>,
-    block: &NameTable<'t>,
+    env: &Environment<'t>,
+    names: &SymbolTable<'t>,
     worst: &mut Least,
     e: &Expr,
 ) -> Result<Checked, AllocError>
     ensures { IfOk result (λ r. Evaluates worst.old worst.new r
-        (definitions.any (resolved_in env.now block.now.entries e.now))) }
+        (definitions.any (resolved_in env.now names.now e.now))) }
 {
-    let found = resolved_at(alloc, env, block, worst, e)?;
+    let found = resolved_at(alloc, env, names, worst, e)?;
     Ok(values::any(worst, found))
 }
 
 /// A condition: an integer or a pointer, else a fault at the keyword.
 pub fn condition<'t>(
     alloc: Global,
-    env: &Environment<'t, '_>,
-    block: &NameTable<'t>,
+    env: &Environment<'t>,
+    names: &SymbolTable<'t>,
     worst: &mut Least,
     at: u64,
     e: &Expr,
 ) -> Result<Checked, AllocError>
     ensures { IfOk result (λ r. Evaluates worst.old worst.new r
-        (definitions.condition at (resolved_in env.now block.now.entries e.now))) }
+        (definitions.condition at (resolved_in env.now names.now e.now))) }
 {
-    let found = resolved_at(alloc, env, block, worst, e)?;
+    let found = resolved_at(alloc, env, names, worst, e)?;
     Ok(values::condition(worst, at, found))
 }
 
 /// A value that is converted to a type, else a fault at its first token.
 pub fn to_type<'t>(
     alloc: Global,
-    env: &Environment<'t, '_>,
-    block: &NameTable<'t>,
+    env: &Environment<'t>,
+    names: &SymbolTable<'t>,
     worst: &mut Least,
     t: CType,
     e: &Expr,
 ) -> Result<Checked, AllocError>
     ensures { IfOk result (λ r. Evaluates worst.old worst.new r
         (definitions.to_type t (start (expression e.now))
-        (resolved_in env.now block.now.entries e.now))) }
+        (resolved_in env.now names.now e.now))) }
 {
-    let found = resolved_at(alloc, env, block, worst, e)?;
+    let found = resolved_at(alloc, env, names, worst, e)?;
     Ok(values::to_type(worst, t, e.start(), found))
 }
 
 /// Any value where there is an expression.
 pub fn any_or_none<'t>(
     alloc: Global,
-    env: &Environment<'t, '_>,
-    block: &NameTable<'t>,
+    env: &Environment<'t>,
+    names: &SymbolTable<'t>,
     worst: &mut Least,
     e: &Option<Expr>,
 ) -> Result<Option<Checked>, AllocError>
     ensures { IfOk result (λ r. MayEvaluate worst.old worst.new r
-        (optional_in (λ x. definitions.any) env.now block.now.entries e.now)) }
+        (optional_in (λ x. definitions.any) env.now names.now e.now)) }
 {
     match e {
         None => Ok(None),
-        Some(e) => Ok(Some(any(alloc, env, block, worst, e)?)),
+        Some(e) => Ok(Some(any(alloc, env, names, worst, e)?)),
     }
 }
 
 /// A condition where there is an expression.
 pub fn condition_or_none<'t>(
     alloc: Global,
-    env: &Environment<'t, '_>,
-    block: &NameTable<'t>,
+    env: &Environment<'t>,
+    names: &SymbolTable<'t>,
     worst: &mut Least,
     at: u64,
     e: &Option<Expr>,
 ) -> Result<Option<Checked>, AllocError>
     ensures { IfOk result (λ r. MayEvaluate worst.old worst.new r
-        (optional_in (λ x. definitions.condition at) env.now block.now.entries e.now)) }
+        (optional_in (λ x. definitions.condition at) env.now names.now e.now)) }
 {
     match e {
         None => Ok(None),
-        Some(e) => Ok(Some(condition(alloc, env, block, worst, at, e)?)),
+        Some(e) => Ok(Some(condition(alloc, env, names, worst, at, e)?)),
     }
 }
 
 /// A value that is converted to a type, where there is an expression.
 pub fn to_type_or_none<'t>(
     alloc: Global,
-    env: &Environment<'t, '_>,
-    block: &NameTable<'t>,
+    env: &Environment<'t>,
+    names: &SymbolTable<'t>,
     worst: &mut Least,
     t: CType,
     e: &Option<Expr>,
 ) -> Result<Option<Checked>, AllocError>
     ensures { IfOk result (λ r. MayEvaluate worst.old worst.new r
-        (optional_in (λ x. definitions.to_type t (start x)) env.now block.now.entries e.now)) }
+        (optional_in (λ x. definitions.to_type t (start x)) env.now names.now e.now)) }
 {
     match e {
         None => Ok(None),
-        Some(e) => Ok(Some(to_type(alloc, env, block, worst, t, e)?)),
+        Some(e) => Ok(Some(to_type(alloc, env, names, worst, t, e)?)),
     }
 }
 
 /// The value of a `return`: of the function's type, and none where that is void (C11, 6.8.6.4 p1).
 pub fn returned<'t>(
     alloc: Global,
-    env: &Environment<'t, '_>,
-    block: &NameTable<'t>,
+    env: &Environment<'t>,
+    names: &SymbolTable<'t>,
     worst: &mut Least,
     at: u64,
     e: &Option<Expr>,
 ) -> Result<Option<Checked>, AllocError>
     ensures { IfOk result (λ r. MayEvaluate worst.old worst.new r
-        (definitions.returned (environment env.now) (block_of block.now.entries) at
+        (definitions.returned (environment env.now names.now.around) names.now.block at
         (option_map expression e.now))) }
 {
     match e {
@@ -160,43 +157,43 @@ pub fn returned<'t>(
             values::unless_holds(worst, is_void(env.returns), at, Fault::TypeClash);
             Ok(None)
         }
-        Some(e) => returned_value(alloc, env, block, worst, at, e),
+        Some(e) => returned_value(alloc, env, names, worst, at, e),
     }
 }
 
 /// The value of a `return` that has one.
 fn returned_value<'t>(
     alloc: Global,
-    env: &Environment<'t, '_>,
-    block: &NameTable<'t>,
+    env: &Environment<'t>,
+    names: &SymbolTable<'t>,
     worst: &mut Least,
     at: u64,
     e: &Expr,
 ) -> Result<Option<Checked>, AllocError>
     ensures { IfOk result (λ r. MayEvaluate worst.old worst.new r
-        (definitions.returned (environment env.now) (block_of block.now.entries) at
+        (definitions.returned (environment env.now names.now.around) names.now.block at
         (Some (expression e.now)))) }
 {
     if is_void(env.returns) {
-        refused_value(alloc, env, block, worst, at, e)?;
+        refused_value(alloc, env, names, worst, at, e)?;
         return Ok(None);
     }
-    Ok(Some(to_type(alloc, env, block, worst, env.returns, e)?))
+    Ok(Some(to_type(alloc, env, names, worst, env.returns, e)?))
 }
 
 /// The faults of a value that a function of type void returns.
 fn refused_value<'t>(
     alloc: Global,
-    env: &Environment<'t, '_>,
-    block: &NameTable<'t>,
+    env: &Environment<'t>,
+    names: &SymbolTable<'t>,
     worst: &mut Least,
     at: u64,
     e: &Expr,
 ) -> Result<(), AllocError>
     ensures { OnOk result (AddsFaults worst.old worst.new
-        ((resolved_in env.now block.now.entries e.now).faults ++ fault_at at TypeClash)) }
+        ((resolved_in env.now names.now e.now).faults ++ fault_at at TypeClash)) }
 {
-    drop(resolved_at(alloc, env, block, worst, e)?);
+    drop(resolved_at(alloc, env, names, worst, e)?);
     worst.add(at, Fault::TypeClash);
     Ok(())
 }

@@ -6,7 +6,7 @@ ghost use Rattle.c_checked.specs.Statement.{filter};
 ghost use Rattle.c_resolved.specs.Statements as definitions;
 ghost use Rattle.c_resolved.specs.Statements.{with_number};
 ghost use Rattle.c_expressions.specs.Kept.{AddsFaults};
-ghost use Rattle.c_expressions.specs.Views.{block_of, entity};
+ghost use Rattle.c_expressions.specs.Views.{entity};
 ghost use Rattle.c_locals.specs.Values.{Evaluates, ResolvesFilter, filter_with, number_after};
 ghost use Rattle.c_locals.specs.Views.{environment, numbering, filter_resolved_in};
 ghost use Rattle.c_syntax.specs.Expression.{expression, start};
@@ -18,8 +18,8 @@ use c_checked::statement::Filter;
 use c_expressions::context::named;
 use c_expressions::expressions::resolve;
 use c_expressions::least::Least;
-use c_expressions::name_table::NameTable;
-use c_expressions::scopes::{Entity, Scopes};
+use c_expressions::scopes::Entity;
+use c_expressions::symbol_table::SymbolTable;
 use c_expressions::values::to_answer;
 use c_syntax::expression::{Expr, Identifier, Literal};
 use c_types::typed::TypedNode;
@@ -46,23 +46,22 @@ fn is_accepting(meaning: Option<Entity<'_>>) -> bool
 }
 
 /// Whether a name means EXCEPTION_EXECUTE_HANDLER in a block.
-fn names_accepting<'t>(env: &Environment<'t, '_>, block: &NameTable<'t>, name: Identifier) -> bool
+fn names_accepting<'t>(env: &Environment<'t>, names: &SymbolTable<'t>, name: Identifier) -> bool
     ensures { result ≡ definitions.is_accepting
-        (definitions.entity_at (environment env.now) (block_of block.now.entries) name) }
+        (definitions.entity_at (environment env.now names.now.around) names.now.block name) }
 {
-    let scopes = Scopes::Inside(block, env.outer);
-    is_accepting(named(&context(env, &scopes), name))
+    is_accepting(named(&context(env, names), name))
 }
 
 /// Whether a filter is a literal 1 or the accepting constant, parentheses aside.
-pub fn always<'t>(env: &Environment<'t, '_>, block: &NameTable<'t>, e: &Expr) -> bool
-    ensures { result ≡ definitions.always (environment env.now) (block_of block.now.entries)
+pub fn always<'t>(env: &Environment<'t>, names: &SymbolTable<'t>, e: &Expr) -> bool
+    ensures { result ≡ definitions.always (environment env.now names.now.around) names.now.block
         (expression e.now) }
 {
     match e {
         Expr::Literal { literal, .. } => is_one(*literal),
-        Expr::Variable(name) => names_accepting(env, block, *name),
-        Expr::Parentheses { inner, .. } => always(env, block, inner),
+        Expr::Variable(name) => names_accepting(env, names, *name),
+        Expr::Parentheses { inner, .. } => always(env, names, inner),
         _ => false,
     }
 }
@@ -70,52 +69,51 @@ pub fn always<'t>(env: &Environment<'t, '_>, block: &NameTable<'t>, e: &Expr) ->
 /// The type and the node of a filter's expression in a block.
 fn resolved_at<'t>(
     alloc: Global,
-    env: &Environment<'t, '_>,
-    block: &NameTable<'t>,
+    env: &Environment<'t>,
+    names: &SymbolTable<'t>,
     worst: &mut Least,
     e: &Expr,
 ) -> Result<Option<TypedNode>, AllocError>
     ensures found { IfOk result (λ r. FindsTyped r
-        (filter_resolved_in env.now block.now.entries e.now).found) }
+        (filter_resolved_in env.now names.now e.now).found) }
     ensures faults { OnOk result (AddsFaults worst.old worst.new
-        (filter_resolved_in env.now block.now.entries e.now).faults) }
+        (filter_resolved_in env.now names.now e.now).faults) }
 {
-    let scopes = Scopes::Inside(block, env.outer);
-    resolve(alloc, &filter_context(env, &scopes), worst, e)
+    resolve(alloc, &filter_context(env, names), worst, e)
 }
 
 /// The answer of a filter's expression.
 fn answer<'t>(
     alloc: Global,
-    env: &Environment<'t, '_>,
-    block: &NameTable<'t>,
+    env: &Environment<'t>,
+    names: &SymbolTable<'t>,
     worst: &mut Least,
     e: &Expr,
 ) -> Result<Checked, AllocError>
     ensures { IfOk result (λ r. Evaluates worst.old worst.new r
         (definitions.to_answer (start (expression e.now))
-        (filter_resolved_in env.now block.now.entries e.now))) }
+        (filter_resolved_in env.now names.now e.now))) }
 {
-    let found = resolved_at(alloc, env, block, worst, e)?;
+    let found = resolved_at(alloc, env, names, worst, e)?;
     Ok(to_answer(worst, e.start(), found))
 }
 
 /// The answer of a filter, or none where it is always EXCEPTION_EXECUTE_HANDLER.
 pub fn filter_value<'t>(
     alloc: Global,
-    env: &Environment<'t, '_>,
-    block: &NameTable<'t>,
+    env: &Environment<'t>,
+    names: &SymbolTable<'t>,
     worst: &mut Least,
     e: &Expr,
 ) -> Result<Option<Checked>, AllocError>
     ensures { IfOk result (λ r. ResolvesFilter worst.old worst.new r
-        (definitions.resolve_filter (environment env.now) (block_of block.now.entries)
+        (definitions.resolve_filter (environment env.now names.now.around) names.now.block
         (expression e.now))) }
 {
-    if always(env, block, e) {
+    if always(env, names, e) {
         return Ok(None);
     }
-    Ok(Some(answer(alloc, env, block, worst, e)?))
+    Ok(Some(answer(alloc, env, names, worst, e)?))
 }
 
 /// The filter of an `__except` by its answer, which has the next number.

@@ -10,11 +10,12 @@ ghost use Rattle.c_resolved.specs.Types.{bytes_in};
 ghost use Rattle.c_syntax.specs.Program as trees;
 ghost use Rattle.c_locals.specs.Files.{DeclaresByRule};
 ghost use Rattle.c_expressions.specs.Kept.{AddsFaults};
-ghost use Rattle.c_expressions.specs.Views.{block_of, entity};
+ghost use Rattle.c_expressions.specs.SymbolTables.{with_block};
+ghost use Rattle.c_expressions.specs.Views.{entity};
 
 use c_expressions::least::Least;
-use c_expressions::name_table::NameTable;
 use c_expressions::scopes::{Entity, declare, is_taken, spelled};
+use c_expressions::symbol_table::SymbolTable;
 use c_expressions::values::unless_holds;
 use c_lex::token::IntegerType;
 use c_resolved::fault::Fault;
@@ -30,7 +31,7 @@ use std::alloc::{AllocError, Global};
 #[derive(Drop)]
 pub struct File<'a> {
     /// The names of the file so far.
-    pub names: NameTable<'a>,
+    pub names: SymbolTable<'a>,
     /// The bytes of the globals so far, from the first address of the data on.
     pub bytes: Vec<u8>,
     /// How many functions there are so far, which is the number of the next one.
@@ -217,13 +218,12 @@ pub fn name<'a>(
     name: Identifier,
     meaning: Entity<'a>,
 ) -> Result<(), AllocError>
-    ensures names { OnOk result (block_of file.new.names.entries ≡
-        with_name (block_of file.old.names.entries) (spelled text.now name)
-        (entity meaning.entry)) }
+    ensures names { OnOk result (file.new.names ≡ with_block file.old.names
+        (with_name file.old.names.block (spelled text.now name) (entity meaning.entry))) }
     ensures bytes { OnOk result (file.new.bytes ≡ file.old.bytes) }
     ensures functions { OnOk result (file.new.functions ≡ file.old.functions) }
     ensures faults { OnOk result (AddsFaults file.old.worst file.new.worst
-        (unless_holds (not (is_taken (block_of file.old.names.entries) (spelled text.now name)))
+        (unless_holds (not (is_taken file.old.names.block (spelled text.now name)))
         name.start Duplicate)) }
 {
     let bytes = spelled(text, name);

@@ -1,13 +1,11 @@
 -- What a walk made of a statement, and what it carries on.
-use Rattle.std.specs.Borrow.{Bor}
 use Rattle.std.specs.Prelude.{◌≡◌, ℕ, List, [], ◌∷◌, ◌++◌, map}
 use Rattle.c_checked.specs.declared.expression.Expr.{Expr}
 use Rattle.c_checked.specs.declared.statement.Stmt.{Stmt}
 use Rattle.c_checked.specs.Expression.{expression}
 use Rattle.c_checked.specs.Statement.{statement}
-use Rattle.c_expressions.specs.declared.scopes.Entity.{Entity}
 use Rattle.c_expressions.specs.Kept.{least_of, kept}
-use Rattle.c_expressions.specs.Views.{block_of}
+use Rattle.c_expressions.specs.SymbolTables.{SymbolTable}
 use Rattle.c_locals.specs.declared.environment.Environment.{Environment}
 use Rattle.c_locals.specs.declared.environment.Walk.{Walk}
 use Rattle.c_locals.specs.Views.{environment, numbering}
@@ -16,10 +14,17 @@ use Rattle.c_resolved.specs.Statements.{Value, ResolvedStatements, only, resolve
 use Rattle.c_syntax.specs.declared.statement.Stmt.{Stmt as Read}
 use Rattle.c_syntax.specs.Statement as trees
 
--- a statement of the text, in a block with these entries
-abbrev pub resolved : Read → Environment → List (Bor (List ℕ) × Entity) → Walk → ResolvedStatements
-resolved s env entries walk =
-    resolve_statement (trees.statement s) (environment env) (block_of entries) (numbering walk)
+-- a statement of the text, in the innermost of these blocks
+abbrev pub resolved : Read → Environment → SymbolTable → Walk → ResolvedStatements
+resolved s env names walk =
+    resolve_statement (trees.statement s) (environment env names.around) names.block
+    (numbering walk)
+
+-- the same as a block of its own
+abbrev pub resolved_inside : Read → Environment → SymbolTable → Walk → ResolvedStatements
+resolved_inside s env names walk =
+    resolve_statement (trees.statement s) (environment env (names.block ∷ names.around)) []
+    (numbering walk)
 
 -- one statement, in a block whose names stay the same
 pub record MakesOne (b : Scope) (before after : Walk) (made : Stmt)
@@ -29,23 +34,27 @@ pub record MakesOne (b : Scope) (before after : Walk) (made : Stmt)
   pub block : b ≡ r.block
   pub faults : least_of after.worst ≡ kept (least_of before.worst) r.faults
 
--- the statement that is a part of another one
-pub record MakesPart (before after : Walk) (made : Stmt) (r : ResolvedStatements) : Type 0 where
+-- the statement that is a part of another one, whose names end with it
+pub record MakesPart (was now : SymbolTable) (before after : Walk) (made : Stmt)
+    (r : ResolvedStatements) : Type 0 where
+  pub names : now ≡ was
   pub done : statement made ≡ only r.done
   pub counts : numbering after ≡ r.counts
   pub faults : least_of after.worst ≡ kept (least_of before.worst) r.faults
 
--- the statements of a block within another statement
-pub record MakesBlock (before after : Walk) (made : List Stmt)
+-- the statements of a block within another statement, whose names end with it
+pub record MakesBlock (was now : SymbolTable) (before after : Walk) (made : List Stmt)
     (r : ResolvedStatements) : Type 0 where
+  pub names : now ≡ was
   pub done : map statement made ≡ r.done
   pub counts : numbering after ≡ r.counts
   pub faults : least_of after.worst ≡ kept (least_of before.worst) r.faults
 
 -- a condition, and then the statement that it governs
-pub record MakesGoverned (before after : Walk) (e : Expr) (made : Stmt) (v : Value)
-    (r : ResolvedStatements) : Type 0 where
+pub record MakesGoverned (was now : SymbolTable) (before after : Walk) (e : Expr) (made : Stmt)
+    (v : Value) (r : ResolvedStatements) : Type 0 where
   pub condition : expression e ≡ v.value
+  pub names : now ≡ was
   pub done : statement made ≡ only r.done
   pub counts : numbering after ≡ r.counts
   pub faults : least_of after.worst ≡ kept (least_of before.worst) (v.faults ++ r.faults)

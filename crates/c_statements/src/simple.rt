@@ -1,7 +1,6 @@
 //! Statements that hold no other statement.
 
-ghost use Rattle.std.specs.Prelude.{IfOk, option_map};
-ghost use Rattle.c_expressions.specs.Views.{block_of};
+ghost use Rattle.std.specs.Prelude.{IfOk, List, option_map};
 ghost use Rattle.c_locals.specs.Views.{environment, numbering};
 ghost use Rattle.c_resolved.specs.Scopes.{Scope};
 ghost use Rattle.c_resolved.specs.Statements.{resolve_statement};
@@ -11,7 +10,7 @@ ghost use Rattle.c_syntax.specs.Statement as trees;
 
 use crate::build::{break_of, continue_of, evaluate_of, leave_of, return_of};
 use c_checked::statement::Stmt;
-use c_expressions::name_table::NameTable;
+use c_expressions::symbol_table::SymbolTable;
 use c_locals::environment::{Environment, Walk, jump};
 use c_locals::evaluated::{any_or_none, returned};
 use c_resolved::fault::Fault;
@@ -21,59 +20,62 @@ use std::alloc::{AllocError, Global};
 /// An expression, or nothing (C11, 6.8.3).
 pub fn evaluated<'t>(
     alloc: Global,
-    env: &Environment<'t, '_>,
-    block: &NameTable<'t>,
+    env: &Environment<'t>,
+    names: &SymbolTable<'t>,
     walk: &mut Walk,
     e: &Option<Expr>,
 ) -> Result<Stmt, AllocError>
-    ensures { IfOk result (λ s. MakesOne (block_of block.now.entries) walk.old walk.new s
-        (resolve_statement (trees.Evaluate (option_map expression e.now)) (environment env.now)
-        (block_of block.now.entries) (numbering walk.old))) }
+    ensures { IfOk result (λ s. MakesOne names.now.block walk.old walk.new s
+        (resolve_statement (trees.Evaluate (option_map expression e.now)) (environment env.now
+        names.now.around) names.now.block (numbering walk.old))) }
 {
-    let value = any_or_none(alloc, env, block, &mut walk.worst, e)?;
+    let value = any_or_none(alloc, env, names, &mut walk.worst, e)?;
     Ok(evaluate_of(value))
 }
 
 /// A `return` (C11, 6.8.6.4).
 pub fn return_from<'t>(
     alloc: Global,
-    env: &Environment<'t, '_>,
-    block: &NameTable<'t>,
+    env: &Environment<'t>,
+    names: &SymbolTable<'t>,
     walk: &mut Walk,
     at: u64,
     e: &Option<Expr>,
 ) -> Result<Stmt, AllocError>
-    ensures { IfOk result (λ s. MakesOne (block_of block.now.entries) walk.old walk.new s
-        (resolve_statement (trees.Return at (option_map expression e.now)) (environment env.now)
-        (block_of block.now.entries) (numbering walk.old))) }
+    ensures { IfOk result (λ s. MakesOne names.now.block walk.old walk.new s
+        (resolve_statement (trees.Return at (option_map expression e.now)) (environment env.now
+        names.now.around) names.now.block (numbering walk.old))) }
 {
     jump(&mut walk.worst, env.function, Fault::JumpOutOfFinally, at);
-    let value = returned(alloc, env, block, &mut walk.worst, at, e)?;
+    let value = returned(alloc, env, names, &mut walk.worst, at, e)?;
     Ok(return_of(value))
 }
 
 /// A `break` (C11, 6.8.6.3).
-pub fn break_from(env: &Environment<'_, '_>, walk: &mut Walk, at: u64) -> Stmt
-    ensures { (block : Scope) → MakesOne block walk.old walk.new result
-        (resolve_statement (trees.Break at) (environment env.now) block (numbering walk.old)) }
+pub fn break_from(env: &Environment<'_>, walk: &mut Walk, at: u64) -> Stmt
+    ensures { (around : List Scope) → (block : Scope) →
+        MakesOne block walk.old walk.new result (resolve_statement (trees.Break at)
+        (environment env.now around) block (numbering walk.old)) }
 {
     jump(&mut walk.worst, env.loops, Fault::JumpOutsideLoop, at);
     break_of()
 }
 
 /// A `continue` (C11, 6.8.6.2).
-pub fn continue_from(env: &Environment<'_, '_>, walk: &mut Walk, at: u64) -> Stmt
-    ensures { (block : Scope) → MakesOne block walk.old walk.new result
-        (resolve_statement (trees.Continue at) (environment env.now) block (numbering walk.old)) }
+pub fn continue_from(env: &Environment<'_>, walk: &mut Walk, at: u64) -> Stmt
+    ensures { (around : List Scope) → (block : Scope) →
+        MakesOne block walk.old walk.new result (resolve_statement (trees.Continue at)
+        (environment env.now around) block (numbering walk.old)) }
 {
     jump(&mut walk.worst, env.loops, Fault::JumpOutsideLoop, at);
     continue_of()
 }
 
 /// A `__leave` (Microsoft C reference, "try-finally statement").
-pub fn leave_from(env: &Environment<'_, '_>, walk: &mut Walk, at: u64) -> Stmt
-    ensures { (block : Scope) → MakesOne block walk.old walk.new result
-        (resolve_statement (trees.Leave at) (environment env.now) block (numbering walk.old)) }
+pub fn leave_from(env: &Environment<'_>, walk: &mut Walk, at: u64) -> Stmt
+    ensures { (around : List Scope) → (block : Scope) →
+        MakesOne block walk.old walk.new result (resolve_statement (trees.Leave at)
+        (environment env.now around) block (numbering walk.old)) }
 {
     jump(&mut walk.worst, env.body, Fault::LeaveOutsideTry, at);
     leave_of()

@@ -1,15 +1,16 @@
 //! Statements, and what is in blocks.
 
-ghost use Rattle.std.specs.Prelude.{◌≡◌, [], IfOk, map, option_map, true};
+ghost use Rattle.std.specs.Prelude.{◌≡◌, [], ◌∷◌, IfOk, OnOk, map, option_map, true};
 ghost use Rattle.c_checked.specs.Statement as checked;
-ghost use Rattle.c_expressions.specs.Views.{block_of};
+ghost use Rattle.c_expressions.specs.SymbolTables.{names_around};
 ghost use Rattle.c_locals.specs.WalkResults.{Resolves};
-ghost use Rattle.c_locals.specs.Views.{environment, numbering, resolved_at};
+ghost use Rattle.c_locals.specs.Views.{environment, numbering, resolved_in};
 ghost use Rattle.c_resolved.specs.Program.{around};
 ghost use Rattle.c_resolved.specs.Statements as definitions;
 ghost use Rattle.c_resolved.specs.Statements.{resolve_statement, resolve_statements};
 ghost use Rattle.c_statements.specs.Kinds.{has_parts, is_loop_or_try, is_try};
 ghost use Rattle.c_statements.specs.Made.{MakesPart, MakesBlock, MakesOne, MakesGoverned, resolved};
+ghost use Rattle.c_statements.specs.Made.{resolved_inside};
 ghost use Rattle.c_syntax.specs.Expression.{expression};
 ghost use Rattle.c_syntax.specs.Statement as trees;
 ghost use Rattle.c_syntax.specs.Statement.{statement, statements};
@@ -20,12 +21,9 @@ use crate::build::{
 use crate::simple::{break_from, continue_from, evaluated, leave_from, return_from};
 use c_checked::expression::Expr as CheckedExpr;
 use c_checked::statement::Stmt as Checked;
-use c_expressions::name_table::NameTable;
-use c_expressions::scopes::Scopes;
+use c_expressions::symbol_table::SymbolTable;
 use c_locals::declarations::{declare_all, for_initialiser};
-use c_locals::environment::{
-    Environment, Reach, Walk, in_body, in_handler, in_last, in_loop, within,
-};
+use c_locals::environment::{Environment, Reach, Walk, in_body, in_handler, in_last, in_loop};
 use c_locals::evaluated::{any_or_none, condition, condition_or_none};
 use c_locals::filters::{filter_value, numbered};
 use c_syntax::expression::{CType, Expr};
@@ -34,55 +32,59 @@ use std::alloc::{AllocError, Global};
 
 /// A statement that is a part of another one, as a block of its own (C11, 6.8.4 p3 and 6.8.5 p5).
 #[cycle(nested)]
-fn part(
+fn part<'t>(
     alloc: Global,
-    env: &Environment<'_, '_>,
+    env: &Environment<'t>,
+    names: &mut SymbolTable<'t>,
     walk: &mut Walk,
     s: &Stmt,
 ) -> Result<Box<Checked>, AllocError>
-    ensures { IfOk result (λ m. MakesPart walk.old walk.new m.value
-        (resolve_statement (statement s.now) (environment env.now) [] (numbering walk.old))) }
+    ensures { IfOk result (λ m. MakesPart names.old names.new walk.old walk.new m.value
+        (resolved_inside s.now env.now names.old walk.old)) }
 {
-    let mut block = NameTable::of_block(alloc, env.outer);
-    let made = statement(alloc, env, &mut block, walk, s)?;
+    names.open(alloc)?;
+    let made = statement(alloc, env, names, walk, s)?;
+    names.close();
     Ok(Box::new(alloc, only(made))?)
 }
 
 /// The statements of a block within another statement.
 #[cycle(nested)]
-fn items(
+fn items<'t>(
     alloc: Global,
-    env: &Environment<'_, '_>,
+    env: &Environment<'t>,
+    names: &mut SymbolTable<'t>,
     walk: &mut Walk,
     list: &[Stmt],
 ) -> Result<Vec<Checked>, AllocError>
-    ensures { IfOk result (λ v. MakesBlock walk.old walk.new v.items
-        (resolve_statements (statements (map statement list.now)) (environment env.now) []
-        (numbering walk.old))) }
+    ensures { IfOk result (λ v. MakesBlock names.old names.new walk.old walk.new v.items
+        (resolve_statements (statements (map statement list.now))
+        (environment env.now (names.old.block ∷ names.old.around)) [] (numbering walk.old))) }
 {
-    let mut block = NameTable::of_block(alloc, env.outer);
-    statements(alloc, env, &mut block, walk, list)
+    names.open(alloc)?;
+    let made = statements(alloc, env, names, walk, list)?;
+    names.close();
+    Ok(made)
 }
 
 /// A condition in a block, and the statement that it governs, which is further inside.
 #[cycle(nested)]
 fn governed<'t>(
     alloc: Global,
-    env: &Environment<'t, '_>,
-    block: &NameTable<'t>,
-    inner: &Environment<'t, '_>,
+    env: &Environment<'t>,
+    inner: &Environment<'t>,
+    names: &mut SymbolTable<'t>,
     walk: &mut Walk,
     s: &Stmt,
     at: u64,
     e: &Expr,
 ) -> Result<(CheckedExpr, Box<Checked>), AllocError>
-    ensures { IfOk result (λ x. MakesGoverned walk.old walk.new x.0 x.1.value
-        (definitions.condition at (resolved_at (environment env.now) (block_of block.now.entries)
-        (expression e.now))) (resolve_statement (statement s.now) (environment inner.now) []
-        (numbering walk.old))) }
+    ensures { IfOk result (λ x. MakesGoverned names.old names.new walk.old walk.new x.0 x.1.value
+        (definitions.condition at (resolved_in env.now names.old e.now))
+        (resolved_inside s.now inner.now names.old walk.old)) }
 {
-    let value = condition(alloc, env, block, &mut walk.worst, at, e)?;
-    match part(alloc, inner, walk, s) {
+    let value = condition(alloc, env, names, &mut walk.worst, at, e)?;
+    match part(alloc, inner, names, walk, s) {
         Ok(made) => Ok((value, made)),
         Err(failed) => {
             drop(value);
@@ -95,8 +97,8 @@ fn governed<'t>(
 #[cycle(nested)]
 fn for_loop<'t>(
     alloc: Global,
-    env: &Environment<'t, '_>,
-    block: &NameTable<'t>,
+    env: &Environment<'t>,
+    names: &mut SymbolTable<'t>,
     walk: &mut Walk,
     body: &Stmt,
     at: u64,
@@ -104,38 +106,37 @@ fn for_loop<'t>(
     condition: &Option<Expr>,
     next: &Option<Expr>,
 ) -> Result<Checked, AllocError>
-    ensures { IfOk result (λ m. MakesOne (block_of block.now.entries) walk.old walk.new m
+    ensures names { OnOk result (names.new ≡ names.old) }
+    ensures made { IfOk result (λ m. MakesOne names.old.block walk.old walk.new m
         (resolve_statement (trees.For at (trees.first first.now)
         (option_map expression condition.now) (option_map expression next.now) (statement body.now))
-        (environment env.now) (block_of block.now.entries) (numbering walk.old))) }
+        (environment env.now names.old.around) names.old.block (numbering walk.old))) }
 {
-    let scopes = Scopes::Inside(block, env.outer);
-    let here = within(env, &scopes);
-    let mut names = NameTable::of_block(alloc, env.outer);
-    let beginning = for_initialiser(alloc, &here, first, &mut names, walk)?;
-    match condition_or_none(alloc, &here, &names, &mut walk.worst, at, condition) {
+    names.open(alloc)?;
+    let beginning = for_initialiser(alloc, env, first, names, walk)?;
+    match condition_or_none(alloc, env, names, &mut walk.worst, at, condition) {
         Err(failed) => {
             drop(beginning);
             Err(failed)
         }
-        Ok(value) => match any_or_none(alloc, &here, &names, &mut walk.worst, next) {
+        Ok(value) => match any_or_none(alloc, env, names, &mut walk.worst, next) {
             Err(failed) => {
                 drop(beginning);
                 drop(value);
                 Err(failed)
             }
-            Ok(after) => {
-                let inner = Scopes::Inside(&names, here.outer);
-                match part(alloc, &in_loop(&within(&here, &inner)), walk, body) {
-                    Err(failed) => {
-                        drop(beginning);
-                        drop(value);
-                        drop(after);
-                        Err(failed)
-                    }
-                    Ok(made) => Ok(for_of(beginning, value, after, made)),
+            Ok(after) => match part(alloc, &in_loop(env), names, walk, body) {
+                Err(failed) => {
+                    drop(beginning);
+                    drop(value);
+                    drop(after);
+                    Err(failed)
                 }
-            }
+                Ok(made) => {
+                    names.close();
+                    Ok(for_of(beginning, value, after, made))
+                }
+            },
         },
     }
 }
@@ -144,17 +145,15 @@ fn for_loop<'t>(
 #[cycle(nested)]
 fn guarded<'t>(
     alloc: Global,
-    env: &Environment<'t, '_>,
-    block: &mut NameTable<'t>,
+    env: &Environment<'t>,
+    names: &mut SymbolTable<'t>,
     walk: &mut Walk,
     s: &Stmt,
 ) -> Result<Vec<Checked>, AllocError>
     requires { is_try (statement s.now) ≡ true }
-    ensures { IfOk result (λ v. Resolves block.new.entries walk.old walk.new
-        (map checked.statement v.items) (resolved s.now env.now block.old.entries walk.old)) }
+    ensures { IfOk result (λ v. Resolves names.old names.new walk.old walk.new
+        (map checked.statement v.items) (resolved s.now env.now names.old walk.old)) }
 {
-    let scopes = Scopes::Inside(block, env.outer);
-    let here = within(env, &scopes);
     match s {
         Stmt::TryExcept {
             body,
@@ -162,15 +161,15 @@ fn guarded<'t>(
             handler,
             ..
         } => {
-            let asked = filter_value(alloc, env, block, &mut walk.worst, filter)?;
-            match items(alloc, &in_body(&here), walk, body) {
+            let asked = filter_value(alloc, env, names, &mut walk.worst, filter)?;
+            match items(alloc, &in_body(env), names, walk, body) {
                 Err(failed) => {
                     drop(asked);
                     Err(failed)
                 }
                 Ok(body) => {
                     let filter = numbered(walk, asked)?;
-                    match items(alloc, &in_handler(&here), walk, handler) {
+                    match items(alloc, &in_handler(env), names, walk, handler) {
                         Err(failed) => {
                             drop(filter);
                             Err(failed)
@@ -181,9 +180,9 @@ fn guarded<'t>(
             }
         }
         Stmt::TryFinally { body, last, .. } => {
-            let body = items(alloc, &in_body(&here), walk, body)?;
+            let body = items(alloc, &in_body(env), names, walk, body)?;
             let number = walk.next_number()?;
-            let last = items(alloc, &in_last(&here), walk, last)?;
+            let last = items(alloc, &in_last(env), names, walk, last)?;
             one(alloc, finally_of(body, number, last))
         }
         _ => unreachable!(),
@@ -194,25 +193,23 @@ fn guarded<'t>(
 #[cycle(nested)]
 fn loop_or_try<'t>(
     alloc: Global,
-    env: &Environment<'t, '_>,
-    block: &mut NameTable<'t>,
+    env: &Environment<'t>,
+    names: &mut SymbolTable<'t>,
     walk: &mut Walk,
     s: &Stmt,
 ) -> Result<Vec<Checked>, AllocError>
     requires { is_loop_or_try (statement s.now) ≡ true }
-    ensures { IfOk result (λ v. Resolves block.new.entries walk.old walk.new
-        (map checked.statement v.items) (resolved s.now env.now block.old.entries walk.old)) }
+    ensures { IfOk result (λ v. Resolves names.old names.new walk.old walk.new
+        (map checked.statement v.items) (resolved s.now env.now names.old walk.old)) }
 {
-    let scopes = Scopes::Inside(block, env.outer);
-    let here = within(env, &scopes);
     match s {
         Stmt::While {
             at,
             condition,
             body,
         } => {
-            let inner = in_loop(&here);
-            let (value, body) = governed(alloc, env, block, &inner, walk, body, *at, condition)?;
+            let inner = in_loop(env);
+            let (value, body) = governed(alloc, env, &inner, names, walk, body, *at, condition)?;
             one(alloc, while_of(alloc, value, body))
         }
         Stmt::Do {
@@ -220,11 +217,11 @@ fn loop_or_try<'t>(
             at,
             condition,
         } => {
-            let inner = in_loop(&here);
-            let (value, body) = governed(alloc, env, block, &inner, walk, body, *at, condition)?;
+            let inner = in_loop(env);
+            let (value, body) = governed(alloc, env, &inner, names, walk, body, *at, condition)?;
             one(alloc, do_of(body, value))
         }
-        _ => guarded(alloc, env, block, walk, s),
+        _ => guarded(alloc, env, names, walk, s),
     }
 }
 
@@ -232,17 +229,15 @@ fn loop_or_try<'t>(
 #[cycle(nested)]
 fn with_parts<'t>(
     alloc: Global,
-    env: &Environment<'t, '_>,
-    block: &mut NameTable<'t>,
+    env: &Environment<'t>,
+    names: &mut SymbolTable<'t>,
     walk: &mut Walk,
     s: &Stmt,
 ) -> Result<Vec<Checked>, AllocError>
     requires { has_parts (statement s.now) ≡ true }
-    ensures { IfOk result (λ v. Resolves block.new.entries walk.old walk.new
-        (map checked.statement v.items) (resolved s.now env.now block.old.entries walk.old)) }
+    ensures { IfOk result (λ v. Resolves names.old names.new walk.old walk.new
+        (map checked.statement v.items) (resolved s.now env.now names.old walk.old)) }
 {
-    let scopes = Scopes::Inside(block, env.outer);
-    let here = within(env, &scopes);
     match s {
         Stmt::If {
             at,
@@ -250,10 +245,10 @@ fn with_parts<'t>(
             then,
             otherwise,
         } => {
-            let (value, then) = governed(alloc, env, block, &here, walk, then, *at, condition)?;
+            let (value, then) = governed(alloc, env, env, names, walk, then, *at, condition)?;
             match otherwise {
                 None => one(alloc, if_of(value, then)),
-                Some(otherwise) => match part(alloc, &here, walk, otherwise) {
+                Some(otherwise) => match part(alloc, env, names, walk, otherwise) {
                     Ok(otherwise) => one(alloc, if_else_of(value, then, otherwise)),
                     Err(failed) => {
                         drop(value);
@@ -262,7 +257,7 @@ fn with_parts<'t>(
                 },
             }
         }
-        _ => loop_or_try(alloc, env, block, walk, s),
+        _ => loop_or_try(alloc, env, names, walk, s),
     }
 }
 
@@ -270,20 +265,18 @@ fn with_parts<'t>(
 #[cycle(nested)]
 fn statement<'t>(
     alloc: Global,
-    env: &Environment<'t, '_>,
-    block: &mut NameTable<'t>,
+    env: &Environment<'t>,
+    names: &mut SymbolTable<'t>,
     walk: &mut Walk,
     s: &Stmt,
 ) -> Result<Vec<Checked>, AllocError>
-    ensures { IfOk result (λ v. Resolves block.new.entries walk.old walk.new
-        (map checked.statement v.items) (resolved s.now env.now block.old.entries walk.old)) }
+    ensures { IfOk result (λ v. Resolves names.old names.new walk.old walk.new
+        (map checked.statement v.items) (resolved s.now env.now names.old walk.old)) }
 {
-    let scopes = Scopes::Inside(block, env.outer);
-    let here = within(env, &scopes);
     match s {
-        Stmt::Declaration(d) => declare_all(alloc, env, d.base, &d.locals, block, walk),
-        Stmt::Block(list) => one(alloc, block_of(items(alloc, &here, walk, list)?)),
-        Stmt::Expression(e) => one(alloc, evaluated(alloc, env, block, walk, e)?),
+        Stmt::Declaration(d) => declare_all(alloc, env, d.base, &d.locals, names, walk),
+        Stmt::Block(list) => one(alloc, block_of(items(alloc, env, names, walk, list)?)),
+        Stmt::Expression(e) => one(alloc, evaluated(alloc, env, names, walk, e)?),
         Stmt::For {
             at,
             first,
@@ -291,14 +284,14 @@ fn statement<'t>(
             next,
             body,
         } => {
-            let made = for_loop(alloc, env, block, walk, body, *at, first, condition, next)?;
+            let made = for_loop(alloc, env, names, walk, body, *at, first, condition, next)?;
             one(alloc, made)
         }
-        Stmt::Return { at, value } => one(alloc, return_from(alloc, env, block, walk, *at, value)?),
+        Stmt::Return { at, value } => one(alloc, return_from(alloc, env, names, walk, *at, value)?),
         Stmt::Break { at } => one(alloc, break_from(env, walk, *at)),
         Stmt::Continue { at } => one(alloc, continue_from(env, walk, *at)),
         Stmt::Leave { at } => one(alloc, leave_from(env, walk, *at)),
-        _ => with_parts(alloc, env, block, walk, s),
+        _ => with_parts(alloc, env, names, walk, s),
     }
 }
 
@@ -306,44 +299,41 @@ fn statement<'t>(
 #[cycle(nested)]
 fn statements<'t>(
     alloc: Global,
-    env: &Environment<'t, '_>,
-    block: &mut NameTable<'t>,
+    env: &Environment<'t>,
+    names: &mut SymbolTable<'t>,
     walk: &mut Walk,
     list: &[Stmt],
 ) -> Result<Vec<Checked>, AllocError>
-    ensures { IfOk result (λ v. Resolves block.new.entries walk.old walk.new
+    ensures { IfOk result (λ v. Resolves names.old names.new walk.old walk.new
         (map checked.statement v.items)
-        (resolve_statements (statements (map statement list.now)) (environment env.now)
-        (block_of block.old.entries) (numbering walk.old))) }
+        (resolve_statements (statements (map statement list.now)) (environment env.now
+        names.old.around) names.old.block (numbering walk.old))) }
 {
     let mut made = Vec::new(alloc);
     for s in list {
-        let mut more = statement(alloc, env, block, walk, s)?;
+        let mut more = statement(alloc, env, names, walk, s)?;
         made.append(&mut more)?;
     }
     Ok(made)
 }
 
-/// The body of a function, whose parameters are in `block` already.
+/// The body of a function, whose parameters are in the innermost block already.
 pub fn body<'t>(
     alloc: Global,
     text: &'t [u8],
-    file: &NameTable<'t>,
     returns: CType,
-    block: &mut NameTable<'t>,
+    names: &mut SymbolTable<'t>,
     walk: &mut Walk,
     list: &[Stmt],
 ) -> Result<Vec<Checked>, AllocError>
-    ensures { IfOk result (λ v. Resolves block.new.entries walk.old walk.new
+    ensures { IfOk result (λ v. Resolves names.old names.new walk.old walk.new
         (map checked.statement v.items)
         (resolve_statements (statements (map statement list.now))
-        (around text.now (block_of file.now.entries) returns)
-        (block_of block.old.entries) (numbering walk.old))) }
+        (around text.now (names_around names.old.around) returns)
+        names.old.block (numbering walk.old))) }
 {
-    let outer = Scopes::File(file);
     let env = Environment {
         text,
-        outer: &outer,
         returns,
         loops: Reach::Nowhere,
         body: Reach::Nowhere,
@@ -351,5 +341,5 @@ pub fn body<'t>(
         code: false,
         abnormal: false,
     };
-    statements(alloc, &env, block, walk, list)
+    statements(alloc, &env, names, walk, list)
 }

@@ -1,5 +1,5 @@
 use Rattle.std.proofs.Common.{◌∙◌, ◌++◌, ◌∷◌, [], refl, ap}
-use Rattle.c_locals.specs.Words.{block_of, environment, LocalVariable, with_name, CType}
+use Rattle.c_locals.specs.Words.{with_block, LocalVariable, with_name, CType}
 use Rattle.c_locals.proofs.DeclarationLocals.{declared_local}
 use Rattle.c_locals.proofs.declarations.declare.Goals as goal
 
@@ -7,10 +7,10 @@ pub returns : goal.returns
 returns c =
     let l = c.args.local.now in
     let of : CType = record { base = c.args.base; pointers = l.pointers } in
-    let block = c.args.block.now.entries in
-    declared_local (environment c.args.env.now) c.args.base l c.args.walk.now _ _ _ _ block _
+    let names = c.args.names.now in
+    declared_local c.args.env.now c.args.base l c.args.walk.now _ _ _ _ names _
     c.count_of-number.ensures
-    (c.in_ok-declare.ensures ∙ ap (λ k. with_name (block_of block) k
-    (LocalVariable c.count_of-number.result of)) c.spelled.ensures)
+    (c.in_ok-declare.ensures ∙ ap (λ k. with_block names (with_name names.block k
+    (LocalVariable c.count_of-number.result of))) c.spelled.ensures)
     (c.in_ok-push.ensures.items ∙ ap (λ k. c.args.walk.now.sizes.items ++ k ∷ []) c.size_of.ensures)
     refl c.check_local.ensures c.in_ok-value.ensures

@@ -5,15 +5,15 @@ use Rattle.c_locals.specs.Words.{Beginning, IsBeginning, environment, numbering,
 
 pub returns-in_ok-declared-in-Declaration : goal.returns-in_ok-declared-in-Declaration
 returns-in_ok-declared-in-Declaration c =
-    let a = environment c.args.env.now in
+    let a = environment c.args.env.now c.args.names.now.around in
     let d = c.in-Declaration.declaration in
     let w = c.args.walk.now in
     let b : Beginning = record {
       declared = c.in_ok-declared-in-Declaration.declared;
       first = None;
     } in
-    subst (λ f. IsBeginning c.declare_each.new.block.entries w c.declare_each.new.walk b
+    subst (λ f. IsBeginning c.args.names.now c.declare_each.new.names w c.declare_each.new.walk b
     (resolve_for_initialiser a (first f) (numbering w))) (sym c.in-Declaration.is)
-    (declaring a d.base d.locals.items c.deref.result.now c.args.block.now.entries
-    c.declare_each.new.block.entries w c.declare_each.new.walk b c.requires c.deref.ensures.value
+    (declaring a d.base d.locals.items c.deref.result.now c.args.names.now
+    c.declare_each.new.names w c.declare_each.new.walk b c.requires c.deref.ensures.value
     refl c.in_ok-declared-in-Declaration.ensures)

@@ -3,7 +3,7 @@ use Rattle.std.proofs.lemmas.Result.{on_ok_weaker}
 use Rattle.std.specs.Prelude.{option_map}
 use Rattle.c_locals.proofs.GlobalPlaces.{on_both, placed}
 use Rattle.c_locals.proofs.globals.global.Goals as goal
-use Rattle.c_locals.specs.Words.{least_of, kept, block_of, entity, TypeClash, global_entity, padded, initial_value, first_data, spelled, with_name, unless_holds, bytes_in, CType}
+use Rattle.c_locals.specs.Words.{least_of, kept, with_block, entity, TypeClash, global_entity, padded, initial_value, first_data, spelled, with_name, unless_holds, bytes_in, CType}
 use Rattle.c_syntax.specs.Program as trees
 
 pub returns : goal.returns
@@ -13,7 +13,7 @@ returns c =
     let of : CType = record { base = c.args.base; pointers = g.pointers } in
     let text = c.args.text.now in
     let n = spelled text g.name in
-    let block = block_of file.names.entries in
+    let block = file.names.block in
     let begun : c.pad.new.bytes.items ≡ padded (bytes_in of) file.bytes.items = c.in_ok-pad.ensures
     ∙ ap (λ k. padded k file.bytes.items) c.bytes_in.ensures in
     let at : c.end_of-address.result ≡ length
@@ -26,7 +26,7 @@ returns c =
     on_ok_weaker c.put_initial_value.result
     (λ h. λ d f. placed text c.args.base g file _ d w (least_of c.unless_holds.new.worst)
     (least_of c.check_length.new.worst)
-    (c.in_ok-name.ensures.names ∙ ap (with_name block n) is)
+    (c.in_ok-name.ensures.names ∙ ap (λ e. with_block file.names (with_name block n e)) is)
     (h.0 ∙ ap (λ b. b.items ++ own.bytes) c.in_ok-name.ensures.bytes
     ∙ ap (λ k. k ++ own.bytes) begun)
     c.in_ok-name.ensures.functions c.in_ok-name.ensures.faults

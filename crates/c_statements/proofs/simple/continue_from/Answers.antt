@@ -3,7 +3,7 @@ use Rattle.c_statements.proofs.simple.continue_from.Goals as goal
 
 pub returns : goal.returns
 returns c =
-    λ block. record {
+    λ around block. record {
       done = ap (λ s. s ∷ []) c.continue_of.ensures;
       counts = refl;
       block = refl;
