@@ -117,6 +117,7 @@ pub record AllKept (p : FramePlace) (i n : ℕ) (v : MachineView) (b : BodyState
 above_slots : (p : FramePlace) (i a : ℕ) → IsFunctionFrame p → p.sp + stack_parameter p.layout i ≤ a
     → InTemporaries p.layout p.counts p.sp a ⊎ InLocals p.layout p.counts p.base a → ⊥
 above_slots p i a fn le is = let b = fn.base in let t = fn.temporaries in let l = fn.locals in
+    let w = fn.within in
     elim is [
       | inl x ↦ (let u = x.1 in absurd (omega arith))
       | inr

@@ -40,11 +40,12 @@ pub record OnStack (p : FramePlace) (m : Memory) (count : ℕ) (arguments : ℕ 
   pub near : (i : ℕ) → i < count → stack_parameter p.layout i < 2 ^ 31
   pub small : (i : ℕ) → i < count → arguments i < 2 ^ 64
 
--- a function's frame, all slots of which lie below its end
+-- a function's frame, all slots of which lie below where slots end, and so below its end
 pub record IsFunctionFrame (p : FramePlace) : Type 0 where
   pub base : p.base ≡ p.sp
-  pub temporaries : p.layout.temporaries + 8 * p.counts.temporaries ≤ p.layout.frame
-  pub locals : p.layout.locals + 8 * p.counts.locals ≤ p.layout.frame
+  pub temporaries : p.layout.temporaries + 8 * p.counts.temporaries ≤ p.layout.slots
+  pub locals : p.layout.locals + 8 * p.counts.locals ≤ p.layout.slots
+  pub within : p.layout.slots ≤ p.layout.frame
 
 -- the body whose slots hold what memory has at their places
 abbrev pub body_in_memory : Layout → ℕ → ℕ → Memory → Memory → BodyState
