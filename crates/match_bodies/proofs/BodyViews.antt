@@ -85,7 +85,7 @@ module _ (setting : Setting) where
 
       by_funclet : (k : ℕ) → c.frame.body ≡ FuncletBody k → IsFuncletPlan program p k code
           → HasActivation s.memory (get (context_of s.cpu)) (p.register c.frame.body)
-          (p.layout c.frame.body) sp (p.layout c.frame.body).frame
+          (p.layout c.frame.body) sp (p.layout c.frame.body).slots
           c.frame.activation b.body.acts (FuncletBody k)
           → SlotsPlaced s.memory (p.layout c.frame.body) code.temporaries sp c.frame.activation
           b.body.acts
@@ -169,7 +169,7 @@ module _ (setting : Setting) where
         pub layout : IsFunctionLayout (p.layout c.frame.body) code
         pub activation : HasActivation s.memory (get (context_of s.cpu)) (p.register c.frame.body)
             (p.layout c.frame.body) sp
-            (p.layout c.frame.body).frame c.frame.activation b.body.acts (FunctionBody number)
+            (p.layout c.frame.body).slots c.frame.activation b.body.acts (FunctionBody number)
 
       pub record AsLeaf : Type 0 where
         pub number : ℕ
@@ -189,7 +189,7 @@ module _ (setting : Setting) where
             (p.layout (FunctionBody plan.funclet.function)) code
         pub activation : HasActivation s.memory (get (context_of s.cpu)) (p.register c.frame.body)
             (p.layout c.frame.body) sp
-            (p.layout c.frame.body).frame c.frame.activation b.body.acts (FuncletBody number)
+            (p.layout c.frame.body).slots c.frame.activation b.body.acts (FuncletBody number)
 
       kind_by_leaf : (f : ℕ) (leaf : Bool) → c.frame.body ≡ FunctionBody f
           → p.leaf c.frame.body ≡ leaf → IsLaidOut program p (FunctionBody f) code
@@ -251,7 +251,7 @@ module _ (setting : Setting) where
         | inl f ↦ subst (λ l. (p.layout c.frame.body).temporaries + 8 * code.temporaries
             ≤ last_temporary (p.layout c.frame.body) c.frame.body l) (sym f.framed)
             (subst (λ n. (p.layout c.frame.body).temporaries + 8 * code.temporaries
-            ≤ temporaries_end (p.layout c.frame.body) n (p.layout c.frame.body).frame) (sym f.name)
+            ≤ temporaries_end (p.layout c.frame.body) n (p.layout c.frame.body).slots) (sym f.name)
             f.layout.temporaries)
         | inr (inl f) ↦ subst (λ l. (p.layout c.frame.body).temporaries + 8 * code.temporaries
             ≤ last_temporary (p.layout c.frame.body) c.frame.body l) (sym f.leaf)
@@ -259,7 +259,7 @@ module _ (setting : Setting) where
         | inr (inr f) ↦ subst (λ l. (p.layout c.frame.body).temporaries + 8 * code.temporaries
             ≤ last_temporary (p.layout c.frame.body) c.frame.body l) (sym f.framed)
             (subst (λ n. (p.layout c.frame.body).temporaries + 8 * code.temporaries
-            ≤ temporaries_end (p.layout c.frame.body) n (p.layout c.frame.body).frame) (sym f.name)
+            ≤ temporaries_end (p.layout c.frame.body) n (p.layout c.frame.body).slots) (sym f.name)
             f.layout.temporaries)
       ]
 

@@ -63,12 +63,12 @@ service_of Protect = services.Protect
 service_of RaiseException = services.RaiseException
 service_of Walk = services.Walk
 
--- the frame of a body: its slots end at its return address
+-- the frame of a body, by its layout
 abbrev pub frame_of : ImagePlan → BodyName → (back : ℕ) → List ℕ → StackFrame
 frame_of p name back others =
     record {
       entry = p.entry name;
-      slots = (p.layout name).frame;
+      slots = (p.layout name).slots;
       size = (p.layout name).frame;
       return_address = back;
       others = others;
