@@ -137,7 +137,7 @@ module _ (setting : Setting) (roomy : HaveRoom setting.program) where
         returns_leave setting c.frame.body b.body.slots.code b.body.slots.body c.frame.next from at s
         after (top_of setting s c b counted) b.body.back b.body.others b.body.is b.rip
         (begins_beneath setting s c b counted) refl b.memory.code (omega arith)
-        (fetch_plain layout.frame layout.frame 8 layout from
+        (fetch_plain layout.slots layout.frame 8 layout from
         (fetch_fine f.layout f.counts f.sp f.base true from
         (room_here setting s c b counted) is_there)) (reaches_steps n s after reaches) b.body.small
         (omega arith)

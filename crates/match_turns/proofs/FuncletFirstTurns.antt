@@ -137,6 +137,7 @@ module _ (setting : Setting) where
         let x = l.plan.layout.small in
         let z = l.plan.layout.kept in
         let w = l.plan.layout.temporaries in
+        let i = l.plan.layout.within in
         record {
           count = dropped_count s.cpu.registers a.well_formed.count;
           at = sp_seen s ∙ sp_is;

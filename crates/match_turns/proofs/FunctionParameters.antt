@@ -82,6 +82,7 @@ with_home y = record {
   pointers = y.pointers;
   temporaries = y.temporaries;
   locals = y.locals;
+  slots = 40;
   frame = 40;
 }
 
