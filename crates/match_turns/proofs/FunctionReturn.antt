@@ -126,7 +126,7 @@ module _ (setting : Setting) (roomy : HaveRoom setting.program) where
 
     pub exits : c.below ≡ [] → Exits t fs program 16 turns_left s c (instructions.Return from)
     exits none =
-        let few = (leaving.returns_soon layout from).1 in
+        let few = (leaving.returns_soon setting roomy s c b counted from at).1 in
         let over : back ≡ 0 = subst (λ items. ReturnsTo t fs program p items back) none
         b.body.returns_to in
         record {
@@ -192,8 +192,8 @@ module _ (setting : Setting) (roomy : HaveRoom setting.program) where
           → IsSurrounded setting roomy w.body w.activation items (length outer)
           → Moves t fs program 16 turns_left (RepresentsAt setting) s c (instructions.Return from)
       moves counts surrounded =
-          let few = (leaving.returns_soon layout from).1 in
-          let some = (leaving.returns_soon layout from).0 in
+          let few = (leaving.returns_soon setting roomy s c b counted from at).1 in
+          let some = (leaving.returns_soon setting roomy s c b counted from at).0 in
           let more = length-append w.temporaries (x ∷ []) in
           let z = resumes setting roomy after w items outer c.store.memory c.events
           above b.body.is on registers_after well_formed_after
