@@ -180,13 +180,7 @@ module _ {setting : Setting} (at_call : AtCall setting) where
   target = q.function f
 
   abbrev pub after_passing : MachineView
-  after_passing = record {
-    rax = handed.rax;
-    rcx = view.rcx;
-    rdx = view.rdx;
-    rest = view.rest;
-    memory = handed.memory;
-  }
+  after_passing = record view { rax = handed.rax; memory = handed.memory }
 
   abbrev there : ℕ
   there = s.cpu.rip + sizes passing
@@ -278,29 +272,13 @@ module _ {setting : Setting} (at_call : AtCall setting) where
   abbrev pub arguments : ℕ → ℕ
   arguments i = numbers.slots (Temporary (first + i))
 
-  pub registers : length view.rest ≡ 13
-  registers = length-drop 3 s.cpu.registers ∙ (let k = b.well_formed.count in omega arith)
-
   -- RSP there
-  pub called_count : length called.rest ≡ 13
-  called_count =
-      let x = numbers.slots (Temporary (first + 2)) in
-      let z = numbers.slots (Temporary (first + 3)) in
-      length-set (set (set view.rest 5 x) 6 z) 1 (sp - 8) ∙ length-set (set view.rest 5 x) 6 z
-      ∙ length-set view.rest 5 x ∙ registers
-
   pub called_sp : sp_of called ≡ sp - 8
-  called_sp =
-      let x = numbers.slots (Temporary (first + 2)) in
-      let z = numbers.slots (Temporary (first + 3)) in
-      let n = length-set (set view.rest 5 x) 6 z in
-      let k = length-set view.rest 5 x in
-      let r = registers in
-      get_or-set_same (set (set view.rest 5 x) 6 z) 1 (sp - 8) 0 (omega arith)
+  called_sp = refl
 
   pub in_registers : InRegisters called arguments
   in_registers =
-      let r = passed_in_registers here first after_passing there numbers registers in
+      let r = passed_in_registers here first after_passing there numbers in
       record { first = r.first; second = r.second; third = r.third; fourth = r.fourth }
 
   -- memory above RSP, but for the home space and the places of further arguments

@@ -18,7 +18,6 @@ use Rattle.match_turns.proofs.FinallyCallReturn.{offset_most, after_call}
 use Rattle.match_turns.proofs.FuncletFrame.{ArrivesBelow}
 use Rattle.match_turns.proofs.CallRegions.{apart_same}
 use Rattle.match_turns.proofs.DispatchMemory.{memory_untouched}
-use Rattle.match_turns.proofs.KeptRegisters.{kept_moved}
 use Rattle.match_turns.proofs.ReturnAddressPush as pushing
 
 same_parents : (function : ℕ) (o : Option ℕ) → by_parent function o ≡ parent_of function o
@@ -188,9 +187,7 @@ module _ (setting : Setting) (roomy : HaveRoom setting.program)
 
     stack_there : register called.cpu Rsp ≡ sp - 8
     stack_there =
-        let n = length-drop 3 s.cpu.registers in
-        let z = b.well_formed.count in
-        get_or-set_same (drop 3 s.cpu.registers) 1 (sp - 8) 0 (omega arith)
+        refl
 
     returns : word called.memory (register called.cpu Rsp) ≡ Ok back
     returns =
@@ -266,8 +263,7 @@ module _ (setting : Setting) (roomy : HaveRoom setting.program)
 
     -- the nonvolatile registers are those of the call
     others_there : others_of called.cpu.registers ≡ others_of s.cpu.registers
-    others_there = ap (λ (ks : List ℕ). drop 1 ks)
-        (kept_moved s.cpu.registers (sp - 8) stack_there)
+    others_there = refl
 
     list : On t fs program p called.memory (context_below back sp (others_of called.cpu.registers))
         on_top.is (Waits c.frame ∷ c.below) b.body.acts

@@ -77,13 +77,6 @@ module _ (setting : Setting) (roomy : HaveRoom setting.program) where
       abbrev pub given : MachineView
       given = with_arguments_of view numbers first
 
-      pub many : length given.rest ≡ 13
-      many =
-          let x = numbers.slots (Temporary (first + 2)) in
-          let z = numbers.slots (Temporary (first + 3)) in
-          length-set (set view.rest 5 x) 6 z ∙ length-set view.rest 5 x
-          ∙ length-drop 3 s.cpu.registers ∙ (let k = b.well_formed.count in omega arith)
-
       -- the next instruction begins after the result is kept
       pub next_is : p.address c.frame.body (c.frame.next + 1)
           ≡ back + sizes (keep layout (Temporary first))
@@ -155,7 +148,7 @@ module _ (setting : Setting) (roomy : HaveRoom setting.program) where
 
       pub returns : loaded at_service.memory (register at_service.cpu Rsp) W64 ≡ Ok back
       returns = returns_there given sp back (let l = low in omega arith) top b.memory.data_alone
-          b.memory.stack service flags_there back_small many
+          b.memory.stack service flags_there back_small
 
       -- after the call the result is kept
       pub code_after : HasCode s.memory back (keep layout (Temporary first))
