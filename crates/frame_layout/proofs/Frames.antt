@@ -21,6 +21,15 @@ size_few : (f : Facts) (framed : Bool) → FitsFrame f
 size_few f true h = let w = h.words in omega arith
 size_few f false h = let w = h.words in omega arith
 
+small_if : (f : Facts) (framed : Bool) → FitsFrame f
+    → (frame_if f framed).depth + 8 ≤ LARGEST_FRAME
+small_if f framed h = by framed (size_few f framed h)
+  where
+    by : (b : Bool) → size_if f b + 8 * (pushed_count f + 1) + 8 ≤ LARGEST_FRAME
+        → (frame_if f b).depth + 8 ≤ LARGEST_FRAME
+    by true few = omega arith
+    by false few = omega arith
+
 parts_if : (f : Facts) (framed : Bool) → FitsFrame f → IsFrame (frame_if f framed)
 parts_if f framed h =
     let seven = h.registers in
@@ -32,13 +41,8 @@ parts_if f framed h =
       some = omega arith;
       saved = omega arith;
       depth = refl;
-      small = by framed few;
+      small = let s = small_if f framed h in omega arith;
     }
-  where
-    by : (b : Bool) → size_if f b + 8 * (pushed_count f + 1) + 8 ≤ LARGEST_FRAME
-        → (frame_if f b).depth + 8 ≤ LARGEST_FRAME
-    by true few = omega arith
-    by false few = omega arith
 
 aligned_if : (f : Facts) (framed : Bool) → ((frame_if f framed).depth + 8) % 16 ≡ 0
 aligned_if f true = omega arith
@@ -67,11 +71,14 @@ framed_by_size f = record {
       (sym (ap (λ b. b && leb 256 (padded (words f) (pushed_count f))) may) ∙ e));
 }
 
+-- all of it is in the largest frame
+pub small : (f : Facts) → FitsFrame f → (frame_of f).depth + 8 ≤ LARGEST_FRAME
+small f h = small_if f (is_framed f) h
+
 -- its bytes with the pushes and the return address
-pub size_small : (f : FrameLayout) (probe : ℕ) → IsFrame f
-    → frame_size (plan_of f probe) ≤ LARGEST_FRAME
-size_small f probe h =
+pub size_is : (f : FrameLayout) (probe : ℕ) → IsFrame f
+    → frame_size (plan_of f probe) ≡ f.depth + 8
+size_is f probe h =
     let e = frame_has_its_size (plan_of f probe) in
     let d = depth_is f probe h in
-    let s = h.small in
     omega arith

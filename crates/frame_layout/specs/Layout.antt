@@ -1,5 +1,5 @@
 -- The layout of a frame.
-use Rattle.std.specs.Prelude.{◌≡◌, ℕ, ◌+◌, ◌-◌, ◌*◌, ◌%◌, ◌<◌, ◌≤◌, min, max, Bool, true, false, ◌&&◌, nat_le}
+use Rattle.std.specs.Prelude.{◌≡◌, ℕ, ◌+◌, ◌-◌, ◌*◌, ◌%◌, ◌^◌, ◌<◌, ◌≤◌, min, max, Bool, true, false, ◌&&◌, nat_le}
 use Rattle.frame_layout.specs.declared.frame.Facts.{Facts}
 use Rattle.frame_layout.specs.declared.frame.FrameLayout.{FrameLayout}
 use Rattle.frame_layout.specs.declared.frame.TheConstants.{LEAST_FRAMED}
@@ -69,15 +69,14 @@ frame_of f = frame_if f (is_framed f)
 
 -- ---- what a frame is to be
 
--- at most three pushes but for RBP's and four saves by mov, these in the fixed allocation, and all
--- of it in the largest frame
+-- at most three pushes but for RBP's and four saves by mov, these in the fixed allocation
 pub record IsFrame (f : FrameLayout) : Type 0 where
   pub pushes : f.pushes ≤ 3
   pub saves : f.saves ≤ 4
   pub some : 0 < f.size
   pub saved : f.slots + 8 * f.saves ≤ f.size
   pub depth : f.depth ≡ f.size + 8 * (f.pushes + frame_pushes f.framed)
-  pub small : f.depth + 8 ≤ LARGEST_FRAME
+  pub small : f.depth < 2 ^ 31
 
 -- home space and the parts one after another below the end of the slots, and RSP a multiple of 16
 -- where it is so before the return address is pushed

@@ -1,6 +1,6 @@
 //! The layout of a frame.
 
-ghost use Rattle.std.specs.Prelude.{◌≡◌, ◌≤◌, ◌-◌, ℕ, min, true};
+ghost use Rattle.std.specs.Prelude.{◌≡◌, ◌≤◌, ◌+◌, ◌-◌, ℕ, min, true};
 ghost use Rattle.seh_num.specs.declared.width.Width.{Width};
 ghost use Rattle.x64_encode.specs.Chosen.{is_signed};
 ghost use Rattle.frame_rules.specs.Plan.{IsPlan, frame_size};
@@ -168,7 +168,8 @@ pub fn plan(facts: &Facts) -> FrameLayout
     ensures laid_out { spec.IsLaidOut facts.now result }
     ensures framed { spec.IsFramedBySize facts.now result }
     ensures parts { spec.IsFrame result }
-    ensures size { (probe : ℕ) → frame_size (plan_of result probe) ≤ LARGEST_FRAME }
+    ensures small { result.depth + 8 ≤ LARGEST_FRAME }
+    ensures size { (probe : ℕ) → frame_size (plan_of result probe) ≡ result.depth + 8 }
     ensures plan { (probe : ℕ) → is_signed Width.W32 Width.W64 probe ≡ true
         → IsPlan (plan_of result probe) }
 {

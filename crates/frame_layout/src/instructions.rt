@@ -1,6 +1,6 @@
 //! The instructions that take a frame and give it back.
 
-ghost use Rattle.std.specs.Prelude.{◌≡◌, ◌+◌, ◌*◌, ◌<◌, ◌≤◌, ◌++◌, [], ℕ, true, not, nat_le};
+ghost use Rattle.std.specs.Prelude.{◌≡◌, ◌+◌, ◌*◌, ◌^◌, ◌<◌, ◌≤◌, ◌++◌, [], ℕ, true, not, nat_le};
 ghost use Rattle.std.specs.List.{AllByRecursion};
 ghost use Rattle.arrayvec.specs.ArrayVec.{array_vec_len};
 ghost use Rattle.x64_instr.specs.Registers as registers;
@@ -10,7 +10,6 @@ ghost use Rattle.frame_rules.specs.Bytes.{prologue_code};
 ghost use Rattle.frame_layout.specs.Layout.{IsFrame};
 ghost use Rattle.frame_layout.specs.declared.frame.FrameLayout as frames;
 ghost use Rattle.frame_layout.specs.Plans as spec;
-ghost use Rattle.template_code.specs.declared.layout.TheConstants.{LARGEST_FRAME};
 
 use crate::frame::{FRAME_DISTANCE, FRAME_REGISTER, FrameLayout};
 use crate::operations::{FIRST_SAVED, operations, pushed_register};
@@ -122,7 +121,7 @@ pub fn prologue(frame: &FrameLayout, probe: u64) -> ArrayVec<Instr, 16>
 fn put_loads(instrs: &mut ArrayVec<Instr, 16>, slots: u64, count: u64)
     requires empty { instrs.old.items ≡ [] }
     requires count { count ≤ 4 }
-    requires fits { slots + 8 * count ≤ LARGEST_FRAME }
+    requires fits { slots + 8 * count < 2 ^ 31 }
     ensures { instrs.new.items ≡ rules.loads_then (spec.saves_of slots count) [] }
 {
     for index in 0..count {

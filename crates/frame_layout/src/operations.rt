@@ -1,13 +1,12 @@
 //! What the prologue of a frame does, step by step.
 
-ghost use Rattle.std.specs.Prelude.{◌≡◌, ◌≤◌, ◌+◌, ◌*◌, ℕ, ◌++◌, []};
+ghost use Rattle.std.specs.Prelude.{◌≡◌, ◌<◌, ◌≤◌, ◌+◌, ◌*◌, ◌^◌, ℕ, ◌++◌, []};
 ghost use Rattle.std.specs.List.{AllByRecursion};
 ghost use Rattle.arrayvec.specs.ArrayVec.{array_vec_len};
 ghost use Rattle.frame_rules.specs.Codes.{pushed};
 ghost use Rattle.frame_rules.specs.Plan as rules;
 ghost use Rattle.frame_layout.specs.Layout.{IsFrame};
 ghost use Rattle.frame_layout.specs.Plans as spec;
-ghost use Rattle.template_code.specs.declared.layout.TheConstants.{LARGEST_FRAME};
 
 use crate::frame::{FRAME_REGISTER, FrameLayout};
 use arrayvec::ArrayVec;
@@ -64,7 +63,7 @@ fn put_frame(operations: &mut ArrayVec<UnwindOperation, 16>, framed: bool)
 fn put_saves(operations: &mut ArrayVec<UnwindOperation, 16>, slots: u64, count: u64)
     requires few { array_vec_len operations.old ≤ 6 }
     requires saves { count ≤ 4 }
-    requires fits { slots + 8 * count ≤ LARGEST_FRAME }
+    requires fits { slots + 8 * count < 2 ^ 31 }
     ensures { operations.new.items ≡ operations.old.items
         ++ rules.turned [] (rules.saves_then (spec.saves_of slots count) []) }
 {
