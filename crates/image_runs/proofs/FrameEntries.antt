@@ -35,9 +35,6 @@ module _ (t : Functions) (fs : List Funclet) (program : LinearProgram) (p : Imag
   abbrev Goal : Type 0
   Goal = entering.InFunction t fs program p q image s source f fn top arguments h
 
-  registers : length view.rest ≡ 13
-  registers = length-drop 3 s.cpu.registers ∙ (let k = h.count in omega arith)
-
   entry : (leaf : Bool) → p.leaf (FunctionBody f) ≡ leaf
       → HasEntry program p q f count s.memory leaf
   entry = has_entry t fs program p q image f count fn h.function refl s.memory h.memory.code
@@ -57,7 +54,7 @@ module _ (t : Functions) (fs : List Funclet) (program : LinearProgram) (p : Imag
       let none : target + sizes (making_frame p q f true) ≡ target = omega arith in
       let same = home_parameters layout 0 count small in
       let made = no_frame view target s.cpu.flags top arguments
-      (entering.view_stack t fs program p q image s source f fn top arguments h) registers
+      (entering.view_stack t fs program p q image s source f fn top arguments h)
       h.registers in
       entering.entered t fs program p q image s source f fn top arguments h top target 0 made
       (with_home layout)
@@ -158,7 +155,7 @@ module _ (t : Functions) (fs : List Funclet) (program : LinearProgram) (p : Imag
         (let a = l.temporaries in let b = l.locals in omega arith) (leb-true frame 4096 e) in
         framed_entered (enter_code frame) 1 is (ap (λ x. if x then 1 else 8) e)
         (small_frame view target s.cpu.flags top arguments
-        (entering.view_stack t fs program p q image s source f fn top arguments h) registers
+        (entering.view_stack t fs program p q image s source f fn top arguments h)
         h.registers frame (omega arith) (omega arith) (omega arith)
         (subst (HasCode s.memory target) is (entry false leaf).making))
 
@@ -180,7 +177,7 @@ module _ (t : Functions) (fs : List Funclet) (program : LinearProgram) (p : Imag
         framed_entered (enter_large frame target q.check_stack) 8 is
         (ap (λ x. if x then 1 else 8) e)
         (large_frame view target s.cpu.flags top arguments
-        (entering.view_stack t fs program p q image s source f fn top arguments h) registers
+        (entering.view_stack t fs program p q image s source f fn top arguments h)
         h.registers frame q.check_stack (omega arith)
         (entering.below_top t fs program p q image s source f fn top arguments h)
         (record {
