@@ -1,9 +1,8 @@
 -- A caller passes its arguments and calls: at the callee's first byte they are in their registers
 -- and above its return address.
-use Rattle.std.proofs.Common.{◌≡◌, ℕ, ◌+◌, ◌-◌, ◌*◌, ◌<◌, ◌≤◌, true, false, Option, Some, None, List, length, set, refl, sym, ap, subst, ◌∙◌, arith, inl, inr, get_or-set_same, length-set}
+use Rattle.std.proofs.Common.{◌≡◌, ℕ, ◌+◌, ◌-◌, ◌*◌, ◌<◌, ◌≤◌, true, false, Option, Some, None, List, length, refl, sym, ap, subst, ◌∙◌, arith, inl, inr}
 use Rattle.std.specs.Prelude.{◌⊎◌}
 use Rattle.std.proofs.lemmas.Bool.{cases_lt}
-use Rattle.std.proofs.lemmas.List.{length-drop}
 use Rattle.match_turns.specs.Words.{STACK_START, STACK_END, number_at, may_write, Protection, is_writable, Rsp, Instr, Flags, State, register, Slot, Local, Temporary, IsSlot, BodyState, Layout, sizes, spelled, keep, IsNear, return_at, begin_call, call_code, passing_code, MachineView, machine, sp_of, with_four, pushed, HasBelow, InRegisters, slot_at, IsBytes, Agrees, HasCode, FramePlace, counts_of, LARGEST_FRAME, Setting, CallBegun}
 use Rattle.x64_templates.specs.Runs.{Reaches}
 use Rattle.linear_code.specs.declared.instruction.Instruction.TheVariants as instructions

@@ -1,8 +1,7 @@
 -- A body calls its `__finally` block: the machine comes to the block's first byte, above the body
 -- that waits.
 use Rattle.std.proofs.Common.{◌≡◌, ℕ, ◌+◌, ◌-◌, ◌^◌, ◌<◌, ◌≤◌, true, false, Option, Some, None, Ok, List, [], ◌∷◌, length, refl, sym, ap, subst, ◌∙◌, arith, inl}
-use Rattle.std.specs.Prelude.{slice_get, drop}
-use Rattle.std.proofs.lemmas.List.{length-drop, get_or-set_same}
+use Rattle.std.specs.Prelude.{slice_get}
 use Rattle.seh_num.specs.declared.event.Event.TheVariants as events
 use Rattle.match_turns.specs.Words.{STACK_START, STACK_END, Rdx, Rsp, context_of, State, register, distance, arrivals, by_kind, of_test, LinearBody, BodyName, FuncletBody, body_of, funclet_body, Waits, Configuration, instruction_in, Layout, sizes, IsNear, finally_arguments, MachineView, machine, pushed, HasBelow, context_below, InCode, by_parent, parent_body, IsFunclet, HasActivation, return_of, ReturnsTo, KeepsAbove, On, IsWellFormed, AllKeep, Comes, AllReturnsStayInRegions, IsFinallyKind, parent_of, IsFuncletOf, HaveRoom, slots_end, Setting, InBody, IsMachineMemory, IsResumed, RepresentsAt, is_finally, frame_of, get}
 use Rattle.virtual_unwind.specs.Undone.{word}

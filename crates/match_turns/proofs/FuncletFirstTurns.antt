@@ -1,6 +1,5 @@
 -- A funclet's first turns: its frame is made, and keeps the base of its activation.
 use Rattle.std.proofs.Common.{◌≡◌, ℕ, ◌+◌, ◌-◌, ◌*◌, ◌^◌, ◌<◌, ◌≤◌, Some, None, List, [], ◌∷◌, ◌++◌, length, sym, ap, subst, ◌∙◌, arith}
-use Rattle.std.specs.Prelude.{slice_index, drop}
 use Rattle.match_turns.specs.Words.{kept_of, STACK_START, STACK_END, Memory, number_at, Rcx, Rdx, Rsp, Instr, Flags, State, register, distance, arrivals, FuncletBody, body_of, funclet_body, Item, Layout, sizes, enter_code, code_from, registers_of, MachineView, machine, sp_of, moved, HasCode, Enters, Activation, below_end, record_room, links_of, parent_base, keep_argument, funclet_arguments, entry_code, seen_by_templates, LARGEST_FRAME, Setting, HasProgram, IsMachineMemory}
 use Rattle.match_bodies.specs.CodeSites.{arguments_code}
 use Rattle.match_bodies.proofs.BodyFrames.{framed_some}
@@ -129,7 +128,6 @@ module _ (setting : Setting) where
         let x = l.plan.layout.small in
         let z = l.plan.layout.kept in
         let w = l.plan.layout.temporaries in
-        let i = l.plan.layout.within in
         record {
           at = sp_is;
           high = omega arith;

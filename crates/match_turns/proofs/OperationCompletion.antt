@@ -205,7 +205,7 @@ module _ (setting : Setting) (made : IsWellMade setting.program setting.plan)
             rip = w.again.here;
             registers = refl;
             is_there = is_here setting old c begins counted;
-          }) refl refl
+          }) refl refl refl
           (record { protection = refl; fixed = λ a f. refl; count = refl; small = λ h. h })
           (register s.cpu Rax) (register s.cpu Rcx) value m
           (inside.first_small setting made s c w known)
