@@ -1,5 +1,5 @@
 -- The function is entered, whatever its frame is.
-use Rattle.std.proofs.Common.{◌≡◌, ℕ, ◌+◌, ◌-◌, ◌<◌, ◌≤◌, Bool, true, false, Some, List, length, refl, sym, ap, subst, ◌∙◌, arith, inl, inr, length-drop}
+use Rattle.std.proofs.Common.{◌≡◌, ℕ, ◌+◌, ◌-◌, ◌<◌, ◌≤◌, Bool, true, false, Some, List, length, refl, sym, ap, subst, ◌∙◌, arith, inl, inr}
 use Rattle.std.specs.Prelude.{nat_le, if◌then◌else◌}
 use Rattle.std.proofs.lemmas.Bool.{cases_lt, le-leb, leb-true}
 use Rattle.image_runs.specs.Words.{STACK_START, STACK_END, Memory, Instr, State, Functions, Funclet, LinearProgram, LinearBody, LinearFunction, FunctionBody, body_of, Layout, sizes, parameters_code, enter_code, MachineView, HasCode, ImagePlan, Sites, IsLayoutIf, IsFunctionLayout, IsLeafLayout, IsProgramImage, seen_by_templates}

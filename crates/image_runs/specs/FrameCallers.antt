@@ -9,7 +9,7 @@ use Rattle.linear_code.specs.Program.{LinearProgram}
 use Rattle.seh_ir.specs.Lowered.{lowered}
 use Rattle.frame_layout.specs.declared.frame.FrameLayout.{FrameLayout}
 use Rattle.image_link.specs.Fits.{FitsProgram}
-use Rattle.image_tables.specs.RoutinePlaces.{Placed, end_of, site_of, placed, thunk_begin, probe_begin}
+use Rattle.image_tables.specs.RoutinePlaces.{Placed, end_of, placed, thunk_begin, probe_begin}
 use Rattle.image_tables.specs.CodeInMemory.{image_base, HasText}
 use Rattle.image_tables.specs.Functions.{function_of, leaf, thunk_of, probe}
 use Rattle.image_tables.specs.FrameLaws.{FindsCaller, IsInRange}
