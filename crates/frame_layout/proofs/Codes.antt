@@ -22,7 +22,7 @@ use Rattle.frame_layout.specs.Layout.{IsFrame}
 use Rattle.frame_layout.specs.Plans.{frame_register_if, frame_distance_if, plan_of, IsStep}
 use Rattle.frame_layout.specs.Infos.{prologue_bytes, codes_of, info_of, Describes}
 use Rattle.frame_layout.proofs.Counts.{by_pushes}
-use Rattle.frame_layout.proofs.Steps.{pushing, setting, saving, after, saving_next, executed, operations_executed, executed_steps}
+use Rattle.frame_layout.proofs.Steps.{pushing, setting, saving, after, saving_next, executed, HasRegisters, IsShort, frame_registers, operations_executed, executed_short, executed_steps}
 use Rattle.frame_layout.proofs.Sizes.{run, taken, taken_first, step_same, prologue_taken, prologue_few, executed_bytes}
 
 -- ---- the codes of steps, from an offset on
@@ -90,7 +90,13 @@ codes_steps f h = subst (AllByRecursion (λ (c : UnwindCode). IsStep f.framed c.
     (sym (codes_are f h.some))
     (all_coded (IsStep f.framed) f 0 [] (executed f) tt (executed_steps f h))
 
-pub codes_falling : (f : FrameLayout) → IsFrame f → AreFalling (prologue_bytes f) (codes_of f)
+pub codes_short : (f : FrameLayout) → HasRegisters f
+    → AllByRecursion (λ (c : UnwindCode). IsShort f.framed c.operation) (codes_of f)
+codes_short f h = subst (AllByRecursion (λ (c : UnwindCode). IsShort f.framed c.operation))
+    (sym (codes_are f h.some))
+    (all_coded (IsShort f.framed) f 0 [] (executed f) tt (executed_short f h))
+
+pub codes_falling : (f : FrameLayout) → HasRegisters f → AreFalling (prologue_bytes f) (codes_of f)
 codes_falling f h =
     let e : 0 + taken f 0 (executed f) ≡ prologue_bytes f = omega (arith, executed_bytes f h.some) in
     subst (λ n. AreFalling n (codes_of f)) e
@@ -103,7 +109,7 @@ offsets_below n last [] le h = tt
 offsets_below n last (c ∷ cs) le h = let l = h.0 in
     (omega arith, offsets_below n c.offset cs (omega arith) h.1)
 
-pub codes_offsets : (f : FrameLayout) → IsFrame f
+pub codes_offsets : (f : FrameLayout) → HasRegisters f
     → AllByRecursion (λ (c : UnwindCode). c.offset ≤ 57) (codes_of f)
 codes_offsets f h = offsets_below 57 (prologue_bytes f) (codes_of f) (prologue_few f h).1
     (codes_falling f h)
@@ -179,7 +185,7 @@ saving_most at (suc n) =
     omega (arith, most_both (saving at n) (Save (12 + n) (at + 8 * n) ∷ []))
 
 -- 20 slots at most
-pub codes_few : (f : FrameLayout) → IsFrame f → length (codes_bytes (codes_of f)) ≤ 40
+pub codes_few : (f : FrameLayout) → HasRegisters f → length (codes_bytes (codes_of f)) ≤ 40
 codes_few f h =
     let a = pushing_most f.pushes f.framed h.pushes in
     let b = setting_most f.framed in
@@ -266,19 +272,19 @@ codes_all P Q (c ∷ cs) w h = (w c.operation h.0, codes_all P Q cs w h.1)
 pub can_be_written : (f : FrameLayout) (t : Trailer) → IsFrame f → IsTrailer t
     → CanBeWritten (info_of f t)
 can_be_written f t h is =
-    let few = codes_few f h in
+    let few = codes_few f (frame_registers f h) in
     record {
       register = register_small f.framed;
       offset = distance_sixteenth f.framed;
       codes = codes_all (IsStep f.framed) (OperationFits (nat_lt 0 (frame_register_if f.framed)))
           (codes_of f) (step_fits f.framed) (codes_steps f h);
-      order = falling (codes_of f) (codes_falling f h);
+      order = falling (codes_of f) (codes_falling f (frame_registers f h));
       slots = omega arith;
       trailer = is;
     }
   where
     most_bytes : prologue_bytes f ≤ 255
-    most_bytes = let few = (prologue_few f h).1 in omega arith
+    most_bytes = let few = (prologue_few f (frame_registers f h)).1 in omega arith
 
     falling : (cs : List UnwindCode) → AreFalling (prologue_bytes f) cs → AreFalling 255 cs
     falling [] h = tt

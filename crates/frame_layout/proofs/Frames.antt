@@ -10,6 +10,7 @@ use Rattle.frame_layout.specs.Plans.{plan_of}
 use Rattle.frame_layout.specs.declared.frame.Facts.{Facts}
 use Rattle.frame_layout.specs.declared.frame.FrameLayout.{FrameLayout}
 use Rattle.frame_layout.proofs.Planned.{depth_is}
+use Rattle.frame_layout.proofs.Steps.{HasRegisters}
 
 -- the fixed allocation has room for the slots and what is saved
 size_enough : (f : Facts) (framed : Bool) → 8 * words f ≤ size_if f framed
@@ -47,6 +48,14 @@ parts_if f framed h =
 aligned_if : (f : Facts) (framed : Bool) → ((frame_if f framed).depth + 8) % 16 ≡ 0
 aligned_if f true = omega arith
 aligned_if f false = omega arith
+
+-- whatever their sizes
+pub registers_few : (f : Facts) → f.registers ≤ 7 → HasRegisters (frame_of f)
+registers_few f le = let enough = size_enough f (is_framed f) in record {
+  pushes = omega arith;
+  saves = omega arith;
+  some = omega arith;
+}
 
 pub parts : (f : Facts) → FitsFrame f → IsFrame (frame_of f)
 parts f h = parts_if f (is_framed f) h

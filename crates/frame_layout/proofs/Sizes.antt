@@ -1,8 +1,8 @@
 -- How many bytes prologues and epilogues take.
-use Rattle.std.proofs.Common.{◌≡◌, ℕ, zero, suc, ◌+◌, ◌-◌, ◌*◌, ◌%◌, ◌^◌, ◌<◌, ◌≤◌, Bool, true, false, not, cond, ltb, leb, List, [], ◌∷◌, ◌++◌, length, get_or, drop, drop-cons, refl, sym, ap, ◌∙◌, arith, inl, inr, length-append}
+use Rattle.std.proofs.Common.{◌≡◌, ℕ, zero, suc, ◌+◌, ◌-◌, ◌*◌, ◌%◌, ◌^◌, ◌<◌, ◌≤◌, Bool, true, false, not, cond, ltb, leb, List, [], ◌∷◌, ◌++◌, length, get_or, drop, drop-cons, refl, sym, ap, ◌∙◌, arith, length-append}
 use Rattle.std.specs.Prelude.{◌&&◌, ◌||◌, if◌then◌else◌}
 use Rattle.std.specs.List.{flat_map, AllByRecursion}
-use Rattle.std.proofs.lemmas.Bool.{cases_lt, lt-leb, lt-ltb, le-ltb, le-leb, ne_eqb}
+use Rattle.std.proofs.lemmas.Bool.{lt-leb, lt-ltb, le-ltb, le-leb, ne_eqb}
 use Rattle.std.proofs.lemmas.Grind.{flat_map-append}
 use Rattle.seh_num.specs.Widths.{low}
 use Rattle.seh_num.specs.declared.width.Width.TheVariants.{W8, W32, W64}
@@ -22,10 +22,10 @@ use Rattle.frame_rules.specs.Plan.{allocating, instructions_of, spelled_by, stac
 use Rattle.frame_rules.specs.Bytes.{spell, prologue_code}
 use Rattle.frame_layout.specs.declared.frame.FrameLayout.{FrameLayout}
 use Rattle.frame_layout.specs.Layout.{IsFrame}
-use Rattle.frame_layout.specs.Plans.{pushes_of, saves_of, plan_of, IsStep}
+use Rattle.frame_layout.specs.Plans.{pushes_of, saves_of, plan_of}
 use Rattle.frame_layout.specs.Infos.{prologue_bytes}
 use Rattle.frame_layout.proofs.Counts.{by_pushes}
-use Rattle.frame_layout.proofs.Steps.{pushing, setting, saving, after, saving_next, executed, operations_executed, executed_steps, epilogue_is}
+use Rattle.frame_layout.proofs.Steps.{pushing, setting, saving, after, saving_next, executed, HasRegisters, IsShort, operations_executed, executed_short, epilogue_is}
 
 -- ---- instructions one after another
 
@@ -199,26 +199,34 @@ abbrev most_of : List UnwindOperation → ℕ
 most_of [] = 0
 most_of (x ∷ xs) = most x + most_of xs
 
-pub allocating_few : (probe n : ℕ) → n < 2 ^ 31
-    → (4 ≤ run (allocating probe n (leb n 4096))) × (run (allocating probe n (leb n 4096)) ≤ 13)
-allocating_few probe n lt = elim (cases_lt n 128) [
-  | inl few ↦ let e = takes_four probe n few in (omega arith, omega arith)
-  | inr far ↦ elim (cases_lt 4096 n) [
-    | inl many ↦ let e = takes_thirteen probe n many in (omega arith, omega arith)
-    | inr page ↦ let e = takes_seven probe n far page in (omega arith, omega arith)
-  ]
-]
+lowering_few : (probe n : ℕ) (short : Bool) → is_signed W8 W64 n ≡ short
+    → (4 ≤ run (allocating probe n true)) × (run (allocating probe n true) ≤ 7)
+unfolding modrm
+lowering_few probe n true e = let s : run (allocating probe n true) ≡ 4 = rw e refl in
+    (omega arith, omega arith)
+lowering_few probe n false e = let s : run (allocating probe n true) ≡ 7 = rw e refl in
+    (omega arith, omega arith)
 
-step_few : (f : FrameLayout) (x : UnwindOperation) → IsStep f.framed x
+allocating_by : (probe n : ℕ) (small : Bool)
+    → (4 ≤ run (allocating probe n small)) × (run (allocating probe n small) ≤ 13)
+allocating_by probe n true = let e = lowering_few probe n (is_signed W8 W64 n) refl in
+    let a = e.0 in let b = e.1 in (omega arith, omega arith)
+allocating_by probe n false = let e = taking_probed probe n in (omega arith, omega arith)
+
+allocating_few : (probe n : ℕ)
+    → (4 ≤ run (allocating probe n (leb n 4096))) × (run (allocating probe n (leb n 4096)) ≤ 13)
+allocating_few probe n = allocating_by probe n (leb n 4096)
+
+step_few : (f : FrameLayout) (x : UnwindOperation) → IsShort f.framed x
     → run (instructions_of (plan_of f 0) x) ≤ most x
 step_few f (Push r) h = let e = push_size r h in omega arith
-step_few f (Allocate n) h = (allocating_few 0 n h).1
+step_few f (Allocate n) h = (allocating_few 0 n).1
 step_few f SetFrame h = let e = setting_size f 0 h in omega arith
 step_few f (Save r n) h = let e = saving_near f 0 r n in let d = displacement_few n in omega arith
 step_few f (SaveVector r n) h = absurd h
 step_few f (MachineFrame e) h = absurd h
 
-taken_few : (f : FrameLayout) (xs : List UnwindOperation) → AllByRecursion (IsStep f.framed) xs
+taken_few : (f : FrameLayout) (xs : List UnwindOperation) → AllByRecursion (IsShort f.framed) xs
     → taken f 0 xs ≤ most_of xs
 taken_few f [] h = omega arith
 taken_few f (x ∷ xs) h =
@@ -247,7 +255,7 @@ saving_most at (suc n) =
     let e = ap most_of (sym (ap (saving at) (after n)) ∙ saving_next at n) in
     omega (arith, most_both (saving at n) (Save (12 + n) (at + 8 * n) ∷ []))
 
-executed_most : (f : FrameLayout) → IsFrame f → most_of (executed f) ≤ 57
+executed_most : (f : FrameLayout) → HasRegisters f → most_of (executed f) ≤ 57
 executed_most f h =
     let a = pushing_most f.pushes f.framed h.pushes in
     let b = setting_most f.framed in
@@ -273,23 +281,21 @@ unfolding prologue_bytes
 prologue_taken f probe = taken_same f probe (turned [] (operations_of (plan_of f 0)))
 
 -- at least those of the fixed allocation, and 57 at most
-pub prologue_few : (f : FrameLayout) → IsFrame f
+pub prologue_few : (f : FrameLayout) → HasRegisters f
     → (4 ≤ prologue_bytes f) × (prologue_bytes f ≤ 57)
 prologue_few f h =
-    let small = h.small in
-    let depth = h.depth in
     let e = executed_bytes f h.some in
-    let few = taken_few f (executed f) (executed_steps f h) in
+    let few = taken_few f (executed f) (executed_short f h) in
     let most = executed_most f h in
     let more = setting f.framed ++ saving f.slots f.saves in
     let both = taken_both f 0 (pushing f.pushes f.framed) (Allocate f.size ∷ more) in
     let first = taken_first f 0 (Allocate f.size) more in
-    let least = (allocating_few 0 f.size (omega arith)).0 in
+    let least = (allocating_few 0 f.size).0 in
     (omega arith, omega arith)
 
 -- so the offset of a step's end is a byte
 pub offset_few : (f : FrameLayout) (xs : List UnwindOperation) (at i : ℕ) (d : UnwindOperation)
-    → IsFrame f → xs ≡ turned [] (operations_of (plan_of f 0)) → i < length xs
+    → HasRegisters f → xs ≡ turned [] (operations_of (plan_of f 0)) → i < length xs
     → at + taken f 0 (drop i xs) ≡ taken f 0 xs
     → at + run (instructions_of (plan_of f 0) (get_or xs i d)) < 256
 offset_few f xs at i d h are lt left =

@@ -78,6 +78,55 @@ operations_executed f probe some =
 
 -- ---- what they are
 
+-- at most three registers are pushed but for RBP, and four saved by mov, and there is a fixed
+-- allocation
+pub record HasRegisters (f : FrameLayout) : Type 0 where
+  pub pushes : f.pushes ≤ 3
+  pub saves : f.saves ≤ 4
+  pub some : 0 < f.size
+
+pub frame_registers : (f : FrameLayout) → IsFrame f → HasRegisters f
+frame_registers f h = record { pushes = h.pushes; saves = h.saves; some = h.some }
+
+-- a step of such a frame, however large it is
+abbrev pub IsShort : Bool → UnwindOperation → Type 0
+IsShort framed (Push r) = r < 8
+IsShort framed (Allocate n) = Unit {0}
+IsShort framed SetFrame = framed ≡ true
+IsShort framed (Save r n) = r < 16
+IsShort framed x = ⊥
+
+pushing_short : (k : ℕ) (framed : Bool) → k ≤ 3 → AllByRecursion (IsShort framed) (pushing k framed)
+pushing_short = by_pushes (λ k framed. AllByRecursion (IsShort framed) (pushing k framed))
+    (omega arith, tt) (omega arith, (omega arith, tt))
+    (omega arith, (omega arith, (omega arith, tt)))
+    (omega arith, (omega arith, (omega arith, (omega arith, tt))))
+    tt (omega arith, tt) (omega arith, (omega arith, tt))
+    (omega arith, (omega arith, (omega arith, tt)))
+
+setting_short : (framed : Bool) → AllByRecursion (IsShort framed) (setting framed)
+setting_short true = (refl, tt)
+setting_short false = tt
+
+saving_short : (framed : Bool) (at n : ℕ) → n ≤ 4
+    → AllByRecursion (IsShort framed) (saving at n)
+saving_short framed at zero le = tt
+saving_short framed at (suc n) le =
+    subst (AllByRecursion (IsShort framed))
+    (sym (saving_next at n) ∙ ap (saving at) (after n))
+    (all_both (IsShort framed) (saving at n) (Save (12 + n) (at + 8 * n) ∷ [])
+    (saving_short framed at n (omega arith)) (omega arith, tt))
+
+pub executed_short : (f : FrameLayout) → HasRegisters f
+    → AllByRecursion (IsShort f.framed) (executed f)
+executed_short f h =
+    all_both (IsShort f.framed) (pushing f.pushes f.framed) _
+    (pushing_short f.pushes f.framed h.pushes) (
+      tt,
+      all_both (IsShort f.framed) (setting f.framed) (saving f.slots f.saves)
+          (setting_short f.framed) (saving_short f.framed f.slots f.saves h.saves),
+    )
+
 pushing_steps : (k : ℕ) (framed : Bool) → k ≤ 3 → AllByRecursion (IsStep framed) (pushing k framed)
 pushing_steps = by_pushes (λ k framed. AllByRecursion (IsStep framed) (pushing k framed))
     (omega arith, tt) (omega arith, (omega arith, tt)) (omega arith, (omega arith, (omega arith, tt)))

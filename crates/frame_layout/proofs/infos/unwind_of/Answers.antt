@@ -7,6 +7,7 @@ use Rattle.frame_rules.specs.Plan.{unwind_of}
 use Rattle.frame_rules.specs.Bytes.{spell}
 use Rattle.frame_layout.specs.Plans.{plan_of}
 use Rattle.frame_layout.specs.Infos.{Describes}
+use Rattle.frame_layout.proofs.Steps.{frame_registers}
 use Rattle.frame_layout.proofs.Sizes.{offset_few}
 use Rattle.frame_layout.proofs.Codes.{info_made, describes, can_be_written}
 use Rattle.frame_layout.proofs.infos.unwind_of.Goals as goal
@@ -15,7 +16,7 @@ pub overflow_add-offset : goal.overflow_add-offset
 overflow_add-offset c =
     let f = c.args.frame.now in
     let few = offset_few f c.as_slice-operation-items.result.now c.loop-operation.offset
-    c.loop-operation.operation-index (Push 0) c.requires
+    c.loop-operation.operation-index (Push 0) (frame_registers f c.requires)
     (c.as_slice-operation-items.ensures.value ∙ c.operations-operations.ensures.value 0)
     c.loop-operation-test.true c.loop-operation.invariant.left in
     let same = c.step_size-offset.ensures f refl in
