@@ -110,7 +110,7 @@ nothing = record { locals = 0; temporaries = 0; passed = 0; code = []; regions =
 
 -- a function without a name or a body
 abbrev pub no_function : LinearFunction
-no_function = record { name = []; parameters = 0; body = nothing }
+no_function = record { name = []; parameters = 0; registers = []; body = nothing }
 
 abbrev pub body_of_function : LinearProgram → ℕ → LinearBody
 body_of_function p index = (get_or p.functions index no_function).body
