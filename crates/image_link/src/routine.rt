@@ -137,6 +137,8 @@ fn function_frame(body: &IrBody) -> FrameLayout
         kept: 0,
         temporaries: body.temporaries,
         locals: body.locals,
+        registers: 0,
+        frame_register: false,
     })
 }
 
@@ -155,7 +157,7 @@ fn framed<'a>(function: &'a IrFunction) -> Routine<'a>
             pointers: 0,
             locals: frame.locals,
             temporaries: frame.temporaries,
-            frame: frame.size,
+            frame: frame.depth,
         },
         body: &function.body,
     }
@@ -183,6 +185,8 @@ fn funclet_frame(body: &IrBody) -> FrameLayout
         kept: FUNCLET_WORDS,
         temporaries: body.temporaries,
         locals: 0,
+        registers: 0,
+        frame_register: false,
     })
 }
 
@@ -222,7 +226,7 @@ fn funclet_routine<'a>(program: &IrProgram, funclet: &'a IrFunclet) -> Routine<'
             pointers: own.kept + 8,
             locals: function.locals,
             temporaries: own.temporaries,
-            frame: own.size,
+            frame: own.depth,
         },
         body: &funclet.body,
     }
