@@ -1,5 +1,5 @@
 -- The function is entered, whatever its frame is.
-use Rattle.std.proofs.Common.{◌≡◌, ℕ, ◌+◌, ◌-◌, ◌<◌, ◌≤◌, Bool, true, false, Some, List, length, refl, sym, ap, subst, ◌∙◌, arith, inl, inr, length-drop}
+use Rattle.std.proofs.Common.{◌≡◌, ℕ, ◌+◌, ◌-◌, ◌<◌, ◌≤◌, Bool, true, false, Some, List, length, refl, sym, ap, subst, ◌∙◌, arith, inl, inr}
 use Rattle.std.specs.Prelude.{nat_le, if◌then◌else◌}
 use Rattle.std.proofs.lemmas.Bool.{cases_lt, le-leb, leb-true}
 use Rattle.image_runs.specs.Words.{STACK_START, STACK_END, Memory, Instr, State, Functions, Funclet, LinearProgram, LinearBody, LinearFunction, FunctionBody, body_of, Layout, sizes, parameters_code, enter_code, MachineView, HasCode, ImagePlan, Sites, IsLayoutIf, IsFunctionLayout, IsLeafLayout, IsProgramImage, seen_by_templates}
@@ -35,9 +35,6 @@ module _ (t : Functions) (fs : List Funclet) (program : LinearProgram) (p : Imag
   abbrev Goal : Type 0
   Goal = entering.InFunction t fs program p q image s source f fn top arguments h
 
-  registers : length view.rest ≡ 13
-  registers = length-drop 3 s.cpu.registers ∙ (let k = h.count in omega arith)
-
   entry : (leaf : Bool) → p.leaf (FunctionBody f) ≡ leaf
       → HasEntry program p q f count s.memory leaf
   entry = has_entry t fs program p q image f count fn h.function refl s.memory h.memory.code
@@ -57,7 +54,7 @@ module _ (t : Functions) (fs : List Funclet) (program : LinearProgram) (p : Imag
       let none : target + sizes (making_frame p q f true) ≡ target = omega arith in
       let same = home_parameters layout 0 count small in
       let made = no_frame view target s.cpu.flags top arguments
-      (entering.view_stack t fs program p q image s source f fn top arguments h) registers
+      (entering.view_stack t fs program p q image s source f fn top arguments h)
       h.registers in
       entering.entered t fs program p q image s source f fn top arguments h top target 0 made
       (with_home layout)
@@ -170,7 +167,7 @@ module _ (t : Functions) (fs : List Funclet) (program : LinearProgram) (p : Imag
         (leb-true frame 4096 e) in
         framed_entered (enter_code frame) 1 is (ap (λ x. if x then 1 else 8) e)
         (small_frame view target s.cpu.flags top arguments
-        (entering.view_stack t fs program p q image s source f fn top arguments h) registers
+        (entering.view_stack t fs program p q image s source f fn top arguments h)
         h.registers frame (omega arith) (omega arith) (omega arith)
         (subst (HasCode s.memory target) is (entry false leaf).making))
 
@@ -192,7 +189,7 @@ module _ (t : Functions) (fs : List Funclet) (program : LinearProgram) (p : Imag
         framed_entered (enter_large frame target q.check_stack) 8 is
         (ap (λ x. if x then 1 else 8) e)
         (large_frame view target s.cpu.flags top arguments
-        (entering.view_stack t fs program p q image s source f fn top arguments h) registers
+        (entering.view_stack t fs program p q image s source f fn top arguments h)
         h.registers frame q.check_stack (omega arith)
         (entering.below_top t fs program p q image s source f fn top arguments h)
         (record {

@@ -146,7 +146,7 @@ module _ (setting : Setting) where
     run = enters_then e.turns 1 s (machine e.after e.rip e.flags) u e.comes keeps.comes
 
     stack_here : register u.cpu Rsp ≡ e.sp
-    stack_here = e.stack
+    stack_here = e.at
 
     rip_here : u.cpu.rip ≡ p.address (FuncletBody k) 0
     rip_here = subst (λ z. e.rip + sizes (keep_argument y z) ≡ p.address (FuncletBody k) 0) kind_is

@@ -1,8 +1,7 @@
 -- A body calls its `__finally` block: the machine comes to the block's first byte, above the body
 -- that waits.
 use Rattle.std.proofs.Common.{◌≡◌, ℕ, ◌+◌, ◌-◌, ◌^◌, ◌<◌, ◌≤◌, true, false, Option, Some, None, Ok, List, [], ◌∷◌, length, refl, sym, ap, subst, ◌∙◌, arith, inl}
-use Rattle.std.specs.Prelude.{slice_get, drop}
-use Rattle.std.proofs.lemmas.List.{length-drop, get_or-set_same}
+use Rattle.std.specs.Prelude.{slice_get}
 use Rattle.seh_num.specs.declared.event.Event.TheVariants as events
 use Rattle.match_turns.specs.Words.{STACK_START, STACK_END, Rdx, Rsp, context_of, State, register, distance, arrivals, by_kind, of_test, LinearBody, BodyName, FuncletBody, body_of, funclet_body, Waits, Configuration, instruction_in, Layout, sizes, IsNear, finally_arguments, MachineView, machine, pushed, HasBelow, context_below, InCode, by_parent, parent_body, IsFunclet, HasActivation, return_of, ReturnsTo, KeepsAbove, On, IsWellFormed, AllKeep, Comes, AllReturnsStayInRegions, IsFinallyKind, parent_of, IsFuncletOf, HaveRoom, slots_end, Setting, InBody, IsMachineMemory, IsResumed, RepresentsAt, is_finally, frame_of, get}
 use Rattle.virtual_unwind.specs.Undone.{word}
@@ -18,7 +17,6 @@ use Rattle.match_turns.proofs.FinallyCallReturn.{offset_most, after_call}
 use Rattle.match_turns.proofs.FuncletFrame.{ArrivesBelow}
 use Rattle.match_turns.proofs.CallRegions.{apart_same}
 use Rattle.match_turns.proofs.DispatchMemory.{memory_untouched}
-use Rattle.match_turns.proofs.KeptRegisters.{kept_moved}
 use Rattle.match_turns.proofs.ReturnAddressPush as pushing
 
 same_parents : (function : ℕ) (o : Option ℕ) → by_parent function o ≡ parent_of function o
@@ -188,9 +186,7 @@ module _ (setting : Setting) (roomy : HaveRoom setting.program)
 
     stack_there : register called.cpu Rsp ≡ sp - 8
     stack_there =
-        let n = length-drop 3 s.cpu.registers in
-        let z = b.well_formed.count in
-        get_or-set_same (drop 3 s.cpu.registers) 1 (sp - 8) 0 (omega arith)
+        refl
 
     returns : word called.memory (register called.cpu Rsp) ≡ Ok back
     returns =
@@ -266,8 +262,7 @@ module _ (setting : Setting) (roomy : HaveRoom setting.program)
 
     -- the nonvolatile registers are those of the call
     others_there : others_of called.cpu.registers ≡ others_of s.cpu.registers
-    others_there = ap (λ (ks : List ℕ). drop 1 ks)
-        (kept_moved s.cpu.registers (sp - 8) stack_there)
+    others_there = refl
 
     list : On t fs program p called.memory (context_below back sp (others_of called.cpu.registers))
         on_top.is (Waits c.frame ∷ c.below) b.body.acts

@@ -1,21 +1,13 @@
 -- A funclet's first turns: its frame is made, and keeps the base of its activation.
-use Rattle.match_turns.proofs.KeptRegisters.{kept_moved}
 use Rattle.std.proofs.Common.{◌≡◌, ℕ, ◌+◌, ◌-◌, ◌*◌, ◌^◌, ◌<◌, ◌≤◌, Some, None, List, [], ◌∷◌, ◌++◌, length, sym, ap, subst, ◌∙◌, arith}
-use Rattle.std.specs.Prelude.{slice_index, drop}
-use Rattle.match_turns.specs.Words.{kept_of, STACK_START, STACK_END, Memory, number_at, Rcx, Rdx, Rsp, Instr, Flags, State, register, distance, arrivals, FuncletBody, body_of, funclet_body, Item, Layout, sizes, enter_code, code_from, MachineView, machine, sp_of, HasCode, Enters, Activation, below_end, record_room, links_of, parent_base, keep_argument, funclet_arguments, entry_code, seen_by_templates, LARGEST_FRAME, Setting, HasProgram, IsMachineMemory}
+use Rattle.match_turns.specs.Words.{kept_of, STACK_START, STACK_END, Memory, number_at, Rcx, Rdx, Rsp, Instr, Flags, State, register, distance, arrivals, FuncletBody, body_of, funclet_body, Item, Layout, sizes, enter_code, code_from, registers_of, MachineView, machine, sp_of, moved, HasCode, Enters, Activation, below_end, record_room, links_of, parent_base, keep_argument, funclet_arguments, entry_code, seen_by_templates, LARGEST_FRAME, Setting, HasProgram, IsMachineMemory}
 use Rattle.match_bodies.specs.CodeSites.{arguments_code}
 use Rattle.match_bodies.proofs.BodyFrames.{framed_some}
 use Rattle.match_bodies.proofs.FrameCode.{made_small}
-use Rattle.match_turns.proofs.Lemmas.{others_of, sizes_append, code_split, Within, within_keeps_code, in_stack, activations_are_at, is_machine, index_of, sp_seen}
+use Rattle.match_turns.proofs.Lemmas.{others_of, sizes_append, code_split, Within, within_keeps_code, in_stack, activations_are_at, is_machine, kept_alike}
 use Rattle.match_bodies.specs.CodeSites as sites
 use Rattle.match_turns.proofs.FuncletPrologue.{LeadsBy, first_code, Made, HasRoom, made}
 use Rattle.match_turns.proofs.FuncletFrame.{ArrivesBelow, IsPlanned}
-
-dropped_count : (rs : List ℕ) → length rs ≡ 16 → length (drop 3 rs) ≡ 13
-dropped_count [] e = absurd (omega arith)
-dropped_count (a ∷ []) e = absurd (omega arith)
-dropped_count (a ∷ b ∷ []) e = absurd (omega arith)
-dropped_count (a ∷ b ∷ c ∷ rs) e = omega arith
 
 module _ (setting : Setting) where
   open setting use {functions as t, funclets as fs, program, plan as p, sites as q, image}
@@ -89,8 +81,7 @@ module _ (setting : Setting) where
     pub flags : Flags
     pub comes : Enters turns s (machine after rip flags)
     pub at : sp_of after ≡ sp
-    pub stack : slice_index after.rest 1 ≡ sp
-    pub registers : kept_of (0 ∷ 0 ∷ 0 ∷ after.rest) ≡ sp ∷ others_of s.cpu.registers
+    pub registers : kept_of (registers_of after) ≡ sp ∷ others_of s.cpu.registers
     pub rcx : after.rcx ≡ register s.cpu Rcx
     pub number : number_at after.memory.byte 8 (sp + l.plan.layout.slot) ≡ base
     pub within : Within sp (sp + (p.layout (FuncletBody k)).frame) s.memory after.memory
@@ -137,10 +128,8 @@ module _ (setting : Setting) where
         let x = l.plan.layout.small in
         let z = l.plan.layout.kept in
         let w = l.plan.layout.temporaries in
-        let i = l.plan.layout.within in
         record {
-          count = dropped_count s.cpu.registers a.well_formed.count;
-          at = sp_seen s ∙ sp_is;
+          at = sp_is;
           high = omega arith;
           small = x;
           inside = omega arith;
@@ -178,10 +167,7 @@ module _ (setting : Setting) where
       comes = subst (λ x. Enters run.turns x (machine run.after (s.cpu.rip + sizes (front k l))
           run.flags)) (sym (is_machine s a.well_formed.count)) run.comes;
       at = run.lowered;
-      stack = sym (index_of run.after.rest 1) ∙ run.lowered;
-      registers = ap (λ (xs : List ℕ). kept_of (0 ∷ 0 ∷ 0 ∷ xs)) run.rest
-          ∙ kept_moved s.cpu.registers sp (ap (λ (xs : List ℕ). slice_index xs 1) (sym run.rest)
-          ∙ sym (index_of run.after.rest 1) ∙ run.lowered);
+      registers = kept_alike run.after (moved v sp) run.rest run.locals;
       rcx = run.rcx;
       number = run.number;
       within = run.within;

@@ -4,7 +4,7 @@ use Rattle.std.proofs.Common.{◌≡◌, ℕ, ◌+◌, ◌-◌, ◌%◌, ◌^◌
 use Rattle.match_turns.specs.Words.{Memory, may_read, may_write, first_refused, number_at, access, readable, Rax, Rdx, Instr, Flags, Answer, load, W64, low, sizes, enter_code, keep_register, keep_parents_base, MachineView, machine, Executes, sp_of, with_sp, moved, HasCode, Enters, keep_base, fetched}
 use Rattle.virtual_unwind.specs.Undone.{word}
 use Rattle.seh_num.specs.Answers.{◌>>=◌}
-use Rattle.match_turns.proofs.Lemmas.{sizes_append, all_may, load_at, enters_then, executes_one, executes_then, put, code_split, runs_view, near, sp_moved, enter_run, kept_at, keeps_register, HasCell, keeps_of_cell, funclet_enters, Within, within_cell}
+use Rattle.match_turns.proofs.Lemmas.{sizes_append, all_may, load_at, enters_then, executes_one, executes_then, put, code_split, runs_view, near, enter_run, kept_at, keeps_register, HasCell, keeps_of_cell, funclet_enters, Within, within_cell}
 use Rattle.x64_templates.proofs.Calls.{word_is}
 
 -- a word that is read may be read
@@ -69,13 +69,13 @@ pub record Made (o : Option ℕ) (v : MachineView) (sp frame b base rip to : ℕ
     pub comes : Enters turns (machine v rip f) (machine after to flags)
     pub lowered : sp_of after ≡ sp
     pub rest : after.rest ≡ with_sp v.rest sp
+    pub locals : after.locals ≡ v.locals
     pub rcx : after.rcx ≡ v.rcx
     pub number : number_at after.memory.byte 8 (sp + b) ≡ base
     pub within : Within sp (sp + frame) v.memory after.memory
 
 -- there is room for the frame, in which the base has its place
 pub record HasRoom (v : MachineView) (sp frame b : ℕ) : Type 0 where
-  pub count : length v.rest ≡ 13
   pub at : sp_of v ≡ sp + frame
   pub high : sp + frame < 2 ^ 62
   pub small : frame ≤ 4096
@@ -95,7 +95,7 @@ made None v sp frame b base rip f r lt leads code =
       high = omega arith;
       writable = λ a x z. r.writable a (omega arith) (omega arith);
     } in
-    let e = funclet_enters v sp frame b base rip f r.count r.at (omega arith) (omega arith)
+    let e = funclet_enters v sp frame b base rip f r.at (omega arith) (omega arith)
     (omega arith) leads lt cell code in
     let w = within_cell u sp (sp + frame) (sp + b) base (omega arith) (omega arith) (omega arith) in
     record {
@@ -105,8 +105,9 @@ made None v sp frame b base rip f r lt leads code =
       after = kept_at u (sp + b) base;
       flags = e.flags;
       comes = e.comes;
-      lowered = sp_moved v sp r.count;
+      lowered = refl;
       rest = refl;
+      locals = refl;
       rcx = refl;
       number = (keeps_of_cell u sp b base (record { high = cell.high; writable = cell.writable })
           lt).0;
@@ -138,7 +139,7 @@ made (Some parent) v sp frame b base rip f r lt leads code =
       refl,
       (near b (omega arith), refl, refl, tt),
     ) parts.1
-    (parents_base w sp b base v.rdx parent (sp_moved v sp r.count) refl
+    (parents_base w sp b base v.rdx parent refl refl
     (record { near = leads.near; room = leads.room; kept = leads.kept }) lt
     (record { high = cell.high; writable = cell.writable })) in
     let place : there + sizes rest ≡ rip + sizes (first_code frame (Some parent) b) = omega
@@ -154,8 +155,9 @@ made (Some parent) v sp frame b base rip f r lt leads code =
       comes = subst (λ a. Enters 3 (machine v rip f) (machine u a z.left)) place
           (enters_then 1 2 (machine v rip f) (machine w there e.flags)
           (machine u (there + sizes rest) z.left) first z.comes);
-      lowered = sp_moved v sp r.count;
+      lowered = refl;
       rest = refl;
+      locals = refl;
       rcx = refl;
       number = (keeps_of_cell (put true w base) sp b base
           (record { high = cell.high; writable = cell.writable }) lt).0;

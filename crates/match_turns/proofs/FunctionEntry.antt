@@ -89,7 +89,7 @@ module _ {setting : Setting} (at_call : AtCall setting) where
       let same = home_parameters layout 0 count small in
       let made = no_frame (entering.called at_call) target
       (entering.flags at_call) (caller - 8) (entering.arguments at_call) (calling.called_sp at_call)
-      (calling.called_count at_call) (calling.in_registers at_call) in
+      (calling.in_registers at_call) in
       entering.entered at_call (caller - 8) target 0 made (with_home layout) (record {
         none = l.none;
         low = omega arith;
@@ -200,7 +200,7 @@ module _ {setting : Setting} (at_call : AtCall setting) where
         (leb-true frame 4096 e) in
         framed_entered (enter_code frame) 1 is (ap (λ x. if x then 1 else 8) e)
         (small_frame (entering.called at_call) target (entering.flags at_call) (caller - 8)
-        (entering.arguments at_call) (calling.called_sp at_call) (calling.called_count at_call)
+        (entering.arguments at_call) (calling.called_sp at_call)
         (calling.in_registers at_call) frame (omega arith) (omega arith) (omega arith)
         (called_code target (enter_code frame)
         (subst (HasCode s.memory target) is (entry false leaf).making)))
@@ -223,7 +223,7 @@ module _ {setting : Setting} (at_call : AtCall setting) where
         framed_entered (enter_large frame target q.check_stack) 8 is
         (ap (λ x. if x then 1 else 8) e) (large_frame (entering.called at_call) target
         (entering.flags at_call) (caller - 8) (entering.arguments at_call)
-        (calling.called_sp at_call) (calling.called_count at_call) (calling.in_registers at_call)
+        (calling.called_sp at_call) (calling.in_registers at_call)
         frame q.check_stack (omega arith) below_top (record {
           enough = omega arith;
           more = omega arith;

@@ -1,10 +1,10 @@
 -- From a function's first byte its frame is made: by a subtraction, through `__chkstk`, or not at
 -- all in a leaf function.
-use Rattle.std.proofs.Common.{◌≡◌, ◌≢◌, ℕ, zero, suc, ◌+◌, ◌-◌, ◌^◌, ◌<◌, ◌≤◌, List, length, get_or, set, refl, subst, ◌∙◌, arith, inl, inr, get_or-set_same, get_or-set_other, length-set}
+use Rattle.std.proofs.Common.{◌≡◌, ℕ, zero, suc, ◌+◌, ◌-◌, ◌^◌, ◌<◌, ◌≤◌, refl, subst, arith, inl, inr}
 use Rattle.std.specs.Prelude.{◌⊎◌}
-use Rattle.match_turns.specs.Words.{Flags, State, sizes, IsNear, enter_code, check_stack, enter_large, MachineView, machine, sp_of, with_sp, pushed, moved, HasBelow, InRegisters, HasCode, Enters}
+use Rattle.match_turns.specs.Words.{Flags, State, sizes, IsNear, enter_code, check_stack, enter_large, MachineView, machine, sp_of, pushed, moved, HasBelow, InRegisters, HasCode, Enters}
 use Rattle.x64_templates.specs.Runs.{Reaches}
-use Rattle.match_turns.proofs.Lemmas.{call_size, sp_moved, enter_run, beside}
+use Rattle.match_turns.proofs.Lemmas.{call_size, enter_run, beside}
 use Rattle.x64_templates.proofs.LargeEntries.{enter_large_run}
 use Rattle.x64_templates.proofs.Probing.{Touchable}
 
@@ -24,22 +24,13 @@ pub record Made (v : MachineView) (target to : ℕ) (f : Flags) (top sp : ℕ) (
   pub flags : Flags
   pub comes : Enters turns (machine v target f) (machine after to flags)
   pub stack : sp_of after ≡ sp
-  pub count : length after.rest ≡ 13
   pub registers : InRegisters after arguments
   pub protection : after.memory.protection ≡ v.memory.protection
   pub same : (a : ℕ) → (a + 8 < top) ⊎ (top ≤ a) → after.memory.byte a ≡ v.memory.byte a
   pub made : (after.memory ≡ v.memory) ⊎ (after.memory ≡ (pushed v top (target + 10)).memory)
 
-other : (i : ℕ) → i ≢ 1 → (rest : List ℕ) (x : ℕ) → get_or (set rest 1 x) i 0 ≡ get_or rest i 0
-other i ne rest x = get_or-set_other rest 1 i x 0 ne
-
-other_two : (i : ℕ) → i ≢ 1 → i ≢ 8 → (rest : List ℕ) (x sp : ℕ)
-    → get_or (with_sp (set rest 8 x) sp) i 0 ≡ get_or rest i 0
-other_two i a b rest x sp = get_or-set_other (set rest 8 x) 1 i sp 0 a
-    ∙ get_or-set_other rest 8 i x 0 b
-
 module _ (v : MachineView) (target : ℕ) (f : Flags) (top : ℕ) (arguments : ℕ → ℕ)
-    (at : sp_of v ≡ top) (n : length v.rest ≡ 13) (regs : InRegisters v arguments) where
+    (at : sp_of v ≡ top) (regs : InRegisters v arguments) where
   pub no_frame : Made v target target f top top arguments 0
   no_frame = record {
     turns = 0;
@@ -49,7 +40,6 @@ module _ (v : MachineView) (target : ℕ) (f : Flags) (top : ℕ) (arguments : �
     flags = f;
     comes = refl;
     stack = at;
-    count = n;
     registers = regs;
     protection = refl;
     same = λ a o. refl;
@@ -68,13 +58,12 @@ module _ (v : MachineView) (target : ℕ) (f : Flags) (top : ℕ) (arguments : �
         after = moved v (top - frame);
         flags = e.flags;
         comes = e.comes;
-        stack = sp_moved v (top - frame) n;
-        count = length-set v.rest 1 (top - frame) ∙ n;
+        stack = refl;
         registers = record {
           first = regs.first;
           second = regs.second;
-          third = other 5 (λ h. absurd (omega arith)) v.rest (top - frame) ∙ regs.third;
-          fourth = other 6 (λ h. absurd (omega arith)) v.rest (top - frame) ∙ regs.fourth;
+          third = regs.third;
+          fourth = regs.fourth;
         };
         protection = refl;
         same = λ a o. refl;
@@ -88,16 +77,14 @@ module _ (v : MachineView) (target : ℕ) (f : Flags) (top : ℕ) (arguments : �
       → Made v target (target + sizes (enter_large frame target check)) f top (top - frame)
       arguments 8
   large_frame frame check small below touch near high leaf code =
-      let e = enter_large_run v top frame target check f n at below touch small near high leaf
+      let e = enter_large_run v top frame target check f at below touch small near high leaf
       code in
       let same : sizes (enter_large frame target 0)
       ≡ sizes (enter_large frame target check) = let a = call_size (target + 10) 0 in
       let b = call_size (target + 10) check in omega arith in
-      let w : MachineView = record {
+      let w : MachineView = record v {
         rax = frame;
-        rcx = v.rcx;
-        rdx = v.rdx;
-        rest = with_sp (set v.rest 8 e.eleventh) (top - frame);
+        rest = record v.rest { rsp = top - frame; r11 = e.eleventh };
         memory = (pushed v top (target + 10)).memory;
       } in
       record {
@@ -110,17 +97,12 @@ module _ (v : MachineView) (target : ℕ) (f : Flags) (top : ℕ) (arguments : �
             (machine w (target + sizes (enter_large frame target check)) e.flags)
             (subst (λ k. Reaches 8 (machine v target f) (machine w (target + k) e.flags)) same
             e.comes);
-        stack = get_or-set_same (set v.rest 8 e.eleventh) 1 (top - frame) 0
-            (let l = length-set v.rest 8 e.eleventh in omega arith);
-        count = length-set (set v.rest 8 e.eleventh) 1 (top - frame)
-            ∙ length-set v.rest 8 e.eleventh ∙ n;
+        stack = refl;
         registers = record {
           first = regs.first;
           second = regs.second;
-          third = other_two 5 (λ h. absurd (omega arith)) (λ h. absurd (omega arith)) v.rest
-              e.eleventh (top - frame) ∙ regs.third;
-          fourth = other_two 6 (λ h. absurd (omega arith)) (λ h. absurd (omega arith)) v.rest
-              e.eleventh (top - frame) ∙ regs.fourth;
+          third = regs.third;
+          fourth = regs.fourth;
         };
         protection = refl;
         same = λ a o. beside v.memory top (target + 10) a below.enough below.high o;

@@ -1,12 +1,12 @@
 -- A function begins: its frame holds its arguments.
-use Rattle.std.proofs.Common.{◌≡◌, ◌≢◌, ℕ, zero, suc, ◌+◌, ◌-◌, ◌^◌, ◌<◌, ◌≤◌, cond, List, [], ◌∷◌, length, get_or, set, refl, sym, subst, ◌∙◌, arith, inl, inr, get_or-set_other, length-append}
+use Rattle.std.proofs.Common.{◌≡◌, ℕ, zero, suc, ◌+◌, ◌-◌, ◌^◌, ◌<◌, ◌≤◌, cond, [], ◌∷◌, length, refl, sym, subst, arith, inl, inr, length-append}
 use Rattle.std.proofs.lemmas.Bool.{cases_lt, lt-ltb, le-ltb}
-use Rattle.x64_templates.specs.Words.{Memory, Rax, Rsp, Flags, State, BodyState, MachineView, machine, sizes, fetched, local_at, parameter_register, keep_register, stack_parameter, parameter_code, parameters_code, enter_code, sp_of, with_sp, moved, with_arguments, InRegisters, OnStack, IsFunctionFrame, body_in_memory, FreshFrame, ChangesOwn, HasCode, FramePlace, Roomy, FrameHolds, ReachesBody, Enters, function_entry, EntersBody}
+use Rattle.x64_templates.specs.Words.{Memory, Rax, Rsp, Flags, State, BodyState, LocalRegisters, OtherRegisters, MachineView, machine, sizes, fetched, local_at, parameter_register, keep_register, stack_parameter, parameter_code, parameters_code, enter_code, sp_of, with_sp, moved, with_arguments, InRegisters, OnStack, IsFunctionFrame, body_in_memory, FreshFrame, ChangesOwn, HasCode, FramePlace, Roomy, FrameHolds, ReachesBody, Enters, function_entry, EntersBody}
 use Rattle.x64_templates.proofs.PlacedCode.{enters_then}
 use Rattle.x64_templates.proofs.Lemmas.{sizes_append}
 use Rattle.x64_templates.proofs.Encoded.{Fine, fine_both, near}
 use Rattle.x64_templates.proofs.Computes.{code_split, runs_view}
-use Rattle.x64_templates.proofs.Returns.{sp_moved, enter_run}
+use Rattle.x64_templates.proofs.Returns.{enter_run}
 use Rattle.x64_templates.proofs.Entries.{holds_body_in_memory}
 use Rattle.x64_templates.proofs.Parameters.{parameters_do}
 
@@ -44,9 +44,6 @@ pub fresh_holds : (p : FramePlace) (m source : Memory) → FreshFrame p m source
 fresh_holds p m source b = holds_body_in_memory p.layout p.counts p.reserved p.sp p.base m source
     b.bytes b.base b.writable b.own b.own_base b.agrees
 
-not_sp : (i : ℕ) → i ≢ 1 → (rest : List ℕ) (x : ℕ) → get_or (set rest 1 x) i 0 ≡ get_or rest i 0
-not_sp i ne rest x = get_or-set_other rest 1 i x 0 ne
-
 -- ---- parameters, once RSP is the frame's
 
 pub parameters_run : (p : FramePlace) (count : ℕ) (arguments : ℕ → ℕ) (v : MachineView) (rip : ℕ)
@@ -54,19 +51,13 @@ pub parameters_run : (p : FramePlace) (count : ℕ) (arguments : ℕ → ℕ) (v
     → sp_of v ≡ p.sp → FrameHolds p v.memory b → InRegisters v arguments
     → OnStack p v.memory count arguments → HasCode v.memory rip (parameters_code p.layout 0 count)
     → ReachesBody p (length (parameters_code p.layout 0 count)) (machine v rip f)
-    (rip + sizes (parameters_code p.layout 0 count)) v.rest
+    (rip + sizes (parameters_code p.layout 0 count)) v.rest v.locals
     (record { slots = with_arguments b.slots arguments 0 count; memory = b.memory })
 parameters_run p count arguments v rip f b room fn le at h regs stack code =
     let params = parameters_code p.layout 0 count in
     let k = parameters_do p 0 count count v b arguments room fn (omega arith) (omega arith) at h
     regs stack in
-    let last : MachineView = record {
-      rax = k.rax;
-      rcx = v.rcx;
-      rdx = v.rdx;
-      rest = v.rest;
-      memory = k.memory;
-    } in
+    let last : MachineView = record v { rax = k.rax; memory = k.memory } in
     let r = runs_view params v last rip f (parameters_fine p 0 count count arguments v.memory room
     (omega arith) (omega arith) stack) code k.does in
     record {
@@ -74,37 +65,39 @@ parameters_run p count arguments v rip f b room fn le at h regs stack code =
       flags = r.left;
       comes = r.comes;
       rest = refl;
+      locals = refl;
       holds = k.holds;
       changes = k.changes;
     }
 
 -- a function begins
 -- a body is entered, and then reached
-pub entered_then : (p : FramePlace) (m n : ℕ) (s t : State) (to : ℕ) (others : List ℕ)
-    (b : BodyState) → Enters m s t → ◌≡◌ {A = Memory} t.memory s.memory
-    → ReachesBody p n t to others b → EntersBody p (m + n) s to others b
-entered_then p m n s t to others b e same r = record {
+pub entered_then : (p : FramePlace) (m n : ℕ) (s t : State) (to : ℕ) (others : OtherRegisters)
+    (locals : LocalRegisters) (b : BodyState) → Enters m s t → ◌≡◌ {A = Memory} t.memory s.memory
+    → ReachesBody p n t to others locals b → EntersBody p (m + n) s to others locals b
+entered_then p m n s t to others locals b e same r = record {
   after = r.after;
   flags = r.flags;
   comes = enters_then m n s t (machine r.after to r.flags) e r.comes;
   rest = r.rest;
+  locals = r.locals;
   holds = r.holds;
   changes = subst (λ (m : Memory). ChangesOwn p m r.after.memory) same r.changes;
 }
 
 pub function_enters : (p : FramePlace) (count : ℕ) (arguments : ℕ → ℕ) (v : MachineView)
     (source : Memory) (rip : ℕ) (f : Flags) → Roomy p → IsFunctionFrame p → count ≤ p.counts.locals
-    → length v.rest ≡ 13 → sp_of v ≡ p.sp + p.layout.frame → p.layout.frame < 2 ^ 31
+    → sp_of v ≡ p.sp + p.layout.frame → p.layout.frame < 2 ^ 31
     → FreshFrame p v.memory source → InRegisters v arguments → OnStack p v.memory count arguments
     → HasCode v.memory rip (function_entry p.layout count)
     → EntersBody p (length (function_entry p.layout count)) (machine v rip f)
-    (rip + sizes (function_entry p.layout count)) (with_sp v.rest p.sp)
+    (rip + sizes (function_entry p.layout count)) (with_sp v.rest p.sp) v.locals
     (record {
       slots = with_arguments (body_in_memory p.layout p.sp p.base v.memory source).slots
           arguments 0 count;
       memory = source;
     })
-function_enters p count arguments v source rip f room fn le n at small bare regs stack code =
+function_enters p count arguments v source rip f room fn le at small bare regs stack code =
     let y = p.layout in
     let enter = enter_code y.frame in
     let params = parameters_code y 0 count in
@@ -125,17 +118,17 @@ function_enters p count arguments v source rip f room fn le n at small bare regs
     let regs' : InRegisters w arguments = record {
       first = regs.first;
       second = regs.second;
-      third = not_sp 5 (λ h. absurd (omega arith)) v.rest p.sp ∙ regs.third;
-      fourth = not_sp 6 (λ h. absurd (omega arith)) v.rest p.sp ∙ regs.fourth;
+      third = regs.third;
+      fourth = regs.fourth;
     } in
-    let k = parameters_run p count arguments w there e.flags b room fn le (sp_moved v p.sp n)
+    let k = parameters_run p count arguments w there e.flags b room fn le refl
     (fresh_holds p v.memory source bare) regs' stack parts.1 in
     let place : there + sizes params ≡ rip + sizes (function_entry y count) = omega
     (arith, sizes_append enter params) in
     let turns : 1 + length params ≡ length (function_entry y count) = sym
     (length-append enter params) in
     subst (λ t. EntersBody p t (machine v rip f) (rip + sizes (function_entry y count))
-    (with_sp v.rest p.sp) c) turns
-    (subst (λ a. EntersBody p (1 + length params) (machine v rip f) a (with_sp v.rest p.sp) c) place
+    (with_sp v.rest p.sp) v.locals c) turns
+    (subst (λ a. EntersBody p (1 + length params) (machine v rip f) a (with_sp v.rest p.sp) v.locals c) place
     (entered_then p 1 (length params) (machine v rip f) (machine w there e.flags)
-    (there + sizes params) (with_sp v.rest p.sp) c first refl k))
+    (there + sizes params) (with_sp v.rest p.sp) v.locals c first refl k))

@@ -7,7 +7,7 @@ use Rattle.x64_templates.proofs.Lemmas.{sizes_append}
 use Rattle.x64_templates.proofs.Cells.{put}
 use Rattle.x64_templates.proofs.Encoded.{near}
 use Rattle.x64_templates.proofs.Computes.{Reached, code_split, runs_view, leads_kept}
-use Rattle.x64_templates.proofs.Returns.{sp_moved, enter_run}
+use Rattle.x64_templates.proofs.Returns.{enter_run}
 use Rattle.x64_templates.proofs.Parameters.{kept_at, keeps_register}
 use Rattle.x64_templates.proofs.Funclets.{HasCell, base_kept}
 
@@ -19,12 +19,12 @@ pub record FuncletEntered (turns : ℕ) (v w : MachineView) (rip at : ℕ) (f : 
 abbrev pub funclet_entry : ℕ → ℕ → List Instr
 funclet_entry frame b = enter_code frame ++ keep_base b
 
-pub funclet_enters : (v : MachineView) (sp frame b base rip : ℕ) (f : Flags) → length v.rest ≡ 13
+pub funclet_enters : (v : MachineView) (sp frame b base rip : ℕ) (f : Flags)
     → sp_of v ≡ sp + frame → sp + frame < 2 ^ 63 → frame < 2 ^ 31 → b < 2 ^ 31 → v.rdx ≡ base
     → base < 2 ^ 64 → HasCell v.memory (sp + b) → HasCode v.memory rip (funclet_entry frame b)
     → FuncletEntered 2 v (kept_at (moved v sp) (sp + b) base) rip
     (rip + sizes (funclet_entry frame b)) f
-funclet_enters v sp frame b base rip f n at high lf lb is small cell code =
+funclet_enters v sp frame b base rip f at high lf lb is small cell code =
     let enter = enter_code frame in
     let parts = code_split v.memory rip enter (keep_base b) code in
     let e = enter_run v (sp + frame) frame rip f at (omega arith) (omega arith) lf parts.0 in
@@ -35,7 +35,7 @@ funclet_enters v sp frame b base rip f n at high lf lb is small cell code =
     e.comes in
     let u = kept_at w (sp + b) base in
     let r = runs_view (keep_base b) w u there e.flags (near b lb, refl, refl, tt) parts.1
-    (base_kept w sp b base (sp_moved v sp n) is small cell) in
+    (base_kept w sp b base refl is small cell) in
     let place : there + sizes (keep_base b) ≡ rip
     + sizes (funclet_entry frame b) = omega (arith, sizes_append enter (keep_base b)) in
     record {
@@ -64,7 +64,7 @@ pub flag_run : (p : FramePlace) (flag : Slot) (v : MachineView) (rip : ℕ) (f :
     (b : BodyState) → Roomy p → IsThere p flag → sp_of v ≡ p.sp → FrameHolds p v.memory b
     → HasCode v.memory rip ((move W32 Rax Rcx ∷ []) ++ keep p.layout flag)
     → ReachesBody p (length ((move W32 Rax Rcx ∷ []) ++ keep p.layout flag)) (machine v rip f)
-    (rip + sizes ((move W32 Rax Rcx ∷ []) ++ keep p.layout flag)) v.rest
+    (rip + sizes ((move W32 Rax Rcx ∷ []) ++ keep p.layout flag)) v.rest v.locals
     (record { slots = with_slot b.slots flag (low W32 v.rcx); memory = b.memory })
 flag_run p flag v rip f b room is at h code =
     let i = move W32 Rax Rcx in

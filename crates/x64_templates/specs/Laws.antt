@@ -50,7 +50,7 @@ BodiesRun =
     → IsLinked p k v.memory start body → sp_of v ≡ p.sp → FrameHolds p v.memory b
     → run p.reserved body n number b ≡ Some (last, c)
     → RunsAllTo p n (machine v (start + offset_of p.layout body number) f)
-    (start + offset_of p.layout body last) v.rest c
+    (start + offset_of p.layout body last) v.rest v.locals c
 
 -- ---- faults
 
@@ -101,12 +101,12 @@ abbrev pub FunctionsEnter : Type 0
 FunctionsEnter =
     (p : FramePlace) (count : ℕ) (arguments : ℕ → ℕ) (v : MachineView) (source : Memory) (rip : ℕ)
     (f : Flags)
-    → Roomy p → IsFunctionFrame p → count ≤ p.counts.locals → length v.rest ≡ 13
+    → Roomy p → IsFunctionFrame p → count ≤ p.counts.locals
     → sp_of v ≡ p.sp + p.layout.frame → p.layout.frame < 2 ^ 31
     → FreshFrame p v.memory source → InRegisters v arguments → OnStack p v.memory count arguments
     → HasCode v.memory rip (function_entry p.layout count)
     → EntersBody p (length (function_entry p.layout count)) (machine v rip f)
-    (rip + sizes (function_entry p.layout count)) (with_sp v.rest p.sp)
+    (rip + sizes (function_entry p.layout count)) (with_sp v.rest p.sp) v.locals
     (record {
       slots = with_arguments (body_in_memory p.layout p.sp p.base v.memory source).slots
           arguments 0 count;
@@ -117,7 +117,7 @@ FunctionsEnter =
 abbrev pub BodiesReturn : Type 0
 BodiesReturn =
     (p : FramePlace) (from : Slot) (v : MachineView) (back rip : ℕ) (f : Flags) (b : BodyState)
-    → Roomy p → IsThere p from → length v.rest ≡ 13 → sp_of v ≡ p.sp → p.layout.frame < 2 ^ 31
+    → Roomy p → IsThere p from → sp_of v ≡ p.sp → p.layout.frame < 2 ^ 31
     → FrameHolds p v.memory b → HasBack v.memory (p.sp + p.layout.frame) back
     → HasCode v.memory rip (return_code p.layout from)
     → Returned (length (return_code p.layout from)) v (p.sp + p.layout.frame + 8) back

@@ -71,5 +71,5 @@ pub use Rattle.x64_templates.specs.Keeping.{keeps_registers, stores_nothing, Sto
 pub use Rattle.x64_templates.specs.Placed.{IsCodeAt, IsPlaced}
 pub use Rattle.x64_templates.specs.Returned.{CallBegun, Returned}
 pub use Rattle.x64_templates.specs.Runs.{Reaches, HasCode, FramePlace, Roomy, FrameHolds, Runs, IsThere, ReachesBody, Finished, Computed, ChangesOwn, Enters, EntersBody, ReachesFault, Steps}
-pub use Rattle.x64_templates.specs.Straight.{MachineView, machine, Executes, Yields, is_straight, AllStraight, begins_epilogue, takes_frame, NoneTakesFrame, is_rsp_place, is_subtraction, is_number, AreSmall}
+pub use Rattle.x64_templates.specs.Straight.{MachineView, LocalRegisters, OtherRegisters, registers_of, machine, Executes, Yields, is_straight, AllStraight, begins_epilogue, takes_frame, NoneTakesFrame, is_rsp_place, is_subtraction, is_number, AreSmall}
 unfoldable pub use Rattle.x64_templates.specs.Straight.{effects}

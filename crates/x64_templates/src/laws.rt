@@ -1,5 +1,6 @@
 //! What holds of templates wherever they are placed.
 
+ghost use Rattle.x64_templates.specs.Locals.{LocalsAreFetched, LocalsAreKept};
 ghost use Rattle.x64_templates.specs.Laws.{OperationsRun, BodiesRun, BodiesFault, FaultsAreRetried, CallsBegin, FunctionsEnter, BodiesReturn, TemplatesHaveNoEpilogue};
 
 /// The code of a body does what its linear code means. Where an instruction faults, the machine's
@@ -17,6 +18,12 @@ pub fn calls_pass_arguments()
     ensures calls { CallsBegin }
     ensures entries { FunctionsEnter }
     ensures returns { BodiesReturn }
+{}
+
+/// A local in a register is fetched and kept by one move, which changes nothing else.
+pub fn locals_move()
+    ensures fetched { LocalsAreFetched }
+    ensures kept { LocalsAreKept }
 {}
 
 /// No epilogue begins inside a template.
