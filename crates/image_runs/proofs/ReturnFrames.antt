@@ -112,7 +112,7 @@ module _ (p : LinearProgram) (c : HasWholeImage p) (m : Memory) (name : BodyName
 
   frame_there : (f : FrameLayout) (others : List ℕ) → x.routine.frame ≡ Some f
       → (first : HasItem m x rva) → k.rip ≡ image_base + rva → length others ≡ 8
-      → rsp k + f.size + 8 < 2 ^ 64 → IsAsTold m k (stack_frame p x f back others)
+      → rsp k + x.routine.layout.frame + 8 < 2 ^ 64 → IsAsTold m k (stack_frame p x f back others)
       → FrameIsAt (functions_of p) m k (stack_frame p x f back others)
   frame_there f others framed first at eight room' is_told = frame_at p m
       (place p c name b is).index x f k rva back others c.fits c.ranges (place p c name b is).at
@@ -131,23 +131,19 @@ module _ (p : LinearProgram) (c : HasWholeImage p) (m : Memory) (name : BodyName
   framed_still others framed has r w =
       let f = framed_of x.routine.frame framed in
       let at = (place p c name b is).at in
-      let size : x.routine.layout.frame ≡ f.0.size = sized p (place p c name b is).index x at
-      ∙ ap size_of f.1 in
-      let slots : x.routine.layout.slots ≡ f.0.size = slots_placed p (place p c name b is).index x
-      at ∙ ap slots_of f.1 in
       let first = returning p m x label r.from (code_there has) (here p c name b is)
       (at_return r.from r.there) in
       let same : stack_frame p x f.0 back others ≡ frame_of (plan_of p) name back others =
       λ i. record {
         entry = tables.entry_of (site_of p) x (or_none (sym f.1 i));
-        slots = sym slots i;
-        size = sym size i;
+        slots = x.routine.layout.slots;
+        size = x.routine.layout.frame;
         return_address = back;
         others = others;
       } in
       subst (FrameIsAt (functions_of p) m k) same
       (frame_there f.0 others f.1 first r.here w.eight
-      (subst (λ (n : ℕ). rsp k + n + 8 < 2 ^ 64) size w.room)
+      w.room
       (subst (IsAsTold m k) (sym same) w.is_told))
 
 pub linked_returns_wait : LinkedReturnsWait

@@ -6,9 +6,8 @@ use Rattle.image_states.specs.Words.{Memory, Rax, Instr, chosen, Entry, Function
 use Rattle.template_code.specs.Frames.{frame_plan, plan_of_layout}
 use Rattle.template_code.specs.Jumps as jumps
 use Rattle.frame_rules.specs.Plan.{FramePlan, Saved, epilogue, loads_then}
-use Rattle.frame_layout.specs.Layout.{info_of}
-use Rattle.frame_layout.specs.Layout as layouts
-use Rattle.image_states.proofs.Lemmas.{never_empty, sizes_append, template_sizes, entry_sizes, routine_small, some_same, none_some, entry_least, executable_split, code_split, IsTemplate, template_there, Inner, AllInner, inner_at, inner_role, fetch_inner, sized, away, found_in, none_in, described, prologue_some, prologue_sizes, laid_plan, laid_epilogue, leaf_laid}
+use Rattle.frame_layout.specs.Plans as layouts
+use Rattle.image_states.proofs.Lemmas.{never_empty, sizes_append, template_sizes, entry_sizes, routine_small, some_same, none_some, entry_least, executable_split, code_split, IsTemplate, template_there, Inner, AllInner, inner_at, inner_role, fetch_inner, away, found_in, none_in, described, prologue_some, prologue_sizes, laid_plan, laid_epilogue, leaf_laid}
 use Rattle.linear_code.specs.declared.instruction.Instruction.TheVariants as instructions
 use Rattle.image_link.specs.Text as texts
 use Rattle.image_tables.specs.Entries as tables
@@ -125,7 +124,7 @@ module _ (program : LinearProgram) (c : HasWholeImage program) (name : BodyName)
     planned_at =
         let s = small in
         let l = least in
-        let d = described f framing.probe near in
+        let d = described f framing.probe in
         record {
           is_plan = is_plan program index x f is_framed;
           codes = d.codes;
@@ -205,9 +204,10 @@ module _ (program : LinearProgram) (c : HasWholeImage program) (name : BodyName)
   making_is =
       let h = here program c name b is in
       let room = h.room in
-      ap sizes (frame_same x.routine.frame y.frame x.begin check
+      ap sizes (frame_same x.routine.frame y x.begin check
       (begin_of (plan_of program) (sites_of program) name) (sites_of program).check_stack
-      (sized program index x at_index) (place program c name b is).begin refl (omega arith))
+      (λ f framed probe. laid_plan program index x f probe at_index framed)
+      (place program c name b is).begin refl (omega arith))
 
   entry_is : sizes making + sizes arguments ≡ entry_size x.routine
   entry_is = omega (
@@ -269,7 +269,7 @@ module _ (program : LinearProgram) (c : HasWholeImage program) (name : BodyName)
     argument_found has (Some f) framed =
         let size : sizes making ≡ (e f framed).info.prologue_size =
         ap (λ o. sizes (texts.frame_code x.begin check o)) framed
-        ∙ prologue_sizes f _ (near f framed) in
+        ∙ prologue_sizes f _ in
         inner_at' f framed (sizes making + sizes done) item (omega arith) argument_high item_inner
         (argument_is_at has)
 
@@ -327,43 +327,44 @@ module _ (program : LinearProgram) (c : HasWholeImage program) (name : BodyName)
 
     -- ---- the result is fetched
 
-    module _ (done left : List Instr) (item : Instr) (parts : fetching ≡ done ++ (item ∷ left)) where
-      fetch_is_inner : Inner item
-      fetch_is_inner = inner_at done left item
-          (subst AllInner parts (fetch_inner y from near_return.0))
+    module _ (done left : List Instr) (item : Instr) (parts : fetching ≡ done ++ (item ∷ left))
+      where
+        fetch_is_inner : Inner item
+        fetch_is_inner = inner_at done left item
+            (subst AllInner parts (fetch_inner y from near_return.0))
 
-      fetch_high : template_at x label + sizes done < end_of x
-      fetch_high =
-          let f = fits in
-          let some = item_some item fetch_is_inner in
-          omega (arith, ap sizes parts, sizes_append done (item ∷ left))
+        fetch_high : template_at x label + sizes done < end_of x
+        fetch_high =
+            let f = fits in
+            let some = item_some item fetch_is_inner in
+            omega (arith, ap sizes parts, sizes_append done (item ∷ left))
 
-      fetch_is_at : HasProgram t (funclets_of program) program (plan_of program)
-          (sites_of program) m → IsExecutableAt m (returning + sizes done) (chosen item)
-      fetch_is_at has =
-          let last = ending ++ th.after in
-          let split : fetching ++ last ≡ done ++ ((item ∷ left) ++ last) =
-          ap (λ (q : List Instr). q ++ last) parts ∙ append_assoc done (item ∷ left) last in
-          (executable_split m (returning + sizes done) (chosen item) (spelled (left ++ last))
-          (code_split m returning done ((item ∷ left) ++ last)
-          (subst (λ (q : List Instr). IsExecutableAt m returning (spelled q)) split
-          (return_there has))).1).0
+        fetch_is_at : HasProgram t (funclets_of program) program (plan_of program)
+            (sites_of program) m → IsExecutableAt m (returning + sizes done) (chosen item)
+        fetch_is_at has =
+            let last = ending ++ th.after in
+            let split : fetching ++ last ≡ done ++ ((item ∷ left) ++ last) =
+            ap (λ (q : List Instr). q ++ last) parts ∙ append_assoc done (item ∷ left) last in
+            (executable_split m (returning + sizes done) (chosen item) (spelled (left ++ last))
+            (code_split m returning done ((item ∷ left) ++ last)
+            (subst (λ (q : List Instr). IsExecutableAt m returning (spelled q)) split
+            (return_there has))).1).0
 
-      pub return_found : HasProgram t (funclets_of program) program (plan_of program)
-          (sites_of program) m → (o : Option FrameLayout) → x.routine.frame ≡ o
-          → FindsOwed t m (returning + sizes done) (owed_if o)
-      return_found has None none =
-          let high = fetch_high in
-          let rva = template_at x label + sizes done in
-          let z : image_base + rva ≡ returning + sizes done = omega arith in
-          subst (FindsReturn t m) z (leaf_at none rva (omega arith) high)
-      return_found has (Some f) framed =
-          let high = fetch_high in
-          let l = least f framed in
-          let z : begin + (far + sizes done) ≡ returning + sizes done = omega arith in
-          subst (λ a. FindsOwed t m a (owed_if (Some f))) z
-          (inner_at' f framed (far + sizes done) item (omega arith) (omega arith) fetch_is_inner
-          (subst (λ a. IsExecutableAt m a (chosen item)) (sym z) (fetch_is_at has)))
+        pub return_found : HasProgram t (funclets_of program) program (plan_of program)
+            (sites_of program) m → (o : Option FrameLayout) → x.routine.frame ≡ o
+            → FindsOwed t m (returning + sizes done) (owed_if o)
+        return_found has None none =
+            let high = fetch_high in
+            let rva = template_at x label + sizes done in
+            let z : image_base + rva ≡ returning + sizes done = omega arith in
+            subst (FindsReturn t m) z (leaf_at none rva (omega arith) high)
+        return_found has (Some f) framed =
+            let high = fetch_high in
+            let l = least f framed in
+            let z : begin + (far + sizes done) ≡ returning + sizes done = omega arith in
+            subst (λ a. FindsOwed t m a (owed_if (Some f))) z
+            (inner_at' f framed (far + sizes done) item (omega arith) (omega arith) fetch_is_inner
+            (subst (λ a. IsExecutableAt m a (chosen item)) (sym z) (fetch_is_at has)))
 
     -- ---- the end of a leaf function
 
@@ -409,8 +410,8 @@ module _ (program : LinearProgram) (c : HasWholeImage program) (name : BodyName)
           (owed_if (Some f))
       load_at loaded left next saves =
           subst (λ a. FindsOwed t m (a + sizes (loads_then loaded [])) (owed_if (Some f))) last_is
-          (load_found t m begin end (framing f framed) (e f framed).info (planned_at f framed) last_from
-          past within is_there loaded left next
+          (load_found t m begin end (framing f framed) (e f framed).info (planned_at f framed)
+          last_from past within is_there loaded left next
           (ap (λ (p : FramePlan). p.saves) (sym (plan_same f framed)) ∙ saves))
 
       -- past the loads

@@ -7,7 +7,7 @@ use Rattle.std.proofs.lemmas.Bool.{false≢true}
 use Rattle.image_states.specs.Words.{Memory, Instr, rsp, FrameIsAt, IsExecutableAt, Instruction, LinearBody, LinearProgram, BodyName, body_of, FrameLayout, spelled, sizes, IsCodeAt, routine_code, IsInstructionNear, site_of, image_base, template_at, links, HasProgram, links_of, begin_of, code_of, functions_of, funclets_of, is_leaf, or_none, routine_of, address_of, plan_of, sites_of, HasWholeImage, IsReturn, IsInBody, frame_of, IsResumed, FramesAreWaiting, IsPlanned, LeavesAreWaiting, spell, IsFrameNear}
 use Rattle.match_stack.specs.Stack.{IsAsTold}
 use Rattle.eh_tables.specs.Infos.{Info}
-use Rattle.frame_layout.specs.Layout as layouts
+use Rattle.frame_layout.specs.Plans as layouts
 use Rattle.frame_rules.specs.Plan.{FramePlan}
 use Rattle.frame_rules.specs.Plan as rules
 use Rattle.match_bodies.specs.CodeSites.{body_plan}
@@ -103,10 +103,6 @@ module _ (program : LinearProgram) (c : HasWholeImage program) where
       let p = place program c name b is in
       let x = routine_of program name in
       let f = framed_of x.routine.frame framed in
-      let size : x.routine.layout.frame ≡ f.0.size = sized program p.index x p.at
-      ∙ ap size_of f.1 in
-      let slots : x.routine.layout.slots ≡ f.0.size = slots_placed program p.index x p.at
-      ∙ ap slots_of f.1 in
       let rva = template_at x label + sizes r.done in
       let here' : k.rip ≡ image_base + rva = r.here
       ∙ (let q : image_base + template_at x label + sizes r.done
@@ -115,15 +111,15 @@ module _ (program : LinearProgram) (c : HasWholeImage program) where
       ≡ frame_of (plan_of program) name back others =
       λ i. record {
         entry = tables.entry_of (site_of program) x (or_none (sym f.1 i));
-        slots = sym slots i;
-        size = sym size i;
+        slots = x.routine.layout.slots;
+        size = x.routine.layout.frame;
         return_address = back;
         others = others;
       } in
       subst (FrameIsAt (functions_of program) m k) same
       (frame_is_at program m p.index x f.0 k rva back others c.fits c.ranges p.at f.1
       (code_there name b is m has) (in_body name b is label k.rip r) here' w.kept w.eight
-      (subst (λ (n : ℕ). rsp k + n + 8 < 2 ^ 64) size w.room)
+      w.room
       (subst (IsAsTold m k) (sym same) w.is_told))
 
   pub leaves_are_at' : LeavesAreWaiting (functions_of program) (funclets_of program) program
@@ -157,7 +153,7 @@ module _ (program : LinearProgram) (c : HasWholeImage program) where
       let probe = (body_plan (plan_of program) (sites_of program) name).probe in
       let own : body_plan (plan_of program) (sites_of program) name ≡ layouts.plan_of f.0 probe =
       laid_plan program p.index x f.0 probe p.at f.1 in
-      let d = described f.0 probe near in
+      let d = described f.0 probe in
       let info : Option FrameLayout → Info =
       λ o. (tables.entry_of (site_of program) x (or_none o)).info in
       record {

@@ -159,7 +159,7 @@ pub frame_at : (p : LinearProgram) (m : Memory) (index : ℕ) (x : Placed) (f : 
     (c : Context) (rva back : ℕ) (others : List ℕ) → FitsProgram p → HasRegions p
     → slice_get (placed p) index ≡ Some x → x.routine.frame ≡ Some f
     → HasItem m x rva → c.rip ≡ image_base + rva → length c.kept ≡ 9 → length others ≡ 8
-    → rsp c + f.size + 8 < 2 ^ 64 → IsAsTold m c (stack_frame p x f back others)
+    → rsp c + x.routine.layout.frame + 8 < 2 ^ 64 → IsAsTold m c (stack_frame p x f back others)
     → FrameIsAt (functions_in (image_of (linked p))) m c (stack_frame p x f back others)
 frame_at p m index x f c rva back others fits regions e framed first here kept eight room'
     is_told =
@@ -187,7 +187,7 @@ frame_at p m index x f c rva back others fits regions e framed first here kept e
       no_parents = refl;
       kept = kept;
       eight = eight;
-      slots = (let e : f.size ≤ f.size = omega arith in e);
+      slots = (let n = x.routine.layout.frame in let e : n ≤ n = omega arith in e);
       room = room';
       is_told = is_told;
     }
@@ -197,7 +197,7 @@ pub frame_is_at : (p : LinearProgram) (m : Memory) (index : ℕ) (x : Placed) (f
     → slice_get (placed p) index ≡ Some x → x.routine.frame ≡ Some f
     → IsExecutableAt m (image_base + x.begin) (spelled (routine_code (site_of p) x.begin x.routine))
     → IsInBody p x rva → c.rip ≡ image_base + rva → length c.kept ≡ 9 → length others ≡ 8
-    → rsp c + f.size + 8 < 2 ^ 64 → IsAsTold m c (stack_frame p x f back others)
+    → rsp c + x.routine.layout.frame + 8 < 2 ^ 64 → IsAsTold m c (stack_frame p x f back others)
     → FrameIsAt (functions_in (image_of (linked p))) m c (stack_frame p x f back others)
 frame_is_at p m index x f c rva back others fits regions e framed code body here kept eight room'
     is_told =

@@ -34,8 +34,8 @@ following_items m at (x ∷ a) b to h =
     let e : at + x.size + bytes a ≡ at + (x.size + bytes a) = omega arith in
     subst (λ n. HasItems m n b to) e r
 
-pub before_end : (m : Memory) (at : ℕ) (xs : List FetchedInstr) (to : ℕ) → HasItems m at xs to → xs ≢ []
-    → at < to
+pub before_end : (m : Memory) (at : ℕ) (xs : List FetchedInstr) (to : ℕ) → HasItems m at xs to
+    → xs ≢ [] → at < to
 before_end m at [] to h ne = absurd (ne refl)
 before_end m at (x ∷ xs) to h ne = let r = has_bytes m (at + x.size) xs to h.2 in let s = h.1 in
     omega arith

@@ -58,9 +58,7 @@ module _ (p : LinearProgram) (index : ℕ) (x : Placed) (f : FrameLayout)
       (routines_near p framed.fits) (has_places p framed.fits) in
       let text = n.text in
       let room = here.room in
-      let most = sizes.1 in
-      plan_near f (x.begin + 10) (probe_begin p) (omega arith) (omega arith)
-      (omega arith)
+      plan_near f (x.begin + 10) (probe_begin p) sizes.0 (omega arith) (omega arith)
 
   rest : IsFine (plan p x f) is_plan (rest_of p x)
   rest =
@@ -71,7 +69,7 @@ module _ (p : LinearProgram) (index : ℕ) (x : Placed) (f : FrameLayout)
   right =
       let q = plan p x f in
       let planned = plans_are_right spell q [] [] spells_all is_plan refl refl in
-      let d = described f q.probe sizes in
+      let d = described f q.probe in
       let leads = rest.leads [] in
       record {
         offset = omega (arith, d.frame_offset, planned.offset);

@@ -1,12 +1,17 @@
 -- The unwind infos of routines can be written and are aligned.
-use Rattle.std.proofs.Common.{◌≡◌, ℕ, ◌+◌, ◌-◌, ◌*◌, ◌/◌, ◌%◌, ◌^◌, ◌<◌, ◌≤◌, Bool, true, false, not, List, [], ◌∷◌, ◌++◌, length, Option, Some, None, refl, arith, inl, inr, length-append}
-use Rattle.std.specs.Prelude.{◌||◌, if◌then◌else◌}
+use Rattle.std.proofs.Common.{◌≡◌, ℕ, ◌+◌, ◌*◌, ◌%◌, ◌^◌, ◌<◌, Bool, true, false, not, replicate, List, [], ◌∷◌, ◌++◌, length, Option, Some, None, refl, arith, length-append}
+use Rattle.std.specs.Prelude.{◌||◌}
 use Rattle.std.specs.List.{flat_map}
-use Rattle.std.proofs.lemmas.Bool.{cases_lt}
-use Rattle.image_tables.specs.Words.{if_set, Image, ScopeRecord, Nothing, is_c_handler, unwind_bytes, Region, FrameLayout, info_of, taking_size, CSpecificHandler, RoutineView, SiteView, own_addresses, thunk_at, is_finally, has_except, has_finally, trailer, scope_records, scope_table, info_if, info_bytes, has_rows, IsUnwindInfo, HasTrailer, has_c_handler, parent_of, slot, is_small, is_short, allocation, header, padded, trailer_bytes, scope_record_bytes, CanBeWritten, IsTrailer}
+use Rattle.std.proofs.lemmas.List.{length-replicate}
+use Rattle.image_tables.specs.Words.{if_set, Image, ScopeRecord, is_c_handler, unwind_bytes, Region, UnwindOperation, FrameLayout, info_of, codes_of, CSpecificHandler, RoutineView, SiteView, own_addresses, thunk_at, is_finally, has_except, has_finally, trailer, scope_records, scope_table, info_if, info_bytes, has_rows, IsUnwindInfo, HasTrailer, has_c_handler, parent_of, header, padded, trailer_bytes, scope_record_bytes, IsTrailer}
 use Rattle.eh_tables.specs.declared.unwind_info.Trailer.{Trailer}
-use Rattle.pe_image.specs.Numbers.{u16, u32}
-use Rattle.image_tables.proofs.Lemmas.{takes_four, takes_seven, takes_thirteen, can_be_written}
+use Rattle.pe_image.specs.Numbers.{u32}
+use Rattle.eh_tables.specs.declared.code.UnwindOperation.TheVariants.{Push, Allocate, SetFrame, Save, SaveVector, MachineFrame}
+use Rattle.eh_tables.specs.ReadAgain.{IsOperation}
+use Rattle.eh_tables.specs.Written.{codes_bytes}
+use Rattle.frame_layout.specs.Layout.{IsFrame}
+use Rattle.frame_layout.specs.Plans.{IsStep}
+use Rattle.frame_layout.proofs.Codes.{codes_all, codes_even, codes_steps}
 
 -- ---- what follows the codes
 
@@ -34,45 +39,23 @@ handled image f h (r ∷ rs) c = c
 
 -- ---- the info
 
-pub taking_few : (n : ℕ) → 0 < n → n < 2 ^ 31 → (4 ≤ taking_size n) × (taking_size n ≤ 13)
-taking_few n some lt = elim (cases_lt n 128) [
-  | inl few ↦ let e = takes_four n some few in (omega arith, omega arith)
-  | inr far ↦ elim (cases_lt 4096 n) [
-    | inl many ↦ let e = takes_thirteen n many in (omega arith, omega arith)
-    | inr page ↦ let e = takes_seven n far page in (omega arith, omega arith)
-  ]
-]
+step_is : (framed : Bool) (x : UnwindOperation) → IsStep framed x → IsOperation x
+step_is framed (Push r) h = tt
+step_is framed (Allocate n) h = (let z : n < 2 ^ 31 = h in omega arith)
+step_is framed SetFrame h = tt
+step_is framed (Save r n) h = (let z : n < 2 ^ 31 = h.1 in omega arith)
+step_is framed (SaveVector r n) h = absurd h
+step_is framed (MachineFrame e) h = absurd h
 
-pub can_be : (f : FrameLayout) (t : Trailer) → 0 < f.size → f.size < 2 ^ 31 → IsTrailer t
-    → CanBeWritten (info_of f t)
-can_be f t some lt is =
-    let few = taking_few f.size some lt in
-    let least = few.1 in
-    let h = can_be_written f.size (taking_size f.size) (info_of f Nothing).codes (omega arith)
-    refl in
-    record {
-      register = h.register;
-      offset = h.offset;
-      codes = h.codes;
-      order = h.order;
-      slots = h.slots;
-      trailer = is;
-    }
-
-pub is_info : (f : FrameLayout) (t : Trailer) → f.size < 2 ^ 31 → HasTrailer t
+pub is_info : (f : FrameLayout) (t : Trailer) → IsFrame f → HasTrailer t
     → IsUnwindInfo (info_of f t)
-is_info f t lt has = record { operations = (omega arith, tt); trailer = has }
+is_info f t h has = record {
+  operations = codes_all (IsStep f.framed) IsOperation (codes_of f) (step_is f.framed)
+      (codes_steps f h);
+  trailer = has;
+}
 
 -- ---- how many bytes it takes
-
-slots_by : (offset n : ℕ) (small short : Bool)
-    → length (padded ((if small then slot offset 2 (n / 8 - 1)
-    else (if short then slot offset 1 0 ++ u16 (n / 8) else slot offset 1 1 ++ u32 n)) ++ [])) % 4
-    ≡ 0
-unfolding u16 u32
-slots_by offset n true short = refl
-slots_by offset n false true = refl
-slots_by offset n false false = refl
 
 trailer_four : (h : ℕ) (rs : List Region) → length (trailer_bytes (trailer h rs)) % 4 ≡ 0
 unfolding u32
@@ -83,9 +66,8 @@ unwind_four : (f : FrameLayout) (h : ℕ) (rs : List Region)
     → length (unwind_bytes (info_of f (trailer h rs))) % 4 ≡ 0
 unfolding unwind_bytes
 unwind_four f h rs =
-    let offset = taking_size f.size in
-    let slots = slots_by offset f.size (is_small f.size) (is_short 8 f.size) in
-    let bytes = allocation offset f.size ++ [] in
+    let bytes = codes_bytes (codes_of f) in
+    let even = codes_even (codes_of f) in
     let t = trailer h rs in
     let last = trailer_four h rs in
     omega (
@@ -93,6 +75,8 @@ unwind_four f h rs =
       length-append (header (info_of f t) (length bytes))
           (padded bytes ++ trailer_bytes t),
       length-append (padded bytes) (trailer_bytes t),
+      length-append bytes (replicate (length bytes % 4) 0),
+      length-replicate {A = ℕ} (length bytes % 4) 0,
     )
 
 pub unwind_some : (f : FrameLayout) (t : Trailer) → 0 < length (unwind_bytes (info_of f t))

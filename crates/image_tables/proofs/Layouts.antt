@@ -1,19 +1,20 @@
--- A routine's layout has the size of its frame, and slots up to where its frame has them.
-use Rattle.std.proofs.Common.{◌≡◌, ℕ, suc, ◌==◌, Bool, true, false, not, List, [], ◌∷◌, map, Option, Some, None, refl}
+-- A routine's layout has the depth of its frame, which saves nothing and has no frame register,
+-- and slots up to where its frame has them.
+use Rattle.std.proofs.Common.{◌≡◌, ℕ, suc, ◌==◌, Bool, true, false, not, List, [], ◌∷◌, map, Option, Some, None, refl, subst, arith}
 use Rattle.std.specs.Prelude.{slice_get, ◌&&◌}
 use Rattle.std.specs.List.{AllByRecursion}
-use Rattle.image_tables.specs.Words.{LinearFunction, LinearFunclet, LinearProgram, FrameLayout, RoutineView, is_leaf, leaf_if, functions_from, funclet, routines, Placed, site_of, infos_begin, placed, routines_begin}
+use Rattle.image_tables.specs.Words.{LinearBody, LinearFunction, LinearFunclet, LinearProgram, FrameLayout, RoutineView, is_leaf, leaf_if, functions_from, funclet, routines, Placed, site_of, infos_begin, placed, routines_begin}
+use Rattle.image_link.specs.Routines.{function_frame}
 use Rattle.image_tables.proofs.Lookups.{placed_has}
 use Rattle.image_tables.proofs.Lemmas.{all_append}
 
 abbrev pub size_of : Option FrameLayout → ℕ
 size_of None = 0
-size_of (Some f) = f.size
+size_of (Some f) = f.depth
 
--- the slots of a frame end at its return address
 abbrev pub slots_of : Option FrameLayout → ℕ
 slots_of None = 0
-slots_of (Some f) = f.size
+slots_of (Some f) = f.slots
 
 abbrev pub IsSized : RoutineView → Type 0
 IsSized r = r.layout.frame ≡ size_of r.frame
@@ -60,3 +61,28 @@ function_slots false f = refl
 pub slots_placed : (p : LinearProgram) (index : ℕ) (x : Placed)
     → slice_get (placed p) index ≡ Some x → HasSlots x.routine
 slots_placed = all_placed HasSlots function_slots (λ p f. refl)
+
+-- a frame that saves nothing, and has no frame register
+pub record IsPlain (f : FrameLayout) : Type 0 where
+  pub pushes : f.pushes ≡ 0
+  pub saves : f.saves ≡ 0
+  pub framed : f.framed ≡ false
+  pub depth : f.depth ≡ f.size
+
+abbrev IsPlainIf : Option FrameLayout → Type 0
+IsPlainIf None = Unit {0}
+IsPlainIf (Some f) = IsPlain f
+
+function_plain : (b : LinearBody) → IsPlain (function_frame b)
+function_plain b =
+    record { pushes = refl; saves = refl; framed = refl; depth = omega arith }
+
+leaf_plain : (b : Bool) (f : LinearFunction) → IsPlainIf (leaf_if b f).frame
+leaf_plain true f = tt
+leaf_plain false f = function_plain f.body
+
+pub plain : (p : LinearProgram) (index : ℕ) (x : Placed) (f : FrameLayout)
+    → slice_get (placed p) index ≡ Some x → x.routine.frame ≡ Some f → IsPlain f
+plain p index x f e framed = subst IsPlainIf framed
+    (all_placed (λ r. IsPlainIf r.frame) leaf_plain
+    (λ p f. record { pushes = refl; saves = refl; framed = refl; depth = omega arith }) p index x e)

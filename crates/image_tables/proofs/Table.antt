@@ -12,13 +12,13 @@ use Rattle.eh_tables.proofs.TablesAgain.{reads_ranges}
 use Rattle.eh_tables.proofs.WholeAgain.{reads_table}
 use Rattle.pe_write.specs.Program as images
 use Rattle.image_link.specs.Walks.{named_functions}
-use Rattle.image_tables.proofs.Lemmas.{listed, all_append, text_length, is_program, tables_fit, has_places, has_names, no_routine, routines_near, services_few, services_there, thunk_there}
+use Rattle.image_tables.proofs.Lemmas.{can_be_written, listed, all_append, text_length, is_program, tables_fit, has_places, has_names, no_routine, routines_near, services_few, services_there, thunk_there}
 use Rattle.image_link.proofs.Infos.{info_small}
 use Rattle.image_tables.specs.RegionRanges.{IsRange as IsRegionRange}
 use Rattle.image_tables.proofs.ImagePieces.{text_there, xdata_there, pdata_there}
 use Rattle.image_tables.proofs.Handlers.{handler_is_c, thunk_bytes}
 use Rattle.image_tables.proofs.RowBounds.{AreBelow, checked_is, rows_within, rows_small}
-use Rattle.image_tables.proofs.Infos.{is_trailer, has_trailer, no_parent, handled, can_be, is_info, unwind_some, info_aligned}
+use Rattle.image_tables.proofs.Infos.{is_trailer, has_trailer, no_parent, handled, is_info, unwind_some, info_aligned}
 use Rattle.image_tables.proofs.FramePlans.{prologue_some}
 use Rattle.image_tables.proofs.Prologues.{entry_least}
 
@@ -95,16 +95,17 @@ small_if : (s : SiteView) (x : Placed) (o : Option FrameLayout) (ws : List Writt
 small_if s x None ws lt lt' more = more
 small_if s x (Some f) ws lt lt' more = (record { begin = omega arith; end = lt; info = lt' }, more)
 
-ranges_small : (s : SiteView) (info at : ℕ) (rs : List RoutineView) → at + total rs < 2 ^ 32
+ranges_small : (s : SiteView) (info at : ℕ) (rs : List RoutineView)
+    → AllByRecursion IsRoutineNear rs → at + total rs < 2 ^ 32
     → info + infos_room rs < 2 ^ 32 → AllByRecursion IsRuntimeFunction
     (ranges_of (written_from s (placed_from s info at rs)))
-ranges_small s info at [] lt lt' = tt
-ranges_small s info at (r ∷ rs) lt lt' =
-    let small = info_small s at r in
+ranges_small s info at [] near lt lt' = tt
+ranges_small s info at (r ∷ rs) near lt lt' =
+    let small = info_small s at r near.0 in
     let next = info + length (info_bytes s at r) in
     small_if s (record { routine = r; begin = at; info = info }) r.frame
     (written_from s (placed_from s next (at + routine_size r) rs)) (omega arith) (omega arith)
-    (ranges_small s next (at + routine_size r) rs (omega arith) (omega arith))
+    (ranges_small s next (at + routine_size r) rs near.1 (omega arith) (omega arith))
 
 -- ---- regions of routines
 
@@ -294,8 +295,6 @@ module _ (p : LinearProgram) (fits : FitsProgram p) where
   entry_is info at r f front more close ranges framed le e here four =
       let h = thunk_at s.imports s.text CSpecificHandler in
       let size = subst IsFrameNear framed close.frame in
-      let some = size.0 in
-      let most = size.1 in
       let t = text_is in
       let end = is.end in
       let there = services_there p CSpecificHandler tt in
@@ -303,9 +302,9 @@ module _ (p : LinearProgram) (fits : FitsProgram p) where
       let by = scopes_by info at r f r.body.regions front more ranges close.regions le e here in
       record {
         own = record {
-          info = is_info f (trailer h r.body.regions) (omega arith)
+          info = is_info f (trailer h r.body.regions) size.0
               (has_trailer h r.body.regions (omega arith));
-          can = can_be f (trailer h r.body.regions) some (omega arith)
+          can = can_be_written f (trailer h r.body.regions) size.0
               (is_trailer h r.body.regions);
           aligned = four;
           stored = subst (HasScopes image info
@@ -378,7 +377,8 @@ module _ (p : LinearProgram) (fits : FitsProgram p) where
       (has_places p fits).room in
       let inside = end_inside in
       let small = image_small in
-      ranges_small s (infos_begin p) (routines_begin p) rs (omega arith) (omega arith)
+      ranges_small s (infos_begin p) (routines_begin p) rs (routines_near p fits) (omega arith)
+      (omega arith)
 
   aligned : image.exceptions.rva % 4 ≡ 0
   aligned = omega arith

@@ -8,7 +8,7 @@ use Rattle.host_layout.specs.declared.imported.ImportedService.TheVariants.{CSpe
 use Rattle.linear_code.specs.declared.program.Region.{Region}
 use Rattle.linear_code.specs.Program.{LinearProgram}
 use Rattle.frame_layout.specs.declared.frame.FrameLayout.{FrameLayout}
-use Rattle.frame_layout.specs.Layout.{info_of}
+use Rattle.frame_layout.specs.Infos.{info_of}
 use Rattle.image_link.specs.Text.{SiteView, own_addresses, thunk_at}
 use Rattle.image_link.specs.Tables.{trailer, scope_records}
 use Rattle.image_tables.specs.RoutinePlaces.{Placed, end_of, site_of, placed}

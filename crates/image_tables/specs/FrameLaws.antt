@@ -42,13 +42,13 @@ TextsAreFixed =
 
 -- ---- bodies that wait
 
--- the frame of a routine's body, whose slots end at its return address, with what its caller has
+-- the frame of a routine's body, with what its caller has
 abbrev pub stack_frame : LinearProgram → Placed → FrameLayout → (back : ℕ) → List ℕ → StackFrame
 stack_frame p x f back others =
     record {
       entry = entry_of (site_of p) x f;
-      slots = f.size;
-      size = f.size;
+      slots = x.routine.layout.slots;
+      size = x.routine.layout.frame;
       return_address = back;
       others = others;
     }
@@ -62,7 +62,7 @@ pub record IsWaiting (p : LinearProgram) (m : Memory) (x : Placed) (f : FrameLay
   pub here : c.rip ≡ image_base + rva
   pub kept : length c.kept ≡ 9
   pub eight : length others ≡ 8
-  pub room : rsp c + f.size + 8 < 2 ^ 64
+  pub room : rsp c + x.routine.layout.frame + 8 < 2 ^ 64
   pub is_told : IsAsTold m c (stack_frame p x f back others)
 
 -- at an instruction of its body a routine's frame is there: it has its entry, and is past its

@@ -59,4 +59,4 @@ EntriesAreFlagged = (s : SiteView) (x : Placed) (f : FrameLayout) → IsFlagged 
 abbrev pub FramesAreSmall : Type 0
 FramesAreSmall =
     (p : LinearProgram) (index : ℕ) (x : Placed) (f : FrameLayout) → FitsProgram p
-    → slice_get (placed p) index ≡ Some x → x.routine.frame ≡ Some f → f.size + 8 ≤ LARGEST_FRAME
+    → slice_get (placed p) index ≡ Some x → x.routine.frame ≡ Some f → f.depth + 8 ≤ LARGEST_FRAME

@@ -61,8 +61,9 @@ pub use Rattle.frame_rules.specs.Plan.{FramePlan, IsPlan, spelled_by, operations
 pub use Rattle.frame_rules.specs.Prologue.{bytes, items}
 pub use Rattle.frame_rules.specs.Rules.{IsRight, FramedFunction, IsFound}
 pub use Rattle.frame_rules.specs.States.{HasItems, registers, return_address, IsEntry, InBody, is_other}
-pub use Rattle.frame_layout.specs.Layout.{plan_of, info_of}
-unfoldable pub use Rattle.frame_layout.specs.Layout.{taking_size}
+pub use Rattle.frame_layout.specs.Plans.{plan_of}
+pub use Rattle.frame_layout.specs.Infos.{info_of}
+unfoldable pub use Rattle.frame_layout.specs.Infos.{prologue_bytes, codes_of}
 pub use Rattle.frame_layout.specs.declared.frame.FrameLayout.{FrameLayout}
 pub use Rattle.x64_emit.specs.Bodies.{label_list}
 pub use Rattle.x64_emit.specs.Linking.{links_of, address_or, thunk_of}

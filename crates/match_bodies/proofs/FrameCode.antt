@@ -4,36 +4,45 @@ use Rattle.std.specs.Prelude.{nat_le}
 use Rattle.std.specs.List.{flat_map}
 use Rattle.std.proofs.lemmas.Bool.{eqb-true, ne_eqb, le-leb, lt-leb}
 use Rattle.match_bodies.specs.Words.{Instr, Layout, chosen, size, sizes, enter_code, enter_large, frame_code}
+use Rattle.std.proofs.lemmas.List.{append-nil}
 use Rattle.eh_tables.specs.declared.code.UnwindOperation.{UnwindOperation}
 use Rattle.eh_tables.specs.declared.code.UnwindOperation.TheVariants.{Allocate}
 use Rattle.x64_instr.specs.Registers.{register}
 use Rattle.x64_instr.specs.declared.instruction.Instr.TheVariants as instrs
 use Rattle.template_code.specs.Frames.{frame_plan, plan_of_layout}
 use Rattle.template_code.specs.Jumps.{distance}
-use Rattle.frame_rules.specs.Bytes.{spell}
+use Rattle.frame_rules.specs.Bytes.{spell, prologue_code}
 use Rattle.frame_rules.specs.Codes.{are_allowed, depth, pushed}
 use Rattle.frame_rules.specs.Plan.{FramePlan, Saved, allocation_then, allocating, epilogue, frame_then, instructions_of, load_of, loads_then, frame_size, opening_then, operations_of, pops_then, saves_then, spelled_by, steps_of, turned}
 use Rattle.frame_rules.specs.Prologue.{bytes, items}
 use Rattle.frame_rules.proofs.Frames.{bytes-append}
 use Rattle.frame_rules.proofs.Sizes.{frame_has_its_size}
 use Rattle.match_stack.specs.Stack.{AreAbove}
-use Rattle.frame_layout.proofs.Sizes.{code_is}
-use Rattle.match_bodies.specs.CodeSites.{epilogue_through, give_back}
+use Rattle.match_bodies.specs.CodeSites.{epilogue_through}
 use Rattle.match_bodies.specs.Layouts.{AreSavedAbove, saved_count}
 use Rattle.match_bodies.proofs.Lemmas.{sizes_append}
+
+-- an allocation alone
+made_code : (n probe : ℕ) → 0 < n
+    → prologue_code (frame_plan n probe) ≡ allocating probe n (nat_le n 4096)
+made_code n probe some =
+    ap (λ none. flat_map (instructions_of (frame_plan n probe))
+    (turned [] (allocation_then (not none) n [])))
+    (ne_eqb n 0 (λ z. (let e : n ≡ 0 = z in absurd (omega arith))))
+    ∙ append-nil (allocating probe n (nat_le n 4096))
 
 -- of at most a page
 pub made_small : (size at check : ℕ) (leaf : Bool) → leaf ≡ false → 0 < size → size ≤ 4096
     → frame_code size at check leaf ≡ enter_code size
 made_small size at check leaf e some small = ap (frame_code size at check) e
-    ∙ code_is (distance (at + 10) check) size some
+    ∙ made_code size (distance (at + 10) check) some
     ∙ ap (allocating (distance (at + 10) check) size) (le-leb size 4096 small)
 
 -- of more
 pub made_large : (size at check : ℕ) (leaf : Bool) → leaf ≡ false → 4096 < size
     → frame_code size at check leaf ≡ enter_large size at check
 made_large size at check leaf e large = ap (frame_code size at check) e
-    ∙ code_is (distance (at + 10) check) size (omega arith)
+    ∙ made_code size (distance (at + 10) check) (omega arith)
     ∙ ap (allocating (distance (at + 10) check) size) (lt-leb size 4096 large)
 
 -- ---- the prologue of a plan
@@ -129,12 +138,6 @@ pub through_pop : (f : FramePlan) (popped : List ℕ) (r : ℕ)
 through_pop f popped r = loads_sizes f.saves _ _ (size (instrs.Pop (register r)))
     (opening_sizes f (f.size == 0) (pops_then (popped ++ (r ∷ [])) []) (pops_then popped [])
     (size (instrs.Pop (register r))) (pops_sizes popped r))
-
--- nothing is popped
-pub through_opening : (n probe : ℕ) → 0 < n
-    → epilogue_through (frame_plan n probe) [] ≡ give_back n ∷ []
-through_opening n probe some = ap (λ none. opening_then (frame_plan n probe) none [])
-    (ne_eqb n 0 (λ z. (let e : n ≡ 0 = z in absurd (omega arith))))
 
 -- it has an instruction for each register that is saved, one that raises RSP, and the return
 pops_count : (rs : List ℕ) (is : List Instr) → length (pops_then rs is) ≡ length rs + length is

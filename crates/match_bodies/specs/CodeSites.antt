@@ -1,12 +1,8 @@
 -- Where the code of a program's parts begins, and what comes before a body.
 use Rattle.std.specs.Prelude.{ℕ, ◌+◌, ◌==◌, Bool, true, false, List, [], ◌∷◌, ◌++◌, slice_get, Option, Some, None}
-use Rattle.seh_num.specs.declared.width.Width.TheVariants.{W32, W64}
-use Rattle.x64_instr.specs.declared.register.Reg.TheVariants.{Rax, Rcx, Rsp}
-use Rattle.x64_instr.specs.declared.operand.RegisterOrMemory.TheVariants as places
-use Rattle.x64_instr.specs.declared.operand.Operand.TheVariants as operands
-use Rattle.x64_instr.specs.declared.instruction.Operation.TheVariants as arithmetic
+use Rattle.seh_num.specs.declared.width.Width.TheVariants.{W32}
+use Rattle.x64_instr.specs.declared.register.Reg.TheVariants.{Rax, Rcx}
 use Rattle.x64_instr.specs.declared.instruction.Instr.{Instr}
-use Rattle.x64_instr.specs.declared.instruction.Instr.TheVariants as instrs
 use Rattle.c_operations.specs.declared.built_in.BuiltIn.{BuiltIn}
 use Rattle.linear_code.specs.declared.slot.Slot.TheVariants.{Local}
 use Rattle.linear_code.specs.declared.program.FuncletKind.{FuncletKind}
@@ -73,11 +69,6 @@ making_size p q name =
 abbrev pub epilogue_through : FramePlan → List ℕ → List Instr
 epilogue_through f popped =
     rules.loads_then f.saves (rules.opening_then f (f.size == 0) (rules.pops_then popped []))
-
--- RSP raised by so much
-abbrev pub give_back : ℕ → Instr
-give_back frame =
-    instrs.Arithmetic arithmetic.Add W64 (places.Register Rsp) (operands.Immediate frame)
 
 -- where a funclet keeps the base, and where its parent does, if that is a funclet
 abbrev pub base_in : Layout → ℕ

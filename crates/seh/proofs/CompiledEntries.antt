@@ -50,6 +50,7 @@ use Rattle.image_tables.specs.RoutinePlaces.{Placed, end_of, site_of, placed_fro
 use Rattle.image_tables.specs.RegionRanges.{HasRegions}
 use Rattle.image_tables.proofs.CodeInMemory.{there}
 use Rattle.image_tables.proofs.FramePlans.{one_code, prologue_some}
+use Rattle.image_tables.proofs.Layouts.{plain}
 use Rattle.image_tables.proofs.FrameRules.{sizes as frame_sizes, right, is_there}
 use Rattle.image_tables.proofs.ImageText.{images_have_text}
 use Rattle.image_tables.proofs.Prologues.{entry_least}
@@ -127,7 +128,8 @@ module _ (p : LinearProgram) (fits : FitsProgram p) (b : IsBounded (image_of (li
     calls =
         subst (λ (os : List UnwindOperation). CallsProbe (code_of image) CHECK_STACK x.begin
         (items (steps_of spell (plan p x f) 0 (turned [] os))))
-        (sym (one_code f away (frame_sizes p index x f framed).0)) (calls_by (leb f.size 4096))
+        (sym (one_code f away (plain p index x f framed.there framed.framed)
+        (frame_sizes p index x f framed).0.some)) (calls_by (leb f.size 4096))
 
     is_right : IsRightEntry (entry_in checked (entry_of (site_of p) x f)) (function_of p x f)
     is_right =
