@@ -31,8 +31,10 @@ pub mod Retries
 pub mod Epilogues
 pub mod Probing
 pub mod LargeEntries
+pub mod Ranges
+pub mod PrologueParts
+pub mod PrologueRuns
 pub mod FuncletEntries
-pub mod FilterEntries
 pub mod Services
 pub mod Passing
 mod Witnesses

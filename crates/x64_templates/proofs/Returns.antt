@@ -1,11 +1,11 @@
--- A body is entered and left, and its caller's slots outlast a call.
-use Rattle.std.proofs.Common.{◌≡◌, ℕ, ◌+◌, ◌-◌, ◌%◌, ◌^◌, ◌<◌, ◌≤◌, ◌==◌, Bool, true, false, List, [], ◌∷◌, length, Ok, refl, sym, ap, subst, ◌∙◌, arith, get_or-set_same, length-append}
+-- A body is left, and its caller's slots outlast a call.
+use Rattle.std.proofs.Common.{◌≡◌, ℕ, ◌+◌, ◌%◌, ◌^◌, ◌<◌, ◌≤◌, ◌==◌, Bool, true, false, List, [], ◌∷◌, length, Ok, refl, sym, ap, subst, ◌∙◌, arith, get_or-set_same, length-append}
 use Rattle.std.proofs.lemmas.Bool.{eqb-true}
 use Rattle.std.proofs.lemmas.List.{set-set}
 use Rattle.frame_rules.specs.Plan.{epilogue}
 use Rattle.template_code.specs.Frames.{plan_of_layout}
 use Rattle.template_code.proofs.Frames.{ending_by}
-use Rattle.x64_templates.specs.Words.{W64, low, Memory, may_read, Rax, Rsp, Flags, added, subtracted, ◌>>=◌, State, Answer, with_rip, load, effect, Slot, BodyState, with_slot, MachineView, machine, size, sizes, fetch, keep, enter_code, sp_of, HasBack, moved, Enters, Reaches, HasCode, FramePlace, Roomy, FrameHolds, IsThere, ReachesBody, return_code, Returned}
+use Rattle.x64_templates.specs.Words.{W64, low, Memory, may_read, Rax, Rsp, Flags, added, ◌>>=◌, State, Answer, with_rip, load, effect, Slot, BodyState, with_slot, MachineView, machine, size, sizes, fetch, keep, sp_of, HasBack, moved, Reaches, HasCode, FramePlace, Roomy, FrameHolds, IsThere, ReachesBody, return_code, Returned}
 use Rattle.x64_instr.specs.declared.operand.RegisterOrMemory.TheVariants as places
 use Rattle.x64_instr.specs.declared.operand.Operand.TheVariants as operands
 use Rattle.x64_instr.specs.declared.instruction.Operation.TheVariants as arithmetic
@@ -15,7 +15,7 @@ use Rattle.x64_templates.proofs.Straight.{executes_nothing}
 use Rattle.x64_templates.proofs.Cells.{put, fetch_does}
 use Rattle.x64_templates.proofs.Encoded.{fetch_fine, near}
 use Rattle.x64_templates.proofs.Computes.{code_split, runs_view, leads_kept}
-use Rattle.x64_templates.proofs.Jumps.{one_reaches, one_enters}
+use Rattle.x64_templates.proofs.Jumps.{one_reaches}
 
 -- ---- what lies above RSP, but for the source's memory, outlasts whatever runs below
 
@@ -59,37 +59,6 @@ unfolding added
 raise_effect v n sp next f e lt high =
     let q : low W64 (low W64 (low W64 (sp_of v) + low W64 n)) ≡ sp + n = omega arith in
     ap (λ (a : ℕ). Ok (machine (moved v a) next (added W64 (low W64 (sp_of v)) (low W64 n)).1)) q
-
-lower_effect : (v : MachineView) (n sp next : ℕ) (f : Flags) → sp_of v ≡ sp → n ≤ sp → sp < 2 ^ 64
-    → effect (machine v next f) (instrs.Arithmetic arithmetic.Sub W64 (places.Register Rsp)
-    (operands.Immediate n)) ≡ Ok (machine (moved v (sp - n)) next
-    (subtracted W64 (low W64 (sp_of v)) (low W64 n)).1)
-unfolding subtracted
-lower_effect v n sp next f e le high =
-    let q : low W64 (low W64 (low W64 (sp_of v) + (2 ^ 64 - low W64 n))) ≡ sp - n = omega arith in
-    ap (λ (a : ℕ). Ok (machine (moved v a) next (subtracted W64 (low W64 (sp_of v)) (low W64 n)).1))
-    q
-
--- a body begins: its frame lies below the return address
-pub record FrameMade (v : MachineView) (sp frame rip : ℕ) (f : Flags) : Type 0 where
-  pub flags : Flags
-  pub comes : Enters 1 (machine v rip f) (machine (moved v (sp - frame))
-      (rip + sizes (enter_code frame)) flags)
-
-pub enter_run : (v : MachineView) (sp frame rip : ℕ) (f : Flags) → sp_of v ≡ sp → frame ≤ sp
-    → sp < 2 ^ 64 → frame < 2 ^ 31 → HasCode v.memory rip (enter_code frame)
-    → FrameMade v sp frame rip f
-enter_run v sp frame rip f at le high lt code =
-    let i = instrs.Arithmetic arithmetic.Sub W64 (places.Register Rsp) (operands.Immediate frame) in
-    let g = (subtracted W64 (low W64 (sp_of v)) (low W64 frame)).1 in
-    let z : rip + size i ≡ rip + (size i + 0) = omega arith in
-    record {
-      flags = g;
-      comes = subst (λ a. Enters 1 (machine v rip f)
-          (machine (moved v (sp - frame)) a g)) z
-          (one_enters i v (moved v (sp - frame)) rip (rip + size i) f g (near frame lt) code
-          (lower_effect v frame sp (rip + size i) f at le high));
-    }
 
 -- a return: to the address at RSP, which rises by 8
 pub return_effect : (v : MachineView) (sp back next : ℕ) (f : Flags) → sp_of v ≡ sp

@@ -1,7 +1,6 @@
 -- What holds of templates wherever they are placed.
-use Rattle.std.specs.Prelude.{◌≡◌, ℕ, suc, ◌+◌, ◌^◌, ◌<◌, ◌≤◌, Bool, List, length, get_or, Option, Some}
+use Rattle.std.specs.Prelude.{◌≡◌, ℕ, suc, ◌+◌, ◌^◌, ◌<◌, ◌≤◌, Bool, List, [], length, get_or, Option, Some}
 use Rattle.seh_num.specs.declared.event.Code.{Code}
-use Rattle.flat_memory.specs.Memory.{Memory}
 use Rattle.x64_machine.specs.declared.cpu.Flags.{Flags}
 use Rattle.c_operations.specs.declared.operation.Operation.{Operation}
 use Rattle.c_operations.specs.Performed.{performed}
@@ -15,14 +14,21 @@ use Rattle.x64_templates.specs.Straight.{MachineView, machine}
 use Rattle.template_code.specs.Bytes.{sizes}
 use Rattle.template_code.specs.Slots.{operands_code, compute_code}
 use Rattle.template_code.specs.Jumps.{IsNear}
-use Rattle.template_code.specs.Calls.{return_at, begin_call, return_code, function_entry}
+use Rattle.template_code.specs.Calls.{return_at, begin_call, return_code, parameters_code}
+use Rattle.template_code.specs.Probing.{check_stack}
+use Rattle.x64_machine.specs.Effect.{State}
+use Rattle.frame_rules.specs.Bytes.{prologue_code}
+use Rattle.frame_rules.specs.Codes.{depth}
+use Rattle.frame_rules.specs.Plan.{FramePlan, IsPlan, operations_of, turned}
+use Rattle.frame_rules.specs.States.{IsEntry}
+use Rattle.x64_templates.specs.Prologues.{AreProbed, MakesFrame}
 use Rattle.template_code.specs.Template.{Links, template, offset_of}
 use Rattle.x64_templates.specs.Frames.{SlotsHaveRoom}
 use Rattle.x64_templates.specs.Implements.{HasOperands}
-use Rattle.x64_templates.specs.CallStates.{sp_of, with_sp, HasBelow, HasBack}
-use Rattle.x64_templates.specs.Runs.{HasCode, FramePlace, Roomy, FrameHolds, IsThere, EntersBody, Computed}
+use Rattle.x64_templates.specs.CallStates.{sp_of, HasBelow, HasBack}
+use Rattle.x64_templates.specs.Runs.{HasCode, FramePlace, Roomy, FrameHolds, IsThere, ReachesBody, Computed}
 use Rattle.x64_templates.specs.InstructionRuns.{RunsAllTo, IsLinked}
-use Rattle.x64_templates.specs.EntryStates.{with_arguments, InRegisters, OnStack, IsFunctionFrame, body_in_memory, FreshFrame}
+use Rattle.x64_templates.specs.EntryStates.{with_arguments, InRegisters, OnStack, IsFunctionFrame}
 use Rattle.x64_templates.specs.Returned.{CallBegun, Returned}
 use Rattle.x64_templates.specs.Retries.{FaultsAfter, Retried}
 use Rattle.x64_templates.specs.Epilogues.{NoEpilogue, IsReturn}
@@ -96,22 +102,26 @@ CallsBegin =
     → HasCode v.memory rip (begin_call p.layout first rip to)
     → CallBegun p first v rip to f b
 
--- a function's entry makes its frame and brings its arguments to the locals of their numbers
-abbrev pub FunctionsEnter : Type 0
-FunctionsEnter =
-    (p : FramePlace) (count : ℕ) (arguments : ℕ → ℕ) (v : MachineView) (source : Memory) (rip : ℕ)
-    (f : Flags)
-    → Roomy p → IsFunctionFrame p → count ≤ p.counts.locals → length v.rest ≡ 13
-    → sp_of v ≡ p.sp + p.layout.frame → p.layout.frame < 2 ^ 31
-    → FreshFrame p v.memory source → InRegisters v arguments → OnStack p v.memory count arguments
-    → HasCode v.memory rip (function_entry p.layout count)
-    → EntersBody p (length (function_entry p.layout count)) (machine v rip f)
-    (rip + sizes (function_entry p.layout count)) (with_sp v.rest p.sp)
-    (record {
-      slots = with_arguments (body_in_memory p.layout p.sp p.base v.memory source).slots
-          arguments 0 count;
-      memory = source;
-    })
+-- the prologue of a plan makes its frame
+abbrev pub ProloguesMakeFrames : Type 0
+ProloguesMakeFrames =
+    (p : FramePlan) (check : ℕ) (e : State) → IsPlan p → IsEntry (depth (operations_of p)) e
+    → HasCode e.memory e.cpu.rip (prologue_code p)
+    → AreProbed p check e.cpu.rip (turned [] (operations_of p))
+    → HasCode e.memory check check_stack
+    → MakesFrame p e
+
+-- in it a function brings its arguments to the locals of their numbers
+abbrev pub ArgumentsAreKept : Type 0
+ArgumentsAreKept =
+    (p : FramePlace) (count : ℕ) (arguments : ℕ → ℕ) (v : MachineView) (rip : ℕ) (f : Flags)
+    (b : BodyState)
+    → Roomy p → IsFunctionFrame p → count ≤ p.counts.locals → sp_of v ≡ p.sp
+    → FrameHolds p v.memory b → InRegisters v arguments → OnStack p v.memory count arguments
+    → HasCode v.memory rip (parameters_code p.layout 0 count)
+    → ReachesBody p (length (parameters_code p.layout 0 count)) (machine v rip f)
+    (rip + sizes (parameters_code p.layout 0 count)) v.rest
+    (record { slots = with_arguments b.slots arguments 0 count; memory = b.memory })
 
 -- a return leaves the number in RAX and gives the frame back
 abbrev pub BodiesReturn : Type 0

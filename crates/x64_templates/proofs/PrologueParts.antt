@@ -1,0 +1,86 @@
+-- What the run of a prologue rests on: the sizes of its instructions, its codes in the order of
+-- execution, and registers.
+use Rattle.std.proofs.Common.{◌≡◌, ◌≢◌, ℕ, zero, suc, ◌+◌, true, false, List, [], ◌∷◌, length, get_or, set, Ok, refl, sym, ap, ◌∙◌, arith, get_or-set_other}
+use Rattle.std.proofs.lemmas.Bool.{false≢true}
+use Rattle.x64_templates.specs.Words.{Instr, Steps, is_encodable, chosen, State, with_rip, effect, MachineView, machine, size, sizes, HasCode}
+use Rattle.eh_tables.specs.declared.code.UnwindOperation.{UnwindOperation}
+use Rattle.eh_tables.specs.declared.code.UnwindOperation.TheVariants.{Allocate}
+use Rattle.virtual_unwind.specs.Contexts.{is_nonvolatile}
+use Rattle.frame_rules.specs.Bytes.{spell}
+use Rattle.frame_rules.specs.Codes.{are_pushes}
+use Rattle.frame_rules.specs.Plan.{spelled_by, turned}
+use Rattle.frame_rules.specs.Prologue.{bytes}
+use Rattle.frame_rules.proofs.Order.{Ordered, allocate}
+use Rattle.frame_rules.proofs.Prologues.{Good, good_rest}
+use Rattle.x64_templates.proofs.PlacedCode.{bytes_split}
+use Rattle.x64_templates.proofs.Straight.{one_steps}
+
+-- ---- sizes
+
+-- those of fetched instructions
+pub bytes_sizes : (is : List Instr) → bytes (spelled_by spell is) ≡ sizes is
+unfolding size
+bytes_sizes [] = refl
+bytes_sizes (i ∷ is) = ap (λ (n : ℕ). size i + n) (bytes_sizes is)
+
+-- ---- codes in the order of execution
+
+pub turned_back : (done xs : List UnwindOperation) → turned [] (turned done xs) ≡ turned xs done
+turned_back done [] = refl
+turned_back done (x ∷ xs) = turned_back (x ∷ done) xs
+
+pub good_before : (f n : ℕ) (done xs : List UnwindOperation) → Good f n (turned done xs)
+    → Good f n done
+good_before f n done [] g = g
+good_before f n done (x ∷ xs) g = good_rest f n x done (good_before f n (x ∷ done) xs g)
+
+-- ---- registers as templates see them
+
+pub record Seen (s : State) : Type 0 where
+  pub view : MachineView
+  pub is : s ≡ machine view s.cpu.rip s.cpu.flags
+  pub count : length view.rest ≡ 13
+
+pub seen : (s : State) → length s.cpu.registers ≡ 16 → Seen s
+seen s e = by s.cpu.registers refl e
+  where
+    by : (rs : List ℕ) → s.cpu.registers ≡ rs → length rs ≡ 16 → Seen s
+    by [] same n = absurd (omega arith)
+    by (a ∷ []) same n = absurd (omega arith)
+    by (a ∷ b ∷ []) same n = absurd (omega arith)
+    by (a ∷ b ∷ c ∷ rs) same n = record {
+      view = record { rax = a; rcx = b; rdx = c; rest = rs; memory = s.memory };
+      is = ap (λ (xs : List ℕ). let u : State = record {
+        cpu = record { registers = xs; rip = s.cpu.rip; flags = s.cpu.flags };
+        memory = s.memory;
+      } in u) same;
+      count = omega arith;
+    }
+
+-- the instruction at RIP is run
+pub first_steps : (i : Instr) (s u : State) → is_encodable i ≡ true
+    → HasCode s.memory s.cpu.rip (i ∷ []) → effect (with_rip s (s.cpu.rip + size i)) i ≡ Ok u
+    → Steps s u
+first_steps i s u enc code is =
+    let l = code.placed.low in
+    let h = code.placed.high in
+    one_steps i s u (enc, tt) (bytes_split s.memory s.cpu.rip (chosen i) [] code.is_there).0
+    (record { low = l; high = omega arith }) is
+
+-- one of the registers from RBX on is set, and RAX
+pub other_than : (a b c d : ℕ) (rest : List ℕ) (i v j : ℕ) → j ≢ 0 → j ≢ 3 + i
+    → get_or (b ∷ c ∷ d ∷ set rest i v) j 0 ≡ get_or (a ∷ c ∷ d ∷ rest) j 0
+other_than a b c d rest i v zero z ne = absurd (z refl)
+other_than a b c d rest i v (suc zero) z ne = refl
+other_than a b c d rest i v (suc (suc zero)) z ne = refl
+other_than a b c d rest i v (suc (suc (suc j))) z ne =
+    get_or-set_other rest i j v 0 (λ same. ne (omega arith))
+
+-- a volatile register is no nonvolatile one
+pub other_kind : (q r : ℕ) → is_nonvolatile q ≡ false → is_nonvolatile r ≡ true → q ≢ r
+other_kind q r vol nv z = false≢true (sym vol ∙ ap is_nonvolatile z ∙ nv)
+
+-- pushes come before an allocation
+pub pushes_before : (k : ℕ) (ops : List UnwindOperation) → Ordered (Allocate k ∷ ops)
+    → are_pushes ops ≡ true
+pushes_before k ops (allocate p o) = p
