@@ -192,7 +192,8 @@ module _ (program : LinearProgram) (c : HasWholeImage program) where
     abbrev n : ℕ
     n = length program.functions + k
 
-    elsewhere : (a : ℕ) → routine.begin ≤ a → a < end_of routine → own.index ≢ n → a ≢ funclet_begin program k
+    elsewhere : (a : ℕ) → routine.begin ≤ a → a < end_of routine → own.index ≢ n
+        → a ≢ funclet_begin program k
     elsewhere a from to other e =
         let q : a ≡ funclet_begin program k = e in
         let fits = c.fits in
@@ -241,8 +242,8 @@ module _ (program : LinearProgram) (c : HasWholeImage program) where
         (λ other. elsewhere (template_at routine label) (omega arith) below other (omega arith))
 
     -- past a body's first byte no funclet begins
-    pub no_funclet_inside : (a : ℕ) → image_base + routine.begin < a → a < image_base + end_of routine
-        → a ≢ image_base + funclet_begin program k
+    pub no_funclet_inside : (a : ℕ) → image_base + routine.begin < a
+        → a < image_base + end_of routine → a ≢ image_base + funclet_begin program k
     no_funclet_inside a from to e =
         let q : a ≡ image_base + funclet_begin program k = e in
         by_index (λ here. (let there = begins_there here in omega arith))

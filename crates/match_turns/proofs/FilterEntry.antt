@@ -162,8 +162,9 @@ module _ (setting : Setting) where
         (let z = rip_here in let r = first_small setting k l in omega arith) a.well_formed
 
     beside : Within (e.sp + y.pointers) (e.sp + y.pointers + 8) e.after.memory u.memory
-    beside = let h = cell.high in within_cell e.after.memory (e.sp + y.pointers) (e.sp + y.pointers + 8)
-        (e.sp + y.pointers) x (omega arith) (omega arith) (omega arith)
+    beside = let h = cell.high in
+        within_cell e.after.memory (e.sp + y.pointers) (e.sp + y.pointers + 8) (e.sp + y.pointers) x
+        (omega arith) (omega arith) (omega arith)
 
     within_here : Within e.sp (e.sp + y.frame) s.memory u.memory
     within_here =

@@ -293,7 +293,8 @@ module _ (setting : Setting) where
         }
 
     run : Enters from to (e.turns + length last) s u
-    run = enters_then from to e.turns (length last) s (machine e.after e.rip e.flags) u e.comes r.comes
+    run = enters_then from to e.turns (length last) s (machine e.after e.rip e.flags) u e.comes
+        r.comes
 
     rip_here : u.cpu.rip ≡ p.address (FuncletBody k) 0
     rip_here = subst (λ z. e.rip + sizes (keep_argument y z) ≡ p.address (FuncletBody k) 0) kind_is

@@ -34,9 +34,6 @@ module _ (setting : Setting) where
     abbrev is : body_of program (FuncletBody k) ≡ Some l.funclet.body
     is = ap funclet_body l.there
 
-    frame_small : y.frame ≤ 4096
-    frame_small = l.plan.layout.small
-
     abbrev pub plan : FramePlan
     plan = body_plan p q (FuncletBody k)
 

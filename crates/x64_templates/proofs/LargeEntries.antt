@@ -86,7 +86,8 @@ lower_by_rax v n sp next f e rax le high =
 pub enter_large_run : (v : MachineView) (sp frame rip check : ℕ) (f : Flags) → length v.rest ≡ 13
     → sp_of v ≡ sp → HasBelow v.memory sp 8 → Touchable v.memory sp frame → frame < 2 ^ 31
     → IsNear (rip + 10) check → rip + 10 < 2 ^ 48 → HasCode v.memory check check_stack
-    → HasCode v.memory rip (allocating (distance (rip + 10) check) frame false) → EnteredLarge v sp frame rip check f
+    → HasCode v.memory rip (allocating (distance (rip + 10) check) frame false)
+    → EnteredLarge v sp frame rip check f
 enter_large_run v sp frame rip check f len at below touch small near high leaf code =
     let e = touch.enough in let hi = touch.high in let mo = touch.more in
     let i = instrs.Move W32 (places.Register Rax) (operands.Immediate frame) in
@@ -128,7 +129,8 @@ enter_large_run v sp frame rip check f len at below touch small near high leaf c
     let last = one_reaches k v3 v4 (rip + 10) (rip + 10 + size k) third.0 g refl refl
     (pushed_keeps_code v1 sp (rip + 10) (rip + 10) (k ∷ []) below tail)
     (lower_by_rax v3 frame sp (rip + 10 + size k) third.0 sp3 refl e (omega arith)) in
-    let end : rip + 10 + size k ≡ rip + sizes (allocating (distance (rip + 10) check) frame false) = omega arith in
+    let end : rip + 10 + size k
+    ≡ rip + sizes (allocating (distance (rip + 10) check) frame false) = omega arith in
     let flat = one_of_each v.rest (sp - 8) sp (sp - frame) sp (sp - frame) len in
     let all = reaches_then 1 7 (machine v rip f) (machine v1 (rip + 5) f)
     (machine v4 (rip + 10 + size k) g) first

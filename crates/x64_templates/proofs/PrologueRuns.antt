@@ -297,8 +297,8 @@ module _ (p : FramePlan) (is_plan : IsPlan p) (check : ℕ) (e : State)
           ap (allocating p.probe k) large
           ∙ ap (λ (q : ℕ). allocating q k false) (probe.0
           ∙ ap (λ b. distance (b + 10) check) (sym h.rip)) in
-          let code = subst (λ b. HasCode v.memory b (allocating (distance (rip + 10) check) k false))
-          (sym h.rip)
+          let code = subst
+          (λ b. HasCode v.memory b (allocating (distance (rip + 10) check) k false)) (sym h.rip)
           (subst (HasCode v.memory (begin + at)) three (code_here x xs done at l s h)) in
           let placed = code.placed.high in
           let most = l.emitted.0 in
@@ -398,7 +398,8 @@ module _ (p : FramePlan) (is_plan : IsPlan p) (check : ℕ) (e : State)
             (at + long (Allocate k)) (Allocate k ∷ done) s
         by true e' = one_goes (Allocate k) xs done at
             (instrs.Arithmetic arithmetic.Sub W64 (places.Register Rsp) (operands.Immediate k))
-            (ap (allocating p.probe k) e') l s h (subst (Does s _ _) (sym (ap not e')) (allocates k _ s))
+            (ap (allocating p.probe k) e') l s h
+            (subst (Does s _ _) (sym (ap not e')) (allocates k _ s))
         by false e' = large_goes k xs done at e' l s h
     code_goes SetFrame xs done at l s h =
         one_goes SetFrame xs done at
@@ -471,8 +472,8 @@ module _ (p : FramePlan) (is_plan : IsPlan p) (check : ℕ) (e : State)
             within = within_same (top - n) top e.memory;
             same = λ none. refl;
           }) in
-          let run = subst (λ ops. Running f offset e back ops r.to) (turned_back [] (operations_of p))
-          r.here.running in
+          let run = subst (λ ops. Running f offset e back ops r.to)
+          (turned_back [] (operations_of p)) r.here.running in
           record {
             following = r.to;
             comes = r.comes;

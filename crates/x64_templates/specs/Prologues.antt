@@ -65,8 +65,8 @@ AreProbed p check at (x ∷ xs) =
 
 -- ---- the frame
 
--- e: at the first byte. In memory the frame alone has changed, and of the volatile registers RAX and
--- R11, which `__chkstk` takes
+-- e: at the first byte. In memory the frame alone has changed, nothing where no code stores, and of
+-- the volatile registers RAX and R11, which `__chkstk` takes
 pub record MakesFrame (p : FramePlan) (e : State) : Type 0 where
   pub following : State
   pub comes : Enters e.cpu.rip (e.cpu.rip + sizes (prologue_code p)) (prologue_turns p) e following

@@ -11,9 +11,8 @@ pub fn bodies_run()
     ensures retries { FaultsAreRetried }
 {}
 
-/// A call comes to its callee with arguments and return address, a prologue makes the frame that its
-/// plan says, a function begins with its arguments in its locals, and a return leaves its number in
-/// RAX.
+/// A call comes to its callee with arguments and return address, a prologue makes the frame of its
+/// plan, a function begins with its arguments in its locals, and a return leaves its number in RAX.
 pub fn calls_pass_arguments()
     ensures calls { CallsBegin }
     ensures entries { ProloguesMakeFrames }
