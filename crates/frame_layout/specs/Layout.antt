@@ -1,72 +1,95 @@
--- The layout of a frame, as a frame of the rules.
-use Rattle.std.specs.Prelude.{◌≡◌, ℕ, ◌+◌, ◌*◌, ◌%◌, ◌≤◌, [], ◌∷◌}
-use Rattle.eh_tables.specs.declared.code.UnwindOperation.TheVariants.{Allocate}
-use Rattle.eh_tables.specs.declared.unwind_info.Trailer.{Trailer}
-use Rattle.eh_tables.specs.declared.unwind_info.Trailer.TheVariants.{Nothing}
-use Rattle.eh_tables.specs.declared.unwind_info.UnwindInfo.{UnwindInfo}
-use Rattle.eh_tables.specs.Infos.{Info}
-use Rattle.frame_rules.specs.Plan.{FramePlan}
-use Rattle.frame_rules.specs.Prologue.{bytes}
-use Rattle.frame_rules.specs.Plan as rules
-use Rattle.frame_rules.specs.Bytes.{spell, prologue_code}
-use Rattle.template_code.specs.Frames.{frame_plan}
+-- The layout of a frame.
+use Rattle.std.specs.Prelude.{◌≡◌, ℕ, ◌+◌, ◌-◌, ◌*◌, ◌%◌, ◌^◌, ◌<◌, ◌≤◌, min, max, Bool, true, false, ◌&&◌, nat_le}
 use Rattle.frame_layout.specs.declared.frame.Facts.{Facts}
 use Rattle.frame_layout.specs.declared.frame.FrameLayout.{FrameLayout}
+use Rattle.frame_layout.specs.declared.frame.TheConstants.{LEAST_FRAMED}
 use Rattle.template_code.specs.declared.layout.TheConstants.{LARGEST_FRAME}
 
+-- ---- what a routine needs, in words
+
+-- home space and slots
+abbrev pub slot_words : Facts → ℕ
+slot_words f = 4 + f.passed + f.kept + f.temporaries + f.locals
+
+-- three of the registers are pushed, and the others saved by mov
+abbrev pub pushed_count : Facts → ℕ
+pushed_count f = min f.registers 3
+
+abbrev pub saved_count : Facts → ℕ
+saved_count f = f.registers - 3
+
+-- slots and what is saved by mov
 abbrev pub words : Facts → ℕ
-words f = f.passed + f.kept + f.temporaries + f.locals
+words f = slot_words f + saved_count f
 
--- home space, these words, a word of padding and the return address are in the largest frame
-abbrev pub FitsFrame : Facts → Type 0
-FitsFrame f = 8 * (4 + words f + 2) ≤ LARGEST_FRAME
+-- with these, a word of padding, the pushes, RBP's among them, and the return address it is in the
+-- largest frame
+pub record FitsFrame (f : Facts) : Type 0 where
+  pub registers : f.registers ≤ 7
+  pub words : 8 * (words f + pushed_count f + 3) ≤ LARGEST_FRAME
 
--- n words, or one more, so that with the return address they are a multiple of 16 bytes
-abbrev pub allocation : ℕ → ℕ
-allocation n = 8 * (n + (n + 1) % 2)
+-- ---- the fixed allocation
 
-abbrev pub frame_of : Facts → FrameLayout
-frame_of f = record {
+-- so many words, or one more, so that with so many pushes and the return address they are a multiple
+-- of 16 bytes
+abbrev pub padded : ℕ → ℕ → ℕ
+padded words pushes = 8 * (words + (words + pushes + 1) % 2)
+
+-- it has a frame register where it may, and the allocation is large without that
+abbrev pub is_framed : Facts → Bool
+is_framed f = f.frame_register && nat_le LEAST_FRAMED (padded (words f) (pushed_count f))
+
+-- pushing RBP turns the parity, and leaves the allocation large
+abbrev pub size_if : Facts → Bool → ℕ
+size_if f true = padded (max (words f) 32) (pushed_count f + 1)
+size_if f false = padded (words f) (pushed_count f)
+
+-- ---- the frame
+
+-- the frame register is pushed too
+abbrev pub frame_pushes : Bool → ℕ
+frame_pushes true = 1
+frame_pushes false = 0
+
+abbrev pub frame_if : Facts → Bool → FrameLayout
+frame_if f framed = record {
   kept = 8 * (4 + f.passed);
   temporaries = 8 * (4 + f.passed + f.kept);
   locals = 8 * (4 + f.passed + f.kept + f.temporaries);
-  size = allocation (4 + f.passed + f.kept + f.temporaries + f.locals);
+  slots = 8 * slot_words f;
+  saves = saved_count f;
+  pushes = pushed_count f;
+  framed = framed;
+  size = size_if f framed;
+  depth = size_if f framed + 8 * (pushed_count f + frame_pushes framed);
 }
 
--- what a frame is to be: home space and the parts one after another below its end, and RSP a
--- multiple of 16 where it is so before the return address is pushed
+abbrev pub frame_of : Facts → FrameLayout
+frame_of f = frame_if f (is_framed f)
+
+-- ---- what a frame is to be
+
+-- at most three pushes but for RBP's and four saves by mov, these in the fixed allocation
+pub record IsFrame (f : FrameLayout) : Type 0 where
+  pub pushes : f.pushes ≤ 3
+  pub saves : f.saves ≤ 4
+  pub some : 0 < f.size
+  pub saved : f.slots + 8 * f.saves ≤ f.size
+  pub depth : f.depth ≡ f.size + 8 * (f.pushes + frame_pushes f.framed)
+  pub small : f.depth < 2 ^ 31
+
+-- home space and the parts one after another below the end of the slots, and RSP a multiple of 16
+-- where it is so before the return address is pushed
 pub record IsLaidOut (f : Facts) (frame : FrameLayout) : Type 0 where
   pub passed : 32 + 8 * f.passed ≤ frame.kept
   pub kept : frame.kept + 8 * f.kept ≤ frame.temporaries
   pub temporaries : frame.temporaries + 8 * f.temporaries ≤ frame.locals
-  pub locals : frame.locals + 8 * f.locals ≤ frame.size
-  pub aligned : (frame.size + 8) % 16 ≡ 0
+  pub locals : frame.locals + 8 * f.locals ≤ frame.slots
+  pub registers : frame.pushes + frame.saves ≡ f.registers
+  pub aligned : (frame.depth + 8) % 16 ≡ 0
 
--- with the displacement of the call of `__chkstk`
-abbrev pub plan_of : FrameLayout → ℕ → FramePlan
-plan_of frame probe = frame_plan frame.size probe
-
--- the bytes of the prologue
-unfoldable pub taking_size : ℕ → ℕ
-taking_size size =
-    bytes (rules.spelled_by spell (prologue_code (plan_of
-    (record { kept = 0; temporaries = 0; locals = 0; size = size }) 0)))
-
--- an unwind info that is to be written says the same as one that is read
-pub record Describes (u : UnwindInfo) (i : Info) : Type 0 where
-  pub prologue_size : u.prologue_size ≡ i.prologue_size
-  pub frame_register : u.frame_register ≡ i.frame_register
-  pub frame_offset : u.frame_offset ≡ i.frame_offset
-  pub codes : u.codes.items ≡ i.codes
-  pub trailer : u.trailer ≡ Nothing
-
--- the info of a frame, with what follows its codes
-abbrev pub info_of : FrameLayout → Trailer → UnwindInfo
-info_of f trailer = record {
-  prologue_size = taking_size f.size;
-  frame_register = 0;
-  frame_offset = 0;
-  codes =
-      record { items = record { offset = taking_size f.size; operation = Allocate f.size } ∷ [] };
-  trailer = trailer;
-}
+-- where it may have a frame register, it has one exactly where its allocation is large
+pub record IsFramedBySize (f : Facts) (frame : FrameLayout) : Type 0 where
+  pub allowed : frame.framed ≡ true → f.frame_register ≡ true
+  pub large : frame.framed ≡ true → LEAST_FRAMED ≤ frame.size
+  pub small : f.frame_register ≡ true → frame.framed ≡ false → frame.size < LEAST_FRAMED

@@ -10,7 +10,10 @@
 #![tactic(auto)]
 
 mod frame;
+mod infos;
 mod instructions;
+mod operations;
 
 pub use frame::{Facts, FrameLayout, plan};
-pub use instructions::{epilogue, prologue, unwind_of};
+pub use infos::unwind_of;
+pub use instructions::{epilogue, prologue};

@@ -1,7 +1,7 @@
 -- The function is entered, whatever its frame is.
 use Rattle.std.proofs.Common.{◌≡◌, ℕ, ◌+◌, ◌-◌, ◌<◌, ◌≤◌, Bool, true, false, Some, List, length, refl, sym, ap, subst, ◌∙◌, arith, inl, inr, length-drop}
-use Rattle.std.specs.Prelude.{slice_index}
-use Rattle.image_runs.specs.Words.{Memory, State, Functions, Funclet, LinearProgram, LinearBody, LinearFunction, FunctionBody, body_of, Layout, sizes, parameters_code, MachineView, HasCode, ImagePlan, Sites, IsLayoutIf, IsFunctionLayout, IsLeafLayout, IsProgramImage, seen_by_templates}
+use Rattle.std.specs.Prelude.{slice_index, nat_le, if◌then◌else◌}
+use Rattle.image_runs.specs.Words.{Memory, State, Functions, Funclet, LinearProgram, LinearBody, LinearFunction, FunctionBody, body_of, Layout, sizes, parameters_code, MachineView, HasCode, ImagePlan, Sites, IsLayoutIf, IsFunctionLayout, IsLeafLayout, IsProgramImage, seen_by_templates, STACK_START, STACK_END, Instr}
 use Rattle.match_bodies.specs.CodeSites.{body_plan}
 use Rattle.match_bodies.specs.Setting.{Setting, setting_of}
 use Rattle.seh_records.specs.Laws.{AllSmall}
@@ -9,10 +9,11 @@ use Rattle.frame_rules.specs.Plan.{FramePlan}
 use Rattle.frame_rules.specs.States.{IsEntry, registers}
 use Rattle.x64_templates.specs.Prologues.{prologue_turns}
 use Rattle.match_bodies.proofs.BodyViews.{is_machine}
-use Rattle.match_bodies.proofs.FrameCode.{few_turns, plan_depth}
+use Rattle.match_bodies.proofs.FrameCode.{few_turns, plan_depth, made_small}
 use Rattle.match_bodies.proofs.PlannedPrologues.{body_planned, body_probed}
 use Rattle.match_bodies.proofs.PrologueSteps.{small_at}
-use Rattle.image_runs.proofs.Lemmas.{may_read_written, with_home, home_parameters, Made, no_frame, planned_frame}
+use Rattle.image_runs.proofs.Lemmas.{may_read_written, with_home, home_parameters, Made, no_frame, planned_frame, making_steps}
+use Rattle.std.proofs.lemmas.Bool.{cases_lt, le-leb, leb-true}
 use Rattle.match_turns.proofs.FunctionEntryCode.{making_frame, HasEntry, has_entry}
 use Rattle.image_runs.proofs.FunctionEntry as entering
 use Rattle.image_runs.proofs.FunctionEntry.{IsCalled}
@@ -46,9 +47,6 @@ module _ (t : Functions) (fs : List Funclet) (program : LinearProgram) (p : Imag
   abbrev setting : Setting
   setting = setting_of t fs program p q image
 
-  many : length view.rest ≡ 13
-  many = length-drop 3 s.cpu.registers ∙ (let k = h.count in omega arith)
-
   entry : (leaf : Bool) → p.leaf (FunctionBody f) ≡ leaf
       → HasEntry program p q f count s.memory leaf
   entry = has_entry t fs program p q image f count fn h.function refl s.memory h.memory.code
@@ -68,7 +66,7 @@ module _ (t : Functions) (fs : List Funclet) (program : LinearProgram) (p : Imag
       let none : target + sizes (making_frame p q f true) ≡ target = omega arith in
       let same = home_parameters layout 0 count small in
       let made = no_frame view target s.cpu.flags top arguments
-      (entering.view_stack t fs program p q image s source f fn top arguments h) many
+      (entering.view_stack t fs program p q image s source f fn top arguments h)
       h.registers in
       entering.entered t fs program p q image s source f fn top arguments h top target 0 made
       (with_home layout)
@@ -142,7 +140,7 @@ module _ (t : Functions) (fs : List Funclet) (program : LinearProgram) (p : Imag
     made : Made view target (target + sizes (making_frame p q f false)) s.cpu.flags top sp
         arguments (prologue_turns plan)
     made = planned_frame view target s.cpu.flags top arguments
-        (entering.view_stack t fs program p q image s source f fn top arguments h) many
+        (entering.view_stack t fs program p q image s source f fn top arguments h)
         h.registers plan q.check_stack frame (body_planned setting (FunctionBody f) o there some
         l.small)
         (few_turns frame plan.probe) (plan_depth frame plan.probe) begins (entry false leaf).making

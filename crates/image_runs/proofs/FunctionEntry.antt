@@ -1,14 +1,14 @@
 -- A function with at most four parameters is entered from its first byte: once its frame is made,
 -- the parameters go to their locals.
 use Rattle.std.proofs.Common.{◌≡◌, ℕ, ◌+◌, ◌*◌, ◌^◌, ◌<◌, ◌≤◌, true, Some, List, length, sym, ap, subst, ◌∙◌, arith, inl, inr}
-use Rattle.std.specs.Prelude.{◌⊎◌, slice_get, slice_index}
-use Rattle.image_runs.specs.Words.{STACK_START, STACK_END, Memory, number_at, may_write, Protection, Rsp, State, register, Functions, Funclet, Local, LinearProgram, LinearBody, LinearFunction, FunctionBody, body_of, function_body, Layout, sizes, spelled, parameters_code, stack_parameter, MachineView, InRegisters, with_arguments, OnStack, IsFunctionFrame, body_in_memory, HasCode, Enters, ReachesBody, ImagePlan, Sites, arguments_code, IsMachineMemory, IsProgramImage, seen_by_templates, counts_of, LARGEST_FRAME, is_reserved, machine}
+use Rattle.std.specs.Prelude.{◌⊎◌, slice_get}
+use Rattle.image_runs.specs.Words.{STACK_START, STACK_END, Memory, number_at, may_write, Protection, Rsp, State, register, Functions, Funclet, Local, LinearProgram, LinearBody, LinearFunction, FunctionBody, body_of, function_body, Layout, sizes, spelled, parameters_code, stack_parameter, MachineView, InRegisters, with_arguments, OnStack, IsFunctionFrame, body_in_memory, HasCode, Enters, ReachesBody, ImagePlan, Sites, arguments_code, IsMachineMemory, IsProgramImage, OtherRegisters, seen_by_templates, counts_of, LARGEST_FRAME, is_reserved, machine}
 use Rattle.flat_memory.specs.Protections.{is_writable}
 use Rattle.x64_templates.specs.CallStates.{sp_of}
 use Rattle.match_bodies.specs.CodeSites.{body_plan, making_size}
 use Rattle.seh_records.specs.Laws.{AllSmall}
 use Rattle.x64_templates.specs.Frames.{InTemporaries, InLocals, IsBytes, Agrees}
-use Rattle.image_runs.proofs.Lemmas.{bytes_kept, enters_then, making_steps, stack_is_reserved, index_of, sp_seen, Keeps, enters_keeps, own_frame, IsOwn, roomy_own, fresh_own, parameters_soon, argument_is, Made}
+use Rattle.image_runs.proofs.Lemmas.{bytes_kept, enters_then, making_steps, stack_is_reserved, Keeps, enters_keeps, own_frame, IsOwn, roomy_own, fresh_own, parameters_soon, argument_is, Made}
 use Rattle.x64_templates.proofs.Ranges.{within_agrees}
 use Rattle.x64_templates.proofs.Entering.{fresh_holds, parameters_run}
 
@@ -56,7 +56,7 @@ module _ (t : Functions) (fs : List Funclet) (program : LinearProgram) (p : Imag
   first = machine view target s.cpu.flags
 
   pub view_stack : sp_of view ≡ top
-  view_stack = sp_seen s ∙ h.stack
+  view_stack = h.stack
 
   -- what is outside of the function's slots: all but the stack, and the return address
   abbrev pub Outside : ℕ → Type 0
@@ -126,7 +126,7 @@ module _ (t : Functions) (fs : List Funclet) (program : LinearProgram) (p : Imag
     }
 
     run : ReachesBody (own_frame program.globals y o sp) (length (parameters_code y 0 count)) k
-        (to + sizes (parameters_code y 0 count)) made.after.rest
+        (to + sizes (parameters_code y 0 count)) made.after.rest made.after.locals
         (record {
           slots = with_arguments (body_in_memory y sp sp made.after.memory source).slots
               arguments 0 count;
@@ -164,8 +164,7 @@ module _ (t : Functions) (fs : List Funclet) (program : LinearProgram) (p : Imag
               (machine run.after (to + sizes (parameters_code y 0 count)) run.flags) made.comes
               run.comes);
           rip = ends;
-          stack = ap (λ (xs : List ℕ). slice_index xs 1) run.rest ∙ sym (index_of made.after.rest 1)
-              ∙ made.stack;
+          stack = ap (λ (r : OtherRegisters). r.rsp) run.rest ∙ made.stack;
           locals = λ i lt. (let fits = h.fits in
               let w : sp + (layout.locals + 8 * i) ≡ sp + (y.locals + 8 * i) = omega arith in
               ap (number_at run.after.memory.byte 8) w

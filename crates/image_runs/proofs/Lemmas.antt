@@ -16,7 +16,7 @@ pub use Rattle.match_bodies.proofs.SlotPlaces.{stack_is_reserved}
 pub use Rattle.match_bodies.proofs.StackTop.{leaf_layout, OnTop, leaf_frame, framed_here, framed_top, leaf_top, body_on_top}
 pub use Rattle.match_bodies.proofs.StackWords.{word_is, may_read_written, word_of}
 pub use Rattle.match_bodies.proofs.StepNeeds.{label_in}
-pub use Rattle.match_bodies.proofs.TemplateRuns.{index_of, sp_seen, get_or_is}
+pub use Rattle.match_bodies.proofs.TemplateRuns.{get_or_is}
 pub use Rattle.match_bodies.proofs.TemplateSizes.{template_some, first_in_code, address_next}
 pub use Rattle.match_turns.proofs.FunctionLocals.{words_count, words_small, arguments_then_words, argument_is}
 unfoldable pub use Rattle.match_turns.proofs.FunctionLocals.{words_at}

@@ -1,7 +1,7 @@
 -- All that steps of the machine ask of the image of a sound program.
 use Rattle.std.proofs.Common.{◌≡◌, ℕ, ◌<◌, [], ◌∷◌, length, get_or, Some, refl, sym, ap, ◌∙◌, arith, length-append}
 use Rattle.std.proofs.lemmas.Option.{slice_get-get_or}
-use Rattle.image_runs.specs.Words.{Program, Local, Temporary, LinearBody, LinearFunction, LinearProgram, FunctionBody, function_body, body_of, scope_of, lowered, no_function, functions_of, funclets_of, plan_of, sites_of, IsLinkable, IsSoundImage, FunctionsApart, IsField, IsPlain, LoweredHasImage}
+use Rattle.image_runs.specs.Words.{Program, Local, Temporary, LinearBody, LinearProgram, FunctionBody, function_body, body_of, scope_of, lowered, no_function, functions_of, funclets_of, plan_of, sites_of, IsLinkable, IsSoundImage, FunctionsApart, IsField, IsPlain, LoweredHasImage}
 use Rattle.c_operations.specs.declared.field.Field.{Field}
 use Rattle.linear_code.specs.declared.instruction.Instruction.TheVariants as instructions
 use Rattle.linear_code.specs.declared.program.FuncletKind.{FuncletKind}

@@ -1,7 +1,8 @@
 -- The frames of a checked program's image, at every instruction of its code.
 use Rattle.std.specs.Prelude.{◌≡◌, ℕ, ◌+◌, slice_get, Some, None}
 use Rattle.x64_machine.specs.Effect.{State}
-use Rattle.frame_rules.specs.Rules.{IsInFunction}
+use Rattle.frame_rules.specs.Codes.{depth}
+use Rattle.frame_rules.specs.Rules.{IsInFunction, ops}
 use Rattle.frame_rules.specs.States.{IsEntry}
 use Rattle.host_layout.specs.declared.imported.ImportedService.{ImportedService}
 use Rattle.c_checked.specs.Program.{Program}
@@ -9,7 +10,7 @@ use Rattle.linear_code.specs.Program.{LinearProgram}
 use Rattle.seh_ir.specs.Lowered.{lowered}
 use Rattle.frame_layout.specs.declared.frame.FrameLayout.{FrameLayout}
 use Rattle.image_link.specs.Fits.{FitsProgram}
-use Rattle.image_tables.specs.RoutinePlaces.{Placed, end_of, site_of, placed, thunk_begin, probe_begin}
+use Rattle.image_tables.specs.RoutinePlaces.{Placed, end_of, placed, thunk_begin, probe_begin}
 use Rattle.image_tables.specs.CodeInMemory.{image_base, HasText}
 use Rattle.image_tables.specs.Functions.{function_of, leaf, thunk_of, probe}
 use Rattle.image_tables.specs.FrameLaws.{FindsCaller, IsInRange}
@@ -21,7 +22,7 @@ pub record FindsCallers (p : LinearProgram) : Type 0 where
   pub functions :
       (index : ℕ) (x : Placed) (f : FrameLayout) (e s : State) (distance : ℕ)
       → slice_get (placed p) index ≡ Some x → x.routine.frame ≡ Some f
-      → IsEntry f.size e → HasText s.memory p
+      → IsEntry (depth (ops (function_of p x f))) e → HasText s.memory p
       → s.cpu.rip ≡ image_base + x.begin + distance → IsInFunction (function_of p x f) e s distance
       → FindsCaller p e s
   pub leaves :

@@ -1,5 +1,5 @@
 -- What is claimed of programs that don't call `walk`.
-use Rattle.std.specs.Prelude.{◌≡◌, ℕ, false, ℤ, List}
+use Rattle.std.specs.Prelude.{◌≡◌, ℕ, false, ℤ}
 use Rattle.std.specs.List.{AllByRecursion}
 use Rattle.c_checked.specs.Program.{Program}
 use Rattle.c_checked.specs.Sound.{IsSound}

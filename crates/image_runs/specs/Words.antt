@@ -51,7 +51,7 @@ pub use Rattle.template_code.specs.declared.layout.TheConstants.{LARGEST_FRAME}
 pub use Rattle.x64_templates.specs.EntryStates.{InRegisters, with_arguments, OnStack, IsFunctionFrame, body_in_memory}
 pub use Rattle.x64_templates.specs.Epilogues.{IsReturn}
 pub use Rattle.x64_templates.specs.Runs.{HasCode, Enters, ReachesBody}
-pub use Rattle.x64_templates.specs.Straight.{machine, MachineView}
+pub use Rattle.x64_templates.specs.Straight.{machine, MachineView, OtherRegisters}
 pub use Rattle.virtual_unwind.specs.CallerOf.{Functions, distance}
 pub use Rattle.virtual_unwind.specs.Contexts.{rsp}
 pub use Rattle.virtual_unwind.specs.Undone.{word}

@@ -3,7 +3,7 @@ use Rattle.std.proofs.Common.{◌≡◌, ◌≢◌, ℕ, zero, suc, ◌+◌, ◌
 use Rattle.std.specs.Prelude.{◌&&◌}
 use Rattle.std.proofs.lemmas.Bool.{or_right, and_from, and_right, not_from_false, cases_eq, cases_lt, le-leb, lt-ltb, le-ltb}
 use Rattle.image_states.specs.Words.{IMAGE_BASE, IMAGE_RANGE_END, is_between, is_data, data_end, is_reserved, LinearBody, LinearFunclet, LinearProgram, BodyName, body_of, Instruction, Layout, modrm, size, sizes, check_stack, body_size, offset_of, FitsProgram, RoutineView, funclet_frame, funclet, routines, IsFrameNear, routine_size, entry_size, routine_bytes, bounds, text_begin, total, linked, Placed, end_of, site_of, image_base, template_at, funclet_begin, functions_of, funclets_of, routine_of, address_of, plan_of, sites_of, HasWholeImage, IsInImage, routines_begin, probe_begin}
-use Rattle.image_states.proofs.Lemmas.{offset_next, some_instruction, no_routine, taking_few, entry_least, text_is, end_inside, IsThere, there, routine_length, bounds_rise, no_funclet, as_long, begin_is, funclet_is, funclet_size}
+use Rattle.image_states.proofs.Lemmas.{offset_next, some_instruction, no_routine, prologue_some, entry_least, text_is, end_inside, IsThere, there, routine_length, bounds_rise, no_funclet, as_long, begin_is, funclet_is, funclet_size}
 use Rattle.image_link.proofs.Bounds.{bounds_least, bounds_below}
 use Rattle.image_tables.proofs.Labels.{template_some}
 use Rattle.image_states.proofs.Places.{IsBody, is_body}
@@ -149,10 +149,8 @@ entry_some program c name b is fl e =
     let x = routine_of program name in
     let framed : x.routine.frame ≡ Some (funclet_frame fl.body) = ap (λ (r : RoutineView). r.frame)
     e in
-    let size = subst IsFrameNear framed h.near.frame in
-    let least = entry_least x.routine (funclet_frame fl.body) h.near framed size.0 in
-    let few = taking_few (funclet_frame fl.body).size size.0 (let m = size.1 in omega arith) in
-    let four = few.0 in
+    let least = entry_least x.routine (funclet_frame fl.body) h.near framed in
+    let some = prologue_some (funclet_frame fl.body) (subst IsFrameNear framed h.near.frame) in
     omega arith
 
 -- ---- funclets begin elsewhere

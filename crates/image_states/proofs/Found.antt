@@ -2,8 +2,7 @@
 use Rattle.std.proofs.Common.{◌≡◌, ◌≢◌, ℕ, ◌+◌, ◌-◌, ◌^◌, ◌<◌, ◌≤◌, true, false, ltb, leb, List, [], ◌∷◌, ◌++◌, length, Option, Some, None, refl, sym, ap, subst, ◌∙◌, arith}
 use Rattle.std.specs.Prelude.{slice_get}
 use Rattle.std.proofs.lemmas.Bool.{le-ltb, and_right}
-use Rattle.std.proofs.lemmas.List.{append-nil}
-use Rattle.image_states.specs.Words.{Memory, Rax, Instr, modrm, Table, Entry, BuiltIn, Put, Protect, RaiseException, Walk, Functions, distance, entry_of, left, framed, filter_return, finally_return, Slot, LinearBody, LinearProgram, BodyName, body_of, FrameLayout, size, sizes, fetch, check_stack, RoutineView, routines, SiteView, routine_size, argument_code, first, total, Placed, end_of, site_of, infos_begin, image_base, template_at, begin_of, making_size, FindsReturn, FindsOwed, owed_of, functions_of, funclets_of, is_leaf, or_none, owed_after, routine_of, address_of, plan_of, sites_of, HasWholeImage, IsNear, entry_or, holding, thunks_at, info_bytes, thunk_of, placed_from, FindsCallers, FindsCallersOutside, services_of, routines_begin, probe_begin, owed_by, HasProgram}
+use Rattle.image_states.specs.Words.{Memory, Rax, Instr, modrm, Table, Entry, BuiltIn, Put, Protect, RaiseException, Walk, Functions, distance, entry_of, left, framed, filter_return, finally_return, Slot, LinearBody, LinearProgram, BodyName, body_of, FrameLayout, size, sizes, fetch, check_stack, RoutineView, routines, SiteView, routine_size, argument_code, total, Placed, end_of, site_of, infos_begin, image_base, begin_of, making_size, FindsReturn, FindsOwed, owed_of, functions_of, funclets_of, is_leaf, or_none, owed_after, routine_of, address_of, plan_of, sites_of, HasWholeImage, IsNear, entry_or, holding, thunks_at, info_bytes, thunk_of, placed_from, FindsCallers, FindsCallersOutside, services_of, routines_begin, probe_begin}
 use Rattle.eh_tables.specs.Tables as reading
 use Rattle.linear_code.specs.declared.instruction.Instruction.TheVariants as instructions
 use Rattle.image_states.proofs.Lemmas.{thunks_are_held_by_none, tables_are_read, end_inside, away}
@@ -13,12 +12,10 @@ use Rattle.image_link.proofs.Front.{place_small}
 use Rattle.image_tables.specs.Entries as tables
 use Rattle.image_states.proofs.Addresses.{place, label_rises, label_inside}
 use Rattle.image_states.proofs.Entering.{arguments_same}
-use Rattle.frame_rules.specs.Plan.{Saved}
-use Rattle.match_bodies.specs.Callers.{owed_opening, owed_pops}
-use Rattle.match_bodies.specs.CodeSites.{body_plan, epilogue_through}
+use Rattle.match_bodies.specs.ProgramImages.{loaded_at}
 use Rattle.image_states.proofs.EntryWalks.{none_found}
-use Rattle.image_states.proofs.Framed.{framed_of}
-use Rattle.image_states.proofs.Callers.{leaf_at, making_at, entered_at, argument_at, argument_found, making_is, return_found, open_found, end_found}
+use Rattle.image_states.proofs.Framed.{framed_of, leaf_of}
+use Rattle.image_states.proofs.Callers.{leaf_at, making_at, entered_at, argument_at, argument_found, making_is, owed_if, return_found, leaf_end, load_at, opening_at, pops_at}
 
 -- ---- where no entry is
 
@@ -139,8 +136,7 @@ module _ (program : LinearProgram) (c : HasWholeImage program) where
         subst (λ a. FindsReturn (functions_of program) m a) z
         (leaf_at program c name b is m none (x.begin + 0) (omega arith) (omega arith))
     entry_found m (Some f) framed some =
-        let z : image_base + (x.begin + 0) ≡ begin = omega (arith, begin_is) in
-        subst (λ a. FindsReturn (functions_of program) m a) z
+        subst (λ a. FindsReturn (functions_of program) m a) (sym begin_is)
         (entered_at program c name b is m f framed)
 
     making_found : (m : Memory) (d : ℕ) (o : Option FrameLayout) → x.routine.frame ≡ o
@@ -150,7 +146,7 @@ module _ (program : LinearProgram) (c : HasWholeImage program) where
         (owed_after (tables.entry_of (site_of program) x (or_none o)).info d)
     making_found m d None none framed lt = absurd (let z : true ≡ false = framed in cc)
     making_found m d (Some f) framed leaf lt =
-        let z : image_base + (x.begin + d) ≡ begin + d = omega (arith, begin_is) in
+        let z : image_base + x.begin + d ≡ begin + d = omega (arith, begin_is) in
         subst (λ a. FindsOwed (functions_of program) m a
         (owed_after (tables.entry_of (site_of program) x f).info d)) z
         (making_at program c name b is m f framed d lt)
@@ -160,28 +156,9 @@ module _ (program : LinearProgram) (c : HasWholeImage program) where
     at_label label from at = ap (λ (d : LinearBody). slice_get d.code label)
         (place program c name b is).body ∙ at
 
-    -- where a return fetches its result, up to the last of these instructions
-    fetched_found : (m : Memory) (label : ℕ) (from : Slot) (done left : List Instr)
-        → HasProgram (functions_of program) (funclets_of program) program (plan_of program)
-        (sites_of program) m → slice_get b.code label ≡ Some (instructions.Return from)
-        → fetch x.routine.layout Rax from ≡ done ++ left
-        → FindsOwed (functions_of program) m (address_of program name label + sizes done)
-        (owed_of (plan_of program) name)
-    fetched_found m label from done left has at parts =
-        let e : image_base + (template_at x label + sizes done)
-        ≡ address_of program name label + sizes done = omega arith in
-        subst (λ a. FindsOwed (functions_of program) m a (owed_of (plan_of program) name)) e
-        (return_found program c name b is m label from (at_label label from at) has
-        x.routine.frame refl done left parts)
-
-    -- a frame that saves nothing has no load
-    no_saves : (loaded left : List Saved) (next : Saved) → [] ≡ loaded ++ (next ∷ left) → ⊥
-    no_saves [] left next e = absurd cc
-    no_saves (s ∷ loaded) left next e = absurd cc
-
     place_of : (m : Memory) (done left : List Instr) (item : Instr)
         (split : argument_code x.routine.layout x.routine.entry ≡ done ++ (item ∷ left))
-        → image_base + argument_at program c name b is m done left item split
+        → argument_at program c name b is m done left item split
         ≡ begin + making_size (plan_of program) (sites_of program) name + sizes done
     place_of m done left item split = let n = making_is program c name b is m in
         omega (arith, begin_is)
@@ -193,40 +170,34 @@ module _ (program : LinearProgram) (c : HasWholeImage program) where
       making = λ m d leaf lt. making_found m d x.routine.frame refl leaf lt;
       arguments = λ m done left item has parts.
           (let split = sym (arguments_same program c name b is) ∙ parts in
-          let e : image_base + argument_at program c name b is m done left item split
+          let e : argument_at program c name b is m done left item split
           ≡ begin + making_size (plan_of program) (sites_of program) name
           + sizes done = place_of m done left item split in
           subst (λ a. FindsOwed (functions_of program) m a (owed_of (plan_of program) name)) e
           (argument_found program c name b is m done left item split has x.routine.frame refl));
-      returns = λ m label from done left item has at parts. fetched_found m label from done
-          (item ∷ left) has at parts;
+      returns = λ m label from done left item has at parts.
+          return_found program c name b is m label from (at_label label from at) done left item
+          parts has x.routine.frame refl;
       leaf_ends = λ m label from has at leaf.
-          (let fetching = fetch x.routine.layout Rax from in
-          let e : address_of program name label + sizes fetching
-          ≡ address_of program name label + sizes fetching + 0 = omega arith in
+          (let fetching = sizes (fetch x.routine.layout Rax from) in
+          let e : address_of program name label + fetching
+          ≡ address_of program name label + fetching + 0 = omega arith in
           subst (FindsReturn (functions_of program) m) e
-          (subst (FindsOwed (functions_of program) m (address_of program name label
-          + sizes fetching)) (ap (owed_by ((plan_of program).entry name).info) leaf)
-          (fetched_found m label from fetching [] has at (sym (append-nil fetching)))));
-      loads = λ m label from loaded left next has at framed saves. absurd
-          (no_saves loaded left next saves);
+          (leaf_end program c name b is m label from (at_label label from at)
+          (leaf_of x.routine.frame leaf)));
+      loads = λ m label from loaded left next has at framed saves.
+          (let f = framed_of x.routine.frame framed in
+          subst (λ o. FindsOwed (functions_of program) m
+          (loaded_at (functions_of program) (funclets_of program) program (plan_of program)
+          (sites_of program) name label from loaded)
+          (owed_if program c name b is m o)) (sym f.1)
+          (load_at program c name b is m label from (at_label label from at) has f.0 f.1 loaded
+          left next saves));
       opens = λ m label from has at framed.
           (let f = framed_of x.routine.frame framed in
-          let plan = body_plan (plan_of program) (sites_of program) name in
-          let fetching = fetch x.routine.layout Rax from in
-          let e : image_base + (template_at x label + sizes fetching)
-          ≡ address_of program name label + sizes fetching + 0 = omega arith in
-          subst (λ a. FindsOwed (functions_of program) m a (owed_opening plan)) e
-          (open_found program c name b is m label from (at_label label from at) has f.0 f.1
-          plan.probe));
+          opening_at program c name b is m label from (at_label label from at) has f.0 f.1);
       ends = λ m label from popped left has at framed pushes.
           (let f = framed_of x.routine.frame framed in
-          let plan = body_plan (plan_of program) (sites_of program) name in
-          let e : image_base + (template_at x label + sizes (fetch x.routine.layout Rax from)
-          + sizes (epilogue_through plan popped))
-          ≡ address_of program name label + sizes (fetch x.routine.layout Rax from)
-          + sizes (epilogue_through plan popped) = omega arith in
-          subst (λ a. FindsOwed (functions_of program) m a (owed_pops plan left)) e
-          (end_found program c name b is m label from (at_label label from at) has f.0 f.1
-          plan.probe popped left pushes));
+          pops_at program c name b is m label from (at_label label from at) has f.0 f.1 popped
+          left pushes);
     }

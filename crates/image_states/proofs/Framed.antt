@@ -2,15 +2,14 @@
 use Rattle.std.proofs.Common.{◌≡◌, ℕ, zero, suc, ◌+◌, ◌^◌, ◌<◌, true, false, List, [], ◌∷◌, Option, Some, None, refl, sym, ap, subst, ◌∙◌, arith}
 use Rattle.std.specs.Prelude.{slice_get}
 use Rattle.std.specs.List.{AllByRecursion}
-use Rattle.image_states.proofs.Lemmas.{some_same, none_some, routine_small, size_of, sized, frame_is_at, leaves_are_at}
+use Rattle.image_states.proofs.Lemmas.{some_same, none_some, routine_small, size_of, sized, described, laid_plan, frame_is_at, leaves_are_at}
 use Rattle.std.proofs.lemmas.Bool.{false≢true}
-use Rattle.image_states.specs.Words.{Memory, Instr, rsp, FrameIsAt, IsExecutableAt, Instruction, LinearBody, LinearProgram, BodyName, body_of, FrameLayout, taking_size, spelled, sizes, IsCodeAt, routine_code, IsInstructionNear, site_of, image_base, template_at, links, HasProgram, links_of, begin_of, code_of, functions_of, funclets_of, is_leaf, or_none, routine_of, address_of, plan_of, sites_of, HasWholeImage, IsReturn, IsInBody, frame_of, IsResumed, FramesAreWaiting, IsPlanned, LeavesAreWaiting, spell, IsFrameNear}
+use Rattle.image_states.specs.Words.{Memory, Instr, rsp, FrameIsAt, IsExecutableAt, Instruction, LinearBody, LinearProgram, BodyName, body_of, FrameLayout, spelled, sizes, IsCodeAt, routine_code, IsInstructionNear, site_of, image_base, template_at, links, HasProgram, links_of, begin_of, code_of, functions_of, funclets_of, is_leaf, or_none, routine_of, address_of, plan_of, sites_of, HasWholeImage, IsReturn, IsInBody, frame_of, IsResumed, FramesAreWaiting, IsPlanned, LeavesAreWaiting, spell, IsFrameNear}
 use Rattle.match_stack.specs.Stack.{IsAsTold}
-use Rattle.eh_tables.specs.declared.unwind_info.Trailer.TheVariants.{Nothing}
-use Rattle.frame_layout.specs.Layout.{info_of}
-use Rattle.frame_layout.proofs.Sizes.{describes}
+use Rattle.eh_tables.specs.Infos.{Info}
+use Rattle.frame_layout.specs.Layout as layouts
+use Rattle.frame_rules.specs.Plan.{FramePlan}
 use Rattle.frame_rules.specs.Plan as rules
-use Rattle.template_code.specs.Frames.{frame_plan}
 use Rattle.match_bodies.specs.CodeSites.{body_plan}
 use Rattle.linear_code.specs.declared.instruction.Instruction.TheVariants as instructions
 use Rattle.x64_templates.specs.Epilogues as epilogues
@@ -154,18 +153,19 @@ module _ (program : LinearProgram) (c : HasWholeImage program) where
       let f = framed_of x.routine.frame framed in
       let near = subst IsFrameNear f.1 (here program c name b is).near.frame in
       let probe = (body_plan (plan_of program) (sites_of program) name).probe in
-      let size : f.0.size ≡ x.routine.layout.frame = sym (sized program p.index x p.at
-      ∙ ap size_of f.1) in
-      let d = describes f.0 (taking_size f.0.size) (info_of f.0 Nothing).codes near.0 refl refl
-      probe in
+      let own : body_plan (plan_of program) (sites_of program) name ≡ layouts.plan_of f.0 probe =
+      laid_plan program p.index x f.0 probe p.at f.1 in
+      let d = described f.0 probe near in
+      let info : Option FrameLayout → Info =
+      λ o. (tables.entry_of (site_of program) x (or_none o)).info in
       record {
-        codes = ap (λ (o : Option FrameLayout).
-            (tables.entry_of (site_of program) x (or_none o)).info.codes) f.1 ∙ d.codes
-            ∙ ap (λ n. (rules.unwind_of spell (frame_plan n probe)).codes) size;
-        frame_register = refl;
-        frame_offset = refl;
-        prologue_size = ap (λ (o : Option FrameLayout).
-            (tables.entry_of (site_of program) x (or_none o)).info.prologue_size) f.1
+        codes = ap (λ (o : Option FrameLayout). (info o).codes) f.1 ∙ d.codes
+            ∙ ap (λ (q : FramePlan). (rules.unwind_of spell q).codes) (sym own);
+        frame_register = ap (λ (o : Option FrameLayout). (info o).frame_register) f.1
+            ∙ d.frame_register ∙ ap (λ (q : FramePlan). q.frame) (sym own);
+        frame_offset = ap (λ (o : Option FrameLayout). (info o).frame_offset) f.1
+            ∙ d.frame_offset ∙ ap (λ (q : FramePlan). q.distance) (sym own);
+        prologue_size = ap (λ (o : Option FrameLayout). (info o).prologue_size) f.1
             ∙ d.prologue_size
-            ∙ ap (λ n. (rules.unwind_of spell (frame_plan n probe)).prologue_size) size;
+            ∙ ap (λ (q : FramePlan). (rules.unwind_of spell q).prologue_size) (sym own);
       }

@@ -1,17 +1,17 @@
 -- The rows of names of a program's image hold the code of its functions, with their numbers.
-use Rattle.std.proofs.Common.{◌≡◌, ◌⊎◌, ℕ, zero, suc, ◌+◌, ◌-◌, ◌<◌, ◌≤◌, Bool, true, false, leb, ltb, List, [], ◌∷◌, length, get_or, Option, Some, None, inl, inr, refl, sym, ap, subst, ◌∙◌, arith}
-use Rattle.std.specs.Prelude.{slice_get, option_map, ◌||◌}
+use Rattle.std.proofs.Common.{◌≡◌, ◌⊎◌, ℕ, zero, suc, ◌+◌, ◌-◌, ◌<◌, ◌≤◌, Bool, true, leb, ltb, List, [], ◌∷◌, length, get_or, Option, Some, None, inl, inr, refl, sym, ap, subst, ◌∙◌, arith}
+use Rattle.std.specs.Prelude.{slice_get, option_map}
 use Rattle.std.proofs.lemmas.Bool.{and_from, and_right, or_left, or_right, lt-ltb, le-leb, le-ltb, cases_lt, eq-eqb, ne_eqb}
 use Rattle.std.proofs.lemmas.Option.{slice_get_within}
 use Rattle.c_operations.specs.declared.built_in.BuiltIn.TheVariants.{Walk}
 use Rattle.linear_code.specs.declared.instruction.Instruction.TheVariants as instructions
 use Rattle.linear_machine.specs.BuiltInCalls.{CallsBuiltIn}
-use Rattle.pe_image.specs.NameRows.{NameRow, row_holding, row_or, name_of, name_or, names_of, rows_read}
+use Rattle.pe_image.specs.NameRows.{NameRow, row_holding, row_or, name_of, name_or, rows_read}
 use Rattle.seh_walk.specs.Controls.{number_at}
 use Rattle.image_link.specs.Walks.{is_walk, has_walk, functions_walk, funclets_walk, calls_walk, named_if, function_rows}
-use Rattle.match_stack.specs.ControlAddresses.{number_of, NumbersFunctions}
-use Rattle.image_states.specs.Words.{Instruction, LinearBody, LinearFunction, LinearFunclet, LinearProgram, BodyName, FunctionBody, FuncletBody, body_of, function_body, funclet_body, instruction_in, RoutineView, routines, routine_size, bounds, image_of, linked, distance, Placed, end_of, image_base, template_at, functions_of, routine_of, plan_of, HasWholeImage, InCode, routines_begin}
-use Rattle.image_states.proofs.Lemmas.{no_routine, none_some, some_same, bounds_rise, as_long, away, end_inside, image_small}
+use Rattle.match_stack.specs.ControlAddresses.{NumbersFunctions}
+use Rattle.image_states.specs.Words.{Instruction, LinearBody, LinearFunction, LinearFunclet, LinearProgram, BodyName, FunctionBody, FuncletBody, body_of, function_body, funclet_body, instruction_in, RoutineView, routines, routine_size, bounds, distance, end_of, image_base, functions_of, routine_of, plan_of, HasWholeImage, InCode, routines_begin}
+use Rattle.image_states.proofs.Lemmas.{no_routine, none_some, some_same, bounds_rise, away, end_inside, image_small}
 use Rattle.image_link.proofs.Bounds.{bounds_below}
 use Rattle.image_tables.proofs.NameRows.{names_are_read}
 use Rattle.image_states.proofs.Places.{is_function, is_funclet}

@@ -1,7 +1,7 @@
 -- The image of a compiled program has its bodies where the plan says.
 use Rattle.std.proofs.Common.{◌≡◌, ℕ, ◌+◌, ◌<◌, length, Some, refl, sym, ap, subst, ◌∙◌, arith}
 use Rattle.std.proofs.lemmas.Bool.{lt-ltb, ltb-true}
-use Rattle.image_states.specs.Words.{LinearBody, LinearProgram, BodyName, body_of, sizes, body_size, offset_of, Placed, end_of, site_of, image_base, begin_of, entry_code, functions_of, funclets_of, routine_of, address_of, plan_of, sites_of, HasWholeImage, HasAddresses, ImagesArePrograms, probe_begin}
+use Rattle.image_states.specs.Words.{LinearBody, LinearProgram, BodyName, body_of, sizes, body_size, offset_of, Placed, end_of, image_base, begin_of, entry_code, functions_of, funclets_of, routine_of, address_of, plan_of, sites_of, HasWholeImage, HasAddresses, ImagesArePrograms, probe_begin}
 use Rattle.image_states.proofs.Lemmas.{entry_sizes}
 use Rattle.image_states.proofs.Addresses.{InImage, check_stack_inside, place, here, label_rises, body_inside, not_first, no_funclet_inside}
 use Rattle.image_states.proofs.Slots.{laid_out}

@@ -7,12 +7,13 @@ pub use Rattle.x64_emit.proofs.Nearby.{some_instruction, all_at, test_small, arg
 pub use Rattle.image_link.proofs.Entries.{entry_sizes, routine_small, entry_small}
 pub use Rattle.image_link.proofs.Images.{no_routine}
 pub use Rattle.image_tables.proofs.BodyFrames.{no_epilogue, away, found_in, none_in, frame_is_at, leaves_are_at}
-pub use Rattle.image_tables.proofs.BodyInstructions.{Inner, AllInner, inner_at, fetch_inner, signed}
+pub use Rattle.image_tables.proofs.BodyInstructions.{Inner, AllInner, inner_at, inner_role, fetch_inner, signed}
 pub use Rattle.image_tables.proofs.CodeInMemory.{IsThere, there, routine_length, executable_split, code_split, IsTemplate, template_there, code_length}
+pub use Rattle.image_tables.proofs.FramePlans.{described, prologue_some, prologue_sizes, laid_plan, laid_epilogue, leaf_laid}
 pub use Rattle.image_tables.proofs.Infos.{taking_few}
 pub use Rattle.image_tables.proofs.Layouts.{size_of, sized}
 pub use Rattle.image_tables.proofs.Lookups.{some_same, none_some, thunks_are_held_by_none, placed_has}
-pub use Rattle.image_tables.proofs.Prologues.{entry_least, prologue_sizes}
+pub use Rattle.image_tables.proofs.Prologues.{entry_least}
 pub use Rattle.image_tables.proofs.RoutineRows.{bounds_rise, IsBare, routines_bare, is_placed}
 pub use Rattle.image_tables.proofs.Shape.{no_funclet, as_long, begin_is, funclet_is, funclet_size, rises, tables_have_shape, entries_are_flagged, functions_count}
 pub use Rattle.image_tables.proofs.Table.{text_is, end_inside, is, rdata_is, tables_are_read, image_small}

@@ -7,6 +7,8 @@ pub mod Slots
 pub mod Entering
 pub mod Framed
 pub mod EntryWalks
+pub mod EpilogueModes
+pub mod PlanWalks
 pub mod Callers
 pub mod Found
 pub mod Inserting

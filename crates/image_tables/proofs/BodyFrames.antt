@@ -4,7 +4,7 @@ use Rattle.std.specs.Prelude.{slice_get}
 use Rattle.std.specs.List.{AllByRecursion}
 use Rattle.std.proofs.lemmas.Bool.{and_from, ne_eqb, le-ltb}
 use Rattle.std.proofs.lemmas.List.{append-nil}
-use Rattle.image_tables.specs.Words.{Memory, Instr, chosen, Table, Entry, holding, or_none, Other, FetchedInstr, role_of, spell, IsExecutableAt, image_of, Instruction, LinearProgram, FrameLayout, taking_size, spelled, size, sizes, template, code_from, IsInstructionNear, FitsProgram, IsFrameNear, entry_code, entry_size, check_stack_at, routine_code, text_begin, linked, Placed, end_of, body_begin, site_of, placed, HasRegions, entries, image_base, links, fetched_at, by_role, from_item, tail, tail_at, template_at, IsInBody, stack_frame, BodiesHaveFrames, LeavesHaveReturns}
+use Rattle.image_tables.specs.Words.{Memory, Instr, chosen, Table, Entry, holding, or_none, Other, FetchedInstr, role_of, spell, IsExecutableAt, image_of, Instruction, LinearProgram, FrameLayout, spelled, size, sizes, template, code_from, IsInstructionNear, FitsProgram, entry_code, entry_size, check_stack_at, routine_code, text_begin, linked, Placed, end_of, body_begin, site_of, placed, HasRegions, entries, image_base, links, fetched_at, by_role, from_item, tail, tail_at, template_at, IsInBody, stack_frame, BodiesHaveFrames, LeavesHaveReturns}
 use Rattle.x64_machine.specs.declared.context.Context.{Context}
 use Rattle.x64_encode.proofs.Lengths.{longest}
 use Rattle.virtual_unwind.specs.CallerOf.{distance, entry_of}
@@ -20,7 +20,7 @@ use Rattle.image_tables.proofs.Lookups.{some_same, none_some, entries_are_held, 
 use Rattle.image_tables.proofs.Prologues.{entry_least}
 use Rattle.image_tables.proofs.Table.{tables_are_read}
 use Rattle.image_tables.proofs.CodeInMemory.{executable_split, code_split, IsThere, there, routine_is_at, template_there}
-use Rattle.image_tables.proofs.BodyInstructions.{Inner, AllInner, inner_at}
+use Rattle.image_tables.proofs.BodyInstructions.{Inner, AllInner, inner_at, inner_role}
 use Rattle.image_tables.proofs.Templates.{template_inner}
 use Rattle.image_tables.proofs.Links.{links_near}
 
@@ -38,16 +38,17 @@ tail_none (suc n) f at first m x e r =
     ap (from_item (λ k. tail n false f m ((at + k) % 2 ^ 64)) f first) e
     ∙ other_none (λ k. tail n false f m ((at + k) % 2 ^ 64)) first x (role_of f x.plain x.instr) r
 
-pub no_epilogue : (at : ℕ) (m : Memory) (i : Instr) → Inner i → IsExecutableAt m at (chosen i)
-    → at + 15 < 2 ^ 63 → tail_at 0 m at ≡ None
+pub no_epilogue : (f at : ℕ) (m : Memory) (i : Instr) → Inner i → IsExecutableAt m at (chosen i)
+    → at + 15 < 2 ^ 63 → tail_at f m at ≡ None
 unfolding tail_at
-no_epilogue at m i inner is_there lt =
+no_epilogue f at m i inner is_there lt =
     let one = append-nil (chosen i) in
     let few = longest i in
     let l = ap length one in
     let has = items_are_at m at (i ∷ []) (and_from _ true inner.0 refl) (omega arith)
     (subst (IsExecutableAt m at) (sym one) is_there) in
-    tail_none 0xFFFF_FFFF_FFFF_FFFF 0 at true m (spell i) has.0 (inner.1 (spell i).plain)
+    tail_none 0xFFFF_FFFF_FFFF_FFFF f at true m (spell i) has.0
+    (inner_role f i inner (spell i).plain)
 
 -- ---- the instruction at an address of a body
 
@@ -167,8 +168,8 @@ frame_at p m index x f c rva back others fits regions e framed first here kept e
     let small = routine_small x.routine h.near in
     let past = first.past in
     let inside = first.inside in
-    let size = subst IsFrameNear framed h.near.frame in
-    let least = entry_least x.routine f h.near framed size.0 in
+    let least = entry_least x.routine f h.near framed in
+    let info = (tables.entry_of (site_of p) x f).info in
     let far : rva < 2 ^ 32 = omega arith in
     let away' : distance image_base c.rip ≡ rva = ap (distance image_base) here ∙ away rva far in
     record {
@@ -179,10 +180,10 @@ frame_at p m index x f c rva back others fits regions e framed first here kept e
           (λ z. (let q : c.rip ≡ finally_return = z in absurd (omega arith)));
       found = ap (entry_of (functions_in (image_of (linked p)))) here
           ∙ found_in p index x f rva fits regions e framed (omega arith) inside far;
-      past_prologue = le-ltb (distance image_base c.rip - x.begin) (taking_size f.size)
+      past_prologue = le-ltb (distance image_base c.rip - x.begin) info.prologue_size
           (omega arith);
-      not_epilogue = ap (tail_at 0 m) here ∙ no_epilogue (image_base + rva) m first.item first.inner
-          first.is_there (omega arith);
+      not_epilogue = ap (tail_at info.frame_register m) here ∙ no_epilogue info.frame_register
+          (image_base + rva) m first.item first.inner first.is_there (omega arith);
       no_parents = refl;
       kept = kept;
       eight = eight;

@@ -1,9 +1,13 @@
 -- Instructions of a body: each has a spelling, keeps RSP and the nonvolatile registers, and begins
 -- no epilogue.
-use Rattle.std.proofs.Common.{◌≡◌, ℕ, ◌^◌, Bool, true, List, [], ◌∷◌, ◌++◌, Option, Some, None, refl, arith}
-use Rattle.std.proofs.lemmas.Bool.{lt-ltb}
-use Rattle.image_tables.specs.Words.{W32, low, Rax, Rcx, Instr, is_encodable, UnwindOperation, Other, role_of, written, may_write_all, Slot, Local, Temporary, Layout, before, work, temporary_at, local_at, fetch_local, keep_local, fetch, keep, IsNear, W8, W16, W64, is_signed, compare, extended, pure_code, high_half, IsBaseNear, IsSlotNear}
+use Rattle.std.proofs.Common.{◌≡◌, ◌≢◌, ℕ, ◌^◌, Bool, true, false, not, ◌&&◌, ◌||◌, eqb, List, [], ◌∷◌, ◌++◌, Option, Some, None, refl, sym, ap, ◌∙◌, arith, inl, inr}
+use Rattle.std.proofs.lemmas.Bool.{lt-ltb, false≢true, cases_eq, and_parts, and_from, or_left, or_right, or_cases, not-true, eq-eqb, ne_eqb, not_from_false}
+use Rattle.image_tables.specs.Words.{W32, low, Rax, Rcx, Rsp, Instr, is_encodable, UnwindOperation, Other, role_of, written, may_write_all, Slot, Local, Temporary, Layout, before, work, temporary_at, local_at, fetch_local, keep_local, fetch, keep, IsNear, W8, W16, W64, is_signed, compare, extended, pure_code, high_half, IsBaseNear, IsSlotNear}
 use Rattle.seh_num.specs.declared.width.Width.{Width}
+use Rattle.x64_instr.specs.declared.instruction.Instr.TheVariants as instrs
+use Rattle.virtual_unwind.specs.Contexts.{is_nonvolatile}
+use Rattle.frame_rules.specs.Body.{may_write}
+use Rattle.frame_rules.specs.Codes.{is_saved}
 use Rattle.frame_rules.proofs.Planning.{small_signed}
 use Rattle.c_operations.specs.declared.operation.Size.{Size}
 use Rattle.c_operations.specs.declared.operation.Size.TheVariants.{Int, Long}
@@ -33,6 +37,39 @@ inner_both (i ∷ a) b p q = (p.0, inner_both a b p.1 q)
 pub inner_at : (a b : List Instr) (i : Instr) → AllInner (a ++ (i ∷ b)) → Inner i
 inner_at [] b i all = all.0
 inner_at (j ∷ a) b i all = inner_at a b i all.1
+
+-- ---- so it is whatever a frame saves, and whichever its frame register is
+
+pub inner_role : (f : ℕ) (i : Instr) → Inner i → (plain : Bool) → role_of f plain i ≡ Other
+inner_role f (instrs.LoadAddress W64 Rsp a) h plain = absurd (false≢true (h.2 []))
+inner_role f i h plain = h.1 plain
+
+is_volatile : (r : ℕ) → (not (is_nonvolatile r) || false) ≡ true → is_nonvolatile r ≡ false
+is_volatile r h = elim (or_cases (not (is_nonvolatile r)) false h) [
+  | inl e ↦ not-true (is_nonvolatile r) e
+  | inr e ↦ absurd (false≢true e)
+]
+
+pub inner_writes : (f : ℕ) (ops : List UnwindOperation) (rs : List ℕ)
+    → (f ≢ 0 → is_nonvolatile f ≡ true) → may_write_all 0 [] rs ≡ true
+    → may_write_all f ops rs ≡ true
+inner_writes f ops [] kept h = refl
+inner_writes f ops (r ∷ rs) kept h =
+    let p = and_parts (may_write 0 [] r) (may_write_all 0 [] rs) h in
+    let q = and_parts (not (eqb r 4)) (not (is_nonvolatile r) || false) p.0 in
+    let volatile = is_volatile r q.1 in
+    let other : (eqb f 0 || not (eqb r f)) ≡ true = elim (cases_eq f 0) [
+      | inl z ↦ or_left (eqb f 0) (not (eqb r f)) (eq-eqb f 0 z)
+      | inr ne ↦ or_right (eqb f 0) (not (eqb r f)) (not_from_false (eqb r f) (ne_eqb r f
+          (λ e. false≢true (sym volatile ∙ (ap is_nonvolatile e ∙ kept ne)))))
+    ] in
+    and_from (may_write f ops r) (may_write_all f ops rs)
+    (and_from (not (eqb r 4))
+    ((eqb f 0 || not (eqb r f)) && (not (is_nonvolatile r) || is_saved r ops)) q.0
+    (and_from (eqb f 0 || not (eqb r f)) (not (is_nonvolatile r) || is_saved r ops) other
+    (or_left (not (is_nonvolatile r)) (is_saved r ops)
+    (not_from_false (is_nonvolatile r) volatile))))
+    (inner_writes f ops rs kept p.1)
 
 -- ---- slots
 

@@ -1,6 +1,6 @@
 -- The caller of every frame is found, by the function table of the image.
 use Rattle.std.proofs.Common.{◌≡◌, ◌≢◌, ℕ, ◌+◌, ◌^◌, ◌<◌, ◌≤◌, true, List, [], ◌∷◌, ◌++◌, length, Option, Some, None, refl, sym, ap, subst, ◌∙◌, arith, inl, inr}
-use Rattle.image_tables.specs.Words.{Memory, modrm, Entry, holding, or_none, FetchedInstr, bytes, items, Body, following, is_body, IsRight, HasItems, image_of, RaiseException, CSpecificHandler, LocalUnwind, Protect, Put, LinearProgram, FitsProgram, services_of, first, linked, end_of, site_of, HasRegions, entries, image_base, function_of, entries_of, name_rows, caller_in, caller_of, FramedFunction, IsFound, registers, return_address, IsEntry, InBody, leaf, probe, FindsCaller, FramesAreFound, LeavesAreFound, ThunksAreFound, ProbesAreFound, routines_begin, thunk_begin}
+use Rattle.image_tables.specs.Words.{Memory, modrm, Entry, holding, or_none, FetchedInstr, bytes, items, Body, following, is_body, IsRight, HasItems, image_of, LinearProgram, FitsProgram, services_of, linked, end_of, site_of, HasRegions, entries, image_base, function_of, entries_of, name_rows, caller_in, caller_of, FramedFunction, IsFound, registers, return_address, IsEntry, InBody, leaf, probe, FindsCaller, FramesAreFound, LeavesAreFound, ThunksAreFound, ProbesAreFound, routines_begin, thunk_begin}
 use Rattle.x64_machine.specs.Contexts.{context_of}
 use Rattle.x64_machine.specs.Effect.{State}
 use Rattle.eh_tables.specs.Tables as reading
@@ -15,18 +15,17 @@ use Rattle.image_tables.proofs.Lookups.{entries_are_held, leaves_are_held_by_non
 use Rattle.image_tables.proofs.Table.{table, table_entries, tables_are_read}
 use Rattle.image_tables.specs.Functions.{thunk_of}
 use Rattle.image_tables.proofs.CodeInMemory.{there}
-use Rattle.image_tables.proofs.Layouts.{size_of}
-use Rattle.image_tables.proofs.FrameRules.{right, is_there, plan_near, rest_fine}
+use Rattle.image_tables.proofs.FrameRules.{right, is_there, leaf_fine}
 use Rattle.image_tables.proofs.BodyFrames.{away}
 
 -- ---- instructions that are
 
-has_bytes : (m : Memory) (at : ℕ) (xs : List FetchedInstr) (to : ℕ) → HasItems m at xs to
+pub has_bytes : (m : Memory) (at : ℕ) (xs : List FetchedInstr) (to : ℕ) → HasItems m at xs to
     → at + bytes xs ≡ to
 has_bytes m at [] to h = let e : at ≡ to = h in omega arith
 has_bytes m at (x ∷ xs) to h = let r = has_bytes m (at + x.size) xs to h.2 in omega arith
 
-following_items : (m : Memory) (at : ℕ) (a b : List FetchedInstr) (to : ℕ)
+pub following_items : (m : Memory) (at : ℕ) (a b : List FetchedInstr) (to : ℕ)
     → HasItems m at (a ++ b) to → HasItems m (at + bytes a) b to
 following_items m at [] b to h = let e : at ≡ at + 0 = omega arith in
     subst (λ n. HasItems m n b to) e h
@@ -35,7 +34,7 @@ following_items m at (x ∷ a) b to h =
     let e : at + x.size + bytes a ≡ at + (x.size + bytes a) = omega arith in
     subst (λ n. HasItems m n b to) e r
 
-before_end : (m : Memory) (at : ℕ) (xs : List FetchedInstr) (to : ℕ) → HasItems m at xs to → xs ≢ []
+pub before_end : (m : Memory) (at : ℕ) (xs : List FetchedInstr) (to : ℕ) → HasItems m at xs to → xs ≢ []
     → at < to
 before_end m at [] to h ne = absurd (ne refl)
 before_end m at (x ∷ xs) to h ne = let r = has_bytes m (at + x.size) xs to h.2 in let s = h.1 in
@@ -112,10 +111,8 @@ frames_are_found p index x f e s d framed regions entry text rip st =
     ∙ held p fits regions (x.begin + d) (Some (tables.entry_of (site_of p) x f))
     (entries_are_held p index x f (x.begin + d) fits framed.there framed.framed (omega arith)
     (omega arith)) in
-    let n : f.size ≡ f.size + 0 = omega arith in
-    let first' : IsEntry (f.size + 0) e = subst (λ k. IsEntry k e) n entry in
     same_walk p fits regions e s (entries_are_found (table p fits) (tables.entry_of (site_of p) x f)
-    g e s (image_base + x.begin) d (image_base + end_of x) held' refl refl rva ok first' has
+    g e s (image_base + x.begin) d (image_base + end_of x) held' refl refl rva ok entry has
     (omega arith) rip st)
 
 -- ---- without an entry
@@ -138,9 +135,7 @@ leaves_are_found' p index x e s fits regions at none h =
     let room = t.room in
     let small = routine_small x.routine t.near in
     let high = h.high in
-    let fine = rest_fine p index x 0 (distance 0 0)
-    (plan_near (record { kept = 0; temporaries = 0; locals = 0; size = 0 }) 0 0 (omega arith)
-    (omega arith) (omega arith)) (ap size_of none) fits at t in
+    let fine = leaf_fine p index x fits at none t in
     let leads = fine.leads [] in
     unheld p fits regions e s (leaf p x) h.rva (omega arith) h.here
     (leaves_are_held_by_none p index x h.rva fits at none h.low h.high) (ap is_body leads.1)

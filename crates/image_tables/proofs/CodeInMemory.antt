@@ -3,7 +3,7 @@ use Rattle.std.proofs.Common.{◌≡◌, ℕ, zero, suc, ◌+◌, ◌≤◌, Lis
 use Rattle.std.specs.Prelude.{slice_get}
 use Rattle.std.specs.List.{AllByRecursion}
 use Rattle.std.proofs.lemmas.Grind.{flat_map-append}
-use Rattle.image_tables.specs.Words.{Memory, Instr, chosen, modrm, IsExecutableAt, Instruction, LinearProgram, Layout, spelled, size, sizes, Links, template, template_size, body_size, code_from, FitsProgram, RoutineView, routines, IsRoutineNear, SiteView, routine_size, entry_code, entry_size, check_stack_at, routine_code, routines_bytes, info_bytes, text_begin, linked, Placed, placed_from, site_of, infos_begin, placed, image_base, HasText, IsNear, offset_of, links_of, routine_room, room, addresses, front_code, routine_bytes, routines_begin}
+use Rattle.image_tables.specs.Words.{Memory, Instr, chosen, IsExecutableAt, Instruction, LinearProgram, Layout, spelled, sizes, Links, template, template_size, body_size, code_from, FitsProgram, RoutineView, routines, IsRoutineNear, SiteView, routine_size, entry_code, entry_size, check_stack_at, routine_code, routines_bytes, info_bytes, text_begin, linked, Placed, placed_from, site_of, infos_begin, placed, image_base, HasText, IsNear, offset_of, links_of, routine_room, room, addresses, front_code, routine_bytes, routines_begin}
 use Rattle.image_tables.proofs.Lemmas.{sizes_spelled, sizes_append, template_sizes, body_sizes, entry_sizes, routine_small, has_places, routines_near, front_sizes, services_few}
 use Rattle.image_tables.proofs.Lookups.{some_same, none_some}
 

@@ -1,69 +1,47 @@
 -- Routines with a frame keep the rules, and are where the text is.
-use Rattle.std.proofs.Common.{◌≡◌, ℕ, ◌+◌, ◌^◌, ◌<◌, Bool, true, false, not, eqb, List, [], ◌∷◌, ◌++◌, length, Option, Some, refl, sym, ap, subst, ◌∙◌, arith, append_assoc}
+use Rattle.std.proofs.Common.{◌≡◌, ℕ, ◌+◌, List, [], ◌++◌, length, Option, Some, None, refl, sym, ap, subst, ◌∙◌, arith, append_assoc}
 use Rattle.std.specs.Prelude.{slice_get}
-use Rattle.std.specs.List.{flat_map}
-use Rattle.std.proofs.lemmas.Bool.{ne_eqb}
-use Rattle.image_tables.specs.Words.{Memory, Instr, UnwindOperation, Nothing, FetchedInstr, bytes, items, Body, following, is_body, FramePlan, IsPlan, spelled_by, operations_of, HasItems, IsRight, spell, IsExecutableAt, prologue_code, LinearProgram, FrameLayout, plan_of, info_of, taking_size, spelled, distance, code_from, FitsProgram, IsFrameNear, routine_size, frame_code, argument_code, routine_code, text_begin, linked, routines, Placed, end_of, body_begin, site_of, placed, image_base, HasText, links, function_of, IsNear, allocation_then, instructions_of, steps_of, plan, rest_of, IsFramed, FunctionsAreInMemory, FunctionsKeepTheRules, services_of, probe_begin}
+use Rattle.image_tables.specs.Words.{Memory, Instr, UnwindOperation, Nothing, FetchedInstr, items, Body, following, is_body, FramePlan, IsPlan, spelled_by, operations_of, HasItems, IsRight, spell, IsExecutableAt, prologue_code, LinearProgram, FrameLayout, info_of, spelled, code_from, FitsProgram, IsFrameNear, routine_size, frame_code, argument_code, routine_code, text_begin, linked, routines, Placed, end_of, body_begin, site_of, placed, image_base, HasText, links, function_of, plan, rest_of, IsFramed, FunctionsAreInMemory, FunctionsKeepTheRules, services_of, probe_begin}
 use Rattle.eh_tables.specs.declared.code.UnwindCode.{UnwindCode}
-use Rattle.eh_tables.specs.declared.code.UnwindOperation.TheVariants.{Allocate}
 use Rattle.virtual_unwind.specs.CallerOf.{sets_frame}
 use Rattle.virtual_unwind.specs.Undone.{operations}
 use Rattle.frame_rules.specs.Codes.{are_allowed, is_ordered}
+use Rattle.frame_rules.specs.Prologue.{ArePrologueSteps}
 use Rattle.frame_rules.proofs.Planning.{codes_plan}
-use Rattle.frame_rules.specs.Plan as rules
-use Rattle.image_tables.proofs.Lemmas.{spells_all, items_are_at, plans_are_encodable, plans_are_right, describes, near_signed, entry_small, routine_small, site_near, has_places, routines_near, services_few}
+use Rattle.frame_rules.specs.Plan.{epilogue, turned}
+use Rattle.image_tables.proofs.Lemmas.{spells_all, items_are_at, plans_are_encodable, plans_are_right, entry_small, routine_small, site_near, has_places, routines_near, services_few}
 use Rattle.image_tables.proofs.CodeInMemory.{IsThere, there, code_length, routine_is_at}
 use Rattle.image_tables.proofs.Arguments.{arguments_inner}
-use Rattle.image_tables.proofs.Layouts.{size_of, sized}
+use Rattle.image_tables.proofs.FramePlans.{plan_near, described, spelled_steps, laid_epilogue, leaf_plan, leaf_laid}
 use Rattle.image_tables.proofs.Links.{links_near}
-use Rattle.template_code.specs.Frames.{frame_plan}
+use Rattle.template_code.specs.Frames.{frame_plan, plan_of_layout}
 use Rattle.image_tables.proofs.Rest.{IsFine, fine_inner, fine_both, body_fine, encodable_both, spelled_both}
-
--- ---- plans
-
-allowed_by : (n : ℕ) (some : Bool) → are_allowed 0 (allocation_then some n []) ≡ true
-allowed_by n true = refl
-allowed_by n false = refl
-
--- with an allocation, or without
-pub plan_near : (f : FrameLayout) (next to : ℕ) → f.size < 2 ^ 31 → next < 2 ^ 31 → IsNear to
-    → IsPlan (plan_of f (distance next to))
-plan_near f next to size a b = record {
-  size = size;
-  distance = omega arith;
-  probe = near_signed next to a b;
-  allowed = allowed_by f.size (not (eqb f.size 0));
-}
-
-pub one_code : (f : FrameLayout) (probe : ℕ) → 0 < f.size
-    → operations_of (plan_of f probe) ≡ Allocate f.size ∷ []
-one_code f probe some = ap (λ (none : Bool). allocation_then (not none) f.size [])
-    (ne_eqb f.size 0 (λ z. (let q : f.size ≡ 0 = z in absurd (omega arith))))
-
-spelled_steps : (p : FramePlan) (at : ℕ) (xs : List UnwindOperation)
-    → spelled_by spell (flat_map (instructions_of p) xs) ≡ items (steps_of spell p at xs)
-spelled_steps p at [] = refl
-spelled_steps p at (x ∷ xs) = spelled_both (instructions_of p x) (flat_map (instructions_of p) xs)
-    ∙ ap (λ (ys : List FetchedInstr). spelled_by spell (instructions_of p x) ++ ys)
-    (spelled_steps p (at + bytes (spelled_by spell (instructions_of p x))) xs)
 
 -- ---- what comes after the prologue
 
-pub rest_fine : (p : LinearProgram) (index : ℕ) (x : Placed) (n probe : ℕ)
-    (is_plan : IsPlan (frame_plan n probe)) → size_of x.routine.frame ≡ n
-    → FitsProgram p → slice_get (placed p) index ≡ Some x
+-- where its returns end in the epilogue of a plan
+pub rest_fine : (p : LinearProgram) (x : Placed) (q : FramePlan) (is_plan : IsPlan q)
+    → epilogue (plan_of_layout x.routine.layout 0) ≡ epilogue q → FitsProgram p
     → IsThere (site_of p) (linked p).text (text_begin p.globals) x
-    → IsFine n probe is_plan (rest_of p x)
-rest_fine p index x n probe is_plan size fits e h =
+    → IsFine q is_plan (rest_of p x)
+rest_fine p x q is_plan ends fits h =
     let r = x.routine in
     let entry = entry_small r h.near in
     let room = h.room in
-    fine_both n probe is_plan (argument_code r.layout r.entry)
+    fine_both q is_plan (argument_code r.layout r.entry)
     (code_from (links p x) r.layout (body_begin x) r.body.code)
-    (fine_inner n probe is_plan (argument_code r.layout r.entry)
+    (fine_inner q is_plan (argument_code r.layout r.entry)
     (arguments_inner r.layout r.entry h.near.entry))
-    (body_fine n probe is_plan (links p x) r.layout (body_begin x) r.body.code
-    (sized p index x e ∙ size) (links_near p x fits h) h.near.code (omega arith))
+    (body_fine q is_plan (links p x) r.layout (body_begin x) r.body.code ends
+    (links_near p x fits h) h.near.code (omega arith))
+
+-- that of a leaf function
+pub leaf_fine : (p : LinearProgram) (index : ℕ) (x : Placed) → FitsProgram p
+    → slice_get (placed p) index ≡ Some x → x.routine.frame ≡ None
+    → IsThere (site_of p) (linked p).text (text_begin p.globals) x
+    → IsFine (frame_plan 0 0) leaf_plan (rest_of p x)
+leaf_fine p index x fits e none h =
+    rest_fine p x (frame_plan 0 0) leaf_plan (ap epilogue (leaf_laid p index x e none)) fits h
 
 module _ (p : LinearProgram) (index : ℕ) (x : Placed) (f : FrameLayout)
     (framed : IsFramed p index x f) where
@@ -73,7 +51,7 @@ module _ (p : LinearProgram) (index : ℕ) (x : Placed) (f : FrameLayout)
   pub sizes : IsFrameNear (Some f)
   sizes = subst IsFrameNear framed.framed here.near.frame
 
-  is_plan : IsPlan (plan p x f)
+  pub is_plan : IsPlan (plan p x f)
   is_plan =
       let n = site_near (services_of p) p.globals (routines p) (length p.functions) p.main
       (services_few p) framed.fits.globals
@@ -84,23 +62,25 @@ module _ (p : LinearProgram) (index : ℕ) (x : Placed) (f : FrameLayout)
       plan_near f (x.begin + 10) (probe_begin p) (omega arith) (omega arith)
       (omega arith)
 
-  rest : IsFine f.size (distance (x.begin + 10) (probe_begin p)) is_plan
-      (rest_of p x)
-  rest = rest_fine p index x f.size (distance (x.begin + 10) (probe_begin p))
-      is_plan (ap size_of framed.framed) framed.fits framed.there here
+  rest : IsFine (plan p x f) is_plan (rest_of p x)
+  rest =
+      rest_fine p x (plan p x f) is_plan
+      (laid_epilogue p index x f (plan p x f).probe framed.there framed.framed) framed.fits here
 
   pub right : IsRight (function_of p x f)
   right =
       let q = plan p x f in
       let planned = plans_are_right spell q [] [] spells_all is_plan refl refl in
-      let d = describes f (taking_size f.size) (info_of f Nothing).codes sizes.0 refl refl
-      q.probe in
+      let d = described f q.probe sizes in
       let leads = rest.leads [] in
       record {
         offset = omega (arith, d.frame_offset, planned.offset);
         codes = d.codes ∙ planned.codes;
         prologue_size = d.prologue_size ∙ planned.prologue_size;
-        steps = planned.steps;
+        steps = subst (λ r. ArePrologueSteps r (info_of f Nothing).frame_offset 0
+            (function_of p x f).steps) (sym d.frame_register)
+            (subst (λ n. ArePrologueSteps q.frame n 0 (function_of p x f).steps)
+            (sym d.frame_offset) planned.steps);
         ordered = ap (λ (cs : List UnwindCode). is_ordered (operations cs)) d.codes
             ∙ planned.ordered;
         allowed = (λ i. are_allowed (d.frame_register i) (operations (d.codes i)))
@@ -143,7 +123,7 @@ module _ (p : LinearProgram) (index : ℕ) (x : Placed) (f : FrameLayout)
       let same : spelled_by spell code ≡ items (function_of p x f).steps
       ++ (function_of p x f).rest = spelled_both (prologue_code q) (rest_of p x)
       ∙ ap (λ (ys : List FetchedInstr). ys ++ spelled_by spell (rest_of p x))
-      (spelled_steps q 0 (rules.turned [] (operations_of q))) in
+      (spelled_steps q 0 (turned [] (operations_of q))) in
       let end : at + length (spelled code) ≡ image_base + end_of x = omega arith in
       subst (λ (n : ℕ). HasItems m at (items (function_of p x f).steps ++ (function_of p x f).rest)
       n) end (subst (λ (ys : List FetchedInstr). HasItems m at ys (at + length (spelled code)))

@@ -4,7 +4,6 @@ pub mod Handlers
 pub mod Labels
 pub mod RowBounds
 pub mod Infos
-pub mod Prologues
 pub mod Table
 pub mod NameRows
 pub mod Lookups
@@ -20,8 +19,10 @@ pub mod Templates
 pub mod Links
 pub mod BodyFrames
 pub mod Arguments
-pub mod Layouts
 pub mod Rest
+pub mod Layouts
+pub mod FramePlans
+pub mod Prologues
 pub mod FrameRules
 pub mod Callers
 pub mod RegionRows

@@ -3,7 +3,7 @@ use Rattle.std.proofs.Common.{◌≡◌, ℕ, zero, suc, ◌+◌, ◌<◌, ◌�
 use Rattle.std.specs.Prelude.{slice_get}
 use Rattle.std.specs.List.{AllByRecursion}
 use Rattle.std.proofs.lemmas.Bool.{and_from, and_left, and_right, lt-ltb, le-leb, lt-leb, le-ltb, false≢true}
-use Rattle.image_tables.specs.Words.{Entry, holding, FrameLayout, RoutineView, routines, SiteView, routine_size, info_bytes, first, Placed, end_of, placed_from, site_of, infos_begin, entry_of, entry_if, entry_or, EntriesAreHeld, LeavesAreHeldByNone, ThunksAreHeldByNone, routines_begin}
+use Rattle.image_tables.specs.Words.{Entry, holding, FrameLayout, RoutineView, routines, SiteView, routine_size, info_bytes, Placed, end_of, placed_from, site_of, infos_begin, entry_of, entry_if, entry_or, EntriesAreHeld, LeavesAreHeldByNone, ThunksAreHeldByNone, routines_begin}
 use Rattle.image_tables.specs.Entries.{entries_of}
 
 abbrev or_else : {A : Type 0} → A → Option A → A

@@ -1,23 +1,23 @@
 -- The names of an image are those of its functions.
-use Rattle.std.proofs.Common.{◌≡◌, ℕ, zero, suc, ◌+◌, ◌*◌, ◌^◌, ◌<◌, ◌≤◌, Bool, true, false, List, [], ◌∷◌, ◌++◌, length, get_or, map, Option, Some, None, Result, Ok, refl, sym, ap, ◌∙◌, arith, length-append, eq-eqb}
+use Rattle.std.proofs.Common.{◌≡◌, ℕ, zero, suc, ◌+◌, ◌^◌, ◌<◌, ◌≤◌, Bool, true, false, List, [], ◌∷◌, ◌++◌, length, get_or, map, Some, Result, refl, ap, ◌∙◌, arith, length-append, eq-eqb}
 use Rattle.std.specs.Prelude.{slice_get}
 use Rattle.std.specs.List.{AllByRecursion}
 use Rattle.std.proofs.lemmas.Bool.{ne_eqb}
 use Rattle.pe_image.specs.declared.name_table.NameErr.{NameErr}
-use Rattle.pe_image.specs.NameRows.{NameRow, name_of, name_or, rows_read, names_of}
+use Rattle.pe_image.specs.NameRows.{NameRow, name_of, name_or, rows_read}
 use Rattle.pe_write.specs.NameTable.{IsNameRow, AreInOrder, AreNames}
 use Rattle.pe_write.proofs.NamesRead.{names_are}
 use Rattle.linear_code.specs.declared.instruction.Instruction.{Instruction}
 use Rattle.template_code.specs.Template.{body_size}
 use Rattle.template_code.specs.declared.layout.Layout.{Layout}
 use Rattle.image_link.specs.Fits.{FitsFunction}
-use Rattle.image_link.specs.Routines.{is_leaf, leaf_if}
+use Rattle.image_link.specs.Routines.{leaf_if}
 use Rattle.image_link.specs.Text.{bounds}
 use Rattle.image_link.specs.Walks.{calls_walk, IsName, IsNamed, named_if, named_functions, function_rows}
-use Rattle.image_tables.specs.Words.{LinearFunction, LinearProgram, FitsProgram, RoutineView, functions_from, funclet, routines, routine_size, linked, total, routines_begin}
+use Rattle.image_tables.specs.Words.{LinearFunction, LinearProgram, FitsProgram, RoutineView, functions_from, funclet, routines, routine_size, linked, routines_begin}
 use Rattle.image_tables.specs.NameLaws.{NamesAreRead, FunctionsHaveNames}
 use Rattle.image_tables.proofs.Labels.{template_some}
-use Rattle.image_tables.proofs.Lemmas.{all_at, bounds_below, bounds_least, count_small, total_small, functions_count, has_names, no_routine}
+use Rattle.image_tables.proofs.Lemmas.{bounds_below, count_small, functions_count, has_names, no_routine}
 use Rattle.image_tables.proofs.Table.{is, end_inside, image_small}
 
 -- ---- functions aren't empty

@@ -1,9 +1,9 @@
 -- No region of a lowered program begins where the prologue of its routine ends: after it a function
 -- has a separator, and a funclet keeps the base.
-use Rattle.std.proofs.Common.{◌≡◌, ◌⊎◌, inl, inr, ℕ, zero, suc, ◌+◌, ◌<◌, ◌≤◌, Bool, true, false, List, [], ◌∷◌, ◌++◌, length, map, Option, Some, None, refl, subst, arith}
+use Rattle.std.proofs.Common.{◌≡◌, ◌⊎◌, inl, inr, ℕ, zero, suc, ◌+◌, ◌<◌, ◌≤◌, Bool, true, false, List, [], ◌∷◌, ◌++◌, length, map, Option, Some, None, refl, arith}
 use Rattle.std.specs.Prelude.{not, ◌&&◌, ◌==◌}
 use Rattle.std.specs.List.{AllByRecursion}
-use Rattle.image_tables.specs.Words.{W32, Rax, Rcx, Entry, ScopeRecord, Statements, Function, Instruction, LinearFunclet, LinearProgram, Region, Local, FrameLayout, Layout, modrm, keep_register, move, keep, size, sizes, template_size, body_size, label_list, address_or, taking_size, statements_regions, scope_of, lowered, lowered_function, statements_notes, RoutineView, is_leaf, leaf_if, functions_from, funclet, routines, IsRoutineNear, IsFrameNear, SiteView, routine_size, entry_size, argument_code, base_of, scope_records, info_bytes, Placed, placed_from, site_of, infos_begin, entry_of, entry_if, routines_begin}
+use Rattle.image_tables.specs.Words.{W32, Rax, Rcx, Entry, ScopeRecord, Statements, Function, Instruction, LinearFunclet, LinearProgram, Region, Local, FrameLayout, Layout, modrm, keep_register, move, keep, size, sizes, template_size, body_size, label_list, address_or, info_of, Nothing, statements_regions, scope_of, lowered, lowered_function, statements_notes, RoutineView, is_leaf, leaf_if, functions_from, funclet, routines, IsRoutineNear, SiteView, routine_size, entry_size, argument_code, base_of, scope_records, info_bytes, Placed, placed_from, site_of, infos_begin, entry_of, entry_if, routines_begin}
 use Rattle.linear_code.specs.declared.program.FuncletKind.{FuncletKind}
 use Rattle.linear_code.specs.declared.program.FuncletKind.TheVariants as kinds
 use Rattle.lowering_expressions.specs.declared.scope.LoweringContext.{LoweringContext}
@@ -143,22 +143,20 @@ module _ (s : SiteView) where
       → x.routine.frame ≡ Some f → IsStarted x.routine → BeginsPastPrologue (entry_of s x f)
   entry_past x f near e (inl h) =
       let r = x.routine in
-      let frame = subst IsFrameNear e near.frame in
-      let l = entry_least r f near e frame.0 in
+      let l = entry_least r f near e in
       let start = x.begin + entry_size r in
       let end = x.begin + routine_size r in
-      rows_past (x.begin + taking_size f.size) s.funclets (label_list r.layout start r.body.code)
-      end IsLate
+      rows_past (x.begin + (info_of f Nothing).prologue_size) s.funclets
+      (label_list r.layout start r.body.code) end IsLate
       (λ q late. (let a = after_first r.layout start r.body.code q.begin end (omega arith) h.0 late
       in omega arith)) r.body.regions h.1
   entry_past x f near e (inr some) =
       let r = x.routine in
-      let frame = subst IsFrameNear e near.frame in
-      let l = entry_is r f near e frame.0 in
+      let l = entry_is r f near e in
       let start = x.begin + entry_size r in
       let end = x.begin + routine_size r in
-      rows_past (x.begin + taking_size f.size) s.funclets (label_list r.layout start r.body.code)
-      end (λ q. Unit {0})
+      rows_past (x.begin + (info_of f Nothing).prologue_size) s.funclets
+      (label_list r.layout start r.body.code) end (λ q. Unit {0})
       (λ q any. (let a = label_least r.layout start r.body.code q.begin end (omega arith) in
       omega arith)) r.body.regions (any_region r.body.regions)
 

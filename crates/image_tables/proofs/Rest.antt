@@ -1,27 +1,39 @@
 -- The instructions after a prologue lead from the body to the body.
-use Rattle.std.proofs.Common.{◌≡◌, ℕ, ◌+◌, ◌^◌, ◌<◌, true, ◌&&◌, List, [], ◌∷◌, ◌++◌, Some, refl, ap, ◌∙◌, arith}
+use Rattle.std.proofs.Common.{◌≡◌, ◌≢◌, ℕ, ◌+◌, ◌^◌, ◌<◌, true, not, eqb, List, [], ◌∷◌, ◌++◌, Some, refl, ap, ◌∙◌, arith}
 use Rattle.std.specs.List.{AllByRecursion}
 use Rattle.std.proofs.lemmas.Bool.{and_parts, and_from}
-use Rattle.image_tables.specs.Words.{Rax, Instr, is_encodable, FetchedInstr, role_of, Body, following, written, may_write_all, FramePlan, IsPlan, spelled_by, operations_of, spell, Slot, Instruction, Layout, fetch, Links, template, template_size, code_from, IsInstructionNear, is_other, all_encodable, is_inner, are_inner, return_code}
-use Rattle.frame_rules.specs.Plan.{epilogue}
+use Rattle.image_tables.specs.Words.{Rax, Instr, is_encodable, FetchedInstr, Body, following, written, FramePlan, IsPlan, spelled_by, operations_of, spell, Slot, Instruction, Layout, fetch, Links, template, template_size, code_from, IsInstructionNear, is_other, all_encodable, is_inner, are_inner, return_code}
+use Rattle.virtual_unwind.specs.Contexts.{is_nonvolatile}
+use Rattle.frame_rules.specs.Codes.{pushed}
+use Rattle.frame_rules.specs.Plan.{allocation_then, epilogue, frame_then}
 use Rattle.frame_rules.proofs.Bodies.{following-append}
+use Rattle.frame_rules.proofs.Planned.{allowed_later, frame_saved, saved_later}
+use Rattle.frame_rules.proofs.Undoing.{saved_register}
 use Rattle.image_tables.proofs.Lemmas.{spells_all, plans_are_encodable, inner_following, epilogue_following, instruction_in_room}
 use Rattle.linear_code.specs.declared.instruction.Instruction.TheVariants as instructions
-use Rattle.template_code.specs.Frames.{frame_plan}
-use Rattle.template_code.proofs.Frames.{epilogue_unprobed}
+use Rattle.template_code.specs.Frames.{plan_of_layout}
 use Rattle.x64_emit.specs.Rooms.{code_room}
-use Rattle.image_tables.proofs.BodyInstructions.{Inner, AllInner, fetch_inner}
+use Rattle.image_tables.proofs.BodyInstructions.{Inner, AllInner, inner_role, inner_writes, fetch_inner}
 use Rattle.image_tables.proofs.Templates.{AreLinksNear, template_inner}
 
 -- ---- inner instructions
 
-inner_of : (p : FramePlan) (i : Instr) → p.frame ≡ 0 → Inner i → is_inner p (spell i) ≡ true
-inner_of p i e h =
-    ap (λ (f : ℕ). is_other (role_of f (spell i).plain i)
-    && may_write_all f (operations_of p) (written i)) e
-    ∙ and_from _ _ (ap is_other (h.1 (spell i).plain)) (h.2 (operations_of p))
+-- a frame register is one that the caller keeps
+frame_kept : (p : FramePlan) → IsPlan p → p.frame ≢ 0 → is_nonvolatile p.frame ≡ true
+frame_kept p h ne =
+    let xs = frame_then (not (eqb p.frame 0))
+    (allocation_then (not (eqb p.size 0)) p.size (pushed p.pushes)) in
+    let saved = frame_saved p (not (eqb p.size 0)) p.size p.pushes
+    (allowed_later p.frame p.saves xs h.allowed) ne in
+    (saved_register p.frame p.frame (operations_of p) h.allowed
+    (saved_later p.frame p.saves xs saved)).0
 
-pub all_inner : (p : FramePlan) (is : List Instr) → p.frame ≡ 0 → AllInner is
+inner_of : (p : FramePlan) (i : Instr) → IsPlan p → Inner i → is_inner p (spell i) ≡ true
+inner_of p i h inner =
+    and_from _ _ (ap is_other (inner_role p.frame i inner (spell i).plain))
+    (inner_writes p.frame (operations_of p) (written i) (frame_kept p h) (inner.2 []))
+
+pub all_inner : (p : FramePlan) (is : List Instr) → IsPlan p → AllInner is
     → are_inner p (spelled_by spell is) ≡ true
 all_inner p [] e h = refl
 all_inner p (i ∷ is) e h = and_from (is_inner p (spell i)) (are_inner p (spelled_by spell is))
@@ -45,46 +57,38 @@ spelled_both (i ∷ a) b = ap (λ (xs : List FetchedInstr). spell i ∷ xs) (spe
 
 -- ---- bodies
 
-module _ (n probe : ℕ) (is_plan : IsPlan (frame_plan n probe)) where
-  abbrev p : FramePlan
-  p = frame_plan n probe
-
+-- with a frame by a plan
+module _ (p : FramePlan) (is_plan : IsPlan p) where
   -- from the body to the body
   abbrev pub Leads : List Instr → Type 0
-  Leads is = (rs : List ℕ) → (to : List ℕ) × (following 0 0 (operations_of p) (spelled_by spell is)
-      (Body rs) ≡ Some (Body to))
+  Leads is = (rs : List ℕ) → (to : List ℕ) × (following p.frame p.distance (operations_of p)
+      (spelled_by spell is) (Body rs) ≡ Some (Body to))
 
   pub leads_both : (a b : List Instr) → Leads a → Leads b → Leads (a ++ b)
   leads_both a b h k rs =
       let x = h rs in
       let y = k x.0 in (
         y.0,
-        ap (λ (xs : List FetchedInstr). following 0 0 (operations_of p) xs (Body rs))
-            (spelled_both a b) ∙ following-append 0 0 (operations_of p) (spelled_by spell a)
+        ap (λ (xs : List FetchedInstr). following p.frame p.distance (operations_of p) xs
+            (Body rs)) (spelled_both a b)
+            ∙ following-append p.frame p.distance (operations_of p) (spelled_by spell a)
             (spelled_by spell b) (Body rs) (Body x.0) x.1 ∙ y.1,
       )
 
   pub inner_leads : (is : List Instr) → AllInner is → Leads is
   inner_leads is h rs = inner_following spell spells_all p (spelled_by spell is) rs
-      (all_inner p is refl h)
+      (all_inner p is is_plan h)
 
-  abbrev ending : ℕ → List Instr
-  ending k = epilogue (frame_plan k 0)
+  -- the returns of a layout end in the plan's epilogue
+  abbrev pub EndsByPlan : Layout → Type 0
+  EndsByPlan y = epilogue (plan_of_layout y 0) ≡ epilogue p
 
-  ending_is : (k : ℕ) → k ≡ n → ending k ≡ epilogue p
-  ending_is k e = ap ending e ∙ epilogue_unprobed p 0
-
-  epilogue_leads : (k : ℕ) → k ≡ n → Leads (ending k)
-  epilogue_leads k e rs = (
+  epilogue_leads : (y : Layout) → EndsByPlan y → Leads (epilogue (plan_of_layout y 0))
+  epilogue_leads y e rs = (
     [],
-    ap (λ (is : List Instr). following 0 0 (operations_of p)
-        (spelled_by spell is) (Body rs)) (ending_is k e)
-        ∙ epilogue_following spell spells_all p is_plan rs,
+    ap (λ (is : List Instr). following p.frame p.distance (operations_of p)
+        (spelled_by spell is) (Body rs)) e ∙ epilogue_following spell spells_all p is_plan rs,
   )
-
-  epilogue_encodable : (k : ℕ) → k ≡ n → all_encodable (ending k) ≡ true
-  epilogue_encodable k e = ap all_encodable (ending_is k e)
-      ∙ (plans_are_encodable p is_plan).1
 
   -- a template, a body
   pub record IsFine (is : List Instr) : Type 0 where
@@ -100,13 +104,18 @@ module _ (n probe : ℕ) (is_plan : IsPlan (frame_plan n probe)) where
     encodable = encodable_both a b h.encodable k.encodable;
   }
 
-  return_fine : (y : Layout) (from : Slot) → y.frame ≡ n
+  return_fine : (y : Layout) (from : Slot) → EndsByPlan y
       → IsInstructionNear y (instructions.Return from) → IsFine (return_code y from)
-  return_fine y from e near = fine_both (fetch y Rax from) (ending y.frame)
+  return_fine y from e near =
+      fine_both (fetch y Rax from) (epilogue (plan_of_layout y 0))
       (fine_inner (fetch y Rax from) (fetch_inner y from near.0))
-      (record { leads = epilogue_leads y.frame e; encodable = epilogue_encodable y.frame e })
+      (record {
+        leads = epilogue_leads y e;
+        encodable = ap all_encodable e ∙ (plans_are_encodable p is_plan).1;
+      })
 
-  template_fine : (k : Links) (y : Layout) (at : ℕ) (i : Instruction) → y.frame ≡ n → AreLinksNear k
+  template_fine : (k : Links) (y : Layout) (at : ℕ) (i : Instruction) → EndsByPlan y
+      → AreLinksNear k
       → IsInstructionNear y i → at + 256 < 2 ^ 31 → IsFine (template k y at i)
   template_fine k y at (instructions.Return from) e links near lt = return_fine y from e near
   template_fine k y at (instructions.Compute to o first second) e links near lt = fine_inner _
@@ -130,7 +139,7 @@ module _ (n probe : ℕ) (is_plan : IsPlan (frame_plan n probe)) where
   template_fine k y at instructions.Separator e links near lt = fine_inner _
       (template_inner k y at instructions.Separator links near lt (λ h. h))
 
-  pub body_fine : (k : Links) (y : Layout) (at : ℕ) (is : List Instruction) → y.frame ≡ n
+  pub body_fine : (k : Links) (y : Layout) (at : ℕ) (is : List Instruction) → EndsByPlan y
       → AreLinksNear k → AllByRecursion (IsInstructionNear y) is → at + code_room is + 256 < 2 ^ 31
       → IsFine (code_from k y at is)
   body_fine k y at [] e links near lt = record { leads = λ rs. (rs, refl); encodable = refl }

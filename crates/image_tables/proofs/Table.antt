@@ -3,7 +3,7 @@ use Rattle.std.proofs.Common.{◌*◌, ◌≡◌, ℕ, zero, suc, ◌+◌, ◌%�
 use Rattle.std.specs.Prelude.{◌&&◌}
 use Rattle.std.specs.List.{AllByRecursion}
 use Rattle.std.proofs.lemmas.List.{map-append, length-map}
-use Rattle.image_tables.specs.Words.{Image, stored, is_c_handler, Table, Entry, or_none, ◌>>=◌, unwind_bytes, CSpecificHandler, ImageContents, CanBeImage, sizes_of, text_at, rdata_at, xdata_at, Region, LinearFunction, LinearFunclet, LinearProgram, FrameLayout, info_of, spelled, thunk, distance, chosen, body_size, FitsProgram, RoutineView, is_leaf, leaf_if, functions_from, funclet, routines, IsFrameNear, IsRoutineNear, SiteView, routine_size, entry_size, own_addresses, thunk_at, routines_bytes, bounds, trailer, scope_record, scope_records, scope_table, info_if, info_bytes, linked, Placed, end_of, placed_from, site_of, infos_begin, placed, HasRanges, HasRegions, scopes_of, has_rows, entry_if, entries, MOST_IMAGE, IsStoredAt, IsRuntimeFunction, WrittenEntry, HasScopes, IsEntryWritten, as_read, ranges_of, info_written, Tables, directory, all_entries, tables, scope_bytes, table_bytes, service_thunk, info_bytes_of, infos, infos_room, range_if, ranges, total, unwind_of, TablesAreRead, front_size, slot_of, routines_begin}
+use Rattle.image_tables.specs.Words.{Image, stored, is_c_handler, Table, Entry, or_none, ◌>>=◌, unwind_bytes, CSpecificHandler, ImageContents, CanBeImage, sizes_of, text_at, rdata_at, xdata_at, Region, LinearFunction, LinearFunclet, LinearProgram, FrameLayout, info_of, thunk, distance, chosen, body_size, FitsProgram, RoutineView, is_leaf, leaf_if, functions_from, funclet, routines, IsFrameNear, IsRoutineNear, SiteView, routine_size, entry_size, own_addresses, thunk_at, routines_bytes, bounds, trailer, scope_record, scope_records, scope_table, info_if, info_bytes, linked, Placed, end_of, placed_from, site_of, infos_begin, placed, HasRanges, HasRegions, scopes_of, has_rows, entry_if, entries, MOST_IMAGE, IsStoredAt, IsRuntimeFunction, WrittenEntry, HasScopes, IsEntryWritten, as_read, ranges_of, info_written, Tables, directory, all_entries, tables, scope_bytes, table_bytes, service_thunk, info_bytes_of, infos, infos_room, range_if, ranges, total, unwind_of, TablesAreRead, front_size, slot_of, routines_begin}
 use Rattle.image_tables.specs.Entries.{entries_of}
 use Rattle.eh_tables.specs.declared.range.RuntimeFunction.{RuntimeFunction}
 use Rattle.eh_tables.specs.ReadAgain.{AreInOrder}
@@ -18,7 +18,8 @@ use Rattle.image_tables.specs.RegionRanges.{IsRange as IsRegionRange}
 use Rattle.image_tables.proofs.ImagePieces.{text_there, xdata_there, pdata_there}
 use Rattle.image_tables.proofs.Handlers.{handler_is_c, thunk_bytes}
 use Rattle.image_tables.proofs.RowBounds.{AreBelow, checked_is, rows_within, rows_small}
-use Rattle.image_tables.proofs.Infos.{is_trailer, has_trailer, no_parent, handled, taking_few, can_be, is_info, unwind_some, info_aligned}
+use Rattle.image_tables.proofs.Infos.{is_trailer, has_trailer, no_parent, handled, can_be, is_info, unwind_some, info_aligned}
+use Rattle.image_tables.proofs.FramePlans.{prologue_some}
 use Rattle.image_tables.proofs.Prologues.{entry_least}
 
 -- ---- the entries as they are written
@@ -63,10 +64,8 @@ ranges_same s info at (r ∷ rs) =
 pub framed_room : (r : RoutineView) (f : FrameLayout) → IsRoutineNear r → r.frame ≡ Some f
     → 0 < routine_size r
 framed_room r f near e =
-    let size = subst IsFrameNear e near.frame in
-    let few = taking_few f.size size.0 (let l = size.1 in omega arith) in
-    let a = few.0 in
-    let l = entry_least r f near e size.0 in
+    let some = prologue_some f (subst IsFrameNear e near.frame) in
+    let l = entry_least r f near e in
     omega arith
 
 order_less : (a b : ℕ) (ws : List WrittenEntry) → b ≤ a → AreInOrder a ws → AreInOrder b ws

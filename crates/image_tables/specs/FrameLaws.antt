@@ -12,7 +12,8 @@ use Rattle.host_model.specs.Loading.{mapped}
 use Rattle.host_model.specs.Machine.{functions_in}
 use Rattle.frame_rules.specs.Frame.{left_to}
 use Rattle.frame_rules.specs.Prologue.{items}
-use Rattle.frame_rules.specs.Rules.{IsRight, IsInFunction, IsFound}
+use Rattle.frame_rules.specs.Codes.{depth}
+use Rattle.frame_rules.specs.Rules.{IsRight, IsInFunction, IsFound, ops}
 use Rattle.frame_rules.specs.States.{registers, return_address, IsEntry, InBody, HasItems}
 use Rattle.match_stack.specs.Stack.{StackFrame, FrameIsAt, LeafIsAt, IsAsTold}
 use Rattle.host_layout.specs.declared.imported.ImportedService.{ImportedService}
@@ -125,7 +126,8 @@ abbrev pub FramesAreFound : Type 0
 FramesAreFound =
     (p : LinearProgram) (index : ℕ) (x : Placed) (f : FrameLayout) (e s : State) (distance : ℕ)
     → IsFramed p index x f → HasRegions p
-    → IsEntry f.size e → HasText s.memory p → s.cpu.rip ≡ image_base + x.begin + distance
+    → IsEntry (depth (ops (function_of p x f))) e → HasText s.memory p
+    → s.cpu.rip ≡ image_base + x.begin + distance
     → IsInFunction (function_of p x f) e s distance
     → FindsCaller p e s
 

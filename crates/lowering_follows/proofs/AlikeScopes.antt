@@ -1,5 +1,5 @@
 -- What is sound in one scope is lowered in another: in loops, in bodies and blocks of `__try`.
-use Rattle.std.proofs.Common.{◌≡◌, ℕ, ◌-◌}
+use Rattle.std.proofs.Common.{◌≡◌, ℕ}
 use Rattle.std.specs.Prelude.{true, false}
 use Rattle.lowering_follows.specs.Words.{Program, Inside, LinearProgram, Names, Nowhere, Jumps, LoweringContext, finally_scope, in_try, in_except, in_guarded, unwound, IsWay, IsPlace, in_loop}
 use Rattle.lowering_expressions.specs.declared.scope.Way.TheVariants.{Unwinds}

@@ -255,6 +255,23 @@ module _ (program : Program) (linear : LinearProgram) (rate body : ℕ) where
           attains_more linear rate s st mid p r (statement_ways program linear rate body
           (scopes.in_loop end again scope) context site Ks again) x (omega arith, l, j.first_out) a
 
+      -- a loop, and the separator after it, where a `break` leads
+      pub loop_lands : (s : Part) (end done : ℕ) (st : State) (w w' : ℕ) (o : Outcome)
+          → 1 + w ≤ w' → end + 1 ≡ done
+          → HasAt linear site.body site.regions end (Separator ∷ [])
+          → Claim linear rate s st (price 1 0 w w) (S end) o
+          → Claim linear rate s st (price 16 1 w' w') (S done) o
+      loop_lands s end done st w w' o l e has a =
+          subst (λ d. Claim linear rate s st (price 16 1 w' w') (S d) o) e
+          (normal_then s (λ st store. at (conf context site end [] st store)) (S (end + 1)) st
+          (price 1 0 w w) (price 1 0 0 0) (price 16 1 w' w') o
+          (joins (omega arith) (omega arith) (omega arith) (omega arith)) (omega arith) a
+          (λ mid store low kept held.
+          continue_from end (end + 1) [] [] mid store store (price 0 0 0 0) (price 1 0 0 0)
+          (end + 1) (Gives Normal mid) (omega arith, omega arith, omega arith)
+          (λ k. separator_turn end [] mid store k has)
+          (here (end + 1) (end + 1) mid store (price 0 0 0 0) refl (omega arith) kept held)))
+
       -- ---- declarations
 
       -- a local of the source is written

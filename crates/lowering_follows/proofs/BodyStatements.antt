@@ -12,7 +12,7 @@ use Rattle.lowering_follows.proofs.TaskClaims.{Runs}
 use Rattle.lowering_follows.proofs.Environments.{same_length}
 use Rattle.lowering_follows.proofs.BodyClaims.{Inner, inner_part, Stays, Surroundings, surroundings_less, BodyRuns, statement_eval}
 use Rattle.lowering_follows.proofs.BodySequences.{max_left, max_right, all_runs}
-use Rattle.lowering_follows.proofs.BodyParts.{Ks, S, G, ends_at, continue_from, here, normal_then, discard_then, leaves_by, breaks_by, ends_try, declared_runs}
+use Rattle.lowering_follows.proofs.BodyParts.{Ks, S, G, ends_at, continue_from, here, normal_then, discard_then, leaves_by, breaks_by, ends_try, loop_lands, declared_runs}
 use Rattle.lowering_follows.proofs.Tries.{inside_except, inside_finally, within_region, noted_stays, surroundings_except, noted_kept, stays_out, surroundings_try, surroundings_guarded, block_claim}
 use Rattle.lowering_follows.proofs.TryEnds.{except_ends}
 use Rattle.lowering_follows.proofs.FinallyEnds.{finally_ends}
@@ -363,17 +363,19 @@ module _ (program : Program) (linear : LinearProgram) (rate body : ℕ) (roomy :
         let w = 2 + wd + wf + optional_weight c + statement_weight s + optional_weight next in
         let begin = pc + all_declared_size ds in
         let iteration = begin + discarded_size first in
+        let wl = wd + (wf + wi) in
         let last = for_end c next s iteration in
         let hi = pc + statement_size (For ds first c next s) in
-        let end : last ≡ hi = omega arith in
+        let end : last + 1 ≡ hi = omega arith in
         let f : ℕ → State → Outcome = λ v st. within program n (ForIteration c next s) context st in
         let g : State → Outcome = λ st. optional (within program n) 0 first context st f in
-        ends_at program linear rate body roomy n ih bih scope z shapes context site base pc [] st
-        store (price 16 1 w w) last hi (and_then (declare_each (within program n) ds context st)
-        g) end
+        loop_lands program linear rate body roomy n ih bih scope z shapes context site base
+        (at (conf context site pc [] st store)) last hi st wl w
+        (and_then (declare_each (within program n) ds context st) g) (omega arith) end
+        has.iterations.lands
         (then_normal linear rate (at (conf context site pc [] st store))
         (λ st store. at (conf context site begin [] st store)) (W last) st (price 0 0 wd wd)
-        (price 1 0 (wf + wi) (wf + wi)) (price 16 1 w w)
+        (price 1 0 (wf + wi) (wf + wi)) (price 1 0 wl wl)
         (declare_each (within program n) ds context st) g
         (joins (omega arith) (omega arith) (omega arith) (omega arith)) (omega arith)
         (declares_runs ds pc st store steps (omega arith) has.declared
@@ -392,11 +394,12 @@ module _ (program : Program) (linear : LinearProgram) (rate body : ℕ) (roomy :
         let w = 2 + statement_weight s + expression_weight c in
         let last = do_end s c pc in
         let hi = pc + statement_size (DoWhile s c) in
-        let end : last ≡ hi = omega arith in
-        ends_at program linear rate body roomy n ih bih scope z shapes context site base pc [] st
-        store (price 16 1 w w) last hi (within program n (DoIteration s c) context st) end
+        let end : last + 1 ≡ hi = omega arith in
+        loop_lands program linear rate body roomy n ih bih scope z shapes context site base
+        (at (conf context site pc [] st store)) last hi st wi w
+        (within program n (DoIteration s c) context st) (omega arith) end has.lands
         (more linear rate (at (conf context site pc [] st store)) st (price 0 0 wi wi)
-        (price 16 1 w w) (W last) (within program n (DoIteration s c) context st)
+        (price 1 0 wi wi) (W last) (within program n (DoIteration s c) context st)
         (omega arith, omega arith, omega arith)
         (bih.do_run s c scope z shapes context site base pc st store steps (omega arith) has
         (part_in pc hi pc last (omega arith) (omega arith) inner) standing kept held))

@@ -1,6 +1,6 @@
 -- The regions that are open at each instruction of a part of a body are the part's own, and those
 -- around it.
-use Rattle.std.proofs.Common.{◌≡◌, ℕ, ◌+◌, ◌-◌, ◌<◌, ◌≤◌, List, [], ◌∷◌, ◌++◌, sym, ap, ◌∙◌, append-nil, append_assoc}
+use Rattle.std.proofs.Common.{◌≡◌, ℕ, ◌<◌, ◌≤◌, List, [], ◌∷◌, ◌++◌, sym, ap, ◌∙◌, append-nil, append_assoc}
 use Rattle.std.specs.Prelude.{Some}
 use Rattle.lowering_follows.specs.Words.{Region, LinearProgram, LinearBody, BodyName, body_of, regions_at, regions_of}
 use Rattle.lowering_follows.proofs.Regions.{held, held_append}

@@ -13,7 +13,7 @@ use Rattle.lowering_follows.proofs.Lemmas.{jump_length, return_length, discarded
 use Rattle.lowering_follows.proofs.AlikeScopes as scopes
 use Rattle.lowering_follows.proofs.AlikeScopes.{in_finally, loop_alike, try_alike, except_alike, guarded_alike, finally_alike}
 use Rattle.lowering_follows.proofs.RegionCovers.{Cover, part, bare, inside_own, whole_cover}
-use Rattle.lowering_follows.proofs.Segments.{IsSegmentAt, front, back, with_next, whole_is_at}
+use Rattle.lowering_follows.proofs.Segments.{IsSegmentAt, moved, front, back, with_next, whole_is_at}
 use Rattle.lowering_follows.proofs.SoundExpressions.{both_left, both_right, Knows, expression_fits}
 use Rattle.lowering_follows.proofs.FuncletNumbers.{count_front, count_back, counted}
 use Rattle.lowering_follows.proofs.Regions.{own_out, own_in, left_only, right_only, outside, all_outside}
@@ -220,7 +220,7 @@ module _ (program : Program) (linear : LinearProgram) (rate most own : ℕ) wher
           let tests = condition_code names t end iteration in
           let body = statement_code inner s start in
           let steps = discarded_code names next (again + 1) in
-          let repeat = Jump iteration ∷ [] in
+          let repeat = Jump iteration ∷ Separator ∷ [] in
           let ld = all_declared_length names ds at in
           let lf = discarded_length names first' begin in
           let lt = condition_length names t end iteration in
@@ -239,7 +239,7 @@ module _ (program : Program) (linear : LinearProgram) (rate most own : ℕ) wher
           let r = statement_regions s start in
           let before = λ (q : ℕ) (lo : at ≤ q) (hi : q < start). bare linear b rs r q
           (outside s start q (inl hi)) (c q lo (omega arith)) in
-          let following = λ (q : ℕ) (lo : again ≤ q) (hi : q < end). bare linear b rs r q
+          let following = λ (q : ℕ) (lo : again ≤ q) (hi : q < end + 1). bare linear b rs r q
           (outside s start q (inr lo)) (c q (omega arith) (omega arith)) in record {
             declared = all_declared_placed b lb there i.scope a.knows names ds rs at
                 (both_left _ _ (both_left _ _ (both_left _ _ (both_left _ _ ok))))
@@ -263,7 +263,10 @@ module _ (program : Program) (linear : LinearProgram) (rate most own : ℕ) wher
               steps = code_is_at b lb there rs (again + 1) steps
                   (front lb.code (again + 1) steps repeat h4.1)
                   (λ q lo hi. following q (omega arith) (omega arith));
-              repeats = code_is_at b lb there rs (again + 1 + discarded_size next) repeat h5
+              repeats = code_is_at b lb there rs (again + 1 + discarded_size next)
+                  (Jump iteration ∷ []) (h5.0, tt)
+                  (λ q lo hi. following q (omega arith) (omega arith));
+              lands = code_is_at b lb there rs end (Separator ∷ []) h5.1
                   (λ q lo hi. following q (omega arith) (omega arith));
             };
           }
@@ -283,7 +286,7 @@ module _ (program : Program) (linear : LinearProgram) (rate most own : ℕ) wher
           let h2 = back lb.code (again + 1) (again + 1 + expression_size t) code (repeated end at)
           (omega arith) h1.1 in
           let r = statement_regions s at in
-          let following = λ (q : ℕ) (lo : again ≤ q) (hi : q < end). bare linear b rs r q
+          let following = λ (q : ℕ) (lo : again ≤ q) (hi : q < end + 1). bare linear b rs r q
           (outside s at q (inr lo)) (c q (omega arith) (omega arith)) in record {
             condition = expression_fits program own false i.scope a.knows t
                 (both_left _ _ (both_left _ _ ok));
@@ -294,10 +297,13 @@ module _ (program : Program) (linear : LinearProgram) (rate most own : ℕ) wher
             end = code_is_at b lb there rs again (Separator ∷ []) (h1.0, tt)
                 (λ q lo hi. following q lo (omega arith));
             tests = code_is_at b lb there rs (again + 1) (code ++ test ∷ [])
-                (with_next lb.code (again + 1) code test (Jump at ∷ []) h1.1)
+                (with_next lb.code (again + 1) code test (Jump at ∷ Separator ∷ []) h1.1)
                 (λ q lo hi. following q (omega arith) (omega arith));
             repeats = code_is_at b lb there rs (again + 1 + expression_size t + 1) (Jump at ∷ [])
-                h2.1 (λ q lo hi. following q (omega arith) (omega arith));
+                (h2.1.0, tt) (λ q lo hi. following q (omega arith) (omega arith));
+            lands = code_is_at b lb there rs end (Separator ∷ [])
+                (moved lb.code (again + 1 + expression_size t + 1 + 1) end (Separator ∷ [])
+                (omega arith) h2.1.1) (λ q lo hi. following q (omega arith) (omega arith));
           }
       place (Return e) b lb there i scope a owner rs at j ok light h c f n =
           let code = returned_code scope.names e at in

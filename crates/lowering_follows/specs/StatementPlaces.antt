@@ -42,7 +42,7 @@ abbrev pub HasFunclet : LinearProgram → ℕ → (LinearFunclet → Type 0) →
 HasFunclet linear j P =
     (funclet : LinearFunclet) × (slice_get linear.funclets j ≡ Some funclet) × P funclet
 
--- where an iteration of `for` ends, and one of `do`
+-- the last instruction of `for`, and of `do`, where a `break` leads
 abbrev pub for_end : Option Expression → Option Expression → Statement → ℕ → ℕ
 for_end c next s iteration =
     iteration + condition_size c + statement_size s + 1 + discarded_size next + 1
@@ -73,21 +73,24 @@ pub record ForParts (Declared' First Begins Iterations : Type 0) : Type 0 where
   pub begins : Begins
   pub iterations : Iterations
 
-pub record IterationParts (Condition Next Tests Body End Steps Repeats : Type 0) : Type 0 where
-  pub condition : Condition
-  pub next : Next
-  pub tests : Tests
-  pub body : Body
-  pub end : End
-  pub steps : Steps
-  pub repeats : Repeats
+pub record IterationParts (Condition Next Tests Body End Steps Repeats Lands : Type 0) : Type 0
+  where
+    pub condition : Condition
+    pub next : Next
+    pub tests : Tests
+    pub body : Body
+    pub end : End
+    pub steps : Steps
+    pub repeats : Repeats
+    pub lands : Lands
 
-pub record DoParts (Condition Body End Tests Repeats : Type 0) : Type 0 where
+pub record DoParts (Condition Body End Tests Repeats Lands : Type 0) : Type 0 where
   pub condition : Condition
   pub body : Body
   pub end : End
   pub tests : Tests
   pub repeats : Repeats
+  pub lands : Lands
 
 pub record ReturnParts (Value Computes Returns Leads : Type 0) : Type 0 where
   pub value : Value
@@ -172,7 +175,8 @@ module _ (program : Program) (linear : LinearProgram) (steps_per_turn body own :
         (Placed b (in_loop end again scope) s rs start)
         (HasAt linear b rs again (Separator ∷ []))
         (HasAt linear b rs (again + 1) (discarded_code scope.names next (again + 1)))
-        (HasAt linear b rs (again + 1 + discarded_size next) (Jump iteration ∷ [])))
+        (HasAt linear b rs (again + 1 + discarded_size next) (Jump iteration ∷ []))
+        (HasAt linear b rs end (Separator ∷ [])))
     Placed b scope (DoWhile s c) rs at =
         let again = at + statement_size s in
         let end = do_end s c at in
@@ -181,6 +185,7 @@ module _ (program : Program) (linear : LinearProgram) (steps_per_turn body own :
         (HasAt linear b rs (again + 1) (expression_code scope.names c 0 (again + 1)
         ++ JumpIfZero (Temporary 0) end ∷ []))
         (HasAt linear b rs (again + 1 + expression_size c + 1) (Jump at ∷ []))
+        (HasAt linear b rs end (Separator ∷ []))
     Placed b scope (statements.Return e) rs at =
         ReturnParts (OptionalFits e) (HasAt linear b rs at (returned_code scope.names e at))
         (HasAt linear b rs (at + returned_size e) (return_code scope.exit)) (IsWay scope.exit)
@@ -231,6 +236,7 @@ module _ (program : Program) (linear : LinearProgram) (steps_per_turn body own :
       (HasAt linear b rs again (Separator ∷ []))
       (HasAt linear b rs (again + 1) (discarded_code scope.names next (again + 1)))
       (HasAt linear b rs (again + 1 + discarded_size next) (Jump at ∷ []))
+      (HasAt linear b rs end (Separator ∷ []))
 
   abbrev pub DoPlaced : BodyName → LoweringContext → Statement → Expression → List Region → ℕ
       → Type 0

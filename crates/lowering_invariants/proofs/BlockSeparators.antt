@@ -81,7 +81,7 @@ pieces_follow = record {
   of_initialiser = λ names m x e at n d h c. used names e at
       (copy (Local x) (Temporary 0) ∷ Separator ∷ []) ((λ x. no x), ((λ x. no x), tt));
   of_repeated = λ names m e end begin at n h l b c. used names e at (repeated end begin)
-      ((λ x. no x), ((λ x. no x), tt));
+      ((λ x. no x), ((λ x. no x), ((λ x. no x), tt)));
   of_return = λ names m e exit at n h w c. returned names e at (return_code exit)
       (return_follows exit);
 }

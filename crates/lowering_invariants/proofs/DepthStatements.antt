@@ -105,7 +105,7 @@ module _ (depth : ℕ → ℕ) where
     of_initialiser = λ names m x e at n d h c. value_led names e at
         (copy (Local x) (Temporary 0) ∷ Separator ∷ []) (λ x. refl) c (tt, (tt, tt));
     of_repeated = λ names m e end begin at n h l b c. value_led names e at (repeated end begin)
-        (λ x. refl) c (l, (b, tt));
+        (λ x. refl) c (l, (b, (tt, tt)));
     of_return = λ names m e exit at n h w c. returned_led names e exit at w c;
   }
 

@@ -62,7 +62,7 @@ pieces_end = record {
   of_initialiser = λ names m x e at n d h c. ends_after (expression_code names e 0 at)
       (copy (Local x) (Temporary 0)) (Separator ∷ []) refl;
   of_repeated = λ names m e end begin at n h l b c. ends_after (expression_code names e 0 at)
-      (JumpIfZero (Temporary 0) end) (Jump begin ∷ []) refl;
+      (JumpIfZero (Temporary 0) end) (Jump begin ∷ Separator ∷ []) refl;
   of_return = λ names m e exit at n h w c. returned_ends (returned_code names e at) exit;
 }
 

@@ -1,9 +1,9 @@
 -- Every lowered body has its separators.
-use Rattle.std.proofs.Common.{◌≡◌, ◌⊎◌, inl, inr, ℕ, ◌+◌, ◌<◌, ◌≤◌, List, [], ◌∷◌, length, refl, sym, ap, subst, ◌∙◌, arith, length-append}
+use Rattle.std.proofs.Common.{◌≡◌, inl, inr, ℕ, ◌+◌, ◌<◌, ◌≤◌, List, [], ◌∷◌, length, refl, sym, ap, subst, ◌∙◌, arith, length-append}
 use Rattle.std.proofs.lemmas.Bool.{and_parts, leb-true, ltb-true}
 use Rattle.std.specs.List.{AllByRecursion}
-use Rattle.std.specs.Prelude.{true, nat_le, nat_lt, slice_get, Some}
-use Rattle.lowering_invariants.specs.Words.{Expression, Filter, Always, Funclet, Function, Program, Statements, Local, Temporary, Instruction, LocalUnwind, Region, RegionKind, LinearBody, BodyName, FunctionBody, FuncletBody, body_of, holds, statements_size, Owner, Names, LoweringContext, finally_scope, constant, expression_code, statements_code, except_kind, statements_regions, finally_funclet, filter_funclet, scope_of, lowered_function, lowered, IsInside, BeginsApart, LandsInside, HasLanding, LeadsForth, LoweredHasSeparators}
+use Rattle.std.specs.Prelude.{Bool, true, false, nat_le, nat_lt, slice_get, Some}
+use Rattle.lowering_invariants.specs.Words.{Expression, Filter, Always, Funclet, Function, Program, Statements, Local, Temporary, Instruction, CallFinally, LocalUnwind, Region, RegionKind, LinearBody, BodyName, FunctionBody, FuncletBody, body_of, holds, statements_size, Owner, Names, LoweringContext, finally_scope, constant, expression_code, statements_code, except_kind, statements_regions, finally_funclet, filter_funclet, scope_of, lowered_function, lowered, IsInside, BeginsApart, HasBlock, LandsInside, HasLanding, is_target, HoldsStrictly, LeadsForth, LoweredHasSeparators}
 use Rattle.linear_code.specs.declared.instruction.Instruction.TheVariants.{Landing, Return}
 use Rattle.linear_code.specs.declared.program.RegionKind.TheVariants as kinds
 use Rattle.linear_machine.proofs.Walks.{holds_yes}
@@ -13,9 +13,15 @@ use Rattle.lowering_invariants.proofs.EveryBody.{every_body, every_function}
 use Rattle.lowering_invariants.proofs.NoBlocks.{expression_no_blocks}
 use Rattle.lowering_invariants.proofs.ReturnRegions.{calls_stay}
 use Rattle.lowering_invariants.proofs.RegionRanges.{IsWithin, AreWithin, statements_within, NoneBegin, NoneMeet, statements_none_meet}
-use Rattle.lowering_invariants.proofs.StackTargets.{all_map}
-use Rattle.lowering_invariants.proofs.UnwindLabels.{lowered_stays_inside}
+use Rattle.lowering_invariants.proofs.StackTargets.{all_map, same_it}
 use Rattle.lowering_invariants.proofs.UnwindTargets.{IsClear, LeadsOn, AllLead, lead_append, plain_lead, statements_lead, lead_at, within_clear}
+
+differ : {X : Type 0} → false ≡ true → X
+differ e = cc
+
+abbrev is_landing : Instruction → Bool
+is_landing (Landing to) = true
+is_landing i = false
 
 -- ---- what a region holds
 
@@ -30,11 +36,11 @@ all_with : {X : Type 0} (P Q R : X → Type 0) (xs : List X) → ((x : X) → P 
 all_with P Q R [] f h k = tt
 all_with P Q R (x ∷ xs) f h k = (f x h.0 k.0, all_with P Q R xs f h.1 k.1)
 
--- ---- blocks begin where their regions end
+-- ---- blocks begin, or are called, where their regions end
 
 module _ (code : List Instruction) where
   abbrev LandsAt : ℕ → RegionKind → Type 0
-  LandsAt end (kinds.Finally k) = Unit {0}
+  LandsAt end (kinds.Finally k) = slice_get code end ≡ Some (CallFinally k)
   LandsAt end (kinds.Filter k target) =
       (slot : ℕ) × (target ≡ end) × (slice_get code end ≡ Some (Landing (Local slot)))
   LandsAt end (kinds.Always target) =
@@ -58,7 +64,7 @@ module _ (code : List Instruction) where
     of_unwind = λ at label l s. tt;
     of_landing = λ names m begin end at f le n o b t l s.
         (kind_lands f (at + 1) names.free s.1.0, tt);
-    of_finally = λ k begin at o b t s. (tt, tt);
+    of_finally = λ k begin at o b t s. (s.1.0, tt);
     of_zeroed = λ x at d s. tt;
     of_discarded = λ names m e at n h c s. tt;
     of_condition = λ names m e label at n h l c s. tt;
@@ -73,49 +79,68 @@ module _ (code : List Instruction) where
   statements_land = statements_any
       (λ at xs rs. IsSegmentAt code at xs → AllByRecursion Lands rs) pieces_land
 
+  -- where a block begins no other one does, nor is one called
+  own_block : (end slot : ℕ) (k : RegionKind) → LandsAt end k
+      → slice_get code end ≡ Some (Landing (Local slot)) → HasBlock end k
+  own_block end slot (kinds.Finally k) l e = differ (ap is_landing
+      (same_it (CallFinally k) (Landing (Local slot)) (sym l ∙ e)))
+  own_block end slot (kinds.Filter k target) l e = l.1
+  own_block end slot (kinds.Always target) l e = l.1
+
+  -- no local unwind leads there
+  no_target : (end : ℕ) (k : RegionKind) (i : Instruction) → LandsAt end k
+      → slice_get code end ≡ Some i → is_target i ≡ true → ⊥
+  no_target end (kinds.Finally k) i l e t = differ (ap is_target
+      (same_it (CallFinally k) i (sym l ∙ e)) ∙ t)
+  no_target end (kinds.Filter k target) i l e t = differ (ap is_target
+      (same_it (Landing (Local l.0)) i (sym l.2 ∙ e)) ∙ t)
+  no_target end (kinds.Always target) i l e t = differ (ap is_target
+      (same_it (Landing (Local l.0)) i (sym l.2 ∙ e)) ∙ t)
+
 -- ---- whole bodies
 
 record IsSeparate (b : LinearBody) : Type 0 where
   pub regions : AllByRecursion (IsInside (length b.code)) b.regions
-  pub landings : AllByRecursion (λ (r : Region). HasLanding b r.kind) b.regions
+  pub lands : AllByRecursion (Lands b.code) b.regions
+  pub apart : NoneMeet b.regions
   pub leads : (label to : ℕ) → slice_get b.code label ≡ Some (LocalUnwind to)
-      → LeadsOn b.regions label (label + 1) to
+      → LeadsOn b.regions b.code label (label + 1) to
 
--- a block begins where no region begins
+-- a block begins where no region begins, and where no other one ends
 lands_inside : (b : LinearBody) (end target slot : ℕ) → target ≡ end
-    → slice_get b.code end ≡ Some (Landing (Local slot)) → NoneBegin end b.regions
-    → LandsInside b target
-lands_inside b end target slot e g none = record {
+    → slice_get b.code end ≡ Some (Landing (Local slot)) → AllByRecursion (Lands b.code) b.regions
+    → NoneBegin end b.regions → LandsInside b target
+lands_inside b end target slot e g lands none = record {
   slot = slot;
   landing = ap (slice_get b.code) e ∙ g;
-  inside = all_map (λ (r : Region). r.begin ≡ end → ⊥)
-      (λ (r : Region). holds target r ≡ true → r.begin < target) b.regions
-      (λ r apart h. (let p = (held_between target r h).0 in omega arith)) none;
+  begins = subst (λ label. NoneBegin label b.regions) (sym e) none;
+  ends = all_map (Lands b.code) (λ (r : Region). r.end ≡ target → HasBlock target r.kind) b.regions
+      (λ r l same. subst (λ label. HasBlock label r.kind) same (own_block b.code r.end slot r.kind l
+      (ap (slice_get b.code) (same ∙ e) ∙ g))) lands;
 }
 
-has_landing : (b : LinearBody) (end : ℕ) (k : RegionKind) → LandsAt b.code end k
-    → NoneBegin end b.regions → HasLanding b k
-has_landing b end (kinds.Finally k) l none = tt
-has_landing b end (kinds.Filter k target) l none = lands_inside b end target l.0 l.1 l.2 none
-has_landing b end (kinds.Always target) l none = lands_inside b end target l.0 l.1 l.2 none
+has_landing : (b : LinearBody) (end : ℕ) (k : RegionKind) → AllByRecursion (Lands b.code) b.regions
+    → LandsAt b.code end k → NoneBegin end b.regions → HasLanding b k
+has_landing b end (kinds.Finally k) lands l none = tt
+has_landing b end (kinds.Filter k target) lands l none =
+    lands_inside b end target l.0 l.1 l.2 lands none
+has_landing b end (kinds.Always target) lands l none =
+    lands_inside b end target l.0 l.1 l.2 lands none
 
 -- the code of statements from a place on, and something after it
 separate : (ss : Statements) (scope : LoweringContext) (b : LinearBody) (at : ℕ)
     → b.regions ≡ statements_regions ss at → at + statements_size ss ≤ length b.code
-    → IsSegmentAt b.code at (statements_code scope ss at) → AllLead b.regions 0 b.code
+    → IsSegmentAt b.code at (statements_code scope ss at) → AllLead b.regions b.code 0 b.code
     → IsSeparate b
 separate ss scope b at e l s leads =
     let within = subst (AreWithin at (at + statements_size ss)) (sym e) (statements_within ss at) in
-    let lands = subst (AllByRecursion (Lands b.code)) (sym e)
-    (statements_land b.code ss scope at s) in
-    let apart = subst NoneMeet (sym e) (statements_none_meet ss at) in
     record {
       regions = all_map (IsWithin at (at + statements_size ss)) (IsInside (length b.code)) b.regions
           (λ r w. (let h = w.ends in record { some = w.some; before = omega arith })) within;
-      landings = all_with (Lands b.code) (λ (r : Region). NoneBegin r.end b.regions)
-          (λ (r : Region). HasLanding b r.kind) b.regions
-          (λ r h k. has_landing b r.end r.kind h k) lands apart;
-      leads = λ label to g. lead_at b.regions b.code 0 label label to (omega arith) leads g;
+      lands = subst (AllByRecursion (Lands b.code)) (sym e)
+          (statements_land b.code ss scope at s);
+      apart = subst NoneMeet (sym e) (statements_none_meet ss at);
+      leads = λ label to g. lead_at b.regions b.code b.code 0 label label to (omega arith) leads g;
     }
 
 filter_separate : (owner : Owner) (names : Names) (e : Expression)
@@ -124,11 +149,13 @@ filter_separate owner names e =
     let code = (filter_funclet owner names e).body.code in
     record {
       regions = tt;
-      landings = tt;
-      leads = λ label to g. lead_at [] code 0 label label to (omega arith)
-          (lead_append [] 0 (length (expression_code names e 0 0)) (expression_code names e 0 0)
-          (Return (Temporary 0) ∷ []) (omega arith) (plain_lead [] 0 (expression_code names e 0 0)
-          (expression_no_blocks names e 0 0)) (tt, tt)) g;
+      lands = tt;
+      apart = tt;
+      leads = λ label to g. lead_at [] code code 0 label label to (omega arith)
+          (lead_append [] code 0 (length (expression_code names e 0 0))
+          (expression_code names e 0 0) (Return (Temporary 0) ∷ []) (omega arith)
+          (plain_lead [] code 0 (expression_code names e 0 0) (expression_no_blocks names e 0 0))
+          (tt, tt)) g;
     }
 
 block_separate : (owner : Owner) (names : Names) (last : Statements)
@@ -141,9 +168,10 @@ block_separate owner names last =
     let n = length-append code ends in
     let l = statements_length scope last 0 in
     let to = statements_size last in
-    separate last scope b 0 refl (omega arith) (front b.code 0 code ends (whole_is_at b.code))
-    (lead_append b.regions 0 to code ends (omega arith)
-    (statements_lead b.regions last scope 0 to (omega arith)
+    let s = front b.code 0 code ends (whole_is_at b.code) in
+    separate last scope b 0 refl (omega arith) s
+    (lead_append b.regions b.code 0 to code ends (omega arith)
+    (statements_lead b.regions b.code last scope 0 to (omega arith) s
     (record { exit = tt; loop_end = tt; loop_next = tt }) (λ low high p q h. h)) (tt, tt))
 
 function_separate : (f : Function) → IsSeparate (lowered_function f).body
@@ -156,11 +184,18 @@ function_separate f =
     let l = statements_length scope f.body 1 in
     let to = 1 + statements_size f.body in
     let exit = within_clear 1 to 1 (to + 1) b.regions (omega arith) (statements_within f.body 1) in
-    separate f.body scope b 1 refl (omega arith) (front b.code 1 code ends (whole_is_at b.code).1) (
+    let whole = (whole_is_at b.code).1 in
+    let s = front b.code 1 code ends whole in
+    let own = (back b.code 1 to code ends (omega arith) whole).1.0 in
+    separate f.body scope b 1 refl (omega arith) s (
       tt,
-      lead_append b.regions 1 to code ends (omega arith)
-          (statements_lead b.regions f.body scope 1 to refl
-          (record { exit = (omega arith, exit); loop_end = tt; loop_next = tt })
+      lead_append b.regions b.code 1 to code ends (omega arith)
+          (statements_lead b.regions b.code f.body scope 1 to refl s
+          (record {
+            exit = (omega arith, exit, (Return (Temporary 0), own, refl));
+            loop_end = tt;
+            loop_next = tt;
+          })
           (λ low high p q h. h)) (tt, (tt, tt)),
     )
 
@@ -185,22 +220,38 @@ begins_apart program (FuncletBody k) b e = tt
 -- ---- all bodies
 
 holds_from : (label to : ℕ) (r : Region) → label < to → IsClear label to r → holds to r ≡ true
-    → (holds label r ≡ true) ⊎ (r.begin ≡ to)
+    → holds label r ≡ true
 holds_from label to r l (inl c) h = let p = held_between to r h in
-    inl (holds_yes r label c (omega arith))
-holds_from label to r l (inr (inl c)) h = let p = held_between to r h in inr (omega arith)
+    holds_yes r label c (omega arith)
+holds_from label to r l (inr (inl c)) h = let p = held_between to r h in absurd (omega arith)
 holds_from label to r l (inr (inr c)) h = let p = held_between to r h in absurd (omega arith)
 
-leads_forth : (b : LinearBody) (label to : ℕ) → to < length b.code
-    → LeadsOn b.regions label (label + 1) to → LeadsForth b label to
-leads_forth b label to there h =
+begins_apart_from : (label to : ℕ) (r : Region) → label < to → r.begin < r.end → IsClear label to r
+    → r.begin ≡ to → ⊥
+begins_apart_from label to r l s (inl c) e = absurd (omega arith)
+begins_apart_from label to r l s (inr (inl c)) e = absurd (omega arith)
+begins_apart_from label to r l s (inr (inr c)) e = absurd (omega arith)
+
+leads_forth : (b : LinearBody) (label to : ℕ) → IsSeparate b
+    → LeadsOn b.regions b.code label (label + 1) to → LeadsForth b label to
+leads_forth b label to separate h =
     let forth : label < to = omega arith in
+    let Known : Region → Type 0 = λ r. Lands b.code r × IsClear label to r in
     record {
       forth = forth;
-      there = there;
-      inside = all_map (IsClear label to)
-          (λ (r : Region). holds to r ≡ true → (holds label r ≡ true) ⊎ (r.begin ≡ to)) b.regions
-          (λ r c. holds_from label to r forth c) h.1;
+      instruction = h.2.0;
+      there = h.2.1;
+      own = h.2.2;
+      inside = all_with (IsInside (length b.code)) Known (HoldsStrictly label to) b.regions
+          (λ r i k. record {
+            begins = begins_apart_from label to r forth i.some k.1;
+            ends = λ e. no_target b.code r.end r.kind h.2.0 k.0
+                (ap (slice_get b.code) e ∙ h.2.1) h.2.2;
+            both = holds_from label to r forth k.1;
+          })
+          separate.regions
+          (all_with (Lands b.code) (IsClear label to) Known b.regions (λ r x y. (x, y))
+          separate.lands h.1);
     }
 
 pub lowered_has_separators : LoweredHasSeparators
@@ -214,7 +265,8 @@ lowered_has_separators program name b e =
       blocks = lowered_is_followed program name b e;
       regions = separate.regions;
       begin = begins_apart program name b e;
-      landings = separate.landings;
-      unwinds = λ label to g. leads_forth b label to (lowered_stays_inside program name b e label
-          to g) (separate.leads label to g);
+      landings = all_with (Lands b.code) (λ (r : Region). NoneBegin r.end b.regions)
+          (λ (r : Region). HasLanding b r.kind) b.regions
+          (λ r h k. has_landing b r.end r.kind separate.lands h k) separate.lands separate.apart;
+      unwinds = λ label to g. leads_forth b label to separate (separate.leads label to g);
     }

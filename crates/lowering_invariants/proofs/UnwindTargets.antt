@@ -1,14 +1,15 @@
--- In lowered code a local unwind leads forth, and no region that holds its target begins between.
-use Rattle.std.proofs.Common.{◌≡◌, ◌⊎◌, inl, inr, ℕ, zero, suc, ◌+◌, ◌-◌, ◌≤◌, List, [], ◌∷◌, ◌++◌, length, refl, subst, arith}
+-- In lowered code a local unwind leads forth, to an instruction of its own, and no region that holds
+-- its target begins between, or at the target.
+use Rattle.std.proofs.Common.{◌≡◌, ◌⊎◌, inl, inr, ℕ, zero, suc, ◌+◌, ◌-◌, ◌<◌, ◌≤◌, List, [], ◌∷◌, ◌++◌, length, refl, subst, arith}
 use Rattle.std.specs.List.{AllByRecursion}
-use Rattle.std.specs.Prelude.{false, slice_get, Option, Some, None}
-use Rattle.lowering_invariants.specs.Words.{Expression, Declared, Statement, Declare, Block, Evaluate, If, IfElse, For, DoWhile, Return, Break, Continue, Leave, TryExcept, TryFinally, Statements, Empty, Then, Temporary, Instruction, JumpIfZero, Separator, LocalUnwind, Region, expression_size, discarded_size, condition_size, all_declared_size, statement_size, statements_size, Names, Way, Nowhere, Jumps, LoweringContext, expression_code, jump_code, return_code, leave_code, returned_code, discarded_code, condition_code, declared_code, all_declared_code, initialiser_code, repeated, statement_code, statements_code, except_kind, region, statement_regions, statements_regions, in_loop, in_try, in_except, in_guarded, runs_blocks}
+use Rattle.std.specs.Prelude.{true, false, slice_get, Option, Some, None}
+use Rattle.lowering_invariants.specs.Words.{Expression, Declared, Statement, Declare, Block, Evaluate, If, IfElse, For, DoWhile, Return, Break, Continue, Leave, TryExcept, TryFinally, Statements, Empty, Then, Temporary, Instruction, Jump, JumpIfZero, Separator, LocalUnwind, Region, expression_size, discarded_size, condition_size, all_declared_size, statement_size, statements_size, Names, Way, Nowhere, Jumps, LoweringContext, expression_code, jump_code, return_code, leave_code, returned_code, discarded_code, condition_code, declared_code, all_declared_code, initialiser_code, repeated, statement_code, statements_code, except_kind, region, statement_regions, statements_regions, in_loop, in_try, in_except, in_guarded, runs_blocks, is_target}
 use Rattle.linear_code.specs.declared.program.RegionKind.TheVariants as kinds
 use Rattle.lowering_expressions.specs.declared.scope.Way.TheVariants.{Unwinds}
 use Rattle.lowering_sizes.specs.Sizes.{returned_size}
 use Rattle.seh_ir.proofs.EveryStatement.{unwound_has}
 use Rattle.seh_ir.proofs.StatementCodes.{returned_length}
-use Rattle.lowering_invariants.proofs.Lemmas.{expression_length, statements_length, statement_length, discarded_length, condition_length, all_declared_length, WayHas, all_append}
+use Rattle.lowering_invariants.proofs.Lemmas.{expression_length, statements_length, statement_length, discarded_length, condition_length, all_declared_length, WayHas, all_append, IsSegmentAt, front, back}
 use Rattle.lowering_invariants.proofs.StackTargets.{all_map, same_it}
 use Rattle.lowering_invariants.proofs.NoBlocks.{RunNoBlocks, expression_no_blocks}
 use Rattle.lowering_invariants.proofs.RegionRanges.{IsWithin, AreWithin, statement_within, statements_within}
@@ -47,9 +48,9 @@ module _ (names : Names) where
 
 -- ---- ranges
 
--- a region doesn't begin between these labels and hold the second
+-- a region doesn't begin between these labels, or at the second, if it doesn't end before that
 abbrev pub IsClear : ℕ → ℕ → Region → Type 0
-IsClear low high r = (r.begin ≤ low) ⊎ (high ≤ r.begin) ⊎ (r.end ≤ high)
+IsClear low high r = (r.begin ≤ low) ⊎ (high < r.begin) ⊎ (r.end ≤ high)
 
 abbrev pub AreClear : ℕ → ℕ → List Region → Type 0
 AreClear low high rs = AllByRecursion (IsClear low high) rs
@@ -66,7 +67,7 @@ clear_later : (low low' high : ℕ) (r : Region) → low ≤ low' → IsClear lo
 clear_later low low' high r l (inl b) = inl (omega arith)
 clear_later low low' high r l (inr e) = inr e
 
-outside_clear : (at to low high : ℕ) (r : Region) → at ≤ low → high ≤ to → IsOutside at to r
+outside_clear : (at to low high : ℕ) (r : Region) → at ≤ low → high < to → IsOutside at to r
     → IsClear low high r
 outside_clear at to low high r a b (inl p) = inl (omega arith)
 outside_clear at to low high r a b (inr p) = inr (inl (omega arith))
@@ -89,12 +90,12 @@ later_outside low high at to rs l =
     all_map (IsWithin low high) (IsOutside at to) rs
     (λ r w. (let b = w.begins in inr (omega arith)))
 
--- ---- in a body with these regions
+-- ---- in a body with these regions and this code
 
-module _ (regions : List Region) where
+module _ (regions : List Region) (code : List Instruction) where
   -- within this range what is clear of these regions is clear of all
   abbrev pub HasOwn : ℕ → ℕ → List Region → Type 0
-  HasOwn at to rs = (low high : ℕ) → at ≤ low → high ≤ to → AreClear low high rs
+  HasOwn at to rs = (low high : ℕ) → at ≤ low → high < to → AreClear low high rs
       → AreClear low high regions
 
   narrower : (at to at' to' : ℕ) (rs : List Region) → at ≤ at' → to' ≤ to → HasOwn at to rs
@@ -117,9 +118,13 @@ module _ (regions : List Region) where
 
   -- ---- ways out
 
-  -- a label after this range
+  -- an instruction of its own is at a label
+  abbrev pub IsOwn : ℕ → Type 0
+  IsOwn label = (i : Instruction) × (slice_get code label ≡ Some i) × (is_target i ≡ true)
+
+  -- such a label after this range
   abbrev pub LeadsOn : ℕ → ℕ → ℕ → Type 0
-  LeadsOn at to label = (to ≤ label) × AreClear at label regions
+  LeadsOn at to label = (to ≤ label) × AreClear at label regions × IsOwn label
 
   pub record WaysLead (at to : ℕ) (scope : LoweringContext) : Type 0 where
     pub exit : WayHas (LeadsOn at to) scope.exit
@@ -132,6 +137,7 @@ module _ (regions : List Region) where
     omega arith,
     all_map (IsClear at label) (IsClear at' label) regions
         (λ r c. clear_later at at' label r a c) h.1,
+    h.2,
   )
 
   way_from : (at to at' to' : ℕ) (w : Way) → at ≤ at' → to' ≤ to → WayHas (LeadsOn at to) w
@@ -176,12 +182,12 @@ module _ (regions : List Region) where
   jump_leads : (at : ℕ) (w : Way) → WayHas (LeadsOn at (at + 2)) w → AllLead at (jump_code w)
   jump_leads at Nowhere h = (tt, (tt, tt))
   jump_leads at (Jumps label) h = (tt, (tt, tt))
-  jump_leads at (Unwinds label) h = ((omega arith, h.1), (tt, tt))
+  jump_leads at (Unwinds label) h = ((omega arith, h.1, h.2), (tt, tt))
 
   return_leads : (at : ℕ) (w : Way) → WayHas (LeadsOn at (at + 2)) w → AllLead at (return_code w)
   return_leads at Nowhere h = (tt, (tt, tt))
   return_leads at (Jumps label) h = (tt, (tt, tt))
-  return_leads at (Unwinds label) h = ((omega arith, h.1), (tt, tt))
+  return_leads at (Unwinds label) h = ((omega arith, h.1, h.2), (tt, tt))
 
   leave_leads : (at : ℕ) (w : Option ℕ) → AllLead at (leave_code w ∷ [])
   leave_leads at None = (tt, tt)
@@ -195,12 +201,22 @@ module _ (regions : List Region) where
       lead_append at (at + expression_size c) (expression_code names c 0 at) _ (omega arith)
       (plain_lead at (expression_code names c 0 at) (expression_no_blocks names c 0 at)) (tt, h)
 
+  -- what comes after a condition with its jump
+  after_test : (names : Names) (c : Expression) (label at : ℕ) (rest : List Instruction)
+      → IsSegmentAt code at (expression_code names c 0 at ++ JumpIfZero (Temporary 0) label ∷ rest)
+      → IsSegmentAt code (at + expression_size c + 1) rest
+  after_test names c label at rest g =
+      let l = expression_length names c 0 at in
+      (back code at (at + expression_size c) (expression_code names c 0 at)
+      (JumpIfZero (Temporary 0) label ∷ rest) (omega arith) g).1
+
   -- the ways out in the body of a loop
   looped : (s : Statement) (scope : LoweringContext) (at to start again end : ℕ)
-      → at ≤ start → start + statement_size s ≡ again → again ≤ end → end ≤ to
+      → at ≤ start → start + statement_size s ≡ again → again ≤ end → end < to
+      → slice_get code again ≡ Some Separator → slice_get code end ≡ Some Separator
       → HasOwn at to (statement_regions s start) → WaysLead at to scope
       → WaysLead start again (in_loop end again scope)
-  looped s scope at to start again end a e b c own w =
+  looped s scope at to start again end a e b c g f own w =
       let rs = statement_regions s start in
       let inside = statement_within s start in
       record {
@@ -209,52 +225,58 @@ module _ (regions : List Region) where
           b,
           own start end a c (within_clear start (start + statement_size s) start end rs
               (omega arith) inside),
+          (Separator, f, refl),
         );
         loop_next = (
           omega arith,
           own start again a (omega arith) (within_clear start (start + statement_size s) start
               again rs (omega arith) inside),
+          (Separator, g, refl),
         );
       }
 
   mutual
     -- the local unwinds of a statement, where its ways out lead on
     pub statement_leads : (s : Statement) (scope : LoweringContext) (at to : ℕ)
-        → at + statement_size s ≡ to → WaysLead at to scope → HasOwn at to (statement_regions s at)
+        → at + statement_size s ≡ to → IsSegmentAt code at (statement_code scope s at)
+        → WaysLead at to scope → HasOwn at to (statement_regions s at)
         → AllLead at (statement_code scope s at)
-    statement_leads (Declare d) scope at to e w own =
+    statement_leads (Declare d) scope at to e g w own =
         plain_lead at (declared_code scope.names d at)
         (refl, initialiser_no_blocks scope.names d.local d.value (at + 1))
-    statement_leads (Block ss) scope at to e w own = statements_lead ss scope at to e w own
-    statement_leads (Evaluate x) scope at to e w own =
+    statement_leads (Block ss) scope at to e g w own = statements_lead ss scope at to e g w own
+    statement_leads (Evaluate x) scope at to e g w own =
         plain_lead at (discarded_code scope.names x at) (discarded_no_blocks scope.names x at)
-    statement_leads (If c s) scope at to e w own =
+    statement_leads (If c s) scope at to e g w own =
         let then = at + expression_size c + 1 in
-        when scope.names c _ at _ (statement_leads s scope then to (omega arith)
+        let g1 = after_test scope.names c _ at _ g in
+        when scope.names c _ at _ (statement_leads s scope then to (omega arith) g1
         (ways_from at to then to scope (omega arith) (omega arith) w)
         (narrower at to then to (statement_regions s then) (omega arith) (omega arith) own))
-    statement_leads (IfElse c s t) scope at to e w own =
+    statement_leads (IfElse c s t) scope at to e g w own =
         let then = at + expression_size c + 1 in
         let skips = then + statement_size s in
         let otherwise = skips + 1 in
         let rs = statement_regions s then in
         let qs = statement_regions t otherwise in
         let l = statement_length scope s then in
-        when scope.names c _ at _ (lead_append then skips (statement_code scope s then) _
-        (omega arith)
-        (statement_leads s scope then skips refl
+        let yes = statement_code scope s then in
+        let g1 = after_test scope.names c _ at _ g in
+        let g2 = back code then skips yes _ (omega arith) g1 in
+        when scope.names c _ at _ (lead_append then skips yes _ (omega arith)
+        (statement_leads s scope then skips refl (front code then yes _ g1)
         (ways_from at to then skips scope (omega arith) (omega arith) w)
         (front_own at to then skips rs qs (omega arith) (omega arith)
         (later_outside otherwise (otherwise + statement_size t) then skips qs (omega arith)
         (statement_within t otherwise)) own)) (
           tt,
-          statement_leads t scope otherwise to (omega arith)
+          statement_leads t scope otherwise to (omega arith) g2.1
               (ways_from at to otherwise to scope (omega arith) (omega arith) w)
               (back_own at to otherwise to rs qs (omega arith) (omega arith)
               (earlier_outside then skips otherwise to rs (omega arith) (statement_within s then))
               own),
         ))
-    statement_leads (For ds first c next s) scope at to e w own =
+    statement_leads (For ds first c next s) scope at to e g w own =
         let names = scope.names in
         let begin = at + all_declared_size ds in
         let iteration = begin + discarded_size first in
@@ -269,50 +291,65 @@ module _ (regions : List Region) where
         let lt = condition_length names c end iteration in
         let ls = statement_length inner s start in
         let ln = discarded_length names next (again + 1) in
-        lead_append at begin (all_declared_code names ds at) _ (omega arith)
-        (plain_lead at (all_declared_code names ds at) (declared_no_blocks names ds at))
-        (lead_append begin iteration (discarded_code names first begin) _ (omega arith)
-        (plain_lead begin (discarded_code names first begin)
-        (discarded_no_blocks names first begin))
-        (lead_append iteration start (condition_code names c end iteration) _ (omega arith)
-        (plain_lead iteration (condition_code names c end iteration)
-        (condition_no_blocks names c end iteration))
-        (lead_append start again (statement_code inner s start) _ (omega arith)
-        (statement_leads s inner start again refl
-        (looped s scope at to start again end (omega arith) refl (omega arith) (omega arith) own w)
+        let declares = all_declared_code names ds at in
+        let begins = discarded_code names first begin in
+        let tests = condition_code names c end iteration in
+        let turns = statement_code inner s start in
+        let steps = discarded_code names next (again + 1) in
+        let g1 = back code at begin declares _ (omega arith) g in
+        let g2 = back code begin iteration begins _ (omega arith) g1 in
+        let g3 = back code iteration start tests _ (omega arith) g2 in
+        let g4 = back code start again turns _ (omega arith) g3 in
+        let g5 = back code (again + 1) step steps _ (omega arith) g4.1 in
+        lead_append at begin declares _ (omega arith)
+        (plain_lead at declares (declared_no_blocks names ds at))
+        (lead_append begin iteration begins _ (omega arith)
+        (plain_lead begin begins (discarded_no_blocks names first begin))
+        (lead_append iteration start tests _ (omega arith)
+        (plain_lead iteration tests (condition_no_blocks names c end iteration))
+        (lead_append start again turns _ (omega arith)
+        (statement_leads s inner start again refl (front code start turns _ g3)
+        (looped s scope at to start again end (omega arith) refl (omega arith) (omega arith) g4.0
+        g5.1.0 own w)
         (narrower at to start again rs (omega arith) (omega arith) own)) (
           tt,
-          lead_append (again + 1) step (discarded_code names next (again + 1)) _ (omega arith)
-              (plain_lead (again + 1) (discarded_code names next (again + 1))
-              (discarded_no_blocks names next (again + 1))) (tt, tt),
+          lead_append (again + 1) step steps _ (omega arith)
+              (plain_lead (again + 1) steps (discarded_no_blocks names next (again + 1)))
+              (tt, (tt, tt)),
         ))))
-    statement_leads (DoWhile s c) scope at to e w own =
+    statement_leads (DoWhile s c) scope at to e g w own =
         let again = at + statement_size s in
         let end = again + 1 + expression_size c + 2 in
         let inner = in_loop end again scope in
         let rs = statement_regions s at in
         let l = statement_length inner s at in
-        lead_append at again (statement_code inner s at) _ (omega arith)
-        (statement_leads s inner at again refl
-        (looped s scope at to at again end (omega arith) refl (omega arith) (omega arith) own w)
+        let turns = statement_code inner s at in
+        let last = again + 1 + expression_size c + 1 + 1 in
+        let same : last ≡ end = omega arith in
+        let g1 = back code at again turns _ (omega arith) g in
+        let g2 = after_test scope.names c end (again + 1) (Jump at ∷ Separator ∷ []) g1.1 in
+        lead_append at again turns _ (omega arith)
+        (statement_leads s inner at again refl (front code at turns _ g)
+        (looped s scope at to at again end (omega arith) refl (omega arith) (omega arith) g1.0
+        (subst (λ k. slice_get code k ≡ Some Separator) same g2.1.0) own w)
         (narrower at to at again rs (omega arith) (omega arith) own)) (
           tt,
           plain_lead (again + 1) (expression_code scope.names c 0 (again + 1) ++ repeated end at)
-              (used scope.names c (again + 1) (repeated end at) (refl, (refl, tt))),
+              (used scope.names c (again + 1) (repeated end at) (refl, (refl, (refl, tt)))),
         )
-    statement_leads (Return x) scope at to e w own =
+    statement_leads (Return x) scope at to e g w own =
         let mid = at + returned_size x in
         let l = returned_length scope.names x at in
         lead_append at mid (returned_code scope.names x at) (return_code scope.exit) (omega arith)
         (plain_lead at (returned_code scope.names x at) (returned_no_blocks scope.names x at))
         (return_leads mid scope.exit (way_from at to mid (mid + 2) scope.exit (omega arith)
         (omega arith) w.exit))
-    statement_leads Break scope at to e w own = jump_leads at scope.loop_end
+    statement_leads Break scope at to e g w own = jump_leads at scope.loop_end
         (way_from at to at (at + 2) scope.loop_end (omega arith) (omega arith) w.loop_end)
-    statement_leads Continue scope at to e w own = jump_leads at scope.loop_next
+    statement_leads Continue scope at to e g w own = jump_leads at scope.loop_next
         (way_from at to at (at + 2) scope.loop_next (omega arith) (omega arith) w.loop_next)
-    statement_leads Leave scope at to e w own = leave_leads at scope.leave
-    statement_leads (TryExcept body filter block) scope at to e w own =
+    statement_leads Leave scope at to e g w own = leave_leads at scope.leave
+    statement_leads (TryExcept body filter block) scope at to e g w own =
         let ends = at + statements_size body in
         let target = ends + 1 in
         let end = target + 1 + statements_size block in
@@ -323,8 +360,10 @@ module _ (regions : List Region) where
         let l = statements_length inner body at in
         let v = ways_from at to at ends scope (omega arith) (omega arith) w in
         let u = ways_from at to (target + 1) to scope (omega arith) (omega arith) w in
-        lead_append at ends (statements_code inner body at) _ (omega arith)
-        (statements_lead body inner at ends refl
+        let guarded = statements_code inner body at in
+        let g1 = back code at ends guarded _ (omega arith) g in
+        lead_append at ends guarded _ (omega arith)
+        (statements_lead body inner at ends refl (front code at guarded _ g)
         (record { exit = v.exit; loop_end = v.loop_end; loop_next = v.loop_next })
         (front_own at to at ends rs (mine ∷ qs) (omega arith) (omega arith) (
           inl (omega arith),
@@ -334,7 +373,7 @@ module _ (regions : List Region) where
           tt,
           (
             tt,
-            statements_lead block (in_except scope) (target + 1) to (omega arith)
+            statements_lead block (in_except scope) (target + 1) to (omega arith) g1.1.1
                 (record { exit = u.exit; loop_end = u.loop_end; loop_next = u.loop_next })
                 (back_own (target + 1) to (target + 1) to (mine ∷ []) qs (omega arith) (omega arith)
                 (inl (omega arith), tt)
@@ -343,15 +382,16 @@ module _ (regions : List Region) where
                 (statements_within body at)) own)),
           ),
         )
-    statement_leads (TryFinally body k last) scope at to e w own =
+    statement_leads (TryFinally body k last) scope at to e g w own =
         let ends = at + statements_size body in
         let inner = in_guarded ends scope in
         let mine = region at (ends + 1) (kinds.Finally (k - 1)) in
         let rs = statements_regions body at in
         let l = statements_length inner body at in
         let v = ways_from at to at ends scope (omega arith) (omega arith) w in
-        lead_append at ends (statements_code inner body at) _ (omega arith)
-        (statements_lead body inner at ends refl (record {
+        let guarded = statements_code inner body at in
+        lead_append at ends guarded _ (omega arith)
+        (statements_lead body inner at ends refl (front code at guarded _ g) (record {
           exit = unwound_has (LeadsOn at ends) scope.exit v.exit;
           loop_end = unwound_has (LeadsOn at ends) scope.loop_end v.loop_end;
           loop_next = unwound_has (LeadsOn at ends) scope.loop_next v.loop_next;
@@ -360,21 +400,23 @@ module _ (regions : List Region) where
         own)) (tt, (tt, (tt, tt)))
 
     pub statements_lead : (ss : Statements) (scope : LoweringContext) (at to : ℕ)
-        → at + statements_size ss ≡ to → WaysLead at to scope
-        → HasOwn at to (statements_regions ss at) → AllLead at (statements_code scope ss at)
-    statements_lead Empty scope at to e w own = tt
-    statements_lead (Then s ss) scope at to e w own =
+        → at + statements_size ss ≡ to → IsSegmentAt code at (statements_code scope ss at)
+        → WaysLead at to scope → HasOwn at to (statements_regions ss at)
+        → AllLead at (statements_code scope ss at)
+    statements_lead Empty scope at to e g w own = tt
+    statements_lead (Then s ss) scope at to e g w own =
         let next = at + statement_size s in
         let rs = statement_regions s at in
         let qs = statements_regions ss next in
         let l = statement_length scope s at in
-        lead_append at next (statement_code scope s at) _ (omega arith)
-        (statement_leads s scope at next refl
+        let begins = statement_code scope s at in
+        lead_append at next begins _ (omega arith)
+        (statement_leads s scope at next refl (front code at begins _ g)
         (ways_from at to at next scope (omega arith) (omega arith) w)
         (front_own at to at next rs qs (omega arith) (omega arith)
         (later_outside next (next + statements_size ss) at next qs (omega arith)
         (statements_within ss next)) own))
-        (statements_lead ss scope next to (omega arith)
+        (statements_lead ss scope next to (omega arith) (back code at next begins _ (omega arith) g)
         (ways_from at to next to scope (omega arith) (omega arith) w)
         (back_own at to next to rs qs (omega arith) (omega arith)
         (earlier_outside at next next to rs (omega arith) (statement_within s at)) own))

@@ -123,7 +123,7 @@ module _ (program : Program) (linear : LinearProgram)
       of_condition = λ names m e label at n h l c r s. (value names e at _ h (tt, tt), tt);
       of_initialiser = λ names m x e at n d h c r s. (value names e at _ h (tt, (tt, tt)), tt);
       of_repeated = λ names m e end begin at n h l b' c r s.
-          (value names e at _ h (tt, (tt, tt)), tt);
+          (value names e at _ h (tt, (tt, (tt, tt))), tt);
       of_return = λ names m e exit at n h w c r s. (returned names e exit at h, tt);
     }
 

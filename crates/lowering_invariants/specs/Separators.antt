@@ -3,11 +3,11 @@
 -- A return address is never the place of an epilogue, nor where a region begins or ends: the
 -- template of a call keeps the result after it (crate template_code, `call_code`), and after those
 -- that run `__finally` blocks, which end with their calls, is an instruction that does nothing.
-use Rattle.std.specs.Prelude.{◌≡◌, ◌⊎◌, ℕ, ◌+◌, ◌<◌, true, length, slice_get, Some}
+use Rattle.std.specs.Prelude.{◌≡◌, ℕ, ◌+◌, ◌<◌, Bool, true, false, length, slice_get, Some}
 use Rattle.std.specs.List.{AllByRecursion}
 use Rattle.linear_code.specs.declared.slot.Slot.TheVariants.{Local}
 use Rattle.linear_code.specs.declared.instruction.Instruction.{Instruction}
-use Rattle.linear_code.specs.declared.instruction.Instruction.TheVariants.{Landing, LocalUnwind, Separator}
+use Rattle.linear_code.specs.declared.instruction.Instruction.TheVariants.{Landing, LocalUnwind, Return, Separator}
 use Rattle.linear_code.specs.declared.program.Region.{Region}
 use Rattle.linear_code.specs.declared.program.RegionKind.{RegionKind}
 use Rattle.linear_code.specs.declared.program.RegionKind.TheVariants.{Finally, Filter, Always}
@@ -31,25 +31,47 @@ BeginsApart (FunctionBody f) b =
     × AllByRecursion (λ (r : Region). 0 < r.begin) b.regions
 BeginsApart (FuncletBody k) b = Unit {0}
 
--- an `__except` block begins at this label, and each region that holds it begins before it
+-- the `__except` block of this region's `__try` begins at this label
+abbrev pub HasBlock : ℕ → RegionKind → Type 0
+HasBlock label (Finally k) = ⊥
+HasBlock label (Filter k target) = target ≡ label
+HasBlock label (Always target) = target ≡ label
+
+-- an `__except` block begins at this label, with an instruction of its own, strictly inside the
+-- regions that hold it in the source: no region begins there, and one that ends there is that of
+-- its own `__try`
 pub record LandsInside (b : LinearBody) (label : ℕ) : Type 0 where
   pub slot : ℕ
   pub landing : slice_get b.code label ≡ Some (Landing (Local slot))
-  pub inside : AllByRecursion (λ (r : Region). holds label r ≡ true → r.begin < label) b.regions
+  pub begins : AllByRecursion (λ (r : Region). r.begin ≡ label → ⊥) b.regions
+  pub ends : AllByRecursion (λ (r : Region). r.end ≡ label → HasBlock label r.kind) b.regions
 
 abbrev pub HasLanding : LinearBody → RegionKind → Type 0
 HasLanding b (Finally k) = Unit {0}
 HasLanding b (Filter k target) = LandsInside b target
 HasLanding b (Always target) = LandsInside b target
 
--- a local unwind leads forth, to an instruction of its body. A region that holds the target holds
--- the local unwind too, and so begins before the target; or it begins there, as that of a `__try`
--- that comes at once after a loop, out of which a `break` leads
+-- where a local unwind may land: an instruction that does nothing, or the end of a function
+abbrev pub is_target : Instruction → Bool
+is_target Separator = true
+is_target (Return from) = true
+is_target i = false
+
+-- no region begins or ends at the target of a local unwind, so that each one that holds the target
+-- in the source begins before it and ends after it; and that one holds the local unwind too
+pub record HoldsStrictly (label to : ℕ) (r : Region) : Type 0 where
+  pub begins : r.begin ≡ to → ⊥
+  pub ends : r.end ≡ to → ⊥
+  pub both : holds to r ≡ true → holds label r ≡ true
+
+-- a local unwind leads forth, to an instruction of its own in its body, strictly inside the regions
+-- that hold it in the source
 pub record LeadsForth (b : LinearBody) (label to : ℕ) : Type 0 where
   pub forth : label < to
-  pub there : to < length b.code
-  pub inside : AllByRecursion (λ (r : Region). holds to r ≡ true
-      → (holds label r ≡ true) ⊎ (r.begin ≡ to)) b.regions
+  pub instruction : Instruction
+  pub there : slice_get b.code to ≡ Some instruction
+  pub own : is_target instruction ≡ true
+  pub inside : AllByRecursion (HoldsStrictly label to) b.regions
 
 pub record HasSeparators (name : BodyName) (b : LinearBody) : Type 0 where
   -- a call returns to its body, and no region begins or ends before the instruction there

@@ -64,7 +64,7 @@ pub use Rattle.lowering_invariants.specs.Bodies.{function_of, owner_of, IsFuncle
 pub use Rattle.lowering_invariants.specs.Depths.{after, depth_at, with_written, with_tested, depths, depth_in, taken, depth, WaitsDeep, AreDeep, HasDepths}
 pub use Rattle.lowering_invariants.specs.Nesting.{expression_nesting, expression_reads, parameters_for, lvalue_nesting, arguments_nesting, node_nesting, lvalue_reads, arguments_read, node_reads, most_of_optional, most_of_declared, most_of_filter, most_of_statement, most_of, AreShallow, IsShallow}
 pub use Rattle.lowering_invariants.specs.PlaceLaws.{LoweredHasSeparators, LoweredInformsFilters, LoweredIsFollowed, LoweredHasSameRegions, LoweredHasFlags, LoweredStaysInside}
-pub use Rattle.lowering_invariants.specs.Separators.{IsInside, BeginsApart, LandsInside, HasLanding, LeadsForth, HasSeparators}
+pub use Rattle.lowering_invariants.specs.Separators.{IsInside, BeginsApart, HasBlock, LandsInside, HasLanding, is_target, HoldsStrictly, LeadsForth, HasSeparators}
 pub use Rattle.lowering_invariants.specs.Slots.{HasFlag, IsPlain, IsField, IsSmallBody, IsSmallFunclet, HasParent, IsSmallFunction, IsAmong}
 pub use Rattle.lowering_invariants.specs.SmallNumbers.{IsSmallAccess, AreSmall, IsSmallException, IsSmallCode, IsSmallFrame, AreSmallItems, HasSmallNumbers}
 pub use Rattle.lowering_invariants.specs.Turns.{IsTurn, Comes, IsReached}

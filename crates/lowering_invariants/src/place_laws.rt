@@ -18,9 +18,10 @@ pub fn lowered_stays_inside()
 {}
 
 /// No region begins or ends between a call and the instruction after it, none is empty, and none
-/// begins where its function does. Each `__except` block begins inside the regions that hold it.
-/// Each region that holds the target of a local unwind holds the local unwind too, or begins at the
-/// target.
+/// begins where its function does. Each `__except` block and each target of a local unwind begins
+/// with an instruction of its own, strictly inside the regions that hold it in the source: no
+/// region begins or ends there, but for that of the block's own `__try`. Each region that holds the
+/// target of a local unwind holds the local unwind too.
 pub fn lowered_has_separators()
     ensures separators { LoweredHasSeparators }
 {}

@@ -2,7 +2,7 @@
 use Rattle.std.proofs.Common.{◌≡◌, ◌⊎◌, inl, inr, ℕ, ◌+◌, ◌<◌, ◌≤◌, List, length, subst, arith}
 use Rattle.std.proofs.lemmas.Bool.{cases_lt}
 use Rattle.std.specs.Prelude.{true, Option, Some, None}
-use Rattle.lowering_locals.specs.Words.{Inside, statement_sound, Statement, Declare, Block, Evaluate, If, IfElse, For, DoWhile, Return, Break, Continue, Leave, TryExcept, TryFinally, Statements, LinearProgram, BodyName, statements_size, Names, Way, Nowhere, Jumps, filter_names, finally_names, unwound, SeenNames, with_local, IsPart, after_statement, statements_sets, set_in}
+use Rattle.lowering_locals.specs.Words.{Inside, statement_sound, Statement, Declare, Block, Statements, LinearProgram, BodyName, statements_size, Names, Way, Nowhere, Jumps, filter_names, finally_names, unwound, SeenNames, with_local, IsPart, after_statement, statements_sets, set_in}
 use Rattle.lowering_expressions.specs.declared.scope.Way.TheVariants.{Unwinds}
 use Rattle.lowering_locals.proofs.Lemmas.{IsSegmentAt, sees_own, sees_before, itself, within}
 use Rattle.lowering_locals.proofs.StraightCode.{is_same_back}

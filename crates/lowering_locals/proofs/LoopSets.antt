@@ -59,16 +59,16 @@ module _ (linear : LinearProgram) (lists : BodyName → List SeenNames) (name : 
       → optional_within (after_all_declared before ds) c ≡ true
       → optional_within (after_all_declared before ds) next ≡ true
       → At at (all_declared_sets seen ds) → Even (sets name) (after_all_declared seen ds) begin
-      start → Even (sets name) (after_all_declared seen ds) again (step + 1)
-      → IsRecordedAt (step + 1) (after_all_declared seen ds)
+      start → Even (sets name) (after_all_declared seen ds) again (step + 1 + 1)
       → Lead start (statement_code (in_loop (step + 1) again scope) s start)
       → Lead at (all_declared_code scope.names ds at
       ++ (discarded_code scope.names first begin
       ++ (condition_code scope.names c (step + 1) iteration
       ++ (statement_code (in_loop (step + 1) again scope) s start
-      ++ (Separator ∷ (discarded_code scope.names next (again + 1) ++ Jump iteration ∷ []))))))
+      ++ (Separator ∷ (discarded_code scope.names next (again + 1)
+      ++ Jump iteration ∷ Separator ∷ []))))))
   for_leads scope' ds first c next s at begin iteration start again step e1 e2 e3 e4 e5 fits ok w_ds
-      w_first w_c w_next d even last leaves x =
+      w_first w_c w_next d even last x =
       let names = scope.names in
       let inner = after_all_declared seen ds in
       let outer = after_all_declared before ds in
@@ -87,42 +87,45 @@ module _ (linear : LinearProgram) (lists : BodyName → List SeenNames) (name : 
       (omega arith) (omega arith)).end in
       let recorded_iteration = (even_part (sets name) inner begin start iteration iteration even
       (omega arith) (omega arith) (omega arith)).end in
-      let recorded_next = (even_part (sets name) inner again out (again + 1) (again + 1) last
+      let recorded_next = (even_part (sets name) inner again (out + 1) (again + 1) (again + 1) last
       (omega arith) (omega arith) (omega arith)).end in
-      let even_next = even_part (sets name) inner again out (again + 1)
+      let even_next = even_part (sets name) inner again (out + 1) (again + 1)
       (again + 1 + discarded_size next) last (omega arith) (omega arith) (omega arith) in
+      let lands = last.inside out (omega arith) (omega arith) in
+      let leaves = is_same (sets name out) inner lands in
+      let repeats = Jump iteration ∷ Separator ∷ [] in
       both_lead linear sets name at begin (all_declared_code names ds at)
       (discarded_code names first begin ++ (condition_code names c out iteration
       ++ (statement_code (in_loop out again scope) s start
-      ++ (Separator ∷ (discarded_code names next (again + 1) ++ Jump iteration ∷ [])))))
+      ++ (Separator ∷ (discarded_code names next (again + 1) ++ repeats)))))
       (omega arith)
       (all_declared_leads linear lists name locals room names scope' fits ds before seen at begin
       (sym e1) around ok w_ds d recorded_begin)
       (both_lead linear sets name begin iteration (discarded_code names first begin)
       (condition_code names c out iteration
       ++ (statement_code (in_loop out again scope) s start
-      ++ (Separator ∷ (discarded_code names next (again + 1) ++ Jump iteration ∷ []))))
+      ++ (Separator ∷ (discarded_code names next (again + 1) ++ repeats))))
       (omega arith)
       (discarded_leads linear lists name locals room names outer inner a first begin w_first
       even_first)
       (both_lead linear sets name iteration start (condition_code names c out iteration)
       (statement_code (in_loop out again scope) s start
-      ++ (Separator ∷ (discarded_code names next (again + 1) ++ Jump iteration ∷ [])))
+      ++ (Separator ∷ (discarded_code names next (again + 1) ++ repeats)))
       (omega arith)
       (condition_leads linear lists name locals room names outer inner a c out iteration w_c leaves
       even_test)
       (both_lead linear sets name start again (statement_code (in_loop out again scope) s start)
-      (Separator ∷ (discarded_code names next (again + 1) ++ Jump iteration ∷ [])) (omega arith) x (
+      (Separator ∷ (discarded_code names next (again + 1) ++ repeats)) (omega arith) x (
         from_here linear lists name again (again + 1) inner
             (last.inside again (omega arith) (omega arith)) recorded_next,
         both_lead linear sets name (again + 1) step (discarded_code names next (again + 1))
-            (Jump iteration ∷ []) (omega arith)
+            repeats (omega arith)
             (discarded_leads linear lists name locals room names outer inner a next (again + 1)
             w_next
             even_next) (
               from_here linear lists name step iteration inner
                   (last.inside step (omega arith) (omega arith)) recorded_iteration,
-              tt,
+              (from_here linear lists name out (out + 1) inner lands last.end, tt),
             ),
       ))))
 
@@ -150,21 +153,21 @@ module _ (linear : LinearProgram) (lists : BodyName → List SeenNames) (name : 
       let dl = all_declared_sets seen ds in
       let tl = replicate (discarded_size first + condition_size c) inner in
       let bl = statement_sets free inner s in
-      let rl = replicate (suc (discarded_size next + 1)) inner in
+      let rl = replicate (suc (discarded_size next + 2)) inner in
       let ld = all_declared_long ds seen in
       let lt = length-replicate (discarded_size first + condition_size c) inner in
       let ls = statement_long s free inner in
       let same : at + (all_declared_size ds +
       (discarded_size first + (condition_size c
-      + (statement_size s + (1 + (discarded_size next + 1)))))) ≡ out = omega arith in
-      let leaves : IsRecordedAt out inner = within (sets name out) seen inner
+      + (statement_size s + (1 + (discarded_size next + 2)))))) ≡ out + 1 = omega arith in
+      let past : IsRecordedAt (out + 1) inner = within (sets name (out + 1)) seen inner
       (subst (λ k. IsRecordedAt k seen) same end) (all_grow ds seen) in
       let h1 = back (lists name) at begin dl (tl ++ (bl ++ rl)) (omega arith) h in
       let h2 = back (lists name) begin start tl (bl ++ rl) (omega arith) h1 in
       let h3 = back (lists name) start again bl rl (omega arith) h2 in
       let body = front (lists name) start bl rl h2 in
-      let last = even_list (lists name) inner (suc (discarded_size next + 1)) again out
-      (omega arith) h3 leaves in
+      let last = even_list (lists name) inner (suc (discarded_size next + 2)) again (out + 1)
+      (omega arith) h3 past in
       let recorded_again = is_same (sets name again) inner
       (last.inside again (omega arith) (omega arith)) in
       let end' = within (sets name again) inner (after_statement inner s) recorded_again
@@ -177,10 +180,10 @@ module _ (linear : LinearProgram) (lists : BodyName → List SeenNames) (name : 
         is_there = body;
         end = end';
         next = recorded_again;
-        leaves = leaves;
+        leaves = is_same (sets name out) inner (last.inside out (omega arith) (omega arith));
         leads = for_leads scope' ds first c next s at begin iteration start again step refl refl
             refl refl refl fits ok w_ds w_first w_c w_next
-            (front (lists name) at dl (tl ++ (bl ++ rl)) h) even last leaves;
+            (front (lists name) at dl (tl ++ (bl ++ rl)) h) even last;
       }
 
   -- a `do`
@@ -201,25 +204,26 @@ module _ (linear : LinearProgram) (lists : BodyName → List SeenNames) (name : 
       let test = again + 1 + n in
       let out = test + 2 in
       let bl = statement_sets free seen s in
-      let rl = replicate (suc (n + 2)) seen in
+      let rl = replicate (suc (n + 3)) seen in
       let ls = statement_long s free seen in
       let l = expression_length scope.names c 0 (again + 1) in
       let cs = statement_length (in_loop out again scope) s at in
-      let same : at + (statement_size s + (1 + (n + 2))) ≡ out = omega arith in
-      let leaves : IsRecordedAt out seen = subst (λ k. IsRecordedAt k seen) same end in
+      let same : at + (statement_size s + (1 + (n + 3))) ≡ out + 1 = omega arith in
+      let past : IsRecordedAt (out + 1) seen = subst (λ k. IsRecordedAt k seen) same end in
       let body = front (lists name) at bl rl h in
-      let last = even_list (lists name) seen (suc (n + 2)) again out (omega arith)
-      (back (lists name) at again bl rl (omega arith) h) leaves in
+      let last = even_list (lists name) seen (suc (n + 3)) again (out + 1) (omega arith)
+      (back (lists name) at again bl rl (omega arith) h) past in
       let here_again = last.inside again (omega arith) (omega arith) in
       let recorded_again = is_same (sets name again) seen here_again in
       let end' = within (sets name again) seen (after_statement seen s) recorded_again
       (grows s seen) in
       let start = begins (lists name) at again bl seen (after_statement seen s) body
       (statement_first s free seen) (omega arith) end' in
-      let recorded_at = λ (k : ℕ) (a : again ≤ k)
-      (b : k ≤ out). (even_part (sets name) seen again out k k last a (omega arith) b).end in
-      let even_test = even_part (sets name) seen again out (again + 1) test last (omega arith)
-      (omega arith) (omega arith) in
+      let recorded_at = λ (k : ℕ) (a : again ≤ k) (b : k ≤ out + 1).
+      (even_part (sets name) seen again (out + 1) k k last a (omega arith) b).end in
+      let leaves = recorded_at out (omega arith) (omega arith) in
+      let even_test = even_part (sets name) seen again (out + 1) (again + 1) test last
+      (omega arith) (omega arith) (omega arith) in
       record {
         is_there = body;
         end = end';
@@ -243,7 +247,12 @@ module _ (linear : LinearProgram) (lists : BodyName → List SeenNames) (name : 
                     (
                       from_here linear lists name (test + 1) at seen
                           (last.inside (test + 1) (omega arith) (omega arith)) start,
-                      tt,
+                      (
+                        from_here linear lists name (test + 1 + 1) (test + 1 + 1 + 1) seen
+                            (last.inside (test + 1 + 1) (omega arith) (omega arith))
+                            (recorded_at (test + 1 + 1 + 1) (omega arith) (omega arith)),
+                        tt,
+                      ),
                     ),
                   ),
             );

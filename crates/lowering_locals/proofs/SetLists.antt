@@ -52,19 +52,19 @@ mutual
       let inner = after_all_declared seen ds in
       let tests = replicate (discarded_size first + condition_size c) inner in
       let body = statement_sets free inner s in
-      let again = replicate (suc (discarded_size next + 1)) inner in
+      let again = replicate (suc (discarded_size next + 2)) inner in
       let l = all_declared_long ds seen in
       let m = length-replicate (discarded_size first + condition_size c) inner in
       let n = statement_long s free inner in
-      let k = length-replicate (suc (discarded_size next + 1)) inner in
+      let k = length-replicate (suc (discarded_size next + 2)) inner in
       let a = length-append (all_declared_sets seen ds) (tests ++ (body ++ again)) in
       let b = length-append tests (body ++ again) in
       let d = length-append body again in
       omega arith
   statement_long (DoWhile s c) free seen =
-      let l = length-replicate (suc (expression_size c + 2)) seen in
-      two (statement_sets free seen s) (replicate (suc (expression_size c + 2)) seen)
-      (statement_size s) (suc (expression_size c + 2)) (statement_long s free seen) l
+      let l = length-replicate (suc (expression_size c + 3)) seen in
+      two (statement_sets free seen s) (replicate (suc (expression_size c + 3)) seen)
+      (statement_size s) (suc (expression_size c + 3)) (statement_long s free seen) l
       ∙ omega arith
   statement_long (Return e) free seen = length-replicate (returned_size e + 2) seen
   statement_long Break free seen = refl
@@ -202,7 +202,7 @@ mutual
       let inner = after_all_declared seen ds in
       let tests = replicate (discarded_size first + condition_size c) inner in
       let body = statement_sets free inner s in
-      let again = replicate (suc (discarded_size next + 1)) inner in
+      let again = replicate (suc (discarded_size next + 2)) inner in
       first_join seen inner seen (all_declared_sets seen ds) (tests ++ (body ++ again))
       (all_declared_first ds seen)
       (first_join inner inner seen tests (body ++ again)
@@ -210,7 +210,7 @@ mutual
       (first_join inner (after_statement inner s) seen body again (statement_first s free inner)
       (grows s inner)))
   statement_first (DoWhile s c) free seen = first_join seen (after_statement seen s) seen
-      (statement_sets free seen s) (replicate (suc (expression_size c + 2)) seen)
+      (statement_sets free seen s) (replicate (suc (expression_size c + 3)) seen)
       (statement_first s free seen) (grows s seen)
   statement_first (Return e) free seen = replicate_first (returned_size e + 2) seen
   statement_first Break free seen = itself seen
@@ -290,17 +290,17 @@ mutual
       let inner = after_all_declared seen ds in
       let tests = replicate (discarded_size first + condition_size c) inner in
       let body = statement_sets free inner s in
-      let again = replicate (suc (discarded_size next + 1)) inner in
+      let again = replicate (suc (discarded_size next + 2)) inner in
       let q = within base seen inner p (all_grow ds seen) in
       joined base (all_declared_sets seen ds) (tests ++ (body ++ again))
       (all_declared_above ds base seen p)
       (joined base tests (body ++ again) (replicate_above (discarded_size first + condition_size c)
       base inner q)
       (joined base body again (statement_above s free base inner q)
-      (replicate_above (suc (discarded_size next + 1)) base inner q)))
+      (replicate_above (suc (discarded_size next + 2)) base inner q)))
   statement_above (DoWhile s c) free base seen p = joined base (statement_sets free seen s)
-      (replicate (suc (expression_size c + 2)) seen) (statement_above s free base seen p)
-      (replicate_above (suc (expression_size c + 2)) base seen p)
+      (replicate (suc (expression_size c + 3)) seen) (statement_above s free base seen p)
+      (replicate_above (suc (expression_size c + 3)) base seen p)
   statement_above (Return e) free base seen p = replicate_above (returned_size e + 2) base seen p
   statement_above Break free base seen p = replicate_above 2 base seen p
   statement_above Continue free base seen p = replicate_above 2 base seen p

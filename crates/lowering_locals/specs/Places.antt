@@ -38,9 +38,9 @@ abbrev mutual
       let inner = after_all_declared seen ds in
       all_declared_sets seen ds
       ++ (replicate (discarded_size first + condition_size c) inner
-      ++ (statement_sets free inner s ++ replicate (suc (discarded_size next + 1)) inner))
+      ++ (statement_sets free inner s ++ replicate (suc (discarded_size next + 2)) inner))
   statement_sets free seen (DoWhile s c) =
-      statement_sets free seen s ++ replicate (suc (expression_size c + 2)) seen
+      statement_sets free seen s ++ replicate (suc (expression_size c + 3)) seen
   statement_sets free seen (Return e) = replicate (returned_size e + 2) seen
   statement_sets free seen Break = replicate 2 seen
   statement_sets free seen Continue = replicate 2 seen

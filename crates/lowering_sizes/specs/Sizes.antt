@@ -113,8 +113,8 @@ abbrev mutual
       expression_size c + (1 + (statement_size s + (1 + statement_size t)))
   statement_size (For ds first c next s) =
       all_declared_size ds + (discarded_size first + (condition_size c
-      + (statement_size s + (1 + (discarded_size next + 1)))))
-  statement_size (DoWhile s c) = statement_size s + (1 + (expression_size c + 2))
+      + (statement_size s + (1 + (discarded_size next + 2)))))
+  statement_size (DoWhile s c) = statement_size s + (1 + (expression_size c + 3))
   statement_size (Return e) = returned_size e + 2
   statement_size Break = 2
   statement_size Continue = 2

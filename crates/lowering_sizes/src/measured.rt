@@ -77,14 +77,14 @@ fn measure_loop_or_try(stmt: &Stmt, parts: &mut Vec<u64>) -> Result<u64, AllocEr
             body,
         } => {
             let size = measure_part(body, parts)?;
-            let last = sum(discarded_size(next)?, 2)?;
+            let last = sum(discarded_size(next)?, 3)?;
             let turn = sum(condition_size(condition)?, sum(size, last)?)?;
             let begun = sum(all_declared_size(declared)?, discarded_size(first)?)?;
             sum(begun, turn)
         }
         Stmt::Do { body, condition } => {
             let size = measure_part(body, parts)?;
-            sum(size, more_size(condition, 3)?)
+            sum(size, more_size(condition, 4)?)
         }
         Stmt::TryExcept { body, handler, .. } => {
             let block = measure_all(handler, parts)?;

@@ -1,19 +1,13 @@
 -- The running body has a view: its slots as templates see them hold linear code's numbers.
 use Rattle.std.proofs.Common.{◌≡◌, ℕ, ◌+◌, ◌*◌, ◌≤◌, Bool, true, false, Some, None, List, [], ◌∷◌, length, refl, sym, ap, subst, ◌∙◌, arith, inl, inr}
-use Rattle.std.specs.Prelude.{◌⊎◌, slice_get, slice_index, drop}
+use Rattle.std.specs.Prelude.{◌⊎◌, slice_get, slice_index}
 use Rattle.match_bodies.specs.Words.{STACK_START, STACK_END, Rsp, State, context_of, get, register, LinearBody, BodyName, FunctionBody, FuncletBody, body_of, Configuration, machine, context_below, locals_of, activations_below, temporaries_end, HasActivation, IsLinkedStack, IsFunctionLayout, IsLeafLayout, IsFuncletLayout, IsLayoutIf, IsLaidOut, IsFuncletPlan, slots_end, last_temporary, FrameHolds, seen_by_templates, counts_of, frame_at, state_of, Setting, RepresentsAt, Roomy, HasSlotsOf}
 use Rattle.linear_machine.specs.Frames as linear
+use Rattle.x64_templates.proofs.PrologueParts.{registers_are}
 use Rattle.match_bodies.proofs.Lemmas.{in_stack}
 use Rattle.match_bodies.proofs.SlotPlaces.{SlotsPlaced, function_placed, leaf_placed, funclet_placed, room_of, holds_of, local_is, temporary_is}
 
 -- a state is made of its registers
-pub registers_are : (rs : List ℕ) → length rs ≡ 16
-    → rs ≡ slice_index rs 0 ∷ slice_index rs 1 ∷ slice_index rs 2 ∷ drop 3 rs
-registers_are [] e = absurd (omega arith)
-registers_are (a ∷ []) e = absurd (omega arith)
-registers_are (a ∷ b ∷ []) e = absurd (omega arith)
-registers_are (a ∷ b ∷ c ∷ rs) e = refl
-
 pub is_machine : (s : State) → length s.cpu.registers ≡ 16
     → s ≡ machine (seen_by_templates s) s.cpu.rip s.cpu.flags
 is_machine s e = ap (λ rs. let u : State = record {
@@ -85,7 +79,7 @@ module _ (setting : Setting) where
 
       by_funclet : (k : ℕ) → c.frame.body ≡ FuncletBody k → IsFuncletPlan program p k code
           → HasActivation s.memory (get (context_of s.cpu)) (p.register c.frame.body)
-          (p.layout c.frame.body) sp (p.layout c.frame.body).frame
+          (p.layout c.frame.body) sp (p.layout c.frame.body).slots
           c.frame.activation b.body.acts (FuncletBody k)
           → SlotsPlaced s.memory (p.layout c.frame.body) code.temporaries sp c.frame.activation
           b.body.acts
@@ -169,7 +163,7 @@ module _ (setting : Setting) where
         pub layout : IsFunctionLayout (p.layout c.frame.body) code
         pub activation : HasActivation s.memory (get (context_of s.cpu)) (p.register c.frame.body)
             (p.layout c.frame.body) sp
-            (p.layout c.frame.body).frame c.frame.activation b.body.acts (FunctionBody number)
+            (p.layout c.frame.body).slots c.frame.activation b.body.acts (FunctionBody number)
 
       pub record AsLeaf : Type 0 where
         pub number : ℕ
@@ -189,7 +183,7 @@ module _ (setting : Setting) where
             (p.layout (FunctionBody plan.funclet.function)) code
         pub activation : HasActivation s.memory (get (context_of s.cpu)) (p.register c.frame.body)
             (p.layout c.frame.body) sp
-            (p.layout c.frame.body).frame c.frame.activation b.body.acts (FuncletBody number)
+            (p.layout c.frame.body).slots c.frame.activation b.body.acts (FuncletBody number)
 
       kind_by_leaf : (f : ℕ) (leaf : Bool) → c.frame.body ≡ FunctionBody f
           → p.leaf c.frame.body ≡ leaf → IsLaidOut program p (FunctionBody f) code
@@ -251,7 +245,7 @@ module _ (setting : Setting) where
         | inl f ↦ subst (λ l. (p.layout c.frame.body).temporaries + 8 * code.temporaries
             ≤ last_temporary (p.layout c.frame.body) c.frame.body l) (sym f.framed)
             (subst (λ n. (p.layout c.frame.body).temporaries + 8 * code.temporaries
-            ≤ temporaries_end (p.layout c.frame.body) n (p.layout c.frame.body).frame) (sym f.name)
+            ≤ temporaries_end (p.layout c.frame.body) n (p.layout c.frame.body).slots) (sym f.name)
             f.layout.temporaries)
         | inr (inl f) ↦ subst (λ l. (p.layout c.frame.body).temporaries + 8 * code.temporaries
             ≤ last_temporary (p.layout c.frame.body) c.frame.body l) (sym f.leaf)
@@ -259,7 +253,7 @@ module _ (setting : Setting) where
         | inr (inr f) ↦ subst (λ l. (p.layout c.frame.body).temporaries + 8 * code.temporaries
             ≤ last_temporary (p.layout c.frame.body) c.frame.body l) (sym f.framed)
             (subst (λ n. (p.layout c.frame.body).temporaries + 8 * code.temporaries
-            ≤ temporaries_end (p.layout c.frame.body) n (p.layout c.frame.body).frame) (sym f.name)
+            ≤ temporaries_end (p.layout c.frame.body) n (p.layout c.frame.body).slots) (sym f.name)
             f.layout.temporaries)
       ]
 

@@ -8,7 +8,7 @@ use Rattle.match_bodies.proofs.Lemmas.{code_split, near}
 use Rattle.match_bodies.specs.CodeSites as sites
 use Rattle.match_bodies.proofs.RoutineWalks.{StepsTo, steps_split, keeps_split, Beneath, IsPlain, AllPlain, Finds, ran}
 use Rattle.match_bodies.proofs.ReturnAddresses.{argument_found}
-use Rattle.match_bodies.proofs.BodyFrames.{codes_above}
+use Rattle.match_bodies.proofs.BodyFrames.{codes_above, slots_within}
 use Rattle.match_bodies.proofs.PlannedPrologues.{frame_there}
 use Rattle.match_bodies.proofs.FrameMaking.{making_steps, made_by}
 
@@ -103,6 +103,9 @@ module _ (t : Functions) (fs : List Funclet) (program : LinearProgram) (p : Imag
     (image : IsProgramImage t fs program p q) where
   module _ (name : BodyName) (b : LinearBody) (is : body_of program name ≡ Some b)
       (some : 0 < length b.code) (top from back : ℕ) (others : List ℕ) (list : List StackItem) where
+    abbrev slots : ℕ
+    slots = (p.layout name).slots
+
     abbrev frame : ℕ
     frame = (p.layout name).frame
 
@@ -121,7 +124,7 @@ module _ (t : Functions) (fs : List Funclet) (program : LinearProgram) (p : Imag
         → Beneath t e nothing_owed top from back others list → AllSmall others
         → HasProgram t fs program p q e.memory → frame + 8 ≤ LARGEST_FRAME → LARGEST_FRAME ≤ top
         → from ≡ top + extra
-        → AllPlain frame frame extra a → EntryRan n e w a
+        → AllPlain slots frame extra a → EntryRan n e w a
     entry_ran n e w a c extra parts count run here at_top beneath small has most low up plain =
         let making = making_steps (p.leaf name) (sites.body_plan p q name) in
         let h = steps_split making (length a) e w (subst (λ k. StepsTo k e w) count run) in
@@ -136,9 +139,9 @@ module _ (t : Functions) (fs : List Funclet) (program : LinearProgram) (p : Imag
         subst (λ x. FindsOwed t mem (x + sizes done) (owed_of p name)) (sym m.rip)
         (argument_found (setting_of t fs program p q image) name b is mem k some done (left ++ c)
         (parts ∙ ap (λ (xs : List Instr). xs ++ c) split ∙ append_assoc done left c)) in
-        let r = ran t fs program p q (owed_of p name) top from back others list a u w frame frame
+        let r = ran t fs program p q (owed_of p name) top from back others list a u w slots frame
         extra h.2 plain (subst (λ x. HasCode u.memory x a) (sym m.rip) code.0) m.has m.beneath
-        m.stack up (omega arith)
+        m.stack up (slots_within (setting_of t fs program p q image) name b is)
         (codes_above (setting_of t fs program p q image) name b is (register u.cpu Rsp)) finds in
         record {
           keeps = subst (λ k. AllKeep t fs k e) (sym count)

@@ -9,20 +9,32 @@ use Rattle.x64_instr.specs.Registers.{register}
 use Rattle.x64_instr.specs.declared.instruction.Instr.TheVariants as instrs
 use Rattle.template_code.specs.Frames.{frame_plan}
 use Rattle.template_code.specs.Jumps.{distance}
-use Rattle.frame_rules.specs.Bytes.{spell}
+use Rattle.frame_rules.specs.Bytes.{prologue_code, spell}
 use Rattle.frame_rules.specs.Codes.{are_allowed, depth, pushed}
 use Rattle.frame_rules.specs.Plan.{FramePlan, Saved, allocation_then, allocating, frame_then, instructions_of, load_of, loads_then, opening_then, operations_of, pops_then, saves_then, spelled_by, steps_of, turned}
 use Rattle.frame_rules.specs.Prologue.{bytes, items}
 use Rattle.frame_rules.proofs.Frames.{bytes-append}
 use Rattle.frame_rules.proofs.Sizes.{frame_has_its_size}
 use Rattle.match_stack.specs.Stack.{AreAbove}
-use Rattle.frame_layout.proofs.Sizes.{code_is}
 use Rattle.match_bodies.specs.CodeSites.{epilogue_through, give_back}
 use Rattle.x64_templates.specs.Prologues.{AreProbed, codes_turns, none_stores, prologue_turns}
 use Rattle.x64_templates.proofs.PrologueParts.{bytes_sizes}
 use Rattle.match_bodies.proofs.Lemmas.{sizes_append}
 
--- one that makes a frame of at most a page begins with the allocation
+code_by : (probe n : ℕ) (few : Bool) → allocating probe n few ++ [] ≡ allocating probe n few
+code_by probe n true = refl
+code_by probe n false = refl
+
+-- the prologue of a plan that saves nothing is the allocation
+code_is : (probe n : ℕ) → 0 < n
+    → prologue_code (frame_plan n probe) ≡ allocating probe n (nat_le n 4096)
+code_is probe n some =
+    ap (λ none. flat_map (instructions_of (frame_plan n probe))
+    (turned [] (allocation_then (not none) n [])))
+    (ne_eqb n 0 (λ z. (let e : n ≡ 0 = z in absurd (omega arith))))
+    ∙ code_by probe n (nat_le n 4096)
+
+-- one that makes a frame of at most a page begins with it
 pub made_small : (size at check : ℕ) (leaf : Bool) → leaf ≡ false → 0 < size → size ≤ 4096
     → frame_code size at check leaf ≡ allocating 0 size true
 made_small size at check leaf e some small = ap (frame_code size at check) e

@@ -115,6 +115,7 @@ module _ (setting : Setting) (roomy : HaveRoom setting.program) (s : State)
       (subst (λ x. ReachesBody (frame setting roomy s c b counted) (length (keep y to))
       (machine (v setting roomy s c b counted) s.cpu.rip s.cpu.flags) (s.cpu.rip + sizes
       (keep y to)) (v setting roomy s c b counted).rest
+      (v setting roomy s c b counted).locals
       (record { slots = with_slot now.slots to x; memory = c.store.memory })) rax run))
       (omega arith) lt (omega arith) (leaves_stored setting roomy s c b counted around to value
       c.store.memory held fits there) refl (landing_keeps setting roomy s c b counted to e) acts

@@ -31,7 +31,7 @@ use Rattle.match_bodies.specs.Setting.{HasProgram}
 use Rattle.match_bodies.proofs.Lemmas.{code_split, Fine, keep_first}
 use Rattle.match_bodies.proofs.StackTop.{leaf_layout}
 use Rattle.match_bodies.proofs.FrameCode.{plan_allowed, loads_before, loads_through, through_pop}
-use Rattle.match_bodies.proofs.BodyFrames.{codes_above, framed_some}
+use Rattle.match_bodies.proofs.BodyFrames.{codes_above, framed_some, slots_within}
 use Rattle.match_bodies.proofs.SilentTurns.{program_kept}
 use Rattle.match_bodies.proofs.RoutineWalks.{code_next, StepsTo, steps_split, keeps_split, Beneath, AllPlain, Finds, Ran, ran}
 use Rattle.match_bodies.proofs.ShadowTurns.{return_keeps_shadow, returned_others}
@@ -69,7 +69,7 @@ module _ (setting : Setting) where
       (beneath : Beneath t s (owed_of p name) top (top + 8) back others list)
       (below : register s.cpu Rsp + (p.layout name).frame ≡ top)
       (has : HasProgram setting s.memory) (small : (p.layout name).frame < 2 ^ 31)
-      (plain : AllPlain (p.layout name).frame (p.layout name).frame 8
+      (plain : AllPlain (p.layout name).slots (p.layout name).frame 8
       (fetch (p.layout name) Rax from))
       (run : StepsTo (length (return_code (p.layout name) from)) s w) where
     abbrev y : Layout
@@ -175,10 +175,11 @@ module _ (setting : Setting) where
         (callers.returns m label from done left item h at split)
 
     first : Ran t fs program p q owed top (top + 8) back others list s u fetching
-    first = ran t fs program p q owed top (top + 8) back others list fetching s u y.frame
+    first = ran t fs program p q owed top (top + 8) back others list fetching s u y.slots
         y.frame 8 halves.1
         plain (subst (λ a. HasCode s.memory a fetching) (sym here) (codes s.memory has).0) has
-        beneath below refl (omega arith) (codes_above setting name b is (register s.cpu Rsp)) finds
+        beneath below refl (slots_within setting name b is)
+        (codes_above setting name b is (register s.cpu Rsp)) finds
 
     there_is : p.address name label + sizes fetching ≡ u.cpu.rip
     there_is = omega (arith, first.rip)

@@ -80,15 +80,16 @@ own_placed m now register in_frames y temporaries sp size k f room a outer none 
 pub function_placed : (m : Memory) (now : ℕ → ℕ) (register : ℕ → Option ℕ) → InFrames register
     → (y : Layout) (b : LinearBody) (sp k f : ℕ)
     (acts : List Activation) → IsFunctionLayout y b → STACK_START ≤ sp → sp + y.frame ≤ STACK_END
-    → HasActivation m now register y sp y.frame k acts (FunctionBody f)
+    → HasActivation m now register y sp y.slots k acts (FunctionBody f)
     → SlotsPlaced m y b.temporaries sp k acts
 function_placed m now register in_frames y b sp k f [] l low high h = absurd h
 function_placed m now register in_frames y b sp k f (a ∷ outer) l low high h =
-    let w = places_fit m now register 0 (sp + y.locals) (sp + y.frame) a.values h.values in
+    let w = places_fit m now register 0 (sp + y.locals) (sp + y.slots) a.values h.values in
     let t = l.temporaries in
     let small = l.small in
     let more = l.locals in
-    own_placed m now register in_frames y b.temporaries sp y.frame k f y.frame a outer l.none h low
+    let within = l.within in
+    own_placed m now register in_frames y b.temporaries sp y.slots k f y.frame a outer l.none h low
     high (omega arith) (omega arith) (omega arith) (inr (omega arith))
 
 pub leaf_placed : (m : Memory) (now : ℕ → ℕ) (register : ℕ → Option ℕ) → InFrames register
@@ -116,7 +117,7 @@ module _ (t : Functions) (fs : List Funclet) (program : LinearProgram) (p : Imag
       (acts : List Activation) (c : Context) (is : List StackItem) (items : List Item)
       → IsFuncletLayout y function b → STACK_START ≤ sp
       → rsp c ≡ sp + y.frame + 8 → IsLinkedStack t fs program p m c is items acts
-      → HasActivation m now register y sp y.frame k acts (FuncletBody j)
+      → HasActivation m now register y sp y.slots k acts (FuncletBody j)
       → ((values : List ℕ) → slice_get (locals_of acts) k ≡ Some values
       → 8 * length values < 2 ^ 30) → function.locals < 2 ^ 30
       → SlotsPlaced m y b.temporaries sp k acts
@@ -129,6 +130,7 @@ module _ (t : Functions) (fs : List Funclet) (program : LinearProgram) (p : Imag
       let up = a.low_end in
       let top = a.high_end in
       let temps = l.temporaries in
+      let within = l.within in
       let small = l.small in
       let kept = l.kept in
       let locals = l.locals in

@@ -1,7 +1,7 @@
 -- Each turn of the run of an instruction's template keeps the shadow.
-use Rattle.std.proofs.Common.{◌≡◌, ℕ, ◌+◌, ◌^◌, ◌<◌, ◌≤◌, List, [], ◌++◌, Option, Some, None, length, drop, refl, sym, ap, subst, ◌∙◌, arith, length-append, append_assoc}
+use Rattle.std.proofs.Common.{◌≡◌, ℕ, ◌+◌, ◌^◌, ◌<◌, ◌≤◌, List, [], ◌++◌, Option, Some, None, length, refl, sym, ap, subst, ◌∙◌, arith, length-append, append_assoc}
 use Rattle.std.specs.Prelude.{slice_get}
-use Rattle.match_bodies.specs.Words.{Memory, Rsp, Instr, State, register, Operation, Gives, performed, is_reserved, Slot, Local, Temporary, Instruction, LinearBody, Configuration, Layout, size, sizes, local_at, keep_local, keep, operands_code, finish_code, compute_code, IsNear, template, template_size, MachineView, machine, Reaches, FrameHolds, HasCode, AllKeep, HaveRoom, links_of, counts_of, Setting, RepresentsAt, work, test_code, information_code}
+use Rattle.match_bodies.specs.Words.{Memory, Rsp, Instr, State, register, Operation, Gives, performed, is_reserved, Slot, Local, Temporary, Instruction, LinearBody, Configuration, Layout, size, sizes, local_at, keep_local, keep, operands_code, finish_code, compute_code, IsNear, template, template_size, local_registers, other_registers, MachineView, machine, Reaches, FrameHolds, HasCode, AllKeep, HaveRoom, links_of, counts_of, Setting, RepresentsAt, work, test_code, information_code}
 use Rattle.c_operations.specs.declared.field.Field.{Field}
 use Rattle.linear_code.specs.declared.instruction.Instruction.TheVariants as instructions
 use Rattle.match_bodies.proofs.Lemmas.{sizes_append, template_sizes, jump_if_zero_size, rest_of, code_split, Begun, operands_run, Worked, work_run, work_flow, separator_flow, jump_flow, keep_flow, operands_flow, information_flow, jump_if_zero_flow}
@@ -10,7 +10,7 @@ use Rattle.x64_templates.specs.Implements.{HasOperands}
 use Rattle.match_bodies.proofs.TemplatePieces.{piece_there}
 use Rattle.match_bodies.proofs.BodyViews.{IsCounted, placed, room_here, holds_here}
 use Rattle.match_bodies.proofs.ChainKeeping.{Keeps, keeps_then, reaches_keeps}
-use Rattle.match_bodies.proofs.TemplateShadows.{kept_by_rest, Below, is_here, is_after, ran_same, RunsKeep, whole, IsPast, past_none, one_piece, piece_to, piece_then, near_here}
+use Rattle.match_bodies.proofs.TemplateShadows.{kept_by_view, Below, is_here, is_after, ran_same, RunsKeep, whole, IsPast, past_none, one_piece, piece_to, piece_then, near_here}
 use Rattle.match_bodies.proofs.TemplateRuns.{code, frame, slots, v, same_state, template_here, sp_is, has_slots, Surroundings}
 
 jump_size : (y : Layout) (at label : ℕ) → at + template_size y (instructions.Jump label) ≡ at + 5
@@ -123,7 +123,8 @@ module _ (setting : Setting) (roomy : HaveRoom setting.program) (s : State)
 
     -- from where the operands wait, on the source's memory
     module _ (x : State) (view : MachineView) (is : x ≡ machine view x.cpu.rip x.cpu.flags)
-        (past : Past ops x) (rest : view.rest ≡ drop 3 s.cpu.registers)
+        (past : Past ops x) (rest : view.rest ≡ other_registers s.cpu.registers)
+        (locals : view.locals ≡ local_registers s.cpu.registers)
         (same : view.memory ≡ s.memory) (keeps : Keeps s x)
         (m n value : ℕ) (source : Memory) (m_small : m < 2 ^ 64) (n_small : n < 2 ^ 64)
         (waits : HasOperands o m n view) (gives : performed (is_reserved program.globals) o m n
@@ -143,11 +144,10 @@ module _ (setting : Setting) (roomy : HaveRoom setting.program) (s : State)
           code_there gives
 
       abbrev mid : State
-      mid = machine (record {
+      mid = machine (record view {
         rax = value;
         rcx = worked.result.yields.rcx;
         rdx = worked.result.yields.rdx;
-        rest = view.rest;
         memory = worked.result.after;
       })
           (x.cpu.rip + sizes (work o)) worked.left
@@ -158,7 +158,7 @@ module _ (setting : Setting) (roomy : HaveRoom setting.program) (s : State)
       past_work : Past (ops ++ work o) mid
       past_work =
           let e = past.rip in
-          let registers = kept_by_rest view.rest s.cpu.registers rest in
+          let registers = kept_by_view view s.cpu.registers rest locals in
           let kept = keeps_then s x mid keeps (reaches_keeps (length (work o)) x mid comes) in
           let ran = ran_same setting s c b counted mid source kept
           (λ a h. worked.result.own a h ∙ ap (λ (k : Memory). k.byte a) same)
@@ -211,7 +211,7 @@ module _ (setting : Setting) (roomy : HaveRoom setting.program) (s : State)
         let e = b.rip in
         record {
           rip = omega arith;
-          registers = kept_by_rest begun.stopped.rest s.cpu.registers begun.rest;
+          registers = kept_by_view begun.stopped s.cpu.registers begun.rest begun.locals;
           is_there = subst (Below setting s c b counted) (sym begun.memory)
               (is_here setting s c b counted);
         }
@@ -242,7 +242,7 @@ module _ (setting : Setting) (roomy : HaveRoom setting.program) (s : State)
         fetched refl (operands_flow layout (counts_of body) (register s.cpu Rsp) base
         (room_here setting s c b counted) o first second there.1 there.2) (finish_some layout o to)
         (past_none setting s c b counted here_now at (λ h. h)) comes_there past_operands
-        (finish_keeps fetched begun.stopped refl past_operands begun.rest begun.memory
+        (finish_keeps fetched begun.stopped refl past_operands begun.rest begun.locals begun.memory
         (reaches_keeps (length ops) s fetched comes_there) (now.slots first) (now.slots second)
         value source (held.small first there.1) (held.small second there.2) begun.waits gives u
         rest ends)

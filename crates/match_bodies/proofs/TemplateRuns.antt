@@ -1,6 +1,6 @@
 -- A run of a template of the body that runs, and the turn of linear code that it is.
 use Rattle.std.proofs.Common.{◌≡◌, ℕ, zero, suc, ◌+◌, ◌^◌, ◌<◌, true, Option, Some, None, List, [], ◌∷◌, length, get_or, refl, sym, ap, subst, ◌∙◌, arith}
-use Rattle.std.specs.Prelude.{slice_get, slice_index, drop}
+use Rattle.std.specs.Prelude.{slice_get}
 use Rattle.std.specs.List.{AllByRecursion}
 use Rattle.std.proofs.lemmas.Option.{slice_get_within, get_or_from_slice_get}
 use Rattle.match_bodies.specs.Words.{Event, Rsp, State, register, distance, arrivals, Instruction, BodyState, LinearBody, BodyName, FuncletBody, Configuration, Layout, template, template_size, code_from, offset_of, MachineView, machine, HasCode, ReachesBody, InstructionDone, Comes, HaveRoom, links_of, begin_of, entry_code, seen_by_templates, counts_of, frame_at, state_of, OwnerHasFrame, Setting, RepresentsAt, HasSlots, step, FramePlace}
@@ -9,27 +9,11 @@ use Rattle.match_bodies.proofs.Lemmas.{offset_next, code_split, body_instruction
 use Rattle.x64_templates.specs.CallStates.{sp_of}
 use Rattle.match_bodies.proofs.SilentTurns.{reaches_silently}
 use Rattle.match_bodies.proofs.HomeSpace.{CallerHasFrame}
-use Rattle.match_bodies.proofs.TemplateShadows.{kept_by_rest, is_after, ends_at, RunsKeep}
+use Rattle.match_bodies.proofs.TemplateShadows.{kept_by_view, is_after, ends_at, RunsKeep}
 use Rattle.match_bodies.proofs.BodyViews.{IsCounted, is_machine, room_here, holds_here, placed}
 use Rattle.match_bodies.proofs.ChainKeeping.{reaches_keeps, stays_well_formed}
 use Rattle.match_bodies.proofs.TemplateSlots.{Leaves}
 use Rattle.match_bodies.proofs.NextInstruction.{further, Ran, represents_next}
-
--- ---- registers
-
-pub index_of : (xs : List ℕ) (i : ℕ) → get_or xs i 0 ≡ slice_index xs i
-index_of [] i = refl
-index_of (x ∷ xs) zero = refl
-index_of (x ∷ xs) (suc i) = index_of xs i
-
-pub dropped : (xs : List ℕ) → slice_index (drop 3 xs) 1 ≡ slice_index xs 4
-dropped [] = refl
-dropped (a ∷ []) = refl
-dropped (a ∷ b ∷ []) = refl
-dropped (a ∷ b ∷ c ∷ xs) = refl
-
-pub sp_seen : (s : State) → sp_of (seen_by_templates s) ≡ register s.cpu Rsp
-sp_seen s = index_of (drop 3 s.cpu.registers) 1 ∙ dropped s.cpu.registers
 
 -- what of a list holds of each of its elements
 pub each : {A : Type 0} → (P : A → Type 0) (xs : List A) (i : ℕ) (x : A) → AllByRecursion P xs
@@ -128,7 +112,7 @@ module _ (setting : Setting) (roomy : HaveRoom setting.program) where
         omega (arith, a.labels (c.frame.next + 1), a.labels c.frame.next, b.rip, n, o, z)
 
     pub sp_is : sp_of v ≡ register s.cpu Rsp
-    sp_is = sp_seen s
+    sp_is = refl
 
     -- what the template of the instruction here does
     pub done : (i : Instruction) → slice_get code.code c.frame.next ≡ Some i
@@ -173,7 +157,7 @@ module _ (setting : Setting) (roomy : HaveRoom setting.program) where
     module _ (around : Surroundings) where
       -- a run of so many turns to an instruction of the body, with these slots
       pub to_label : (n label rip : ℕ) (d : BodyState) (values ts : List ℕ) (landed : Option ℕ)
-          (events : List Event) → ReachesBody frame n s rip v.rest d → rip ≡ p.address name label
+          (events : List Event) → ReachesBody frame n s rip v.rest v.locals d → rip ≡ p.address name label
           → label < length code.code → rip < 2 ^ 64 → Leaves code d values ts → landed ≡ None
           → RunsKeep setting s c b counted n s → (u : State) × (Comes t fs n s [] u) ×
           (RepresentsAt setting u (further setting c b.body.acts label values ts landed d.memory
@@ -181,7 +165,7 @@ module _ (setting : Setting) (roomy : HaveRoom setting.program) where
       to_label n label rip d values ts landed events r at lt small leaves free keep =
           let u : State = machine r.after rip r.flags in
           let keeps = reaches_keeps n s u r.comes in
-          let kept = kept_by_rest r.after.rest s.cpu.registers r.rest in
+          let kept = kept_by_view r.after s.cpu.registers r.rest r.locals in
           let ran : Ran setting s c b counted u d values
           ts = record {
             changed = record { changes = r.changes; keeps = keeps };

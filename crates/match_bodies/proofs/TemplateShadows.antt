@@ -1,10 +1,10 @@
 -- The walk from a body that runs gives its caller and those of the list below, also where a
 -- template's run has come; so each turn of that run keeps the shadow.
-use Rattle.std.proofs.Common.{◌≡◌, ℕ, suc, ◌+◌, ◌^◌, ◌<◌, ◌≤◌, true, Some, List, [], ◌∷◌, ◌++◌, length, drop, get_or, refl, sym, ap, subst, ◌∙◌, arith, append_assoc, length-append}
+use Rattle.std.proofs.Common.{◌≡◌, ℕ, suc, ◌+◌, ◌^◌, ◌<◌, ◌≤◌, true, Some, List, [], ◌∷◌, ◌++◌, length, get_or, refl, sym, ap, subst, ◌∙◌, arith, append_assoc, length-append}
 use Rattle.std.specs.Prelude.{slice_get, slice_index}
 use Rattle.std.proofs.lemmas.List.{append-nil}
 use Rattle.std.proofs.lemmas.Option.{slice_get_within, get_or_from_slice_get}
-use Rattle.match_bodies.specs.Words.{Memory, Rsp, Instr, Context, context_of, kept_of, State, register, Instruction, BodyState, LinearBody, FuncletBody, Configuration, is_reserved, Layout, sizes, template, template_size, Agrees, IsBytes, Reaches, IsReturn, WalkGives, AllKeep, links_of, FindsOwed, Owed, owed_of, counts_of, state_of, OwnerHasFrame, Setting, RepresentsAt}
+use Rattle.match_bodies.specs.Words.{Memory, Rsp, Instr, Context, context_of, kept_of, State, register, Instruction, BodyState, LinearBody, FuncletBody, Configuration, is_reserved, Layout, sizes, template, template_size, Agrees, IsBytes, Reaches, IsReturn, WalkGives, AllKeep, links_of, FindsOwed, Owed, owed_of, counts_of, state_of, OwnerHasFrame, Setting, RepresentsAt, MachineView, LocalRegisters, OtherRegisters, local_registers, other_registers, registers_of}
 use Rattle.linear_code.specs.declared.instruction.Instruction.TheVariants as instructions
 use Rattle.match_bodies.proofs.Lemmas.{offset_next, IsFlow, LabelsNear, body_most, labels_near}
 use Rattle.x64_templates.proofs.Bodies.{holds_same, changes_same}
@@ -25,15 +25,16 @@ some_length : (code : List Instr) → 1 ≤ length code
 some_length [] le = absurd (omega arith)
 some_length (i ∷ is) le = (i, is, refl)
 
--- the registers that a run of templates leaves are those by their numbers from 3 on
-kept_dropped : (xs : List ℕ) → kept_of (0 ∷ 0 ∷ 0 ∷ drop 3 xs) ≡ kept_of xs
-kept_dropped [] = refl
-kept_dropped (a ∷ []) = refl
-kept_dropped (a ∷ b ∷ []) = refl
-kept_dropped (a ∷ b ∷ c ∷ xs) = refl
+-- RAX, RCX and RDX are none of the registers that a caller relies on
+pub kept_alike : (v w : MachineView) → v.rest ≡ w.rest → v.locals ≡ w.locals
+    → kept_of (registers_of v) ≡ kept_of (registers_of w)
+kept_alike v w e d = ap (λ (r : OtherRegisters). kept_of (registers_of (record v { rest = r }))) e
+    ∙ ap (λ (l : LocalRegisters). kept_of (registers_of (record w { locals = l }))) d
 
-pub kept_by_rest : (rest xs : List ℕ) → rest ≡ drop 3 xs → kept_of (0 ∷ 0 ∷ 0 ∷ rest) ≡ kept_of xs
-kept_by_rest rest xs e = ap (λ (r : List ℕ). kept_of (0 ∷ 0 ∷ 0 ∷ r)) e ∙ kept_dropped xs
+pub kept_by_view : (v : MachineView) (xs : List ℕ) → v.rest ≡ other_registers xs
+    → v.locals ≡ local_registers xs → kept_of (registers_of v) ≡ kept_of xs
+kept_by_view v xs e d = kept_alike v (record v
+    { rest = other_registers xs; locals = local_registers xs }) e d
 
 module _ (setting : Setting) (s : State) (c : Configuration)
     (b : RepresentsAt setting s c) (counted : IsCounted setting c) where

@@ -1,5 +1,5 @@
 -- The running body as templates see it.
-use Rattle.std.specs.Prelude.{◌≡◌, ℕ, ◌<◌, drop, slice_get, Some}
+use Rattle.std.specs.Prelude.{◌≡◌, ℕ, ◌<◌, slice_get, Some}
 use Rattle.x64_instr.specs.declared.register.Reg.TheVariants.{Rax, Rcx, Rdx, Rsp}
 use Rattle.x64_machine.specs.Effect.{State, register}
 use Rattle.source_meaning.specs.Source.{is_reserved}
@@ -7,7 +7,7 @@ use Rattle.linear_code.specs.declared.slot.Slot.TheVariants.{Local, Temporary}
 use Rattle.linear_code.specs.BodyState.{BodyState, Counts}
 use Rattle.linear_code.specs.Program.{LinearProgram, LinearBody}
 use Rattle.linear_machine.specs.Frames.{BodyName, body_of, Configuration, local_of}
-use Rattle.x64_templates.specs.Straight.{MachineView, machine}
+use Rattle.x64_templates.specs.Straight.{local_registers, other_registers, MachineView, machine}
 use Rattle.x64_templates.specs.EntryStates.{body_in_memory}
 use Rattle.x64_templates.specs.Runs.{FramePlace, Roomy, FrameHolds}
 use Rattle.match_stack.specs.ImagePlan.{ImagePlan}
@@ -19,7 +19,8 @@ seen_by_templates s =
       rax = register s.cpu Rax;
       rcx = register s.cpu Rcx;
       rdx = register s.cpu Rdx;
-      rest = drop 3 s.cpu.registers;
+      locals = local_registers s.cpu.registers;
+      rest = other_registers s.cpu.registers;
       memory = s.memory;
     }
 

@@ -1,5 +1,5 @@
 -- What an image has of a linear program: its code in memory, and what is known of its addresses.
-use Rattle.std.specs.Prelude.{◌≡◌, ◌≢◌, ℕ, ◌+◌, ◌^◌, ◌<◌, ◌≤◌, Bool, true, false, List, [], ◌∷◌, ◌++◌, length, drop, slice_get, Some, None, Ok}
+use Rattle.std.specs.Prelude.{◌≡◌, ◌≢◌, ℕ, ◌+◌, ◌^◌, ◌<◌, ◌≤◌, Bool, true, false, List, [], ◌∷◌, ◌++◌, length, slice_get, Some, None, Ok}
 use Rattle.host_layout.specs.declared.range.TheConstants.{IMAGE_BASE, IMAGE_RANGE_END, STACK_START, STACK_END}
 use Rattle.host_layout.specs.Ranges.{in_arena}
 use Rattle.host_layout.specs.declared.service.Service.{Service}
@@ -37,7 +37,7 @@ use Rattle.template_code.specs.Slots.{fetch, operands_code}
 use Rattle.template_code.specs.Calls.{return_at}
 use Rattle.template_code.specs.Probing.{check_stack}
 use Rattle.template_code.specs.Template.{template, HasLabels, body_size}
-use Rattle.x64_templates.specs.Straight.{MachineView}
+use Rattle.x64_templates.specs.Straight.{local_registers, other_registers, MachineView}
 use Rattle.x64_templates.specs.Frames.{Agrees}
 use Rattle.x64_templates.specs.Implements.{IsReady}
 use Rattle.x64_templates.specs.Runs.{HasCode}
@@ -63,12 +63,12 @@ service_of Protect = services.Protect
 service_of RaiseException = services.RaiseException
 service_of Walk = services.Walk
 
--- the frame of a body: its slots end at its return address
+-- the frame of a body, by its layout
 abbrev pub frame_of : ImagePlan → BodyName → (back : ℕ) → List ℕ → StackFrame
 frame_of p name back others =
     record {
       entry = p.entry name;
-      slots = (p.layout name).frame;
+      slots = (p.layout name).slots;
       size = (p.layout name).frame;
       return_address = back;
       others = others;
@@ -93,7 +93,8 @@ view_of c =
       rax = register c Rax;
       rcx = register c Rcx;
       rdx = register c Rdx;
-      rest = drop 3 c.registers;
+      locals = local_registers c.registers;
+      rest = other_registers c.registers;
       memory = no_memory;
     }
 

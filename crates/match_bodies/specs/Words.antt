@@ -55,7 +55,7 @@ pub use Rattle.x64_templates.specs.Frames.{Agrees, InTemporaries, InLocals, IsBy
 pub use Rattle.x64_templates.specs.InstructionRuns.{InstructionDone}
 pub use Rattle.x64_templates.specs.Keeping.{Flows, StoresOnce, is_volatile}
 pub use Rattle.x64_templates.specs.Runs.{FrameHolds, Steps, HasCode, Reaches, Enters, RunsInside, ReachesInside, ReachesBody, Roomy, Computed, Runs, FramePlace}
-pub use Rattle.x64_templates.specs.Straight.{machine, MachineView, AreSmall, takes_frame}
+pub use Rattle.x64_templates.specs.Straight.{machine, MachineView, AreSmall, takes_frame, LocalRegisters, OtherRegisters, local_registers, other_registers, registers_of}
 pub use Rattle.x64_templates.specs.Thunks.{HasThunk}
 pub use Rattle.virtual_unwind.specs.CallerOf.{Functions, distance, CallerFrame}
 pub use Rattle.virtual_unwind.specs.Contexts.{get, rsp}

@@ -1,14 +1,13 @@
 -- A body returns: RAX has the number of its slot, and RIP and RSP are those of its return address.
 use Rattle.std.proofs.Common.{◌≡◌, ℕ, ◌+◌, ◌^◌, ◌<◌, ◌≤◌, ◌==◌, Bool, true, false, Option, Some, None, ◌∷◌, length, refl, sym, subst, ◌∙◌, arith, length-append}
 use Rattle.std.specs.Prelude.{slice_get}
-use Rattle.std.proofs.lemmas.List.{length-drop}
-use Rattle.match_turns.specs.Words.{kept_of, context_of, Rax, Rsp, State, register, Slot, Local, Temporary, IsSlot, Configuration, read, Layout, return_code, fetch, local_at, fetch_local, MachineView, machine, HasBack, with_sp, moved, Returned, HaveRoom, IsWellFormed, AllKeep, counts_of, owed_of, Setting, RepresentsAt}
+use Rattle.match_turns.specs.Words.{kept_of, context_of, Rax, Rsp, State, register, Slot, Local, Temporary, IsSlot, Configuration, read, Layout, return_code, fetch, local_at, fetch_local, MachineView, machine, HasBack, moved, Returned, HaveRoom, IsWellFormed, AllKeep, counts_of, owed_of, Setting, RepresentsAt}
 use Rattle.frame_rules.specs.Plan.{epilogue}
 use Rattle.template_code.specs.Frames.{plan_of_layout}
 use Rattle.template_code.proofs.Frames.{ending_by}
 use Rattle.x64_templates.specs.Runs.{Reaches}
 use Rattle.linear_code.specs.declared.instruction.Instruction.TheVariants as instructions
-use Rattle.match_turns.proofs.Lemmas.{body_owed, owed_return, number_small, fetch_fine, sp_moved, return_run, reaches_steps, may_read_written, word_is, reaches_keeps, stays_well_formed, IsCounted, sp_low, frame_top, room_here, holds_here, slots_here, v, frame, slots, same_state, template_here, has_slots, sp_is, index_of}
+use Rattle.match_turns.proofs.Lemmas.{body_owed, owed_return, number_small, fetch_fine, return_run, reaches_steps, may_read_written, word_is, reaches_keeps, stays_well_formed, IsCounted, sp_low, frame_top, room_here, holds_here, slots_here, v, frame, slots, same_state, template_here, has_slots, sp_is}
 use Rattle.match_bodies.proofs.ReturnKeeping.{LeavesBody, fetch_plain, returns_leave}
 use Rattle.match_turns.proofs.ReturnAddressPlace.{top_of, begins_beneath}
 
@@ -99,18 +98,11 @@ module _ (setting : Setting) (roomy : HaveRoom setting.program) where
         let low = sp_low setting s c b counted in
         return_run (frame setting roomy s c b counted) from view back s.cpu.rip s.cpu.flags
         (slots setting roomy s c b counted) (room_here setting s c b counted) is_there
-        (length-drop 3 s.cpu.registers ∙ (let z = b.well_formed.count in omega arith))
         (sp_is setting roomy s c b counted) (omega arith) (holds_here setting s c b counted)
         has_back (template_here setting roomy s c b counted (instructions.Return from) at)
 
     abbrev after_view : MachineView
-    after_view = record {
-      rax = result;
-      rcx = view.rcx;
-      rdx = view.rdx;
-      rest = view.rest;
-      memory = view.memory;
-    }
+    after_view = record view { rax = result }
 
     abbrev pub after : State
     after = machine (moved after_view (sp + layout.frame + 8)) back run.flags
@@ -120,9 +112,7 @@ module _ (setting : Setting) (roomy : HaveRoom setting.program) where
         (same_state setting roomy s c b counted)) run.comes
 
     pub sp_after : register after.cpu Rsp ≡ sp + layout.frame + 8
-    sp_after = sym (index_of (with_sp view.rest (sp + layout.frame + 8)) 1)
-        ∙ sp_moved view (sp + layout.frame + 8)
-        (length-drop 3 s.cpu.registers ∙ (let z = b.well_formed.count in omega arith))
+    sp_after = refl
 
     pub well_formed_after : IsWellFormed after
     well_formed_after = stays_well_formed s after (reaches_keeps n s after reaches) has_back.small
@@ -137,7 +127,7 @@ module _ (setting : Setting) (roomy : HaveRoom setting.program) where
         returns_leave setting c.frame.body b.body.slots.code b.body.slots.body c.frame.next from at s
         after (top_of setting s c b counted) b.body.back b.body.others b.body.is b.rip
         (begins_beneath setting s c b counted) refl b.memory.code (omega arith)
-        (fetch_plain layout.frame layout.frame 8 layout from
+        (fetch_plain layout.slots layout.frame 8 layout from
         (fetch_fine f.layout f.counts f.sp f.base true from
         (room_here setting s c b counted) is_there)) (reaches_steps n s after reaches) b.body.small
         (omega arith)

@@ -8,7 +8,7 @@ use Rattle.match_turns.proofs.Lemmas.{reaches_then, code_split, call_begins, thu
 use Rattle.x64_templates.proofs.Jumps.{one_reaches}
 
 abbrev pub cleared : MachineView → MachineView
-cleared v = record { rax = 0; rcx = v.rcx; rdx = v.rdx; rest = v.rest; memory = v.memory }
+cleared v = record v { rax = 0 }
 
 clear_size : size clear_result ≡ 5
 unfolding size opcode_register

@@ -1,13 +1,11 @@
 -- A built-in function is called: the service is reached, and what it saves of the body is on top of
 -- the list.
-use Rattle.match_turns.proofs.KeptRegisters.{saved_kept}
-use Rattle.std.proofs.Common.{◌≡◌, ℕ, ◌+◌, ◌-◌, ◌%◌, ◌^◌, ◌<◌, ◌≤◌, Some, List, [], ◌∷◌, length, Ok, refl, sym, ap, subst, ◌∙◌, arith, length-set, set, drop}
+use Rattle.std.proofs.Common.{◌≡◌, ℕ, ◌+◌, ◌-◌, ◌%◌, ◌^◌, ◌<◌, ◌≤◌, Some, List, [], ◌∷◌, Ok, refl, sym, ap, subst, ◌∙◌, arith, length-set}
 use Rattle.std.specs.Prelude.{◌==◌, false, slice_get, take}
 use Rattle.match_turns.specs.Words.{kept_of, W64, loaded, IMAGE_BASE, IMAGE_RANGE_END, STACK_START, STACK_END, address_of, Rsp, Instr, opcode_register, Cpu, State, register, BuiltIn, Put, Protect, RaiseException, Walk, Temporary, BodyState, LinearBody, Configuration, body_of, regions_of, waiting, instruction_at, Layout, size, sizes, put_back, keep, temporary_at, call, IsNear, return_at, begin_call, clear_result, template, template_size, MachineView, machine, pushed, HasCode, KeepsAbove, IsWellFormed, IsLive, Comes, links_of, service_of, CallsBuiltIn, IsWellMade, IsKnown, Setting, InBody, IsMachineMemory, IsResumed, RepresentsAt, arguments_code}
 use Rattle.x64_templates.specs.Runs.{Reaches}
-use Rattle.std.proofs.lemmas.List.{length-drop}
 use Rattle.linear_code.specs.declared.instruction.Instruction.TheVariants as instructions
-use Rattle.match_turns.proofs.Lemmas.{dropped, kept_by_rest, sizes_append, call_size, template_sizes, set_small, template_some, reaches_silently, counted_here, code_at, reaches_keeps, stays_well_formed, frame, slots, v, same_state, template_here, has_slots, next_address, sp_is, IsCounted, sp_low, frame_top, room_here, holds_here}
+use Rattle.match_turns.proofs.Lemmas.{sizes_append, call_size, template_sizes, set_small, template_some, reaches_silently, counted_here, code_at, reaches_keeps, stays_well_formed, frame, slots, v, same_state, template_here, has_slots, next_address, sp_is, IsCounted, sp_low, frame_top, room_here, holds_here, others_of}
 use Rattle.match_turns.proofs.FunctionFrame.{same_itself}
 use Rattle.match_turns.proofs.CallResult.{offset_most}
 use Rattle.match_turns.proofs.BuiltInCall.{with_arguments_of, ServiceReached, service_reached}
@@ -192,13 +190,6 @@ module _ (setting : Setting) (made : IsWellMade setting.program setting.plan) wh
 
     -- ---- the return
 
-    pub many : length given.rest ≡ 13
-    many =
-        let x = numbers.slots (Temporary (first + 2)) in
-        let z = numbers.slots (Temporary (first + 3)) in
-        length-set (set view.rest 5 x) 6 z ∙ length-set view.rest 5 x
-        ∙ length-drop 3 s.cpu.registers ∙ (let k = b.well_formed.count in omega arith)
-
     pub low_enough : STACK_START + 8 ≤ sp
     low_enough = let l = low in omega arith
 
@@ -211,23 +202,22 @@ module _ (setting : Setting) (made : IsWellMade setting.program setting.plan) wh
     -- the state that the service continues from, and that it may save
     abbrev pub saved : Cpu
     saved = pushing.saved given sp back low_enough high_enough b.memory.data_alone b.memory.stack
-        service run.flags back_small many
+        service run.flags back_small
 
     pub returns : loaded state.memory (register state.cpu Rsp) W64 ≡ Ok back
     returns = pushing.returns_there given sp back low_enough high_enough b.memory.data_alone
-        b.memory.stack service run.flags back_small many
+        b.memory.stack service run.flags back_small
 
     pub sp_there : register state.cpu Rsp ≡ sp - 8
     sp_there = pushing.sp_there given sp back low_enough high_enough b.memory.data_alone
-        b.memory.stack service run.flags back_small many
+        b.memory.stack service run.flags back_small
 
     pub sp_saved : register saved Rsp ≡ sp
     sp_saved = pushing.sp_saved given sp back low_enough high_enough b.memory.data_alone
-        b.memory.stack service run.flags back_small many
+        b.memory.stack service run.flags back_small
 
     registers_saved : kept_of saved.registers ≡ kept_of s.cpu.registers
-    registers_saved = saved_kept (drop 3 s.cpu.registers) _ _ (sp - 8) _ sp sp_saved
-        (sym (dropped s.cpu.registers)) ∙ kept_by_rest (drop 3 s.cpu.registers) s.cpu.registers refl
+    registers_saved = ap (λ x. x ∷ others_of s.cpu.registers) sp_saved
 
     pub well_formed_saved : IsWellFormed (record { cpu = saved; memory = state.memory })
     well_formed_saved =

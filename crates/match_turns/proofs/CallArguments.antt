@@ -1,9 +1,8 @@
 -- A caller passes its arguments and calls: at the callee's first byte they are in their registers
 -- and above its return address.
-use Rattle.std.proofs.Common.{◌≡◌, ℕ, ◌+◌, ◌-◌, ◌*◌, ◌<◌, ◌≤◌, true, false, Option, Some, None, List, length, set, refl, sym, ap, subst, ◌∙◌, arith, inl, inr, get_or-set_same, length-set}
+use Rattle.std.proofs.Common.{◌≡◌, ℕ, ◌+◌, ◌-◌, ◌*◌, ◌<◌, ◌≤◌, true, false, Option, Some, None, List, length, refl, sym, ap, subst, ◌∙◌, arith, inl, inr}
 use Rattle.std.specs.Prelude.{◌⊎◌}
 use Rattle.std.proofs.lemmas.Bool.{cases_lt}
-use Rattle.std.proofs.lemmas.List.{length-drop}
 use Rattle.match_turns.specs.Words.{STACK_START, STACK_END, number_at, may_write, Protection, is_writable, Rsp, Instr, Flags, State, register, Slot, Local, Temporary, IsSlot, BodyState, Layout, sizes, spelled, keep, IsNear, return_at, begin_call, call_code, passing_code, MachineView, machine, sp_of, with_four, pushed, HasBelow, InRegisters, slot_at, IsBytes, Agrees, HasCode, FramePlace, counts_of, LARGEST_FRAME, Setting, CallBegun}
 use Rattle.x64_templates.specs.Runs.{Reaches}
 use Rattle.linear_code.specs.declared.instruction.Instruction.TheVariants as instructions
@@ -59,7 +58,8 @@ module _ {setting : Setting} (at_call : AtCall setting) where
     pub temporaries : room ≤ layout.temporaries
     pub locals : sp + room ≤ at_base + layout.locals
     pub base : (k : ℕ) → layout.base ≡ Some k → (room ≤ k) × (k + 16 ≤ LARGEST_FRAME)
-    pub size : layout.temporaries ≤ layout.frame
+    pub slots : layout.temporaries ≤ layout.slots
+    pub within : layout.slots ≤ layout.frame
     pub small : layout.frame + 8 ≤ LARGEST_FRAME
 
   is_base : (o : Option ℕ) → layout.base ≡ o → o ≡ None → at_base ≡ sp
@@ -81,7 +81,8 @@ module _ {setting : Setting} (at_call : AtCall setting) where
         temporaries = a;
         locals = omega arith;
         base = λ k i. absurd (no k (sym g.layout.none ∙ i));
-        size = omega arith;
+        slots = omega arith;
+        within = g.layout.within;
         small = z;
       }
     where
@@ -109,7 +110,8 @@ module _ {setting : Setting} (at_call : AtCall setting) where
         locals = omega arith;
         base = λ i e. (let n = same_slot g.layout.slot i (sym g.layout.base ∙ e) in
             (omega arith, omega arith));
-        size = omega arith;
+        slots = omega arith;
+        within = g.layout.within;
         small = omega arith;
       }
 
@@ -128,11 +130,11 @@ module _ {setting : Setting} (at_call : AtCall setting) where
   top = frame_top setting s c b counted
 
   pub room_small : room + 8 ≤ LARGEST_FRAME
-  room_small = let g = bottom.temporaries in let h = bottom.size in let z = bottom.small in
+  room_small = let g = bottom.temporaries in let h = bottom.slots in let w = bottom.within in let z = bottom.small in
       omega arith
 
   pub room_top : sp + room + 8 ≤ STACK_END
-  room_top = let g = bottom.temporaries in let h = bottom.size in let z = top in omega arith
+  room_top = let g = bottom.temporaries in let h = bottom.slots in let w = bottom.within in let z = top in omega arith
 
   outgoing : HasOutgoing here s.memory room
   outgoing = record {
@@ -177,13 +179,7 @@ module _ {setting : Setting} (at_call : AtCall setting) where
   target = q.function f
 
   abbrev pub after_passing : MachineView
-  after_passing = record {
-    rax = handed.rax;
-    rcx = view.rcx;
-    rdx = view.rdx;
-    rest = view.rest;
-    memory = handed.memory;
-  }
+  after_passing = record view { rax = handed.rax; memory = handed.memory }
 
   abbrev there : ℕ
   there = s.cpu.rip + sizes passing
@@ -275,29 +271,13 @@ module _ {setting : Setting} (at_call : AtCall setting) where
   abbrev pub arguments : ℕ → ℕ
   arguments i = numbers.slots (Temporary (first + i))
 
-  pub registers : length view.rest ≡ 13
-  registers = length-drop 3 s.cpu.registers ∙ (let k = b.well_formed.count in omega arith)
-
   -- RSP there
-  pub called_count : length called.rest ≡ 13
-  called_count =
-      let x = numbers.slots (Temporary (first + 2)) in
-      let z = numbers.slots (Temporary (first + 3)) in
-      length-set (set (set view.rest 5 x) 6 z) 1 (sp - 8) ∙ length-set (set view.rest 5 x) 6 z
-      ∙ length-set view.rest 5 x ∙ registers
-
   pub called_sp : sp_of called ≡ sp - 8
-  called_sp =
-      let x = numbers.slots (Temporary (first + 2)) in
-      let z = numbers.slots (Temporary (first + 3)) in
-      let n = length-set (set view.rest 5 x) 6 z in
-      let k = length-set view.rest 5 x in
-      let r = registers in
-      get_or-set_same (set (set view.rest 5 x) 6 z) 1 (sp - 8) 0 (omega arith)
+  called_sp = refl
 
   pub in_registers : InRegisters called arguments
   in_registers =
-      let r = passed_in_registers here first after_passing there numbers registers in
+      let r = passed_in_registers here first after_passing there numbers in
       record { first = r.first; second = r.second; third = r.third; fourth = r.fourth }
 
   -- memory above RSP, but for the home space and the places of further arguments

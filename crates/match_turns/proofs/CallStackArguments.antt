@@ -89,7 +89,7 @@ module _ (p : FramePlace) (roomy : Roomy p) (room : ℕ) where
     pub rax : ℕ
     pub memory : Memory
     pub does : Executes (passing_code p.layout first i n) v
-        (record { rax = rax; rcx = v.rcx; rdx = v.rdx; rest = v.rest; memory = memory })
+        (record v { rax = rax; memory = memory })
     pub holds : FrameHolds p memory b
     pub number : (j : ℕ) → i ≤ j → j < i + n → number_at memory.byte 8 (p.sp + 8 * j)
         ≡ b.slots (Temporary (first + j))
@@ -131,13 +131,7 @@ module _ (p : FramePlace) (roomy : Roomy p) (room : ℕ) where
       let r = passes first (i + 1) n u b base_high (omega arith) (omega arith)
       (still_outgoing v.memory u.memory refl out) at
       (holds_beside v.memory to x b out (omega arith) (omega arith) base_high h) in
-      let last : MachineView = record {
-        rax = r.rax;
-        rcx = v.rcx;
-        rdx = v.rdx;
-        rest = v.rest;
-        memory = r.memory;
-      } in
+      let last : MachineView = record v { rax = r.rax; memory = r.memory } in
       let here : number_at r.memory.byte 8 to ≡ x =
       same_number r.memory.byte u.memory.byte 8 to (omega arith)
       (λ a l g. r.same a (inl (omega arith)))

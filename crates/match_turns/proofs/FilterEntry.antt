@@ -118,9 +118,12 @@ module _ (setting : Setting) where
     x_small : x < 2 ^ 64
     x_small = let h = e.top in let z = e.sp_is in let r = points in omega arith
 
-    fits : y.pointers + 8 ≤ y.frame
-    fits = let g = l.plan.layout.pointers in let z = l.plan.layout.kept in
+    fits_slots : y.pointers + 8 ≤ y.slots
+    fits_slots = let g = l.plan.layout.pointers in let z = l.plan.layout.kept in
         let r = l.plan.layout.temporaries in omega arith
+
+    fits : y.pointers + 8 ≤ y.frame
+    fits = let g = fits_slots in let w = l.plan.layout.within in omega arith
 
     cell : HasCell e.after.memory (e.sp + y.pointers)
     cell =
@@ -151,7 +154,7 @@ module _ (setting : Setting) where
     run = enters_then from to e.turns 1 s (machine e.after e.rip e.flags) u e.comes keeps.comes
 
     stack_here : register u.cpu Rsp ≡ e.sp
-    stack_here = e.stack
+    stack_here = e.at
 
     rip_here : u.cpu.rip ≡ p.address (FuncletBody k) 0
     rip_here = subst (λ z. e.rip + sizes (keep_argument y z) ≡ p.address (FuncletBody k) 0) kind_is
@@ -221,8 +224,9 @@ module _ (setting : Setting) where
         funclet_ran setting s k handler.activation argument items acts l w c.store.memory memory
         some low_enough high_enough (register s.cpu Rdx) a.reaches.base leads (e.turns + 1) u
         (base ++ last) [] parts count (enters_steps from to (e.turns + 1) s u run)
-        (plain_both y.frame y.frame 8 base last plain (
-          kept_plain y.frame y.frame 8 Rcx y.pointers (let g = fits in omega arith) (inl fits),
+        (plain_both y.slots y.frame 8 base last plain (
+          kept_plain y.slots y.frame 8 Rcx y.pointers (let g = fits in omega arith)
+              (inl fits_slots),
           tt,
         ))
 

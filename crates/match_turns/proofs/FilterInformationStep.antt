@@ -86,7 +86,7 @@ module _ (setting : Setting) (roomy : HaveRoom setting.program) (s : State)
       (length (information_code y to field))
       (machine (v setting roomy s c b counted) s.cpu.rip s.cpu.flags)
       (s.cpu.rip + sizes (information_code y to field))
-      (v setting roomy s c b counted).rest
+      (v setting roomy s c b counted).rest (v setting roomy s c b counted).locals
       (record { slots = with_slot now.slots to x; memory = c.store.memory })) reads.fits run))
       (omega arith) lt (omega arith) (leaves_stored setting roomy s c b counted around to value
       c.store.memory held fits there) free

@@ -1,8 +1,7 @@
 -- A body calls its `__finally` block: the machine comes to the block's first byte, above the body
 -- that waits.
 use Rattle.std.proofs.Common.{◌≡◌, ℕ, ◌+◌, ◌-◌, ◌^◌, ◌<◌, ◌≤◌, true, false, Option, Some, None, Ok, List, [], ◌∷◌, length, refl, sym, ap, subst, ◌∙◌, arith, inl}
-use Rattle.std.specs.Prelude.{slice_get, drop}
-use Rattle.std.proofs.lemmas.List.{length-drop, get_or-set_same}
+use Rattle.std.specs.Prelude.{slice_get}
 use Rattle.seh_num.specs.declared.event.Event.TheVariants as events
 use Rattle.match_turns.specs.Words.{STACK_START, STACK_END, Rdx, Rsp, context_of, State, register, distance, arrivals, by_kind, of_test, LinearBody, BodyName, FuncletBody, body_of, funclet_body, Waits, Configuration, instruction_in, Layout, sizes, IsNear, finally_arguments, MachineView, machine, pushed, HasBelow, context_below, InCode, by_parent, parent_body, IsFunclet, HasActivation, return_of, ReturnsTo, KeepsAbove, On, IsWellFormed, AllKeep, Comes, AllReturnsStayInRegions, IsFinallyKind, parent_of, IsFuncletOf, HaveRoom, slots_end, Setting, InBody, IsMachineMemory, IsResumed, RepresentsAt, is_finally, frame_of, get}
 use Rattle.virtual_unwind.specs.Undone.{word}
@@ -10,7 +9,7 @@ use Rattle.x64_templates.specs.Runs.{Reaches}
 use Rattle.x64_instr.specs.declared.instruction.Instr.TheVariants as instrs
 use Rattle.linear_code.specs.declared.instruction.Instruction.TheVariants as instructions
 use Rattle.linear_code.specs.declared.program.FuncletKind.TheVariants as funclets
-use Rattle.match_turns.proofs.Lemmas.{with_two, FinallyCalled, finally_begins, pushed_back, reaches_above, kept_by_stores_below, first_in_code, frame_with, reaches_comes, others_of, reaches_steps, calls_keep, OnTop, body_on_top, may_read_written, word_of, reaches_keeps, stays_well_formed, IsCounted, sp_low, frame_top, v, same_state, template_here, sp_is}
+use Rattle.match_turns.proofs.Lemmas.{with_two, FinallyCalled, finally_begins, pushed_back, reaches_above, kept_by_stores_below, first_in_code, frame_with, slots_within, reaches_comes, others_of, reaches_steps, calls_keep, OnTop, body_on_top, may_read_written, word_of, reaches_keeps, stays_well_formed, IsCounted, sp_low, frame_top, v, same_state, template_here, sp_is}
 use Rattle.match_stack.specs.ItemMatches as linked
 use Rattle.match_stack.proofs.SearchHandlers.{body_reaches}
 use Rattle.match_turns.proofs.ReturnAddressPlace.{top_of, begins_beneath}
@@ -18,7 +17,6 @@ use Rattle.match_turns.proofs.FinallyCallReturn.{offset_most, after_call}
 use Rattle.match_turns.proofs.FuncletFrame.{ArrivesBelow}
 use Rattle.match_turns.proofs.CallRegions.{apart_same}
 use Rattle.match_turns.proofs.DispatchMemory.{memory_untouched}
-use Rattle.match_turns.proofs.KeptRegisters.{kept_moved}
 use Rattle.match_turns.proofs.ReturnAddressPush as pushing
 
 same_parents : (function : ℕ) (o : Option ℕ) → by_parent function o ≡ parent_of function o
@@ -188,9 +186,7 @@ module _ (setting : Setting) (roomy : HaveRoom setting.program)
 
     stack_there : register called.cpu Rsp ≡ sp - 8
     stack_there =
-        let n = length-drop 3 s.cpu.registers in
-        let z = b.well_formed.count in
-        get_or-set_same (drop 3 s.cpu.registers) 1 (sp - 8) 0 (omega arith)
+        refl
 
     returns : word called.memory (register called.cpu Rsp) ≡ Ok back
     returns =
@@ -266,8 +262,7 @@ module _ (setting : Setting) (roomy : HaveRoom setting.program)
 
     -- the nonvolatile registers are those of the call
     others_there : others_of called.cpu.registers ≡ others_of s.cpu.registers
-    others_there = ap (λ (ks : List ℕ). drop 1 ks)
-        (kept_moved s.cpu.registers (sp - 8) stack_there)
+    others_there = refl
 
     list : On t fs program p called.memory (context_below back sp (others_of called.cpu.registers))
         on_top.is (Waits c.frame ∷ c.below) b.body.acts
@@ -281,7 +276,7 @@ module _ (setting : Setting) (roomy : HaveRoom setting.program)
 
     -- ---- what the block finds
 
-    held : HasActivation s.memory (get (context_of s.cpu)) (p.register name) y sp y.frame
+    held : HasActivation s.memory (get (context_of s.cpu)) (p.register name) y sp y.slots
         c.frame.activation b.body.acts name
     held = subst (λ z. HasActivation s.memory (get (context_of s.cpu)) (p.register name) y sp
         (slots_end y z) c.frame.activation b.body.acts name) framed b.body.slots.activation
@@ -290,9 +285,10 @@ module _ (setting : Setting) (roomy : HaveRoom setting.program)
         c.frame.activation b.body.acts
     activation =
         let h = top in
+        let within = slots_within setting name code b.body.slots.body in
         reaches_above t fs program p s.memory bytes sp name sp c.frame.activation b.body.acts
         keeps_above (omega arith)
-        (body_reaches t fs program p s.memory name sp y.frame c.frame.activation b.body.acts
+        (body_reaches t fs program p s.memory name sp y.slots c.frame.activation b.body.acts
         (get (context_of s.cpu)) (omega arith) held)
 
     is_funclet : IsFunclet t fs program p name k

@@ -3,12 +3,12 @@ use Rattle.std.proofs.Common.{◌≡◌, ℕ, ◌+◌, ◌*◌, ◌^◌, ◌<◌
 use Rattle.std.specs.Prelude.{slice_get, slice_index, slice_set}
 use Rattle.std.proofs.lemmas.Option.{slice_get_within, slice_get_cases}
 use Rattle.std.proofs.lemmas.List.{append-nil}
-use Rattle.match_turns.specs.Words.{kept_of, STACK_START, STACK_END, W32, low, Event, Memory, number_at, Rax, Rcx, Rdx, Rsp, Instr, State, register, of_test, no_exception, Local, BodyState, with_slot, LinearBody, LinearFunclet, BodyName, FuncletBody, funclet_body, Item, Store, Configuration, flag_of, Layout, sizes, move, put_back, keep, local_at, keep_local, fetched, machine, HasCode, Enters, FramePlace, ReachesBody, Steps, StackItem, is_encodable, IsFinallyKind, parent_of, function_of, owner_of, IsFuncletOf, owners_of, by_parent, Activation, locals_of, IsActivation, HasSpace, below_end, record_room, HasPointers, FuncletIsAbove, IsWellFormed, KeepsShadow, AllKeep, is_call, LeadsTo, parent_base, keep_argument, begin_of, making_size, context_of, FindsOwed, Owed, owed_of, with_values, OwnerHasFrame, IsKnown, entry_turns, FlagsFit, LARGEST_FRAME, Setting, HasProgram, IsMachineMemory, RepresentsAt, frame_at, state_of}
+use Rattle.match_turns.specs.Words.{STACK_START, STACK_END, W32, low, Event, Memory, number_at, Rax, Rcx, Rdx, Rsp, Instr, State, register, of_test, no_exception, Local, BodyState, with_slot, LinearBody, LinearFunclet, BodyName, FuncletBody, funclet_body, Item, Store, Configuration, flag_of, Layout, sizes, move, put_back, keep, local_at, keep_local, fetched, machine, HasCode, Enters, FramePlace, ReachesBody, Steps, StackItem, is_encodable, IsFinallyKind, parent_of, function_of, owner_of, IsFuncletOf, owners_of, by_parent, Activation, locals_of, IsActivation, HasSpace, below_end, record_room, HasPointers, FuncletIsAbove, IsWellFormed, KeepsShadow, AllKeep, is_call, LeadsTo, parent_base, keep_argument, begin_of, making_size, context_of, FindsOwed, Owed, owed_of, with_values, OwnerHasFrame, IsKnown, entry_turns, FlagsFit, LARGEST_FRAME, Setting, HasProgram, IsMachineMemory, RepresentsAt, frame_at, state_of, OtherRegisters}
 use Rattle.match_bodies.specs.CodeSites.{arguments_code}
 use Rattle.linear_code.specs.declared.program.FuncletKind.TheVariants as funclets
 use Rattle.linear_machine.specs.Frames as linear
 use Rattle.match_bodies.specs.ProgramImages.{frame_of}
-use Rattle.match_turns.proofs.Lemmas.{frame_from, frame_with, sizes_append, code_split, near, enters_then, flag_run, Within, straight, keep_first, others_of, program_kept, enters_silently, none_inside, read_here, StepsTo, reaches_steps, enters_steps, keeps_split, Beneath, beneath_by, callers_above, Finds, ran, label_found, argument_found, frame_there, EntryRan, locals_count, activated, reaches_keeps, enters_keeps, stays_well_formed, SlotsPlaced, IsCounted, frame_top, room_here, holds_here, slots_here, locals_here, Leaves, Ran, frame_after, new_on, represents_next, set_length, local_after, gives_above, owed_with, frame_owed}
+use Rattle.match_turns.proofs.Lemmas.{frame_from, frame_with, sizes_append, code_split, near, enters_then, flag_run, Within, straight, keep_first, others_of, program_kept, enters_silently, none_inside, read_here, StepsTo, reaches_steps, enters_steps, keeps_split, Beneath, beneath_by, callers_above, Finds, ran, label_found, argument_found, frame_there, EntryRan, locals_count, activated, reaches_keeps, enters_keeps, stays_well_formed, SlotsPlaced, IsCounted, frame_top, room_here, holds_here, slots_here, locals_here, Leaves, Ran, frame_after, new_on, represents_next, set_length, local_after, gives_above, owed_with, frame_owed, kept_alike}
 use Rattle.match_bodies.proofs.RoutineWalks.{Ran as MidRan}
 use Rattle.match_bodies.proofs.BodyFrames.{codes_above}
 use Rattle.match_bodies.proofs.BodyViews.{placed, count}
@@ -120,7 +120,7 @@ module _ (setting : Setting) where
         events
 
     stack_1 : register s1.cpu Rsp ≡ e.sp
-    stack_1 = e.stack
+    stack_1 = e.at
 
     well_formed_1 : IsWellFormed s1
     well_formed_1 =
@@ -231,7 +231,7 @@ module _ (setting : Setting) where
     code_here = subst (λ z. HasCode e.after.memory e.rip (keep_argument y z)) kind_is e.code
 
     abbrev r : ReachesBody fr (length last) (machine e.after e.rip e.flags)
-        (e.rip + sizes last) e.after.rest (record {
+        (e.rip + sizes last) e.after.rest e.after.locals (record {
           slots =
               with_slot old.slots (Local flag) (low W32 e.after.rcx);
           memory = old.memory;
@@ -288,7 +288,7 @@ module _ (setting : Setting) where
                 };
           };
           holds = r.holds;
-          kept = ap (λ (xs : List ℕ). kept_of (0 ∷ 0 ∷ 0 ∷ xs)) r.rest;
+          kept = kept_alike r.after e.after r.rest r.locals;
           leaves = leaves;
         }
 
@@ -428,6 +428,7 @@ module _ (setting : Setting) where
         let small = l.plan.layout.small in
         let kept = l.plan.layout.kept in
         let at = l.plan.layout.temporaries in
+        let within = l.plan.layout.within in
         ran t fs program p q owed top1 (top1 + 8) b1.body.back others1 list1 mid y1 x y.frame
         y.frame 8 (run_3.0, run_3.1, (x, run_2.1, refl))
         ((refl, inl refl), ((near slot (omega arith), inl refl), tt))
@@ -437,7 +438,7 @@ module _ (setting : Setting) where
 
     -- the store leads to another memory, in which the same list is
     stack_there : register u.cpu Rsp + y.frame ≡ top1
-    stack_there = ap (λ (xs : List ℕ). slice_index xs 1 + y.frame) r.rest
+    stack_there = ap (λ (r : OtherRegisters). r.rsp + y.frame) r.rest
 
     beneath_u : Beneath t u owed top1 (top1 + 8) b1.body.back others1 list1
     beneath_u =

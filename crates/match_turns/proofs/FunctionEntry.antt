@@ -9,7 +9,7 @@ use Rattle.x64_templates.specs.Prologues.{prologue_turns}
 use Rattle.match_bodies.proofs.FrameCode.{few_turns, plan_depth}
 use Rattle.match_bodies.proofs.PlannedPrologues.{body_planned, body_probed}
 use Rattle.match_bodies.proofs.PrologueSteps.{small_at}
-use Rattle.match_turns.proofs.Lemmas.{bytes_kept, index_of, may_read_written, stays_well_formed}
+use Rattle.match_turns.proofs.Lemmas.{bytes_kept, may_read_written, stays_well_formed}
 use Rattle.match_turns.proofs.CallArguments as calling
 use Rattle.match_turns.proofs.FunctionParameters.{with_home, home_parameters}
 use Rattle.match_turns.proofs.FunctionParameters as entering
@@ -85,7 +85,7 @@ module _ {setting : Setting} (at_call : AtCall setting) where
       let same = home_parameters layout 0 count small in
       let made = no_frame (entering.called at_call) target
       (entering.flags at_call) (caller - 8) (entering.arguments at_call) (calling.called_sp at_call)
-      (calling.called_count at_call) (calling.in_registers at_call) in
+      (calling.in_registers at_call) in
       entering.entered at_call (caller - 8) target 0 made (with_home layout) (record {
         none = l.none;
         low = omega arith;
@@ -95,7 +95,12 @@ module _ {setting : Setting} (at_call : AtCall setting) where
         locals_small = omega arith;
         apart = inl (omega arith);
       })
-      (record { base = refl; temporaries = omega arith; locals = omega arith }) refl (omega arith)
+      (record {
+        base = refl;
+        temporaries = omega arith;
+        locals = omega arith;
+        within = omega arith;
+      }) refl (omega arith)
       (λ i ge lt. absurd (omega arith)) (omega arith)
       (subst (λ code. HasCode s.memory target code) (sym same)
       (subst (λ a. HasCode s.memory a (parameters_code layout 0 count)) none
@@ -141,7 +146,7 @@ module _ {setting : Setting} (at_call : AtCall setting) where
         let first = a.first in
         let high = a.inside.high in
         let sp : register (entering.at_callee at_call).cpu Rsp ≡ caller - 8 =
-        sym (index_of (entering.called at_call).rest 1) ∙ calling.called_sp at_call in
+        calling.called_sp at_call in
         let well = stays_well_formed s (entering.at_callee at_call) (entering.keeps at_call)
         (omega arith) b.well_formed in
         let may = entering.may_stack at_call in
@@ -159,7 +164,7 @@ module _ {setting : Setting} (at_call : AtCall setting) where
         (target + sizes (making_frame p q f false)) (entering.flags at_call) (caller - 8) sp
         (entering.arguments at_call) (prologue_turns plan)
     made = planned_frame (entering.called at_call) target (entering.flags at_call) (caller - 8)
-        (entering.arguments at_call) (calling.called_sp at_call) (calling.called_count at_call)
+        (entering.arguments at_call) (calling.called_sp at_call)
         (calling.in_registers at_call) plan q.check_stack frame
         (body_planned setting (FunctionBody f) o there some l.small)
         (few_turns frame plan.probe) (plan_depth frame plan.probe) begins
@@ -173,6 +178,7 @@ module _ {setting : Setting} (at_call : AtCall setting) where
         let z = top in
         let a = l.temporaries in
         let m = l.locals in
+        let j = l.within in
         let k = l.small in
         entering.entered at_call sp (target + sizes (making_frame p q f false))
         (prologue_turns plan) made layout (record {
@@ -184,7 +190,12 @@ module _ {setting : Setting} (at_call : AtCall setting) where
           locals_small = omega arith;
           apart = inr (omega arith);
         })
-        (record { base = refl; temporaries = omega arith; locals = omega arith }) refl k
+        (record {
+          base = refl;
+          temporaries = omega arith;
+          locals = omega arith;
+          within = l.within;
+        }) refl k
         (λ i ge lt. (let w : sp + frame + 8 ≡ caller = omega arith in w)) (omega arith)
         (entry false leaf).storing (entry false leaf).ends (λ a out i. elim i [
           | inl w ↦ (let g = w.0 in let h = w.1 in

@@ -1,11 +1,11 @@
 -- A function is entered after its call: its frame is made, and its parameters go to their locals.
 use Rattle.std.proofs.Common.{◌≡◌, ℕ, zero, suc, ◌+◌, ◌-◌, ◌*◌, ◌^◌, ◌<◌, ◌≤◌, true, false, Some, None, List, ◌++◌, length, refl, sym, ap, subst, ◌∙◌, arith, inl, inr, length-append}
-use Rattle.std.specs.Prelude.{◌⊎◌, slice_index, nat_lt}
+use Rattle.std.specs.Prelude.{◌⊎◌, nat_lt}
 use Rattle.std.proofs.lemmas.Bool.{cases_lt, lt-ltb, le-ltb}
-use Rattle.match_turns.specs.Words.{STACK_START, STACK_END, Memory, may_write, number_at, Protection, is_writable, Rsp, Flags, State, register, is_reserved, Local, Temporary, LinearBody, FunctionBody, body_of, function_body, Layout, sizes, spelled, IsNear, return_at, passing_code, parameters_code, stack_parameter, parameter_code, MachineView, machine, with_arguments, OnStack, IsFunctionFrame, body_in_memory, FreshFrame, HasBase, MemoryKeepsBase, IsBytes, Agrees, InTemporaries, InLocals, KeepsReserved, HasCode, Enters, FramePlace, Roomy, ReachesBody, counts_of, LARGEST_FRAME, Setting}
+use Rattle.match_turns.specs.Words.{STACK_START, STACK_END, Memory, may_write, number_at, Protection, is_writable, Rsp, Flags, State, register, is_reserved, Local, Temporary, LinearBody, FunctionBody, body_of, function_body, Layout, sizes, spelled, IsNear, return_at, passing_code, parameters_code, stack_parameter, parameter_code, MachineView, machine, with_arguments, OnStack, IsFunctionFrame, body_in_memory, FreshFrame, HasBase, MemoryKeepsBase, IsBytes, Agrees, InTemporaries, InLocals, KeepsReserved, HasCode, Enters, FramePlace, Roomy, ReachesBody, counts_of, LARGEST_FRAME, Setting, HasBelow, OtherRegisters}
 use Rattle.match_bodies.specs.CodeSites.{arguments_code, body_plan, making_size}
 use Rattle.x64_templates.specs.Runs.{Reaches}
-use Rattle.match_turns.proofs.Lemmas.{bytes_kept, same_number, enters_then, within_agrees, making_steps, stack_is_reserved, may_read_written, holds_here, index_of, Keeps, keeps_then, reaches_keeps, enters_keeps}
+use Rattle.match_turns.proofs.Lemmas.{bytes_kept, same_number, enters_then, within_agrees, making_steps, stack_is_reserved, may_read_written, holds_here, Keeps, keeps_then, reaches_keeps, enters_keeps}
 use Rattle.x64_templates.proofs.Entering.{fresh_holds, parameters_run}
 use Rattle.match_turns.proofs.CallArguments as calling
 use Rattle.match_turns.proofs.CallWaitingCaller.{back_near}
@@ -82,6 +82,7 @@ with_home y = record {
   pointers = y.pointers;
   temporaries = y.temporaries;
   locals = y.locals;
+  slots = 40;
   frame = 40;
 }
 
@@ -286,7 +287,7 @@ module _ {setting : Setting} (at_call : AtCall setting) where
         }
 
     run : ReachesBody (own_frame program.globals y o sp) (length (parameters_code y 0 count)) k
-        (to + sizes (parameters_code y 0 count)) made.after.rest (record {
+        (to + sizes (parameters_code y 0 count)) made.after.rest made.after.locals (record {
           slots = with_arguments (body_in_memory y sp sp made.after.memory c.store.memory).slots
               arguments 0 count;
           memory = c.store.memory;
@@ -320,8 +321,7 @@ module _ {setting : Setting} (at_call : AtCall setting) where
               (machine run.after (to + sizes (parameters_code y 0 count)) run.flags) made.comes
               run.comes);
           rip = ends;
-          stack = ap (λ (xs : List ℕ). slice_index xs 1) run.rest
-              ∙ sym (index_of made.after.rest 1) ∙ made.stack;
+          stack = ap (λ (r : OtherRegisters). r.rsp) run.rest ∙ made.stack;
           locals = λ i lt. (let w : sp + (layout.locals + 8 * i)
               ≡ sp + (y.locals + 8 * i) = omega arith in
               ap (number_at run.after.memory.byte 8) w

@@ -1,8 +1,6 @@
 -- From a function's first byte its frame is made: by the prologue of its plan, or not at all in a
 -- leaf function.
-use Rattle.std.proofs.Common.{◌≡◌, ℕ, suc, ◌+◌, ◌-◌, ◌<◌, ◌≤◌, true, List, [], ◌∷◌, length, get_or, refl, sym, subst, ◌∙◌, arith}
-use Rattle.std.specs.Prelude.{drop}
-use Rattle.std.proofs.lemmas.List.{length-drop}
+use Rattle.std.proofs.Common.{◌≡◌, ℕ, ◌+◌, ◌-◌, ◌<◌, ◌≤◌, true, [], refl, sym, subst, ◌∙◌, arith}
 use Rattle.match_turns.specs.Words.{Flags, sizes, check_stack, MachineView, machine, sp_of, InRegisters, HasCode, Enters, seen_by_templates}
 use Rattle.frame_rules.specs.Bytes.{prologue_code}
 use Rattle.frame_rules.specs.Codes.{depth}
@@ -12,7 +10,7 @@ use Rattle.frame_rules.proofs.Undoing.{stack_depth}
 use Rattle.x64_templates.specs.Prologues.{AreProbed, Within, none_stores, prologue_turns}
 use Rattle.x64_templates.proofs.PrologueRuns.{prologue_run}
 use Rattle.x64_templates.proofs.Ranges.{within_same}
-use Rattle.match_turns.proofs.Lemmas.{is_machine, sp_seen}
+use Rattle.match_turns.proofs.Lemmas.{is_machine}
 
 -- after so many turns RSP is the frame's, arguments are where they were, and memory has changed at
 -- most in the frame
@@ -23,16 +21,8 @@ pub record Made (v : MachineView) (target to : ℕ) (f : Flags) (top sp : ℕ) (
   pub flags : Flags
   pub comes : Enters target to n (machine v target f) (machine after to flags)
   pub stack : sp_of after ≡ sp
-  pub count : length after.rest ≡ 13
   pub registers : InRegisters after arguments
   pub within : Within sp top v.memory after.memory
-
--- the registers from RBX on
-from_third : (rs : List ℕ) (i : ℕ) → get_or (drop 3 rs) i 0 ≡ get_or rs (suc (suc (suc i))) 0
-from_third [] i = refl
-from_third (a ∷ []) i = refl
-from_third (a ∷ b ∷ []) i = refl
-from_third (a ∷ b ∷ c ∷ rs) i = refl
 
 -- a frame that is made, as templates see it
 pub record MadeView (p : FramePlan) (v : MachineView) (target : ℕ) (f : Flags) : Type 0 where
@@ -41,11 +31,10 @@ pub record MadeView (p : FramePlan) (v : MachineView) (target : ℕ) (f : Flags)
   pub comes : Enters target (target + sizes (prologue_code p)) (prologue_turns p)
       (machine v target f) (machine after (target + sizes (prologue_code p)) flags)
   pub stack : sp_of after + depth (operations_of p) ≡ registers (machine v target f) 4
-  pub count : length after.rest ≡ 13
   pub rcx : after.rcx ≡ v.rcx
   pub rdx : after.rdx ≡ v.rdx
-  pub eighth : get_or after.rest 5 0 ≡ get_or v.rest 5 0
-  pub ninth : get_or after.rest 6 0 ≡ get_or v.rest 6 0
+  pub r8 : after.rest.r8 ≡ v.rest.r8
+  pub r9 : after.rest.r9 ≡ v.rest.r9
   pub within : Within (registers (machine v target f) 4 - depth (operations_of p))
       (registers (machine v target f) 4) v.memory after.memory
   pub same : none_stores (operations_of p) ≡ true → after.memory ≡ v.memory
@@ -69,20 +58,17 @@ made_view p check v target f is_plan entry code probed checks =
       flags = u.cpu.flags;
       comes = subst (Enters target (target + sizes (prologue_code p)) (prologue_turns p) e) is
           m.comes;
-      stack = omega (arith, d, sp_seen u);
-      count = length-drop 3 u.cpu.registers ∙ (let k = m.count in omega arith);
+      stack = d;
       rcx = m.volatile 1 refl (λ z. absurd (omega arith)) (λ z. absurd (omega arith));
       rdx = m.volatile 2 refl (λ z. absurd (omega arith)) (λ z. absurd (omega arith));
-      eighth = from_third u.cpu.registers 5
-          ∙ m.volatile 8 refl (λ z. absurd (omega arith)) (λ z. absurd (omega arith));
-      ninth = from_third u.cpu.registers 6
-          ∙ m.volatile 9 refl (λ z. absurd (omega arith)) (λ z. absurd (omega arith));
+      r8 = m.volatile 8 refl (λ z. absurd (omega arith)) (λ z. absurd (omega arith));
+      r9 = m.volatile 9 refl (λ z. absurd (omega arith)) (λ z. absurd (omega arith));
       within = m.within;
       same = m.same;
     }
 
 module _ (v : MachineView) (target : ℕ) (f : Flags) (top : ℕ) (arguments : ℕ → ℕ)
-    (at : sp_of v ≡ top) (n : length v.rest ≡ 13) (regs : InRegisters v arguments) where
+    (at : sp_of v ≡ top) (regs : InRegisters v arguments) where
   pub no_frame : Made v target target f top top arguments 0
   no_frame = record {
     few = omega arith;
@@ -90,7 +76,6 @@ module _ (v : MachineView) (target : ℕ) (f : Flags) (top : ℕ) (arguments : �
     flags = f;
     comes = refl;
     stack = at;
-    count = n;
     registers = regs;
     within = within_same top top v.memory;
   }
@@ -115,12 +100,11 @@ module _ (v : MachineView) (target : ℕ) (f : Flags) (top : ℕ) (arguments : �
         flags = m.flags;
         comes = m.comes;
         stack = omega (arith, m.stack, at', deep);
-        count = m.count;
         registers = record {
           first = m.rcx ∙ regs.first;
           second = m.rdx ∙ regs.second;
-          third = m.eighth ∙ regs.third;
-          fourth = m.ninth ∙ regs.fourth;
+          third = m.r8 ∙ regs.third;
+          fourth = m.r9 ∙ regs.fourth;
         };
         within = subst (λ lo. Within lo top v.memory m.after.memory) lower
             (subst (λ hi. Within (registers (machine v target f) 4 - depth (operations_of p)) hi

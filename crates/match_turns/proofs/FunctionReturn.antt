@@ -1,14 +1,14 @@
 -- A function returns: to the body that waits for it, or out of `main`.
 use Rattle.std.proofs.Common.{◌≡◌, ◌≢◌, ℕ, ◌+◌, ◌<◌, Some, None, List, [], ◌∷◌, length, refl, sym, ap, subst, ◌∙◌, arith, length-append}
 use Rattle.std.specs.Prelude.{get_or, slice_get}
-use Rattle.std.proofs.lemmas.List.{append-nil, length-drop}
+use Rattle.std.proofs.lemmas.List.{append-nil}
 use Rattle.std.proofs.lemmas.Option.{slice_get-get_or}
-use Rattle.match_turns.specs.Words.{kept_of, W32, signed, Rsp, Context, context_of, get, State, register, distance, arrivals, Slot, LinearBody, LinearFunclet, FunctionBody, FuncletBody, body_of, funclet_body, Frame, Item, Waits, Store, Configuration, Finished, Next, with_some, read, instruction_in, left_store, end_body, act, return, Layout, return_code, MachineView, machine, HasBack, with_sp, moved, Returned, context_below, Activation, activations_below, return_of, ReturnsTo, On, store_of, on_top, IsWellFormed, AllKeep, Moves, Exits, HaveRoom, held_below, turns_left, slots_end, Setting, RepresentsAt}
+use Rattle.match_turns.specs.Words.{kept_of, W32, signed, Rsp, Context, context_of, get, State, register, distance, arrivals, Slot, LinearBody, LinearFunclet, FunctionBody, FuncletBody, body_of, funclet_body, Frame, Item, Waits, Store, Configuration, Finished, Next, with_some, read, instruction_in, left_store, end_body, act, return, Layout, return_code, MachineView, machine, HasBack, moved, Returned, context_below, Activation, activations_below, return_of, ReturnsTo, On, store_of, on_top, IsWellFormed, AllKeep, Moves, Exits, HaveRoom, held_below, turns_left, slots_end, Setting, RepresentsAt}
 use Rattle.x64_templates.specs.Runs.{Reaches}
 use Rattle.linear_code.specs.declared.instruction.Instruction.TheVariants as instructions
 use Rattle.linear_code.specs.declared.program.FuncletKind.TheVariants as kinds
 use Rattle.source_meaning.specs.declared.ended.Ended.TheVariants as ends
-use Rattle.match_turns.proofs.Lemmas.{others_of, reaches_then, sp_moved, keep_then, reaches_silently, reaches_keeps, stays_well_formed, IsCounted, v, slots, same_state, index_of}
+use Rattle.match_turns.proofs.Lemmas.{others_of, reaches_then, keep_then, reaches_silently, reaches_keeps, stays_well_formed, IsCounted, v, slots, same_state}
 use Rattle.match_stack.proofs.UnwindTargets.{left_activations}
 use Rattle.match_turns.proofs.CallResult.{IsSurrounded, answered}
 use Rattle.match_turns.proofs.CallReturn.{returns_at, resumes}
@@ -46,13 +46,7 @@ module _ (setting : Setting) (roomy : HaveRoom setting.program) where
     run = leaving.run setting roomy s c b counted from at
 
     abbrev after_view : ℕ → MachineView
-    after_view r = record {
-      rax = r;
-      rcx = view.rcx;
-      rdx = view.rdx;
-      rest = view.rest;
-      memory = view.memory;
-    }
+    after_view r = record view { rax = r }
 
     abbrev pub after : State
     after = machine (moved (after_view x) (sp + layout.frame + 8)) back run.flags
@@ -65,9 +59,7 @@ module _ (setting : Setting) (roomy : HaveRoom setting.program) where
         (leaving.result_is setting roomy s c b counted from at x reads) run.comes)
 
     sp_after : register after.cpu Rsp ≡ sp + layout.frame + 8
-    sp_after = sym (index_of (with_sp view.rest (sp + layout.frame + 8)) 1)
-        ∙ sp_moved view (sp + layout.frame + 8)
-        (length-drop 3 s.cpu.registers ∙ (let k = b.well_formed.count in omega arith))
+    sp_after = refl
 
     others_after : others_of after.cpu.registers ≡ b.body.others
     others_after = subst (λ r. others_of (machine (moved (after_view r) (sp + layout.frame + 8)) back

@@ -14,10 +14,9 @@ pub use Rattle.x64_templates.proofs.Flows.{keep_flow}
 pub use Rattle.x64_templates.proofs.FuncletEntries.{pointers_kept, flag_run}
 pub use Rattle.x64_templates.proofs.Funclets.{HasCell, keeps_of_cell, base_kept}
 pub use Rattle.x64_templates.proofs.Information.{information_run, field_number}
-pub use Rattle.x64_templates.proofs.Keeping.{index_other}
 pub use Rattle.x64_templates.proofs.Parameters.{kept_at, keeps_register}
 pub use Rattle.x64_templates.proofs.PlacedCode.{reaches_then, bytes_kept, same_number, all_may, enters_then, bytes_split, spells, reads, load_at}
-pub use Rattle.x64_templates.proofs.Returns.{sp_moved, return_run, call_ends}
+pub use Rattle.x64_templates.proofs.Returns.{return_run, call_ends}
 pub use Rattle.x64_templates.proofs.Services.{thunk_reaches, pushed_thunk}
 pub use Rattle.x64_templates.proofs.Straight.{executes_then, executes_nothing, executes_one}
 pub use Rattle.x64_templates.proofs.Unwinds.{with_two, FinallyCalled, finally_begins, local_unwind_begins}
@@ -33,7 +32,7 @@ pub use Rattle.match_stack.proofs.ListKeeping.{reads_other, kept_by_other_memori
 pub use Rattle.match_bodies.proofs.ActivationPlaces.{locals_count, got_before, got_last, activations_are_at}
 pub use Rattle.match_bodies.proofs.ActivationStores.{same_activations, activated}
 pub use Rattle.match_bodies.proofs.BodyCallers.{gives_caller, begin_finds}
-pub use Rattle.match_bodies.proofs.BodyFrames.{body_owed, frame_from, frame_owed, frame_stays, frame_with, small_others}
+pub use Rattle.match_bodies.proofs.BodyFrames.{body_owed, frame_from, frame_owed, frame_stays, frame_with, slots_within, small_others}
 pub use Rattle.match_bodies.proofs.BodyResumption.{IsFront, waits_in_body, frame_size, all_front, no_front}
 pub use Rattle.match_bodies.proofs.BodyViews.{IsCounted, sp_low, frame_top, room_here, holds_here, slots_here, AsFunction, AsFunclet, kind, is_machine, locals_here}
 pub use Rattle.match_bodies.proofs.CallKeeping.{calls_keep, CalleeBegins, callee_begins, thunk_keeps}
@@ -57,7 +56,7 @@ pub use Rattle.match_bodies.proofs.StackWalks.{on_stack, stack_rises, keep_then}
 pub use Rattle.match_bodies.proofs.StackWords.{may_read_written, word_is, word_of}
 pub use Rattle.match_bodies.proofs.StepNeeds.{some_is, counted_here, code_at, label_in, body_there, owned_count, leaf_or_funclet, owner_waits, ready_here, held_here, goes_inside, around_here}
 pub use Rattle.match_bodies.proofs.TemplateKeeping.{information_keeps, finish_keeps, operands_keep}
-pub use Rattle.match_bodies.proofs.TemplateRuns.{v, frame, slots, same_state, template_here, has_slots, sp_is, index_of, next_address, base, code, y, silent_at, dropped, Surroundings, each, get_or_is, sp_seen}
-pub use Rattle.match_bodies.proofs.TemplateShadows.{kept_by_rest, is_here, is_after, ends_at, RunsKeep, one_piece, caller_here, beyond_here, ends_gives, IsPast, past_ends, kept_here, Below}
+pub use Rattle.match_bodies.proofs.TemplateRuns.{v, frame, slots, same_state, template_here, has_slots, sp_is, next_address, base, code, y, silent_at, Surroundings, each, get_or_is}
+pub use Rattle.match_bodies.proofs.TemplateShadows.{kept_by_view, kept_alike, is_here, is_after, ends_at, RunsKeep, one_piece, caller_here, beyond_here, ends_gives, IsPast, past_ends, kept_here, Below}
 pub use Rattle.match_bodies.proofs.TemplateSizes.{template_some, first_in_code, address_next}
 pub use Rattle.match_bodies.proofs.TemplateSlots.{Leaves}

@@ -60,7 +60,6 @@ pub mod ServiceTurns
 pub mod WalkTurn
 pub mod ServiceSteps
 pub mod WaitingBodies
-pub mod KeptRegisters
 pub mod BodySavedState
 pub mod BuiltInRequest
 pub mod RaiseCall

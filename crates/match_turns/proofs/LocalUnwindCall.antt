@@ -1,9 +1,7 @@
 -- A local unwind: the host is asked with the body's own frame and the label's address, and saves
 -- the state after the call.
-use Rattle.match_turns.proofs.KeptRegisters.{kept_back_set}
 use Rattle.std.proofs.Common.{◌≡◌, ℕ, zero, ◌+◌, ◌-◌, ◌%◌, ◌^◌, ◌<◌, ◌≤◌, Bool, true, false, List, [], ◌∷◌, length, Option, Some, None, Ok, refl, sym, ap, subst, ◌∙◌, arith, inl, length-set}
 use Rattle.std.specs.Prelude.{slice_get}
-use Rattle.std.proofs.lemmas.List.{length-drop}
 use Rattle.std.proofs.lemmas.Option.{slice_get_within}
 use Rattle.match_turns.specs.Words.{kept_of, W64, IMAGE_BASE, IMAGE_RANGE_END, STACK_START, STACK_END, address_of, Memory, loaded, Rcx, Rsp, Instr, Context, Cpu, context_of, State, register, Functions, Funclet, arrived, unwound_locally, Local, Instruction, LinearProgram, LinearBody, Frame, Item, Waits, Configuration, body_of, local_unwind, act, instruction_at, exec, Layout, size, sizes, move, IsNear, MachineView, machine, pushed, HasCode, StackItem, Framed, Leaf, ImagePlan, InCode, Activation, SameRegions, Aimed, Linked, AimedHere, KeepsAbove, IsWellFormed, AllKeep, Comes, HasRule, IsMatched, LandsWell, callers, links_of, turns_left, IsWellMade, IsKnown, KnownNext, turns_per_step, FlagsFit, NoneLanded, Setting, setting_of, InBody, IsMachineMemory, IsResumed, RepresentsAt, Represents, modrm, address_to, local_unwind_code, LocalUnwindsAreMatched}
 use Rattle.x64_templates.specs.Runs.{Reaches}
@@ -240,7 +238,7 @@ module _ (setting : Setting) (made : IsWellMade setting.program setting.plan)
     abbrev before : List Instr
     before = move W64 Rcx Rsp ∷ address_to (place + 10) target ∷ []
 
-    plain : AllPlain y.frame y.frame 8 before
+    plain : AllPlain y.slots y.frame 8 before
     plain = ((refl, inl refl), ((short (place + 10) target near_target, inl refl), tt))
 
     before_size : place + sizes before + 5 ≡ back
@@ -288,27 +286,24 @@ module _ (setting : Setting) (made : IsWellMade setting.program setting.plan)
 
     -- ---- the state that is saved
 
-    many : length given.rest ≡ 13
-    many = length-drop 3 s.cpu.registers ∙ (let k = b.well_formed.count in omega arith)
-
     abbrev saved : Cpu
     saved = pushing.saved given sp back low_enough high_enough b.memory.data_alone b.memory.stack
-        service s.cpu.flags back_small many
+        service s.cpu.flags back_small
 
     returns : loaded state.memory (register state.cpu Rsp) W64 ≡ Ok back
     returns = pushing.returns_there given sp back low_enough high_enough b.memory.data_alone
-        b.memory.stack service s.cpu.flags back_small many
+        b.memory.stack service s.cpu.flags back_small
 
     sp_saved : register saved Rsp ≡ sp
     sp_saved = pushing.sp_saved given sp back low_enough high_enough b.memory.data_alone
-        b.memory.stack service s.cpu.flags back_small many
+        b.memory.stack service s.cpu.flags back_small
 
     sp_there : register state.cpu Rsp ≡ sp - 8
     sp_there = pushing.sp_there given sp back low_enough high_enough b.memory.data_alone
-        b.memory.stack service s.cpu.flags back_small many
+        b.memory.stack service s.cpu.flags back_small
 
     registers_saved : kept_of saved.registers ≡ kept_of s.cpu.registers
-    registers_saved = kept_back_set s.cpu.registers (sp - 8) _ sp sp_there sp_saved
+    registers_saved = ap (λ x. x ∷ others_of s.cpu.registers) sp_saved
 
     well_formed_saved : IsWellFormed (record { cpu = saved; memory = state.memory })
     well_formed_saved =
@@ -375,7 +370,7 @@ module _ (setting : Setting) (made : IsWellMade setting.program setting.plan)
         let h = high_enough in
         let l = low_enough in
         let there = pushing.sp_there given sp back low_enough high_enough b.memory.data_alone
-        b.memory.stack service s.cpu.flags back_small many in
+        b.memory.stack service s.cpu.flags back_small in
         let walk =
         service_walk setting state service back asks.is refl (omega arith) (omega arith)
         (λ e. absurd (omega arith)) (λ e. absurd (omega arith)) returns well_formed.count

@@ -6,7 +6,7 @@ use Rattle.std.proofs.lemmas.Option.{slice_get_within}
 use Rattle.match_turns.specs.Words.{Memory, Rax, Rcx, Instr, State, register, Gives, Operation, Slot, Temporary, Layout, Instruction, BodyState, with_slot, HasSlots, LinearBody, Configuration, Next, act, written, exec, sizes, operands_code, finish_code, machine, ReachesBody, FramePlace, locals_of, AllKeep, Comes, HasRule, Moves, turns_left, IsWellMade, IsKnown, seen_by_templates, counts_of, with_values, ComesTo, Setting, RepresentsAt, WorksOn}
 use Rattle.linear_code.specs.declared.instruction.Instruction.TheVariants as instructions
 use Rattle.linear_machine.specs.Frames as linear
-use Rattle.match_turns.proofs.Lemmas.{compute_length, reaches_silently, locals_count, activated, IsCounted, is_machine, Keeps, reaches_keeps, stays_well_formed, Leaves, further, Ran, represents_next, kept_by_rest, is_here, is_after, ends_at, RunsKeep, finish_keeps, Surroundings, has_slots, next_address, silent_at, locals_after, temporaries_after, FitsAfter, one_more, at_other, label_small, stored, writes, fits_when_read, leaves_stored, held_here, goes_inside}
+use Rattle.match_turns.proofs.Lemmas.{compute_length, reaches_silently, locals_count, activated, IsCounted, is_machine, Keeps, reaches_keeps, stays_well_formed, Leaves, further, Ran, represents_next, is_here, is_after, ends_at, RunsKeep, finish_keeps, Surroundings, has_slots, next_address, silent_at, locals_after, temporaries_after, FitsAfter, one_more, at_other, label_small, stored, writes, fits_when_read, leaves_stored, held_here, goes_inside, kept_by_view}
 use Rattle.x64_templates.specs.Runs.{Finished}
 use Rattle.match_bodies.proofs.BodyViews.{placed}
 use Rattle.match_turns.proofs.OperationMeaning.{acts_as}
@@ -72,7 +72,8 @@ module _ (setting : Setting) (made : IsWellMade setting.program setting.plan)
         omega arith
 
     module _ (n label rip : ℕ) (d : BodyState) (values ts : List ℕ) (landed : Option ℕ)
-        (r : ReachesBody here n s rip (seen_by_templates s).rest d)
+        (r : ReachesBody here n s rip (seen_by_templates s).rest
+        (seen_by_templates s).locals d)
         (at : rip ≡ p.address c.frame.body label) (lt : label < length body.code)
         (small : rip < 2 ^ 64)
         (leaves : Leaves body d values ts) (nothing : landed ≡ None)
@@ -95,7 +96,7 @@ module _ (setting : Setting) (made : IsWellMade setting.program setting.plan)
           };
         };
         holds = r.holds;
-        kept = kept_by_rest r.after.rest s.cpu.registers r.rest;
+        kept = kept_by_view r.after s.cpu.registers r.rest r.locals;
         leaves = leaves;
       }
 
@@ -103,7 +104,7 @@ module _ (setting : Setting) (made : IsWellMade setting.program setting.plan)
       keeps_shadow : AllKeep t fs n s
       keeps_shadow =
           keep u r.comes (ends_at setting old c begins counted u label at lt
-          (kept_by_rest r.after.rest s.cpu.registers r.rest)
+          (kept_by_view r.after s.cpu.registers r.rest r.locals)
           (is_after setting old c begins counted u d values ts ran around.caller around.owner))
 
       silently : Comes t fs n s [] u
@@ -156,10 +157,11 @@ module _ (setting : Setting) (made : IsWellMade setting.program setting.plan)
       after = record { slots = with_slot now.slots to value; memory = m }
 
       run : ReachesBody here (length finish) s (s.cpu.rip + sizes finish) (seen_by_templates s).rest
+          (seen_by_templates s).locals
           after
       run =
           subst (λ x. ReachesBody here (length finish) x (s.cpu.rip + sizes finish)
-          (seen_by_templates s).rest after) (sym (is_machine s w.well_formed.count))
+          (seen_by_templates s).rest (seen_by_templates s).locals after) (sym (is_machine s w.well_formed.count))
           (subst (λ x. Finished here o to (seen_by_templates s) s.cpu.rip s.cpu.flags
           now x) (inside.same_outcome setting made s c w known (Gives value m) gives)
           (inside.made_here setting made s c w known))
@@ -203,7 +205,7 @@ module _ (setting : Setting) (made : IsWellMade setting.program setting.plan)
             rip = w.again.here;
             registers = refl;
             is_there = is_here setting old c begins counted;
-          }) refl refl
+          }) refl refl refl
           (record { protection = refl; fixed = λ a f. refl; count = refl; small = λ h. h })
           (register s.cpu Rax) (register s.cpu Rcx) value m
           (inside.first_small setting made s c w known)

@@ -4,7 +4,7 @@ use Rattle.std.specs.Prelude.{slice_get}
 use Rattle.match_turns.specs.Words.{Memory, Rax, Rcx, Instr, kept_of, State, distance, arrivals, Operation, Slot, Temporary, Instruction, HasSlots, LinearBody, Configuration, is_constant, instruction_at, Layout, sizes, fetch, operands_code, finish_code, machine, InCode, IsWellFormed, AllKeep, Comes, LeadsTo, view_of, WorksAgain, IsWellMade, IsKnown, counts_of, Setting, setting_of, RepresentsAt, WorksOn, before, fetch_turns, OperandsAreFetched}
 use Rattle.x64_templates.specs.Runs.{Reaches}
 use Rattle.linear_code.specs.declared.instruction.Instruction.TheVariants as instructions
-use Rattle.match_turns.proofs.Lemmas.{before_length, code_split, Begun, operands_run, reaches_silently, IsCounted, room_here, holds_here, kept_by_rest, is_here, operands_keep, code, frame, slots, v, same_state, template_here, has_slots, next_address, sp_is, Surroundings, reaches_keeps, stays_well_formed, is_read, counted_here, around_here, code_at, ready_here}
+use Rattle.match_turns.proofs.Lemmas.{before_length, code_split, Begun, operands_run, reaches_silently, IsCounted, room_here, holds_here, is_here, operands_keep, code, frame, slots, v, same_state, template_here, has_slots, next_address, sp_is, Surroundings, reaches_keeps, stays_well_formed, is_read, counted_here, around_here, code_at, ready_here, kept_by_view}
 use Rattle.lowering_invariants.specs.Ready as ready
 use Rattle.match_turns.proofs.OperationCode.{some_finish, whole_size, finish_is_at, silent_within}
 use Rattle.match_turns.proofs.OperationInProgress.{in_body_at, ready_same}
@@ -66,24 +66,12 @@ module _ (setting : Setting) (made : IsWellMade setting.program setting.plan)
 
   -- the state that is reached, in the same memory
   abbrev u : State
-  u = machine (record {
-    rax = begun.stopped.rax;
-    rcx = begun.stopped.rcx;
-    rdx = begun.stopped.rdx;
-    rest = begun.stopped.rest;
-    memory = s.memory;
-  }) (s.cpu.rip + sizes ops) begun.left
+  u = machine (record begun.stopped { memory = s.memory }) (s.cpu.rip + sizes ops) begun.left
 
   comes : Reaches n s u
   comes =
       subst (λ (m : Memory). Reaches n s (machine
-      (record {
-        rax = begun.stopped.rax;
-        rcx = begun.stopped.rcx;
-        rdx = begun.stopped.rdx;
-        rest = begun.stopped.rest;
-        memory = m;
-      }) (s.cpu.rip + sizes ops) begun.left)) begun.memory
+      (record begun.stopped { memory = m }) (s.cpu.rip + sizes ops) begun.left)) begun.memory
       (subst (λ (x : State). Reaches n x (machine begun.stopped (s.cpu.rip + sizes ops) begun.left))
       (sym (same_state setting made.room s c b counted)) begun.comes)
 
@@ -116,7 +104,7 @@ module _ (setting : Setting) (made : IsWellMade setting.program setting.plan)
   well_formed = stays_well_formed s u (reaches_keeps n s u comes) small b.well_formed
 
   registers : kept_of u.cpu.registers ≡ kept_of s.cpu.registers
-  registers = kept_by_rest begun.stopped.rest s.cpu.registers begun.rest
+  registers = kept_by_view begun.stopped s.cpu.registers begun.rest begun.locals
 
   -- the operands are the temporaries
   has_temporary : (i x : ℕ) → (slots setting made.room s c b counted).slots (Temporary i) ≡ x

@@ -1,8 +1,7 @@
 -- A return address is put below the stack pointer.
-use Rattle.std.proofs.Common.{◌≡◌, ℕ, ◌+◌, ◌-◌, ◌%◌, ◌^◌, ◌<◌, ◌≤◌, true, false, length, set, Option, Ok, refl, ap, ◌∙◌, arith, inl, inr}
+use Rattle.std.proofs.Common.{◌≡◌, ℕ, ◌+◌, ◌-◌, ◌%◌, ◌^◌, ◌<◌, ◌≤◌, true, false, Option, Ok, refl, ap, ◌∙◌, arith, inl, inr}
 use Rattle.std.specs.Prelude.{◌⊎◌}
 use Rattle.std.proofs.lemmas.Bool.{cases_lt}
-use Rattle.std.proofs.lemmas.List.{get_or-set_same, length-set}
 use Rattle.match_turns.specs.Words.{W64, STACK_START, STACK_END, may_read, may_write, number_at, with_number, access, loaded, Rsp, Cpu, Flags, State, register, back, KeepsAbove, IsData, IsUntouched, MachineView, machine, pushed, HasBelow, HasBack}
 use Rattle.match_turns.proofs.Lemmas.{all_may, beside, pushed_back, pushed_bytes}
 
@@ -49,12 +48,12 @@ module _ (v : MachineView) (sp ret : ℕ) (low : STACK_START + 8 ≤ sp) (high :
 
   -- ---- the service returns there
 
-  module _ (rip : ℕ) (flags : Flags) (small : ret < 2 ^ 64) (many : length v.rest ≡ 13) where
+  module _ (rip : ℕ) (flags : Flags) (small : ret < 2 ^ 64) where
     abbrev pub there : State
     there = machine (pushed v sp ret) rip flags
 
     pub sp_there : register there.cpu Rsp ≡ sp - 8
-    sp_there = get_or-set_same v.rest 1 (sp - 8) 0 (omega arith)
+    sp_there = refl
 
     pub returns_there : loaded there.memory (register there.cpu Rsp) W64 ≡ Ok ret
     returns_there =
@@ -70,6 +69,4 @@ module _ (v : MachineView) (sp ret : ℕ) (low : STACK_START + 8 ≤ sp) (high :
 
     pub sp_saved : register saved Rsp ≡ sp
     sp_saved =
-        let e : (register there.cpu Rsp + 8) % 2 ^ 64 % 2 ^ 64 ≡ sp = omega (arith, sp_there) in
-        get_or-set_same (set v.rest 1 (sp - 8)) 1 ((register there.cpu Rsp + 8) % 2 ^ 64 % 2 ^ 64) 0
-        (omega (arith, length-set v.rest 1 (sp - 8))) ∙ e
+        let e : (sp - 8 + 8) % 2 ^ 64 % 2 ^ 64 ≡ sp = omega arith in e

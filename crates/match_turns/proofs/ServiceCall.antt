@@ -1,8 +1,7 @@
 -- A body calls a service: the service is reached, with the arguments in RCX and RDX.
-use Rattle.std.proofs.Common.{◌≡◌, ℕ, zero, suc, ◌+◌, ◌^◌, ◌<◌, ◌≤◌, List, [], ◌∷◌, length, set, Some, Ok, refl, sym, subst, ◌∙◌, arith, length-drop}
+use Rattle.std.proofs.Common.{◌≡◌, ℕ, zero, suc, ◌+◌, ◌^◌, ◌<◌, ◌≤◌, List, [], ◌∷◌, Some, Ok, refl, sym, subst, arith}
 use Rattle.std.specs.Prelude.{slice_get}
 use Rattle.std.proofs.lemmas.Bool.{ne_eqb}
-use Rattle.std.proofs.lemmas.List.{length-set}
 use Rattle.match_turns.specs.Words.{opcode_register, IMAGE_BASE, IMAGE_RANGE_END, STACK_START, STACK_END, address_of, W64, loaded, Rsp, Flags, State, register, BuiltIn, Put, Protect, RaiseException, Walk, Temporary, Instruction, BodyState, Configuration, Layout, size, sizes, keep, IsNear, call, return_at, begin_call, call_code, clear_result, template_size, body_size, offset_of, MachineView, machine, pushed, HasCode, IsLive, Comes, HaveRoom, service_of, CallsBuiltIn, Setting, RepresentsAt, arguments_code}
 use Rattle.x64_templates.specs.Runs.{Reaches}
 use Rattle.linear_code.specs.declared.instruction.Instruction.TheVariants as instructions
@@ -77,13 +76,6 @@ module _ (setting : Setting) (roomy : HaveRoom setting.program) where
       abbrev pub given : MachineView
       given = with_arguments_of view numbers first
 
-      pub many : length given.rest ≡ 13
-      many =
-          let x = numbers.slots (Temporary (first + 2)) in
-          let z = numbers.slots (Temporary (first + 3)) in
-          length-set (set view.rest 5 x) 6 z ∙ length-set view.rest 5 x
-          ∙ length-drop 3 s.cpu.registers ∙ (let k = b.well_formed.count in omega arith)
-
       -- the next instruction begins after the result is kept
       pub next_is : p.address c.frame.body (c.frame.next + 1)
           ≡ back + sizes (keep layout (Temporary first))
@@ -155,7 +147,7 @@ module _ (setting : Setting) (roomy : HaveRoom setting.program) where
 
       pub returns : loaded at_service.memory (register at_service.cpu Rsp) W64 ≡ Ok back
       returns = returns_there given sp back (let l = low in omega arith) top b.memory.data_alone
-          b.memory.stack service flags_there back_small many
+          b.memory.stack service flags_there back_small
 
       -- after the call the result is kept
       pub code_after : HasCode s.memory back (keep layout (Temporary first))

@@ -1,20 +1,19 @@
 -- A service returns: its result goes to the temporary of the first argument, and the next
 -- instruction begins.
-use Rattle.std.proofs.Common.{◌≡◌, ℕ, zero, suc, ◌+◌, ◌-◌, ◌%◌, ◌^◌, ◌<◌, ◌≤◌, false, List, [], ◌∷◌, ◌++◌, length, take, drop, set, Option, Some, None, refl, sym, ap, subst, ◌∙◌, arith}
+use Rattle.std.proofs.Common.{◌≡◌, ℕ, zero, suc, ◌+◌, ◌-◌, ◌%◌, ◌^◌, ◌<◌, ◌≤◌, false, List, [], ◌∷◌, ◌++◌, length, take, set, Option, Some, None, refl, sym, ap, subst, ◌∙◌, arith}
 use Rattle.std.specs.Prelude.{slice_get}
-use Rattle.std.proofs.lemmas.List.{append-nil, length-set}
+use Rattle.std.proofs.lemmas.List.{append-nil}
 use Rattle.std.proofs.lemmas.Option.{slice_get_within}
-use Rattle.match_turns.specs.Words.{Event, Memory, Rsp, Instr, Context, kept_of, State, register, distance, arrivals, Continues, turn, BuiltIn, Temporary, BodyState, with_slot, LinearBody, Configuration, Next, act, sizes, keep, call, return_at, begin_call, clear_result, MachineView, machine, AreSmall, sp_of, ReachesBody, locals_of, KeepsAbove, KeepsStack, WalkGives, KeepsShadow, AllKeep, Comes, Moves, HaveRoom, turns_left, counts_of, with_values, OwnerHasFrame, Setting, HasProgram, IsMachineMemory, RepresentsAt, arguments_code}
+use Rattle.match_turns.specs.Words.{Event, Memory, Rsp, Instr, Context, kept_of, State, register, distance, arrivals, Continues, turn, BuiltIn, Temporary, BodyState, with_slot, LinearBody, Configuration, Next, act, sizes, keep, call, return_at, begin_call, clear_result, MachineView, machine, AreSmall, sp_of, with_sp, ReachesBody, locals_of, KeepsAbove, KeepsStack, WalkGives, KeepsShadow, AllKeep, Comes, Moves, HaveRoom, turns_left, counts_of, with_values, OwnerHasFrame, Setting, HasProgram, IsMachineMemory, RepresentsAt, arguments_code}
 use Rattle.linear_code.specs.declared.instruction.Instruction.TheVariants as instructions
 use Rattle.linear_machine.specs.Frames as linear
-use Rattle.match_turns.proofs.Lemmas.{sizes_append, call_size, call_ends, keep_flow, comes_then, silent_here, reaches_silently, program_reaches, locals_count, same_activations, IsCounted, room_here, holds_here, locals_here, Keeps, keeps_then, reaches_keeps, stays_well_formed, Ran, represents_next, kept_by_rest, caller_here, beyond_here, is_here, is_after, ends_at, ends_gives, IsPast, one_piece, past_ends, frame, slots, has_slots, silent_at, dropped, Surroundings, one_more, label_small, leaves_stored}
+use Rattle.match_turns.proofs.Lemmas.{sizes_append, call_size, call_ends, keep_flow, comes_then, silent_here, reaches_silently, program_reaches, locals_count, same_activations, IsCounted, room_here, holds_here, locals_here, Keeps, keeps_then, reaches_keeps, stays_well_formed, Ran, represents_next, kept_alike, others_of, caller_here, beyond_here, is_here, is_after, ends_at, ends_gives, IsPast, one_piece, past_ends, frame, slots, has_slots, silent_at, Surroundings, one_more, label_small, leaves_stored}
 use Rattle.match_bodies.proofs.BodyViews.{placed}
 use Rattle.match_turns.proofs.BuiltInRequest.{clear_size}
 use Rattle.match_turns.proofs.ReturnAddressPush.{keeps_above, sp_there as returned_sp, sp_saved}
 use Rattle.match_turns.proofs.BodyOtherMemory.{elsewhere, source_elsewhere, represents_elsewhere, same_activations as same_acts, same_code}
-use Rattle.match_turns.proofs.ServiceCall.{sp, given, back, at_service, flags_there, low, top, many, next_is, back_small, reaches, comes_there, live_there, returns, code_after}
+use Rattle.match_turns.proofs.ServiceCall.{sp, given, back, at_service, flags_there, low, top, next_is, back_small, reaches, comes_there, live_there, returns, code_after}
 use Rattle.match_turns.proofs.ServiceShadow.{is_elsewhere, service_keeps}
-use Rattle.match_turns.proofs.KeptRegisters.{set_back, saved_kept}
 
 -- numbers of 64 bits, with another of 64 bits among them
 small_set : (xs : List ℕ) (i v : ℕ) → AreSmall xs → v < 2 ^ 64 → AreSmall (set xs i v)
@@ -58,13 +57,7 @@ module _ (setting : Setting) (roomy : HaveRoom setting.program) where
 
     -- the state after the service, by its result and the memory that it leaves
     abbrev pub view_after : ℕ → Memory → MachineView
-    view_after x m = record {
-      rax = x;
-      rcx = with_given.rcx;
-      rdx = with_given.rdx;
-      rest = set (set with_given.rest 1 (called_from - 8)) 1 sp_after;
-      memory = m;
-    }
+    view_after x m = record with_given { rax = x; rest = with_sp with_given.rest sp_after; memory = m }
 
     abbrev pub returned_to : ℕ → Memory → State
     returned_to x m = machine (view_after x m) to (flags_there setting roomy s c b counted f first
@@ -94,7 +87,6 @@ module _ (setting : Setting) (roomy : HaveRoom setting.program) where
         (top setting roomy s c b counted f first at) b.memory.data_alone b.memory.stack
         there.cpu.rip there.cpu.flags
         (back_small setting roomy s c b counted f first at)
-        (many setting roomy s c b counted f first at)
 
     module _ (x : ℕ) (x_small : x < 2 ^ 64) (m source : Memory) (events : List Event)
         (keeps : KeepsStack memory_there m called_from)
@@ -162,7 +154,7 @@ module _ (setting : Setting) (roomy : HaveRoom setting.program) where
 
       -- the result is kept
       pub run : ReachesBody (frame setting roomy earlier calling begins counted) 1 (returned_to x m)
-          rip (view_after x m).rest d
+          rip (view_after x m).rest (view_after x m).locals d
       run =
           let r = room_slots in
           call_ends (frame setting roomy earlier calling begins counted) (Temporary first)
@@ -182,26 +174,11 @@ module _ (setting : Setting) (roomy : HaveRoom setting.program) where
       given_small h =
           let k = (reaches_keeps 7 s there (reaches setting roomy s c b counted f first at)).small h
           in
-          let after_rax = k.1 in
-          let after_rcx = after_rax.1 in (
-            x_small,
-            (
-              after_rax.0,
-              (
-                after_rcx.0,
-                small_set (set with_given.rest 1 (called_from - 8)) 1 sp_after after_rcx.1
-                    (omega arith),
-              ),
-            ),
-          )
+          small_set (set there.cpu.registers 0 x) 4 sp_after
+          (small_set there.cpu.registers 0 x k x_small) (omega arith)
 
       as_many : length u.cpu.registers ≡ length s.cpu.registers
-      as_many =
-          let n = many setting roomy s c b counted f first at in
-          let e = length-set (set with_given.rest 1 (called_from - 8)) 1 sp_after in
-          let g = length-set with_given.rest 1 (called_from - 8) in
-          let k = b.well_formed.count in
-          omega arith
+      as_many = sym b.well_formed.count
 
       keeps_registers : Keeps earlier after
       keeps_registers =
@@ -214,12 +191,10 @@ module _ (setting : Setting) (roomy : HaveRoom setting.program) where
 
       -- RSP and the nonvolatile registers are those of the body before the call
       kept_back : kept_of u.cpu.registers ≡ kept_of s.cpu.registers
-      kept_back = saved_kept (drop 3 s.cpu.registers) _ _ (called_from - 8) sp_after called_from
-          (sp_is x m) (sym (dropped s.cpu.registers))
-          ∙ kept_by_rest (drop 3 s.cpu.registers) s.cpu.registers refl
+      kept_back = ap (λ r. r ∷ others_of s.cpu.registers) (sp_is x m)
 
       kept_after : kept_of after.cpu.registers ≡ kept_of s.cpu.registers
-      kept_after = ap (λ (rest : List ℕ). kept_of (0 ∷ 0 ∷ 0 ∷ rest)) run.rest ∙ kept_back
+      kept_after = kept_alike run.after (view_after x m) run.rest run.locals ∙ kept_back
 
       abbrev values : List ℕ
       values = linear.locals_of c.store c.frame.activation
@@ -352,7 +327,6 @@ module _ (setting : Setting) (roomy : HaveRoom setting.program) where
           (let l = low setting roomy s c b counted f first at in omega arith)
           (top setting roomy s c b counted f first at) b.memory.data_alone b.memory.stack
           there.cpu.rip there.cpu.flags (back_small setting roomy s c b counted f first at)
-          (many setting roomy s c b counted f first at)
 
       pub keeps_served : KeepsShadow t fs there u
       keeps_served =
@@ -362,8 +336,7 @@ module _ (setting : Setting) (roomy : HaveRoom setting.program) where
           let e : register u.cpu Rsp ≡ called_from = sp_is x m in
           let up : called_from ≡ register there.cpu Rsp + 0 + 8 = omega arith in
           let same = ap (λ (ks : List ℕ). let k : Context = record { rip = to; kept = ks } in k)
-          (set_back (set with_given.rest 1 (called_from - 8)) sp_after
-          (register there.cpu Rsp + 0 + 8) (e ∙ up)) in
+          (ap (λ r. r ∷ others_of s.cpu.registers) (e ∙ up)) in
           service_keeps setting f there u to caller callers refl
           (returns setting roomy s c b counted f first at) (omega arith) same
           (gives_by memory_there keeps_there program_there) (gives_by m keeps_all memory.code)

@@ -8,7 +8,6 @@ use Rattle.match_turns.specs.ServiceLaws.{InformationIsMatched, PutsAreMatched, 
 use Rattle.match_turns.proofs.ServiceTurns.{put_step, protect_step}
 use Rattle.match_turns.proofs.BuiltInRequest as asking
 use Rattle.match_turns.proofs.BuiltInShadow.{calls_it}
-use Rattle.match_turns.proofs.HostRequest.{Asks}
 use Rattle.match_turns.proofs.WalkTurn.{walk_step}
 use Rattle.match_turns.proofs.FilterInformationStep.{information_step}
 

@@ -1,8 +1,7 @@
 -- The host's turn at `walk`, and the step of linear code that it matches.
-use Rattle.std.proofs.Common.{◌≡◌, ℕ, ◌+◌, ◌^◌, ◌<◌, ◌≤◌, false, List, [], ◌∷◌, ◌++◌, length, map, Some, None, Ok, refl, sym, ap, ◌∙◌, arith}
+use Rattle.std.proofs.Common.{◌≡◌, ℕ, ◌+◌, ◌<◌, ◌≤◌, false, List, [], ◌∷◌, ◌++◌, length, map, Some, None, Ok, refl, ap, ◌∙◌, arith}
 use Rattle.std.specs.Prelude.{Result, slice_get}
-use Rattle.std.specs.List.{filter_map}
-use Rattle.match_turns.specs.Words.{W64, Event, address_of, RefusedAccess, Memory, loaded, Rsp, Context, context_of, State, register, rsp, Functions, Funclet, Turn, Continues, arrived, back, returned, turn, BuiltIn, Walk, Temporary, LinearProgram, Item, Waits, Configuration, Next, waiting, act, StackItem, Activation, On, Moves, HaveRoom, turns_left, Setting, RepresentsAt}
+use Rattle.match_turns.specs.Words.{W64, Event, address_of, RefusedAccess, loaded, Rsp, context_of, State, register, Functions, Funclet, Continues, arrived, back, returned, turn, Walk, Item, Waits, Configuration, Next, waiting, act, StackItem, Activation, On, Moves, HaveRoom, turns_left, Setting, RepresentsAt}
 use Rattle.std.proofs.lemmas.List.{append-nil}
 use Rattle.source_meaning.specs.State.{walk_events}
 use Rattle.linear_machine.specs.Frames.{functions_in}

@@ -74,7 +74,7 @@ pub use Rattle.x64_templates.specs.Exceptions.{IsField, field_width, MayRead}
 pub use Rattle.x64_templates.specs.Frames.{Agrees, slot_at, IsBytes, MemoryKeepsBase, HasBase, InTemporaries, InLocals, KeepsReserved, SlotsHaveRoom}
 pub use Rattle.x64_templates.specs.Returned.{Returned, CallBegun}
 pub use Rattle.x64_templates.specs.Runs.{HasCode, FramePlace, Roomy, FrameHolds, ReachesBody, IsThere, Enters, Steps}
-pub use Rattle.x64_templates.specs.Straight.{MachineView, machine, Executes, takes_frame, AreSmall}
+pub use Rattle.x64_templates.specs.Straight.{OtherRegisters, registers_of, MachineView, machine, Executes, takes_frame, AreSmall}
 pub use Rattle.virtual_unwind.specs.CallerOf.{Functions, distance}
 pub use Rattle.virtual_unwind.specs.Contexts.{get, rsp}
 pub use Rattle.virtual_unwind.specs.Undone.{readable}

@@ -49,9 +49,9 @@ use Rattle.image_tables.specs.Functions.{plan, function_of}
 use Rattle.image_tables.specs.RoutinePlaces.{Placed, end_of, site_of, placed_from, infos_begin, placed, routines_begin, probe_begin}
 use Rattle.image_tables.specs.RegionRanges.{HasRegions}
 use Rattle.image_tables.proofs.CodeInMemory.{there}
-use Rattle.image_tables.proofs.FrameRules.{one_code, sizes as frame_sizes, right, is_there}
+use Rattle.image_tables.proofs.FramePlans.{one_code, prologue_some}
+use Rattle.image_tables.proofs.FrameRules.{sizes as frame_sizes, right, is_there}
 use Rattle.image_tables.proofs.ImageText.{images_have_text}
-use Rattle.image_tables.proofs.Infos.{taking_few}
 use Rattle.image_tables.proofs.Prologues.{entry_least}
 use Rattle.image_tables.proofs.Table.{tables_are_read}
 use Rattle.seh.proofs.FrontThunks.{probe_after}
@@ -132,11 +132,8 @@ module _ (p : LinearProgram) (fits : FitsProgram p) (b : IsBounded (image_of (li
     is_right : IsRightEntry (entry_in checked (entry_of (site_of p) x f)) (function_of p x f)
     is_right =
         let h = there p index x fits framed.there in
-        let some = frame_sizes p index x f framed in
-        let most = some.1 in
-        let few = taking_few f.size some.0 (omega arith) in
-        let least = few.0 in
-        let entry = entry_least x.routine f h.near framed.framed some.0 in
+        let some = prologue_some f (frame_sizes p index x f framed) in
+        let entry = entry_least x.routine f h.near framed.framed in
         let low = end_low in
         record {
           info = refl;

@@ -15,7 +15,6 @@ use Rattle.frame_rules.proofs.Bytes.{items_are_at}
 use Rattle.host_layout.specs.declared.imported.ImportedService.{ImportedService}
 use Rattle.linear_code.specs.Program.{LinearProgram}
 use Rattle.template_code.specs.Bytes.{spelled}
-use Rattle.template_code.specs.Jumps.{distance}
 use Rattle.template_code.specs.Template.{code_from}
 use Rattle.frame_layout.specs.declared.frame.FrameLayout.{FrameLayout}
 use Rattle.image_link.specs.Fits.{FitsProgram}
@@ -41,9 +40,8 @@ use Rattle.image_tables.specs.Entries.{entries}
 use Rattle.image_tables.specs.Functions.{leaf, rest_of}
 use Rattle.image_tables.specs.RoutinePlaces.{Placed, placed, placed_from, body_begin, end_of, site_of, infos_begin, routines_begin, probe_begin}
 use Rattle.image_tables.proofs.CodeInMemory.{code_length, routine_is_at, there}
-use Rattle.image_tables.proofs.FrameRules.{plan_near, rest_fine}
+use Rattle.image_tables.proofs.FrameRules.{leaf_fine}
 use Rattle.image_tables.proofs.ImageText.{images_have_text}
-use Rattle.image_tables.proofs.Layouts.{size_of}
 use Rattle.image_tables.proofs.Lookups.{entries_are_held, leaves_are_held_by_none, thunks_are_held_by_none, some_same, none_some}
 use Rattle.seh.specs.UncoveredCode.{IsInRoutine, UncoveredCodeIsRoutines}
 use Rattle.seh.proofs.FrontThunks.{thunk_near, front_there, front_piece as piece_in_front}
@@ -100,9 +98,7 @@ module _ (p : LinearProgram) (fits : FitsProgram p) (m : Memory) (text : HasText
       let h = there p index x fits at in
       let room = h.room in
       let small = routine_small x.routine h.near in
-      let fine = rest_fine p index x 0 (distance 0 0)
-      (plan_near (record { kept = 0; temporaries = 0; locals = 0; size = 0 }) 0 0 (omega arith)
-      (omega arith) (omega arith)) (ap size_of none) fits at h in
+      let fine = leaf_fine p index x fits at none h in
       let a = argument_code x.routine.layout x.routine.entry in
       let b = code_from (links p x) x.routine.layout (body_begin x) x.routine.body.code in
       let parts : routine_code s x.begin x.routine ≡ rest_of p x =

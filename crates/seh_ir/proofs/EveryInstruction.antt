@@ -79,7 +79,7 @@ module _ (Q : Instruction → Type 0) (C : ℕ → List Instruction → Type 0) 
         (copy (Local x) (Temporary 0) ∷ Separator ∷ []) n h
         (holds.of_kept x d, (holds.of_separator, tt));
     of_repeated = λ names m e end begin at n h l b c. value_all names m e at (repeated end begin) n
-        h (holds.of_test end l, (holds.of_jump begin b, tt));
+        h (holds.of_test end l, (holds.of_jump begin b, (holds.of_separator, tt)));
     of_return = λ names m e exit at n h w c. returned_all names m e exit at n h w;
   }
 

@@ -301,7 +301,8 @@ module _ (P : ℕ → List Instruction → List Region → Type 0) (C : ℕ → 
         let tests = condition_code names t end iteration in
         let body = statement_code inner s start in
         let steps = discarded_code names next' (again + 1) in
-        let last = steps ++ Jump iteration ∷ [] in
+        let jumps = Jump iteration ∷ Separator ∷ [] in
+        let last = steps ++ jumps in
         let ld = all_declared_length names ds at in
         let lf = discarded_length names first begin in
         let lt = condition_length names t end iteration in
@@ -316,7 +317,10 @@ module _ (P : ℕ → List Instruction → List Region → Type 0) (C : ℕ → 
         let c4 = placed.back start again body (Separator ∷ last) (omega arith)
         (neutral.statement inner s start) c3 in
         let c5 = next_placed again Separator last neutral.separator c4 in
-        let ended' = ended (For ds first t next' s) scope at end (omega arith) c in
+        let c6 = placed.back (again + 1) step steps jumps (omega arith)
+        (neutral.discarded names next' (again + 1)) c5 in
+        let c7 = next_placed step (Jump iteration) (Separator ∷ []) (neutral.jump iteration) c6 in
+        let ended' = placed.begins end _ c7 in
         let rs = statement_regions s start in
         holds.both at begin declares _ [] rs (omega arith)
         (all_declared_every names m ds at n h.0 (placed.front at declares _ c))
@@ -335,7 +339,9 @@ module _ (P : ℕ → List Instruction → List Region → Type 0) (C : ℕ → 
         (next again Separator last [] (holds.of_separator again)
         (holds.both (again + 1) step steps _ [] [] (omega arith)
         (discarded_every names m next' (again + 1) n h.3 (placed.front (again + 1) steps _ c5))
-        (holds.of_jump step iteration (placed.begins iteration _ c2)))))))
+        (next step (Jump iteration) (Separator ∷ []) []
+        (holds.of_jump step iteration (placed.begins iteration _ c2))
+        (holds.of_separator end)))))))
     statement_every (DoWhile s e) scope at m le n w h c =
         let again = at + statement_size s in
         let end = again + 1 + expression_size e + 2 in
@@ -345,7 +351,12 @@ module _ (P : ℕ → List Instruction → List Region → Type 0) (C : ℕ → 
         let l = statement_length inner s at in
         let c1 = placed.back at again body (Separator ∷ last) (omega arith)
         (neutral.statement inner s at) c in
-        let ended' = ended (DoWhile s e) scope at end (omega arith) c in
+        let c2 = next_placed again Separator last neutral.separator c1 in
+        let step = again + 1 + expression_size e + 1 in
+        let c3 = after_test scope.names e end (again + 1) (Jump at ∷ Separator ∷ []) c2 in
+        let c4 = next_placed step (Jump at) (Separator ∷ []) (neutral.jump at) c3 in
+        let same : step + 1 ≡ end = omega arith in
+        let ended' = subst L same (placed.begins (step + 1) _ c4) in
         before_plain at again body (Separator ∷ last) (statement_regions s at) (omega arith)
         (statement_every s inner at m le n
         (record {
@@ -356,7 +367,7 @@ module _ (P : ℕ → List Instruction → List Region → Type 0) (C : ℕ → 
         }) h.0 (placed.front at body (Separator ∷ last) c))
         (next again Separator last [] (holds.of_separator again)
         (holds.of_repeated scope.names m e end at (again + 1) n h.1 ended' (placed.begins at _ c)
-        (next_placed again Separator last neutral.separator c1)))
+        c2))
     statement_every (statements.Return e) scope at m le n w h c = holds.of_return scope.names m e
         scope.exit at n h w.exit c
     statement_every Break scope at m le n w h c = way_every scope.loop_end at w.loop_end

@@ -92,35 +92,36 @@ mutual
       let again = body + statement_size s in
       let end = again + 1 + discarded_size next + 1 in
       let inner = in_loop end again scope in
-      let last = discarded_code scope.names next (again + 1) ++ Jump iteration ∷ [] in
+      let last = discarded_code scope.names next (again + 1) ++ Jump iteration ∷ Separator ∷ []
+      in
       let turned = statement_code inner s body ++ Separator ∷ last in
       two (all_declared_code scope.names ds at)
       (discarded_code scope.names first begin
       ++ (condition_code scope.names c end iteration ++ turned)) (all_declared_size ds)
       (discarded_size first + (condition_size c
-      + (statement_size s + (1 + (discarded_size next + 1)))))
+      + (statement_size s + (1 + (discarded_size next + 2)))))
       (all_declared_length scope.names ds at)
       (two (discarded_code scope.names first begin)
       (condition_code scope.names c end iteration ++ turned) (discarded_size first)
-      (condition_size c + (statement_size s + (1 + (discarded_size next + 1))))
+      (condition_size c + (statement_size s + (1 + (discarded_size next + 2))))
       (discarded_length scope.names first begin)
       (two (condition_code scope.names c end iteration) turned (condition_size c)
-      (statement_size s + (1 + (discarded_size next + 1)))
+      (statement_size s + (1 + (discarded_size next + 2)))
       (condition_length scope.names c end iteration)
       (two (statement_code inner s body) (Separator ∷ last) (statement_size s)
-      (1 + (discarded_size next + 1)) (statement_length inner s body)
-      (more Separator last (discarded_size next + 1)
-      (two (discarded_code scope.names next (again + 1)) (Jump iteration ∷ []) (discarded_size next)
-      1 (discarded_length scope.names next (again + 1)) refl)))))
+      (1 + (discarded_size next + 2)) (statement_length inner s body)
+      (more Separator last (discarded_size next + 2)
+      (two (discarded_code scope.names next (again + 1)) (Jump iteration ∷ Separator ∷ [])
+      (discarded_size next) 2 (discarded_length scope.names next (again + 1)) refl)))))
   statement_length scope (DoWhile s c) at =
       let again = at + statement_size s in
       let end = again + 1 + expression_size c + 2 in
       let inner = in_loop end again scope in
       let last = expression_code scope.names c 0 (again + 1) ++ repeated end at in
       two (statement_code inner s at) (Separator ∷ last) (statement_size s)
-      (1 + (expression_size c + 2)) (statement_length inner s at)
-      (more Separator last (expression_size c + 2)
-      (two (expression_code scope.names c 0 (again + 1)) (repeated end at) (expression_size c) 2
+      (1 + (expression_size c + 3)) (statement_length inner s at)
+      (more Separator last (expression_size c + 3)
+      (two (expression_code scope.names c 0 (again + 1)) (repeated end at) (expression_size c) 3
       (expression_length scope.names c 0 (again + 1)) refl))
   statement_length scope (Return e) at = two (returned_code scope.names e at)
       (return_code scope.exit) (returned_size e) 2 (returned_length scope.names e at)
@@ -243,7 +244,7 @@ pub for_is : (scope : LoweringContext) (ds : List Declared) (first c next : Opti
     → l1 ≡ l0 ++ discarded_code scope.names first (length l0)
     → l2 ≡ l1 ++ condition_code scope.names c end (length l1)
     → l3 ≡ l2 ++ statement_code (in_loop end again scope) s (length l2) → l4 ≡ l3 ++ Separator ∷ []
-    → l5 ≡ l4 ++ discarded_code scope.names next (length l4) → l6 ≡ l5 ++ Jump (length l1) ∷ []
+    → l5 ≡ l4 ++ discarded_code scope.names next (length l4) → l6 ≡ l5 ++ Jump (length l1) ∷ Separator ∷ []
     → Run scope (For ds first c next s) old l6
 for_is scope ds first c next s nc0 ns0 nn0 turn last again end old l0 l1 l2 l3 l4 l5 l6 zc zs zn t l
     a e h0 h1 h2 h3 h4 h5 h6 =
@@ -259,24 +260,25 @@ for_is scope ds first c next s nc0 ns0 nn0 turn last again end old l0 l1 l2 l3 l
     let n1 : length l1 ≡ length l0 + nf = longer l0 l1 (discarded_code names first (length l0)) nf
     (discarded_length names first (length l0)) h1 in
     let inner = in_loop end again scope in
-    let g5 = after (discarded_code names next (length l4)) nn l4 l5 l6 (λ at. Jump iteration ∷ [])
-    (discarded_length names next (length l4)) h5 h6 in
+    let g5 = after (discarded_code names next (length l4)) nn l4 l5 l6
+    (λ at. Jump iteration ∷ Separator ∷ []) (discarded_length names next (length l4)) h5 h6 in
     let g4 = after_one Separator l3 l4 l6 (λ at. discarded_code names next at ++ Jump iteration
-    ∷ []) h4 g5 in
+    ∷ Separator ∷ []) h4 g5 in
     let g3 = after_statement inner s l2 l3 l6
-    (λ at. Separator ∷ (discarded_code names next (at + 1) ++ Jump iteration ∷ [])) h3 g4 in
+    (λ at. Separator ∷ (discarded_code names next (at + 1) ++ Jump iteration ∷ Separator ∷ []))
+    h3 g4 in
     let g2 = after (condition_code names c end (length l1)) nc l1 l2 l6
     (λ at. statement_code inner s at ++ Separator
-    ∷ (discarded_code names next (at + ns + 1) ++ Jump iteration ∷ []))
+    ∷ (discarded_code names next (at + ns + 1) ++ Jump iteration ∷ Separator ∷ []))
     (condition_length names c end (length l1)) h2 g3 in
     let whole = λ (i b r z : ℕ). condition_code names c z i
     ++ (statement_code (in_loop z r scope) s b ++ Separator
-    ∷ (discarded_code names next (r + 1) ++ Jump i ∷ [])) in
+    ∷ (discarded_code names next (r + 1) ++ Jump i ∷ Separator ∷ [])) in
     let p : length l1 + nc + ns ≡ again = omega arith in
     let g2' : l6 ≡ l1 ++ whole (length l1) (length l1 + nc) again end = g2
     ∙ ap (λ r. l1 ++ (condition_code names c end (length l1)
     ++ (statement_code inner s (length l1 + nc) ++ Separator
-    ∷ (discarded_code names next (r + 1) ++ Jump iteration ∷ [])))) p in
+    ∷ (discarded_code names next (r + 1) ++ Jump iteration ∷ Separator ∷ [])))) p in
     let q : again ≡ length l1 + nc + ns = omega arith in
     let r : end ≡ length l1 + nc + ns + 1 + nn + 1 = omega arith in
     let g2'' : l6 ≡ l1 ++ whole (length l1) (length l1 + nc) (length l1 + nc + ns)

@@ -71,15 +71,15 @@ all_declared_code names (d ∷ ds) at =
 abbrev pub landed : ℕ → ℕ → List Instruction
 landed end x = Jump end ∷ Landing (Local x) ∷ []
 
--- of a `do`, whose condition was evaluated
+-- of a `do`, whose condition was evaluated, with the place where it ends
 abbrev pub repeated : ℕ → ℕ → List Instruction
-repeated end begin = JumpIfZero (Temporary 0) end ∷ Jump begin ∷ []
+repeated end begin = JumpIfZero (Temporary 0) end ∷ Jump begin ∷ Separator ∷ []
 
 -- of the body of a `__try` with a `__finally` block
 abbrev pub finally_called : ℕ → List Instruction
 finally_called k = Separator ∷ CallFinally k ∷ Separator ∷ []
 
--- ---- statements, placed at an instruction
+-- ---- statements, placed at an instruction; a loop ends with a separator, where a `break` leads
 
 abbrev mutual
   pub statement_code : LoweringContext → Statement → ℕ → List Instruction
@@ -111,7 +111,7 @@ abbrev mutual
       ++ (statement_code (in_loop end again scope) s body
       ++ (Separator
       ∷ (discarded_code scope.names next (again + 1)
-      ++ Jump iteration ∷ [])))))
+      ++ Jump iteration ∷ Separator ∷ [])))))
   statement_code scope (DoWhile s c) at =
       let again = at + statement_size s in
       let end = again + 1 + expression_size c + 2 in

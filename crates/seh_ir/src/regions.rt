@@ -129,11 +129,11 @@ fn loop_or_try_regions(regions: &mut Vec<Region>, stmt: &Stmt, at: u64) -> Resul
             let begun = shifted(at, all_declared_size(declared)?, discarded_size(first)?)?;
             let place = sum(begun, condition_size(condition)?)?;
             let again = statement_regions(regions, body, place)?;
-            shifted(again, discarded_size(next)?, 2)
+            shifted(again, discarded_size(next)?, 3)
         }
         Stmt::Do { body, condition } => {
             let again = statement_regions(regions, body, at)?;
-            shifted(again, expression_size(condition)?, 3)
+            shifted(again, expression_size(condition)?, 4)
         }
         _ => try_regions(regions, stmt, at),
     }

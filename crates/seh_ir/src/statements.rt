@@ -215,7 +215,7 @@ fn land(code: &mut Vec<Instruction>, end: u64, local: u64) -> Result<(), AllocEr
     put_all(code, &[Instruction::Jump { label: end }, landing])
 }
 
-/// The end of a `do`: its condition was evaluated.
+/// The end of a `do`: its condition was evaluated. A `break` leads to the separator.
 fn end_do(code: &mut Vec<Instruction>, end: u64, begin: u64) -> Result<(), AllocError>
     ensures { OnOk result (Appends code.old code.new (spec.repeated end begin)) }
 {
@@ -223,7 +223,8 @@ fn end_do(code: &mut Vec<Instruction>, end: u64, begin: u64) -> Result<(), Alloc
         slot: Slot::Temporary(0),
         label: end,
     };
-    put_all(code, &[ends, Instruction::Jump { label: begin }])
+    let again = Instruction::Jump { label: begin };
+    put_all(code, &[ends, again, Instruction::Separator])
 }
 
 /// A statement without statements in it.
@@ -336,7 +337,13 @@ fn for_loop(
     statement(code, &in_loop(end, again, scope), sizes, body)?;
     put(code, Instruction::Separator)?;
     discarded(code, scope.names, next)?;
-    put(code, Instruction::Jump { label: iteration })
+    put_all(
+        code,
+        &[
+            Instruction::Jump { label: iteration },
+            Instruction::Separator,
+        ],
+    )
 }
 
 #[cycle(statements)]

@@ -165,7 +165,8 @@ mutual
       (from + all_declared_size ds + discarded_size first + condition_size c) owner names s in
       let f = discarded scope.names next (again + 1) in
       let step = discarded_code scope.names next (again + 1) in
-      let last = instructions.Separator ∷ (step ++ instructions.Jump iteration ∷ []) in
+      let repeats = instructions.Jump iteration ∷ instructions.Separator ∷ [] in
+      let last = instructions.Separator ∷ (step ++ repeats) in
       let inner = statement_code (in_loop end again scope) s body ++ last in
       let test = condition_code scope.names c end iteration in
       omega (
@@ -175,7 +176,7 @@ mutual
         room_append (discarded_code scope.names first begin) (test ++ inner),
         room_append test inner,
         room_append (statement_code (in_loop end again scope) s body) last,
-        room_append step (instructions.Jump iteration ∷ []),
+        room_append step repeats,
       )
   statement_bound scope at from owner names (DoWhile s c) =
       let again = at + statement_size s in

@@ -120,8 +120,8 @@ abbrev mutual
       expression_room c + (18 + (statement_room s + (5 + statement_room t)))
   statement_room (For ds first c next s) =
       all_declared_room ds + (discarded_room first + (condition_room c
-      + (statement_room s + (1 + (discarded_room next + 5)))))
-  statement_room (DoWhile s c) = statement_room s + (1 + (expression_room c + 23))
+      + (statement_room s + (1 + (discarded_room next + 6)))))
+  statement_room (DoWhile s c) = statement_room s + (1 + (expression_room c + 24))
   statement_room (Return e) = returned_room e + 17
   statement_room Break = 16
   statement_room Continue = 16

@@ -56,6 +56,7 @@ local_fetched y i n b is none h to =
       pointers = y.pointers;
       locals = y.locals;
       temporaries = y.temporaries;
+      slots = y.slots;
       frame = y.frame;
     }) to (Local i))) (is ∙ none) ∙ (let e = h 0x8B to in omega arith)
 
@@ -68,6 +69,7 @@ local_kept y i n b is none h =
       pointers = y.pointers;
       locals = y.locals;
       temporaries = y.temporaries;
+      slots = y.slots;
       frame = y.frame;
     }) (Local i))) (is ∙ none) ∙ (let e = h 0x89 Rax in omega arith)
 

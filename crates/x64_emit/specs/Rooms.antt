@@ -10,7 +10,7 @@ abbrev pub slot_room : Slot → ℕ
 slot_room (Temporary i) = 8
 slot_room (Local i) = 16
 
--- a call passes at most eight arguments
+-- a call passes at most eight arguments; an epilogue with the loads before it takes 44 bytes at most
 abbrev pub instruction_room : Instruction → ℕ
 instruction_room (instructions.Compute to o first second) =
     slot_room to + slot_room first + slot_room second + 11
@@ -23,7 +23,7 @@ instruction_room (instructions.CallBuiltIn function first) = 50
 instruction_room (instructions.CallFinally funclet) = 13
 instruction_room (instructions.LocalUnwind label) = 15
 instruction_room instructions.Separator = 1
-instruction_room (instructions.Return from) = slot_room from + 8
+instruction_room (instructions.Return from) = slot_room from + 44
 
 abbrev pub code_room : List Instruction → ℕ
 code_room [] = 0

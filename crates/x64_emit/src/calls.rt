@@ -6,16 +6,20 @@ ghost use Rattle.x64_encode.specs.Chosen.{IsEncodable};
 ghost use Rattle.linear_code.specs.declared.slot.Slot.TheVariants as slots;
 ghost use Rattle.frame_rules.specs.Plan as rules;
 ghost use Rattle.template_code.specs.Calls as spec;
-ghost use Rattle.template_code.specs.Frames.{frame_plan};
+ghost use Rattle.template_code.specs.Frames.{plan_of_layout};
+ghost use Rattle.frame_layout.specs.Layout.{IsFrame};
+ghost use Rattle.frame_layout.specs.Plans.{plan_of};
 ghost use Rattle.template_code.specs.Jumps as jumps;
 ghost use Rattle.template_code.specs.Operations as operations;
 ghost use Rattle.template_code.specs.Bytes.{spelled};
 ghost use Rattle.x64_emit.specs.Appending.{Appended};
 
+use crate::frames::put_epilogue;
 use crate::put::{RAX, above, copy, load, put, set};
 use crate::slots::{put_fetch, put_keep};
 use crate::stack_words::{put_load, put_store};
 use c_operations::field::Field;
+use frame_layout::FrameLayout;
 use linear_code::slot::Slot;
 use seh_num::width::Width;
 use std::alloc::AllocError;
@@ -258,22 +262,34 @@ pub fn put_local_unwind(
     put(code, &call(at + 15, thunk))
 }
 
-/// Adds what gives back a frame, if there is one, and returns.
-fn put_epilogue(code: &mut Vec<u8>, frame: u64) -> Result<(), AllocError>
-    requires { IsNear frame }
-    ensures { OnOk result (Appended code.old (rules.epilogue (frame_plan frame 0)) code.new) }
+/// The frame of a layout: it saves nothing, and has no frame register.
+fn frame_of(layout: &Layout) -> FrameLayout
+    ensures plan { plan_of result 0 ≡ plan_of_layout layout.now 0 }
+    ensures frame { IsFrameNear layout.now → 0 < layout.now.frame → IsFrame result }
 {
-    if frame == 0 {
+    FrameLayout {
+        kept: 0,
+        temporaries: layout.temporaries,
+        locals: layout.locals,
+        slots: layout.frame,
+        saves: 0,
+        pushes: 0,
+        framed: false,
+        size: layout.frame,
+        depth: layout.frame,
+    }
+}
+
+/// Adds what gives back the frame of a layout, if there is one, and returns.
+fn put_leaving(code: &mut Vec<u8>, layout: &Layout) -> Result<(), AllocError>
+    requires { IsFrameNear layout.now }
+    ensures { OnOk result
+        (Appended code.old (rules.epilogue (plan_of_layout layout.now 0)) code.new) }
+{
+    if layout.frame == 0 {
         return put(code, &Instr::Return);
     }
-    let rise = Instr::Arithmetic {
-        operation: Operation::Add,
-        width: Width::W64,
-        to: RegisterOrMemory::Register(Reg::Rsp),
-        from: Operand::Immediate(frame),
-    };
-    put(code, &rise)?;
-    put(code, &Instr::Return)
+    put_epilogue(code, &frame_of(layout))
 }
 
 /// Adds what leaves a body with the number in a slot.
@@ -283,7 +299,7 @@ pub fn put_return(code: &mut Vec<u8>, layout: &Layout, from: Slot) -> Result<(),
     ensures { OnOk result (Appended code.old (spec.return_code layout.now from) code.new) }
 {
     put_fetch(code, layout, Reg::Rax, from)?;
-    put_epilogue(code, layout.frame)
+    put_leaving(code, layout)
 }
 
 /// The load of a number so far above the address in RAX.

@@ -1,13 +1,9 @@
-//! What comes before a body: its frame, and its parameters or what a funclet is called with.
+//! What comes before a body but for its frame: its parameters, or what a funclet is called with.
 
-ghost use Rattle.std.specs.Prelude.{◌≡◌, ◌+◌, ◌++◌, ◌<◌, ◌≤◌, ◌^◌, [], ◌∷◌, OnOk};
-ghost use Rattle.std.specs.List.{AllByRecursion};
-ghost use Rattle.x64_encode.specs.Chosen.{IsEncodable};
-ghost use Rattle.frame_rules.specs.Bytes.{prologue_code};
-ghost use Rattle.frame_layout.specs.Layout.{plan_of};
+ghost use Rattle.std.specs.Prelude.{◌≡◌, ◌+◌, ◌++◌, [], ◌∷◌, OnOk};
 ghost use Rattle.linear_code.specs.declared.slot.Slot.TheVariants as slots;
 ghost use Rattle.x64_emit.specs.Entries as entries;
-ghost use Rattle.x64_emit.specs.Near.{IsNear, IsSlotNear, AreParametersNear, IsFrameNear, ArePointersNear};
+ghost use Rattle.x64_emit.specs.Near.{IsNear, IsSlotNear, AreParametersNear, ArePointersNear};
 ghost use Rattle.template_code.specs.Calls as spec;
 ghost use Rattle.template_code.specs.Jumps.{distance};
 ghost use Rattle.template_code.specs.Operations as operations;
@@ -20,7 +16,6 @@ ghost use Rattle.x64_emit.specs.declared.entry.TheConstants.{CHECK_STACK};
 use crate::calls::distance;
 use crate::put::{copy, load, put, store};
 use crate::slots::put_keep;
-use frame_layout::{FrameLayout, prologue};
 use linear_code::slot::Slot;
 use seh_num::width::Width;
 use std::alloc::AllocError;
@@ -44,9 +39,6 @@ pub const CHECK_STACK: [u8; CHECK_STACK_SIZE as usize] = [
     0x41, 0x84, 0x43, 0x00, // test [r11],al
     0xC3, // ret
 ];
-
-/// How far after a prologue's first byte the call of `__chkstk` ends, where there is one.
-const PROBE_END: u64 = 10;
 
 /// Adds a thunk that begins at an address: a jump through the slot of a service.
 pub fn put_thunk(code: &mut Vec<u8>, at: u64, slot: u64) -> Result<(), AllocError>
@@ -77,36 +69,6 @@ pub fn put_check_stack(code: &mut Vec<u8>) -> Result<(), AllocError>
 pub fn check_stack_is_spelled()
     ensures { CHECK_STACK ≡ spelled check_stack }
 {}
-
-/// Adds the bytes of instructions.
-fn put_all(code: &mut Vec<u8>, instrs: &[Instr]) -> Result<(), AllocError>
-    requires { AllByRecursion IsEncodable instrs.now }
-    ensures { OnOk result (code.new.items ≡ code.old.items ++ spelled instrs.now) }
-{
-    for instr in instrs {
-        put(code, instr)?;
-    }
-    Ok(())
-}
-
-/// Adds the prologue of a frame, for code that begins at an address.
-pub fn put_prologue(
-    code: &mut Vec<u8>,
-    frame: &FrameLayout,
-    at: u64,
-    check_stack: u64,
-) -> Result<(), AllocError>
-    requires some { 0 < frame.now.size }
-    requires small { frame.now.size < 2 ^ 31 }
-    requires at { IsNear at }
-    requires check_stack { IsNear check_stack }
-    ensures { OnOk result
-        (Appended code.old
-        (prologue_code (plan_of frame.now (distance (at + 10) check_stack))) code.new) }
-{
-    let instrs = prologue(frame, distance(at + PROBE_END, check_stack));
-    put_all(code, instrs.as_slice())
-}
 
 /// The register of a parameter, one of the first four.
 fn parameter_register(index: u64) -> Reg

@@ -1,6 +1,6 @@
 -- Calls, entries and returns.
-use Rattle.std.proofs.Common.{◌≡◌, ◌≢◌, ℕ, ◌+◌, ◌-◌, ◌%◌, ◌^◌, ◌<◌, ◌≤◌, List, [], ◌∷◌, get_or, set, None, Ok, refl, ap, ◌∙◌, arith, get_or-set_other}
-use Rattle.x64_templates.specs.Words.{W64, low, first_refused, may_read, may_write, number_at, Rcx, Rdx, Rsp, R8, R9, Relative, Instr, Flags, ◌>>=◌, State, Answer, with_rip, load, store, effect, Temporary, BodyState, MachineView, machine, Executes, size, sizes, fetched, temporary_at, distance, call, IsNear, return_at, begin_call, sp_of, with_four, pushed, HasBelow, Reaches, HasCode, FramePlace, Roomy, FrameHolds, arguments_code, CallBegun}
+use Rattle.std.proofs.Common.{◌≡◌, ℕ, ◌+◌, ◌-◌, ◌%◌, ◌^◌, ◌<◌, ◌≤◌, [], ◌∷◌, None, Ok, refl, ap, ◌∙◌, arith}
+use Rattle.x64_templates.specs.Words.{W64, low, first_refused, may_read, may_write, number_at, Rcx, Rdx, Rsp, R8, R9, Relative, Instr, Flags, ◌>>=◌, State, Answer, with_rip, load, store, effect, Temporary, BodyState, MachineView, machine, Executes, size, sizes, fetched, temporary_at, distance, call, IsNear, return_at, begin_call, sp_of, with_sp, with_four, pushed, moved, HasBelow, Reaches, HasCode, FramePlace, Roomy, FrameHolds, arguments_code, CallBegun}
 use Rattle.x64_instr.specs.declared.instruction.Instr.TheVariants as instrs
 use Rattle.x64_templates.proofs.PlacedCode.{all_may, store_at, load_at, reaches_then}
 use Rattle.x64_templates.proofs.Straight.{executes_one, executes_then}
@@ -30,25 +30,13 @@ loaded_by i v to d at x h e may is lt = executes_one i v (to x) (λ rip f. (
 ))
 
 abbrev one : MachineView → ℕ → MachineView
-one v a = record { rax = v.rax; rcx = a; rdx = v.rdx; rest = v.rest; memory = v.memory }
+one v a = record v { rcx = a }
 
 abbrev two : MachineView → ℕ → ℕ → MachineView
-two v a b = record { rax = v.rax; rcx = a; rdx = b; rest = v.rest; memory = v.memory }
+two v a b = record v { rcx = a; rdx = b }
 
 abbrev three : MachineView → ℕ → ℕ → ℕ → MachineView
-three v a b c = record { rax = v.rax; rcx = a; rdx = b; rest = set v.rest 5 c; memory = v.memory }
-
-not_five : let five : ℕ = 5 in let sp : ℕ = 1 in sp ≢ five
-not_five h = absurd (omega arith)
-
-not_six : let six : ℕ = 6 in let sp : ℕ = 1 in sp ≢ six
-not_six h = absurd (omega arith)
-
-pub sp_kept_five : (rest : List ℕ) (c : ℕ) → get_or (set rest 5 c) 1 0 ≡ get_or rest 1 0
-sp_kept_five rest c = get_or-set_other rest 5 1 c 0 not_five
-
-pub sp_kept_six : (rest : List ℕ) (c : ℕ) → get_or (set rest 6 c) 1 0 ≡ get_or rest 1 0
-sp_kept_six rest c = get_or-set_other rest 6 1 c 0 not_six
+three v a b c = record v { rcx = a; rdx = b; rest = record v.rest { r8 = c } }
 
 arguments_do : (p : FramePlace) (first : ℕ) (v : MachineView) (b : BodyState) → Roomy p
     → first + 4 ≤ p.counts.temporaries → sp_of v ≡ p.sp → FrameHolds p v.memory b
@@ -87,7 +75,7 @@ arguments_do p first v b room le at h =
     (h.small (Temporary (first + 2)) l2) in
     let d3 = loaded_by i3 (three v a0 a1 a2) (λ x. with_four v a0 a1 a2 x)
     (temporary_at y (first + 3)) (p.sp + temporary_at y (first + 3)) a3 (λ rip f. refl)
-    (place (first + 3) l3 (get_or (set v.rest 5 a2) 1 0) (sp_kept_five v.rest a2 ∙ at))
+    (place (first + 3) l3 (sp_of v) at)
     (may (first + 3) l3) (h.slot (Temporary (first + 3)) l3)
     (h.small (Temporary (first + 3)) l3) in
     executes_then (i0 ∷ []) (i1 ∷ i2 ∷ i3 ∷ []) v (one v a0) (with_four v a0 a1 a2 a3) d0
@@ -125,25 +113,14 @@ call_effect v sp next d to f at below e =
     let high = below.high in
     let spot : (sp_of v + (2 ^ 64 - 8)) % 2 ^ 64 ≡ sp - 8 = omega arith in
     let word : low W64 (sp - 8) ≡ sp - 8 = omega arith in
-    let moved = λ (a : ℕ). let s : State = record {
-      cpu =
-          record {
-            registers = v.rax ∷ v.rcx ∷ v.rdx ∷ set v.rest 1 (low W64 a);
-            rip = next;
-            flags = f;
-          };
-      memory = v.memory;
-    } in s in
+    let lowered = λ (a : ℕ). machine (moved v (low W64 a)) next f in
     let may = all_may (may_write v.memory) 8 (sp - 8) (omega arith)
     (λ a p q. below.writable a (omega arith) (omega arith)) in
-    ap (λ (a : ℕ). store (moved a) a W64 next >>= λ t. Ok (with_rip t ((next + d) % 2 ^ 64))) spot
+    ap (λ (a : ℕ). store (lowered a) a W64 next >>= λ t. Ok (with_rip t ((next + d) % 2 ^ 64))) spot
     ∙ ap (λ (o : Answer State). o >>= λ t. Ok (with_rip t ((next + d) % 2 ^ 64)))
-    (store_at (moved (sp - 8)) (sp - 8) next may)
-    ∙ ap (λ (a : ℕ). Ok (machine (record {
-      rax = v.rax;
-      rcx = v.rcx;
-      rdx = v.rdx;
-      rest = set v.rest 1 a;
+    (store_at (lowered (sp - 8)) (sp - 8) next may)
+    ∙ ap (λ (a : ℕ). Ok (machine (record v {
+      rest = with_sp v.rest a;
       memory = (pushed v sp next).memory;
     }) ((next + d) % 2 ^ 64) f)) word
     ∙ ap (λ (a : ℕ). Ok (machine (pushed v sp next) a f)) e
@@ -170,10 +147,7 @@ call_begins p first v rip to f b room le at h below n code =
     let parts = code_split v.memory rip args (call back to ∷ []) code in
     let r = runs_view args v w rip f (arguments_fine p first room le) parts.0
     (arguments_do p first v b room le at h) in
-    let sp = sp_kept_six (set v.rest 5 (b.slots (Temporary (first + 2))))
-    (b.slots (Temporary (first + 3))) ∙ sp_kept_five v.rest (b.slots (Temporary (first + 2)))
-    ∙ at in
-    let c = call_reaches w p.sp (rip + sizes args) to r.left sp below n parts.1 in
+    let c = call_reaches w p.sp (rip + sizes args) to r.left at below n parts.1 in
     record {
       flags = r.left;
       comes = reaches_then 4 1 (machine v rip f)

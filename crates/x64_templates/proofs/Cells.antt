@@ -1,5 +1,5 @@
 -- Slots are brought to registers, and RAX is put into a slot.
-use Rattle.std.proofs.Common.{◌≡◌, ℕ, ◌+◌, ◌%◌, ◌^◌, ◌<◌, ◌≤◌, Bool, true, false, [], ◌∷◌, get_or, Option, Some, None, Ok, refl, sym, ap, ◌∙◌, arith, inl, inr}
+use Rattle.std.proofs.Common.{◌≡◌, ℕ, ◌+◌, ◌%◌, ◌^◌, ◌<◌, ◌≤◌, Bool, true, false, [], ◌∷◌, Option, Some, None, Ok, refl, sym, ap, ◌∙◌, arith, inl, inr}
 use Rattle.std.specs.Prelude.{◌⊎◌}
 use Rattle.x64_templates.specs.Words.{W64, low, Memory, first_refused, may_read, may_write, number_at, with_number, with_bytes, Reg, Rax, Rcx, Rsp, Flags, ◌>>=◌, Answer, load, store, Slot, Local, Temporary, BodyState, Counts, IsSlot, Layout, MachineView, machine, Executes, fetched, put_back, temporary_at, local_at, fetch_local, fetch, slot_at, InTemporaries, InLocals, HasBase, SlotsHaveRoom, MemoryKeepsBase, HoldsBody}
 use Rattle.x64_templates.proofs.Lemmas.{writable_is_readable}
@@ -12,12 +12,12 @@ reg true = Rax
 reg false = Rcx
 
 abbrev pub put : Bool → MachineView → ℕ → MachineView
-put true v x = record { rax = x; rcx = v.rcx; rdx = v.rdx; rest = v.rest; memory = v.memory }
-put false v x = record { rax = v.rax; rcx = x; rdx = v.rdx; rest = v.rest; memory = v.memory }
+put true v x = record v { rax = x }
+put false v x = record v { rcx = x }
 
 -- RSP
 abbrev pub sp_of : MachineView → ℕ
-sp_of v = get_or v.rest 1 0
+sp_of v = v.rest.rsp
 
 word_is : (y x : ℕ) → y ≡ x → x < 2 ^ 64 → low W64 y ≡ x
 word_is y x e lt = omega arith
@@ -70,13 +70,7 @@ from_base false v base d at x e may is lt = executes_one (fetched Rcx Rcx d) (pu
 
 -- RAX in memory
 abbrev pub written : MachineView → ℕ → MachineView
-written v at = record {
-  rax = v.rax;
-  rcx = v.rcx;
-  rdx = v.rdx;
-  rest = v.rest;
-  memory = with_bytes v.memory (with_number v.memory.byte 8 at v.rax);
-}
+written v at = record v { memory = with_bytes v.memory (with_number v.memory.byte 8 at v.rax) }
 
 stores : (v : MachineView) (at rip : ℕ) (f : Flags) → v.rax < 2 ^ 64
     → first_refused (may_write v.memory) 8 at ≡ None

@@ -55,7 +55,7 @@ following_is (i ∷ is) rip = following_is is (rip + size i)
     ∙ (let z : rip + size i + sizes is ≡ rip + (size i + sizes is) = omega arith in z)
 
 abbrev after : MachineView → ℕ → MachineView
-after v x = record { rax = x; rcx = v.rcx; rdx = v.rdx; rest = v.rest; memory = v.memory }
+after v x = record v { rax = x }
 
 forth : (w : Width) (c : Condition) (r : Bool) (v : MachineView)
     → holds (flags_after w v.rax v.rcx) c ≡ r

@@ -1,7 +1,7 @@
 -- The code of an operation does what the operation means.
-use Rattle.std.proofs.Common.{◌≡◌, ℕ, ◌+◌, ◌%◌, ◌^◌, ◌<◌, ◌≤◌, Bool, true, false, List, [], ◌∷◌, ◌++◌, length, get_or, Option, Some, Err, refl, sym, ap, subst, ◌∙◌, arith, length-append}
+use Rattle.std.proofs.Common.{◌≡◌, ℕ, ◌+◌, ◌%◌, ◌^◌, ◌<◌, ◌≤◌, Bool, true, false, List, [], ◌∷◌, ◌++◌, length, Option, Some, Err, refl, sym, ap, subst, ◌∙◌, arith, length-append}
 use Rattle.std.proofs.lemmas.Grind.{flat_map-append}
-use Rattle.x64_templates.specs.Words.{Code, Memory, executable, with_number, with_bytes, Rax, Rcx, Instr, IsEncoding, leading, chosen, Flags, State, with_rip, effect, IsCodeAt, IsPlaced, spelled, Slot, Operation, BodyState, with_slot, OperationResult, Gives, Raises, Undefined, performed, step, kept, MachineView, machine, Executes, size, sizes, before, work, fetch, keep, operands_code, finish_code, compute_code, slot_at, IsBytes, IsReady, HasOperands, LeavesResult, Implements, Reaches, HasCode, FramePlace, Roomy, FrameHolds, IsThere, ReachesBody, Finished, Computed, HeadFaults}
+use Rattle.x64_templates.specs.Words.{Code, Memory, executable, with_number, with_bytes, Rax, Rcx, Instr, IsEncoding, leading, chosen, Flags, State, with_rip, effect, IsCodeAt, IsPlaced, spelled, Slot, Operation, BodyState, with_slot, OperationResult, Gives, Raises, Undefined, performed, step, kept, LocalRegisters, OtherRegisters, MachineView, machine, Executes, size, sizes, before, work, fetch, keep, operands_code, finish_code, compute_code, slot_at, IsBytes, IsReady, HasOperands, LeavesResult, Implements, Reaches, HasCode, FramePlace, Roomy, FrameHolds, IsThere, ReachesBody, Finished, Computed, HeadFaults}
 use Rattle.x64_templates.proofs.Lemmas.{longest, sizes_spelled, sizes_append}
 use Rattle.x64_machine.specs.declared.outcome.Stop.TheVariants as stops
 use Rattle.x64_machine.specs.Effect as machines
@@ -91,7 +91,7 @@ runs_view is v w rip f fine code d =
 -- ---- both operands are brought to their registers
 
 abbrev waiting : MachineView → ℕ → ℕ → ℕ → MachineView
-waiting v a b d = record { rax = a; rcx = b; rdx = d; rest = v.rest; memory = v.memory }
+waiting v a b d = record v { rax = a; rcx = b; rdx = d }
 
 record Prepared (o : Operation) (v : MachineView) (a b : ℕ) : Type 0 where
   rdx : ℕ
@@ -154,6 +154,7 @@ pub record Begun (p : FramePlace) (o : Operation) (first second : Slot) (v : Mac
       (machine stopped (rip + sizes (operands_code p.layout o first second)) left)
   pub waits : HasOperands o (b.slots first) (b.slots second) stopped
   pub rest : stopped.rest ≡ v.rest
+  pub locals : stopped.locals ≡ v.locals
   pub memory : stopped.memory ≡ v.memory
 
 pub operands_run : (p : FramePlace) (o : Operation) (first second : Slot) (v : MachineView)
@@ -172,6 +173,7 @@ operands_run p o first second v rip f b room i j at h code =
       comes = r.comes;
       waits = record { first = refl; second = refl; ready = d.ready };
       rest = refl;
+      locals = refl;
       memory = refl;
     }
 
@@ -183,28 +185,16 @@ pub leads_kept : (p : FramePlace) (code : List Instr) (to : Slot) (v : MachineVi
     → sp_of v ≡ p.sp → FrameHolds p v.memory b → HasCode v.memory at (code ++ keep p.layout to)
     → LeavesResult p.reserved code v x source
     → ReachesBody p (length (code ++ keep p.layout to)) (machine v at f)
-    (at + sizes (code ++ keep p.layout to)) v.rest
+    (at + sizes (code ++ keep p.layout to)) v.rest v.locals
     (record { slots = with_slot b.slots to x; memory = source })
 leads_kept p code to v at f b x source fine room is sp h is_there l =
     let y = p.layout in
-    let mid : MachineView = record {
-      rax = x;
-      rcx = l.yields.rcx;
-      rdx = l.yields.rdx;
-      rest = v.rest;
-      memory = l.after;
-    } in
+    let mid : MachineView = record v { rax = x; rcx = l.yields.rcx; rdx = l.yields.rdx; memory = l.after } in
     let body : BodyState = record { slots = b.slots; memory = source } in
     let held = holds_same y p.counts p.reserved p.sp p.base room v.memory l.after source b l.own
     l.protection l.agrees h in
     let k = keep_does y p.counts p.reserved p.sp p.base room to mid body is sp held l.small in
-    let last : MachineView = record {
-      rax = x;
-      rcx = k.rcx;
-      rdx = l.yields.rdx;
-      rest = v.rest;
-      memory = with_bytes l.after (with_number l.after.byte 8 (slot_at y p.sp p.base to) x);
-    } in
+    let last : MachineView = record v { rax = x; rcx = k.rcx; rdx = l.yields.rdx; memory = with_bytes l.after (with_number l.after.byte 8 (slot_at y p.sp p.base to) x) } in
     let r = runs_view (code ++ keep y to) v last at f
     (fine_both code (keep y to) fine (keep_fine y p.counts p.sp p.base to room is)) is_there
     (executes_then code (keep y to) v mid last l.yields.does k.does) in
@@ -213,6 +203,7 @@ leads_kept p code to v at f b x source fine room is sp h is_there l =
       flags = r.left;
       comes = r.comes;
       rest = refl;
+      locals = refl;
       holds = holds_after y p.counts p.reserved p.sp p.base room l.after body to x held is l.small;
       changes = changes_then y p.counts p.reserved p.sp p.base v.memory l.after last.memory
           (changes_same y p.counts p.reserved p.sp p.base room v.memory l.after l.own l.protection
@@ -252,13 +243,7 @@ pub record Worked (p : FramePlace) (o : Operation) (v : MachineView) (at : ℕ) 
   pub result : LeavesResult p.reserved (work o) v x source
   pub left : Flags
   pub comes : Reaches (length (work o)) (machine v at f)
-      (machine (record {
-        rax = x;
-        rcx = result.yields.rcx;
-        rdx = result.yields.rdx;
-        rest = v.rest;
-        memory = result.after;
-      }) (at + sizes (work o)) left)
+      (machine (record v { rax = x; rcx = result.yields.rcx; rdx = result.yields.rdx; memory = result.after }) (at + sizes (work o)) left)
 
 pub work_run : (p : FramePlace) (o : Operation) (v : MachineView) (at : ℕ) (f : Flags)
     (b : BodyState) (x y value : ℕ) (source : Memory) → x < 2 ^ 64 → y < 2 ^ 64
@@ -273,31 +258,40 @@ work_run p o v at f b x y value source lx ly waits h code gives =
     (subst (λ c. Implements p.reserved (work o) v (performed p.reserved o c y b.memory)) ex
     (subst (λ c. Implements p.reserved (work o) v (performed p.reserved o v.rax c b.memory)) ey
     w)) in
-    let r = runs_view (work o) v (record {
-      rax = value;
-      rcx = l.yields.rcx;
-      rdx = l.yields.rdx;
-      rest = v.rest;
-      memory = l.after;
-    }) at f (work_fine o) code l.yields.does in
+    let r = runs_view (work o) v (record v { rax = value; rcx = l.yields.rcx; rdx = l.yields.rdx; memory = l.after }) at f (work_fine o) code l.yields.does in
     record { result = l; left = r.left; comes = r.comes }
 
 -- ---- a whole operation
 
-pub follows_after : (p : FramePlace) (m n : ℕ) (s t : State) (to : ℕ) (others : List ℕ)
-    (b : BodyState) → Reaches m s t → ◌≡◌ {A = Memory} t.memory s.memory
-    → ReachesBody p n t to others b → ReachesBody p (m + n) s to others b
-follows_after p m n s t to others b c same g = record {
+pub follows_after : (p : FramePlace) (m n : ℕ) (s t : State) (to : ℕ) (others : OtherRegisters)
+    (locals : LocalRegisters) (b : BodyState) → Reaches m s t → ◌≡◌ {A = Memory} t.memory s.memory
+    → ReachesBody p n t to others locals b → ReachesBody p (m + n) s to others locals b
+follows_after p m n s t to others locals b c same g = record {
   after = g.after;
   flags = g.flags;
   comes = reaches_then m n s t (machine g.after to g.flags) c g.comes;
   rest = g.rest;
+  locals = g.locals;
   holds = g.holds;
   changes = record {
     protection = g.changes.protection ∙ ap (λ (m : Memory). m.protection) same;
     byte = λ a own out. g.changes.byte a own out ∙ ap (λ (m : Memory). m.byte a) same;
     bytes = λ x. g.changes.bytes (subst IsBytes (sym same) x);
   };
+}
+
+-- the registers that it leaves may be named by others that are the same
+pub named_alike : (p : FramePlace) (n : ℕ) (s : State) (to : ℕ) (rest others : OtherRegisters)
+    (locals same : LocalRegisters) (b : BodyState) → rest ≡ others → locals ≡ same
+    → ReachesBody p n s to rest locals b → ReachesBody p n s to others same b
+named_alike p n s to rest others locals same b e d g = record {
+  after = g.after;
+  flags = g.flags;
+  comes = g.comes;
+  rest = g.rest ∙ e;
+  locals = g.locals ∙ d;
+  holds = g.holds;
+  changes = g.changes;
 }
 
 compute_by : (p : FramePlace) (to : Slot) (o : Operation) (first second : Slot) (v : MachineView)
@@ -310,21 +304,22 @@ compute_by p to o first second v rip f b (Gives x m) g fin =
     let rest = finish_code p.layout o to in
     let c : BodyState = record { slots = with_slot b.slots to x; memory = m } in
     let whole = follows_after p (length ops) (length rest) (machine v rip f)
-    (machine g.stopped (rip + sizes ops) g.left) (rip + sizes ops + sizes rest) g.stopped.rest c
+    (machine g.stopped (rip + sizes ops) g.left) (rip + sizes ops + sizes rest) g.stopped.rest g.stopped.locals c
     g.comes g.memory fin in
     let turns : length ops + length rest ≡ length (ops ++ rest) = sym (length-append ops rest) in
     let place : rip + sizes ops + sizes rest ≡ rip
     + sizes (ops ++ rest) = omega (arith, sizes_append ops rest) in
-    subst (λ k. ReachesBody p k (machine v rip f) (rip + sizes (ops ++ rest)) v.rest c) turns
-    (subst (λ a. ReachesBody p (length ops + length rest) (machine v rip f) a v.rest c) place
-    (subst (λ r. ReachesBody p (length ops + length rest) (machine v rip f)
-    (rip + sizes ops + sizes rest) r c) g.rest whole))
+    subst (λ k. ReachesBody p k (machine v rip f) (rip + sizes (ops ++ rest)) v.rest v.locals c) turns
+    (subst (λ a. ReachesBody p (length ops + length rest) (machine v rip f) a v.rest v.locals c) place
+    (named_alike p (length ops + length rest) (machine v rip f) (rip + sizes ops + sizes rest)
+    g.stopped.rest v.rest g.stopped.locals v.locals c g.rest g.locals whole))
 compute_by p to o first second v rip f b (Raises code access) g fin = record {
   stopped = g.stopped;
   left = g.left;
   comes = g.comes;
   waits = g.waits;
   rest = g.rest;
+  locals = g.locals;
   memory = g.memory;
   fault = fin;
 }
@@ -344,14 +339,7 @@ compute_run p to o first second v rip f b room it ifst isnd at h code =
     (b.slots second) b.memory) g
     (finish_run p o to g.stopped (rip + sizes ops) g.left b (b.slots first) (b.slots second) room it
     (h.small first ifst) (h.small second isnd) g.waits
-    (ap (λ (r : List ℕ). get_or r 1 0) g.rest ∙ at)
+    (ap (λ (r : OtherRegisters). r.rsp) g.rest ∙ at)
     (subst (λ (m : Memory). FrameHolds p m b) (sym g.memory) h)
     (subst (λ (m : Memory). HasCode m (rip + sizes ops) (finish_code p.layout o to)) (sym g.memory)
     parts.1))
-
--- ---- every state with 16 registers is one of a view
-
-pub record Seen (s : State) : Type 0 where
-  pub view : MachineView
-  pub is : s ≡ machine view s.cpu.rip s.cpu.flags
-  pub others : length view.rest ≡ 13

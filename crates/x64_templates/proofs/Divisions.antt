@@ -95,7 +95,7 @@ abbrev pub by_rcx : Signedness → Size → Instr
 by_rcx s z = instrs.Divide (division s) (width z) (places.Register Rcx)
 
 abbrev divided_view : MachineView → ℕ → ℕ → MachineView
-divided_view v q r = record { rax = q; rcx = v.rcx; rdx = r; rest = v.rest; memory = v.memory }
+divided_view v q r = record v { rax = q; rdx = r }
 
 both_given : (s : Signedness) (z : Size) (v : MachineView) (q r : ℕ) → q < limit (width z)
     → r < limit (width z) → ((rip : ℕ) (f : Flags)
@@ -262,11 +262,11 @@ remainder_implemented reserved Unsigned z v source e agrees = unsigned_remainder
 pub record HalfSet (s : Signedness) (z : Size) (v : MachineView) : Type 0 where
   pub rdx : ℕ
   pub does : Executes (high_half s (width z) ∷ []) v
-      (record { rax = v.rax; rcx = v.rcx; rdx = rdx; rest = v.rest; memory = v.memory })
+      (record v { rdx = rdx })
   pub half : low (width z) rdx ≡ high_of s (width z) v.rax
 
 abbrev with_rdx : MachineView → ℕ → MachineView
-with_rdx v x = record { rax = v.rax; rcx = v.rcx; rdx = x; rest = v.rest; memory = v.memory }
+with_rdx v x = record v { rdx = x }
 
 half_low : (w : Width) (b : Bool) → low w (cond b 0 (limit w - 1)) ≡ cond b 0 (limit w - 1)
 half_low W8 true = refl

@@ -1,9 +1,11 @@
 -- A function begins: its frame holds its arguments.
-use Rattle.std.proofs.Common.{◌≡◌, ℕ, zero, suc, ◌+◌, ◌^◌, ◌<◌, ◌≤◌, cond, [], ◌∷◌, length, refl, sym, subst, arith, inl, inr}
+use Rattle.std.proofs.Common.{◌≡◌, ℕ, zero, suc, ◌+◌, ◌^◌, ◌<◌, ◌≤◌, cond, [], ◌∷◌, length, refl, sym, subst, arith, inl, inr, ◌-◌, length-append}
 use Rattle.std.proofs.lemmas.Bool.{cases_lt, lt-ltb, le-ltb}
-use Rattle.x64_templates.specs.Words.{Memory, Rax, Rsp, Flags, BodyState, MachineView, machine, sizes, fetched, local_at, parameter_register, keep_register, stack_parameter, parameter_code, parameters_code, sp_of, with_arguments, InRegisters, OnStack, IsFunctionFrame, body_in_memory, FreshFrame, HasCode, FramePlace, Roomy, FrameHolds, ReachesBody}
+use Rattle.x64_templates.specs.Words.{Memory, Rax, Rsp, Flags, BodyState, MachineView, machine, sizes, fetched, local_at, parameter_register, keep_register, stack_parameter, parameter_code, parameters_code, sp_of, with_arguments, InRegisters, OnStack, IsFunctionFrame, body_in_memory, FreshFrame, HasCode, FramePlace, Roomy, FrameHolds, ReachesBody, State, LocalRegisters, OtherRegisters, with_sp, moved, ChangesOwn, Enters}
 use Rattle.x64_templates.proofs.Encoded.{Fine, fine_both, near}
-use Rattle.x64_templates.proofs.Computes.{runs_view}
+use Rattle.x64_templates.proofs.Computes.{runs_view, code_split}
+use Rattle.x64_templates.proofs.PlacedCode.{enters_then}
+use Rattle.x64_templates.proofs.Lemmas.{sizes_append}
 use Rattle.x64_templates.proofs.Entries.{holds_body_in_memory}
 use Rattle.x64_templates.proofs.Parameters.{parameters_do}
 
@@ -48,19 +50,13 @@ pub parameters_run : (p : FramePlace) (count : ℕ) (arguments : ℕ → ℕ) (v
     → sp_of v ≡ p.sp → FrameHolds p v.memory b → InRegisters v arguments
     → OnStack p v.memory count arguments → HasCode v.memory rip (parameters_code p.layout 0 count)
     → ReachesBody p (length (parameters_code p.layout 0 count)) (machine v rip f)
-    (rip + sizes (parameters_code p.layout 0 count)) v.rest
+    (rip + sizes (parameters_code p.layout 0 count)) v.rest v.locals
     (record { slots = with_arguments b.slots arguments 0 count; memory = b.memory })
 parameters_run p count arguments v rip f b room fn le at h regs stack code =
     let params = parameters_code p.layout 0 count in
     let k = parameters_do p 0 count count v b arguments room fn (omega arith) (omega arith) at h
     regs stack in
-    let last : MachineView = record {
-      rax = k.rax;
-      rcx = v.rcx;
-      rdx = v.rdx;
-      rest = v.rest;
-      memory = k.memory;
-    } in
+    let last : MachineView = record v { rax = k.rax; memory = k.memory } in
     let r = runs_view params v last rip f (parameters_fine p 0 count count arguments v.memory room
     (omega arith) (omega arith) stack) code k.does in
     record {
@@ -68,6 +64,7 @@ parameters_run p count arguments v rip f b room fn le at h regs stack code =
       flags = r.left;
       comes = r.comes;
       rest = refl;
+      locals = refl;
       holds = k.holds;
       changes = k.changes;
     }

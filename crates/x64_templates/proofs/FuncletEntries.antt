@@ -28,7 +28,7 @@ pub flag_run : (p : FramePlace) (flag : Slot) (v : MachineView) (rip : ℕ) (f :
     (b : BodyState) → Roomy p → IsThere p flag → sp_of v ≡ p.sp → FrameHolds p v.memory b
     → HasCode v.memory rip ((move W32 Rax Rcx ∷ []) ++ keep p.layout flag)
     → ReachesBody p (length ((move W32 Rax Rcx ∷ []) ++ keep p.layout flag)) (machine v rip f)
-    (rip + sizes ((move W32 Rax Rcx ∷ []) ++ keep p.layout flag)) v.rest
+    (rip + sizes ((move W32 Rax Rcx ∷ []) ++ keep p.layout flag)) v.rest v.locals
     (record { slots = with_slot b.slots flag (low W32 v.rcx); memory = b.memory })
 flag_run p flag v rip f b room is at h code =
     let i = move W32 Rax Rcx in

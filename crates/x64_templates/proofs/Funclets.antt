@@ -1,5 +1,5 @@
 -- A filter or a `__finally` block shares the locals of its activation.
-use Rattle.std.proofs.Common.{◌≡◌, ℕ, ◌+◌, ◌%◌, ◌^◌, ◌<◌, ◌≤◌, true, [], Some, None, ◌∙◌, arith}
+use Rattle.std.proofs.Common.{◌≡◌, ℕ, ◌+◌, ◌%◌, ◌^◌, ◌<◌, ◌≤◌, true, Some, None, ◌∙◌, arith}
 use Rattle.x64_templates.specs.Words.{Memory, may_write, first_refused, number_at, Rdx, MachineView, Executes, keep_base, sp_of, MemoryKeepsBase}
 use Rattle.x64_templates.proofs.Lemmas.{stored_is_loaded}
 use Rattle.x64_templates.proofs.PlacedCode.{all_may}

@@ -86,7 +86,7 @@ pub information_run : (p : FramePlace) (to : Slot) (field : Field) (v : MachineV
     → HasException v.memory (p.sp + p.layout.pointers) field x
     → HasCode v.memory at (information_code p.layout to field)
     → ReachesBody p (length (information_code p.layout to field)) (machine v at f)
-    (at + sizes (information_code p.layout to field)) v.rest
+    (at + sizes (information_code p.layout to field)) v.rest v.locals
     (record { slots = with_slot b.slots to (field_number field x); memory = b.memory })
 information_run p to field v at f b x room is isf near_p sp h lt e code =
     let y = p.layout in

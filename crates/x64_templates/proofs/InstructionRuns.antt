@@ -39,7 +39,7 @@ compute_done p k to o first second v here f b (Gives x m) g =
       least = compute_some p.layout to o first second;
       most = let l = compute_length p.layout to o first second in omega arith;
       follows = subst (λ n. ReachesBody p (length (compute_code p.layout to o first second))
-          (machine v here f) (here + n) v.rest (record
+          (machine v here f) (here + n) v.rest v.locals (record
           { slots = with_slot b.slots to x; memory = m }))
           (template_sizes nowhere p.layout here (instructions.Compute to o first second)) g;
     }
@@ -49,7 +49,7 @@ compute_done p k to o first second v here f b (Undefined a) g = tt
 branch_done : (p : FramePlace) (k : Links) (slot : Slot) (label : ℕ) (v : MachineView) (here : ℕ)
     (f : Flags) (b : BodyState) (z : Bool) → ReachesBody p
     (length (jump_if_zero_code p.layout slot here (k.label label))) (machine v here f)
-    (cond z (k.label label) (here + sizes (test_code p.layout slot) + 6)) v.rest b
+    (cond z (k.label label) (here + sizes (test_code p.layout slot) + 6)) v.rest v.locals b
     → InstructionDone p k v here f b (instructions.JumpIfZero slot label)
     (cond z (JumpsTo b label) (Next b))
 branch_done p k slot label v here f b true g =
@@ -91,7 +91,7 @@ branch_done p k slot label v here f b false g =
             ∷ []),
       );
       follows = subst (λ a. ReachesBody p (length
-          (jump_if_zero_code p.layout slot here (k.label label))) (machine v here f) a v.rest b) z
+          (jump_if_zero_code p.layout slot here (k.label label))) (machine v here f) a v.rest v.locals b) z
           g;
     }
 
@@ -139,7 +139,7 @@ instruction_run p k instructions.Separator v here f b room has near at h code =
     record {
       least = omega arith;
       most = omega arith;
-      follows = subst (λ n. ReachesBody p 1 (machine v here f) (here + n) v.rest b)
+      follows = subst (λ n. ReachesBody p 1 (machine v here f) (here + n) v.rest v.locals b)
           (template_sizes k p.layout here instructions.Separator)
           (separator_run p v here f b h code);
     }

@@ -24,13 +24,14 @@ one_reaches i v w rip at f g enc inside code e =
     (record { low = l; high = omega arith }) e).comes
 
 stays : (p : FramePlace) (turns : ℕ) (v w : MachineView) (rip at : ℕ) (f g : Flags) (b : BodyState)
-    → Reaches turns (machine v rip f) (machine w at g) → w.rest ≡ v.rest → w.memory ≡ v.memory
-    → FrameHolds p v.memory b → ReachesBody p turns (machine v rip f) at v.rest b
-stays p turns v w rip at f g b comes rest same h = record {
+    → Reaches turns (machine v rip f) (machine w at g) → w.rest ≡ v.rest → w.locals ≡ v.locals → w.memory ≡ v.memory
+    → FrameHolds p v.memory b → ReachesBody p turns (machine v rip f) at v.rest v.locals b
+stays p turns v w rip at f g b comes rest locals same h = record {
   after = w;
   flags = g;
   comes = comes;
   rest = rest;
+  locals = locals;
   holds = subst (λ (m : Memory). FrameHolds p m b) (sym same) h;
   changes = record {
     protection = ap (λ (m : Memory). m.protection) same;
@@ -47,24 +48,24 @@ jump_size d = refl
 
 pub jump_run : (p : FramePlace) (v : MachineView) (rip to : ℕ) (f : Flags) (b : BodyState)
     → IsNear (rip + 5) to → FrameHolds p v.memory b → HasCode v.memory rip (jump_code rip to)
-    → ReachesBody p 1 (machine v rip f) to v.rest b
+    → ReachesBody p 1 (machine v rip f) to v.rest v.locals b
 jump_run p v rip to f b near h code =
     let i = jump (rip + 5) to in
     let e : (rip + size i + distance (rip + 5) to) % 2 ^ 64
     ≡ to = ap (λ (n : ℕ). (rip + n + distance (rip + 5) to) % 2 ^ 64)
     (jump_size (distance (rip + 5) to)) ∙ arrives (rip + 5) to near in
     stays p 1 v v rip to f f b (one_reaches i v v rip to f f (short (rip + 5) to near) refl code
-    (ap (λ (a : ℕ). Ok (machine v a f)) e)) refl refl h
+    (ap (λ (a : ℕ). Ok (machine v a f)) e)) refl refl refl h
 
 pub separator_run : (p : FramePlace) (v : MachineView) (rip : ℕ) (f : Flags) (b : BodyState)
     → FrameHolds p v.memory b → HasCode v.memory rip separator_code
-    → ReachesBody p 1 (machine v rip f) (rip + sizes separator_code) v.rest b
+    → ReachesBody p 1 (machine v rip f) (rip + sizes separator_code) v.rest v.locals b
 separator_run p v rip f b h code =
     let i = instrs.NoOperation in
     let z : rip + size i ≡ rip + (size i + 0) = omega arith in
     stays p 1 v v rip (rip + (size i + 0)) f f b
     (one_reaches i v v rip (rip + (size i + 0)) f f refl refl code
-    (ap (λ (a : ℕ). Ok (machine v a f)) z)) refl refl h
+    (ap (λ (a : ℕ). Ok (machine v a f)) z)) refl refl refl h
 
 -- ---- a jump where a slot holds 0
 
@@ -120,7 +121,7 @@ pub jump_if_zero_comes : (p : FramePlace) (slot : Slot) (v : MachineView) (rip t
     → sp_of v ≡ p.sp → IsNear (rip + sizes (test_code p.layout slot) + 6) to
     → FrameHolds p v.memory b → HasCode v.memory rip (jump_if_zero_code p.layout slot rip to)
     → ReachesBody p (length (jump_if_zero_code p.layout slot rip to)) (machine v rip f)
-    (cond z to (rip + sizes (test_code p.layout slot) + 6)) v.rest b
+    (cond z to (rip + sizes (test_code p.layout slot) + 6)) v.rest v.locals b
 jump_if_zero_comes p slot v rip to f b z e room is at near h code =
     let y = p.layout in
     let first = fetch y Rax slot in
@@ -142,9 +143,9 @@ jump_if_zero_comes p slot v rip to f b z e room is at near h code =
     (subst (λ a. HasCode v.memory a (branch ∷ [])) mid' parts'.1) in
     let turns : length first + (1 + 1) ≡ length (first ++ (compare_zero ∷ branch ∷ [])) = sym
     (length-append first (compare_zero ∷ branch ∷ [])) in
-    subst (λ k. ReachesBody p k (machine v rip f) (cond z to (there + 6)) v.rest b) turns
+    subst (λ k. ReachesBody p k (machine v rip f) (cond z to (there + 6)) v.rest v.locals b) turns
     (stays p (length first + (1 + 1)) v w rip (cond z to (there + 6)) f g b
     (three_then (length first) 1 1 (machine v rip f) (machine w (rip + sizes first) r.left)
     (machine w there g) (machine w (cond z to (there + 6)) g) r.comes
     (subst (λ a. Reaches 1 (machine w (rip + sizes first) r.left) (machine w a g)) mid t) c)
-    refl refl h)
+    refl refl refl h)

@@ -11,7 +11,7 @@ use Rattle.x64_machine.specs.Effect.{compare}
 -- ---- registers
 
 -- a register is as it was where another one is set
-pub index_other : (xs : List ℕ) (i j v : ℕ) → (i ≡ j → ⊥)
+index_other : (xs : List ℕ) (i j v : ℕ) → (i ≡ j → ⊥)
     → slice_index (slice_set xs i v) j ≡ slice_index xs j
 index_other [] i j v n = refl
 index_other (x ∷ xs) zero zero v n = absurd (n refl)

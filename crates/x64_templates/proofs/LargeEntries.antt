@@ -1,5 +1,5 @@
 -- A large frame is entered.
-use Rattle.std.proofs.Common.{◌≡◌, ℕ, ◌+◌, ◌-◌, ◌^◌, ◌<◌, ◌≤◌, true, false, ltb, List, [], ◌∷◌, length, set, Ok, refl, sym, ap, subst, ◌∙◌, arith, inl, inr, get_or-set_same, length-set}
+use Rattle.std.proofs.Common.{◌≡◌, ℕ, ◌+◌, ◌-◌, ◌^◌, ◌<◌, ◌≤◌, true, false, ltb, List, [], ◌∷◌, Ok, refl, sym, ap, subst, ◌∙◌, arith, inl, inr}
 use Rattle.std.specs.Prelude.{◌⊎◌}
 use Rattle.std.proofs.lemmas.Bool.{cases_lt, lt-ltb}
 use Rattle.x64_templates.specs.Words.{W32, W64, low, may_write, Rax, Rsp, Instr, Flags, subtracted, effect, spelled, MachineView, machine, size, sizes, call, IsNear, sp_of, with_sp, pushed, HasBelow, moved, check_stack, Reaches, HasCode, opcode_register, distance}
@@ -50,27 +50,11 @@ pub record EnteredLarge (v : MachineView) (sp frame rip check : ℕ) (f : Flags)
   pub flags : Flags
   pub eleventh : ℕ
   pub comes : Reaches 8 (machine v rip f) (machine
-      (record {
+      (record v {
         rax = frame;
-        rcx = v.rcx;
-        rdx = v.rdx;
-        rest = with_sp (set v.rest 8 eleventh) (sp - frame);
+        rest = record v.rest { rsp = sp - frame; r11 = eleventh };
         memory = (pushed v sp (rip + 10)).memory;
       }) (rip + sizes (allocating (distance (rip + 10) check) frame false)) flags)
-
--- sets of two different registers, and of one of them again, are as one of each
-one_of_each : (r : List ℕ) (a b c d e : ℕ) → length r ≡ 13
-    → set (set (set (set (set r 1 a) 8 b) 8 c) 1 d) 1 e ≡ set (set r 8 c) 1 e
-one_of_each [] a b c d e n = absurd (omega arith)
-one_of_each (x0 ∷ []) a b c d e n = absurd (omega arith)
-one_of_each (x0 ∷ x1 ∷ []) a b c d e n = absurd (omega arith)
-one_of_each (x0 ∷ x1 ∷ x2 ∷ []) a b c d e n = absurd (omega arith)
-one_of_each (x0 ∷ x1 ∷ x2 ∷ x3 ∷ []) a b c d e n = absurd (omega arith)
-one_of_each (x0 ∷ x1 ∷ x2 ∷ x3 ∷ x4 ∷ []) a b c d e n = absurd (omega arith)
-one_of_each (x0 ∷ x1 ∷ x2 ∷ x3 ∷ x4 ∷ x5 ∷ []) a b c d e n = absurd (omega arith)
-one_of_each (x0 ∷ x1 ∷ x2 ∷ x3 ∷ x4 ∷ x5 ∷ x6 ∷ []) a b c d e n = absurd (omega arith)
-one_of_each (x0 ∷ x1 ∷ x2 ∷ x3 ∷ x4 ∷ x5 ∷ x6 ∷ x7 ∷ []) a b c d e n = absurd (omega arith)
-one_of_each (x0 ∷ x1 ∷ x2 ∷ x3 ∷ x4 ∷ x5 ∷ x6 ∷ x7 ∷ x8 ∷ r) a b c d e n = refl
 
 lower_by_rax : (v : MachineView) (n sp next : ℕ) (f : Flags) → sp_of v ≡ sp → v.rax ≡ n → n ≤ sp
     → sp < 2 ^ 64 → effect (machine v next f)
@@ -83,12 +67,12 @@ lower_by_rax v n sp next f e rax le high =
     (let q : low W64 (low W64 (low W64 (sp_of v) + (2 ^ 64 - low W64 v.rax)))
     ≡ sp - n = omega arith in q)
 
-pub enter_large_run : (v : MachineView) (sp frame rip check : ℕ) (f : Flags) → length v.rest ≡ 13
+pub enter_large_run : (v : MachineView) (sp frame rip check : ℕ) (f : Flags)
     → sp_of v ≡ sp → HasBelow v.memory sp 8 → Touchable v.memory sp frame → frame < 2 ^ 31
     → IsNear (rip + 10) check → rip + 10 < 2 ^ 48 → HasCode v.memory check check_stack
     → HasCode v.memory rip (allocating (distance (rip + 10) check) frame false)
     → EnteredLarge v sp frame rip check f
-enter_large_run v sp frame rip check f len at below touch small near high leaf code =
+enter_large_run v sp frame rip check f at below touch small near high leaf code =
     let e = touch.enough in let hi = touch.high in let mo = touch.more in
     let i = instrs.Move W32 (places.Register Rax) (operands.Immediate frame) in
     let j = call (rip + 10) check in
@@ -114,24 +98,18 @@ enter_large_run v sp frame rip check f len at below touch small near high leaf c
     let second = subst (λ a. Reaches 1 (machine v1 (rip + 5) f) (machine (pushed v1 sp a) check f))
     e3 (call_reaches v1 sp (rip + 5) check f at below (subst (λ a. IsNear a check) (sym e3) near)
     (subst (λ a. HasCode v.memory (rip + 5) (call a check ∷ [])) (sym e3) q.0)) in
-    let sp2 : sp_of v2 ≡ sp - 8 = get_or-set_same v.rest 1 (sp - 8) 0 (omega arith) in
-    let third = check_run v2 sp frame (rip + 10) check f (length-set v.rest 1 (sp - 8) ∙ len) refl
-    sp2 (record { enough = e; more = mo; high = hi; first = touch.first; last = touch.last })
+    let third = check_run v2 sp frame (rip + 10) check f refl refl
+    (record { enough = e; more = mo; high = hi; first = touch.first; last = touch.last })
     (pushed_back v1 sp (rip + 10) below (omega arith))
     (pushed_keeps_code v1 sp (rip + 10) check check_stack below leaf) in
     let v3 = moved (with_eleventh (with_eleventh v2 sp) (sp - frame)) sp in
-    let sp3 : sp_of v3 ≡ sp = get_or-set_same
-    (set (set (set v.rest 1 (sp - 8)) 8 sp) 8 (sp - frame)) 1 sp 0
-    (let a = length-set v.rest 1 (sp - 8) in let b = length-set (set v.rest 1 (sp - 8)) 8 sp in
-    let c = length-set (set (set v.rest 1 (sp - 8)) 8 sp) 8 (sp - frame) in omega arith) in
     let g = (subtracted W64 (low W64 (sp_of v3)) (low W64 v3.rax)).1 in
     let v4 = moved v3 (sp - frame) in
     let last = one_reaches k v3 v4 (rip + 10) (rip + 10 + size k) third.0 g refl refl
     (pushed_keeps_code v1 sp (rip + 10) (rip + 10) (k ∷ []) below tail)
-    (lower_by_rax v3 frame sp (rip + 10 + size k) third.0 sp3 refl e (omega arith)) in
+    (lower_by_rax v3 frame sp (rip + 10 + size k) third.0 refl refl e (omega arith)) in
     let end : rip + 10 + size k
     ≡ rip + sizes (allocating (distance (rip + 10) check) frame false) = omega arith in
-    let flat = one_of_each v.rest (sp - 8) sp (sp - frame) sp (sp - frame) len in
     let all = reaches_then 1 7 (machine v rip f) (machine v1 (rip + 5) f)
     (machine v4 (rip + 10 + size k) g) first
     (reaches_then 1 6 (machine v1 (rip + 5) f) (machine v2 check f)
@@ -141,20 +119,5 @@ enter_large_run v sp frame rip check f len at below touch small near high leaf c
     record {
       flags = g;
       eleventh = sp - frame;
-      comes = subst (λ a. Reaches 8 (machine v rip f)
-          (machine (record {
-            rax = frame;
-            rcx = v.rcx;
-            rdx = v.rdx;
-            rest = with_sp (set v.rest 8 (sp - frame)) (sp - frame);
-            memory = v2.memory;
-          }) a g)) end
-          (subst (λ (r : List ℕ). Reaches 8 (machine v rip f)
-          (machine (record {
-            rax = frame;
-            rcx = v.rcx;
-            rdx = v.rdx;
-            rest = r;
-            memory = v2.memory;
-          }) (rip + 10 + size k) g)) flat all);
+      comes = subst (λ a. Reaches 8 (machine v rip f) (machine v4 a g)) end all;
     }

@@ -5,6 +5,7 @@ pub mod Registers
 pub mod PlacedCode
 pub mod Chains
 pub mod Straight
+pub mod Locals
 pub mod Compares
 pub mod Pures
 pub mod Divisions

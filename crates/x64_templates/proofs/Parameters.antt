@@ -2,7 +2,7 @@
 use Rattle.std.proofs.Common.{◌≡◌, ℕ, zero, suc, ◌+◌, ◌%◌, ◌^◌, ◌<◌, ◌≤◌, true, cond, [], ◌∷◌, None, refl, sym, ap, subst, ◌∙◌, arith, inl, inr}
 use Rattle.std.specs.Prelude.{◌⊎◌, slice_index}
 use Rattle.std.proofs.lemmas.Bool.{cases_lt, lt-ltb, le-ltb}
-use Rattle.x64_templates.specs.Words.{W64, low, Protection, is_readable, Memory, first_refused, may_read, may_write, with_number, with_bytes, Reg, Rax, Rsp, number, store, Local, BodyState, with_slot, MachineView, machine, Executes, fetched, local_at, parameter_register, keep_register, stack_parameter, parameter_code, parameters_code, sp_of, slot_at, InTemporaries, InLocals, with_arguments, InRegisters, OnStack, IsFunctionFrame, FramePlace, Roomy, FrameHolds, ChangesOwn}
+use Rattle.x64_templates.specs.Words.{W64, low, Protection, is_readable, Memory, first_refused, may_read, may_write, with_number, with_bytes, Reg, Rax, Rsp, number, store, Local, BodyState, with_slot, registers_of, MachineView, machine, Executes, fetched, local_at, parameter_register, keep_register, stack_parameter, parameter_code, parameters_code, sp_of, slot_at, InTemporaries, InLocals, with_arguments, InRegisters, OnStack, IsFunctionFrame, FramePlace, Roomy, FrameHolds, ChangesOwn}
 use Rattle.x64_templates.proofs.PlacedCode.{all_may, same_number, store_at}
 use Rattle.x64_templates.proofs.Straight.{executes_one, executes_then, executes_nothing}
 use Rattle.x64_templates.proofs.Cells.{put, from_sp, may_write_slot}
@@ -12,16 +12,10 @@ use Rattle.x64_templates.proofs.Calls.{word_is}
 -- ---- a register is kept in memory
 
 abbrev pub kept_at : MachineView → ℕ → ℕ → MachineView
-kept_at v at x = record {
-  rax = v.rax;
-  rcx = v.rcx;
-  rdx = v.rdx;
-  rest = v.rest;
-  memory = with_bytes v.memory (with_number v.memory.byte 8 at x);
-}
+kept_at v at x = record v { memory = with_bytes v.memory (with_number v.memory.byte 8 at x) }
 
 abbrev pub held_by : MachineView → Reg → ℕ
-held_by v r = slice_index (v.rax ∷ v.rcx ∷ v.rdx ∷ v.rest) (number r)
+held_by v r = slice_index (registers_of v) (number r)
 
 pub keeps_register : (r : Reg) (v : MachineView) (d at x : ℕ) → held_by v r ≡ x
     → (sp_of v + 0 + d) % 2 ^ 64 ≡ at → first_refused (may_write v.memory) 8 at ≡ None → x < 2 ^ 64
@@ -47,14 +41,7 @@ register_holds v arguments (suc (suc (suc (suc i)))) lt h = absurd (omega arith)
 pub record Kept (p : FramePlace) (i : ℕ) (v : MachineView) (x : ℕ) : Type 0 where
   pub rax : ℕ
   pub does : Executes (parameter_code p.layout i) v
-      (record {
-        rax = rax;
-        rcx = v.rcx;
-        rdx = v.rdx;
-        rest = v.rest;
-        memory = with_bytes v.memory (with_number v.memory.byte 8
-            (slot_at p.layout p.sp p.base (Local i)) x);
-      })
+      (record v { rax = rax; memory = with_bytes v.memory (with_number v.memory.byte 8 (slot_at p.layout p.sp p.base (Local i)) x) })
 
 local_address : (p : FramePlace) (i sp : ℕ) → Roomy p → IsFunctionFrame p → i < p.counts.locals
     → sp ≡ p.sp → (sp + 0 + local_at p.layout i) % 2 ^ 64 ≡ slot_at p.layout p.sp p.base (Local i)
@@ -107,7 +94,7 @@ pub record AllKept (p : FramePlace) (i n : ℕ) (v : MachineView) (b : BodyState
   pub rax : ℕ
   pub memory : Memory
   pub does : Executes (parameters_code p.layout i n) v
-      (record { rax = rax; rcx = v.rcx; rdx = v.rdx; rest = v.rest; memory = memory })
+      (record v { rax = rax; memory = memory })
   pub holds : FrameHolds p memory (record {
     slots = with_arguments b.slots arguments i n;
     memory = b.memory;
@@ -117,6 +104,7 @@ pub record AllKept (p : FramePlace) (i n : ℕ) (v : MachineView) (b : BodyState
 above_slots : (p : FramePlace) (i a : ℕ) → IsFunctionFrame p → p.sp + stack_parameter p.layout i ≤ a
     → InTemporaries p.layout p.counts p.sp a ⊎ InLocals p.layout p.counts p.base a → ⊥
 above_slots p i a fn le is = let b = fn.base in let t = fn.temporaries in let l = fn.locals in
+    let w = fn.within in
     elim is [
       | inl x ↦ (let u = x.1 in absurd (omega arith))
       | inr
@@ -156,13 +144,7 @@ parameters_do p i (suc n) count v b arguments room fn lc ll at h regs stack =
     let x = arguments i in
     let lt = stack.small i (let q : i < count = omega arith in q) in
     let m = with_bytes v.memory (with_number v.memory.byte 8 (slot_at y p.sp p.base (Local i)) x) in
-    let w : MachineView = record {
-      rax = k.rax;
-      rcx = v.rcx;
-      rdx = v.rdx;
-      rest = v.rest;
-      memory = m;
-    } in
+    let w : MachineView = record v { rax = k.rax; memory = m } in
     let c : BodyState = record { slots = with_slot b.slots (Local i) x; memory = b.memory } in
     let ch = changes_slot y p.counts p.reserved p.sp p.base room v.memory (Local i) x il in
     let hold = holds_after y p.counts p.reserved p.sp p.base room v.memory b (Local i) x h il lt in
@@ -177,7 +159,7 @@ parameters_do p i (suc n) count v b arguments room fn lc ll at h regs stack =
       rax = r.rax;
       memory = r.memory;
       does = executes_then (parameter_code y i) (parameters_code y (i + 1) n) v w
-          (record { rax = r.rax; rcx = v.rcx; rdx = v.rdx; rest = v.rest; memory = r.memory })
+          (record v { rax = r.rax; memory = r.memory })
           k.does
           r.does;
       holds = r.holds;

@@ -2,6 +2,8 @@
 -- execution, and registers.
 use Rattle.std.proofs.Common.{◌≡◌, ◌≢◌, ℕ, zero, suc, ◌+◌, true, false, List, [], ◌∷◌, length, get_or, set, Ok, refl, sym, ap, ◌∙◌, arith, get_or-set_other}
 use Rattle.std.proofs.lemmas.Bool.{false≢true}
+use Rattle.std.specs.Prelude.{slice_index}
+use Rattle.x64_templates.specs.Straight.{local_registers, other_registers}
 use Rattle.x64_templates.specs.Words.{Instr, Steps, is_encodable, chosen, State, with_rip, effect, MachineView, machine, size, sizes, HasCode}
 use Rattle.eh_tables.specs.declared.code.UnwindOperation.{UnwindOperation}
 use Rattle.eh_tables.specs.declared.code.UnwindOperation.TheVariants.{Allocate}
@@ -36,26 +38,34 @@ good_before f n done (x ∷ xs) g = good_rest f n x done (good_before f n (x ∷
 
 -- ---- registers as templates see them
 
+-- they are those of their numbers
+pub registers_are : (rs : List ℕ) → length rs ≡ 16
+    → rs ≡ slice_index rs 0 ∷ slice_index rs 1 ∷ slice_index rs 2 ∷ slice_index rs 3
+    ∷ slice_index rs 4 ∷ slice_index rs 5 ∷ slice_index rs 6 ∷ slice_index rs 7 ∷ slice_index rs 8
+    ∷ slice_index rs 9 ∷ slice_index rs 10 ∷ slice_index rs 11 ∷ slice_index rs 12
+    ∷ slice_index rs 13 ∷ slice_index rs 14 ∷ slice_index rs 15 ∷ []
+registers_are (a ∷ b ∷ c ∷ d ∷ e ∷ f ∷ g ∷ h ∷ i ∷ j ∷ k ∷ l ∷ m ∷ n ∷ o ∷ p ∷ []) z = refl
+registers_are rs z = absurd (omega arith)
+
 pub record Seen (s : State) : Type 0 where
   pub view : MachineView
   pub is : s ≡ machine view s.cpu.rip s.cpu.flags
-  pub count : length view.rest ≡ 13
 
 pub seen : (s : State) → length s.cpu.registers ≡ 16 → Seen s
-seen s e = by s.cpu.registers refl e
-  where
-    by : (rs : List ℕ) → s.cpu.registers ≡ rs → length rs ≡ 16 → Seen s
-    by [] same n = absurd (omega arith)
-    by (a ∷ []) same n = absurd (omega arith)
-    by (a ∷ b ∷ []) same n = absurd (omega arith)
-    by (a ∷ b ∷ c ∷ rs) same n = record {
-      view = record { rax = a; rcx = b; rdx = c; rest = rs; memory = s.memory };
-      is = ap (λ (xs : List ℕ). let u : State = record {
-        cpu = record { registers = xs; rip = s.cpu.rip; flags = s.cpu.flags };
-        memory = s.memory;
-      } in u) same;
-      count = omega arith;
-    }
+seen s e = record {
+  view = record {
+    rax = slice_index s.cpu.registers 0;
+    rcx = slice_index s.cpu.registers 1;
+    rdx = slice_index s.cpu.registers 2;
+    locals = local_registers s.cpu.registers;
+    rest = other_registers s.cpu.registers;
+    memory = s.memory;
+  };
+  is = ap (λ (rs : List ℕ). let u : State = record {
+    cpu = record { registers = rs; rip = s.cpu.rip; flags = s.cpu.flags };
+    memory = s.memory;
+  } in u) (registers_are s.cpu.registers e);
+}
 
 -- the instruction at RIP is run
 pub first_steps : (i : Instr) (s u : State) → is_encodable i ≡ true
@@ -66,15 +76,6 @@ first_steps i s u enc code is =
     let h = code.placed.high in
     one_steps i s u (enc, tt) (bytes_split s.memory s.cpu.rip (chosen i) [] code.is_there).0
     (record { low = l; high = omega arith }) is
-
--- one of the registers from RBX on is set, and RAX
-pub other_than : (a b c d : ℕ) (rest : List ℕ) (i v j : ℕ) → j ≢ 0 → j ≢ 3 + i
-    → get_or (b ∷ c ∷ d ∷ set rest i v) j 0 ≡ get_or (a ∷ c ∷ d ∷ rest) j 0
-other_than a b c d rest i v zero z ne = absurd (z refl)
-other_than a b c d rest i v (suc zero) z ne = refl
-other_than a b c d rest i v (suc (suc zero)) z ne = refl
-other_than a b c d rest i v (suc (suc (suc j))) z ne =
-    get_or-set_other rest i j v 0 (λ same. ne (omega arith))
 
 -- a volatile register is no nonvolatile one
 pub other_kind : (q r : ℕ) → is_nonvolatile q ≡ false → is_nonvolatile r ≡ true → q ≢ r

@@ -32,7 +32,7 @@ use Rattle.x64_templates.proofs.Entries.{beside, writable_readable}
 use Rattle.x64_templates.proofs.Lemmas.{sizes_append}
 use Rattle.x64_templates.proofs.LargeEntries.{enter_large_run}
 use Rattle.x64_templates.proofs.PlacedCode.{enters_on, reaches_enters}
-use Rattle.x64_templates.proofs.PrologueParts.{bytes_sizes, first_steps, good_before, other_kind, other_than, pushes_before, seen, turned_back}
+use Rattle.x64_templates.proofs.PrologueParts.{bytes_sizes, first_steps, good_before, other_kind, pushes_before, seen, turned_back}
 use Rattle.x64_templates.proofs.Ranges.{within_cell, within_keeps_code, within_same, within_then}
 
 module _ (p : FramePlan) (is_plan : IsPlan p) (check : ℕ) (e : State)
@@ -275,10 +275,9 @@ module _ (p : FramePlan) (is_plan : IsPlan p) (check : ℕ) (e : State)
       abbrev x : UnwindOperation
       x = Allocate k
 
-      by_view : (v : MachineView) (rip : ℕ) (flags : Flags) → length v.rest ≡ 13
-          → Here done at (machine v rip flags)
+      by_view : (v : MachineView) (rip : ℕ) (flags : Flags) → Here done at (machine v rip flags)
           → Goes 8 (at + long x) (x ∷ done) (machine v rip flags)
-      by_view v rip flags count h =
+      by_view v rip flags h =
           let s = machine v rip flags in
           let g = good_before f n (x ∷ done) xs l.good in
           let more = leb-false k 4096 large in
@@ -302,7 +301,7 @@ module _ (p : FramePlan) (is_plan : IsPlan p) (check : ℕ) (e : State)
           (subst (HasCode v.memory (begin + at)) three (code_here x xs done at l s h)) in
           let placed = code.placed.high in
           let most = l.emitted.0 in
-          let r = enter_large_run v sp k rip check flags count at_sp
+          let r = enter_large_run v sp k rip check flags at_sp
           (record {
             enough = omega arith;
             high = omega arith;
@@ -318,37 +317,30 @@ module _ (p : FramePlan) (is_plan : IsPlan p) (check : ℕ) (e : State)
           }) most (subst (λ b. IsNear (b + 10) check) (sym h.rip) probe.1) (omega arith)
           (within_keeps_code (top - n) top e.memory v.memory check check_stack room_writable
           h.within checks) code in
-          let rest = set v.rest 8 r.eleventh in
           let memory = (pushed v sp (rip + 10)).memory in
-          let mid = machine (record {
+          let mid = machine (record v {
             rax = k;
-            rcx = v.rcx;
-            rdx = v.rdx;
-            rest = rest;
+            rest = record v.rest { r11 = r.eleventh };
             memory = memory;
           }) rip flags in
-          let u = machine (record {
+          let u = machine (record v {
             rax = k;
-            rcx = v.rcx;
-            rdx = v.rdx;
-            rest = set rest 1 (sp - k);
+            rest = record v.rest { rsp = sp - k; r11 = r.eleventh };
             memory = memory;
           }) (rip + sizes (allocating (distance (rip + 10) check) k false)) r.flags in
-          let many = length-set v.rest 8 r.eleventh in
-          let many' = length-set rest 1 (sp - k) in
-          let mid_kept : (j : ℕ) → j ≢ 0 → j ≢ 11 → registers mid j ≡ registers s j =
-          λ j z e'. other_than v.rax k v.rcx v.rdx v.rest 8 r.eleventh j z e' in
-          let u_kept : (j : ℕ) → j ≢ 0 → j ≢ 4 → registers u j ≡ registers mid j =
-          λ j z e'. other_than k k v.rcx v.rdx rest 1 (sp - k) j z e' in
-          let lower : registers u 4 ≡ sp - k = get_or-set_same rest 1 (sp - k) 0 (omega arith) in
-          let level : registers mid 4 ≡ sp = mid_kept 4 (λ z. absurd (omega arith))
-          (λ z. absurd (omega arith)) in
+          let mid_kept : (j : ℕ) → j ≢ 0 → j ≢ 11 → registers mid j ≡ registers s j = λ j z e'.
+          set_other (set s.cpu.registers 0 k) 11 j r.eleventh e'
+          ∙ set_other s.cpu.registers 0 j k z in
+          let u_kept : (j : ℕ) → j ≢ 4 → registers u j ≡ registers mid j = λ j e'.
+          set_other mid.cpu.registers 4 j (sp - k) e' in
+          let lower : registers u 4 ≡ sp - k = refl in
+          let level : registers mid 4 ≡ sp = refl in
           let volatile : (j : ℕ) → is_nonvolatile j ≡ true → (j ≢ 0) × (j ≢ 11) = λ j nv. (
             λ z. false≢true (ap is_nonvolatile (sym z) ∙ nv),
             λ z. false≢true (ap is_nonvolatile (sym z) ∙ nv),
           ) in
           let half = carried f offset back e s mid done (good_rest f n x done g).allowed h.running
-          (omega (arith, many)) refl
+          refl refl
           (moved_words v.memory memory (registers e) back sp sp done refl
           (λ b le. beside v.memory sp (rip + 10) b (omega arith) (omega arith) (inr le))
           (omega arith) h.running.holds.stack)
@@ -358,17 +350,17 @@ module _ (p : FramePlan) (is_plan : IsPlan p) (check : ℕ) (e : State)
             comes = reaches_enters begin end 8 s u r.comes;
             here = record {
               running = fallen f offset back n k e mid u done entry g.deep
-                  (pushes_before k done g.ordered) half (omega (arith, many, many'))
+                  (pushes_before k done g.ordered) half refl
                   (refl {a = memory})
                   (omega (arith, lower, level))
-                  (λ j nv ne. u_kept j (volatile j nv).0 ne);
+                  (λ j nv ne. u_kept j ne);
               rip = omega (
                 arith,
                 h.rip,
                 bytes_sizes (instructions_of p x),
                 ap sizes three,
               );
-              kept = λ j vol zero' eleven. u_kept j zero' (other_kind j 4 vol refl)
+              kept = λ j vol zero' eleven. u_kept j (other_kind j 4 vol refl)
                   ∙ mid_kept j zero' eleven ∙ h.kept j vol zero' eleven;
               within = within_then (top - n) top e.memory v.memory memory h.within
                   (within_cell v.memory (top - n) top (sp - 8) (rip + 10) (omega arith)
@@ -382,7 +374,7 @@ module _ (p : FramePlan) (is_plan : IsPlan p) (check : ℕ) (e : State)
       large_goes s h =
           let w = seen s h.running.length in
           subst (Goes 8 (at + long x) (x ∷ done)) (sym w.is)
-          (by_view w.view s.cpu.rip s.cpu.flags w.count (subst (Here done at) w.is h))
+          (by_view w.view s.cpu.rip s.cpu.flags (subst (Here done at) w.is h))
 
     -- ---- a code, and all that are left
 

@@ -11,7 +11,7 @@ use Rattle.x64_templates.proofs.Straight.{executes_one, executes_nothing}
 use Rattle.x64_templates.proofs.Compares.{compares}
 
 abbrev pub with_rax : MachineView → ℕ → MachineView
-with_rax v x = record { rax = x; rcx = v.rcx; rdx = v.rdx; rest = v.rest; memory = v.memory }
+with_rax v x = record v { rax = x }
 
 -- an instruction that puts y into RAX, which is x
 pub gives : (i : Instr) (v : MachineView) (y x : ℕ) → y ≡ x

@@ -1,6 +1,6 @@
 -- A fault in a body, and the operation made again.
 use Rattle.std.proofs.Common.{◌≡◌, ℕ, suc, ◌+◌, ◌^◌, ◌<◌, ◌≤◌, Bool, List, ◌++◌, length, get_or, Option, Some, sym, ap, subst, ◌∙◌, arith, length-append}
-use Rattle.x64_templates.specs.Words.{Code, Flags, Slot, Instruction, Operation, BodyState, with_slot, OperationResult, Gives, Raises, Undefined, performed, InstructionEffect, Faults, step, run, HasSlots, Layout, MachineView, machine, sizes, operands_code, finish_code, Links, template, template_size, offset_of, HasOperands, HasCode, FramePlace, Roomy, FrameHolds, ChangesOwn, ReachesBody, Finished, InstructionDone, IsLinked, ReachesFault}
+use Rattle.x64_templates.specs.Words.{OtherRegisters, Code, Flags, Slot, Instruction, Operation, BodyState, with_slot, OperationResult, Gives, Raises, Undefined, performed, InstructionEffect, Faults, step, run, HasSlots, Layout, MachineView, machine, sizes, operands_code, finish_code, Links, template, template_size, offset_of, HasOperands, HasCode, FramePlace, Roomy, FrameHolds, ChangesOwn, ReachesBody, Finished, InstructionDone, IsLinked, ReachesFault}
 use Rattle.x64_templates.proofs.PlacedCode.{reaches_then}
 use Rattle.linear_code.specs.declared.instruction.Instruction.TheVariants as instructions
 use Rattle.x64_templates.proofs.Lemmas.{sizes_append, compute_length, template_sizes, offset_next}
@@ -44,7 +44,7 @@ body_faults p k start body n number v f b last c to first second o code access r
     let w = g.follows.after in
     let here = start + offset_of p.layout body last in
     let l' = linked_stays p k v.memory w.memory start body b g.follows.changes h l in
-    let at' = ap (λ (r : List ℕ). get_or r 1 0) g.follows.rest ∙ at in
+    let at' = ap (λ (r : OtherRegisters). r.rsp) g.follows.rest ∙ at in
     let done = body_instruction_run p k start body last w g.follows.flags c room l'.labels l'.small
     l'.high lt (l'.slots last lt) at' g.follows.holds l'.code in
     let instruction = get_or body last instructions.Separator in
@@ -66,6 +66,7 @@ body_faults p k start body n number v f b last c to first second o code access r
           g.follows.comes r.comes;
       waits = r.waits;
       rest = r.rest ∙ g.follows.rest;
+      locals = r.locals ∙ g.follows.locals;
       holds = subst (λ m. FrameHolds p m c) (sym r.memory) g.follows.holds;
       changes = subst (λ m. ChangesOwn p v.memory m) (sym r.memory) g.follows.changes;
       fault = r.fault;
@@ -76,7 +77,7 @@ retried_by : (p : FramePlace) (next : ℕ) (to : Slot) (o : Operation) (v : Mach
     → at + sizes (finish_code p.layout o to) ≡ next → Finished p o to v at f b outcome
     → Retried p next to o v at f b outcome
 retried_by p next to o v at f b (Gives x m) e g = subst
-    (λ a. ReachesBody p (length (finish_code p.layout o to)) (machine v at f) a v.rest
+    (λ a. ReachesBody p (length (finish_code p.layout o to)) (machine v at f) a v.rest v.locals
     (record { slots = with_slot b.slots to x; memory = m })) e g
 retried_by p next to o v at f b (Raises code access) e g = g
 retried_by p next to o v at f b (Undefined a) e g = tt

@@ -1,7 +1,6 @@
 -- A body is left, and its caller's slots outlast a call.
-use Rattle.std.proofs.Common.{◌≡◌, ℕ, ◌+◌, ◌%◌, ◌^◌, ◌<◌, ◌≤◌, ◌==◌, Bool, true, false, List, [], ◌∷◌, length, Ok, refl, sym, ap, subst, ◌∙◌, arith, get_or-set_same, length-append}
+use Rattle.std.proofs.Common.{◌≡◌, ℕ, ◌+◌, ◌%◌, ◌^◌, ◌<◌, ◌≤◌, ◌==◌, Bool, true, false, List, [], ◌∷◌, length, Ok, refl, sym, ap, subst, ◌∙◌, arith, get_or-set_same, length-append, ◌-◌}
 use Rattle.std.proofs.lemmas.Bool.{eqb-true}
-use Rattle.std.proofs.lemmas.List.{set-set}
 use Rattle.frame_rules.specs.Plan.{epilogue}
 use Rattle.template_code.specs.Frames.{plan_of_layout}
 use Rattle.template_code.proofs.Frames.{ending_by}
@@ -28,7 +27,7 @@ pub record Outlasts (reserved : ℕ → Bool) (sp : ℕ) (m m' : Memory) : Type 
 pub call_ends : (p : FramePlace) (to : Slot) (v : MachineView) (at : ℕ) (f : Flags) (b : BodyState)
     → Roomy p → IsThere p to → v.rax < 2 ^ 64 → sp_of v ≡ p.sp → FrameHolds p v.memory b
     → HasCode v.memory at (keep p.layout to) → ReachesBody p (length (keep p.layout to))
-    (machine v at f) (at + sizes (keep p.layout to)) v.rest
+    (machine v at f) (at + sizes (keep p.layout to)) v.rest v.locals
     (record { slots = with_slot b.slots to v.rax; memory = b.memory })
 call_ends p to v at f b room is small sp h code =
     leads_kept p [] to v at f b v.rax b.memory tt room is sp h code
@@ -47,9 +46,6 @@ call_ends p to v at f b room is small sp h code =
     })
 
 -- ---- RSP is moved
-
-pub sp_moved : (v : MachineView) (sp : ℕ) → length v.rest ≡ 13 → sp_of (moved v sp) ≡ sp
-sp_moved v sp e = get_or-set_same v.rest 1 sp 0 (omega arith)
 
 raise_effect : (v : MachineView) (n sp next : ℕ) (f : Flags) → sp_of v ≡ sp → n < 2 ^ 31
     → sp + n < 2 ^ 64 → effect (machine v next f)
@@ -75,25 +71,20 @@ return_effect v sp back next f e high b =
     ∙ ap (λ (a : ℕ). Ok (with_rip after a)) b.number
     ∙ ap (λ (a : ℕ). Ok (machine (moved v a) back f)) up
 
-pub moved_twice : (v : MachineView) (a b : ℕ) → moved (moved v a) b ≡ moved v b
-moved_twice v a b = ap (λ (r : List ℕ). let w : MachineView =
-    record { rax = v.rax; rcx = v.rcx; rdx = v.rdx; rest = r; memory = v.memory } in w)
-    (set-set v.rest 1 a b)
-
 epilogue_run : (v : MachineView) (sp frame back rip : ℕ) (f : Flags) (none : Bool)
-    → (frame == 0) ≡ none → length v.rest ≡ 13
+    → (frame == 0) ≡ none
     → sp_of v ≡ sp → frame < 2 ^ 31 → sp < 2 ^ 47 → HasBack v.memory (sp + frame) back
     → HasCode v.memory rip (ending_by frame 0 none) → (flags : Flags)
     × Reaches (length (ending_by frame 0 none)) (machine v rip f)
     (machine (moved v (sp + frame + 8)) back flags)
-epilogue_run v sp frame back rip f true none n at lt high b code =
+epilogue_run v sp frame back rip f true none at lt high b code =
     let no_frame = eqb-true frame 0 none in
     let z : sp + frame ≡ sp = omega arith in
     let last = one_reaches instrs.Return v (moved v (sp + 8)) rip back f f refl refl code
     (return_effect v sp back (rip + size instrs.Return) f at (omega arith)
     (subst (λ a. HasBack v.memory a back) z b)) in
     (f, subst (λ a. Reaches 1 (machine v rip f) (machine (moved v (a + 8)) back f)) (sym z) last)
-epilogue_run v sp frame back rip f false none n at lt high b code =
+epilogue_run v sp frame back rip f false none at lt high b code =
     let i = instrs.Arithmetic arithmetic.Add W64 (places.Register Rsp) (operands.Immediate frame) in
     let g = (added W64 (low W64 (sp_of v)) (low W64 frame)).1 in
     let parts = code_split v.memory rip (i ∷ []) (instrs.Return ∷ []) code in
@@ -104,22 +95,20 @@ epilogue_run v sp frame back rip f false none n at lt high b code =
     (raise_effect v frame sp (rip + size i) f at lt (omega arith))) in
     let second = one_reaches instrs.Return up (moved up (sp + frame + 8)) (rip + sizes (i ∷ []))
     back g g refl refl parts.1 (return_effect up (sp + frame) back
-    (rip + sizes (i ∷ []) + size instrs.Return) g (sp_moved v (sp + frame) n) (omega arith) b) in (
+    (rip + sizes (i ∷ []) + size instrs.Return) g refl (omega arith) b) in (
       g,
-      subst (λ w. Reaches 2 (machine v rip f) (machine w back g))
-          (moved_twice v (sp + frame) (sp + frame + 8))
-          (reaches_then 1 1 (machine v rip f) (machine up (rip + sizes (i ∷ [])) g)
-          (machine (moved up (sp + frame + 8)) back g) first second),
+      reaches_then 1 1 (machine v rip f) (machine up (rip + sizes (i ∷ [])) g)
+          (machine (moved up (sp + frame + 8)) back g) first second,
     )
 
 pub return_run : (p : FramePlace) (from : Slot) (v : MachineView) (back rip : ℕ) (f : Flags)
-    (b : BodyState) → Roomy p → IsThere p from → length v.rest ≡ 13 → sp_of v ≡ p.sp
+    (b : BodyState) → Roomy p → IsThere p from → sp_of v ≡ p.sp
     → p.layout.frame < 2 ^ 31 → FrameHolds p v.memory b
     → HasBack v.memory (p.sp + p.layout.frame) back
     → HasCode v.memory rip (return_code p.layout from)
     → Returned (length (return_code p.layout from)) v (p.sp + p.layout.frame + 8) back
     (b.slots from) rip f
-return_run p from v back rip f b room is n at lt h has code =
+return_run p from v back rip f b room is at lt h has code =
     let y = p.layout in
     let first = fetch y Rax from in
     let w = put true v (b.slots from) in
@@ -127,7 +116,7 @@ return_run p from v back rip f b room is n at lt h has code =
     let parts = code_split v.memory rip first last code in
     let r = runs_view first v w rip f (fetch_fine y p.counts p.sp p.base true from room is) parts.0
     (fetch_does y p.counts p.reserved p.sp p.base room true from v b is at h) in
-    let e = epilogue_run w p.sp y.frame back (rip + sizes first) r.left (y.frame == 0) refl n at lt
+    let e = epilogue_run w p.sp y.frame back (rip + sizes first) r.left (y.frame == 0) refl at lt
     room.high has parts.1 in
     let turns : length first + length last
     ≡ length (return_code y from) = sym (length-append first last) in

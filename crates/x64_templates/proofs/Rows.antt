@@ -8,7 +8,14 @@ use Rattle.linear_code.specs.declared.instruction.Instruction.TheVariants as ins
 -- a function with temporaries from 128 and locals from 256 above RSP, and a block of it that keeps
 -- the base 32 above its own
 function_layout : Layout
-function_layout = record { base = None; pointers = 0; locals = 256; temporaries = 128; frame = 312 }
+function_layout = record {
+  base = None;
+  pointers = 0;
+  locals = 256;
+  temporaries = 128;
+  slots = 312;
+  frame = 312;
+}
 
 block_layout : Layout
 block_layout = record {
@@ -16,6 +23,7 @@ block_layout = record {
   pointers = 40;
   locals = 256;
   temporaries = 128;
+  slots = 152;
   frame = 152;
 }
 

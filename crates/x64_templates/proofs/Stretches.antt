@@ -2,12 +2,13 @@
 use Rattle.std.proofs.Common.{◌≡◌, ℕ, zero, suc, ◌+◌, ◌<◌, ◌≤◌, Bool, true, false, cond, List, [], ◌∷◌, length, get_or, Option, Some, None, refl, sym, ap, subst, ◌∙◌, arith, inl, inr}
 use Rattle.std.specs.Prelude.{◌⊎◌}
 use Rattle.std.proofs.lemmas.Bool.{cases_lt, lt-ltb, le-ltb}
-use Rattle.x64_templates.specs.Words.{Protection, is_writable, Memory, Instr, Flags, State, IsCodeAt, spelled, Instruction, BodyState, InstructionEffect, Next, JumpsTo, Faults, step, run, MachineView, machine, sizes, Links, template, template_size, offset_of, code_from, InTemporaries, InLocals, HasCode, FramePlace, Roomy, FrameHolds, ChangesOwn, ReachesBody, InstructionDone, IsLinked, ReservedAccess, NeedsDispatcher, BodyPoint, continued, RunsTo, RunsAllTo}
+use Rattle.x64_templates.specs.Words.{Protection, is_writable, Memory, Instr, Flags, State, IsCodeAt, spelled, Instruction, BodyState, InstructionEffect, Next, JumpsTo, Faults, step, run, LocalRegisters, OtherRegisters, MachineView, machine, sizes, Links, template, template_size, offset_of, code_from, InTemporaries, InLocals, HasCode, FramePlace, Roomy, FrameHolds, ChangesOwn, ReachesBody, InstructionDone, IsLinked, ReservedAccess, NeedsDispatcher, BodyPoint, continued, RunsTo, RunsAllTo}
 use Rattle.x64_templates.proofs.PlacedCode.{no_turns, reaches_then}
 use Rattle.linear_code.specs.declared.instruction.Instruction.TheVariants as instructions
 use Rattle.x64_templates.proofs.Lemmas.{sizes_spelled, body_sizes, offset_next}
 use Rattle.x64_templates.proofs.Cells.{sp_of}
 use Rattle.x64_templates.proofs.Bodies.{changes_then}
+use Rattle.x64_templates.proofs.Computes.{named_alike}
 use Rattle.x64_templates.proofs.InstructionRuns.{body_instruction_run}
 
 -- ---- code stays where it is
@@ -56,23 +57,34 @@ linked_stays p k m m' start body b c h l =
 
 -- ---- one stretch after another
 
-pub follows_then : (p : FramePlace) (m n : ℕ) (s : State) (mid to : ℕ) (others : List ℕ)
-    (b c : BodyState) → (g : ReachesBody p m s mid others b)
-    → ReachesBody p n (machine g.after mid g.flags) to others c
-    → ReachesBody p (m + n) s to others c
-follows_then p m n s mid to others b c g r = record {
+pub follows_then : (p : FramePlace) (m n : ℕ) (s : State) (mid to : ℕ) (others : OtherRegisters)
+    (locals : LocalRegisters) (b c : BodyState) → (g : ReachesBody p m s mid others locals b)
+    → ReachesBody p n (machine g.after mid g.flags) to others locals c
+    → ReachesBody p (m + n) s to others locals c
+follows_then p m n s mid to others locals b c g r = record {
   after = r.after;
   flags = r.flags;
   comes = reaches_then m n s (machine g.after mid g.flags) (machine r.after to r.flags) g.comes
       r.comes;
   rest = r.rest;
+  locals = r.locals;
   holds = r.holds;
   changes = changes_then p.layout p.counts p.reserved p.sp p.base s.memory g.after.memory
       r.after.memory g.changes r.changes;
 }
 
+runs_alike : (p : FramePlace) (n : ℕ) (s : State) (to : ℕ) (rest others : OtherRegisters)
+    (locals same : LocalRegisters) (b : BodyState) → rest ≡ others → locals ≡ same
+    → RunsAllTo p n s to rest locals b → RunsAllTo p n s to others same b
+runs_alike p n s to rest others locals same b e d g = record {
+  turns = g.turns;
+  least = g.least;
+  most = g.most;
+  follows = named_alike p g.turns s to rest others locals same b e d g.follows;
+}
+
 nothing_made : (p : FramePlace) (v : MachineView) (at : ℕ) (f : Flags) (b : BodyState)
-    → FrameHolds p v.memory b → RunsAllTo p 0 (machine v at f) at v.rest b
+    → FrameHolds p v.memory b → RunsAllTo p 0 (machine v at f) at v.rest v.locals b
 nothing_made p v at f b h = record {
   turns = 0;
   least = omega arith;
@@ -82,22 +94,23 @@ nothing_made p v at f b h = record {
     flags = f;
     comes = no_turns (machine v at f) (machine v at f) refl;
     rest = refl;
+    locals = refl;
     holds = h;
     changes = record { protection = refl; byte = λ a own out. refl; bytes = λ x. x };
   };
 }
 
 made_then : (p : FramePlace) (m n : ℕ) (v : MachineView) (at : ℕ) (f : Flags) (mid to : ℕ)
-    (b c : BodyState) → (g : RunsTo p m (machine v at f) mid v.rest b)
-    → RunsAllTo p n (machine g.follows.after mid g.follows.flags) to v.rest c
-    → RunsAllTo p (suc n) (machine v at f) to v.rest c
+    (b c : BodyState) → (g : RunsTo p m (machine v at f) mid v.rest v.locals b)
+    → RunsAllTo p n (machine g.follows.after mid g.follows.flags) to v.rest v.locals c
+    → RunsAllTo p (suc n) (machine v at f) to v.rest v.locals c
 made_then p m n v at f mid to b c g r =
     let l1 = g.least in let m1 = g.most in let l2 = r.least in let m2 = r.most in
     record {
       turns = m + r.turns;
       least = omega arith;
       most = omega arith;
-      follows = follows_then p m r.turns (machine v at f) mid to v.rest b c g.follows r.follows;
+      follows = follows_then p m r.turns (machine v at f) mid to v.rest v.locals b c g.follows r.follows;
     }
 
 -- ---- the body
@@ -107,7 +120,7 @@ Runs p k start body n = (number : ℕ) (v : MachineView) (f : Flags) (b : BodySt
     (c : BodyState) → IsLinked p k v.memory start body → sp_of v ≡ p.sp → FrameHolds p v.memory b
     → run p.reserved body n number b ≡ Some (last, c)
     → RunsAllTo p n (machine v (start + offset_of p.layout body number) f)
-    (start + offset_of p.layout body last) v.rest c
+    (start + offset_of p.layout body last) v.rest v.locals c
 
 same_point : (x y : ℕ) (b c : BodyState) → ◌≡◌ {A = Option BodyPoint} (Some (x, b)) (Some (y, c))
     → (x ≡ y) × (b ≡ c)
@@ -129,15 +142,15 @@ after_line : (p : FramePlace) (k : Links) (start : ℕ) (body : List Instruction
     → InstructionDone p k v (start + offset_of p.layout body number) f b instruction s
     → continued (run p.reserved body n) number s ≡ Some (last, c)
     → RunsAllTo p (suc n) (machine v (start + offset_of p.layout body number) f)
-    (start + offset_of p.layout body last) v.rest c
+    (start + offset_of p.layout body last) v.rest v.locals c
 after_line p k start body n number v f b last c instruction (Next d) rec l at h lt is done e =
     let y = p.layout in
     let here = start + offset_of y body number in
     let next : here + template_size y instruction
     ≡ start + offset_of y body (number + 1) = step_to (number + 1) (omega arith) in
     let turns = length (template k y here instruction) in
-    let g : RunsTo p turns (machine v here f) (start + offset_of y body (number + 1)) v.rest
-    d = subst (λ a. RunsTo p turns (machine v here f) a v.rest d) next done in
+    let g : RunsTo p turns (machine v here f) (start + offset_of y body (number + 1)) v.rest v.locals
+    d = subst (λ a. RunsTo p turns (machine v here f) a v.rest v.locals d) next done in
     go turns g e
   where
     step_to : (j : ℕ) → j ≡ suc number → start + offset_of p.layout body number
@@ -152,36 +165,35 @@ after_line p k start body n number v f b last c instruction (Next d) rec l at h 
         omega arith
 
     go : (m : ℕ) → (g : RunsTo p m (machine v (start + offset_of p.layout body number) f)
-        (start + offset_of p.layout body (number + 1)) v.rest d)
+        (start + offset_of p.layout body (number + 1)) v.rest v.locals d)
         → run p.reserved body n (number + 1) d ≡ Some (last, c)
         → RunsAllTo p (suc n) (machine v (start + offset_of p.layout body number) f)
-        (start + offset_of p.layout body last) v.rest c
+        (start + offset_of p.layout body last) v.rest v.locals c
     go m g e = made_then p m n v (start + offset_of p.layout body number) f
         (start + offset_of p.layout body (number + 1)) (start + offset_of p.layout body last) d c g
-        (subst (λ r. RunsAllTo p n (machine g.follows.after
-        (start + offset_of p.layout body (number + 1)) g.follows.flags)
-        (start + offset_of p.layout body last) r c) g.follows.rest
-        (rec (number + 1) g.follows.after g.follows.flags d last c
+        (runs_alike p n (machine g.follows.after (start + offset_of p.layout body (number + 1))
+        g.follows.flags) (start + offset_of p.layout body last) g.follows.after.rest v.rest
+        g.follows.after.locals v.locals c g.follows.rest g.follows.locals (rec (number + 1) g.follows.after g.follows.flags d last c
         (linked_stays p k v.memory g.follows.after.memory start body b g.follows.changes h l)
-        (ap (λ (r : List ℕ). get_or r 1 0) g.follows.rest ∙ at) g.follows.holds e))
+        (ap (λ (r : OtherRegisters). r.rsp) g.follows.rest ∙ at) g.follows.holds e))
 after_line p k start body n number v f b last c instruction (JumpsTo d label) rec l at h lt is done
     e =
     let turns = length (template k p.layout (start + offset_of p.layout body number) instruction) in
     go turns (subst (λ a. RunsTo p turns (machine v (start + offset_of p.layout body number) f) a
-    v.rest d) (l.labels label) done) e
+    v.rest v.locals d) (l.labels label) done) e
   where
     go : (m : ℕ) → (g : RunsTo p m (machine v (start + offset_of p.layout body number) f)
-        (start + offset_of p.layout body label) v.rest d)
+        (start + offset_of p.layout body label) v.rest v.locals d)
         → run p.reserved body n label d ≡ Some (last, c)
         → RunsAllTo p (suc n) (machine v (start + offset_of p.layout body number) f)
-        (start + offset_of p.layout body last) v.rest c
+        (start + offset_of p.layout body last) v.rest v.locals c
     go m g e = made_then p m n v (start + offset_of p.layout body number) f
         (start + offset_of p.layout body label) (start + offset_of p.layout body last) d c g
-        (subst (λ r. RunsAllTo p n (machine g.follows.after (start + offset_of p.layout body label)
-        g.follows.flags) (start + offset_of p.layout body last) r c) g.follows.rest
-        (rec label g.follows.after g.follows.flags d last c
+        (runs_alike p n (machine g.follows.after (start + offset_of p.layout body label)
+        g.follows.flags) (start + offset_of p.layout body last) g.follows.after.rest v.rest
+        g.follows.after.locals v.locals c g.follows.rest g.follows.locals (rec label g.follows.after g.follows.flags d last c
         (linked_stays p k v.memory g.follows.after.memory start body b g.follows.changes h l)
-        (ap (λ (r : List ℕ). get_or r 1 0) g.follows.rest ∙ at) g.follows.holds e))
+        (ap (λ (r : OtherRegisters). r.rsp) g.follows.rest ∙ at) g.follows.holds e))
 after_line p k start body n number v f b last c instruction (Faults code access) rec l at h lt is
     done e =
     absurd cc
@@ -198,14 +210,14 @@ pub body_runs : (p : FramePlace) (k : Links) (start : ℕ) (body : List Instruct
     → IsLinked p k v.memory start body → sp_of v ≡ p.sp → FrameHolds p v.memory b
     → run p.reserved body n number b ≡ Some (last, c)
     → RunsAllTo p n (machine v (start + offset_of p.layout body number) f)
-    (start + offset_of p.layout body last) v.rest c
+    (start + offset_of p.layout body last) v.rest v.locals c
 unfolding run
 body_runs p k start body zero room number v f b last c l at h e =
     let q = same_point number last b c e in
     subst (λ x. RunsAllTo p 0 (machine v (start + offset_of p.layout body number) f)
-    (start + offset_of p.layout body x) v.rest c) q.0
+    (start + offset_of p.layout body x) v.rest v.locals c) q.0
     (subst (λ d. RunsAllTo p 0 (machine v (start + offset_of p.layout body number) f)
-    (start + offset_of p.layout body number) v.rest d) q.1
+    (start + offset_of p.layout body number) v.rest v.locals d) q.1
     (nothing_made p v (start + offset_of p.layout body number) f b h))
 body_runs p k start body (suc n) room number v f b last c l at h e =
     let instruction = get_or body number instructions.Separator in

@@ -16,7 +16,7 @@ word : (sp x : ℕ) → x ≡ sp → sp < 2 ^ 63 → low W64 (low W64 x) ≡ sp
 word sp x e lt = omega arith
 
 abbrev pub with_two : MachineView → ℕ → ℕ → MachineView
-with_two v a b = record { rax = v.rax; rcx = a; rdx = b; rest = v.rest; memory = v.memory }
+with_two v a b = record v { rcx = a; rdx = b }
 
 -- ---- at the normal end of a body: ECX is 0, RDX the base of the frame
 

@@ -15,6 +15,7 @@ function_place = record {
     pointers = 0;
     locals = 160;
     temporaries = 32;
+    slots = 192;
     frame = 200;
   };
   counts = counts;
@@ -31,6 +32,7 @@ block_place = record {
     pointers = 16;
     locals = 160;
     temporaries = 32;
+    slots = 192;
     frame = 200;
   };
   counts = counts;
@@ -60,7 +62,12 @@ block_room = record {
 }
 
 function_is : IsFunctionFrame function_place
-function_is = record { base = refl; temporaries = omega arith; locals = omega arith }
+function_is = record {
+  base = refl;
+  temporaries = omega arith;
+  locals = omega arith;
+  within = omega arith;
+}
 
 abbrev plain_memory : Memory
 plain_memory = record {

@@ -1,27 +1,23 @@
 -- What a call, an entry and a return come to.
-use Rattle.std.specs.Prelude.{◌≡◌, ℕ, ◌+◌, ◌-◌, ◌^◌, ◌<◌, ◌≤◌, true, List, set, get_or}
+use Rattle.std.specs.Prelude.{◌≡◌, ℕ, ◌+◌, ◌-◌, ◌^◌, ◌<◌, ◌≤◌, true}
 use Rattle.flat_memory.specs.Memory.{Memory, may_read, may_write, number_at, with_number, with_bytes}
-use Rattle.x64_templates.specs.Straight.{MachineView}
+use Rattle.x64_templates.specs.Straight.{MachineView, OtherRegisters}
 
 -- RSP
 abbrev pub sp_of : MachineView → ℕ
-sp_of v = get_or v.rest 1 0
+sp_of v = v.rest.rsp
 
-abbrev pub with_sp : List ℕ → ℕ → List ℕ
-with_sp rest sp = set rest 1 sp
+abbrev pub with_sp : OtherRegisters → ℕ → OtherRegisters
+with_sp rest sp = record rest { rsp = sp }
 
--- R8 and R9 are sixth and seventh of the registers from RBX on
+-- RCX, RDX, R8 and R9
 abbrev pub with_four : MachineView → ℕ → ℕ → ℕ → ℕ → MachineView
-with_four v a b c d =
-    record { rax = v.rax; rcx = a; rdx = b; rest = set (set v.rest 5 c) 6 d; memory = v.memory }
+with_four v a b c d = record v { rcx = a; rdx = b; rest = record v.rest { r8 = c; r9 = d } }
 
 -- the return address is below what was RSP
 abbrev pub pushed : MachineView → ℕ → ℕ → MachineView
 pushed v sp back =
-    record {
-      rax = v.rax;
-      rcx = v.rcx;
-      rdx = v.rdx;
+    record v {
       rest = with_sp v.rest (sp - 8);
       memory = with_bytes v.memory (with_number v.memory.byte 8 (sp - 8) back);
     }
@@ -39,5 +35,4 @@ pub record HasBack (m : Memory) (sp back : ℕ) : Type 0 where
   pub small : back < 2 ^ 64
 
 abbrev pub moved : MachineView → ℕ → MachineView
-moved v sp =
-    record { rax = v.rax; rcx = v.rcx; rdx = v.rdx; rest = with_sp v.rest sp; memory = v.memory }
+moved v sp = record v { rest = with_sp v.rest sp }

@@ -1,5 +1,5 @@
 -- The state in which a body begins.
-use Rattle.std.specs.Prelude.{◌≡◌, ◌⊎◌, ℕ, zero, suc, ◌+◌, ◌-◌, ◌*◌, ◌^◌, ◌<◌, ◌≤◌, true, nat_lt, if◌then◌else◌, get_or}
+use Rattle.std.specs.Prelude.{◌≡◌, ◌⊎◌, ℕ, zero, suc, ◌+◌, ◌-◌, ◌*◌, ◌^◌, ◌<◌, ◌≤◌, true, nat_lt, if◌then◌else◌}
 use Rattle.flat_memory.specs.Memory.{Memory, may_read, may_write, number_at}
 use Rattle.linear_code.specs.declared.slot.Slot.{Slot}
 use Rattle.linear_code.specs.declared.slot.Slot.TheVariants.{Local, Temporary}
@@ -26,8 +26,8 @@ passed slots first i =
 pub record InRegisters (v : MachineView) (arguments : ℕ → ℕ) : Type 0 where
   pub first : v.rcx ≡ arguments 0
   pub second : v.rdx ≡ arguments 1
-  pub third : get_or v.rest 5 0 ≡ arguments 2
-  pub fourth : get_or v.rest 6 0 ≡ arguments 3
+  pub third : v.rest.r8 ≡ arguments 2
+  pub fourth : v.rest.r9 ≡ arguments 3
 
 -- the further ones are above the frame, where no slot is
 pub record OnStack (p : FramePlace) (m : Memory) (count : ℕ) (arguments : ℕ → ℕ) : Type 0 where
@@ -40,11 +40,12 @@ pub record OnStack (p : FramePlace) (m : Memory) (count : ℕ) (arguments : ℕ 
   pub near : (i : ℕ) → i < count → stack_parameter p.layout i < 2 ^ 31
   pub small : (i : ℕ) → i < count → arguments i < 2 ^ 64
 
--- a function's frame, all slots of which lie below its end
+-- a function's frame, all slots of which lie below where slots end, and so below its end
 pub record IsFunctionFrame (p : FramePlace) : Type 0 where
   pub base : p.base ≡ p.sp
-  pub temporaries : p.layout.temporaries + 8 * p.counts.temporaries ≤ p.layout.frame
-  pub locals : p.layout.locals + 8 * p.counts.locals ≤ p.layout.frame
+  pub temporaries : p.layout.temporaries + 8 * p.counts.temporaries ≤ p.layout.slots
+  pub locals : p.layout.locals + 8 * p.counts.locals ≤ p.layout.slots
+  pub within : p.layout.slots ≤ p.layout.frame
 
 -- the body whose slots hold what memory has at their places
 abbrev pub body_in_memory : Layout → ℕ → ℕ → Memory → Memory → BodyState

@@ -7,18 +7,18 @@ use Rattle.linear_code.specs.declared.instruction.Instruction.{Instruction}
 use Rattle.linear_code.specs.declared.instruction.Instruction.TheVariants as instructions
 use Rattle.linear_code.specs.BodyState.{BodyState}
 use Rattle.linear_code.specs.Meaning.{InstructionEffect, Next, JumpsTo, Faults, HasSlots}
-use Rattle.x64_templates.specs.Straight.{MachineView, machine}
+use Rattle.x64_templates.specs.Straight.{LocalRegisters, OtherRegisters, MachineView, machine}
 use Rattle.template_code.specs.Bytes.{sizes}
 use Rattle.template_code.specs.Slots.{operands_code}
 use Rattle.template_code.specs.Template.{Links, template, template_size, body_size, code_from, HasLabels}
 use Rattle.x64_templates.specs.Runs.{HasCode, FramePlace, ReachesBody, ReachesFault}
 
 -- in so many turns, 1 to 16, the run comes to this address, with this body
-pub record RunsTo (p : FramePlace) (turns : ℕ) (s : State) (to : ℕ) (others : List ℕ)
-    (b : BodyState) : Type 0 where
+pub record RunsTo (p : FramePlace) (turns : ℕ) (s : State) (to : ℕ) (others : OtherRegisters)
+    (locals : LocalRegisters) (b : BodyState) : Type 0 where
   pub least : 1 ≤ turns
   pub most : turns ≤ 16
-  pub follows : ReachesBody p turns s to others b
+  pub follows : ReachesBody p turns s to others locals b
 
 -- by what the instruction means: on to the next one, or to a label, in one turn for each machine
 -- instruction of its template, or to a fault
@@ -26,10 +26,10 @@ abbrev pub InstructionDone : FramePlace → Links → MachineView → ℕ → Fl
     → InstructionEffect → Type 0
 InstructionDone p k v here flags b instruction (Next c) =
     RunsTo p (length (template k p.layout here instruction)) (machine v here flags)
-    (here + template_size p.layout instruction) v.rest c
+    (here + template_size p.layout instruction) v.rest v.locals c
 InstructionDone p k v here flags b instruction (JumpsTo c label) =
     RunsTo p (length (template k p.layout here instruction)) (machine v here flags)
-    (k.label label) v.rest c
+    (k.label label) v.rest v.locals c
 InstructionDone p k v here flags b (instructions.Compute to o first second) (Faults code access) =
     ReachesFault (length (operands_code p.layout o first second)) v here flags
     (here + sizes (operands_code p.layout o first second)) o (b.slots first)
@@ -37,12 +37,12 @@ InstructionDone p k v here flags b (instructions.Compute to o first second) (Fau
 InstructionDone p k v here flags b instruction _ = Unit {0}
 
 -- the same for n instructions, in n to 16 n turns
-pub record RunsAllTo (p : FramePlace) (n : ℕ) (s : State) (to : ℕ) (others : List ℕ)
-    (b : BodyState) : Type 0 where
+pub record RunsAllTo (p : FramePlace) (n : ℕ) (s : State) (to : ℕ) (others : OtherRegisters)
+    (locals : LocalRegisters) (b : BodyState) : Type 0 where
   pub turns : ℕ
   pub least : n ≤ turns
   pub most : turns ≤ 16 * n
-  pub follows : ReachesBody p turns s to others b
+  pub follows : ReachesBody p turns s to others locals b
 
 -- a body whose code is placed where no source access reaches, with labels at its instructions
 pub record IsLinked (p : FramePlace) (k : Links) (m : Memory) (start : ℕ)

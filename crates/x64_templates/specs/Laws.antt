@@ -56,7 +56,7 @@ BodiesRun =
     → IsLinked p k v.memory start body → sp_of v ≡ p.sp → FrameHolds p v.memory b
     → run p.reserved body n number b ≡ Some (last, c)
     → RunsAllTo p n (machine v (start + offset_of p.layout body number) f)
-    (start + offset_of p.layout body last) v.rest c
+    (start + offset_of p.layout body last) v.rest v.locals c
 
 -- ---- faults
 
@@ -120,14 +120,14 @@ ArgumentsAreKept =
     → FrameHolds p v.memory b → InRegisters v arguments → OnStack p v.memory count arguments
     → HasCode v.memory rip (parameters_code p.layout 0 count)
     → ReachesBody p (length (parameters_code p.layout 0 count)) (machine v rip f)
-    (rip + sizes (parameters_code p.layout 0 count)) v.rest
+    (rip + sizes (parameters_code p.layout 0 count)) v.rest v.locals
     (record { slots = with_arguments b.slots arguments 0 count; memory = b.memory })
 
 -- a return leaves the number in RAX and gives the frame back
 abbrev pub BodiesReturn : Type 0
 BodiesReturn =
     (p : FramePlace) (from : Slot) (v : MachineView) (back rip : ℕ) (f : Flags) (b : BodyState)
-    → Roomy p → IsThere p from → length v.rest ≡ 13 → sp_of v ≡ p.sp → p.layout.frame < 2 ^ 31
+    → Roomy p → IsThere p from → sp_of v ≡ p.sp → p.layout.frame < 2 ^ 31
     → FrameHolds p v.memory b → HasBack v.memory (p.sp + p.layout.frame) back
     → HasCode v.memory rip (return_code p.layout from)
     → Returned (length (return_code p.layout from)) v (p.sp + p.layout.frame + 8) back

@@ -1,4 +1,5 @@
 pub mod Straight
+pub mod Locals
 pub mod Frames
 pub mod Placed
 pub mod CallStates

@@ -26,6 +26,7 @@ pub record FaultsAfter (p : FramePlace) (n : ℕ) (v : MachineView) (rip : ℕ) 
   pub comes : Reaches turns (machine v rip f) (machine stopped at left)
   pub waits : HasOperands o first second stopped
   pub rest : stopped.rest ≡ v.rest
+  pub locals : stopped.locals ≡ v.locals
   pub holds : FrameHolds p stopped.memory b
   pub changes : ChangesOwn p v.memory stopped.memory
   pub fault : machines.step (machine stopped at left) ≡ Err (stops.Fault code access)
@@ -36,7 +37,7 @@ abbrev pub Retried : FramePlace → ℕ → Slot → Operation → MachineView �
     → OperationResult
     → Type 0
 Retried p next to o v at f b (Gives x m) =
-    ReachesBody p (length (finish_code p.layout o to)) (machine v at f) next v.rest
+    ReachesBody p (length (finish_code p.layout o to)) (machine v at f) next v.rest v.locals
     (record { slots = with_slot b.slots to x; memory = m })
 Retried p next to o v at f b (Raises code access) =
     machines.step (machine v at f) ≡ Err (stops.Fault code access)

@@ -12,13 +12,7 @@ use Rattle.x64_templates.specs.Runs.{Reaches, FramePlace}
 pub record Returned (turns : ℕ) (v : MachineView) (sp back x rip : ℕ) (f : Flags) : Type 0 where
   pub flags : Flags
   pub comes : Reaches turns (machine v rip f)
-      (machine (moved (record {
-        rax = x;
-        rcx = v.rcx;
-        rdx = v.rdx;
-        rest = v.rest;
-        memory = v.memory;
-      }) sp) back flags)
+      (machine (moved (record v { rax = x }) sp) back flags)
 
 -- with its arguments in their registers, and the return address at RSP
 pub record CallBegun (p : FramePlace) (first : ℕ) (v : MachineView) (rip to : ℕ) (f : Flags)

@@ -10,15 +10,14 @@ use Rattle.x64_machine.specs.declared.outcome.Stop.TheVariants as stops
 use Rattle.x64_machine.specs.Effect.{State}
 use Rattle.x64_machine.specs.Effect as machines
 use Rattle.x64_templates.specs.Placed.{IsCodeAt, IsPlaced}
-use Rattle.template_code.specs.Bytes.{spelled}
+use Rattle.template_code.specs.Bytes.{spelled, sizes}
 use Rattle.linear_code.specs.declared.slot.Slot.{Slot}
 use Rattle.c_operations.specs.declared.operation.Operation.{Operation}
 use Rattle.linear_code.specs.BodyState.{BodyState, Counts, with_slot}
 use Rattle.c_operations.specs.Performed.{OperationResult, Gives, Raises, Undefined}
 use Rattle.linear_code.specs.Meaning.{InstructionEffect, Next, Faults, IsSlot}
 use Rattle.template_code.specs.declared.layout.Layout.{Layout}
-use Rattle.x64_templates.specs.Straight.{AreSmall, MachineView, machine, takes_frame}
-use Rattle.template_code.specs.Bytes.{sizes}
+use Rattle.x64_templates.specs.Straight.{AreSmall, LocalRegisters, OtherRegisters, MachineView, machine, takes_frame}
 use Rattle.template_code.specs.Slots.{operands_code, finish_code, compute_code}
 use Rattle.x64_templates.specs.Frames.{SlotsHaveRoom, HoldsBody, Changes}
 use Rattle.x64_templates.specs.Implements.{HasOperands}
@@ -89,12 +88,13 @@ IsThere p x = IsSlot p.counts x
 
 -- the run comes to this address, with this body in the frame and all registers but RAX, RCX and RDX
 -- as they were
-pub record ReachesBody (p : FramePlace) (turns : ℕ) (s : State) (to : ℕ) (others : List ℕ)
-    (b : BodyState) : Type 0 where
+pub record ReachesBody (p : FramePlace) (turns : ℕ) (s : State) (to : ℕ) (others : OtherRegisters)
+    (same : LocalRegisters) (b : BodyState) : Type 0 where
   pub after : MachineView
   pub flags : Flags
   pub comes : Reaches turns s (machine after to flags)
   pub rest : after.rest ≡ others
+  pub locals : after.locals ≡ same
   pub holds : FrameHolds p after.memory b
   pub changes : ChangesOwn p s.memory after.memory
 
@@ -107,6 +107,7 @@ pub record ReachesFault (turns : ℕ) (v : MachineView) (rip : ℕ) (flags : Fla
   pub comes : Reaches turns (machine v rip flags) (machine stopped at left)
   pub waits : HasOperands o first second stopped
   pub rest : stopped.rest ≡ v.rest
+  pub locals : stopped.locals ≡ v.locals
   pub memory : stopped.memory ≡ v.memory
   pub fault : machines.step (machine stopped at left) ≡ Err (stops.Fault code access)
 
@@ -120,7 +121,7 @@ abbrev pub Finished : FramePlace → Operation → Slot → MachineView → ℕ 
     → Type 0
 Finished p o to v at flags b (Gives x m) =
     ReachesBody p (length (finish_code p.layout o to)) (machine v at flags)
-    (at + sizes (finish_code p.layout o to)) v.rest
+    (at + sizes (finish_code p.layout o to)) v.rest v.locals
     (record { slots = with_slot b.slots to x; memory = m })
 Finished p o to v at flags b (Raises code access) =
     machines.step (machine v at flags) ≡ Err (stops.Fault code access)
@@ -133,7 +134,7 @@ abbrev pub Computed : FramePlace → Slot → Operation → Slot → Slot → Ma
     → InstructionEffect → Type 0
 Computed p to o first second v rip flags b (Next c) =
     ReachesBody p (length (compute_code p.layout to o first second)) (machine v rip flags)
-    (rip + sizes (compute_code p.layout to o first second)) v.rest c
+    (rip + sizes (compute_code p.layout to o first second)) v.rest v.locals c
 Computed p to o first second v rip flags b (Faults code access) =
     ReachesFault (length (operands_code p.layout o first second)) v rip flags
     (rip + sizes (operands_code p.layout o first second)) o (b.slots first)

@@ -1,5 +1,5 @@
 -- Instructions one after another.
-use Rattle.std.specs.Prelude.{◌≡◌, ℕ, ◌+◌, ◌^◌, ◌<◌, Bool, true, false, ◌&&◌, nat_eq, List, [], ◌∷◌, Ok}
+use Rattle.std.specs.Prelude.{◌≡◌, ℕ, ◌+◌, ◌^◌, ◌<◌, Bool, true, false, ◌&&◌, nat_eq, List, [], ◌∷◌, slice_index, Ok}
 use Rattle.flat_memory.specs.Memory.{Memory}
 use Rattle.x64_instr.specs.declared.register.Reg.{Reg}
 use Rattle.x64_instr.specs.declared.operand.RegisterOrMemory.{RegisterOrMemory}
@@ -79,19 +79,70 @@ abbrev pub AreSmall : List ℕ → Type 0
 AreSmall [] = Unit {0}
 AreSmall (v ∷ vs) = (v < 2 ^ 64) × AreSmall vs
 
--- what templates work on: RAX, RCX, RDX, the other registers by their numbers from RBX on, and the
--- memory
+-- the nonvolatile registers in which locals may stand
+pub record LocalRegisters : Type 0 where
+  pub rbx : ℕ
+  pub rsi : ℕ
+  pub rdi : ℕ
+  pub r12 : ℕ
+  pub r13 : ℕ
+  pub r14 : ℕ
+  pub r15 : ℕ
+
+-- RSP, RBP, and the volatile registers that templates don't compute in
+pub record OtherRegisters : Type 0 where
+  pub rsp : ℕ
+  pub rbp : ℕ
+  pub r8 : ℕ
+  pub r9 : ℕ
+  pub r10 : ℕ
+  pub r11 : ℕ
+
+-- both by their numbers
+abbrev pub local_registers : List ℕ → LocalRegisters
+local_registers r =
+    record {
+      rbx = slice_index r 3;
+      rsi = slice_index r 6;
+      rdi = slice_index r 7;
+      r12 = slice_index r 12;
+      r13 = slice_index r 13;
+      r14 = slice_index r 14;
+      r15 = slice_index r 15;
+    }
+
+abbrev pub other_registers : List ℕ → OtherRegisters
+other_registers r =
+    record {
+      rsp = slice_index r 4;
+      rbp = slice_index r 5;
+      r8 = slice_index r 8;
+      r9 = slice_index r 9;
+      r10 = slice_index r 10;
+      r11 = slice_index r 11;
+    }
+
+-- what templates work on: RAX, RCX, RDX, the registers of locals, the rest of the registers, and
+-- the memory
 pub record MachineView : Type 0 where
   pub rax : ℕ
   pub rcx : ℕ
   pub rdx : ℕ
-  pub rest : List ℕ
+  pub locals : LocalRegisters
+  pub rest : OtherRegisters
   pub memory : Memory
+
+-- all registers, by their numbers
+abbrev pub registers_of : MachineView → List ℕ
+registers_of v =
+    v.rax ∷ v.rcx ∷ v.rdx ∷ v.locals.rbx ∷ v.rest.rsp ∷ v.rest.rbp ∷ v.locals.rsi ∷ v.locals.rdi
+    ∷ v.rest.r8 ∷ v.rest.r9 ∷ v.rest.r10 ∷ v.rest.r11 ∷ v.locals.r12 ∷ v.locals.r13 ∷ v.locals.r14
+    ∷ v.locals.r15 ∷ []
 
 abbrev pub machine : MachineView → ℕ → Flags → State
 machine v rip flags =
     record {
-      cpu = record { registers = v.rax ∷ v.rcx ∷ v.rdx ∷ v.rest; rip = rip; flags = flags };
+      cpu = record { registers = registers_of v; rip = rip; flags = flags };
       memory = v.memory;
     }
 
@@ -106,4 +157,4 @@ Executes is v w =
 pub record Yields (is : List Instr) (v : MachineView) (x : ℕ) (m : Memory) : Type 0 where
   pub rcx : ℕ
   pub rdx : ℕ
-  pub does : Executes is v (record { rax = x; rcx = rcx; rdx = rdx; rest = v.rest; memory = m })
+  pub does : Executes is v (record v { rax = x; rcx = rcx; rdx = rdx; memory = m })

@@ -72,5 +72,5 @@ pub use Rattle.x64_templates.specs.Placed.{IsCodeAt, IsPlaced}
 pub use Rattle.x64_templates.specs.Returned.{CallBegun, Returned}
 pub use Rattle.x64_templates.specs.Runs.{Reaches, HasCode, FramePlace, Roomy, FrameHolds, Runs, IsThere, ReachesBody, Finished, Computed, ChangesOwn, Enters, ReachesInside, ReachesFault, Steps}
 pub use Rattle.x64_templates.specs.Prologues.{Within, code_stores, none_stores, code_turns, codes_turns, IsProbed, AreProbed, MakesFrame}
-pub use Rattle.x64_templates.specs.Straight.{MachineView, machine, Executes, Yields, is_straight, AllStraight, begins_epilogue, takes_frame, NoneTakesFrame, is_rsp_place, is_subtraction, is_number, AreSmall}
+pub use Rattle.x64_templates.specs.Straight.{MachineView, machine, Executes, Yields, is_straight, AllStraight, begins_epilogue, takes_frame, NoneTakesFrame, is_rsp_place, is_subtraction, is_number, AreSmall, LocalRegisters, OtherRegisters, registers_of}
 unfoldable pub use Rattle.x64_templates.specs.Straight.{effects}

@@ -1,6 +1,7 @@
 //! What holds of templates wherever they are placed.
 
 ghost use Rattle.x64_templates.specs.Laws.{OperationsRun, BodiesRun, BodiesFault, FaultsAreRetried, CallsBegin, ProloguesMakeFrames, ArgumentsAreKept, BodiesReturn, TemplatesHaveNoEpilogue};
+ghost use Rattle.x64_templates.specs.Locals.{LocalsAreFetched, LocalsAreKept};
 
 /// The code of a body does what its linear code means. Where an instruction faults, the machine's
 /// faults with its operands in registers, and the operation can be made again from there.
@@ -18,6 +19,12 @@ pub fn calls_pass_arguments()
     ensures entries { ProloguesMakeFrames }
     ensures arguments { ArgumentsAreKept }
     ensures returns { BodiesReturn }
+{}
+
+/// A local in a register is fetched and kept by one move, which changes nothing else.
+pub fn locals_move()
+    ensures fetched { LocalsAreFetched }
+    ensures kept { LocalsAreKept }
 {}
 
 /// No epilogue begins inside a template.

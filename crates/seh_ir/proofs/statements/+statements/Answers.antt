@@ -43,7 +43,7 @@ when-returns t c =
 pub for_loop-returns : goal.for_loop-returns
 for_loop-returns t c =
     let s = tree.statement c.args.body.now in
-    on_ok_weaker c.put-2.result
+    on_ok_weaker c.put_all.result
     (λ h rest p.
     let size = c.next_size-size.ensures.last (with_parts s rest) (statement_size s) p in
     let made = (rw c.in_loop.ensures at c.in_ok-statement.ensures) rest size.1 in (
@@ -58,7 +58,7 @@ for_loop-returns t c =
           c.in_ok-discarded-2.ensures (rw c.here-iteration.ensures at h),
       made.1,
     ))
-    c.put-2.ensures
+    c.put_all.ensures
 
 pub do_loop-returns : goal.do_loop-returns
 do_loop-returns t c =

@@ -1,0 +1,4 @@
+pub mod Marked
+pub mod RegisterLocals
+mod Chosen
+mod Rows

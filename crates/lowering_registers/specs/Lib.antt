@@ -1,0 +1,4 @@
+pub mod Naming
+pub mod Shared
+pub mod RegisterLaws
+pub mod Marks

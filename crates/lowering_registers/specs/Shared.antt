@@ -1,0 +1,48 @@
+-- Which locals of a function stand in registers: the first seven that no filter and no `__finally`
+-- block of it names.
+use Rattle.std.specs.Prelude.{ℕ, zero, suc, ◌+◌, Bool, true, false, ◌||◌, List, [], ◌∷◌, length, take}
+use Rattle.c_checked.specs.Statement.{Statement, Declare, Block, Evaluate, If, IfElse, For, DoWhile, Return, Break, Continue, Leave, TryExcept, TryFinally, Statements, Empty, Then}
+use Rattle.c_checked.specs.Program.{Function}
+use Rattle.lowering_registers.specs.Naming.{filter_names, statements_name}
+
+-- a filter or a `__finally` block of a part names it
+abbrev mutual
+  pub statement_shares : ℕ → Statement → Bool
+  statement_shares x (Declare d) = false
+  statement_shares x (Block ss) = statements_share x ss
+  statement_shares x (Evaluate e) = false
+  statement_shares x (If c s) = statement_shares x s
+  statement_shares x (IfElse c s t) = statement_shares x s || statement_shares x t
+  statement_shares x (For ds first c next s) = statement_shares x s
+  statement_shares x (DoWhile s c) = statement_shares x s
+  statement_shares x (Return e) = false
+  statement_shares x Break = false
+  statement_shares x Continue = false
+  statement_shares x Leave = false
+  statement_shares x (TryExcept body filter block) =
+      statements_share x body || (filter_names x filter || statements_share x block)
+  statement_shares x (TryFinally body k last) =
+      statements_share x body || statements_name x last
+
+  pub statements_share : ℕ → Statements → Bool
+  statements_share x Empty = false
+  statements_share x (Then s ss) = statement_shares x s || statements_share x ss
+
+-- of so many locals from a number on, those that aren't shared, in their order
+abbrev pub unshared_if : Bool → ℕ → List ℕ → List ℕ
+unshared_if true x others = others
+unshared_if false x others = x ∷ others
+
+abbrev pub unshared : Statements → ℕ → ℕ → List ℕ
+unshared body x zero = []
+unshared body x (suc n) =
+    unshared_if (statements_share x body) x (unshared body (x + 1) n)
+
+-- parameters come first, then the others in the order of their declarations
+abbrev pub own_locals : Function → ℕ
+own_locals f = length f.parameters + length f.locals
+
+-- RBX, RSI, RDI and R12 to R15 are those that a function keeps for its caller and that no template
+-- needs (Microsoft x64 ABI, "x64 calling convention", callee-saved registers)
+abbrev pub register_locals : Function → List ℕ
+register_locals f = take 7 (unshared f.body 0 (own_locals f))
