@@ -175,7 +175,14 @@ abbrev pub no_routine : RoutineView
 no_routine = record {
   entry = entries.Function 0;
   frame = None;
-  layout = record { base = None; pointers = 0; locals = 0; temporaries = 0; frame = 0 };
+  layout = record {
+    base = None;
+    pointers = 0;
+    locals = 0;
+    temporaries = 0;
+    slots = 0;
+    frame = 0;
+  };
   body = record { locals = 0; temporaries = 0; passed = 0; code = []; regions = [] };
 }
 

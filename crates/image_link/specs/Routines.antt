@@ -50,7 +50,14 @@ function_frame b =
 -- the slots of a leaf are above its return address
 abbrev pub leaf_layout : LinearBody → Layout
 leaf_layout b =
-    record { base = None; pointers = 0; locals = 8; temporaries = 8 + 8 * b.locals; frame = 0 }
+    record {
+      base = None;
+      pointers = 0;
+      locals = 8;
+      temporaries = 8 + 8 * b.locals;
+      slots = 0;
+      frame = 0;
+    }
 
 abbrev pub function_layout : FrameLayout → Layout
 function_layout f =
@@ -59,6 +66,7 @@ function_layout f =
       pointers = 0;
       locals = f.locals;
       temporaries = f.temporaries;
+      slots = f.size;
       frame = f.size;
     }
 
@@ -137,6 +145,7 @@ funclet_layout function own =
       pointers = own.kept + 8;
       locals = function.locals;
       temporaries = own.temporaries;
+      slots = own.size;
       frame = own.size;
     }
 

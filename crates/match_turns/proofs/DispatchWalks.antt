@@ -5,7 +5,7 @@ use Rattle.std.specs.Prelude.{Result, slice_get, slice_set}
 use Rattle.match_turns.specs.Words.{W64, RefusedAccess, Memory, loaded, Rdx, Rsp, Rbx, Rbp, Rsi, Rdi, R12, R13, R14, R15, Cpu, Context, kept_of, context_of, State, register, rsp, readable, DispatchRecord, filter_return, finally_return, steps, Turn, at_landing, back, Exception, LinearFunclet, BodyName, FuncletBody, funclet_body, Handler, Resumption, Item, Configuration, StackItem, Framed, IsStack, after_frame, context_below, state, parent_body, IsFunclet, Activation, Arrives, FilterBegins, Unwound, BlockBegins, LandsThere, IsUnwinding, drop_below, GivesCallers, WalkGives, caller_at, callers, caller_above, FindsReturn, owed_of, Setting, IsMachineMemory, WalkContinues}
 use Rattle.virtual_unwind.specs.Undone.{word}
 use Rattle.seh_num.specs.declared.event.Event.TheVariants as events
-use Rattle.match_turns.proofs.Lemmas.{finds_return, frame_is_owed, owed_with, nine_numbers, few_items, none_below, on_stack, gives_caller, begin_finds, word_is, others_of}
+use Rattle.match_turns.proofs.Lemmas.{finds_return, frame_is_owed, owed_with, nine_numbers, few_items, none_below, on_stack, gives_caller, begin_finds, word_is}
 use Rattle.match_bodies.proofs.UnwindWalks.{block_callers, landing_callers}
 
 -- the nonvolatile registers, with another stack pointer
