@@ -429,7 +429,7 @@ module _ (setting : Setting) where
         let kept = l.plan.layout.kept in
         let at = l.plan.layout.temporaries in
         let within = l.plan.layout.within in
-        ran t fs program p q owed top1 (top1 + 8) b1.body.back others1 list1 mid y1 x y.frame
+        ran t fs program p q owed top1 (top1 + 8) b1.body.back others1 list1 mid y1 x y.slots
         y.frame 8 (run_3.0, run_3.1, (x, run_2.1, refl))
         ((refl, inl refl), ((near slot (omega arith), inl refl), tt))
         (subst (λ n. HasCode y1.memory n mid) place code) kept_base.has beneath_1 refl refl
