@@ -35,6 +35,7 @@ pub mod LargeEntries
 pub mod Ranges
 pub mod PrologueParts
 pub mod PrologueRuns
+pub mod EpilogueRuns
 pub mod FuncletEntries
 pub mod Services
 pub mod Passing

@@ -19,13 +19,15 @@ use Rattle.template_code.specs.Probing.{check_stack}
 use Rattle.x64_machine.specs.Effect.{State}
 use Rattle.frame_rules.specs.Bytes.{prologue_code}
 use Rattle.frame_rules.specs.Codes.{depth}
-use Rattle.frame_rules.specs.Plan.{FramePlan, IsPlan, operations_of, turned}
-use Rattle.frame_rules.specs.States.{IsEntry}
+use Rattle.frame_rules.specs.Plan.{FramePlan, IsPlan, epilogue, operations_of, turned}
+use Rattle.frame_rules.specs.Frame.{HoldsFrame}
+use Rattle.frame_rules.specs.States.{IsEntry, registers}
+use Rattle.template_code.specs.Frames.{plan_of_layout}
 use Rattle.x64_templates.specs.Prologues.{AreProbed, MakesFrame}
 use Rattle.template_code.specs.Template.{Links, template, offset_of}
 use Rattle.x64_templates.specs.Frames.{SlotsHaveRoom}
 use Rattle.x64_templates.specs.Implements.{HasOperands}
-use Rattle.x64_templates.specs.CallStates.{sp_of, HasBelow, HasBack}
+use Rattle.x64_templates.specs.CallStates.{sp_of, HasBelow}
 use Rattle.x64_templates.specs.Runs.{HasCode, FramePlace, Roomy, FrameHolds, IsThere, ReachesBody, Computed}
 use Rattle.x64_templates.specs.InstructionRuns.{RunsAllTo, IsLinked}
 use Rattle.x64_templates.specs.EntryStates.{with_arguments, InRegisters, OnStack, IsFunctionFrame}
@@ -123,15 +125,27 @@ ArgumentsAreKept =
     (rip + sizes (parameters_code p.layout 0 count)) v.rest v.locals
     (record { slots = with_arguments b.slots arguments 0 count; memory = b.memory })
 
+-- the epilogue of a plan leaves its frame, where the caller has these registers
+abbrev pub EpiloguesLeaveFrames : Type 0
+EpiloguesLeaveFrames =
+    (p : FramePlan) (old : ℕ → ℕ) (back : ℕ) (s : State) → IsPlan p → old 4 < 2 ^ 47
+    → ((r : ℕ) → old r < 2 ^ 64) → length s.cpu.registers ≡ 16
+    → HoldsFrame p.frame p.distance s.memory old back (registers s) (operations_of p)
+    (operations_of p)
+    → HasCode s.memory s.cpu.rip (epilogue p)
+    → Returned (length (epilogue p)) s old back (registers s 0)
+
 -- a return leaves the number in RAX and gives the frame back
 abbrev pub BodiesReturn : Type 0
 BodiesReturn =
-    (p : FramePlace) (from : Slot) (v : MachineView) (back rip : ℕ) (f : Flags) (b : BodyState)
-    → Roomy p → IsThere p from → sp_of v ≡ p.sp → p.layout.frame < 2 ^ 31
-    → FrameHolds p v.memory b → HasBack v.memory (p.sp + p.layout.frame) back
+    (p : FramePlace) (from : Slot) (v : MachineView) (old : ℕ → ℕ) (back rip : ℕ) (f : Flags)
+    (b : BodyState) → let plan = plan_of_layout p.layout 0 in
+    Roomy p → IsThere p from → sp_of v ≡ p.sp → FrameHolds p v.memory b
+    → IsPlan plan → old 4 < 2 ^ 47 → ((r : ℕ) → old r < 2 ^ 64)
+    → HoldsFrame plan.frame plan.distance v.memory old back (registers (machine v rip f))
+    (operations_of plan) (operations_of plan)
     → HasCode v.memory rip (return_code p.layout from)
-    → Returned (length (return_code p.layout from)) v (p.sp + p.layout.frame + 8) back
-    (b.slots from) rip f
+    → Returned (length (return_code p.layout from)) (machine v rip f) old back (b.slots from)
 
 -- ---- bytes
 

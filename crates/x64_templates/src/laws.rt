@@ -1,6 +1,6 @@
 //! What holds of templates wherever they are placed.
 
-ghost use Rattle.x64_templates.specs.Laws.{OperationsRun, BodiesRun, BodiesFault, FaultsAreRetried, CallsBegin, ProloguesMakeFrames, ArgumentsAreKept, BodiesReturn, TemplatesHaveNoEpilogue};
+ghost use Rattle.x64_templates.specs.Laws.{OperationsRun, BodiesRun, BodiesFault, FaultsAreRetried, CallsBegin, ProloguesMakeFrames, ArgumentsAreKept, EpiloguesLeaveFrames, BodiesReturn, TemplatesHaveNoEpilogue};
 ghost use Rattle.x64_templates.specs.Locals.{LocalsAreFetched, LocalsAreKept};
 
 /// The code of a body does what its linear code means. Where an instruction faults, the machine's
@@ -18,6 +18,7 @@ pub fn calls_pass_arguments()
     ensures calls { CallsBegin }
     ensures entries { ProloguesMakeFrames }
     ensures arguments { ArgumentsAreKept }
+    ensures epilogues { EpiloguesLeaveFrames }
     ensures returns { BodiesReturn }
 {}
 
