@@ -1,17 +1,16 @@
 -- A funclet's first turns: its frame is made, and keeps the base of its activation.
-use Rattle.std.proofs.Common.{◌≡◌, ℕ, ◌+◌, ◌-◌, ◌*◌, ◌^◌, ◌<◌, ◌≤◌, Option, Some, None, List, [], ◌++◌, length, refl, sym, ap, subst, ◌∙◌, arith, append_assoc, ◌∷◌}
-use Rattle.std.specs.Prelude.{slice_index}
-use Rattle.match_turns.specs.Words.{STACK_START, STACK_END, number_at, Memory, Rcx, Rdx, Rsp, Instr, Flags, State, register, distance, arrivals, FuncletBody, body_of, funclet_body, Item, Layout, sizes, code_from, MachineView, machine, sp_of, HasCode, Enters, Activation, below_end, record_room, links_of, parent_base, keep_argument, funclet_arguments, frame_code, making_size, entry_code, IsWellFormed, seen_by_templates, LARGEST_FRAME, Setting, HasProgram, IsMachineMemory, kept_of, registers_of, moved}
+use Rattle.std.proofs.Common.{◌≡◌, ℕ, ◌+◌, ◌-◌, ◌*◌, ◌^◌, ◌<◌, ◌≤◌, Option, Some, None, List, [], ◌++◌, length, refl, sym, ap, subst, ◌∙◌, arith, append_assoc}
+use Rattle.match_turns.specs.Words.{STACK_START, STACK_END, number_at, Memory, Rcx, Rdx, Rsp, Instr, Flags, State, register, distance, arrivals, FuncletBody, body_of, funclet_body, Item, Layout, sizes, code_from, MachineView, machine, sp_of, HasCode, Enters, Activation, below_end, record_room, links_of, parent_base, keep_argument, funclet_arguments, frame_code, making_size, entry_code, IsWellFormed, seen_by_templates, LARGEST_FRAME, Setting, HasProgram, IsMachineMemory}
 use Rattle.match_bodies.specs.CodeSites.{arguments_code, body_plan}
 use Rattle.frame_rules.specs.Bytes.{prologue_code}
 use Rattle.frame_rules.specs.Plan.{FramePlan}
 use Rattle.frame_rules.specs.States.{IsEntry}
 use Rattle.x64_templates.specs.Prologues.{prologue_turns}
 use Rattle.match_bodies.proofs.BodyFrames.{framed_some}
-use Rattle.match_bodies.proofs.FrameCode.{plan_depth, plan_turns, plan_unstored, made_small}
+use Rattle.match_bodies.proofs.FrameCode.{plan_depth, plan_turns, plan_unstored}
 use Rattle.match_bodies.proofs.PlannedPrologues.{body_planned, body_probed}
 use Rattle.match_bodies.proofs.PrologueSteps.{small_at}
-use Rattle.match_turns.proofs.Lemmas.{sizes_append, code_split, Within, within_keeps_code, in_stack, activations_are_at, is_machine, may_read_written, others_of, kept_alike}
+use Rattle.match_turns.proofs.Lemmas.{sizes_append, code_split, Within, within_keeps_code, in_stack, activations_are_at, is_machine, may_read_written}
 use Rattle.match_bodies.specs.CodeSites as sites
 use Rattle.match_turns.proofs.FuncletPrologue.{LeadsBy, first_code, Made, HasRoom, made}
 use Rattle.match_turns.proofs.FuncletFrame.{ArrivesBelow, IsPlanned}

@@ -1,6 +1,6 @@
 -- Where a funclet begins its frame is made, and the base is kept in it: RDX, or what the parent's
 -- frame in RDX keeps.
-use Rattle.std.proofs.Common.{◌≡◌, ℕ, ◌+◌, ◌-◌, ◌%◌, ◌^◌, ◌<◌, ◌≤◌, true, false, Option, Some, None, Ok, List, [], ◌∷◌, ◌++◌, length, refl, sym, ap, subst, ◌∙◌, arith}
+use Rattle.std.proofs.Common.{◌≡◌, ℕ, ◌+◌, ◌%◌, ◌^◌, ◌<◌, ◌≤◌, true, false, Option, Some, None, Ok, List, [], ◌∷◌, ◌++◌, length, refl, sym, ap, subst, ◌∙◌, arith}
 use Rattle.match_turns.specs.Words.{Memory, may_read, may_write, first_refused, number_at, access, readable, Rax, Rdx, Instr, Flags, Answer, load, W64, low, sizes, check_stack, keep_register, keep_parents_base, MachineView, machine, Executes, sp_of, HasCode, Enters, keep_base, fetched}
 use Rattle.virtual_unwind.specs.Undone.{word}
 use Rattle.seh_num.specs.Answers.{◌>>=◌}

@@ -1,6 +1,6 @@
 -- From a function's first byte its frame is made: by the prologue of its plan, or not at all in a
 -- leaf function.
-use Rattle.std.proofs.Common.{◌≡◌, ℕ, ◌+◌, ◌-◌, ◌<◌, ◌≤◌, true, [], refl, sym, subst, ◌∙◌, arith}
+use Rattle.std.proofs.Common.{◌≡◌, ℕ, ◌+◌, ◌-◌, ◌≤◌, true, [], refl, sym, subst, ◌∙◌, arith}
 use Rattle.match_turns.specs.Words.{Flags, sizes, check_stack, MachineView, machine, sp_of, InRegisters, HasCode, Enters, seen_by_templates}
 use Rattle.frame_rules.specs.Bytes.{prologue_code}
 use Rattle.frame_rules.specs.Codes.{depth}

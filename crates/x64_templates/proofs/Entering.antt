@@ -1,11 +1,9 @@
 -- A function begins: its frame holds its arguments.
-use Rattle.std.proofs.Common.{◌≡◌, ℕ, zero, suc, ◌+◌, ◌^◌, ◌<◌, ◌≤◌, cond, [], ◌∷◌, length, refl, sym, subst, arith, inl, inr, ◌-◌, length-append}
+use Rattle.std.proofs.Common.{◌≡◌, ℕ, zero, suc, ◌+◌, ◌^◌, ◌<◌, ◌≤◌, cond, [], ◌∷◌, length, refl, sym, subst, arith, inl, inr}
 use Rattle.std.proofs.lemmas.Bool.{cases_lt, lt-ltb, le-ltb}
-use Rattle.x64_templates.specs.Words.{Memory, Rax, Rsp, Flags, BodyState, MachineView, machine, sizes, fetched, local_at, parameter_register, keep_register, stack_parameter, parameter_code, parameters_code, sp_of, with_arguments, InRegisters, OnStack, IsFunctionFrame, body_in_memory, FreshFrame, HasCode, FramePlace, Roomy, FrameHolds, ReachesBody, State, LocalRegisters, OtherRegisters, with_sp, moved, ChangesOwn, Enters}
+use Rattle.x64_templates.specs.Words.{Memory, Rax, Rsp, Flags, BodyState, MachineView, machine, sizes, fetched, local_at, parameter_register, keep_register, stack_parameter, parameter_code, parameters_code, sp_of, with_arguments, InRegisters, OnStack, IsFunctionFrame, body_in_memory, FreshFrame, HasCode, FramePlace, Roomy, FrameHolds, ReachesBody}
 use Rattle.x64_templates.proofs.Encoded.{Fine, fine_both, near}
-use Rattle.x64_templates.proofs.Computes.{runs_view, code_split}
-use Rattle.x64_templates.proofs.PlacedCode.{enters_then}
-use Rattle.x64_templates.proofs.Lemmas.{sizes_append}
+use Rattle.x64_templates.proofs.Computes.{runs_view}
 use Rattle.x64_templates.proofs.Entries.{holds_body_in_memory}
 use Rattle.x64_templates.proofs.Parameters.{parameters_do}
 

@@ -1,22 +1,19 @@
 -- A plan's epilogue is run, one instruction after another: loads, the allocation given back, pops,
 -- and the return.
-use Rattle.std.proofs.Common.{◌≡◌, ◌≢◌, ℕ, ◌+◌, ◌-◌, ◌%◌, ◌^◌, ◌<◌, Bool, true, false, not, ◌&&◌, eqb, List, [], ◌∷◌, ◌++◌, length, set, Option, Some, None, Ok, refl, sym, ap, subst, ◌∙◌, arith, cond, length-set}
-use Rattle.std.proofs.lemmas.Bool.{and_parts, eq-eqb, eqb-true, eqb-false, not-true, or_left}
-use Rattle.x64_templates.specs.Words.{W64, Rsp, Instr, Memory, State, Cpu, with_rip, effect, address_of, added, is_encodable, chosen, takes_frame, size, sizes, Reaches, HasCode}
+use Rattle.std.proofs.Common.{◌≡◌, ℕ, ◌+◌, ◌-◌, ◌%◌, ◌^◌, ◌<◌, Bool, true, false, not, ◌&&◌, eqb, List, [], ◌∷◌, length, set, Some, None, Ok, refl, sym, ap, subst, ◌∙◌, arith, cond, length-set}
+use Rattle.std.proofs.lemmas.Bool.{and_parts, eq-eqb, eqb-true, or_left}
+use Rattle.x64_templates.specs.Words.{W64, Instr, Memory, State, Cpu, with_rip, effect, address_of, added, is_encodable, chosen, takes_frame, size, Reaches, HasCode}
 use Rattle.x64_templates.specs.Returned.{Returned}
 use Rattle.x64_templates.specs.Laws.{EpiloguesLeaveFrames}
 use Rattle.eh_tables.specs.declared.code.UnwindOperation.{UnwindOperation}
 use Rattle.virtual_unwind.specs.Contexts.{is_nonvolatile}
 use Rattle.x64_instr.specs.Registers as numbers
 use Rattle.x64_instr.specs.Registers.{number}
-use Rattle.x64_instr.specs.declared.operand.RegisterOrMemory.TheVariants as places
-use Rattle.x64_instr.specs.declared.operand.Operand.TheVariants as operands
 use Rattle.x64_instr.specs.declared.operand.Base.TheVariants as bases
 use Rattle.x64_instr.specs.declared.operand.MemRef.{MemRef}
-use Rattle.x64_instr.specs.declared.instruction.Operation.TheVariants as arithmetic
 use Rattle.x64_instr.specs.declared.instruction.Instr.TheVariants as instrs
 use Rattle.frame_rules.specs.Body.{are_restored, if_place, is_place, restored_by, saved_at}
-use Rattle.frame_rules.specs.Codes.{allocation, are_allowed, is_saved, may_save, pushed, pushes}
+use Rattle.frame_rules.specs.Codes.{allocation, are_allowed, is_saved, may_save, pushed}
 use Rattle.frame_rules.specs.Frame.{HoldsFrame}
 use Rattle.frame_rules.specs.Plan.{FramePlan, IsPlan, Saved, all_encodable, epilogue, load_of, loads_then, opening_by, opening_then, operations_of, pops_then, stack_place}
 use Rattle.frame_rules.specs.States.{registers}

@@ -2,7 +2,7 @@
 use Rattle.std.proofs.Common.{◌≡◌, ℕ, ◌+◌, ◌-◌, ◌^◌, ◌<◌, ◌≤◌, true, false, ltb, List, [], ◌∷◌, Ok, refl, sym, ap, subst, ◌∙◌, arith, inl, inr}
 use Rattle.std.specs.Prelude.{◌⊎◌}
 use Rattle.std.proofs.lemmas.Bool.{cases_lt, lt-ltb}
-use Rattle.x64_templates.specs.Words.{W32, W64, low, may_write, Rax, Rsp, Instr, Flags, subtracted, effect, spelled, MachineView, machine, size, sizes, call, IsNear, sp_of, with_sp, pushed, HasBelow, moved, check_stack, Reaches, HasCode, opcode_register, distance}
+use Rattle.x64_templates.specs.Words.{W32, W64, low, may_write, Rax, Rsp, Instr, Flags, subtracted, effect, spelled, MachineView, machine, size, sizes, call, IsNear, sp_of, pushed, HasBelow, moved, check_stack, Reaches, HasCode, opcode_register, distance}
 use Rattle.frame_rules.specs.Plan.{allocating}
 use Rattle.x64_instr.specs.declared.operand.RegisterOrMemory.TheVariants as places
 use Rattle.x64_instr.specs.declared.operand.Operand.TheVariants as operands

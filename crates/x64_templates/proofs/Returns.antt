@@ -1,5 +1,5 @@
 -- A body is left, and its caller's slots outlast a call.
-use Rattle.std.proofs.Common.{◌≡◌, ℕ, ◌+◌, ◌%◌, ◌^◌, ◌<◌, ◌≤◌, ◌==◌, Bool, true, false, List, [], ◌∷◌, length, Ok, refl, sym, ap, subst, ◌∙◌, arith, get_or-set_same, length-append, ◌-◌}
+use Rattle.std.proofs.Common.{◌≡◌, ℕ, ◌+◌, ◌%◌, ◌^◌, ◌<◌, ◌≤◌, Bool, true, [], length, Ok, refl, sym, ap, subst, ◌∙◌, arith, length-append}
 use Rattle.std.proofs.lemmas.Bool.{false≢true}
 use Rattle.frame_rules.specs.Plan.{epilogue}
 use Rattle.template_code.specs.Frames.{plan_of_layout}
@@ -11,17 +11,13 @@ use Rattle.frame_rules.proofs.Undoing.{framed_saved, saved_register}
 use Rattle.virtual_unwind.specs.Contexts.{is_nonvolatile}
 use Rattle.x64_templates.specs.Straight.{registers_of}
 use Rattle.x64_templates.proofs.EpilogueRuns.{epilogue_leaves}
-use Rattle.x64_templates.specs.Words.{W64, low, Memory, may_read, Rax, Rsp, Flags, added, ◌>>=◌, State, Answer, with_rip, load, effect, Slot, BodyState, with_slot, MachineView, machine, size, sizes, fetch, keep, sp_of, HasBack, moved, Reaches, HasCode, FramePlace, Roomy, FrameHolds, IsThere, ReachesBody, return_code, Returned}
-use Rattle.x64_instr.specs.declared.operand.RegisterOrMemory.TheVariants as places
-use Rattle.x64_instr.specs.declared.operand.Operand.TheVariants as operands
-use Rattle.x64_instr.specs.declared.instruction.Operation.TheVariants as arithmetic
+use Rattle.x64_templates.specs.Words.{W64, low, Memory, may_read, Rax, Flags, ◌>>=◌, State, Answer, with_rip, load, effect, Slot, BodyState, with_slot, MachineView, machine, sizes, fetch, keep, sp_of, HasBack, moved, Reaches, HasCode, FramePlace, Roomy, FrameHolds, IsThere, ReachesBody, return_code, Returned}
 use Rattle.x64_instr.specs.declared.instruction.Instr.TheVariants as instrs
 use Rattle.x64_templates.proofs.PlacedCode.{all_may, load_at, reaches_then}
 use Rattle.x64_templates.proofs.Straight.{executes_nothing}
 use Rattle.x64_templates.proofs.Cells.{put, fetch_does}
-use Rattle.x64_templates.proofs.Encoded.{fetch_fine, near}
+use Rattle.x64_templates.proofs.Encoded.{fetch_fine}
 use Rattle.x64_templates.proofs.Computes.{code_split, runs_view, leads_kept}
-use Rattle.x64_templates.proofs.Jumps.{one_reaches}
 
 -- ---- what lies above RSP, but for the source's memory, outlasts whatever runs below
 
