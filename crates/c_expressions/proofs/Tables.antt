@@ -1,5 +1,5 @@
 -- The innermost declarations of open blocks.
-use Rattle.std.proofs.Common.{◌≡◌, ℕ, suc, ◌+◌, ◌<◌, nat_eq, Bool, true, false, cond, List, [], ◌∷◌, ◌++◌, map, length, take, Option, Some, None, refl, sym, ap, subst, ◌∙◌, arith, length-append, true≢false}
+use Rattle.std.proofs.Common.{◌≡◌, ℕ, suc, ◌+◌, ◌<◌, nat_eq, Bool, true, false, cond, List, [], ◌∷◌, ◌++◌, map, length, Option, Some, None, refl, sym, ap, subst, ◌∙◌, arith, length-append}
 use Rattle.std.specs.Prelude.{option_map, is_some as is_there}
 use Rattle.std.specs.Borrow.{Bor}
 use Rattle.std.specs.Cmp.{nat_eq_equiv}
@@ -7,7 +7,7 @@ use Rattle.std.specs.Cmp.Lexicographic.{pointwise, bytes_decides, lists_equiv}
 use Rattle.std.specs.Global.{Vec}
 use Rattle.std.specs.Map.{lookup}
 use Rattle.std.proofs.lemmas.Bool.Decides.{nat_tests}
-use Rattle.c_expressions.specs.Declarations.{latest, latest_blocks, scope, found_from, found, Hide, AllHide, kept_as, innermost_of, AreInnermost, with_innermost, Uncovers}
+use Rattle.c_expressions.specs.Declarations.{latest, latest_blocks, scope, found_from, found, Hide, kept_as, innermost_of, AreInnermost, with_innermost, Uncovers}
 use Rattle.c_expressions.specs.SymbolTables.{names_around}
 use Rattle.c_expressions.specs.Words.{entity, is_some, Entity}
 use Rattle.c_expressions.specs.declared.scopes.Entity.{Entity as Entity'}
@@ -34,10 +34,6 @@ pub as_many : (bs : List (Vec Declaration)) → length (latest_blocks bs) ≡ le
 as_many [] = refl
 as_many (b ∷ bs) = length-append (latest_blocks bs) (latest b.items ∷ [])
     ∙ ap (λ k. k + 1) (as_many bs) ∙ omega arith
-
-pub without_last : (ds : List Declaration) (d : Declaration) → take (length ds) (ds ++ d ∷ []) ≡ ds
-without_last [] d = refl
-without_last (x ∷ ds) d = ap (λ l. x ∷ l) (without_last ds d)
 
 -- ---- names that are the same
 
@@ -197,10 +193,6 @@ ended es es' inner outer around h0 u =
       each = (u (length bs) (found bs) h.hidden.0 h.each).1;
       hidden = h.hidden.1;
     }
-
--- nothing is uncovered yet
-pub covered : (es : Entries) (ds : List Declaration) → Uncovers es es ds ds
-covered es ds = λ depth outside hide each. (hide, each)
 
 -- the last declaration that is left is uncovered
 pub uncovered : (before es es' : Entries) (ds left : List Declaration) (d : Declaration)

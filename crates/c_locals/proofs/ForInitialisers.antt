@@ -1,8 +1,8 @@
 -- What a `for` does first.
-use Rattle.std.proofs.Common.{◌≡◌, ℕ, List, [], map, append-nil, None, sym, ap, ◌∙◌, subst}
+use Rattle.std.proofs.Common.{◌≡◌, List, [], map, append-nil, None, sym, ap, ◌∙◌, subst}
 use Rattle.std.specs.Prelude.{option_map}
 use Rattle.c_checked.specs.Expression.{expression}
-use Rattle.c_locals.specs.Words.{declared, least_of, kept, SymbolTable, Scope, Beginning, Walk, Resolves, IsBeginning, declares, numbering, Environment, declare_all, names_only, resolve_for_initialiser, Base, Declaring, local}
+use Rattle.c_locals.specs.Words.{least_of, kept, SymbolTable, Scope, Beginning, Walk, Resolves, IsBeginning, declares, numbering, Environment, declare_all, names_only, resolve_for_initialiser, Base, Declaring, local}
 use Rattle.c_locals.proofs.DeclarationLocals.{only_declared}
 use Rattle.c_syntax.specs.declared.statement.Local.{Local as Local'}
 

@@ -102,8 +102,10 @@ fn declare_each<'t>(
     names: &mut SymbolTable<'t>,
     walk: &mut Walk,
 ) -> Result<Vec<Declared>, AllocError>
-    ensures { IfOk result (λ v. Resolves names.old names.new walk.old walk.new (map declares v.items)
-        (definitions.declare_all (environment env.now names.old.around) base (map trees.local locals.now)
+    ensures { IfOk result (λ v. Resolves names.old names.new walk.old walk.new
+        (map declares v.items)
+        (definitions.declare_all (environment env.now names.old.around) base
+        (map trees.local locals.now)
         names.old.block (numbering walk.old))) }
 {
     let mut made = Vec::new(alloc);
@@ -129,8 +131,10 @@ pub fn declare_all<'t>(
     names: &mut SymbolTable<'t>,
     walk: &mut Walk,
 ) -> Result<Vec<Stmt>, AllocError>
-    ensures { IfOk result (λ v. Resolves names.old names.new walk.old walk.new (map statement v.items)
-        (definitions.declare_all (environment env.now names.old.around) base (map trees.local locals.now)
+    ensures { IfOk result (λ v. Resolves names.old names.new walk.old walk.new
+        (map statement v.items)
+        (definitions.declare_all (environment env.now names.old.around) base
+        (map trees.local locals.now)
         names.old.block (numbering walk.old))) }
 {
     let made = declare_each(alloc, env, base, locals, names, walk)?;
@@ -147,7 +151,8 @@ pub fn for_initialiser<'t>(
 ) -> Result<Beginning, AllocError>
     requires { names.old.block ≡ [] }
     ensures { IfOk result (λ b. IsBeginning names.old names.new walk.old walk.new b
-        (definitions.resolve_for_initialiser (environment env.now names.old.around) (trees.first initialiser.now)
+        (definitions.resolve_for_initialiser (environment env.now names.old.around)
+        (trees.first initialiser.now)
         (numbering walk.old))) }
 {
     match initialiser {

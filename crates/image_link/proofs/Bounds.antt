@@ -93,12 +93,12 @@ text_length s rs near =
 
 -- ---- the tables
 
-pub infos_length : (s : SiteView) (at : ℕ) (rs : List RoutineView)
+pub infos_length : (s : SiteView) (at : ℕ) (rs : List RoutineView) → AllByRecursion IsRoutineNear rs
     → length (infos s at rs) ≤ infos_room rs
-infos_length s at [] = omega arith
-infos_length s at (r ∷ rs) =
-    let i = info_small s at r in
-    let l = infos_length s (at + routine_size r) rs in
+infos_length s at [] near = omega arith
+infos_length s at (r ∷ rs) near =
+    let i = info_small s at r near.0 in
+    let l = infos_length s (at + routine_size r) rs near.1 in
     omega (arith, length-append (info_bytes s at r) (infos s (at + routine_size r) rs))
 
 range_few : (o : Option FrameLayout) (range : RuntimeFunction) → length (range_if o range) ≤ 1

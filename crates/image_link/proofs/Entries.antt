@@ -1,11 +1,13 @@
 -- How many bytes come before a body, and where its instructions are.
-use Rattle.std.proofs.Common.{◌≡◌, ℕ, zero, suc, ◌+◌, ◌*◌, ◌<◌, ◌≤◌, Bool, true, false, cond, ltb, leb, List, [], ◌∷◌, ◌++◌, length, get_or, drop, drop-cons, Option, Some, None, refl, sym, ap, ◌∙◌, arith, append_assoc, length-append}
+use Rattle.std.proofs.Common.{◌≡◌, ℕ, zero, suc, ◌+◌, ◌*◌, ◌<◌, ◌≤◌, Bool, true, false, cond, ltb, List, [], ◌∷◌, ◌++◌, length, get_or, drop, drop-cons, Option, Some, None, refl, sym, ap, ◌∙◌, arith, append_assoc, length-append}
 use Rattle.std.specs.List.{AllByRecursion}
-use Rattle.image_link.specs.Words.{W32, Local, Instruction, FrameLayout, plan_of, Layout, spelled, size, sizes, template_size, AreNear, IsInstructionNear, IsNear, keep_base, code_room, LinearFunction, W8, W64, is_signed, modrm, opcode_register, RoutineView, function_frame, framed, IsFrameNear, IsEntryNear, IsRoutineNear, SiteView, routine_bytes, routines_bytes, room, routine_room, routine_size, bounds, frame_code, base_of, argument_code, entry_code, entry_size}
+use Rattle.image_link.specs.Words.{W32, Local, Instruction, FrameLayout, plan_of, Layout, spelled, size, sizes, template_size, AreNear, IsInstructionNear, IsNear, keep_base, code_room, LinearFunction, prologue_bytes, FitsFrame, RoutineView, function_facts, function_frame, framed, IsFrameNear, IsEntryNear, IsRoutineNear, SiteView, routine_bytes, routines_bytes, room, routine_room, routine_size, bounds, frame_code, base_of, argument_code, entry_code, entry_size}
+use Rattle.x64_instr.specs.declared.instruction.Instr.{Instr}
 use Rattle.x64_instr.specs.declared.register.Reg.TheVariants.{Rax, Rcx, Rsp}
-use Rattle.frame_rules.specs.Plan.{allocating}
 use Rattle.frame_rules.specs.Bytes.{prologue_code}
-use Rattle.frame_layout.proofs.Sizes.{code_is}
+use Rattle.frame_layout.proofs.Frames.{registers_few}
+use Rattle.frame_layout.proofs.Steps.{frame_registers}
+use Rattle.frame_layout.proofs.Sizes.{run, prologue_taken, prologue_few}
 use Rattle.template_code.specs.Operations.{move}
 use Rattle.template_code.specs.Slots.{fetched, keep, local_at}
 use Rattle.template_code.specs.Jumps.{distance}
@@ -18,34 +20,31 @@ use Rattle.image_link.specs.declared.routine.Entry.TheVariants as entries
 
 -- ---- frames
 
-allocating_sizes : (probe n : ℕ) (small : Bool)
-    → sizes (allocating probe n small) ≡ sizes (allocating 0 n small)
+-- the sizes of instructions as they are fetched
+pub run_sizes : (is : List Instr) → run is ≡ sizes is
 unfolding size
-allocating_sizes probe n true = refl
-allocating_sizes probe n false = refl
+run_sizes [] = refl
+run_sizes (i ∷ is) = let e = run_sizes is in omega arith
 
-allocating_small : (probe n : ℕ) (small : Bool) → sizes (allocating probe n small) ≤ 45
-allocating_small probe n true = let s = sizes_small (allocating probe n true) in omega arith
-allocating_small probe n false = sizes_small (allocating probe n false)
+-- a prologue takes as many bytes as its info says
+pub prologue_sizes : (f : FrameLayout) (probe : ℕ)
+    → sizes (prologue_code (plan_of f probe)) ≡ prologue_bytes f
+prologue_sizes f probe = sym (run_sizes (prologue_code (plan_of f probe)))
+    ∙ prologue_taken f probe
 
-planned : (f : FrameLayout) (probe : ℕ) → 0 < f.size
-    → sizes (prologue_code (plan_of f probe)) ≡ sizes (allocating probe f.size (leb f.size 4096))
-planned f probe some = ap sizes (code_is probe f.size some)
-
-frame_sizes : (at check : ℕ) (o : Option FrameLayout) → IsFrameNear o
+frame_sizes : (at check : ℕ) (o : Option FrameLayout)
     → sizes (frame_code at check o) ≡ sizes (frame_code 0 0 o)
-frame_sizes at check None near = refl
-frame_sizes at check (Some f) near =
-    planned f (distance (at + 10) check) near.0
-    ∙ allocating_sizes (distance (at + 10) check) f.size (leb f.size 4096)
-    ∙ sym (allocating_sizes (distance 10 0) f.size (leb f.size 4096))
-    ∙ sym (planned f (distance 10 0) near.0)
+frame_sizes at check None = refl
+frame_sizes at check (Some f) = prologue_sizes f (distance (at + 10) check)
+    ∙ sym (prologue_sizes f (distance 10 0))
 
 frame_small : (at check : ℕ) (o : Option FrameLayout) → IsFrameNear o
-    → sizes (frame_code at check o) ≤ 45
+    → sizes (frame_code at check o) ≤ 57
 frame_small at check None near = omega arith
-frame_small at check (Some f) near = let p = planned f (distance (at + 10) check) near.0 in
-    let s = allocating_small (distance (at + 10) check) f.size (leb f.size 4096) in omega arith
+frame_small at check (Some f) near =
+    let p = prologue_sizes f (distance (at + 10) check) in
+    let few = (prologue_few f (frame_registers f near.0)).1 in
+    omega arith
 
 -- ---- what it is called with
 
@@ -91,14 +90,14 @@ pub entry_sizes : (at check : ℕ) (r : RoutineView) → IsRoutineNear r
     → sizes (entry_code at check r) ≡ entry_size r
 unfolding entry_size
 entry_sizes at check r near =
-    let f = frame_sizes at check r.frame near.frame in
+    let f = frame_sizes at check r.frame in
     omega (
       arith,
       sizes_append (frame_code at check r.frame) (argument_code r.layout r.entry),
       sizes_append (frame_code 0 0 r.frame) (argument_code r.layout r.entry),
     )
 
-pub entry_small : (r : RoutineView) → IsRoutineNear r → entry_size r ≤ 285
+pub entry_small : (r : RoutineView) → IsRoutineNear r → entry_size r ≤ 297
 unfolding entry_size
 entry_small r near =
     let f = frame_small 0 0 r.frame near.frame in
@@ -162,24 +161,13 @@ appended old new whole a more all e f g = ap (λ t. t ++ more) e ∙ append_asso
 
 -- ---- a frame takes an instruction
 
-sub_by : (n : ℕ) (byte : Bool) → is_signed W8 W64 n ≡ byte → 0 < sizes (allocating 0 n true)
-unfolding size modrm
-sub_by n true e = let s : sizes (allocating 0 n true) ≡ 4 = rw e refl in omega arith
-sub_by n false e = let s : sizes (allocating 0 n true) ≡ 7 = rw e refl in omega arith
-
-allocating_some : (n : ℕ) (small : Bool) → 0 < sizes (allocating 0 n small)
-unfolding size modrm opcode_register
-allocating_some n true = sub_by n (is_signed W8 W64 n) refl
-allocating_some n false = omega arith
-
-pub framed_some : (f : LinearFunction) → 0 < routine_size (framed f)
+pub framed_some : (f : LinearFunction) → FitsFrame (function_facts f.body)
+    → 0 < routine_size (framed f)
 unfolding entry_size
-framed_some f =
+framed_some f fits =
     let frame = function_frame f.body in
-    let some : 0 < frame.size = omega arith in
-    let p = planned frame (distance 10 0) some in
-    let a = allocating_sizes (distance 10 0) frame.size (leb frame.size 4096) in
-    let s = allocating_some frame.size (leb frame.size 4096) in
+    let p = prologue_sizes frame (distance 10 0) in
+    let some = (prologue_few frame (registers_few (function_facts f.body) fits.registers)).0 in
     omega (
       arith,
       sizes_append (frame_code 0 0 (Some frame))

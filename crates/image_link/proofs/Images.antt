@@ -3,14 +3,14 @@ use Rattle.std.proofs.Common.{◌≡◌, ℕ, zero, suc, ◌+◌, ◌-◌, ◌*�
 use Rattle.std.specs.Prelude.{◌&&◌, IfOk}
 use Rattle.std.specs.List.{AllByRecursion}
 use Rattle.std.proofs.lemmas.Bool.{eq-eqb}
-use Rattle.image_link.specs.Words.{ImportedService, LinearBody, LinearFunction, LinearFunclet, LinearProgram, CanBeImage, ImageContents, RoutineView, is_leaf, framed, leaf_if, functions_from, funclet, no_function, routines, IsRoutineNear, IsSiteNear, AreFew, HasRoom, HasNames, HasPlaces, table_bytes, SiteView, room, routine_size, bounds, first_routine_at, text_bytes, infos_room, infos, ranges, first, total, text_size, xdata_begin, IsPlacement, site, image_of, NameRow, names_size, name_table_size, calls_walk, named_if, named_functions, function_rows, names_room, services_of, linked, FitsProgram, tables_room, function_bodies, funclet_bodies, program_tables_room}
+use Rattle.image_link.specs.Words.{ImportedService, LinearBody, LinearFunction, LinearFunclet, LinearProgram, CanBeImage, ImageContents, RoutineView, is_leaf, framed, leaf_if, functions_from, funclet, no_function, body_of_function, routines, IsRoutineNear, IsSiteNear, AreFew, HasRoom, HasNames, HasPlaces, table_bytes, SiteView, room, routine_size, bounds, first_routine_at, text_bytes, infos_room, infos, ranges, first, total, text_size, xdata_begin, IsPlacement, site, image_of, NameRow, names_size, name_table_size, calls_walk, named_if, named_functions, function_rows, names_room, services_of, linked, FitsProgram, tables_room, function_bodies, funclet_bodies, program_tables_room}
 use Rattle.image_link.proofs.Lemmas.{code_in_room}
 use Rattle.image_link.specs.declared.placement.Placement.{Placement}
 use Rattle.image_link.specs.declared.routine.Entry.TheVariants as entries
 use Rattle.image_link.specs.Laws.{ImagesAreSmall}
 use Rattle.image_link.proofs.Entries.{entry_small, framed_some}
 use Rattle.image_link.proofs.Front.{imports_small, services_few}
-use Rattle.image_link.proofs.Nearness.{routines_near, routines_room}
+use Rattle.image_link.proofs.Nearness.{function_facts_fit, function_at, routines_near, routines_room}
 use Rattle.image_link.proofs.Bounds.{bounds_length, bounds_end, bounds_least, bounds_below, total_small, bounds_near, take_near, drop_near, text_length, infos_length, tables_small, count_small}
 use Rattle.seh_num.specs.declared.limit.TheConstants.{MOST_GLOBALS}
 
@@ -84,7 +84,7 @@ is_program imports g rs functions main named services few near places names d =
     let n = count_small rs in
     let table = table_small 0 (bounds (first imports g) rs) named in
     let text = text_length s rs near in
-    let xdata = infos_length s (first imports g) rs in
+    let xdata = infos_length s (first imports g) rs near in
     let pdata = tables_small s (xdata_begin imports g rs) (first imports g) rs in
     let some = places.some d in
     let below = bounds_below (first imports g) rs main 0 d places.there in
@@ -261,7 +261,8 @@ has_places p fits =
       fewer = omega (arith, length-append a b);
       there = omega (arith, length-append a b);
       some = λ d. subst (λ (r : RoutineView). 0 < routine_size r) (sym (main_is p fits d))
-          (framed_some (get_or p.functions p.main no_function));
+          (framed_some (get_or p.functions p.main no_function)
+          (function_facts_fit (body_of_function p p.main) (function_at p p.main fits lt)));
     }
 
 named_within : (walks : Bool) (fs : List LinearFunction)
@@ -319,6 +320,6 @@ images_are_small p fits =
     let names = named_within (calls_walk p) p.functions in
     let table = table_small 0 (bounds (first imports g) rs) (named_functions p) in
     let text = text_length s rs near in
-    let xdata = infos_length s (first imports g) rs in
+    let xdata = infos_length s (first imports g) rs near in
     let pdata = tables_small s (xdata_begin imports g rs) (first imports g) rs in
     omega arith

@@ -1,23 +1,18 @@
 -- How many bytes an unwind info with its scope table takes, and one more of them.
-use Rattle.std.proofs.Common.{◌≡◌, ℕ, suc, ◌+◌, ◌-◌, ◌*◌, ◌/◌, ◌<◌, ◌≤◌, Bool, true, false, List, [], ◌∷◌, ◌++◌, length, get_or, drop, drop-cons, Option, Some, None, refl, ap, ◌∙◌, arith, length-append}
-use Rattle.std.specs.Prelude.{if◌then◌else◌}
+use Rattle.std.proofs.Common.{◌≡◌, ℕ, suc, ◌+◌, ◌*◌, ◌%◌, ◌<◌, ◌≤◌, replicate, List, [], ◌∷◌, ◌++◌, length, get_or, drop, drop-cons, Option, Some, None, refl, ap, ◌∙◌, arith, length-append}
 use Rattle.std.specs.List.{flat_map}
-use Rattle.std.proofs.lemmas.List.{length-map}
+use Rattle.std.proofs.lemmas.List.{length-map, length-replicate}
+use Rattle.eh_tables.specs.Written.{codes_bytes}
+use Rattle.frame_layout.specs.Layout.{IsFrame}
+use Rattle.frame_layout.proofs.Steps.{frame_registers}
+use Rattle.frame_layout.proofs.Codes.{codes_few}
 use Rattle.eh_tables.specs.declared.scope.ScopeRecord.{ScopeRecord}
 use Rattle.eh_tables.specs.declared.unwind_info.Trailer.{Trailer}
-use Rattle.image_link.specs.Words.{u16, u32, slot, is_small, is_short, allocation, header, padded, unwind_bytes, trailer_bytes, scope_record_bytes, FrameLayout, info_of, taking_size, RoutineView, SiteView, routine_size, own_addresses, thunk_at, trailer, scope_record, scope_records, scope_table, info_if, info_bytes, info_room, infos_room, infos, range_of, ranges}
+use Rattle.image_link.specs.Words.{u32, header, padded, unwind_bytes, trailer_bytes, scope_record_bytes, FrameLayout, info_of, codes_of, IsFrameNear, IsRoutineNear, RoutineView, SiteView, routine_size, own_addresses, thunk_at, trailer, scope_record, scope_records, scope_table, info_if, info_bytes, info_room, infos_room, infos, range_of, ranges}
 use Rattle.linear_code.specs.declared.program.Region.{Region}
 use Rattle.host_layout.specs.declared.imported.ImportedService.TheVariants.{CSpecificHandler}
 
 -- ---- sizes
-
-slots_by : (offset n : ℕ) (small short : Bool)
-    → length (padded ((if small then slot offset 2 (n / 8 - 1)
-    else (if short then slot offset 1 0 ++ u16 (n / 8) else slot offset 1 1 ++ u32 n)) ++ [])) ≤ 8
-unfolding u16 u32
-slots_by offset n true short = omega arith
-slots_by offset n false true = omega arith
-slots_by offset n false false = omega arith
 
 records_length : (rs : List ScopeRecord) → length (flat_map scope_record_bytes rs) ≡ 16 * length rs
 unfolding u32
@@ -37,27 +32,29 @@ scopes_small funclets labels end (r ∷ rs) = let l = records_length
     (scope_records funclets labels end (r ∷ rs)) in
     omega (arith, length-map (r ∷ rs) (scope_record funclets labels end))
 
-unwind_small : (f : FrameLayout) (t : Trailer) → length (trailer_bytes t) ≤ 4
-    → length (unwind_bytes (info_of f t)) ≤ 16
+unwind_small : (f : FrameLayout) (t : Trailer) → IsFrame f → length (trailer_bytes t) ≤ 4
+    → length (unwind_bytes (info_of f t)) ≤ 51
 unfolding unwind_bytes
-unwind_small f t le =
-    let offset = taking_size f.size in
-    let slots = slots_by offset f.size (is_small f.size) (is_short 8 f.size) in
-    let bytes = allocation offset f.size ++ [] in
+unwind_small f t frame le =
+    let few = codes_few f (frame_registers f frame) in
+    let bytes = codes_bytes (codes_of f) in
+    let rest = length bytes % 4 in
+    let pad : length (replicate {A = ℕ} rest 0) ≡ rest = length-replicate {A = ℕ} rest 0 in
     omega (
       arith,
       length-append (header (info_of f t) (length bytes))
           (padded bytes ++ trailer_bytes t),
       length-append (padded bytes) (trailer_bytes t),
+      length-append bytes (replicate rest 0),
     )
 
 info_by : (s : SiteView) (labels : List ℕ) (end : ℕ) (r : RoutineView) (o : Option FrameLayout)
-    → length (info_if s labels end r o) ≤ info_room r
-info_by s labels end r None = omega arith
-info_by s labels end r (Some f) =
+    → IsFrameNear o → length (info_if s labels end r o) ≤ info_room r
+info_by s labels end r None near = omega arith
+info_by s labels end r (Some f) near =
     let h = thunk_at s.imports s.text CSpecificHandler in
     let t = trailer h r.body.regions in
-    let u = unwind_small f t (trailer_small h r.body.regions) in
+    let u = unwind_small f t near.0 (trailer_small h r.body.regions) in
     let k = scopes_small s.funclets labels end r.body.regions in
     omega (
       arith,
@@ -65,10 +62,11 @@ info_by s labels end r (Some f) =
           (scope_table s.funclets labels end r.body.regions),
     )
 
-pub info_small : (s : SiteView) (at : ℕ) (r : RoutineView)
+pub info_small : (s : SiteView) (at : ℕ) (r : RoutineView) → IsRoutineNear r
     → length (info_bytes s at r) ≤ info_room r
 unfolding info_bytes
-info_small s at r = info_by s (own_addresses at r).labels (own_addresses at r).end r r.frame
+info_small s at r near =
+    info_by s (own_addresses at r).labels (own_addresses at r).end r r.frame near.frame
 
 -- ---- one after another
 

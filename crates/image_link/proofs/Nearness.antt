@@ -3,10 +3,11 @@ use Rattle.std.proofs.Common.{◌≡◌, ℕ, suc, ◌+◌, ◌<◌, ◌≤◌, 
 use Rattle.std.specs.Prelude.{◌&&◌}
 use Rattle.std.specs.List.{AllByRecursion}
 use Rattle.linear_code.specs.declared.slot.Slot.{Slot}
-use Rattle.image_link.specs.Words.{Local, Temporary, Instruction, LinearBody, LinearFunction, LinearFunclet, LinearProgram, Layout, IsBaseNear, IsSlotNear, IsInstructionNear, IsParentNear, code_room, RoutineView, is_leaf, function_frame, leaf_layout, function_layout, leaf, framed, leaf_if, functions_from, funclet_frame, nothing, no_function, body_of_function, body_of_funclet, kept_by, HasParent, entry_of, funclet_layout, funclet, routines, IsEntryNear, IsRoutineNear, FitsSlot, FitsInstruction, FitsBody, FitsFunction, FitsKind, FitsFunclet, function_bodies, funclet_bodies, text_room, FitsProgram}
+use Rattle.image_link.specs.Words.{Local, Temporary, Instruction, LinearBody, LinearFunction, LinearFunclet, LinearProgram, Layout, IsBaseNear, IsSlotNear, IsInstructionNear, IsParentNear, code_room, FitsFrame, RoutineView, is_leaf, function_facts, function_frame, leaf_layout, function_layout, leaf, framed, leaf_if, functions_from, funclet_facts, funclet_frame, nothing, no_function, body_of_function, body_of_funclet, kept_by, HasParent, entry_of, funclet_layout, funclet, routines, IsEntryNear, IsRoutineNear, FitsSlot, FitsInstruction, FitsBody, FitsFunction, FitsKind, FitsFunclet, function_bodies, funclet_bodies, text_room, FitsProgram}
 use Rattle.linear_code.specs.declared.instruction.Instruction.TheVariants as instructions
 use Rattle.linear_code.specs.declared.program.FuncletKind.{FuncletKind}
 use Rattle.linear_code.specs.declared.program.FuncletKind.TheVariants.{Filter, Finally}
+use Rattle.frame_layout.proofs.Frames.{parts, small}
 use Rattle.image_link.proofs.Lemmas.{all_at}
 use Rattle.image_link.specs.Text as texts
 use Rattle.image_link.specs.Fits.{room}
@@ -18,6 +19,14 @@ record IsLow (y : Layout) : Type 0 where
   locals : y.locals ≤ 16384
   temporaries : y.temporaries ≤ 16384
   frame : y.frame ≤ 16384
+
+-- ---- frames
+
+pub function_facts_fit : (b : LinearBody) → FitsBody b → FitsFrame (function_facts b)
+function_facts_fit b fits = let w = fits.words in record { registers = omega arith; words = omega arith }
+
+pub funclet_facts_fit : (b : LinearBody) → FitsBody b → FitsFrame (funclet_facts b)
+funclet_facts_fit b fits = let w = fits.words in record { registers = omega arith; words = omega arith }
 
 -- ---- instructions
 
@@ -87,6 +96,8 @@ framed_near : (f : LinearFunction) → FitsFunction f → IsRoutineNear (framed 
 framed_near f fits =
     let w = fits.body.words in
     let few = fits.parameters in
+    let facts = function_facts_fit f.body fits.body in
+    let all = small (function_facts f.body) facts in
     let y = function_layout (function_frame f.body) in
     let low : IsLow y = record {
       base = tt;
@@ -96,7 +107,7 @@ framed_near f fits =
       frame = omega arith;
     } in
     record {
-      frame = (omega arith, omega arith);
+      frame = (parts (function_facts f.body) facts, all);
       entry = (few, record { locals = omega arith; stack = omega arith });
       code = code_near y f.body f.body.code low fits.body fits.body.code;
       regions = fits.body.regions;
@@ -122,7 +133,7 @@ funclet_at : (p : LinearProgram) (index : ℕ) → FitsProgram p → index < len
 funclet_at p index fits lt = (all_at (FitsFunclet p) p.funclets index
     (record { kind = Filter; function = 0; parent = None; body = nothing }) fits.funclets lt).body
 
-function_at : (p : LinearProgram) (index : ℕ) → FitsProgram p → index < length p.functions
+pub function_at : (p : LinearProgram) (index : ℕ) → FitsProgram p → index < length p.functions
     → FitsBody (body_of_function p index)
 function_at p index fits lt = (all_at FitsFunction p.functions index
     no_function fits.functions lt).body
@@ -139,6 +150,7 @@ funclet_low p f fits h =
     let b = function_at p f.function fits h.function in
     let v = b.words in
     let w = h.body.words in
+    let all = small (funclet_facts f.body) (funclet_facts_fit f.body h.body) in
     record {
       base = omega arith;
       pointers = omega arith;
@@ -167,11 +179,11 @@ entry_near p f (Finally flag) fits h kind =
 funclet_near : (p : LinearProgram) (f : LinearFunclet) → FitsProgram p → FitsFunclet p f
     → IsRoutineNear (funclet p f)
 funclet_near p f fits h =
-    let w = h.body.words in
+    let facts = funclet_facts_fit f.body h.body in
     let y = funclet_layout (function_frame (body_of_function p f.function))
     (funclet_frame f.body) in
     record {
-      frame = (omega arith, omega arith);
+      frame = (parts (funclet_facts f.body) facts, small (funclet_facts f.body) facts);
       entry = entry_near p f f.kind fits h h.kind;
       code = code_near y f.body f.body.code (funclet_low p f fits h) h.body h.body.code;
       regions = h.body.regions;

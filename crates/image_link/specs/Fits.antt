@@ -79,7 +79,7 @@ funclet_bodies (f ∷ fs) = f.body ∷ funclet_bodies fs
 -- how many bytes their unwind infos and scope tables take at most
 abbrev pub tables_room : List LinearBody → ℕ
 tables_room [] = 0
-tables_room (b ∷ bs) = 32 + 16 * length b.regions + tables_room bs
+tables_room (b ∷ bs) = 64 + 16 * length b.regions + tables_room bs
 
 abbrev pub text_room : LinearProgram → ℕ
 text_room p = room (function_bodies p.functions) + room (funclet_bodies p.funclets)

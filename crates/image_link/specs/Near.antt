@@ -4,6 +4,7 @@ use Rattle.std.specs.List.{AllByRecursion}
 use Rattle.seh_num.specs.declared.limit.TheConstants.{MOST_PARAMETERS}
 use Rattle.linear_code.specs.declared.slot.Slot.TheVariants.{Local}
 use Rattle.frame_layout.specs.declared.frame.FrameLayout.{FrameLayout}
+use Rattle.frame_layout.specs.Layout.{IsFrame}
 use Rattle.template_code.specs.declared.layout.Layout.{Layout}
 use Rattle.x64_emit.specs.Near.{AreNear, IsSlotNear, AreParametersNear, ArePointersNear, IsInstructionNear}
 use Rattle.x64_emit.specs.Entries.{IsKeptNear}
@@ -22,7 +23,7 @@ use Rattle.image_link.specs.Walks.{names_room}
 
 abbrev pub IsFrameNear : Option FrameLayout → Type 0
 IsFrameNear None = Unit {0}
-IsFrameNear (Some f) = (0 < f.size) × (f.size + 8 ≤ LARGEST_FRAME)
+IsFrameNear (Some f) = IsFrame f × (f.depth + 8 ≤ LARGEST_FRAME)
 
 abbrev pub IsEntryNear : Layout → Entry → Type 0
 IsEntryNear y (entries.Function count) = (count ≤ MOST_PARAMETERS) × AreParametersNear y count

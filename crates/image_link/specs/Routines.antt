@@ -6,6 +6,7 @@ use Rattle.linear_code.specs.declared.instruction.Instruction.TheVariants as ins
 use Rattle.linear_code.specs.declared.program.FuncletKind.{FuncletKind}
 use Rattle.linear_code.specs.declared.program.FuncletKind.TheVariants.{Filter, Finally}
 use Rattle.linear_code.specs.Program.{LinearBody, LinearFunction, LinearFunclet, LinearProgram}
+use Rattle.frame_layout.specs.declared.frame.Facts.{Facts}
 use Rattle.frame_layout.specs.declared.frame.FrameLayout.{FrameLayout}
 use Rattle.frame_layout.specs.Layout.{frame_of}
 use Rattle.template_code.specs.declared.layout.Layout.{Layout}
@@ -38,14 +39,20 @@ is_leaf b =
 
 -- ---- functions
 
-abbrev pub function_frame : LinearBody → FrameLayout
-function_frame b =
-    frame_of (record {
+-- no local stands in a register, and none has a frame register
+abbrev pub function_facts : LinearBody → Facts
+function_facts b =
+    record {
       passed = b.passed;
       kept = 0;
       temporaries = b.temporaries;
       locals = b.locals;
-    })
+      registers = 0;
+      frame_register = false;
+    }
+
+abbrev pub function_frame : LinearBody → FrameLayout
+function_frame b = frame_of (function_facts b)
 
 -- the slots of a leaf are above its return address
 abbrev pub leaf_layout : LinearBody → Layout
@@ -66,8 +73,8 @@ function_layout f =
       pointers = 0;
       locals = f.locals;
       temporaries = f.temporaries;
-      slots = f.size;
-      frame = f.size;
+      slots = f.slots;
+      frame = f.depth;
     }
 
 abbrev pub leaf : LinearFunction → RoutineView
@@ -100,9 +107,19 @@ functions_from main index (f ∷ fs) =
 
 -- ---- funclets: they keep the base of their function's frame and the address of EXCEPTION_POINTERS
 
+abbrev pub funclet_facts : LinearBody → Facts
+funclet_facts b =
+    record {
+      passed = b.passed;
+      kept = 2;
+      temporaries = b.temporaries;
+      locals = 0;
+      registers = 0;
+      frame_register = false;
+    }
+
 abbrev pub funclet_frame : LinearBody → FrameLayout
-funclet_frame b =
-    frame_of (record { passed = b.passed; kept = 2; temporaries = b.temporaries; locals = 0 })
+funclet_frame b = frame_of (funclet_facts b)
 
 -- a body without any
 abbrev pub nothing : LinearBody
@@ -110,7 +127,7 @@ nothing = record { locals = 0; temporaries = 0; passed = 0; code = []; regions =
 
 -- a function without a name or a body
 abbrev pub no_function : LinearFunction
-no_function = record { name = []; parameters = 0; body = nothing }
+no_function = record { name = []; parameters = 0; registers = []; body = nothing }
 
 abbrev pub body_of_function : LinearProgram → ℕ → LinearBody
 body_of_function p index = (get_or p.functions index no_function).body
@@ -145,8 +162,8 @@ funclet_layout function own =
       pointers = own.kept + 8;
       locals = function.locals;
       temporaries = own.temporaries;
-      slots = own.size;
-      frame = own.size;
+      slots = own.slots;
+      frame = own.depth;
     }
 
 abbrev pub funclet : LinearProgram → LinearFunclet → RoutineView

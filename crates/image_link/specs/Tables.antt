@@ -11,7 +11,7 @@ use Rattle.linear_code.specs.declared.program.Region.{Region}
 use Rattle.linear_code.specs.declared.program.RegionKind.{RegionKind}
 use Rattle.linear_code.specs.declared.program.RegionKind.TheVariants as kinds
 use Rattle.frame_layout.specs.declared.frame.FrameLayout.{FrameLayout}
-use Rattle.frame_layout.specs.Layout.{info_of}
+use Rattle.frame_layout.specs.Infos.{info_of}
 use Rattle.host_layout.specs.declared.imported.ImportedService.TheVariants.{CSpecificHandler}
 use Rattle.x64_emit.specs.Linking.{address_or}
 use Rattle.image_link.specs.Routines.{RoutineView}
@@ -87,7 +87,7 @@ infos s at (r ∷ rs) = info_bytes s at r ++ infos s (at + routine_size r) rs
 
 -- how many bytes they take at most
 abbrev pub info_room : RoutineView → ℕ
-info_room r = 32 + 16 * length r.body.regions
+info_room r = 64 + 16 * length r.body.regions
 
 abbrev pub infos_room : List RoutineView → ℕ
 infos_room [] = 0

@@ -10,9 +10,8 @@ use crate::routine::{Entry, Routine};
 use frame_layout::FrameLayout;
 use std::alloc::AllocError;
 use template_code::layout::Layout;
-use x64_emit::entry::{
-    put_keep_base, put_keep_flag, put_keep_pointers, put_parameters, put_prologue,
-};
+use x64_emit::entry::{put_keep_base, put_keep_flag, put_keep_pointers, put_parameters};
+use x64_emit::frames::put_prologue;
 
 /// Adds the prologue of a frame, if there is one.
 fn put_frame(

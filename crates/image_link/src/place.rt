@@ -34,7 +34,7 @@ pub fn front_size(imports: &[ImportedService]) -> u32
 fn entry_size(alloc: Global, routine: &Routine<'_>) -> Result<u32, AllocError>
     requires { IsRoutineNear routine.now }
     ensures value { IfOk result (λ size. size ≡ spec.entry_size routine.now) }
-    ensures small { IfOk result (λ size. size ≤ 285) }
+    ensures small { IfOk result (λ size. size ≤ 297) }
 {
     let mut entry = Vec::new(alloc);
     put_entry(&mut entry, routine, 0, 0)?;

@@ -138,6 +138,8 @@ fn function_frame(body: &IrBody) -> FrameLayout
         kept: 0,
         temporaries: body.temporaries,
         locals: body.locals,
+        registers: 0,
+        frame_register: false,
     })
 }
 
@@ -156,8 +158,8 @@ fn framed<'a>(function: &'a IrFunction) -> Routine<'a>
             pointers: 0,
             locals: frame.locals,
             temporaries: frame.temporaries,
-            slots: frame.size,
-            frame: frame.size,
+            slots: frame.slots,
+            frame: frame.depth,
         },
         body: &function.body,
     }
@@ -185,6 +187,8 @@ fn funclet_frame(body: &IrBody) -> FrameLayout
         kept: FUNCLET_WORDS,
         temporaries: body.temporaries,
         locals: 0,
+        registers: 0,
+        frame_register: false,
     })
 }
 
@@ -224,8 +228,8 @@ fn funclet_routine<'a>(program: &IrProgram, funclet: &'a IrFunclet) -> Routine<'
             pointers: own.kept + 8,
             locals: function.locals,
             temporaries: own.temporaries,
-            slots: own.size,
-            frame: own.size,
+            slots: own.slots,
+            frame: own.depth,
         },
         body: &funclet.body,
     }

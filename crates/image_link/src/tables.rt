@@ -3,7 +3,8 @@
 ghost use Rattle.std.specs.Prelude.{◌≡◌, ◌+◌, ◌<◌, ◌≤◌, ◌^◌, ◌++◌, length, OnOk, IfOk};
 ghost use Rattle.std.specs.List.{AllByRecursion};
 ghost use Rattle.eh_tables.specs.Written.{CanBeWritten, IsTrailer, table_bytes};
-ghost use Rattle.frame_layout.specs.Layout.{info_of};
+ghost use Rattle.frame_layout.specs.Layout.{IsFrame};
+ghost use Rattle.frame_layout.specs.Infos.{info_of};
 ghost use Rattle.x64_emit.specs.Linking.{address_or};
 ghost use Rattle.image_link.specs.Near.{IsFrameNear, IsRoutineNear, IsSiteNear};
 ghost use Rattle.image_link.specs.Places.{place_at, places_from};
@@ -131,8 +132,7 @@ fn trailer(regions: &[Region], handler: u32) -> Trailer
 
 /// The unwind info of a frame, with what follows its codes.
 fn info_with(frame: &FrameLayout, trailer: Trailer) -> UnwindInfo
-    requires some { 0 < frame.now.size }
-    requires fits { frame.now.size < 2 ^ 31 }
+    requires frame { IsFrame frame.now }
     requires trailer { IsTrailer trailer }
     ensures value { result ≡ info_of frame.now trailer }
     ensures written { CanBeWritten result }
@@ -158,8 +158,7 @@ fn put_info(
 ) -> Result<(), AllocError>
     requires site { IsSiteNear site.now }
     requires near { IsRoutineNear routine.now }
-    requires some { 0 < frame.now.size }
-    requires fits { frame.now.size < 2 ^ 31 }
+    requires frame { IsFrame frame.now }
     ensures { OnOk result (xdata.new.items ≡ xdata.old.items ++ spec.info_bytes_of site.now
         labels.now.starts.items labels.now.end routine.now frame.now) }
 {

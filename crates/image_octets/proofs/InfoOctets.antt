@@ -1,33 +1,25 @@
 -- The unwind info of a frame is written as octets.
-use Rattle.std.proofs.Common.{◌≡◌, ℕ, zero, suc, ◌-◌, ◌/◌, ◌%◌, ◌<◌, ◌≤◌, inl, inr, Bool, true, false, cond, List, [], ◌++◌, length, length-append, replicate, refl, arith}
-use Rattle.std.specs.Prelude.{◌&&◌, ◌==◌, nat_lt, nat_le}
-use Rattle.std.proofs.lemmas.Bool.{cases_lt, leb-true, and_parts}
+use Rattle.std.proofs.Common.{◌≡◌, ℕ, ◌-◌, ◌/◌, ◌%◌, ◌<◌, ◌≤◌, Bool, true, false, cond, List, [], ◌∷◌, ◌++◌, length, replicate, refl, arith}
+use Rattle.std.specs.Prelude.{◌+◌, ◌&&◌, ◌==◌, nat_lt, nat_le}
+use Rattle.std.specs.List.{AllByRecursion}
+use Rattle.std.proofs.lemmas.Bool.{leb-true, and_parts}
 use Rattle.seh_num.specs.Widths.{if_set}
 use Rattle.pe_image.specs.Numbers.{u16, u32}
-use Rattle.eh_tables.specs.Written.{slot, is_short, is_small, codes_bytes, header, padded, trailer_bytes, trailer_flags, unwind_bytes}
+use Rattle.eh_tables.specs.Written.{slot, is_short, is_small, operation_bytes, codes_bytes, header, padded, trailer_bytes, trailer_flags, unwind_bytes}
 use Rattle.eh_tables.specs.declared.unwind_info.Trailer.{Trailer}
 use Rattle.eh_tables.specs.declared.unwind_info.Trailer.TheVariants.{Nothing, Handler, Parent}
 use Rattle.frame_layout.specs.declared.frame.FrameLayout.{FrameLayout}
-use Rattle.frame_layout.specs.Layout.{info_of, taking_size}
-use Rattle.frame_layout.proofs.Sizes.{takes_four, takes_seven, takes_thirteen}
+use Rattle.frame_layout.specs.Plans.{frame_register_if, frame_distance_if}
+use Rattle.frame_layout.specs.Infos.{info_of, codes_of}
+use Rattle.frame_layout.proofs.Steps.{HasRegisters, IsShort}
+use Rattle.frame_layout.proofs.Sizes.{prologue_few}
+use Rattle.frame_layout.proofs.Codes.{codes_few, codes_short, codes_offsets}
+use Rattle.eh_tables.specs.declared.code.UnwindCode.{UnwindCode}
+use Rattle.eh_tables.specs.declared.code.UnwindOperation.{UnwindOperation}
+use Rattle.eh_tables.specs.declared.code.UnwindOperation.TheVariants.{Push, Allocate, SetFrame, Save, SaveVector, MachineFrame}
 use Rattle.image_octets.specs.OctetLaws.{AreOctets}
 use Rattle.image_octets.proofs.Octets.{joined, repeated, two_bytes, four_bytes}
 use Rattle.image_octets.proofs.TableOctets.{trailer_octets}
-
--- the prologue of a frame takes 13 bytes at most
-none_small : taking_size 0 < 16
-unfolding taking_size
-none_small = omega arith
-
-prologue_small : (n : ℕ) → taking_size n < 16
-prologue_small zero = none_small
-prologue_small (suc n) = elim (cases_lt (suc n) 128) [
-  | inl lt ↦ let e = takes_four (suc n) (omega arith) lt in omega arith
-  | inr far ↦ elim (cases_lt 4096 (suc n)) [
-    | inl lt ↦ let e = takes_thirteen (suc n) lt in omega arith
-    | inr le ↦ let e = takes_seven (suc n) far le in omega arith
-  ]
-]
 
 -- ---- the code of the allocation
 
@@ -41,29 +33,43 @@ abbrev allocation_by : ℕ → ℕ → Bool → Bool → List ℕ
 allocation_by offset n small short = cond small (slot offset 2 (n / 8 - 1))
     (cond short (slot offset 1 0 ++ u16 (n / 8)) (slot offset 1 1 ++ u32 n))
 
--- at most six bytes, which are octets
-record IsShortPiece (bytes : List ℕ) : Type 0 where
-  octets : AreOctets bytes
-  few : length bytes ≤ 6
-
 pieces : (offset n : ℕ) (small short : Bool) → offset < 256 → (small ≡ true → n / 8 - 1 < 16)
-    → IsShortPiece (allocation_by offset n small short)
+    → AreOctets (allocation_by offset n small short)
 unfolding u16 u32
-pieces offset n true short lt units =
-    let u = units refl in
-    record { octets = (lt, (omega arith, tt)); few = omega arith }
-pieces offset n false true lt units = record {
-  octets = (lt, (omega arith, two_bytes (n / 8)));
-  few = omega arith;
-}
-pieces offset n false false lt units = record {
-  octets = (lt, (omega arith, four_bytes n));
-  few = omega arith;
-}
+pieces offset n true short lt units = let u = units refl in (lt, (omega arith, tt))
+pieces offset n false true lt units = (lt, (omega arith, two_bytes (n / 8)))
+pieces offset n false false lt units = (lt, (omega arith, four_bytes n))
 
 allocation_octets : (offset n : ℕ) → offset < 256
-    → IsShortPiece (allocation_by offset n (is_small n) (is_short 8 n))
+    → AreOctets (allocation_by offset n (is_small n) (is_short 8 n))
 allocation_octets offset n lt = pieces offset n (is_small n) (is_short 8 n) lt (few_units n)
+
+-- ---- the other codes
+
+saving_octets : (offset r n : ℕ) (short : Bool) → offset < 256 → r < 16
+    → AreOctets (cond short (slot offset 4 r ++ u16 (n / 8)) (slot offset 5 r ++ u32 n))
+unfolding u16 u32
+saving_octets offset r n true lt few = (lt, (omega arith, two_bytes (n / 8)))
+saving_octets offset r n false lt few = (lt, (omega arith, four_bytes n))
+
+code_octets : (framed : Bool) (offset : ℕ) (x : UnwindOperation) → offset < 256 → IsShort framed x
+    → AreOctets (operation_bytes offset x)
+code_octets framed offset (Push r) lt h = (lt, (omega arith, tt))
+code_octets framed offset (Allocate n) lt h = allocation_octets offset n lt
+code_octets framed offset SetFrame lt h = (lt, (omega arith, tt))
+code_octets framed offset (Save r n) lt h = saving_octets offset r n (is_short 8 n) lt h
+code_octets framed offset (SaveVector r n) lt h = absurd h
+code_octets framed offset (MachineFrame e) lt h = absurd h
+
+codes_octets : (framed : Bool) (cs : List UnwindCode)
+    → AllByRecursion (λ (c : UnwindCode). IsShort framed c.operation) cs
+    → AllByRecursion (λ (c : UnwindCode). c.offset ≤ 57) cs → AreOctets (codes_bytes cs)
+codes_octets framed [] short low = tt
+codes_octets framed (c ∷ cs) short low =
+    let l = low.0 in
+    joined (operation_bytes c.offset c.operation) (codes_bytes cs)
+    (code_octets framed c.offset c.operation (omega arith) short.0)
+    (codes_octets framed cs short.1 low.1)
 
 -- ---- the info
 
@@ -76,24 +82,23 @@ flags_small Nothing = omega arith
 flags_small (Handler s u rva) = let a = flag_small s 1 in let b = flag_small u 2 in omega arith
 flags_small (Parent r) = omega arith
 
-with_nothing : (bytes : List ℕ) → IsShortPiece bytes → IsShortPiece (bytes ++ [])
-with_nothing bytes p = record {
-  octets = joined bytes [] p.octets tt;
-  few = let h = p.few in omega (arith, length-append bytes ([]));
-}
+frame_small : (b : Bool) → frame_register_if b + frame_distance_if b < 256
+frame_small true = omega arith
+frame_small false = omega arith
 
-pub info_octets : (f : FrameLayout) (t : Trailer) → AreOctets (unwind_bytes (info_of f t))
+pub info_octets : (f : FrameLayout) (t : Trailer) → HasRegisters f
+    → AreOctets (unwind_bytes (info_of f t))
 unfolding unwind_bytes
-info_octets f t =
-    let offset = taking_size f.size in
-    let small = prologue_small f.size in
-    let slots = codes_bytes (info_of f t).codes.items in
-    let piece : IsShortPiece slots = with_nothing _
-    (allocation_octets offset f.size (omega arith)) in
-    let few = piece.few in
+info_octets f t h =
+    let slots = codes_bytes (codes_of f) in
+    let prologue = (prologue_few f h).1 in
+    let few = codes_few f h in
     let flags = flags_small t in
+    let frame = frame_small f.framed in
     joined (header (info_of f t) (length slots) ++ padded slots) (trailer_bytes t)
     (joined (header (info_of f t) (length slots)) (padded slots)
     (omega arith, (omega arith, (omega arith, (omega arith, tt))))
-    (joined slots (replicate (length slots % 4) 0) piece.octets (repeated (length slots % 4))))
+    (joined slots (replicate (length slots % 4) 0)
+    (codes_octets f.framed (codes_of f) (codes_short f h) (codes_offsets f h))
+    (repeated (length slots % 4))))
     (trailer_octets t)

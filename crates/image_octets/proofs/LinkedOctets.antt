@@ -1,18 +1,22 @@
 -- The bytes of the image of a linked program are octets, where its globals are.
 use Rattle.std.specs.List.{AllByRecursion}
-use Rattle.std.proofs.Common.{ℕ, ◌+◌, Bool, true, false, List, [], ◌∷◌, length, Option, Some, None}
+use Rattle.std.specs.Prelude.{not, ◌&&◌, ◌==◌}
+use Rattle.std.proofs.Common.{ℕ, suc, ◌+◌, Bool, true, false, List, [], ◌∷◌, length, map, Option, Some, None, arith}
 use Rattle.host_layout.specs.declared.imported.ImportedService.TheVariants.{CSpecificHandler}
 use Rattle.linear_code.specs.declared.program.Region.{Region}
 use Rattle.eh_tables.specs.Written.{unwind_bytes}
 use Rattle.frame_layout.specs.declared.frame.FrameLayout.{FrameLayout}
-use Rattle.frame_layout.specs.Layout.{info_of}
+use Rattle.frame_layout.specs.Infos.{info_of}
+use Rattle.frame_layout.proofs.Counts.{all_both}
+use Rattle.frame_layout.proofs.Steps.{HasRegisters}
+use Rattle.frame_layout.proofs.Frames.{registers_few}
 use Rattle.template_code.specs.Bytes.{spelled}
-use Rattle.image_link.specs.Routines.{RoutineView, routines}
+use Rattle.image_link.specs.Routines.{RoutineView, is_leaf, function_facts, leaf_if, functions_from, funclet_facts, funclet, routines}
 use Rattle.image_link.specs.Text.{SiteView, own_addresses, routine_size, front_code, first_routine_at, routine_code, routine_bytes, routines_bytes, text_bytes, thunk_at, bounds}
 use Rattle.image_link.specs.Tables.{trailer, scope_records, scope_table, info_if, info_bytes, infos, ranges}
 use Rattle.image_link.specs.Linked.{first, site, xdata_begin, linked}
 use Rattle.image_link.specs.Walks.{services_of, calls_walk, named_if, named_functions, IsName, IsNamed, function_rows}
-use Rattle.linear_code.specs.Program.{LinearFunction}
+use Rattle.linear_code.specs.Program.{LinearFunction, LinearFunclet, LinearProgram}
 use Rattle.image_octets.specs.OctetLaws.{AreOctets, LinkedAreOctets}
 use Rattle.image_octets.proofs.Octets.{joined}
 use Rattle.image_octets.proofs.InstructionOctets.{spelled_octets}
@@ -48,24 +52,55 @@ rows_octets funclets labels end [] = tt
 rows_octets funclets labels end (r ∷ rs) =
     scope_octets (scope_records funclets labels end (r ∷ rs))
 
+-- a frame has few registers
+abbrev HasFew : Option FrameLayout → Type 0
+HasFew None = Unit {0}
+HasFew (Some f) = HasRegisters f
+
 framed_octets : (s : SiteView) (labels : List ℕ) (end : ℕ) (r : RoutineView)
-    (frame : Option FrameLayout) → AreOctets (info_if s labels end r frame)
-framed_octets s labels end r None = tt
-framed_octets s labels end r (Some f) =
+    (frame : Option FrameLayout) → HasFew frame → AreOctets (info_if s labels end r frame)
+framed_octets s labels end r None few = tt
+framed_octets s labels end r (Some f) few =
     let t = trailer (thunk_at s.imports s.text CSpecificHandler) r.body.regions in
     joined (unwind_bytes (info_of f t)) (scope_table s.funclets labels end r.body.regions)
-    (info_octets f t) (rows_octets s.funclets labels end r.body.regions)
+    (info_octets f t few) (rows_octets s.funclets labels end r.body.regions)
 
-one_octets : (s : SiteView) (at : ℕ) (r : RoutineView) → AreOctets (info_bytes s at r)
+abbrev RoutineHasFew : RoutineView → Type 0
+RoutineHasFew r = HasFew r.frame
+
+one_octets : (s : SiteView) (at : ℕ) (r : RoutineView) → RoutineHasFew r
+    → AreOctets (info_bytes s at r)
 unfolding info_bytes
-one_octets s at r =
-    framed_octets s (own_addresses at r).labels (own_addresses at r).end r r.frame
+one_octets s at r few =
+    framed_octets s (own_addresses at r).labels (own_addresses at r).end r r.frame few
 
-infos_octets : (s : SiteView) (at : ℕ) (rs : List RoutineView) → AreOctets (infos s at rs)
-infos_octets s at [] = tt
-infos_octets s at (r ∷ rs) =
+infos_octets : (s : SiteView) (at : ℕ) (rs : List RoutineView) → AllByRecursion RoutineHasFew rs
+    → AreOctets (infos s at rs)
+infos_octets s at [] all = tt
+infos_octets s at (r ∷ rs) all =
     joined (info_bytes s at r) (infos s (at + routine_size r) rs)
-    (one_octets s at r) (infos_octets s (at + routine_size r) rs)
+    (one_octets s at r all.0) (infos_octets s (at + routine_size r) rs all.1)
+
+function_few : (b : Bool) (f : LinearFunction) → RoutineHasFew (leaf_if b f)
+function_few true f = tt
+function_few false f = registers_few (function_facts f.body) (omega arith)
+
+functions_few : (main index : ℕ) (fs : List LinearFunction)
+    → AllByRecursion RoutineHasFew (functions_from main index fs)
+functions_few main index [] = tt
+functions_few main index (f ∷ fs) = (
+  function_few (not (index == main) && is_leaf f.body) f,
+  functions_few main (suc index) fs,
+)
+
+funclets_few : (p : LinearProgram) (fs : List LinearFunclet)
+    → AllByRecursion RoutineHasFew (map (funclet p) fs)
+funclets_few p [] = tt
+funclets_few p (f ∷ fs) = (registers_few (funclet_facts f.body) (omega arith), funclets_few p fs)
+
+routines_few : (p : LinearProgram) → AllByRecursion RoutineHasFew (routines p)
+routines_few p = all_both RoutineHasFew (functions_from p.main 0 p.functions)
+    (map (funclet p) p.funclets) (functions_few p.main 0 p.functions) (funclets_few p p.funclets)
 
 -- ---- the names of functions
 
@@ -90,7 +125,7 @@ linked_are_octets p globals names =
     let rs = routines p in
     let s = site (services_of p) p.globals rs (length p.functions) in
     let at = first (services_of p) p.globals in
-    program_octets (linked p) globals (text_octets s rs) (infos_octets s at rs)
+    program_octets (linked p) globals (text_octets s rs) (infos_octets s at rs (routines_few p))
     (table_octets (ranges s (xdata_begin (services_of p) p.globals rs) at rs))
     (row_names 0 (bounds at rs) (named_functions p)
     (named_octets (calls_walk p) p.functions names))

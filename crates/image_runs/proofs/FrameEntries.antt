@@ -79,7 +79,12 @@ module _ (t : Functions) (fs : List Funclet) (program : LinearProgram) (p : Imag
         locals_small = omega arith;
         apart = inl (omega arith);
       })
-      (record { base = refl; temporaries = omega arith; locals = omega arith }) refl (omega arith)
+      (record {
+        base = refl;
+        temporaries = omega arith;
+        locals = omega arith;
+        within = omega arith;
+      }) refl (omega arith)
       (omega arith)
       (subst (λ code. HasCode s.memory target code) (sym same)
       (subst (λ a. HasCode s.memory a (parameters_code layout 0 count)) none
@@ -152,6 +157,7 @@ module _ (t : Functions) (fs : List Funclet) (program : LinearProgram) (p : Imag
         let z = h.high in
         let a = l.temporaries in
         let m = l.locals in
+        let j = l.within in
         let k = l.small in
         entering.entered t fs program p q image s source f fn top arguments h sp
         (target + sizes (making_frame p q f false)) (prologue_turns plan) made layout
@@ -164,7 +170,12 @@ module _ (t : Functions) (fs : List Funclet) (program : LinearProgram) (p : Imag
           locals_small = omega arith;
           apart = inr (omega arith);
         })
-        (record { base = refl; temporaries = omega arith; locals = omega arith }) refl k
+        (record {
+          base = refl;
+          temporaries = omega arith;
+          locals = omega arith;
+          within = l.within;
+        }) refl k
         (omega arith) (entry false leaf).storing (entry false leaf).ends
         (λ a out i. elim i [
           | inl w ↦ (let g = w.0 in let u = w.1 in

@@ -1,13 +1,30 @@
 -- Where the slots of each body are.
-use Rattle.std.proofs.Common.{◌≡◌, ℕ, ◌+◌, ◌≤◌, ◌==◌, Bool, true, false, not, length, Option, Some, None, refl, sym, ap, subst, ◌∙◌, arith}
+use Rattle.std.proofs.Common.{◌≡◌, ℕ, ◌+◌, ◌^◌, ◌<◌, ◌≤◌, ◌==◌, Bool, true, false, not, length, Option, Some, None, refl, sym, ap, subst, ◌∙◌, arith}
 use Rattle.std.specs.Prelude.{slice_get, ◌&&◌, nat_le}
 use Rattle.std.proofs.lemmas.Bool.{and_parts, and_right, leb-true}
 use Rattle.std.proofs.lemmas.Option.{slice_get_within, get_or_from_slice_get}
 use Rattle.image_states.specs.Words.{LinearBody, LinearFunction, LinearFunclet, LinearProgram, FunctionBody, FuncletBody, function_body, funclet_body, Layout, RoutineView, has_call, leaf_if, funclet_frame, funclet, no_function, is_leaf, routine_of, plan_of, HasWholeImage, ImagePlan, FitsBody, FitsFunction, function_frame, IsFuncletSized}
 use Rattle.image_link.specs.Routines as link
+use Rattle.template_code.specs.Frames.{plan_of_layout}
+use Rattle.match_bodies.proofs.FrameCode.{plan_allowed}
 use Rattle.image_states.proofs.Lemmas.{all_at, some_same, none_some}
-use Rattle.match_bodies.specs.Layouts.{IsFuncletLayout, IsLayoutIf, IsLaidOut, AreLaidOut}
+use Rattle.match_bodies.specs.Layouts.{IsFramePlan, IsFuncletLayout, IsLayoutIf, IsLaidOut, AreLaidOut}
 use Rattle.image_states.proofs.Places.{is_function, is_funclet}
+
+-- the plan of a frame that saves nothing
+planned : (y : Layout) → y.slots ≤ y.frame → y.frame < 2 ^ 31
+    → IsFramePlan y (plan_of_layout y 0)
+planned y within small = record {
+  is_plan = record {
+    size = small;
+    distance = omega arith;
+    probe = refl;
+    allowed = plan_allowed y.frame 0;
+  };
+  slots = within;
+  saved = tt;
+  whole = omega arith;
+}
 
 -- ---- functions
 
@@ -24,6 +41,7 @@ module _ (program : LinearProgram) (p : ImagePlan) where
       → IsLayoutIf program p (leaf_if leaf fn).layout fn.body (is_leaf (leaf_if leaf fn).frame)
   function_by true fn fits few = record {
     none = refl;
+    slots = refl;
     frame = refl;
     locals = refl;
     temporaries = refl;
@@ -36,7 +54,10 @@ module _ (program : LinearProgram) (p : ImagePlan) where
         passed = omega arith;
         temporaries = omega arith;
         locals = omega arith;
+        within = omega arith;
         small = omega arith;
+        plan = planned (leaf_if false fn).layout (omega arith) (omega arith);
+        few = omega arith;
       }
 
 -- ---- funclets
@@ -57,8 +78,11 @@ funclet_by program fl fn y e same few =
       pointers = refl;
       kept = omega arith;
       temporaries = omega arith;
+      within = omega arith;
       locals = locals;
       small = omega arith;
+      plan = planned (funclet program fl).layout (omega arith) (omega arith);
+      bare = refl;
     }
 
 -- ---- all bodies

@@ -54,7 +54,8 @@ funclets_of program = funclets (tables.entries program)
 -- ---- the routine of a body
 
 abbrev pub no_layout : Layout
-no_layout = record { base = None; pointers = 0; locals = 0; temporaries = 0; frame = 0 }
+no_layout =
+    record { base = None; pointers = 0; locals = 0; temporaries = 0; slots = 0; frame = 0 }
 
 abbrev pub nowhere : Placed
 nowhere =

@@ -18,6 +18,8 @@ pub record LinearBody : Type 0 where
 pub record LinearFunction : Type 0 where
   pub name : List ℕ
   pub parameters : ℕ
+  -- the locals that may stand in registers
+  pub registers : List ℕ
   pub body : LinearBody
 
 pub record LinearFunclet : Type 0 where
@@ -46,7 +48,12 @@ linear_body b =
 
 abbrev pub linear_function : IrFunction → LinearFunction
 linear_function f =
-    record { name = f.name.items; parameters = f.parameters; body = linear_body f.body }
+    record {
+      name = f.name.items;
+      parameters = f.parameters;
+      registers = f.registers.items;
+      body = linear_body f.body;
+    }
 
 abbrev pub linear_funclet : IrFunclet → LinearFunclet
 linear_funclet f =

@@ -1,6 +1,7 @@
 //! The linear code of a whole program.
 
 use crate::instruction::Instruction;
+use arrayvec::ArrayVec;
 
 /// What a region does with an exception. Funclets are numbered from 0 on, in the order of the
 /// program's.
@@ -48,6 +49,9 @@ pub struct IrFunction {
     pub name: Vec<u8>,
     /// How many parameters it has.
     pub parameters: u64,
+    /// The numbers of the locals that may stand in registers, rising: those that no filter and no
+    /// `__finally` block of it names.
+    pub registers: ArrayVec<u64, 7>,
     /// Its code.
     pub body: IrBody,
 }

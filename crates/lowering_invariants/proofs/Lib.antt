@@ -35,3 +35,5 @@ pub mod UnwindTargets
 pub mod Separators
 pub mod BlindExpressions
 pub mod Blind
+pub mod NamedLocals
+pub mod SparedRegisters

@@ -17,4 +17,5 @@ pub mod UnwindLabels
 pub mod Separators
 pub mod Blind
 pub mod PlaceLaws
+pub mod Registers
 pub mod Words

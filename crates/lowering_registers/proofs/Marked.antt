@@ -1,6 +1,6 @@
 -- Marks that a part sets are those of the locals that it names, or that its filters and `__finally`
 -- blocks name.
-use Rattle.std.proofs.Common.{◌≡◌, ℕ, zero, suc, ◌+◌, ◌<◌, ◌≤◌, Bool, true, false, eqb, List, [], ◌∷◌, refl, sym, ap, ◌∙◌, arith}
+use Rattle.std.proofs.Common.{◌≡◌, ℕ, zero, suc, ◌+◌, ◌<◌, Bool, true, false, List, [], ◌∷◌, refl, sym, ap, ◌∙◌, arith}
 use Rattle.std.proofs.Math.Bool.{or_assoc, or-false, or-true}
 use Rattle.std.proofs.lemmas.Bool.{eq-eqb, eqb-true, false_from_ne_true}
 use Rattle.std.specs.Prelude.{◌||◌, nat_eq, slice_set, Option, Some, None}
@@ -27,13 +27,16 @@ none_above z x [] lt = refl
 none_above z x (b ∷ bs) lt =
     let other : nat_eq x z ≡ false = false_from_ne_true (nat_eq x z)
     (λ e. (let same = eqb-true x z e in absurd (omega arith))) in
-    λ i. (sym (or-false b) ∙ ap (λ c. b || c) (sym other)) i ∷ none_above z (x + 1) bs (omega arith) i
+    λ i. (sym (or-false b) ∙ ap (λ c. b || c) (sym other)) i
+    ∷ none_above z (x + 1) bs (omega arith) i
 
-one_from : (y x z : ℕ) (bs : List Bool) → z ≡ x + y → slice_set bs y true ≡ marked (λ w. nat_eq w z) x bs
+one_from : (y x z : ℕ) (bs : List Bool) → z ≡ x + y
+    → slice_set bs y true ≡ marked (λ w. nat_eq w z) x bs
 one_from y x z [] e = refl
 one_from zero x z (b ∷ bs) e =
     let here : nat_eq x z ≡ true = eq-eqb x z (omega arith) in
-    λ i. (sym (or-true b) ∙ ap (λ c. b || c) (sym here)) i ∷ none_above z (x + 1) bs (omega arith) i
+    λ i. (sym (or-true b) ∙ ap (λ c. b || c) (sym here)) i
+    ∷ none_above z (x + 1) bs (omega arith) i
 one_from (suc y) x z (b ∷ bs) e =
     let other : nat_eq x z ≡ false = false_from_ne_true (nat_eq x z)
     (λ h. (let same = eqb-true x z h in absurd (omega arith))) in
@@ -71,8 +74,8 @@ pair : (e f : Expression) → Sets e → Sets f
 pair e f p q = two (λ x. expression_names x e) (λ x. expression_names x f) (with_expression e)
     (with_expression f) p q
 
-assigned : (l : Lvalue) (e : Expression) → IsMarking (λ x. lvalue_names x l) (with_lvalue l) → Sets e
-    → IsMarking (λ x. lvalue_names x l || expression_names x e)
+assigned : (l : Lvalue) (e : Expression) → IsMarking (λ x. lvalue_names x l) (with_lvalue l)
+    → Sets e → IsMarking (λ x. lvalue_names x l || expression_names x e)
     (λ marks. with_expression e (with_lvalue l marks))
 assigned l e p q = two (λ x. lvalue_names x l) (λ x. expression_names x e) (with_lvalue l)
     (with_expression e) p q

@@ -2,25 +2,26 @@
 use Rattle.std.proofs.Common.{◌≡◌, ℕ, suc, ◌+◌, ◌^◌, ◌<◌, ◌≤◌, Bool, true, false, Some, Ok, List, length, drop, refl, sym, ap, subst, ◌∙◌, arith}
 use Rattle.std.specs.Prelude.{slice_index}
 use Rattle.std.proofs.lemmas.Bool.{eqb-false, not-true}
-use Rattle.match_bodies.specs.Words.{Memory, Rsp, Context, context_of, kept_of, State, register, rsp, word, LinearBody, BodyName, FunctionBody, FuncletBody, body_of, Configuration, StackFrame, frame_of, HasFrame, IsFramed, Setting, Layout, IsWellFormed, AllSmall, IsAsTold, IsOwed, nothing_owed, owed_of, owed_by, caller_owed, get}
+use Rattle.match_bodies.specs.Words.{Memory, Rsp, Context, context_of, kept_of, State, register, rsp, word, LinearBody, BodyName, FunctionBody, FuncletBody, body_of, Configuration, StackFrame, frame_of, HasFrame, IsFramed, Setting, Instr, Layout, IsWellFormed, AllSmall, IsAsTold, IsOwed, nothing_owed, owed_of, owed_by, caller_owed, get}
 use Rattle.virtual_unwind.specs.CallerOf.{has_frame, sets_frame}
 use Rattle.virtual_unwind.specs.Undone.{operations}
 use Rattle.frame_rules.specs.Bytes.{spell}
 use Rattle.frame_rules.specs.Codes.{depth}
-use Rattle.frame_rules.specs.Plan.{FramePlan, operations_of}
+use Rattle.frame_rules.specs.Plan.{FramePlan, epilogue, operations_of}
 use Rattle.frame_rules.proofs.Order.{Ordered, ordered}
 use Rattle.frame_rules.proofs.Planning.{codes_plan, framed_plan, ordered_plan}
 use Rattle.frame_rules.proofs.Undoing.{stack_depth}
 use Rattle.match_stack.specs.Stack.{AreAbove}
 use Rattle.match_bodies.specs.CodeSites.{body_plan}
-use Rattle.match_bodies.specs.Layouts.{IsLaidOut, IsLayoutIf}
+use Rattle.template_code.specs.Frames.{plan_of_layout}
+use Rattle.match_bodies.specs.Layouts.{IsFramePlan, IsLaidOut, IsLayoutIf}
 use Rattle.match_bodies.specs.Setting.{InBody}
 use Rattle.match_stack.proofs.FrameWords.{told_above}
 use Rattle.match_bodies.proofs.Lemmas.{wide_of, word-is, is_word}
 use Rattle.x64_machine.specs.declared.cpu.Cpu.{Cpu}
 use Rattle.match_bodies.proofs.InstructionEffects.{others_of}
 use Rattle.match_bodies.proofs.StackTop.{leaf_layout}
-use Rattle.match_bodies.proofs.FrameCode.{above_plan, plan_depth}
+use Rattle.match_bodies.proofs.FrameCode.{above_plan, epilogue_count, leaf_ending, plan_depth}
 use Rattle.match_bodies.proofs.OwedCallers.{base_is, returns_alone, at_return}
 
 -- the caller's registers are small where all are
@@ -57,25 +58,66 @@ module _ (setting : Setting) where
   open setting use {functions as t, funclets as fs, program, plan as p, sites as q, image}
 
   module _ (name : BodyName) (b : LinearBody) (is : body_of program name ≡ Some b) where
-    pub framed_some : p.leaf name ≡ false → 0 < (p.layout name).frame
-    framed_some e = some name (image.laid_out name b is) e
+    -- its frame has slots, and its plan is that of its layout
+    pub slots_some : p.leaf name ≡ false → 0 < (p.layout name).slots
+    slots_some e = some name (image.laid_out name b is) e
       where
         some : (n : BodyName) → IsLaidOut program p n b → p.leaf n ≡ false
-            → 0 < (p.layout n).frame
+            → 0 < (p.layout n).slots
         some (FunctionBody f) h e =
             let l = subst (λ (leaf : Bool). IsLayoutIf program p (p.layout (FunctionBody f)) b leaf)
             e h in
             let passed = l.passed in
             let temporaries = l.temporaries in
             let locals = l.locals in
-            let within = l.within in
             omega arith
         some (FuncletBody k) h e =
             let passed = h.layout.passed in
             let kept = h.layout.kept in
             let temporaries = h.layout.temporaries in
-            let within = h.layout.within in
             omega arith
+
+    pub frame_plan_is : p.leaf name ≡ false
+        → IsFramePlan (p.layout name) (plan_of_layout (p.layout name) 0)
+    frame_plan_is e = by name (image.laid_out name b is) e
+      where
+        by : (n : BodyName) → IsLaidOut program p n b → p.leaf n ≡ false
+            → IsFramePlan (p.layout n) (plan_of_layout (p.layout n) 0)
+        by (FunctionBody f) h e =
+            let l = subst (λ (leaf : Bool). IsLayoutIf program p (p.layout (FunctionBody f)) b leaf)
+            e h in
+            l.plan
+        by (FuncletBody k) h e = h.layout.plan
+
+    -- its epilogue has so many instructions at most
+    pub ending_few : length (epilogue (plan_of_layout (p.layout name) 0)) ≤ 10
+    ending_few = by name (image.laid_out name b is)
+      where
+        by_leaf : (y : Layout) (leaf : Bool) → IsLayoutIf program p y b leaf
+            → length (epilogue (plan_of_layout y 0)) ≤ 10
+        by_leaf y true l = let e = ap (λ (is : List Instr). length is) (leaf_ending y l.frame) in
+            omega arith
+        by_leaf y false l = let few = l.few in let n = (epilogue_count (plan_of_layout y 0)).1 in
+            omega arith
+
+        by : (n : BodyName) → IsLaidOut program p n b
+            → length (epilogue (plan_of_layout (p.layout n) 0)) ≤ 10
+        by (FunctionBody f) h = by_leaf (p.layout (FunctionBody f)) (p.leaf (FunctionBody f)) h
+        by (FuncletBody k) h =
+            let bare = h.layout.bare in
+            let n = (epilogue_count (plan_of_layout (p.layout (FuncletBody k)) 0)).1 in omega arith
+
+    -- and a funclet's two
+    pub funclet_ending_few : (k : ℕ) → name ≡ FuncletBody k
+        → length (epilogue (plan_of_layout (p.layout name) 0)) ≤ 2
+    funclet_ending_few k e = by name (image.laid_out name b is) e
+      where
+        by : (n : BodyName) → IsLaidOut program p n b → n ≡ FuncletBody k
+            → length (epilogue (plan_of_layout (p.layout n) 0)) ≤ 2
+        by (FunctionBody f) h e = absurd cc
+        by (FuncletBody j) h e =
+            let bare = h.layout.bare in
+            let n = (epilogue_count (plan_of_layout (p.layout (FuncletBody j)) 0)).1 in omega arith
 
     -- its slots end below its return address
     pub slots_within : (p.layout name).slots ≤ (p.layout name).frame
@@ -88,6 +130,9 @@ module _ (setting : Setting) where
         by : (n : BodyName) → IsLaidOut program p n b → (p.layout n).slots ≤ (p.layout n).frame
         by (FunctionBody f) h = by_leaf (p.layout (FunctionBody f)) (p.leaf (FunctionBody f)) h
         by (FuncletBody k) h = h.layout.within
+
+    pub framed_some : p.leaf name ≡ false → 0 < (p.layout name).frame
+    framed_some e = let some = slots_some e in let within = slots_within in omega arith
 
     abbrev framing : FramePlan
     framing = body_plan p q name
@@ -137,7 +182,8 @@ module _ (setting : Setting) where
           where
             by : (leaf : Bool) → p.leaf name ≡ leaf
                 → depth (owed_by (p.entry name).info leaf).codes ≡ (p.layout name).frame
-            by false e = ap depth (codes_are e) ∙ plan_depth (p.layout name).frame framing.probe
+            by false e = ap depth (codes_are e)
+                ∙ plan_depth framing (p.layout name).frame (frame_plan_is e).whole
             by true e = sym (leaf_layout t fs program p q name b e
                 (image.laid_out name b is)).frame
 
@@ -145,9 +191,9 @@ module _ (setting : Setting) where
     above_slots : p.leaf name ≡ false → (at : ℕ)
         → AreAbove (at + (p.layout name).slots) at at (operations (p.entry name).info.codes)
     above_slots e at =
-        let within = slots_within in
+        let plan = frame_plan_is e in
         subst (AreAbove (at + (p.layout name).slots) at at) (sym (codes_are e))
-        (above_plan framing (at + (p.layout name).slots) at tt (omega arith))
+        (above_plan framing (p.layout name).slots at plan.saved plan.slots)
 
     -- and a frame is as they tell where they are owed
     pub owed_framed : (m : Memory) (c : Context) (size back : ℕ) (others : List ℕ)

@@ -12,7 +12,7 @@ use Rattle.match_bodies.proofs.Lemmas.{told_depth}
 use Rattle.match_bodies.proofs.InstructionEffects.{others_of}
 use Rattle.match_bodies.proofs.StackTop.{leaf_layout}
 use Rattle.match_bodies.proofs.FramePlaces.{activation_with}
-use Rattle.match_bodies.proofs.BodyFrames.{codes_are, small_others, told_with}
+use Rattle.match_bodies.proofs.BodyFrames.{codes_are, frame_plan_is, small_others, told_with}
 use Rattle.match_bodies.proofs.FrameCode.{plan_depth}
 
 all_same : (label : ℕ) (rs : List Region) → AllByRecursion
@@ -75,7 +75,8 @@ module _ (t : Functions) (fs : List Funclet) (program : LinearProgram) (p : Imag
       frame_size m c f name b there leaf entry s =
           let codes = ap (λ (e : Entry). operations e.info.codes) entry
           ∙ codes_are (setting_of t fs program p q image) name b there leaf in
-          let d = ap depth codes ∙ plan_depth (p.layout name).frame (body_plan p q name).probe in
+          let plan = frame_plan_is (setting_of t fs program p q image) name b there leaf in
+          let d = ap depth codes ∙ plan_depth (body_plan p q name) (p.layout name).frame plan.whole in
           let h = told_depth m c f s.is_told in
           omega arith
 

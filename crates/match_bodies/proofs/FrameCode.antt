@@ -2,16 +2,16 @@
 use Rattle.std.proofs.Common.{◌≡◌, ℕ, ◌++◌, ◌+◌, ◌<◌, ◌≤◌, ◌==◌, Bool, true, false, not, List, [], ◌∷◌, refl, ap, ◌∙◌, arith}
 use Rattle.std.specs.Prelude.{◌&&◌, nat_le, if◌then◌else◌}
 use Rattle.std.specs.List.{flat_map}
-use Rattle.std.proofs.lemmas.Bool.{eqb-true, ne_eqb, le-leb}
-use Rattle.match_bodies.specs.Words.{Instr, size, sizes, IsNear, frame_code}
+use Rattle.std.proofs.lemmas.Bool.{eqb-true, ne_eqb, le-leb, lt-leb}
+use Rattle.match_bodies.specs.Words.{Instr, size, sizes, IsNear, frame_code, Layout, chosen}
 use Rattle.eh_tables.specs.declared.code.UnwindOperation.{UnwindOperation}
 use Rattle.x64_instr.specs.Registers.{register}
 use Rattle.x64_instr.specs.declared.instruction.Instr.TheVariants as instrs
-use Rattle.template_code.specs.Frames.{frame_plan}
+use Rattle.template_code.specs.Frames.{frame_plan, plan_of_layout}
 use Rattle.template_code.specs.Jumps.{distance}
 use Rattle.frame_rules.specs.Bytes.{prologue_code, spell}
 use Rattle.frame_rules.specs.Codes.{are_allowed, depth, pushed}
-use Rattle.frame_rules.specs.Plan.{FramePlan, Saved, allocation_then, allocating, frame_then, instructions_of, load_of, loads_then, opening_then, operations_of, pops_then, saves_then, spelled_by, steps_of, turned}
+use Rattle.frame_rules.specs.Plan.{FramePlan, Saved, allocation_then, allocating, epilogue, frame_then, instructions_of, load_of, loads_then, frame_size, opening_then, operations_of, pops_then, saves_then, spelled_by, steps_of, turned}
 use Rattle.frame_rules.specs.Prologue.{bytes, items}
 use Rattle.frame_rules.proofs.Frames.{bytes-append}
 use Rattle.frame_rules.proofs.Sizes.{frame_has_its_size}
@@ -19,6 +19,7 @@ use Rattle.match_stack.specs.Stack.{AreAbove}
 use Rattle.match_bodies.specs.CodeSites.{epilogue_through, give_back}
 use Rattle.x64_templates.specs.Prologues.{AreProbed, codes_turns, none_stores, prologue_turns}
 use Rattle.x64_templates.proofs.PrologueParts.{bytes_sizes}
+use Rattle.match_bodies.specs.Layouts.{AreSavedAbove, saved_count}
 use Rattle.match_bodies.proofs.Lemmas.{sizes_append}
 
 code_by : (probe n : ℕ) (few : Bool) → allocating probe n few ++ [] ≡ allocating probe n few
@@ -146,11 +147,42 @@ pub through_opening : (n probe : ℕ) → 0 < n
 through_opening n probe some = ap (λ none. opening_then (frame_plan n probe) none [])
     (ne_eqb n 0 (λ z. (let e : n ≡ 0 = z in absurd (omega arith))))
 
+-- it has an instruction for each register that is saved, one that raises RSP, and the return
+pops_count : (rs : List ℕ) (is : List Instr) → length (pops_then rs is) ≡ length rs + length is
+pops_count [] is = (let z : length is ≡ 0 + length is = omega arith in z)
+pops_count (r ∷ rs) is = let e = pops_count rs is in omega arith
+
+loads_count : (ss : List Saved) (is : List Instr) → length (loads_then ss is) ≡ length ss + length is
+loads_count [] is = (let z : length is ≡ 0 + length is = omega arith in z)
+loads_count (s ∷ ss) is = let e = loads_count ss is in omega arith
+
+opening_count : (f : FramePlan) (none : Bool) (is : List Instr)
+    → (length is ≤ length (opening_then f none is))
+    × (length (opening_then f none is) ≤ length is + 1)
+opening_count f true is = (omega arith, omega arith)
+opening_count f false is = (omega arith, omega arith)
+
+pub epilogue_count : (f : FramePlan) → (1 ≤ length (epilogue f))
+    × (length (epilogue f) ≤ saved_count f + 2)
+epilogue_count f =
+    let is = pops_then f.pushes (instrs.Return ∷ []) in
+    let o = opening_count f (f.size == 0) is in
+    let o0 = o.0 in
+    let o1 = o.1 in
+    let a = loads_count f.saves (opening_then f (f.size == 0) is) in
+    let b = pops_count f.pushes (instrs.Return ∷ []) in
+    (omega arith, omega arith)
+
+-- of a layout without a frame it is the return alone
+pub leaf_ending : (y : Layout) → y.frame ≡ 0
+    → epilogue (plan_of_layout y 0) ≡ instrs.Return ∷ []
+leaf_ending y none = ap (λ n. epilogue (frame_plan n 0)) none
+
 -- ---- its unwind codes
 
 -- they lead up to its end
-pub plan_depth : (n probe : ℕ) → depth (operations_of (frame_plan n probe)) ≡ n
-plan_depth n probe = let e = frame_has_its_size (frame_plan n probe) in omega arith
+pub plan_depth : (f : FramePlan) (n : ℕ) → frame_size f ≡ n + 8 → depth (operations_of f) ≡ n
+plan_depth f n e = let h = frame_has_its_size f in omega arith
 
 above_pushes : (low base at : ℕ) (rs : List ℕ) → low ≤ at → AreAbove low base at (pushed rs)
 above_pushes low base at [] le = le
@@ -167,22 +199,18 @@ above_framed : (low base at : ℕ) (b : Bool) (xs : List UnwindOperation) → Ar
 above_framed low base at true xs h = h
 above_framed low base at false xs h = h
 
--- the words of these saves are above an address
-abbrev pub AreSavedAbove : (low base : ℕ) → List Saved → Type 0
-AreSavedAbove low base [] = Unit {0}
-AreSavedAbove low base (s ∷ ss) = (low ≤ base + s.offset) × AreSavedAbove low base ss
-
 above_saves : (low base at : ℕ) (ss : List Saved) (xs : List UnwindOperation)
-    → AreSavedAbove low base ss → AreAbove low base at xs
-    → AreAbove low base at (saves_then ss xs)
+    → AreSavedAbove low ss → AreAbove (base + low) base at xs
+    → AreAbove (base + low) base at (saves_then ss xs)
 above_saves low base at [] xs a h = h
-above_saves low base at (s ∷ ss) xs a h = (a.0, above_saves low base at ss xs a.1 h)
+above_saves low base at (s ∷ ss) xs a h =
+    let le = a.0 in (omega arith, above_saves low base at ss xs a.1 h)
 
--- so are all that its codes tell of, where the allocation ends above it
-pub above_plan : (f : FramePlan) (low at : ℕ) → AreSavedAbove low at f.saves → low ≤ at + f.size
-    → AreAbove low at at (operations_of f)
+-- so are all that its codes tell of, where its saves and the end of its allocation are
+pub above_plan : (f : FramePlan) (low at : ℕ) → AreSavedAbove low f.saves → low ≤ f.size
+    → AreAbove (at + low) at at (operations_of f)
 above_plan f low at saves le =
     let xs = allocation_then (not (f.size == 0)) f.size (pushed f.pushes) in
     above_saves low at at f.saves (frame_then (not (f.frame == 0)) xs) saves
-    (above_framed low at at (not (f.frame == 0)) xs
-    (above_allocation low at at f.size (f.size == 0) f.pushes refl le))
+    (above_framed (at + low) at at (not (f.frame == 0)) xs
+    (above_allocation (at + low) at at f.size (f.size == 0) f.pushes refl (omega arith)))

@@ -14,7 +14,7 @@ use Rattle.frame_rules.specs.Bytes.{spell}
 use Rattle.frame_rules.specs.Body.{are_restored}
 use Rattle.frame_rules.specs.Codes.{allocation, are_allowed, pushed}
 use Rattle.frame_rules.specs.Epilogue.{gives_back}
-use Rattle.frame_rules.specs.Plan.{FramePlan, IsPlan, Saved, all_encodable, epilogue, load_of, loads_then, opening_by, opening_then, operations_of, pops_then}
+use Rattle.frame_rules.specs.Plan.{FramePlan, Saved, all_encodable, epilogue, load_of, loads_then, opening_by, opening_then, operations_of, pops_then}
 use Rattle.frame_rules.specs.Frame.{HoldsFrame}
 use Rattle.frame_rules.specs.States.{registers}
 use Rattle.frame_rules.proofs.Bytes.{plans_are_encodable}
@@ -22,16 +22,17 @@ use Rattle.frame_rules.proofs.Leaving.{InLoads, Known}
 use Rattle.frame_rules.proofs.Order.{ordered}
 use Rattle.frame_rules.proofs.Planned.{AllLoadable, all_loadable, allocation_plan, allowed_later, loaded, pushes_plan, restored_plan}
 use Rattle.frame_rules.proofs.Planning.{codes_plan, framed_plan, ordered_plan}
-use Rattle.template_code.specs.Frames.{frame_plan}
+use Rattle.template_code.specs.Frames.{plan_of_layout}
 use Rattle.template_code.proofs.Frames.{epilogue_unprobed}
 use Rattle.match_bodies.specs.CodeSites.{body_plan, epilogue_through}
 use Rattle.match_bodies.specs.Callers.{owed_opening}
+use Rattle.match_bodies.specs.Layouts.{IsFramePlan}
 use Rattle.match_bodies.specs.ProgramImages.{FindsCallers, loaded_at}
 use Rattle.match_bodies.specs.Setting.{HasProgram}
 use Rattle.match_bodies.proofs.Lemmas.{code_split, Fine, keep_first}
 use Rattle.match_bodies.proofs.StackTop.{leaf_layout}
-use Rattle.match_bodies.proofs.FrameCode.{plan_allowed, loads_before, loads_through, through_pop}
-use Rattle.match_bodies.proofs.BodyFrames.{codes_above, framed_some, slots_within}
+use Rattle.match_bodies.proofs.FrameCode.{leaf_ending, loads_before, loads_through, through_pop}
+use Rattle.match_bodies.proofs.BodyFrames.{codes_above, frame_plan_is, slots_some, slots_within}
 use Rattle.match_bodies.proofs.SilentTurns.{program_kept}
 use Rattle.match_bodies.proofs.RoutineWalks.{code_next, StepsTo, steps_split, keeps_split, Beneath, AllPlain, Finds, Ran, ran}
 use Rattle.match_bodies.proofs.ShadowTurns.{return_keeps_shadow, returned_others}
@@ -68,7 +69,7 @@ module _ (setting : Setting) where
       (here : s.cpu.rip ≡ p.address name label)
       (beneath : Beneath t s (owed_of p name) top (top + 8) back others list)
       (below : register s.cpu Rsp + (p.layout name).frame ≡ top)
-      (has : HasProgram setting s.memory) (small : (p.layout name).frame < 2 ^ 31)
+      (has : HasProgram setting s.memory)
       (plain : AllPlain (p.layout name).slots (p.layout name).frame 8
       (fetch (p.layout name) Rax from))
       (run : StepsTo (length (return_code (p.layout name) from)) s w) where
@@ -78,12 +79,8 @@ module _ (setting : Setting) where
     abbrev fetching : List Instr
     fetching = fetch y Rax from
 
-    -- its epilogue, by its size
-    abbrev ending_of : ℕ → List Instr
-    ending_of n = epilogue (frame_plan n 0)
-
     abbrev last : List Instr
-    last = ending_of y.frame
+    last = epilogue (plan_of_layout y 0)
 
     halves : (u : State) × StepsTo (length fetching) s u × StepsTo (length last) u w
     halves = steps_split (length fetching) (length last) s w
@@ -113,14 +110,6 @@ module _ (setting : Setting) where
 
     abbrev bare : FramePlan
     bare = record framing { saves = [] }
-
-    is_plan : IsPlan (frame_plan y.frame 0)
-    is_plan = record {
-      size = small;
-      distance = omega arith;
-      probe = refl;
-      allowed = plan_allowed y.frame 0;
-    }
 
     abbrev f : ℕ
     f = framing.frame
@@ -214,8 +203,11 @@ module _ (setting : Setting) where
     -- ---- a body with a frame
 
     module _ (framed : p.leaf name ≡ false) (saved : AllSmall others) (low : top < 2 ^ 47) where
+      planned : IsFramePlan y (plan_of_layout y 0)
+      planned = frame_plan_is setting name b is framed
+
       close : offset < 2 ^ 16
-      close = omega arith
+      close = planned.is_plan.distance
 
       high : top < 2 ^ 63
       high = omega arith
@@ -230,7 +222,7 @@ module _ (setting : Setting) where
       fit = fits t fs f offset top (top + 8) back others list close saved high
 
       allowed : are_allowed f (operations_of framing) ≡ true
-      allowed = plan_allowed y.frame framing.probe
+      allowed = planned.is_plan.allowed
 
       known : Known f offset before (operations_of framing)
       known = record {
@@ -304,8 +296,8 @@ module _ (setting : Setting) where
           → StepsTo (length (opening_then framing none ending)) v w
           → Leaves (length (opening_then framing none ending)) v
       opening_leaves true e v here' b' has' enc code r =
-          absurd (let some = framed_some setting name b is framed in
-          let none = eqb-true y.frame 0 e in omega arith)
+          absurd (let some = slots_some setting name b is framed in let room = planned.slots in
+          let none = eqb-true framing.size 0 e in omega arith)
       opening_leaves false e v here' b' has' enc code r =
           let x = r.0 in
           let st = r.1 in
@@ -427,10 +419,10 @@ module _ (setting : Setting) where
           let z : load_place [] ≡ u.cpu.rip = omega (arith, there_is) in
           subst (λ (c : List Instr). Leaves (length c) u) (sym same)
           (loads_leave framing.saves [] [] refl refl
-          (all_loadable (frame_plan y.frame 0) is_plan) u (sym z)
+          (all_loadable (plan_of_layout y 0) planned.is_plan) u (sym z)
           (under_first framing.saves refl) not_loaded first.has
           (subst (λ (c : List Instr). all_encodable c ≡ true) same
-          (plans_are_encodable (frame_plan y.frame 0) is_plan).1)
+          (plans_are_encodable (plan_of_layout y 0) planned.is_plan).1)
           (subst (HasCode u.memory u.cpu.rip) same
           (subst (λ a. HasCode u.memory a last) there_is (codes u.memory first.has).1))
           (subst (λ (c : List Instr). StepsTo (length c) u w) same halves.2))
@@ -439,15 +431,16 @@ module _ (setting : Setting) where
 
     leaf_leaves : p.leaf name ≡ true → Leaves (length last) u
     leaf_leaves leaf =
-        let none = (leaf_layout t fs program p q name b leaf (image.laid_out name b is)).frame in
+        let bare = leaf_ending y
+        (leaf_layout t fs program p q name b leaf (image.laid_out name b is)).frame in
         let same = owed_none leaf in
-        subst (λ n. Leaves (length (ending_of n)) u) (sym none)
+        subst (λ (c : List Instr). Leaves (length c) u) (sym bare)
         (last_leaves u
         (subst (λ (o : Owed). Beneath t u o top (top + 8) back others list) same first.beneath)
         (subst (λ (o : Owed). FindsOwed t u.memory u.cpu.rip o) same epilogue_found)
-        (subst (λ n. HasCode u.memory u.cpu.rip (ending_of n)) none
+        (subst (HasCode u.memory u.cpu.rip) bare
         (subst (λ a. HasCode u.memory a last) there_is (codes u.memory first.has).1))
-        (subst (λ n. StepsTo (length (ending_of n)) u w) none halves.2))
+        (subst (λ (c : List Instr). StepsTo (length c) u w) bare halves.2))
 
     pub returns_leave : AllSmall others → top < 2 ^ 47 → Leaves (length (return_code y from)) s
     returns_leave saved low =

@@ -1,11 +1,30 @@
 -- Where the slots of each body are (Microsoft x64 ABI, "Stack allocation").
-use Rattle.std.specs.Prelude.{◌≡◌, ℕ, ◌+◌, ◌*◌, ◌≤◌, true, false, Bool, slice_get, Some, None}
+use Rattle.std.specs.Prelude.{◌≡◌, ℕ, ◌+◌, ◌*◌, ◌≤◌, true, false, Bool, List, [], ◌∷◌, length, slice_get, Some, None}
 use Rattle.host_layout.specs.declared.range.TheConstants.{PAGE}
 use Rattle.linear_code.specs.Program.{LinearProgram, LinearBody, LinearFunclet}
 use Rattle.linear_machine.specs.Frames.{BodyName, FunctionBody, FuncletBody, body_of}
 use Rattle.template_code.specs.declared.layout.Layout.{Layout}
+use Rattle.template_code.specs.Frames.{plan_of_layout}
+use Rattle.frame_rules.specs.Plan.{FramePlan, IsPlan, Saved, frame_size}
 use Rattle.match_stack.specs.ImagePlan.{ImagePlan}
 use Rattle.template_code.specs.declared.layout.TheConstants.{LARGEST_FRAME}
+
+-- the saves by mov are so far above RSP at least
+abbrev pub AreSavedAbove : ℕ → List Saved → Type 0
+AreSavedAbove low [] = Unit {0}
+AreSavedAbove low (s ∷ ss) = (low ≤ s.offset) × AreSavedAbove low ss
+
+-- how many registers it pushes and saves
+abbrev pub saved_count : FramePlan → ℕ
+saved_count f = length f.pushes + length f.saves
+
+-- the plan of a layout's frame keeps the rules: its allocation holds the slots, what it saves is
+-- above them, and above it all is the return address
+pub record IsFramePlan (y : Layout) (f : FramePlan) : Type 0 where
+  pub is_plan : IsPlan f
+  pub slots : y.slots ≤ f.size
+  pub saved : AreSavedAbove y.slots f.saves
+  pub whole : frame_size f ≡ y.frame + 8
 
 -- a function's frame, from RSP up: home space and further arguments of its calls, temporaries,
 -- locals, and what it saves
@@ -16,6 +35,9 @@ pub record IsFunctionLayout (y : Layout) (b : LinearBody) : Type 0 where
   pub locals : y.locals + 8 * b.locals ≤ y.slots
   pub within : y.slots ≤ y.frame
   pub small : y.frame + 8 ≤ LARGEST_FRAME
+  pub plan : IsFramePlan y (plan_of_layout y 0)
+  -- RBX, RSI, RDI, R12 to R15 and the frame register
+  pub few : saved_count (plan_of_layout y 0) ≤ 8
 
 -- a leaf function has no frame: its slots are in the home space above its return address
 pub record IsLeafLayout (y : Layout) (b : LinearBody) : Type 0 where
@@ -38,6 +60,9 @@ pub record IsFuncletLayout (y function : Layout) (b : LinearBody) : Type 0 where
   pub within : y.slots ≤ y.frame
   pub locals : y.locals ≡ function.locals
   pub small : y.frame ≤ PAGE
+  pub plan : IsFramePlan y (plan_of_layout y 0)
+  -- it saves none
+  pub bare : saved_count (plan_of_layout y 0) ≡ 0
 
 module _ (program : LinearProgram) (p : ImagePlan) where
   -- the layout of a leaf function, or of one with a frame

@@ -1,7 +1,7 @@
 -- A body returns: RAX has the number of its slot, and RIP and RSP are those of its return address.
 use Rattle.std.proofs.Common.{◌≡◌, ℕ, ◌+◌, ◌^◌, ◌<◌, ◌≤◌, ◌==◌, Bool, true, false, Option, Some, None, ◌∷◌, length, refl, sym, ap, subst, ◌∙◌, arith, length-append}
 use Rattle.std.specs.Prelude.{slice_get}
-use Rattle.match_turns.specs.Words.{kept_of, context_of, Rax, Rsp, State, register, Slot, Local, Temporary, IsSlot, Configuration, read, Layout, return_code, fetch, local_at, fetch_local, MachineView, machine, HasBack, Returned, HaveRoom, IsWellFormed, AllKeep, counts_of, owed_of, Setting, RepresentsAt}
+use Rattle.match_turns.specs.Words.{kept_of, context_of, Rax, Rsp, State, register, Slot, Local, Temporary, IsSlot, Configuration, read, Layout, return_code, fetch, local_at, fetch_local, MachineView, machine, HasBack, Returned, HaveRoom, IsWellFormed, AllKeep, counts_of, owed_of, Setting, RepresentsAt, moved}
 use Rattle.match_bodies.specs.Callers.{owed_by}
 use Rattle.match_bodies.specs.CodeSites.{body_plan}
 use Rattle.virtual_unwind.specs.Undone.{operations}
@@ -11,15 +11,14 @@ use Rattle.frame_rules.specs.Plan.{FramePlan, IsPlan, epilogue, operations_of}
 use Rattle.frame_rules.specs.States.{registers}
 use Rattle.frame_rules.proofs.Planning.{codes_plan}
 use Rattle.template_code.specs.Frames.{frame_plan, plan_of_layout}
-use Rattle.template_code.proofs.Frames.{ending_by}
 use Rattle.x64_templates.specs.Runs.{Reaches}
 use Rattle.linear_code.specs.declared.instruction.Instruction.TheVariants as instructions
 use Rattle.match_turns.proofs.Lemmas.{body_owed, owed_return, number_small, fetch_fine, return_run, reaches_steps, may_read_written, word_is, reaches_keeps, stays_well_formed, IsCounted, sp_low, frame_top, room_here, holds_here, slots_here, v, frame, slots, same_state, template_here, has_slots, sp_is}
-use Rattle.match_bodies.proofs.FrameCode.{plan_allowed}
-use Rattle.match_bodies.proofs.PrologueSteps.{of_codes, fits, holds}
-use Rattle.match_bodies.proofs.PrologueSteps.{old as before}
+use Rattle.match_bodies.proofs.FrameCode.{plan_allowed, epilogue_count}
+use Rattle.match_bodies.proofs.PrologueSteps.{of_codes, fits, holds, old as before}
 use Rattle.match_bodies.proofs.StackTop.{leaf_layout}
 use Rattle.match_bodies.proofs.RoutineWalks.{Beneath}
+use Rattle.match_bodies.proofs.BodyFrames.{ending_few}
 use Rattle.match_bodies.proofs.ReturnKeeping.{LeavesBody, fetch_plain, returns_leave}
 use Rattle.match_turns.proofs.ReturnAddressPlace.{top_of, begins_beneath}
 
@@ -33,19 +32,13 @@ fetched_soon : (y : Layout) (x : Slot) → length (fetch y Rax x) ≤ 2
 fetched_soon y (Temporary i) = omega arith
 fetched_soon y (Local i) = fetched_by y.base (local_at y i)
 
-ends_soon : (n : ℕ) (none : Bool) → (1 ≤ length (ending_by n 0 none))
-    × (length (ending_by n 0 none) ≤ 2)
-ends_soon n true = (omega arith, omega arith)
-ends_soon n false = (omega arith, omega arith)
-
-pub returns_soon : (y : Layout) (x : Slot) → (1 ≤ length (return_code y x))
-    × (length (return_code y x) ≤ 4)
-returns_soon y x =
-    let n = length-append (fetch y Rax x) (epilogue (plan_of_layout y 0)) in
-    let a = fetched_soon y x in
-    let ends = ends_soon y.frame (y.frame == 0) in
-    let b = ends.0 in
-    let c = ends.1 in
+-- a return takes so many turns at most where its epilogue has so many instructions
+pub returns_within : (y : Layout) (x : Slot) (n : ℕ) → length (epilogue (plan_of_layout y 0)) ≤ n
+    → (1 ≤ length (return_code y x)) × (length (return_code y x) ≤ n + 2)
+returns_within y x n le =
+    let a = length-append (fetch y Rax x) (epilogue (plan_of_layout y 0)) in
+    let b = fetched_soon y x in
+    let c = (epilogue_count (plan_of_layout y 0)).0 in
     (omega arith, omega arith)
 
 module _ (setting : Setting) (roomy : HaveRoom setting.program) where
@@ -203,6 +196,10 @@ module _ (setting : Setting) (roomy : HaveRoom setting.program) where
     well_formed_after = stays_well_formed s after (reaches_keeps n s after reaches) has_back.small
         b.well_formed
 
+    pub returns_soon : (1 ≤ n) × (n ≤ 12)
+    returns_soon = returns_within layout from 10
+        (ending_few setting c.frame.body b.body.slots.code b.body.slots.body)
+
     -- each of its turns keeps the shadow, and the caller has its registers again
     pub leaves : LeavesBody t fs b.body.others after n s
     leaves =
@@ -211,7 +208,7 @@ module _ (setting : Setting) (roomy : HaveRoom setting.program) where
         let f = frame setting roomy s c b counted in
         returns_leave setting c.frame.body b.body.slots.code b.body.slots.body c.frame.next from at s
         after (top_of setting s c b counted) b.body.back b.body.others b.body.is b.rip
-        (begins_beneath setting s c b counted) refl b.memory.code (omega arith)
+        (begins_beneath setting s c b counted) refl b.memory.code
         (fetch_plain layout.slots layout.frame 8 layout from
         (fetch_fine f.layout f.counts f.sp f.base true from
         (room_here setting s c b counted) is_there)) (reaches_steps n s after reaches) b.body.small

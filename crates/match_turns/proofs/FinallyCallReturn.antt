@@ -9,7 +9,6 @@ use Rattle.linear_code.specs.declared.program.FuncletKind.TheVariants as funclet
 use Rattle.match_turns.proofs.Lemmas.{sizes_append, call_size, template_sizes, offset_next, reaches_silently, waits_in_body, all_front, IsCounted, get_or_is}
 use Rattle.match_bodies.proofs.BodyResumption.{again}
 use Rattle.match_turns.proofs.BodyReturn as leaving
-use Rattle.match_turns.proofs.BodyReturn.{returns_soon}
 
 -- an instruction of a body begins within it
 pub offset_most : (y : Layout) (body : List Instruction) (number : ℕ)
@@ -183,8 +182,8 @@ module _ (setting : Setting) (roomy : HaveRoom setting.program)
     pub return_of_block : Moves t fs program 16 turns_left (RepresentsAt setting) s c
         (instructions.Return from)
     return_of_block =
-        let few = (returns_soon layout from).1 in
-        let some = (returns_soon layout from).0 in
+        let few = (leaving.returns_soon setting roomy s c b counted from at).1 in
+        let some = (leaving.returns_soon setting roomy s c b counted from at).0 in
         let credit : held_below c.below ≡ length w.temporaries
         + held_below items = ap held_below below in
         record {

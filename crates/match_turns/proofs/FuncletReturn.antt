@@ -7,7 +7,8 @@ use Rattle.linear_code.specs.declared.instruction.Instruction.TheVariants as ins
 use Rattle.linear_code.specs.declared.program.FuncletKind.TheVariants as funclets
 use Rattle.match_turns.proofs.Lemmas.{reaches_silently, IsCounted}
 use Rattle.match_turns.proofs.BodyReturn as leaving
-use Rattle.match_turns.proofs.BodyReturn.{returns_soon}
+use Rattle.match_bodies.proofs.BodyFrames.{funclet_ending_few}
+use Rattle.match_turns.proofs.BodyReturn.{returns_within}
 use Rattle.match_turns.proofs.DispatchReturnSteps.{filter_step, finally_step}
 use Rattle.match_turns.proofs.HostPage.{host_silent}
 use Rattle.match_turns.proofs.FilterAnswer.{answer_low}
@@ -66,7 +67,10 @@ module _ (setting : Setting) (roomy : HaveRoom setting.program) where
         (host_silent setting s.memory back after.cpu b.memory.code low)
 
     few : n ≤ 6
-    few = let z = (returns_soon (p.layout c.frame.body) from).1 in omega arith
+    few =
+        let z = (returns_within (p.layout c.frame.body) from 2
+        (funclet_ending_few setting c.frame.body b.body.slots.code b.body.slots.body k is)).1 in
+        omega arith
 
     memory_after : IsMachineMemory setting after.memory c.store.memory
     memory_after = b.memory

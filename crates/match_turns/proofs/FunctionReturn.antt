@@ -99,7 +99,7 @@ module _ (setting : Setting) (roomy : HaveRoom setting.program) where
 
     pub exits : c.below ≡ [] → Exits t fs program 16 turns_left s c (instructions.Return from)
     exits none =
-        let few = (leaving.returns_soon layout from).1 in
+        let few = (leaving.returns_soon setting roomy s c b counted from at).1 in
         let over : back ≡ 0 = subst (λ items. ReturnsTo t fs program p items back) none
         b.body.returns_to in
         record {
@@ -165,8 +165,8 @@ module _ (setting : Setting) (roomy : HaveRoom setting.program) where
           → IsSurrounded setting roomy w.body w.activation items (length outer)
           → Moves t fs program 16 turns_left (RepresentsAt setting) s c (instructions.Return from)
       moves counts surrounded =
-          let few = (leaving.returns_soon layout from).1 in
-          let some = (leaving.returns_soon layout from).0 in
+          let few = (leaving.returns_soon setting roomy s c b counted from at).1 in
+          let some = (leaving.returns_soon setting roomy s c b counted from at).0 in
           let more = length-append w.temporaries (x ∷ []) in
           let z = subst (λ r. Resumes t fs program p q after
           (answered setting roomy w items c.store.memory outer c.events r)) rax_after

@@ -7,6 +7,8 @@ use Rattle.linear_code.specs.Program.{LinearFunction, LinearFunclet, LinearProgr
 use Rattle.lowering_expressions.specs.declared.scope.LoweringContext.{LoweringContext}
 use Rattle.lowering_expressions.specs.Scope.{function_scope}
 use Rattle.lowering_sizes.specs.Sizes.{statements_size, statements_notes}
+use Rattle.lowering_registers.specs.Shared.{register_locals}
+pub use Rattle.lowering_registers.specs.Shared.{own_locals}
 use Rattle.seh_ir.specs.Slots.{body_with}
 use Rattle.lowering_expressions.specs.Expressions.{constant}
 use Rattle.seh_ir.specs.Statements.{statements_code}
@@ -14,9 +16,6 @@ use Rattle.seh_ir.specs.Regions.{statements_regions}
 use Rattle.seh_ir.specs.Funclets.{statements_funclets}
 
 -- parameters and locals, and after them codes and flags
-abbrev pub own_locals : Function → ℕ
-own_locals f = length f.parameters + length f.locals
-
 abbrev pub all_locals : Function → ℕ
 all_locals f = own_locals f + statements_notes f.body
 
@@ -29,6 +28,7 @@ abbrev pub lowered_function : Function → LinearFunction
 lowered_function f = record {
   name = f.name;
   parameters = length f.parameters;
+  registers = register_locals f;
   body =
       body_with (all_locals f) (Separator ∷ statements_code (scope_of f) f.body 1 ++ constant 0 0
       ∷ Return (Temporary 0) ∷ []) (statements_regions f.body 1);

@@ -18,16 +18,11 @@ use linear_code::program::{IrFunclet, IrFunction, IrProgram};
 use linear_code::slot::Slot;
 use lowering_expressions::instructions::{constant, put_all};
 use lowering_expressions::scope::{ExceptionSource, LoweringContext, Names, Way};
+use lowering_registers::registers::{own_locals, register_locals};
 use lowering_sizes::measured::measure_all;
 use lowering_sizes::statement_sizes::statements_notes;
 use lowering_sizes::sums::sum;
 use std::alloc::{AllocError, Global};
-
-fn own_locals(f: &Function) -> Result<u64, AllocError>
-    ensures { IfOk result (λ n. n ≡ spec.own_locals (programs.function f.now)) }
-{
-    sum(f.parameters.len() as u64, f.locals.len() as u64)
-}
 
 fn all_locals(f: &Function) -> Result<u64, AllocError>
     ensures { IfOk result (λ n. n ≡ spec.all_locals (programs.function f.now)) }
@@ -65,6 +60,7 @@ fn lower_function(alloc: Global, f: &Function) -> Result<IrFunction, AllocError>
     ensures { IfOk result (λ r. linear_function r ≡
         spec.lowered_function (programs.function f.now)) }
 {
+    let registers = register_locals(alloc, f)?;
     let scope = scope_of(alloc, f)?;
     let locals = all_locals(f)?;
     let mut code = Vec::new(alloc);
@@ -82,6 +78,7 @@ fn lower_function(alloc: Global, f: &Function) -> Result<IrFunction, AllocError>
     Ok(IrFunction {
         name,
         parameters: f.parameters.len() as u64,
+        registers,
         body,
     })
 }

@@ -10,15 +10,15 @@ use Rattle.text_bounds.proofs.StatementRooms.{funclets_room, funclets_append, st
 -- ---- bodies of functions and of funclets
 
 funclet_rooms : (fs : List LinearFunclet) → room (funclet_bodies fs)
-    + tables_room (funclet_bodies fs) ≡ funclets_room fs + 544 * length fs
+    + tables_room (funclet_bodies fs) ≡ funclets_room fs + 576 * length fs
 funclet_rooms [] = refl
 funclet_rooms (f ∷ fs) = let r = funclet_rooms fs in omega arith
 
 functions_bound : (number : ℕ) (fs : List Function)
     → room (function_bodies (map lowered_function fs))
     + tables_room (function_bodies (map lowered_function fs))
-    + funclets_room (all_funclets number fs) + 544 * length (all_funclets number fs)
-    ≤ functions_room fs + 544 * (length fs + length (sound.all_funclets fs))
+    + funclets_room (all_funclets number fs) + 576 * length (all_funclets number fs)
+    ≤ functions_room fs + 576 * (length fs + length (sound.all_funclets fs))
 functions_bound number [] = omega arith
 functions_bound number (f ∷ fs) =
     let owner : Owner = record { function = number; locals = all_locals f; parent = None } in

@@ -36,7 +36,7 @@ jumped Nowhere = omega arith
 jumped (Jumps label) = omega arith
 jumped (Unwinds label) = omega arith
 
-returned_by : (w : Way) → code_room (return_code w) ≤ 17
+returned_by : (w : Way) → code_room (return_code w) ≤ 53
 returned_by Nowhere = omega arith
 returned_by (Jumps label) = omega arith
 returned_by (Unwinds label) = omega arith

@@ -6,10 +6,10 @@ use Rattle.seh_ir.specs.Lowered.{lowered}
 use Rattle.image_link.specs.Fits.{text_room, program_tables_room}
 use Rattle.text_bounds.specs.Rooms.{functions_room}
 
--- its code and its tables take no more than the room of its functions, and 544 bytes for each
+-- its code and its tables take no more than the room of its functions, and 576 bytes for each
 -- function and each filter or `__finally` block
 abbrev pub LoweredIsBounded : Type 0
 LoweredIsBounded =
     (program : Program) → text_room (lowered program) + program_tables_room (lowered program)
     ≤ functions_room program.functions
-    + 544 * (length program.functions + length (all_funclets program.functions))
+    + 576 * (length program.functions + length (all_funclets program.functions))

@@ -106,7 +106,7 @@ returned_room (Some e) = expression_room e
 -- a filter is a funclet, unless it always accepts
 abbrev pub filter_room : Filter → ℕ
 filter_room Always = 0
-filter_room (Funclet k e) = expression_room e + 16
+filter_room (Funclet k e) = expression_room e + 52
 
 -- of a statement and of the filters and `__finally` blocks in it, with 16 bytes for the scope
 -- record of each `__try`
@@ -122,14 +122,14 @@ abbrev mutual
       all_declared_room ds + (discarded_room first + (condition_room c
       + (statement_room s + (1 + (discarded_room next + 6)))))
   statement_room (DoWhile s c) = statement_room s + (1 + (expression_room c + 24))
-  statement_room (Return e) = returned_room e + 17
+  statement_room (Return e) = returned_room e + 53
   statement_room Break = 16
   statement_room Continue = 16
   statement_room Leave = 5
   statement_room (TryExcept body filter block) =
       statements_room body + (21 + (statements_room block + (filter_room filter + 16)))
   statement_room (TryFinally body k last) =
-      statements_room body + (15 + (statements_room last + (24 + 16)))
+      statements_room body + (15 + (statements_room last + (60 + 16)))
 
   pub statements_room : Statements → ℕ
   statements_room Empty = 0
@@ -140,4 +140,4 @@ abbrev mutual
 -- each begins with a separator, and returns 0 at its end
 abbrev pub functions_room : List Function → ℕ
 functions_room [] = 0
-functions_room (f ∷ fs) = statements_room f.body + 52 + functions_room fs
+functions_room (f ∷ fs) = statements_room f.body + 88 + functions_room fs

@@ -1,7 +1,8 @@
 use Rattle.std.proofs.Common.{◌≡◌, ℕ, ◌+◌, ◌++◌, length, get_or, drop, sym, ap, ◌∙◌, arith, length-append}
-use Rattle.image_link.specs.Words.{RoutineView, PlaceView, place_at, places_from, routine_size, info_bytes, infos, range_of, ranges}
+use Rattle.image_link.specs.Words.{IsRoutineNear, RoutineView, PlaceView, place_at, places_from, routine_size, info_bytes, infos, range_of, ranges}
 use Rattle.image_link.proofs.Entries.{appended}
 use Rattle.image_link.proofs.Infos.{info_small, infos_next, ranges_next, infos_room_next}
+use Rattle.image_link.proofs.Lemmas.{all_at}
 use Rattle.image_link.proofs.Places.{places_next, first_is, rest_is}
 use Rattle.image_link.proofs.tables.tables_of.Goals as goal
 
@@ -31,7 +32,7 @@ loop-routine-preserved c =
     let longer = ap length grew in
     let there : info + length (info_bytes s at x)
     ≡ c.args.xdata_at + length new = omega (arith, length-append old (info_bytes s at x)) in
-    let few = info_small s at x in
+    let few = info_small s at x (all_at IsRoutineNear rs i r c.requires.near lt) in
     let next' = infos_room_next rs i r lt in
     let tables = inv.tables in
     let index = inv.index in

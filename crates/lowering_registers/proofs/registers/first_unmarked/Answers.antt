@@ -19,8 +19,8 @@ loop-index-preserved c =
           record {
             few = omega arith;
             chosen = chosen_next marks l.index false l.chosen.items c.if-not-mark.chosen.items
-                (take 7 (unmarked marks 0)) c.loop-index-test.true w.if-not-mark.true (same ∙ w.push.ensures.items)
-                l.invariant.chosen;
+                (take 7 (unmarked marks 0)) c.loop-index-test.true w.if-not-mark.true
+                (same ∙ w.push.ensures.items) l.invariant.chosen;
           }
       | else-not-mark w ↦
           let same = ap (λ v. v.items) w.chosen-is in

@@ -1,9 +1,8 @@
-use Rattle.std.proofs.Common.{◌≡◌, List, [], ◌∷◌, ◌++◌, map, ap, sym, subst, ◌∙◌}
+use Rattle.std.proofs.Common.{◌≡◌, [], ◌∷◌, map, ap, sym, subst, ◌∙◌}
 use Rattle.c_expressions.proofs.Tables.{ended, blocks_last}
 use Rattle.c_expressions.proofs.symbol_table.SymbolTable.close.Goals as goal
 use Rattle.c_expressions.specs.Declarations.{AreInnermost, Uncovers, latest, latest_blocks, scope}
 use Rattle.c_expressions.specs.SymbolTables.{SymbolTable, closed, closed_into}
-use Rattle.c_resolved.specs.Scopes.{Scope}
 use Rattle.indexmap.specs.IndexMap as maps
 
 pub invariant_of-self : goal.invariant_of-self

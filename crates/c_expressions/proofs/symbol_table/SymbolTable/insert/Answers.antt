@@ -1,4 +1,4 @@
-use Rattle.std.proofs.Common.{◌≡◌, [], ◌∷◌, ◌++◌, map, ap, sym, subst, ◌∙◌}
+use Rattle.std.proofs.Common.{◌∷◌, map, ap, sym, subst, ◌∙◌}
 use Rattle.c_expressions.proofs.Tables.{declared, latest_last}
 use Rattle.c_expressions.proofs.symbol_table.SymbolTable.insert.Goals as goal
 use Rattle.c_expressions.specs.Declarations.{AreInnermost, latest, latest_blocks, scope}

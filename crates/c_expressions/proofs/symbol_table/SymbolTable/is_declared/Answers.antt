@@ -1,4 +1,4 @@
-use Rattle.std.proofs.Common.{◌≡◌, ◌∷◌, Some, length, ap, sym, ◌∙◌}
+use Rattle.std.proofs.Common.{◌≡◌, Some, length, ap, sym, ◌∙◌}
 use Rattle.c_expressions.proofs.Tables.{as_many, at_is, is_at}
 use Rattle.c_expressions.proofs.symbol_table.SymbolTable.is_declared.Goals as goal
 use Rattle.c_expressions.specs.Declarations.{latest, latest_blocks}
