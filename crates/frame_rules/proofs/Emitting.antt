@@ -97,7 +97,8 @@ opens_role : (p : FramePlan) → IsPlan p → (b : Bool) → eqb p.frame 0 ≡ b
 opens_role p h true e plain = refl
 opens_role p h false e plain = ap opening (is_frame p h e)
 
-gives_all : (p : FramePlan) → IsPlan p → (b : Bool) → eqb p.frame 0 ≡ b
+-- it gives the allocation back
+pub gives_all : (p : FramePlan) → IsPlan p → (b : Bool) → eqb p.frame 0 ≡ b
     → gives_back p.frame p.distance (allocation (operations_of p)) (opening_by p b) ≡ true
 gives_all p h true e = eq-eqb p.size (allocation (operations_of p)) (sym (allocation_plan p))
 gives_all p h false e =

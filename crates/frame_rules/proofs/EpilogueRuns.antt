@@ -138,7 +138,7 @@ opens f offset back a old ops rs s u i known h done e ef = absurd (false≢true 
 
 -- ---- a pop
 
-pop_effect : (s : State) (a v : ℕ) (q : Reg) → load s.memory (registers s 4) W64 ≡ Ok v
+pub pop_effect : (s : State) (a v : ℕ) (q : Reg) → load s.memory (registers s 4) W64 ≡ Ok v
     → effect (with_rip s a) (instrs.Pop q) ≡ Ok
     (record {
       cpu = record {

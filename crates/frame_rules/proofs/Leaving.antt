@@ -165,7 +165,7 @@ pub load_at : (m : Memory) (at v : ℕ) → IsWord m at v → load m at W64 ≡ 
 load_at m at v w = ap (λ (o : Option ℕ). granted (access false o (number_at m.byte 8 at)))
     w.readable ∙ ap Ok w.value
 
-load_effect : (s : State) (a at v : ℕ) (q : Reg) (m : MemRef)
+pub load_effect : (s : State) (a at v : ℕ) (q : Reg) (m : MemRef)
     → address_of (record { registers = s.cpu.registers; rip = a; flags = s.cpu.flags }) m ≡ at
     → load s.memory at W64 ≡ Ok v
     → effect (with_rip s a) (instrs.Move W64 (places.Register q) (operands.Memory m))

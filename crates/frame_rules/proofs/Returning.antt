@@ -11,7 +11,7 @@ use Rattle.frame_rules.proofs.Leaving.{InPops, Known, load_at}
 use Rattle.frame_rules.proofs.EpilogueRuns.{Has, opened}
 use Rattle.frame_rules.proofs.EveryFrame.{known, leaving_has, leaving_modes}
 
-return_effect : (s : State) (a v : ℕ) → load s.memory (registers s 4) W64 ≡ Ok v
+pub return_effect : (s : State) (a v : ℕ) → load s.memory (registers s 4) W64 ≡ Ok v
     → effect (with_rip s a) instrs.Return ≡ Ok
     (record {
       cpu = record {

@@ -7,7 +7,8 @@ use Rattle.image_runs.specs.Words.{STACK_START, STACK_END, Memory, number_at, Pr
 use Rattle.image_runs.proofs.Lemmas.{Keeps, enters_keeps, stays_well_formed, may_read_written, word_of, words_at, words_count, words_small, arguments_then_words}
 use Rattle.match_stack.specs.StackRecords.{On}
 use Rattle.lowering_invariants.specs.SmallNumbers.{AreSmall}
-use Rattle.match_bodies.proofs.SilentTurns.{enters_silently}
+use Rattle.match_bodies.proofs.SilentTurns.{enters_silently, none_inside}
+use Rattle.match_bodies.specs.CodeSites.{making_size}
 use Rattle.x64_machine.specs.Contexts.{context_of}
 use Rattle.seh_records.specs.Laws.{AllSmall}
 use Rattle.match_bodies.specs.Bodies.{HasFrame}
@@ -48,17 +49,24 @@ module _ (t : Functions) (fs : List Funclet) (program : LinearProgram) (p : Imag
   first = entering.first t fs program p q image s source f fn top given h
 
   abbrev inside : entering.InFunction t fs program p q image s source f fn top given h
-  inside = entries.entered t fs program p q image s source f fn top given h
+  inside = entries.entered t fs program p q image s source f fn top given h some
 
   abbrev pub after : State
   after = inside.state
+
+  -- its prologue
+  abbrev from : ℕ
+  from = q.function f
+
+  abbrev to : ℕ
+  to = from + making_size p q (FunctionBody f)
 
   first_is : s ≡ first
   first_is = is_machine s h.count ∙ ap (λ r. machine
       (entering.view t fs program p q image s source f fn top given h) r s.cpu.flags) h.rip
 
   keeps : Keeps first after
-  keeps = enters_keeps inside.turns first after inside.comes
+  keeps = enters_keeps from to inside.turns first after inside.comes
 
   rip_small : after.cpu.rip < 2 ^ 64
   rip_small = let a = image.addresses (FunctionBody f) o there in let u = a.inside.high in
@@ -139,7 +147,7 @@ module _ (t : Functions) (fs : List Funclet) (program : LinearProgram) (p : Imag
       registers [] inside.turns first after
       (arguments_code program p (FunctionBody f)) [] 40
       (sym (append-nil (arguments_code program p (FunctionBody f)))) inside.exact
-      (enters_steps inside.turns first after inside.comes) refl at beneath_main small_there
+      (enters_steps from to inside.turns first after inside.comes) refl at beneath_main small_there
       h.memory.code stored.1 (omega arith) refl
       (subst (λ (xs : List Instr). AllPlain layout.slots layout.frame 40 xs) (sym arguments_are)
       stored.0)
@@ -153,7 +161,9 @@ module _ (t : Functions) (fs : List Funclet) (program : LinearProgram) (p : Imag
 
   pub comes : Comes t fs inside.turns s [] after
   comes = subst (λ (x : State). Comes t fs inside.turns x [] after) (sym first_is)
-      (enters_silently t fs program p q image inside.turns first after inside.comes entry_run.keeps
+      (enters_silently t fs program p q image from to
+      (none_inside t fs program p q image (FunctionBody f) o there) inside.turns first after
+      inside.comes entry_run.keeps
       h.memory.code silent_after)
 
   pub soon : inside.turns ≤ 16

@@ -1,11 +1,19 @@
 -- The function is entered, whatever its frame is.
-use Rattle.std.proofs.Common.{◌≡◌, ℕ, ◌+◌, ◌-◌, ◌<◌, ◌≤◌, Bool, true, false, Some, List, length, refl, sym, ap, subst, ◌∙◌, arith, inl, inr}
-use Rattle.std.specs.Prelude.{nat_le, if◌then◌else◌}
+use Rattle.std.proofs.Common.{◌≡◌, ℕ, ◌+◌, ◌-◌, ◌<◌, ◌≤◌, Bool, true, false, Some, List, length, refl, sym, ap, subst, ◌∙◌, arith, inl, inr, length-drop}
+use Rattle.std.specs.Prelude.{slice_index, nat_le, if◌then◌else◌}
+use Rattle.image_runs.specs.Words.{Memory, State, Functions, Funclet, LinearProgram, LinearBody, LinearFunction, FunctionBody, body_of, Layout, sizes, parameters_code, MachineView, HasCode, ImagePlan, Sites, IsLayoutIf, IsFunctionLayout, IsLeafLayout, IsProgramImage, seen_by_templates, STACK_START, STACK_END, Instr}
+use Rattle.match_bodies.specs.CodeSites.{body_plan}
+use Rattle.match_bodies.specs.Setting.{Setting, setting_of}
+use Rattle.seh_records.specs.Laws.{AllSmall}
+use Rattle.frame_rules.specs.Plan.{FramePlan}
+use Rattle.frame_rules.specs.States.{IsEntry, registers}
+use Rattle.x64_templates.specs.Prologues.{prologue_turns}
+use Rattle.match_bodies.proofs.BodyViews.{is_machine}
+use Rattle.match_bodies.proofs.FrameCode.{few_turns, plan_depth, made_small}
+use Rattle.match_bodies.proofs.PlannedPrologues.{body_planned, body_probed}
+use Rattle.match_bodies.proofs.PrologueSteps.{small_at}
+use Rattle.image_runs.proofs.Lemmas.{may_read_written, with_home, home_parameters, Made, no_frame, planned_frame, making_steps}
 use Rattle.std.proofs.lemmas.Bool.{cases_lt, le-leb, leb-true}
-use Rattle.image_runs.specs.Words.{STACK_START, STACK_END, Memory, Instr, State, Functions, Funclet, LinearProgram, LinearBody, LinearFunction, FunctionBody, body_of, Layout, sizes, parameters_code, enter_code, MachineView, HasCode, ImagePlan, Sites, IsLayoutIf, IsFunctionLayout, IsLeafLayout, IsProgramImage, seen_by_templates}
-use Rattle.template_code.specs.Probing.{enter_large}
-use Rattle.match_bodies.proofs.FrameCode.{made_small, made_large}
-use Rattle.image_runs.proofs.Lemmas.{making_steps, may_read_written, with_home, home_parameters, Made, no_frame, small_frame, large_frame}
 use Rattle.match_turns.proofs.FunctionEntryCode.{making_frame, HasEntry, has_entry}
 use Rattle.image_runs.proofs.FunctionEntry as entering
 use Rattle.image_runs.proofs.FunctionEntry.{IsCalled}
@@ -13,7 +21,8 @@ use Rattle.image_runs.proofs.FunctionEntry.{IsCalled}
 module _ (t : Functions) (fs : List Funclet) (program : LinearProgram) (p : ImagePlan) (q : Sites)
     (image : IsProgramImage t fs program p q) (s : State) (source : Memory) (f : ℕ)
     (fn : LinearFunction) (top : ℕ) (arguments : ℕ → ℕ)
-    (h : IsCalled t fs program p q s source f fn top arguments) where
+    (h : IsCalled t fs program p q s source f fn top arguments)
+    (some : 0 < length fn.body.code) where
   abbrev layout : Layout
   layout = p.layout (FunctionBody f)
 
@@ -34,6 +43,9 @@ module _ (t : Functions) (fs : List Funclet) (program : LinearProgram) (p : Imag
 
   abbrev Goal : Type 0
   Goal = entering.InFunction t fs program p q image s source f fn top arguments h
+
+  abbrev setting : Setting
+  setting = setting_of t fs program p q image
 
   entry : (leaf : Bool) → p.leaf (FunctionBody f) ≡ leaf
       → HasEntry program p q f count s.memory leaf
@@ -94,7 +106,8 @@ module _ (t : Functions) (fs : List Funclet) (program : LinearProgram) (p : Imag
                   (inr o1) ↦ (let o2 = o1.0 in let o3 = o1.1 in absurd (omega arith))
             ])
       ])
-      (ap (λ code. 0 + length code) same ∙ (entry true leaf).turns 0 refl)
+      (ap (λ code. 0 + length code) same ∙ (entry true leaf).turns)
+      (omega (arith, ap (λ x. sizes (making_frame p q f x)) leaf))
 
   -- ---- a function with a frame
 
@@ -105,10 +118,41 @@ module _ (t : Functions) (fs : List Funclet) (program : LinearProgram) (p : Imag
     abbrev sp : ℕ
     sp = top - frame
 
-    framed_entered : (making : List Instr) (n : ℕ) → making_frame p q f false ≡ making
-        → making_steps false frame ≡ n → Made view target (target + sizes making) s.cpu.flags top sp
-        arguments n → Goal
-    framed_entered making n e same made =
+    abbrev plan : FramePlan
+    plan = body_plan p q (FunctionBody f)
+
+    -- the state at its first byte
+    begins : IsEntry frame (entering.first t fs program p q image s source f fn top arguments h)
+    begins =
+        let x = h.low in
+        let z = h.high in
+        let k = l.small in
+        let first = entering.first t fs program p q image s source f fn top arguments h in
+        let same : s.cpu.registers ≡ first.cpu.registers = ap (λ (u : State). u.cpu.registers)
+        (is_machine s h.count) in
+        let sp : registers first 4 ≡ top = ap (λ (rs : List ℕ). slice_index rs 4) (sym same)
+        ∙ h.stack in
+        record {
+          length = ap (λ (rs : List ℕ). length rs) (sym same) ∙ h.count;
+          fits = small_at first.cpu.registers (subst AllSmall same h.all_small);
+          high = omega arith;
+          low = omega arith;
+          writable = λ a lo hi. h.memory.stack a (omega arith) (omega arith);
+          readable = λ a lo hi. may_read_written s.memory a
+              (h.memory.stack a (omega arith) (omega arith));
+        }
+
+    made : Made view target (target + sizes (making_frame p q f false)) s.cpu.flags top sp
+        arguments (prologue_turns plan)
+    made = planned_frame view target s.cpu.flags top arguments
+        (entering.view_stack t fs program p q image s source f fn top arguments h)
+        h.registers plan q.check_stack frame (body_planned setting (FunctionBody f) o there some
+        l.small)
+        (few_turns frame plan.probe) (plan_depth frame plan.probe) begins (entry false leaf).making
+        (body_probed setting (FunctionBody f) o there some) h.memory.code.check_stack
+
+    framed_entered : Goal
+    framed_entered =
         let x = h.low in
         let z = h.high in
         let a = l.temporaries in
@@ -116,7 +160,7 @@ module _ (t : Functions) (fs : List Funclet) (program : LinearProgram) (p : Imag
         let j = l.within in
         let k = l.small in
         entering.entered t fs program p q image s source f fn top arguments h sp
-        (target + sizes making) n made layout
+        (target + sizes (making_frame p q f false)) (prologue_turns plan) made layout
         (record {
           none = l.none;
           low = omega arith;
@@ -132,11 +176,7 @@ module _ (t : Functions) (fs : List Funclet) (program : LinearProgram) (p : Imag
           locals = omega arith;
           within = l.within;
         }) refl k
-        (omega arith)
-        (subst (λ i. HasCode s.memory (target + sizes i) (parameters_code layout 0 count)) e
-        (entry false leaf).storing)
-        (ap (λ i. target + sizes i + sizes (parameters_code layout 0 count)) (sym e)
-        ∙ (entry false leaf).ends)
+        (omega arith) (entry false leaf).storing (entry false leaf).ends
         (λ a out i. elim i [
           | inl w ↦ (let g = w.0 in let u = w.1 in
               elim out [
@@ -153,63 +193,7 @@ module _ (t : Functions) (fs : List Funclet) (program : LinearProgram) (p : Imag
                     (inr o1) ↦ (let o2 = o1.0 in let o3 = o1.1 in absurd (omega arith))
               ])
         ])
-        ((entry false leaf).turns n same)
-
-    small_entered : nat_le frame 4096 ≡ true → Goal
-    small_entered e =
-        let x = h.low in
-        let z = h.high in
-        let k = l.small in
-        let some = l.passed in
-        let is : making_frame p q f false ≡ enter_code frame =
-        made_small frame target q.check_stack false refl
-        (let a = l.temporaries in let b = l.locals in let c = l.within in omega arith)
-        (leb-true frame 4096 e) in
-        framed_entered (enter_code frame) 1 is (ap (λ x. if x then 1 else 8) e)
-        (small_frame view target s.cpu.flags top arguments
-        (entering.view_stack t fs program p q image s source f fn top arguments h)
-        h.registers frame (omega arith) (omega arith) (omega arith)
-        (subst (HasCode s.memory target) is (entry false leaf).making))
-
-    large_entered : nat_le frame 4096 ≡ false → 4096 < frame → Goal
-    large_entered e big =
-        let x = h.low in
-        let z = h.high in
-        let k = l.small in
-        let is : making_frame p q f false ≡ enter_large frame target q.check_stack =
-        made_large frame target q.check_stack false refl big in
-        let a = image.addresses (FunctionBody f) o there in
-        let begin = a.first in
-        let a1 = a.inside.low in
-        let a2 = a.inside.high in
-        let c1 = image.check_stack.low in
-        let c2 = image.check_stack.high in
-        let reads = λ (i : ℕ) (lo : STACK_START ≤ i) (hi : i < STACK_END). may_read_written s.memory
-        i (h.memory.stack i lo hi) in
-        framed_entered (enter_large frame target q.check_stack) 8 is
-        (ap (λ x. if x then 1 else 8) e)
-        (large_frame view target s.cpu.flags top arguments
-        (entering.view_stack t fs program p q image s source f fn top arguments h)
-        h.registers frame q.check_stack (omega arith)
-        (entering.below_top t fs program p q image s source f fn top arguments h)
-        (record {
-          enough = omega arith;
-          more = omega arith;
-          high = omega arith;
-          first = reads (top - 4096) (omega arith) (omega arith);
-          last = reads (top - frame) (omega arith) (omega arith);
-        })
-        ((omega arith, omega arith, omega arith, omega arith)) (omega arith)
-        h.memory.code.check_stack
-        (subst (HasCode s.memory target) is (entry false leaf).making))
-
-    by_size : (x : Bool) → nat_le frame 4096 ≡ x → Goal
-    by_size true e = small_entered e
-    by_size false e = elim (cases_lt 4096 frame) [
-      | inl lt ↦ large_entered e lt
-      | inr le ↦ absurd (let w : nat_le frame 4096 ≡ true = le-leb frame 4096 le in
-          let no : true ≡ false = sym w ∙ e in cc)
-    ]
+        (entry false leaf).turns (ap (λ x. target + sizes (making_frame p q f x)) (sym leaf))
 
   pub entered : Goal
   entered = by (p.leaf (FunctionBody f)) refl
@@ -217,5 +201,5 @@ module _ (t : Functions) (fs : List Funclet) (program : LinearProgram) (p : Imag
       by : (leaf : Bool) → p.leaf (FunctionBody f) ≡ leaf → Goal
       by true e = leaf_entered e (subst (λ x. IsLayoutIf program p layout o x) e
           (image.laid_out (FunctionBody f) o there))
-      by false e = by_size e (subst (λ x. IsLayoutIf program p layout o x) e
-          (image.laid_out (FunctionBody f) o there)) (nat_le layout.frame 4096) refl
+      by false e = framed_entered e (subst (λ x. IsLayoutIf program p layout o x) e
+          (image.laid_out (FunctionBody f) o there))

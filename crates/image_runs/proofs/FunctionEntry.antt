@@ -4,10 +4,12 @@ use Rattle.std.proofs.Common.{◌≡◌, ℕ, ◌+◌, ◌*◌, ◌^◌, ◌<◌
 use Rattle.std.specs.Prelude.{◌⊎◌, slice_get}
 use Rattle.image_runs.specs.Words.{STACK_START, STACK_END, Memory, number_at, may_write, Protection, Rsp, State, register, Functions, Funclet, Local, LinearProgram, LinearBody, LinearFunction, FunctionBody, body_of, function_body, Layout, sizes, spelled, parameters_code, stack_parameter, MachineView, InRegisters, with_arguments, OnStack, IsFunctionFrame, body_in_memory, HasCode, Enters, ReachesBody, ImagePlan, Sites, arguments_code, IsMachineMemory, IsProgramImage, OtherRegisters, seen_by_templates, counts_of, LARGEST_FRAME, is_reserved, machine}
 use Rattle.flat_memory.specs.Protections.{is_writable}
-use Rattle.x64_templates.specs.CallStates.{sp_of, HasBelow}
+use Rattle.x64_templates.specs.CallStates.{sp_of}
+use Rattle.match_bodies.specs.CodeSites.{body_plan, making_size}
+use Rattle.seh_records.specs.Laws.{AllSmall}
 use Rattle.x64_templates.specs.Frames.{InTemporaries, InLocals, IsBytes, Agrees}
 use Rattle.image_runs.proofs.Lemmas.{bytes_kept, enters_then, making_steps, stack_is_reserved, Keeps, enters_keeps, own_frame, IsOwn, roomy_own, fresh_own, parameters_soon, argument_is, Made}
-use Rattle.x64_templates.proofs.Entries.{pushed_agrees, pushed_bytes}
+use Rattle.x64_templates.proofs.Ranges.{within_agrees}
 use Rattle.x64_templates.proofs.Entering.{fresh_holds, parameters_run}
 
 -- a state at a function's first byte: its arguments are in registers, the return address is at RSP,
@@ -25,6 +27,7 @@ pub record IsCalled (t : Functions) (fs : List Funclet) (program : LinearProgram
   pub fits : fn.parameters ≤ fn.body.locals
   pub registers : InRegisters (seen_by_templates s) arguments
   pub small : (i : ℕ) → arguments i < 2 ^ 64
+  pub all_small : AllSmall s.cpu.registers
   pub memory : IsMachineMemory t fs program p q s.memory source
 
 module _ (t : Functions) (fs : List Funclet) (program : LinearProgram) (p : ImagePlan) (q : Sites)
@@ -64,10 +67,10 @@ module _ (t : Functions) (fs : List Funclet) (program : LinearProgram) (p : Imag
     pub place : sp + layout.frame ≡ top
     pub state : State
     pub turns : ℕ
-    pub exact : turns ≡ making_steps (p.leaf (FunctionBody f)) layout.frame
+    pub exact : turns ≡ making_steps (p.leaf (FunctionBody f)) (body_plan p q (FunctionBody f))
         + length (arguments_code program p (FunctionBody f))
     pub soon : turns ≤ 16
-    pub comes : Enters turns first state
+    pub comes : Enters target (target + making_size p q (FunctionBody f)) turns first state
     pub rip : state.cpu.rip ≡ p.address (FunctionBody f) 0
     pub stack : register state.cpu Rsp ≡ sp
     pub locals : (i : ℕ) → i < count → number_at state.memory.byte 8 (sp + (layout.locals + 8 * i))
@@ -76,14 +79,6 @@ module _ (t : Functions) (fs : List Funclet) (program : LinearProgram) (p : Imag
     pub agrees : Agrees (is_reserved program.globals) state.memory source
     pub same : (a : ℕ) → is_reserved program.globals a ≡ true → Outside a
         → state.memory.byte a ≡ s.memory.byte a
-
-  pub below_top : HasBelow s.memory top 8
-  below_top = let l = h.low in let u = h.high in
-      record {
-        enough = omega arith;
-        high = omega arith;
-        writable = λ a x z. h.memory.stack a (omega arith) (omega arith);
-      }
 
   -- ---- once the frame is made, the parameters
 
@@ -96,36 +91,28 @@ module _ (t : Functions) (fs : List Funclet) (program : LinearProgram) (p : Imag
       (outside : (a : ℕ) → Outside a → InTemporaries y (counts_of o) sp a
       ⊎ InLocals y (counts_of o) sp a → ⊥)
       (counted_turns : n + length (parameters_code y 0 count)
-      ≡ making_steps (p.leaf (FunctionBody f)) layout.frame
-      + length (arguments_code program p (FunctionBody f))) where
+      ≡ making_steps (p.leaf (FunctionBody f)) (body_plan p q (FunctionBody f))
+      + length (arguments_code program p (FunctionBody f)))
+      (prologue : to ≡ target + making_size p q (FunctionBody f)) where
     abbrev k : State
     k = machine made.after to made.flags
 
     made_keeps : Keeps first k
-    made_keeps = enters_keeps made.turns first k made.comes
+    made_keeps = enters_keeps target to n first k made.comes
 
     made_bytes : IsBytes made.after.memory
-    made_bytes = elim made.made [
-      | inl e ↦ subst IsBytes (sym e) h.memory.data_alone.bytes
-      | inr e ↦ subst IsBytes (sym e) (pushed_bytes view top (target + 10)
-          h.memory.data_alone.bytes)
-    ]
+    made_bytes = made.within.bytes h.memory.data_alone.bytes
 
     made_agrees : Agrees (is_reserved program.globals) made.after.memory source
     made_agrees =
-        let l = h.low in
+        let l = own.low in
         let u = h.high in
-        elim made.made [
-          | inl e ↦ subst (λ (m : Memory). Agrees (is_reserved program.globals) m source) (sym e)
-              h.memory.agrees
-          | inr e ↦ subst (λ (m : Memory). Agrees (is_reserved program.globals) m source) (sym e)
-              (pushed_agrees (is_reserved program.globals) view source top (target + 10) below_top
-              (λ a x z. stack_is_reserved program.globals a (omega arith) (omega arith))
-              h.memory.agrees)
-        ]
+        within_agrees (is_reserved program.globals) sp top s.memory made.after.memory source
+        (λ a x z. stack_is_reserved program.globals a (omega arith) (omega arith)) made.within
+        h.memory.agrees
 
     made_may : (a : ℕ) → STACK_START ≤ a → a < STACK_END → may_write made.after.memory a ≡ true
-    made_may a l u = ap (λ (g : ℕ → Protection). is_writable (g a).rights) made.protection
+    made_may a l u = ap (λ (g : ℕ → Protection). is_writable (g a).rights) made.within.protection
         ∙ h.memory.stack a l u
 
     -- no parameter is on the stack
@@ -168,12 +155,14 @@ module _ (t : Functions) (fs : List Funclet) (program : LinearProgram) (p : Imag
           sp = sp;
           place = place;
           state = machine run.after (to + sizes (parameters_code y 0 count)) run.flags;
-          turns = made.turns + length (parameters_code y 0 count);
-          exact = ap (λ k. k + length (parameters_code y 0 count)) made.exact ∙ counted_turns;
+          turns = n + length (parameters_code y 0 count);
+          exact = counted_turns;
           soon = omega arith;
-          comes = enters_then made.turns (length (parameters_code y 0 count)) first k
+          comes = subst (λ x. Enters target x (n + length (parameters_code y 0 count)) first
+              (machine run.after (to + sizes (parameters_code y 0 count)) run.flags)) prologue
+              (enters_then target to n (length (parameters_code y 0 count)) first k
               (machine run.after (to + sizes (parameters_code y 0 count)) run.flags) made.comes
-              run.comes;
+              run.comes);
           rip = ends;
           stack = ap (λ (r : OtherRegisters). r.rsp) run.rest ∙ made.stack;
           locals = λ i lt. (let fits = h.fits in
@@ -184,7 +173,7 @@ module _ (t : Functions) (fs : List Funclet) (program : LinearProgram) (p : Imag
               count i (omega arith) (omega arith));
           bytes = run.changes.bytes made_bytes;
           agrees = run.holds.source;
-          same = λ a own_byte out. run.changes.byte a own_byte (outside a out) ∙ made.same a
+          same = λ a own_byte out. run.changes.byte a own_byte (outside a out) ∙ made.within.byte a
               (let l = h.low in
               let u = h.high in
               elim out [

@@ -21,7 +21,7 @@ pub use Rattle.match_bodies.proofs.TemplateSizes.{template_some, first_in_code, 
 pub use Rattle.match_turns.proofs.FunctionLocals.{words_count, words_small, arguments_then_words, argument_is}
 unfoldable pub use Rattle.match_turns.proofs.FunctionLocals.{words_at}
 pub use Rattle.match_turns.proofs.FunctionParameters.{with_home, home_parameters, own_frame, IsOwn, roomy_own, fresh_own, parameters_soon}
-pub use Rattle.match_turns.proofs.FunctionPrologue.{Made, no_frame, small_frame, large_frame}
+pub use Rattle.match_turns.proofs.FunctionPrologue.{Made, no_frame, planned_frame}
 pub use Rattle.match_turns.proofs.OperationCode.{is_some, IsSome, template_is_at, some_finish}
 pub use Rattle.image_link.proofs.Images.{images_are_small}
 pub use Rattle.image_tables.proofs.FuncletNumbers.{sum_of, sum_from_one, sums_agree, counts, lowered_names_funclets}

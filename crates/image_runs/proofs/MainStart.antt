@@ -110,6 +110,7 @@ module _ (t : Functions) (fs : List Funclet) (program : LinearProgram) (p : Imag
         (seen_by_templates (record { cpu = c; memory = s.memory })) (given arg)) (sym h.cpu)
         (record { first = refl; second = refl; third = refl; fourth = refl });
     small = given_small arg;
+    all_small = well_formed.small;
     memory = h.memory;
   }
 

@@ -42,7 +42,7 @@ pub use Rattle.x64_machine.specs.declared.context.Context.{Context}
 pub use Rattle.x64_machine.specs.declared.cpu.Cpu.{Cpu}
 pub use Rattle.template_code.specs.Bytes.{sizes, spelled}
 unfoldable pub use Rattle.template_code.specs.Bytes.{size}
-pub use Rattle.template_code.specs.Calls.{parameters_code, enter_code, stack_parameter}
+pub use Rattle.template_code.specs.Calls.{parameters_code, stack_parameter}
 pub use Rattle.template_code.specs.Slots.{fetch_local, local_at, fetch, operands_code, finish_code}
 pub use Rattle.template_code.specs.Template.{template, code_from}
 unfoldable pub use Rattle.template_code.specs.Template.{template_size}

@@ -1,7 +1,7 @@
 -- Where the bodies of a program's image are.
-use Rattle.std.proofs.Common.{◌≡◌, ◌≢◌, ℕ, zero, suc, ◌+◌, ◌<◌, ◌≤◌, true, false, not, leb, ltb, List, [], ◌∷◌, ◌++◌, length, get_or, Some, refl, ap, subst, ◌∙◌, arith, inl, inr, length-append}
+use Rattle.std.proofs.Common.{◌≡◌, ◌≢◌, ℕ, zero, suc, ◌+◌, ◌-◌, ◌<◌, ◌≤◌, true, false, not, leb, ltb, List, [], ◌∷◌, ◌++◌, length, get_or, Some, refl, ap, subst, ◌∙◌, arith, inl, inr, length-append}
 use Rattle.std.specs.Prelude.{◌&&◌}
-use Rattle.std.proofs.lemmas.Bool.{or_right, and_from, and_right, not_from_false, cases_lt, le-leb, lt-ltb, le-ltb}
+use Rattle.std.proofs.lemmas.Bool.{or_right, and_from, and_right, not_from_false, cases_eq, cases_lt, le-leb, lt-ltb, le-ltb}
 use Rattle.image_states.specs.Words.{IMAGE_BASE, IMAGE_RANGE_END, is_between, is_data, data_end, is_reserved, LinearBody, LinearFunclet, LinearProgram, BodyName, body_of, Instruction, Layout, modrm, size, sizes, check_stack, body_size, offset_of, FitsProgram, RoutineView, funclet_frame, funclet, routines, IsFrameNear, routine_size, entry_size, routine_bytes, bounds, text_begin, total, linked, Placed, end_of, site_of, image_base, template_at, funclet_begin, functions_of, funclets_of, routine_of, address_of, plan_of, sites_of, HasWholeImage, IsInImage, routines_begin, probe_begin}
 use Rattle.image_states.proofs.Lemmas.{offset_next, some_instruction, no_routine, prologue_some, entry_least, text_is, end_inside, IsThere, there, routine_length, bounds_rise, no_funclet, as_long, begin_is, funclet_is, funclet_size}
 use Rattle.image_link.proofs.Bounds.{bounds_least, bounds_below}
@@ -178,37 +178,71 @@ module _ (program : LinearProgram) (c : HasWholeImage program) where
       let begin = begin_is program fits k in
       omega arith
 
-  -- a body's instruction is at no funclet's first byte
-  pub not_first : (name : BodyName) (b : LinearBody) → body_of program name ≡ Some b → (label k : ℕ)
-      → label < length b.code → k < length program.funclets
-      → address_of program name label ≢ image_base + funclet_begin program k
-  not_first name b is label k lt in' e =
-      let q : address_of program name label ≡ image_base + funclet_begin program k = e in
-      let fits = c.fits in
-      let rs = routines program in
-      let x = routine_of program name in
-      let p = place program c name b is in
-      let same = ap (λ (d : LinearBody). length d.code) p.body in
-      let lt' : label < length x.routine.body.code = omega arith in
-      let below = label_below program c name b is label lt' in
-      let n = length program.functions + k in
-      let long = as_long program fits in
-      let begin = begin_is program fits k in
-      let bound = p.bound in
-      let some = funclet_size program fits k in' in
-      let size = ap (λ (r : RoutineView). routine_size r) p.own in
-      elim (cases_lt p.index n) [
-        | inl before ↦ let r = bounds_rise (routines_begin program) rs p.index n 0 no_routine before
-            (omega arith) in omega arith
-        | inr rest ↦ elim (cases_lt n p.index) [
-          | inl after ↦ let r = bounds_rise (routines_begin program) rs n p.index 0 no_routine after
-              (let low = p.below in omega arith) in omega arith
-          | inr equal ↦
-              let same' : p.index ≡ n = omega arith in
-              let at = ap (λ (i : ℕ). get_or (bounds (routines_begin program) rs) i 0) same' in
-              let entry = entry_some program c name b is (get_or program.funclets k no_funclet)
-              (p.own ∙ ap (λ (i : ℕ). get_or rs i no_routine) same'
-              ∙ funclet_is program fits k in') in
-              omega arith
+  -- another routine's funclet begins outside of a body
+  module _ (name : BodyName) (b : LinearBody) (is : body_of program name ≡ Some b) (k : ℕ)
+      (in' : k < length program.funclets) where
+    abbrev routine : Placed
+    routine = routine_of program name
+
+    abbrev own : IsBody program c.fits name b
+    own = place program c name b is
+
+    abbrev n : ℕ
+    n = length program.functions + k
+
+    elsewhere : (a : ℕ) → routine.begin ≤ a → a < end_of routine → own.index ≢ n
+        → a ≢ funclet_begin program k
+    elsewhere a from to other e =
+        let q : a ≡ funclet_begin program k = e in
+        let fits = c.fits in
+        let rs = routines program in
+        let long = as_long program fits in
+        let begin = begin_is program fits k in
+        let bound = own.bound in
+        let some = funclet_size program fits k in' in
+        let size = ap (λ (r : RoutineView). routine_size r) own.own in
+        elim (cases_lt own.index n) [
+          | inl before ↦ let r = bounds_rise (routines_begin program) rs own.index n 0 no_routine
+              before (omega arith) in omega arith
+          | inr rest ↦ elim (cases_lt n own.index) [
+            | inl after ↦ let r = bounds_rise (routines_begin program) rs n own.index 0 no_routine
+                after (let low = own.below in omega arith) in omega arith
+            | inr equal ↦ absurd (other (omega arith))
+          ]
         ]
-      ]
+
+    -- its own begins where the body's code does
+    begins_there : own.index ≡ n → funclet_begin program k ≡ routine.begin
+    begins_there same =
+        let begin = begin_is program c.fits k in
+        let bound = own.bound in
+        let at = ap (λ (i : ℕ). get_or (bounds (routines_begin program) (routines program)) i 0)
+        same in
+        omega arith
+
+    by_index : {A : Type 0} → (own.index ≡ n → A) → (own.index ≢ n → A) → A
+    by_index here there = elim (cases_eq own.index n) [ inl e ↦ here e | inr ne ↦ there ne ]
+
+    -- a body's instruction is at no funclet's first byte
+    pub not_first : (label : ℕ) → label < length b.code
+        → address_of program name label ≢ image_base + funclet_begin program k
+    not_first label lt e =
+        let q : address_of program name label ≡ image_base + funclet_begin program k = e in
+        let same = ap (λ (d : LinearBody). length d.code) own.body in
+        let lt' : label < length routine.routine.body.code = omega arith in
+        let below = label_below program c name b is label lt' in
+        by_index (λ here.
+        let there = begins_there here in
+        let entry = entry_some program c name b is (get_or program.funclets k no_funclet)
+        (own.own ∙ ap (λ (i : ℕ). get_or (routines program) i no_routine) here
+        ∙ funclet_is program c.fits k in') in
+        omega arith)
+        (λ other. elsewhere (template_at routine label) (omega arith) below other (omega arith))
+
+    -- past a body's first byte no funclet begins
+    pub no_funclet_inside : (a : ℕ) → image_base + routine.begin < a
+        → a < image_base + end_of routine → a ≢ image_base + funclet_begin program k
+    no_funclet_inside a from to e =
+        let q : a ≡ image_base + funclet_begin program k = e in
+        by_index (λ here. (let there = begins_there here in omega arith))
+        (λ other. elsewhere (a - image_base) (omega arith) (omega arith) other (omega arith))

@@ -361,9 +361,9 @@ module _ (program : LinearProgram) (c : HasWholeImage program) (name : BodyName)
         few = omega arith;
         landings = λ label lands cpu. at_none program c cpu (address_of program name label)
             (let s = small label in omega arith)
-            (λ k lt. not_first program c name b is label k
+            (λ k lt. not_first program c name b is k lt label
             (let l = ltb-true label (length code) lands in
-            let same = ap (λ (d : LinearBody). length d.code) p.body in omega arith) lt);
+            let same = ap (λ (d : LinearBody). length d.code) p.body in omega arith));
       }
 
   pub leaf_given : (plan_of program).leaf name ≡ true → b.regions ≡ []

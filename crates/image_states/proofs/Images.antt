@@ -3,7 +3,7 @@ use Rattle.std.proofs.Common.{◌≡◌, ℕ, ◌+◌, ◌<◌, length, Some, re
 use Rattle.std.proofs.lemmas.Bool.{lt-ltb, ltb-true}
 use Rattle.image_states.specs.Words.{LinearBody, LinearProgram, BodyName, body_of, sizes, body_size, offset_of, Placed, end_of, image_base, begin_of, entry_code, functions_of, funclets_of, routine_of, address_of, plan_of, sites_of, HasWholeImage, HasAddresses, ImagesArePrograms, probe_begin}
 use Rattle.image_states.proofs.Lemmas.{entry_sizes}
-use Rattle.image_states.proofs.Addresses.{InImage, check_stack_inside, place, here, label_rises, body_inside, not_first}
+use Rattle.image_states.proofs.Addresses.{InImage, check_stack_inside, place, here, label_rises, body_inside, not_first, no_funclet_inside}
 use Rattle.image_states.proofs.Slots.{laid_out}
 use Rattle.image_states.proofs.Entering.{entry_same}
 use Rattle.image_states.proofs.Framed.{frames_are_at, leaves_are_at', planned}
@@ -59,7 +59,13 @@ module _ (program : LinearProgram) (c : HasWholeImage program) (name : BodyName)
     labels = labels_are;
     rises = rises;
     inside = inside;
-    not_first = λ label k lt lt'. not_first program c name b is label k lt lt';
+    not_first = λ label k lt lt'. not_first program c name b is k lt' label lt;
+    no_funclet = λ a k from to lt. (let own = place program c name b is in
+        let size = ap (λ (d : LinearBody). body_size x.routine.layout d.code) own.body in
+        let end : image_base + end_of x ≡ address_of program name 0
+        + body_size x.routine.layout b.code = omega arith in
+        no_funclet_inside program c name b is k lt a (omega (arith, own.begin, from))
+        (omega (arith, end, to)));
   }
 
 pub images_are_programs : ImagesArePrograms

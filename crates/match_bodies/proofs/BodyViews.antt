@@ -3,18 +3,11 @@ use Rattle.std.proofs.Common.{◌≡◌, ℕ, ◌+◌, ◌*◌, ◌≤◌, Bool,
 use Rattle.std.specs.Prelude.{◌⊎◌, slice_get, slice_index}
 use Rattle.match_bodies.specs.Words.{STACK_START, STACK_END, Rsp, State, context_of, get, register, LinearBody, BodyName, FunctionBody, FuncletBody, body_of, Configuration, machine, context_below, locals_of, activations_below, temporaries_end, HasActivation, IsLinkedStack, IsFunctionLayout, IsLeafLayout, IsFuncletLayout, IsLayoutIf, IsLaidOut, IsFuncletPlan, slots_end, last_temporary, FrameHolds, seen_by_templates, counts_of, frame_at, state_of, Setting, RepresentsAt, Roomy, HasSlotsOf}
 use Rattle.linear_machine.specs.Frames as linear
+use Rattle.x64_templates.proofs.PrologueParts.{registers_are}
 use Rattle.match_bodies.proofs.Lemmas.{in_stack}
 use Rattle.match_bodies.proofs.SlotPlaces.{SlotsPlaced, function_placed, leaf_placed, funclet_placed, room_of, holds_of, local_is, temporary_is}
 
 -- a state is made of its registers
-pub registers_are : (rs : List ℕ) → length rs ≡ 16
-    → rs ≡ slice_index rs 0 ∷ slice_index rs 1 ∷ slice_index rs 2 ∷ slice_index rs 3
-    ∷ slice_index rs 4 ∷ slice_index rs 5 ∷ slice_index rs 6 ∷ slice_index rs 7 ∷ slice_index rs 8
-    ∷ slice_index rs 9 ∷ slice_index rs 10 ∷ slice_index rs 11 ∷ slice_index rs 12
-    ∷ slice_index rs 13 ∷ slice_index rs 14 ∷ slice_index rs 15 ∷ []
-registers_are (a ∷ b ∷ c ∷ d ∷ e ∷ f ∷ g ∷ h ∷ i ∷ j ∷ k ∷ l ∷ m ∷ n ∷ o ∷ p ∷ []) z = refl
-registers_are rs z = absurd (omega arith)
-
 pub is_machine : (s : State) → length s.cpu.registers ≡ 16
     → s ≡ machine (seen_by_templates s) s.cpu.rip s.cpu.flags
 is_machine s e = ap (λ rs. let u : State = record {

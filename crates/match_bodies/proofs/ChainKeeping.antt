@@ -1,6 +1,6 @@
 -- What a chain of steps keeps.
-use Rattle.std.proofs.Common.{◌≡◌, ℕ, zero, suc, ◌^◌, ◌<◌, false, List, [], ◌∷◌, length, refl, ap, subst, ◌∙◌, arith}
-use Rattle.match_bodies.specs.Words.{Protection, is_writable, may_write, State, Steps, Reaches, Enters, IsWellFormed, AllSmall, AreSmall}
+use Rattle.std.proofs.Common.{◌≡◌, ℕ, zero, suc, ◌^◌, ◌<◌, false, List, [], ◌∷◌, length, refl, ap, subst, ◌∙◌, arith, inl, inr}
+use Rattle.match_bodies.specs.Words.{Protection, is_writable, may_write, State, Steps, Reaches, RunsInside, ReachesInside, Enters, IsWellFormed, AllSmall, AreSmall}
 
 -- protections, and bytes that may not be written; and registers are as many, and small
 pub record Keeps (s u : State) : Type 0 where
@@ -35,9 +35,19 @@ reaches_keeps zero s u r = keeps_nothing s u r
 reaches_keeps (suc n) s u r = keeps_then s r.0 u (step_keeps s r.0 r.1.steps)
     (reaches_keeps n r.0 u r.2)
 
-pub enters_keeps : (n : ℕ) (s u : State) → Enters n s u → Keeps s u
-enters_keeps zero s u r = keeps_nothing s u r
-enters_keeps (suc n) s u r = keeps_then s r.0 u (step_keeps s r.0 r.1) (reaches_keeps n r.0 u r.2)
+-- inside a prologue too
+pub inside_steps : (from to : ℕ) (s u : State) → RunsInside from to s u → Steps s u
+inside_steps from to s u r = elim r [ inl x ↦ x.steps | inr x ↦ x.0 ]
+
+inside_keeps : (from to n : ℕ) (s u : State) → ReachesInside from to n s u → Keeps s u
+inside_keeps from to zero s u r = keeps_nothing s u r
+inside_keeps from to (suc n) s u r = keeps_then s r.0 u
+    (step_keeps s r.0 (inside_steps from to s r.0 r.1)) (inside_keeps from to n r.0 u r.2)
+
+pub enters_keeps : (from to n : ℕ) (s u : State) → Enters from to n s u → Keeps s u
+enters_keeps from to zero s u r = keeps_nothing s u r
+enters_keeps from to (suc n) s u r = keeps_then s r.0 u (step_keeps s r.0 r.1)
+    (inside_keeps from to n r.0 u r.2)
 
 -- ---- registers
 

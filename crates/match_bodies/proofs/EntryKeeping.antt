@@ -119,14 +119,14 @@ module _ (t : Functions) (fs : List Funclet) (program : LinearProgram) (p : Imag
 
     pub entry_ran : (n : ℕ) (e w : State) (a c : List Instr) (extra : ℕ)
         → sites.arguments_code program p name ≡ a ++ c
-        → n ≡ making_steps (p.leaf name) frame + length a → StepsTo n e w
+        → n ≡ making_steps (p.leaf name) (sites.body_plan p q name) + length a → StepsTo n e w
         → e.cpu.rip ≡ begin_of p q name → register e.cpu Rsp ≡ top
         → Beneath t e nothing_owed top from back others list → AllSmall others
         → HasProgram t fs program p q e.memory → frame + 8 ≤ LARGEST_FRAME → LARGEST_FRAME ≤ top
         → from ≡ top + extra
         → AllPlain slots frame extra a → EntryRan n e w a
     entry_ran n e w a c extra parts count run here at_top beneath small has most low up plain =
-        let making = making_steps (p.leaf name) frame in
+        let making = making_steps (p.leaf name) (sites.body_plan p q name) in
         let h = steps_split making (length a) e w (subst (λ k. StepsTo k e w) count run) in
         let u = h.0 in
         let m = made_by (setting_of t fs program p q image) name b is some top from back others list

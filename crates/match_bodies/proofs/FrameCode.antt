@@ -1,17 +1,16 @@
 -- The code that makes a frame: by its size, and as the prologue of its plan.
 use Rattle.std.proofs.Common.{◌≡◌, ℕ, ◌++◌, ◌+◌, ◌<◌, ◌≤◌, ◌==◌, Bool, true, false, not, List, [], ◌∷◌, length, refl, ap, ◌∙◌, arith}
-use Rattle.std.specs.Prelude.{nat_le}
+use Rattle.std.specs.Prelude.{◌&&◌, nat_le, if◌then◌else◌}
 use Rattle.std.specs.List.{flat_map}
 use Rattle.std.proofs.lemmas.Bool.{eqb-true, ne_eqb, le-leb, lt-leb}
-use Rattle.match_bodies.specs.Words.{Instr, Layout, chosen, size, sizes, enter_code, enter_large, frame_code}
+use Rattle.match_bodies.specs.Words.{Instr, size, sizes, IsNear, frame_code, Layout, chosen}
 use Rattle.std.proofs.lemmas.List.{append-nil}
 use Rattle.eh_tables.specs.declared.code.UnwindOperation.{UnwindOperation}
-use Rattle.eh_tables.specs.declared.code.UnwindOperation.TheVariants.{Allocate}
 use Rattle.x64_instr.specs.Registers.{register}
 use Rattle.x64_instr.specs.declared.instruction.Instr.TheVariants as instrs
 use Rattle.template_code.specs.Frames.{frame_plan, plan_of_layout}
 use Rattle.template_code.specs.Jumps.{distance}
-use Rattle.frame_rules.specs.Bytes.{spell, prologue_code}
+use Rattle.frame_rules.specs.Bytes.{prologue_code, spell}
 use Rattle.frame_rules.specs.Codes.{are_allowed, depth, pushed}
 use Rattle.frame_rules.specs.Plan.{FramePlan, Saved, allocation_then, allocating, epilogue, frame_then, instructions_of, load_of, loads_then, frame_size, opening_then, operations_of, pops_then, saves_then, spelled_by, steps_of, turned}
 use Rattle.frame_rules.specs.Prologue.{bytes, items}
@@ -19,10 +18,12 @@ use Rattle.frame_rules.proofs.Frames.{bytes-append}
 use Rattle.frame_rules.proofs.Sizes.{frame_has_its_size}
 use Rattle.match_stack.specs.Stack.{AreAbove}
 use Rattle.match_bodies.specs.CodeSites.{epilogue_through}
+use Rattle.x64_templates.specs.Prologues.{AreProbed, codes_turns, none_stores, prologue_turns}
+use Rattle.x64_templates.proofs.PrologueParts.{bytes_sizes}
 use Rattle.match_bodies.specs.Layouts.{AreSavedAbove, saved_count}
 use Rattle.match_bodies.proofs.Lemmas.{sizes_append}
 
--- an allocation alone
+-- the prologue of a plan that saves nothing is the allocation
 made_code : (n probe : ℕ) → 0 < n
     → prologue_code (frame_plan n probe) ≡ allocating probe n (nat_le n 4096)
 made_code n probe some =
@@ -31,29 +32,16 @@ made_code n probe some =
     (ne_eqb n 0 (λ z. (let e : n ≡ 0 = z in absurd (omega arith))))
     ∙ append-nil (allocating probe n (nat_le n 4096))
 
--- of at most a page
+-- one that makes a frame of at most a page begins with it
 pub made_small : (size at check : ℕ) (leaf : Bool) → leaf ≡ false → 0 < size → size ≤ 4096
-    → frame_code size at check leaf ≡ enter_code size
+    → frame_code size at check leaf ≡ allocating 0 size true
 made_small size at check leaf e some small = ap (frame_code size at check) e
     ∙ made_code size (distance (at + 10) check) some
     ∙ ap (allocating (distance (at + 10) check) size) (le-leb size 4096 small)
 
--- of more
-pub made_large : (size at check : ℕ) (leaf : Bool) → leaf ≡ false → 4096 < size
-    → frame_code size at check leaf ≡ enter_large size at check
-made_large size at check leaf e large = ap (frame_code size at check) e
-    ∙ made_code size (distance (at + 10) check) (omega arith)
-    ∙ ap (allocating (distance (at + 10) check) size) (lt-leb size 4096 large)
-
 -- ---- the prologue of a plan
 
--- the sizes of fetched instructions
-pub bytes_sizes : (is : List Instr) → bytes (spelled_by spell is) ≡ sizes is
-unfolding size
-bytes_sizes [] = refl
-bytes_sizes (i ∷ is) = ap (λ (n : ℕ). length (chosen i) + n) (bytes_sizes is)
-
--- and of the steps of some codes
+-- the sizes of the steps of some codes
 pub steps_sizes : (p : FramePlan) (at : ℕ) (xs : List UnwindOperation)
     → bytes (items (steps_of spell p at xs)) ≡ sizes (flat_map (instructions_of p) xs)
 steps_sizes p at [] = refl
@@ -68,18 +56,6 @@ steps_sizes p at (x ∷ xs) =
       sizes_append is (flat_map (instructions_of p) xs),
     )
 
--- where its call of `__chkstk` ends, the plan says how far that is
-abbrev pub IsProbed : FramePlan → ℕ → UnwindOperation → Type 0
-IsProbed p away (Allocate n) = nat_le n 4096 ≡ false → p.probe ≡ away
-IsProbed p away x = Unit {0}
-
--- of these codes, from so far after a function's first byte on
-abbrev pub AreProbed : FramePlan → (begin check at : ℕ) → List UnwindOperation → Type 0
-AreProbed p begin check at [] = Unit {0}
-AreProbed p begin check at (x ∷ xs) =
-    IsProbed p (distance (begin + at + 10) check) x
-    × AreProbed p begin check (at + bytes (spelled_by spell (instructions_of p x))) xs
-
 allowed_by : (n : ℕ) (some : Bool) → are_allowed 0 (allocation_then some n []) ≡ true
 allowed_by n true = refl
 allowed_by n false = refl
@@ -89,18 +65,41 @@ pub plan_allowed : (n probe : ℕ)
     → are_allowed 0 (operations_of (frame_plan n probe)) ≡ true
 plan_allowed n probe = allowed_by n (not (n == 0))
 
-pub plan_probed : (n begin check : ℕ)
-    → AreProbed (frame_plan n (distance (begin + 10) check)) begin check 0
+-- its call of `__chkstk` ends ten bytes from the begin
+pub plan_probed : (n begin check : ℕ) → IsNear (begin + 10) check
+    → AreProbed (frame_plan n (distance (begin + 10) check)) check begin
     (turned [] (operations_of (frame_plan n (distance (begin + 10) check))))
-plan_probed n begin check = by (not (n == 0))
+plan_probed n begin check near = by (not (n == 0))
   where
-    by : (some : Bool) → AreProbed (frame_plan n (distance (begin + 10) check)) begin check 0
+    by : (some : Bool) → AreProbed (frame_plan n (distance (begin + 10) check)) check begin
         (turned [] (allocation_then some n []))
-    by true = (
-      λ large. ap (λ a. distance (a + 10) check) (let z : begin ≡ begin + 0 = omega arith in z),
-      tt,
-    )
+    by true = (λ large. (refl, near), tt)
     by false = tt
+
+-- it is run in one turn where it allocates at most a page, and in at most eight
+pub plan_turns : (n probe : ℕ) → 0 < n → n ≤ 4096 → prologue_turns (frame_plan n probe) ≡ 1
+plan_turns n probe some small =
+    ap (λ none. codes_turns (turned [] (allocation_then (not none) n [])))
+    (ne_eqb n 0 (λ z. (let e : n ≡ 0 = z in absurd (omega arith))))
+    ∙ ap (λ few. let k : ℕ = (if few then 1 else 8) + 0 in k) (le-leb n 4096 small)
+
+-- and stores nothing then
+pub plan_unstored : (n probe : ℕ) → n ≤ 4096
+    → none_stores (operations_of (frame_plan n probe)) ≡ true
+plan_unstored n probe small = by (not (n == 0))
+  where
+    by : (some : Bool) → none_stores (allocation_then some n []) ≡ true
+    by true = ap (λ few. not (not few) && true) (le-leb n 4096 small)
+    by false = refl
+
+pub few_turns : (n probe : ℕ) → prologue_turns (frame_plan n probe) ≤ 8
+few_turns n probe = by (not (n == 0)) (nat_le n 4096) refl
+  where
+    by : (some few : Bool) → nat_le n 4096 ≡ few
+        → codes_turns (turned [] (allocation_then some n [])) ≤ 8
+    by true true e = omega (arith, ap (λ x. let k : ℕ = if x then 1 else 8 in k) e)
+    by true false e = omega (arith, ap (λ x. let k : ℕ = if x then 1 else 8 in k) e)
+    by false few e = omega arith
 
 -- ---- its epilogue
 

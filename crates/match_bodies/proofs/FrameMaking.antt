@@ -1,20 +1,19 @@
 -- From a routine's first byte its frame is made, and the shadow is kept.
-use Rattle.std.proofs.Common.{◌≡◌, ℕ, ◌+◌, ◌^◌, ◌<◌, ◌≤◌, Bool, true, false, not, List, [], length, Some, sym, ap, subst, ◌∙◌, arith}
-use Rattle.std.specs.Prelude.{nat_le, if◌then◌else◌}
-use Rattle.std.proofs.lemmas.Bool.{ne_eqb}
+use Rattle.std.proofs.Common.{◌≡◌, ℕ, ◌+◌, ◌^◌, ◌<◌, ◌≤◌, Bool, true, false, List, length, Some, sym, ap, subst, arith}
 use Rattle.match_bodies.specs.Words.{Rsp, context_of, State, register, AllSmall, LinearBody, BodyName, body_of, sizes, StackItem, AllKeep, begin_of, making_size, frame_code, Owed, nothing_owed, owed_of, owed_by, LARGEST_FRAME, Setting}
-use Rattle.frame_rules.specs.Plan.{allocation_then, operations_of, turned}
+use Rattle.frame_rules.specs.Plan.{FramePlan}
+use Rattle.x64_templates.specs.Prologues.{prologue_turns}
 use Rattle.match_bodies.specs.CodeSites.{body_plan}
 use Rattle.match_bodies.specs.Setting.{HasProgram}
 use Rattle.match_bodies.proofs.StackTop.{leaf_layout}
-use Rattle.match_bodies.proofs.BodyFrames.{framed_some, owed_frame}
+use Rattle.match_bodies.proofs.BodyFrames.{owed_frame}
 use Rattle.match_bodies.proofs.RoutineWalks.{StepsTo, Beneath}
-use Rattle.match_bodies.proofs.PlannedPrologues.{codes_turns, prologue_made}
+use Rattle.match_bodies.proofs.PlannedPrologues.{prologue_made}
 
 -- so many instructions make a frame, those of `__chkstk` among them
-abbrev pub making_steps : Bool → ℕ → ℕ
-making_steps true size = 0
-making_steps false size = if nat_le size 4096 then 1 else 8
+abbrev pub making_steps : Bool → FramePlan → ℕ
+making_steps true f = 0
+making_steps false f = prologue_turns f
 
 module _ (setting : Setting) where
   open setting use {functions as t, funclets as fs, program, plan as p, sites as q, image}
@@ -26,6 +25,9 @@ module _ (setting : Setting) where
 
     abbrev frame : ℕ
     frame = (p.layout name).frame
+
+    abbrev framing : FramePlan
+    framing = body_plan p q name
 
     abbrev owed : Owed
     owed = owed_of p name
@@ -62,24 +64,18 @@ module _ (setting : Setting) where
       framed_made : (small : AllSmall others) (e u : State) → e.cpu.rip ≡ begin
           → Beneath t e nothing_owed top from back others list → HasProgram setting e.memory
           → frame ≤ top → frame + 8 ≤ LARGEST_FRAME → p.leaf name ≡ false
-          → StepsTo (making_steps false frame) e u → FrameMade (making_steps false frame) e u
+          → StepsTo (prologue_turns framing) e u → FrameMade (prologue_turns framing) e u
       framed_made small e u at_begin beneath has room most framed r =
           let high = beneath.above.high in
           let low : top < 2 ^ 63 = omega arith in
-          let turns : codes_turns (turned [] (operations_of (body_plan p q name)))
-          ≡ making_steps false frame =
-          ap (λ none. codes_turns (turned [] (allocation_then (not none) frame [])))
-          (ne_eqb frame 0 (λ z. (let e' : frame ≡ 0 = z in
-          let some' = framed_some setting name b is framed in absurd (omega arith))))
-          ∙ (let z : making_steps false frame + 0 ≡ making_steps false frame = omega arith in z) in
           let m = prologue_made setting name b is some top from back others list framed most small
-          low e u at_begin beneath has room (subst (λ n. StepsTo n e u) (sym turns) r) in
+          low e u at_begin beneath has room r in
           let below = m.beneath in
           let whole = owed_frame setting name b is u.memory (context_of u.cpu) below.size back
           others below.owed in
           let at = below.at in
           record {
-            keeps = subst (λ n. AllKeep t fs n e) turns m.keeps;
+            keeps = m.keeps;
             beneath = below;
             has = m.has;
             rip = m.rip;
@@ -91,7 +87,7 @@ module _ (setting : Setting) where
       pub made_by : AllSmall others → (e u : State) → e.cpu.rip ≡ begin → register e.cpu Rsp ≡ top
           → Beneath t e nothing_owed top from back others list → HasProgram setting e.memory
           → frame ≤ top → frame + 8 ≤ LARGEST_FRAME → (leaf : Bool) → p.leaf name ≡ leaf
-          → StepsTo (making_steps leaf frame) e u → FrameMade (making_steps leaf frame) e u
+          → StepsTo (making_steps leaf framing) e u → FrameMade (making_steps leaf framing) e u
       made_by small e u at_begin at_top beneath has room most true leaf r =
           leaf_made e u at_begin at_top beneath has leaf r
       made_by small e u at_begin at_top beneath has room most false framed r =

@@ -28,21 +28,14 @@ use Rattle.match_bodies.specs.ProgramImages.{IsPlanned}
 use Rattle.match_bodies.specs.Callers.{owed_after}
 use Rattle.match_bodies.specs.Setting.{HasProgram}
 use Rattle.match_bodies.proofs.Lemmas.{call_size, code_split, keep_first, short, sizes_append}
-use Rattle.match_bodies.proofs.FrameCode.{AreProbed, bytes_sizes, plan_allowed, plan_probed, steps_sizes}
+use Rattle.x64_templates.specs.Prologues.{AreProbed, code_turns, codes_turns, prologue_turns}
+use Rattle.x64_templates.proofs.PrologueParts.{bytes_sizes}
+use Rattle.match_bodies.proofs.FrameCode.{plan_allowed, plan_probed, steps_sizes}
 use Rattle.match_bodies.proofs.SilentTurns.{program_kept}
 use Rattle.match_bodies.proofs.RoutineWalks.{StepsTo, steps_split, keeps_split, Beneath}
 use Rattle.match_bodies.proofs.ReturnAddresses.{argument_found}
 use Rattle.match_bodies.proofs.PrologueSteps.{of_codes, falling, made}
 use Rattle.match_bodies.proofs.ProbedAllocation.{IsLargeAt, falling_size, large_taken, move_size}
-
--- so many instructions are a code's, those of `__chkstk` among them, and those of all
-abbrev pub code_turns : UnwindOperation → ℕ
-code_turns (Allocate n) = if nat_le n 4096 then 1 else 8
-code_turns x = 1
-
-abbrev pub codes_turns : List UnwindOperation → ℕ
-codes_turns [] = 0
-codes_turns (x ∷ xs) = code_turns x + codes_turns xs
 
 -- codes that have been run end at this address or before it, so also before another
 later : (at d : ℕ) (done : List UnwindCode) → at ≤ d → AtMost at done → AtMost d done
@@ -84,6 +77,29 @@ module _ (setting : Setting) where
         (argument_found setting name b is m has some []
         (arguments_code program p name) refl)
 
+    near_probe : IsNear (begin + 10) q.check_stack
+    near_probe =
+        let a = image.addresses name b is in
+        let a0 = a.first in
+        let a1 = a.inside.low in
+        let a2 = a.inside.high in
+        let c1 = image.check_stack.low in
+        let c2 = image.check_stack.high in
+        (omega arith, omega arith, omega arith, omega arith)
+
+    -- the plan of its frame keeps the rules, and its prologue probes what it allocates
+    pub body_planned : frame + 8 ≤ LARGEST_FRAME → IsPlan (body_plan p q name)
+    body_planned most = record {
+      size = omega arith;
+      distance = omega arith;
+      probe = short (begin + 10) q.check_stack near_probe;
+      allowed = plan_allowed frame (body_plan p q name).probe;
+    }
+
+    pub body_probed : AreProbed (body_plan p q name) q.check_stack begin
+        (turned [] (operations_of (body_plan p q name)))
+    body_probed = plan_probed frame begin q.check_stack near_probe
+
     module _ (top from back : ℕ) (others : List ℕ) (list : List StackItem)
         (framed : p.leaf name ≡ false) (most : frame + 8 ≤ LARGEST_FRAME)
         (small : AllSmall others) (high : top < 2 ^ 63) where
@@ -107,35 +123,8 @@ module _ (setting : Setting) where
       making_is : making_size p q name ≡ sizes (prologue_code framing)
       making_is = ap (λ l. sizes (frame_code frame begin q.check_stack l)) framed
 
-      near_check : (at : ℕ) → at ≤ making_size p q name → IsNear (begin + at) q.check_stack
-      near_check at le =
-          let a = image.addresses name b is in
-          let a0 = a.first in
-          let a1 = a.inside.low in
-          let a2 = a.inside.high in
-          let c1 = image.check_stack.low in
-          let c2 = image.check_stack.high in
-          let whole = sizes_append (frame_code frame begin q.check_stack (p.leaf name))
-          (arguments_code program p name) in
-          (omega arith, omega arith, omega arith, omega arith)
-
       is_plan : IsPlan framing
-      is_plan = record {
-        size = omega arith;
-        distance = omega arith;
-        probe = short (begin + 10) q.check_stack near_probe;
-        allowed = plan_allowed frame framing.probe;
-      }
-        where
-          near_probe : IsNear (begin + 10) q.check_stack
-          near_probe =
-              let a = image.addresses name b is in
-              let a0 = a.first in
-              let a1 = a.inside.low in
-              let a2 = a.inside.high in
-              let c1 = image.check_stack.low in
-              let c2 = image.check_stack.high in
-              (omega arith, omega arith, omega arith, omega arith)
+      is_plan = body_planned most
 
       prologue_is : info.prologue_size ≡ making_size p q name
       prologue_is = planned.prologue_size
@@ -159,7 +148,7 @@ module _ (setting : Setting) where
         ended : AtMost at done
         codes : info.codes ≡ codes_onto done (steps_of spell framing at xs)
         good : Good f top (operations (codes_onto done (steps_of spell framing at xs)))
-        probed : AreProbed framing begin q.check_stack at xs
+        probed : AreProbed framing q.check_stack (begin + at) xs
         whole : at + sizes (flat_map (instructions_of framing) xs) ≡ making_size p q name
         there : (m : Memory) → HasProgram setting m
             → HasCode m (begin + at) (flat_map (instructions_of framing) xs)
@@ -193,7 +182,10 @@ module _ (setting : Setting) where
         ended = (let z : at + spelled x ≤ at + spelled x = omega arith in z);
         codes = l.codes;
         good = l.good;
-        probed = l.probed.1;
+        probed = subst (λ a. AreProbed framing q.check_stack a xs)
+            (let same = bytes_sizes (instructions_of framing x) in
+            let z : begin + at + sizes (instructions_of framing x)
+            ≡ begin + (at + spelled x) = omega arith in z) l.probed.1;
         whole = omega (
           arith,
           l.whole,
@@ -320,7 +312,7 @@ module _ (setting : Setting) where
           ≡ instrs.Move W32 (places.Register Rax) (operands.Immediate k)
           ∷ call (begin + at + 10) q.check_stack ∷ falling ∷ [] =
           ap (allocating framing.probe k) large
-          ∙ ap (λ (d : ℕ). allocating d k false) (l.probed.0 large) in
+          ∙ ap (λ (d : ℕ). allocating d k false) (l.probed.0 large).0 in
           let size13 : spelled x ≡ 13 = omega (
             arith,
             bytes_sizes (instructions_of framing x),
@@ -329,22 +321,11 @@ module _ (setting : Setting) where
             call_size (begin + at + 10) q.check_stack,
             falling_size,
           ) in
-          let whole = l.whole in
-          let fits : at + 10 ≤ making_size p q name = omega (
-            arith,
-            l.whole,
-            size13,
-            bytes_sizes (instructions_of framing x),
-            sizes_append (instructions_of framing x) (flat_map (instructions_of framing) xs),
-          ) in
           let found : (m : Memory) (d : ℕ) → d < 13
           → FindsOwed t m (begin + at + d) (of_codes f offset ops) =
           λ m d lt. (let z : begin + (at + d) ≡ begin + at + d = omega arith in
           subst (λ a. FindsOwed t m a (of_codes f offset ops)) z
           (within_found x xs done at l m d (omega arith))) in
-          let near : IsNear (begin + at + 10) q.check_stack =
-          (let z : begin + (at + 10) ≡ begin + at + 10 = omega arith in
-          subst (λ a. IsNear a q.check_stack) z (near_check (at + 10) fits)) in
           let to : begin + (at + spelled x) ≡ begin + at + 13 = omega arith in
           let is_large : IsLargeAt setting f offset top from back others list is_plan.distance
           small high k (begin + at) ops = record {
@@ -353,7 +334,7 @@ module _ (setting : Setting) where
             room = g.deep;
             order = g.ordered;
             allowed = g.allowed;
-            near = near;
+            near = (l.probed.0 large).1;
             there = λ m has. subst (HasCode m (begin + at)) three
                 (next_there x xs done at l m has).0;
             first_found = first_found x xs done at l;
@@ -434,7 +415,9 @@ module _ (setting : Setting) where
               allowed = is_plan.allowed;
               deep = omega arith;
             });
-            probed = plan_probed frame begin q.check_stack;
+            probed = subst (λ a. AreProbed framing q.check_stack a
+                (turned [] (operations_of framing))) (let z : begin ≡ begin + 0 = omega arith in z)
+                body_probed;
             whole = (let z : 0 + sizes (prologue_code framing) ≡ making_size p q name =
                 omega (arith, making_is) in z);
             there = λ m has. (let z : begin ≡ begin + 0 = omega arith in
@@ -445,14 +428,14 @@ module _ (setting : Setting) where
 
       -- the frame is there
       pub record PrologueMade (e u : State) : Type 0 where
-        pub keeps : AllKeep t fs (codes_turns (turned [] (operations_of framing))) e
+        pub keeps : AllKeep t fs (prologue_turns framing) e
         pub beneath : Beneath t u owed top from back others list
         pub has : HasProgram setting u.memory
         pub rip : u.cpu.rip ≡ begin + making_size p q name
 
       pub prologue_made : (e u : State) → e.cpu.rip ≡ begin
           → Beneath t e nothing_owed top from back others list → HasProgram setting e.memory
-          → frame ≤ top → StepsTo (codes_turns (turned [] (operations_of framing))) e u
+          → frame ≤ top → StepsTo (prologue_turns framing) e u
           → PrologueMade e u
       prologue_made e u at_begin beneath has room r =
           let o = beneath.owed in

@@ -35,7 +35,7 @@ does_no_call f offset (MachineFrame k) (instrs.Call to) e = absurd (false≢true
 does_no_call f offset op i e = refl
 
 -- small numbers are small at each place
-small_at : (xs : List ℕ) → AllSmall xs → (k : ℕ) → slice_index xs k < 2 ^ 64
+pub small_at : (xs : List ℕ) → AllSmall xs → (k : ℕ) → slice_index xs k < 2 ^ 64
 small_at [] h k = omega arith
 small_at (x ∷ xs) h zero = h 0 (omega arith)
 small_at (x ∷ xs) h (suc k) = small_at xs (λ j lt. h (suc j) (omega arith)) k

@@ -2,9 +2,10 @@
 use Rattle.std.proofs.Common.{◌≡◌, ℕ, zero, suc, ◌+◌, ◌%◌, ◌^◌, ◌<◌, ◌≤◌, Bool, true, false, List, [], ◌∷◌, ◌++◌, length, Option, Some, None, Ok, refl, sym, ap, subst, ◌∙◌, arith, inl, inr}
 use Rattle.std.specs.Prelude.{◌⊎◌, slice_index}
 use Rattle.std.proofs.lemmas.Bool.{cases_lt}
-use Rattle.match_bodies.specs.Words.{Protection, is_writable, Memory, executable, may_read, may_write, first_refused, number_at, with_bytes, access, Reg, Rsp, Instr, leading, chosen, is_encodable, Context, context_of, State, register, with_rip, effect, rsp, Functions, word, readable, Funclet, LinearProgram, spelled, size, sizes, keep_register, Steps, Reaches, Enters, HasCode, StackItem, IsStack, Owned, context_below, state, ImagePlan, is_call, GivesCallers, WalkGives, AllKeep, Sites, HasProgram, caller_left, HasCaller, FindsOwed, Owed, IsOwed, Agree, calls}
+use Rattle.match_bodies.specs.Words.{Protection, is_writable, Memory, executable, may_read, may_write, first_refused, number_at, with_bytes, access, Reg, Rsp, Instr, leading, chosen, is_encodable, Context, context_of, State, register, with_rip, effect, rsp, Functions, word, readable, Funclet, LinearProgram, spelled, size, sizes, keep_register, Steps, Reaches, ReachesInside, Enters, HasCode, StackItem, IsStack, Owned, context_below, state, ImagePlan, is_call, GivesCallers, WalkGives, AllKeep, Sites, HasProgram, caller_left, HasCaller, FindsOwed, Owed, IsOwed, Agree, calls}
 use Rattle.match_bodies.proofs.Lemmas.{longest, bytes_kept, outside_page, bytes_split, spells, reads, kept_by_other_stores, nothing_below_is_owned, past_frame, straight, keep_first}
 use Rattle.x64_machine.specs.Effect.{step}
+use Rattle.match_bodies.proofs.ChainKeeping.{inside_steps}
 use Rattle.match_bodies.proofs.StackWalks.{callers, on_stack}
 use Rattle.match_bodies.proofs.InstructionEffects.{others_of, is_idle, idle_leaves, idle_calls_nothing, store_leaves}
 use Rattle.match_stack.specs.Stack.{AreAbove, IsSavedAt}
@@ -60,9 +61,14 @@ pub reaches_steps : (n : ℕ) (s w : State) → Reaches n s w → StepsTo n s w
 reaches_steps zero s w r = r
 reaches_steps (suc n) s w r = (r.0, r.1.steps, reaches_steps n r.0 w r.2)
 
-pub enters_steps : (n : ℕ) (s w : State) → Enters n s w → StepsTo n s w
-enters_steps zero s w r = r
-enters_steps (suc n) s w r = (r.0, r.1, reaches_steps n r.0 w r.2)
+steps_inside : (from to n : ℕ) (s w : State) → ReachesInside from to n s w → StepsTo n s w
+steps_inside from to zero s w r = r
+steps_inside from to (suc n) s w r =
+    (r.0, inside_steps from to s r.0 r.1, steps_inside from to n r.0 w r.2)
+
+pub enters_steps : (from to n : ℕ) (s w : State) → Enters from to n s w → StepsTo n s w
+enters_steps from to zero s w r = r
+enters_steps from to (suc n) s w r = (r.0, r.1, steps_inside from to n r.0 w r.2)
 
 -- where the first of them lead
 pub steps_split : (m n : ℕ) (s w : State) → StepsTo (m + n) s w

@@ -4,14 +4,17 @@ use Rattle.std.proofs.Common.{◌≡◌, ◌≢◌, ℕ, zero, suc, ◌+◌, ◌
 use Rattle.std.specs.Prelude.{slice_get}
 use Rattle.std.proofs.lemmas.Bool.{ne_eqb}
 use Rattle.std.proofs.lemmas.Option.{slice_get_cases}
-use Rattle.match_bodies.specs.Words.{W64, Event, Service, address_of, Protection, is_readable, is_writable, Memory, executable, may_write, Rsp, Instr, leading, chosen, State, Functions, distance, Funclet, arrivals, LinearProgram, LinearFunclet, FuncletBody, body_of, spelled, thunk, enter_code, check_stack, code_from, Steps, Reaches, Enters, HasCode, HasThunk, ImagePlan, AllKeep, Comes, Sites, begin_of, frame_code, arguments_code, entry_code, links_of, code_of, service_of, HasService, HasProgram, IsProgramImage, funclet_body, takes_frame, Runs, IsLive}
+use Rattle.match_bodies.specs.Words.{W64, Event, Service, address_of, Protection, is_readable, is_writable, Memory, executable, may_write, Rsp, Instr, leading, chosen, State, Functions, distance, Funclet, arrivals, LinearProgram, LinearFunclet, FuncletBody, LinearBody, BodyName, body_of, spelled, thunk, check_stack, code_from, Steps, Reaches, RunsInside, ReachesInside, Enters, HasCode, HasThunk, ImagePlan, AllKeep, Comes, Sites, begin_of, making_size, frame_code, arguments_code, entry_code, links_of, code_of, service_of, HasService, HasProgram, IsProgramImage, funclet_body, takes_frame, Runs, IsLive}
 use Rattle.host_layout.specs.declared.service.Service.TheVariants as services
 use Rattle.x64_instr.specs.declared.operand.RegisterOrMemory.TheVariants as places
 use Rattle.x64_instr.specs.declared.operand.Operand.TheVariants as operands
 use Rattle.x64_instr.specs.declared.instruction.Operation.TheVariants as operations
 use Rattle.x64_instr.specs.declared.instruction.Instr.TheVariants as instrs
+use Rattle.frame_rules.specs.Plan.{allocating}
+use Rattle.x64_templates.proofs.PlacedCode.{reaches_enters}
+use Rattle.match_bodies.proofs.ChainKeeping.{inside_steps}
 use Rattle.match_bodies.proofs.FrameCode.{made_small}
-use Rattle.match_bodies.proofs.Lemmas.{longest, bytes_kept, bytes_split, spells, reads, same_number, code_split, near}
+use Rattle.match_bodies.proofs.Lemmas.{longest, bytes_kept, bytes_split, spells, reads, same_number, code_split, near, sizes_append}
 use Rattle.x64_machine.specs.declared.cpu.Cpu.{Cpu}
 use Rattle.host_model.specs.Dispatch.{no_flags}
 use Rattle.match_runs.proofs.Turns.{comes_by_step, comes_then}
@@ -85,7 +88,7 @@ module _ (t : Functions) (fs : List Funclet) (program : LinearProgram) (p : Imag
         absurd cc
 
     entered_by : (m : Memory) (at size : ℕ) (j : Instr) (n : ℕ) → size ≤ 4096
-        → HasCode m at (enter_code size) → leading (executable m 15 at) ≡ Some (j, n)
+        → HasCode m at (allocating 0 size true) → leading (executable m 15 at) ≡ Some (j, n)
         → takes_frame j ≡ false → ⊥
     unfolding Rattle.template_code.specs.Bytes.size
     entered_by m at size j n small code e quiet =
@@ -101,6 +104,11 @@ module _ (t : Functions) (fs : List Funclet) (program : LinearProgram) (p : Imag
         let r = reads s i (chosen i) (spells i (near size (omega arith))) (longest i) parts.0
         (record { low = l; high = omega arith }) in
         never_silent i j (length (chosen i)) n (sym r ∙ e) refl quiet
+
+    -- no funclet begins strictly between these addresses
+    abbrev pub NoneInside : (from to : ℕ) → Type 0
+    NoneInside from to = (a k : ℕ) → from < a → a < to → k < length program.funclets
+        → a ≢ p.funclet k
 
     module _ (image : IsProgramImage t fs program p q) where
       -- a funclet's first instruction makes its frame
@@ -139,44 +147,65 @@ module _ (t : Functions) (fs : List Funclet) (program : LinearProgram) (p : Imag
       silent_here s u c r has = image.funclets.none s.cpu.rip r.steps.rip_small
           (elsewhere s u r has) c
 
-      -- ---- turns
+      -- nor strictly between the two addresses inside a prologue
+      module _ (from to : ℕ) (none : NoneInside from to) where
+        silent_inside : (s u : State) (c : Cpu) → RunsInside from to s u
+            → HasProgram t fs program p q s.memory
+            → arrivals c (distance t.base s.cpu.rip) 1 fs ≡ []
+        silent_inside s u c r has = elim r [
+          | inl x ↦ silent_here s u c x has
+          | inr x ↦ image.funclets.none s.cpu.rip x.0.rip_small
+              (λ k lt. none s.cpu.rip k x.1 x.2 lt) c
+        ]
 
-      live_here : (s u : State) → Steps s u → IsLive s
-      live_here s u st = ne_eqb s.cpu.rip 0 st.live
+        -- ---- turns
 
-      from_step : (n : ℕ) (s u w : State) → Steps s u → Reaches n u w → AllKeep t fs (suc n) s
-          → HasProgram t fs program p q s.memory → Comes t fs (suc n) s
-          (arrivals w.cpu (distance t.base w.cpu.rip) 1 fs) w
-      from_step zero s u w st e keep has = subst
-          (λ (x : State). Comes t fs 1 s (arrivals x.cpu (distance t.base x.cpu.rip) 1 fs) x) e
-          (comes_by_step t fs s u (live_here s u st) st.steps (keep u st.steps).0)
-      from_step (suc n) s u w st r keep has =
-          let kept = program_kept s.memory u.memory (step_keeps s u st) has in
-          let one : Comes t fs 1 s [] u = subst (λ (es : List Event). Comes t fs 1 s es u)
-          (silent_here u r.0 u.cpu r.1 kept) (comes_by_step t fs s u (live_here s u st) st.steps
-          (keep u st.steps).0) in
-          let k : 1 + suc n ≡ suc (suc n) = omega arith in
-          subst (λ m. Comes t fs m s (arrivals w.cpu (distance t.base w.cpu.rip) 1 fs) w) k
-          (comes_then t fs 1 (suc n) s u w [] (arrivals w.cpu (distance t.base w.cpu.rip) 1 fs) one
-          (from_step n u r.0 w r.1.steps r.2 (keep u st.steps).1 kept))
+        live_here : (s u : State) → Steps s u → IsLive s
+        live_here s u st = ne_eqb s.cpu.rip 0 st.live
 
-      -- a run of at least one turn, each of which keeps the shadow, shows what its last state's RIP
-      -- arrives at
-      pub enters_comes : (n : ℕ) (s w : State) (events : List Event) → Enters (suc n) s w
-          → AllKeep t fs (suc n) s → HasProgram t fs program p q s.memory
-          → arrivals w.cpu (distance t.base w.cpu.rip) 1 fs ≡ events → Comes t fs (suc n) s events w
-      enters_comes n s w events r keep has e = subst (λ (es : List Event). Comes t fs (suc n) s es
-          w)
-          e (from_step n s r.0 w r.1 r.2 keep has)
+        from_step : (n : ℕ) (s u w : State) → Steps s u → ReachesInside from to n u w
+            → AllKeep t fs (suc n) s → HasProgram t fs program p q s.memory
+            → Comes t fs (suc n) s (arrivals w.cpu (distance t.base w.cpu.rip) 1 fs) w
+        from_step zero s u w st e keep has = subst
+            (λ (x : State). Comes t fs 1 s (arrivals x.cpu (distance t.base x.cpu.rip) 1 fs) x) e
+            (comes_by_step t fs s u (live_here s u st) st.steps (keep u st.steps).0)
+        from_step (suc n) s u w st r keep has =
+            let kept = program_kept s.memory u.memory (step_keeps s u st) has in
+            let one : Comes t fs 1 s [] u = subst (λ (es : List Event). Comes t fs 1 s es u)
+            (silent_inside u r.0 u.cpu r.1 kept)
+            (comes_by_step t fs s u (live_here s u st) st.steps (keep u st.steps).0) in
+            let k : 1 + suc n ≡ suc (suc n) = omega arith in
+            subst (λ m. Comes t fs m s (arrivals w.cpu (distance t.base w.cpu.rip) 1 fs) w) k
+            (comes_then t fs 1 (suc n) s u w [] (arrivals w.cpu (distance t.base w.cpu.rip) 1 fs)
+            one (from_step n u r.0 w (inside_steps from to u r.0 r.1) r.2 (keep u st.steps).1
+            kept))
 
+        -- a run of at least one turn, each of which keeps the shadow, shows what its last state's
+        -- RIP arrives at
+        pub enters_comes : (n : ℕ) (s w : State) (events : List Event)
+            → Enters from to (suc n) s w → AllKeep t fs (suc n) s
+            → HasProgram t fs program p q s.memory
+            → arrivals w.cpu (distance t.base w.cpu.rip) 1 fs ≡ events
+            → Comes t fs (suc n) s events w
+        enters_comes n s w events r keep has e = subst
+            (λ (es : List Event). Comes t fs (suc n) s es w) e
+            (from_step n s r.0 w r.1 r.2 keep has)
+
+        -- and nothing, where no funclet begins there
+        pub enters_silently : (n : ℕ) (s w : State) → Enters from to n s w → AllKeep t fs n s
+            → HasProgram t fs program p q s.memory
+            → arrivals w.cpu (distance t.base w.cpu.rip) 1 fs ≡ [] → Comes t fs n s [] w
+        enters_silently zero s w r keep has e = (refl, r)
+        enters_silently (suc n) s w r keep has e = enters_comes n s w [] r keep has e
+
+      -- the same of code without a prologue
       pub reaches_comes : (n : ℕ) (s w : State) (events : List Event) → Reaches (suc n) s w
           → AllKeep t fs (suc n) s → HasProgram t fs program p q s.memory
           → arrivals w.cpu (distance t.base w.cpu.rip) 1 fs ≡ events → Comes t fs (suc n) s events w
-      reaches_comes n s w events r keep has e = subst (λ (es : List Event). Comes t fs (suc n) s es
-          w)
-          e (from_step n s r.0 w r.1.steps r.2 keep has)
+      reaches_comes n s w events r keep has e =
+          enters_comes 0 0 (λ a k low high lt. absurd (omega arith)) n s w events
+          (reaches_enters 0 0 (suc n) s w r) keep has e
 
-      -- and nothing, where no funclet begins there
       pub reaches_silently : (n : ℕ) (s w : State) → Reaches n s w → AllKeep t fs n s
           → HasProgram t fs program p q s.memory → arrivals w.cpu (distance t.base w.cpu.rip) 1 fs ≡
           []
@@ -184,12 +213,14 @@ module _ (t : Functions) (fs : List Funclet) (program : LinearProgram) (p : Imag
       reaches_silently zero s w r keep has e = (refl, r)
       reaches_silently (suc n) s w r keep has e = reaches_comes n s w [] r keep has e
 
-      pub enters_silently : (n : ℕ) (s w : State) → Enters n s w → AllKeep t fs n s
-          → HasProgram t fs program p q s.memory → arrivals w.cpu (distance t.base w.cpu.rip) 1 fs ≡
-          []
-          → Comes t fs n s [] w
-      enters_silently zero s w r keep has e = (refl, r)
-      enters_silently (suc n) s w r keep has e = enters_comes n s w [] r keep has e
+      -- of the prologue of a body
+      pub none_inside : (name : BodyName) (b : LinearBody) → body_of program name ≡ Some b
+          → NoneInside (begin_of p q name) (begin_of p q name + making_size p q name)
+      none_inside name b is a k low high lt =
+          let h = image.addresses name b is in
+          let whole = sizes_append (frame_code (p.layout name).frame (begin_of p q name)
+          q.check_stack (p.leaf name)) (arguments_code program p name) in
+          h.no_funclet a k low (omega (arith, h.first, whole, high)) lt
 
     -- the code of the program is where a run comes to
     pub program_reaches : (n : ℕ) (s w : State) → Reaches n s w → HasProgram t fs program p q

@@ -118,6 +118,10 @@ module _ (t : Functions) (fs : List Funclet) (program : LinearProgram) (p : Imag
     pub inside : IsInImage (begin_of p q name) (p.address name 0 + body_size (p.layout name) b.code)
     pub not_first : (label k : ℕ) → label < length b.code → k < length program.funclets
         → p.address name label ≢ p.funclet k
+    -- past its first byte no funclet begins
+    pub no_funclet : (a k : ℕ) → begin_of p q name < a
+        → a < p.address name 0 + body_size (p.layout name) b.code → k < length program.funclets
+        → a ≢ p.funclet k
 
   -- ---- memory
 

@@ -41,10 +41,10 @@ pub use Rattle.x64_machine.specs.Effect.{State, register, with_rip, effect, Answ
 pub use Rattle.x64_machine.specs.declared.context.Context.{Context}
 pub use Rattle.template_code.specs.Bytes.{sizes, thunk, spelled}
 unfoldable pub use Rattle.template_code.specs.Bytes.{size}
-pub use Rattle.template_code.specs.Calls.{keep_register, enter_code, parameter_register, stack_parameter, parameter_code, parameters_code, passing_code, return_code, information_code, finally_arguments}
+pub use Rattle.template_code.specs.Calls.{keep_register, parameter_register, stack_parameter, parameter_code, parameters_code, passing_code, return_code, information_code, finally_arguments}
 pub use Rattle.template_code.specs.Jumps.{IsNear, call, test_code}
 pub use Rattle.template_code.specs.Operations.{before, above, work}
-pub use Rattle.template_code.specs.Probing.{check_stack, first_touch, enter_large}
+pub use Rattle.template_code.specs.Probing.{check_stack, first_touch}
 pub use Rattle.template_code.specs.Slots.{local_at, fetch_local, fetch, finish_code, compute_code, fetched, keep_local, keep, operands_code, temporary_at, put_back}
 pub use Rattle.template_code.specs.Template.{template, code_from, body_size, offset_of}
 unfoldable pub use Rattle.template_code.specs.Template.{template_size}
@@ -54,8 +54,8 @@ pub use Rattle.x64_templates.specs.Epilogues.{IsReturn}
 pub use Rattle.x64_templates.specs.Frames.{Agrees, InTemporaries, InLocals, IsBytes, HasBase, SlotsHaveRoom, MemoryKeepsBase, KeepsReserved, HoldsBody, Changes}
 pub use Rattle.x64_templates.specs.InstructionRuns.{InstructionDone}
 pub use Rattle.x64_templates.specs.Keeping.{Flows, StoresOnce, is_volatile}
-pub use Rattle.x64_templates.specs.Runs.{FrameHolds, Steps, HasCode, Reaches, Enters, ReachesBody, Roomy, Computed, Runs, FramePlace}
-pub use Rattle.x64_templates.specs.Straight.{machine, LocalRegisters, OtherRegisters, local_registers, other_registers, registers_of, MachineView, AreSmall, takes_frame}
+pub use Rattle.x64_templates.specs.Runs.{FrameHolds, Steps, HasCode, Reaches, Enters, RunsInside, ReachesInside, ReachesBody, Roomy, Computed, Runs, FramePlace}
+pub use Rattle.x64_templates.specs.Straight.{machine, MachineView, AreSmall, takes_frame, LocalRegisters, OtherRegisters, local_registers, other_registers, registers_of}
 pub use Rattle.x64_templates.specs.Thunks.{HasThunk}
 pub use Rattle.virtual_unwind.specs.CallerOf.{Functions, distance, CallerFrame}
 pub use Rattle.virtual_unwind.specs.Contexts.{get, rsp}

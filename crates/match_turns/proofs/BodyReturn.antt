@@ -1,13 +1,23 @@
 -- A body returns: RAX has the number of its slot, and RIP and RSP are those of its return address.
-use Rattle.std.proofs.Common.{◌≡◌, ℕ, ◌+◌, ◌^◌, ◌<◌, ◌≤◌, true, Option, Some, None, ◌∷◌, length, refl, sym, subst, ◌∙◌, arith, length-append}
+use Rattle.std.proofs.Common.{◌≡◌, ℕ, ◌+◌, ◌^◌, ◌<◌, ◌≤◌, ◌==◌, Bool, true, false, Option, Some, None, ◌∷◌, length, refl, sym, ap, subst, ◌∙◌, arith, length-append}
 use Rattle.std.specs.Prelude.{slice_get}
-use Rattle.match_turns.specs.Words.{kept_of, context_of, Rax, Rsp, State, register, Slot, Local, Temporary, IsSlot, Configuration, read, Layout, return_code, fetch, local_at, fetch_local, MachineView, machine, HasBack, moved, Returned, HaveRoom, IsWellFormed, AllKeep, counts_of, owed_of, Setting, RepresentsAt}
-use Rattle.frame_rules.specs.Plan.{epilogue}
-use Rattle.template_code.specs.Frames.{plan_of_layout}
+use Rattle.match_turns.specs.Words.{kept_of, context_of, Rax, Rsp, State, register, Slot, Local, Temporary, IsSlot, Configuration, read, Layout, return_code, fetch, local_at, fetch_local, MachineView, machine, HasBack, Returned, HaveRoom, IsWellFormed, AllKeep, counts_of, owed_of, Setting, RepresentsAt, moved}
+use Rattle.match_bodies.specs.Callers.{owed_by}
+use Rattle.match_bodies.specs.CodeSites.{body_plan}
+use Rattle.virtual_unwind.specs.Undone.{operations}
+use Rattle.frame_rules.specs.Bytes.{spell}
+use Rattle.frame_rules.specs.Frame.{HoldsFrame}
+use Rattle.frame_rules.specs.Plan.{FramePlan, IsPlan, epilogue, operations_of}
+use Rattle.frame_rules.specs.States.{registers}
+use Rattle.frame_rules.proofs.Planning.{codes_plan}
+use Rattle.template_code.specs.Frames.{frame_plan, plan_of_layout}
 use Rattle.x64_templates.specs.Runs.{Reaches}
 use Rattle.linear_code.specs.declared.instruction.Instruction.TheVariants as instructions
 use Rattle.match_turns.proofs.Lemmas.{body_owed, owed_return, number_small, fetch_fine, return_run, reaches_steps, may_read_written, word_is, reaches_keeps, stays_well_formed, IsCounted, sp_low, frame_top, room_here, holds_here, slots_here, v, frame, slots, same_state, template_here, has_slots, sp_is}
-use Rattle.match_bodies.proofs.FrameCode.{epilogue_count}
+use Rattle.match_bodies.proofs.FrameCode.{plan_allowed, epilogue_count}
+use Rattle.match_bodies.proofs.PrologueSteps.{of_codes, fits, holds, old as before}
+use Rattle.match_bodies.proofs.StackTop.{leaf_layout}
+use Rattle.match_bodies.proofs.RoutineWalks.{Beneath}
 use Rattle.match_bodies.proofs.BodyFrames.{ending_few}
 use Rattle.match_bodies.proofs.ReturnKeeping.{LeavesBody, fetch_plain, returns_leave}
 use Rattle.match_turns.proofs.ReturnAddressPlace.{top_of, begins_beneath}
@@ -32,7 +42,7 @@ returns_within y x n le =
     (omega arith, omega arith)
 
 module _ (setting : Setting) (roomy : HaveRoom setting.program) where
-  open setting use {functions as t, funclets as fs, plan as p}
+  open setting use {functions as t, funclets as fs, program, plan as p, sites as q, image}
 
   module _ (s : State) (c : Configuration) (b : RepresentsAt setting s c)
       (counted : IsCounted setting c) (from : Slot)
@@ -86,28 +96,101 @@ module _ (setting : Setting) (roomy : HaveRoom setting.program) where
         by (Local i) lt e = (slots_here setting s c b counted).locals i lt ∙ the_same _ x e
         by (Temporary i) lt e = (slots_here setting s c b counted).temporaries i x e
 
-    -- the state after it
-    pub run : Returned n view (sp + layout.frame + 8) back result s.cpu.rip s.cpu.flags
-    run =
-        let top = frame_top setting s c b counted in
-        let low = sp_low setting s c b counted in
-        return_run (frame setting roomy s c b counted) from view back s.cpu.rip s.cpu.flags
-        (slots setting roomy s c b counted) (room_here setting s c b counted) is_there
-        (sp_is setting roomy s c b counted) (omega arith) (holds_here setting s c b counted)
-        has_back (template_here setting roomy s c b counted (instructions.Return from) at)
+    -- ---- its frame, as its plan says
 
-    abbrev after_view : MachineView
-    after_view = record view { rax = result }
+    abbrev plan : FramePlan
+    plan = plan_of_layout layout 0
+
+    abbrev top : ℕ
+    top = top_of setting s c b counted
+
+    top_low : top < 2 ^ 47
+    top_low = let t' = frame_top setting s c b counted in omega arith
+
+    abbrev old : ℕ → ℕ
+    old = before t fs 0 0 top (top + 8) back b.body.others b.body.is
+
+    owed_planned : owed_of p c.frame.body ≡ of_codes 0 0 (operations_of plan)
+    owed_planned = by (p.leaf c.frame.body) refl
+      where
+        by : (leaf : Bool) → p.leaf c.frame.body ≡ leaf
+            → owed_of p c.frame.body ≡ of_codes 0 0 (operations_of plan)
+        by true e =
+            let none = (leaf_layout t fs program p q c.frame.body b.body.slots.code e
+            (image.laid_out c.frame.body b.body.slots.code b.body.slots.body)).frame in
+            ap (owed_by (p.entry c.frame.body).info) e
+            ∙ ap (λ k. of_codes 0 0 (operations_of (frame_plan k 0))) (sym none)
+        by false e =
+            let h = image.plans c.frame.body b.body.slots.code b.body.slots.body e in
+            let codes = ap operations h.codes ∙ codes_plan spell (body_plan p q c.frame.body) in
+            ap (owed_by (p.entry c.frame.body).info) e ∙ (λ j. record {
+              register = h.frame_register j;
+              offset = h.frame_offset j;
+              codes = codes j;
+            })
+
+    frame_holds : HoldsFrame 0 0 s.memory old back (registers s) (operations_of plan)
+        (operations_of plan)
+    frame_holds = holds t fs 0 0 top (top + 8) back b.body.others b.body.is (omega arith)
+        b.body.small (let l = top_low in omega arith) s (operations_of plan)
+        (subst (λ o. Beneath t s o top (top + 8) back b.body.others b.body.is) owed_planned
+        (begins_beneath setting s c b counted))
+
+    is_plan : IsPlan plan
+    is_plan = record {
+      size =
+          let high = frame_top setting s c b counted in
+          let low = sp_low setting s c b counted in
+          let z : layout.frame < 2 ^ 31 = omega arith in
+          z;
+      distance = omega arith;
+      probe = refl;
+      allowed = plan_allowed layout.frame 0;
+    }
+
+    -- ---- the state after it
+
+    pub run : Returned n (machine view s.cpu.rip s.cpu.flags) old back result
+    run = return_run (frame setting roomy s c b counted) from view old back s.cpu.rip s.cpu.flags
+        (slots setting roomy s c b counted) (room_here setting s c b counted) is_there
+        (sp_is setting roomy s c b counted) (holds_here setting s c b counted) is_plan top_low
+        (fits t fs 0 0 top (top + 8) back b.body.others b.body.is (omega arith) b.body.small
+        (let l = top_low in omega arith))
+        (subst (λ (x : State). HoldsFrame 0 0 x.memory old back (registers x) (operations_of plan)
+        (operations_of plan)) (same_state setting roomy s c b counted) frame_holds)
+        (template_here setting roomy s c b counted (instructions.Return from) at)
 
     abbrev pub after : State
-    after = machine (moved after_view (sp + layout.frame + 8)) back run.flags
+    after = record {
+      cpu = record {
+        registers = run.after.cpu.registers;
+        rip = back;
+        flags = run.after.cpu.flags;
+      };
+      memory = s.memory;
+    }
+
+    after_is : run.after ≡ after
+    after_is = λ j. record {
+      cpu = record {
+        registers = run.after.cpu.registers;
+        rip = run.rip j;
+        flags = run.after.cpu.flags;
+      };
+      memory = run.memory j;
+    }
 
     pub reaches : Reaches n s after
-    reaches = subst (λ z. Reaches n z after) (sym
-        (same_state setting roomy s c b counted)) run.comes
+    reaches = subst (λ x. Reaches n s x) after_is
+        (subst (λ x. Reaches n x run.after) (sym (same_state setting roomy s c b counted))
+        run.comes)
 
     pub sp_after : register after.cpu Rsp ≡ sp + layout.frame + 8
-    sp_after = refl
+    sp_after = run.stack
+
+    -- the number is in RAX
+    pub rax_after : register after.cpu Rax ≡ result
+    rax_after = run.rax
 
     pub well_formed_after : IsWellFormed after
     well_formed_after = stays_well_formed s after (reaches_keeps n s after reaches) has_back.small

@@ -8,7 +8,7 @@ use Rattle.std.proofs.lemmas.List.{append-nil, length-drop, length-take}
 use Rattle.match_turns.specs.Words.{STACK_START, STACK_END, Memory, may_write, number_at, Protection, Rsp, Instr, State, register, distance, arrivals, Temporary, LinearBody, FunctionBody, body_of, Waits, Configuration, instruction_in, waiting, Layout, sizes, put_back, keep, temporary_at, IsNear, call, return_at, passing_code, parameters_code, passing_call_code, context_below, home_end, HoldsWords, return_of, ReturnsTo, On, AllKeep, Comes, function_arguments, FindsReturn, IsLayoutIf, turns_left, slots_end, KeepsStackBut, begun, LARGEST_FRAME, Setting, IsMachineMemory, IsResumed, RepresentsAt, arguments_code}
 use Rattle.lowering_invariants.specs.SmallNumbers.{AreSmall}
 use Rattle.linear_code.specs.declared.instruction.Instruction.TheVariants as instructions
-use Rattle.match_turns.proofs.Lemmas.{sizes_append, call_size, comes_then, others_of, StepsTo, reaches_steps, enters_steps, AllPlain, plain_both, arguments_plain, passing_plain, parameters_plain, EntryRan, entry_ran, calls_keep, CalleeBegins, small_others as small_registers, frame_from, reaches_silently, enters_silently, program_reaches, locals_count, KeepsImage, Keeps, keeps_then, enters_keeps, stays_well_formed, stack_is_reserved, room_here, slots_here, may_read_written, word_of}
+use Rattle.match_turns.proofs.Lemmas.{sizes_append, call_size, comes_then, others_of, StepsTo, reaches_steps, enters_steps, AllPlain, plain_both, arguments_plain, passing_plain, parameters_plain, EntryRan, entry_ran, calls_keep, CalleeBegins, small_others as small_registers, frame_from, reaches_silently, enters_silently, none_inside, program_reaches, locals_count, KeepsImage, Keeps, keeps_then, enters_keeps, stays_well_formed, stack_is_reserved, room_here, slots_here, may_read_written, word_of}
 use Rattle.match_bodies.specs.Bodies.{HasFrame}
 use Rattle.match_bodies.specs.CodeSites as sites
 use Rattle.match_bodies.specs.ProgramImages.{frame_of}
@@ -68,6 +68,13 @@ module _ {setting : Setting} (at_call : AtCall setting) where
   abbrev at_callee : State
   at_callee = entering.at_callee at_call
 
+  -- the callee's prologue
+  abbrev from : ℕ
+  from = q.function f
+
+  abbrev to : ℕ
+  to = from + sites.making_size p q (FunctionBody f)
+
   abbrev called_in : ℕ
   called_in = length (passing_code (p.layout c.frame.body) first 4 (count - 4)) + 5
 
@@ -79,7 +86,7 @@ module _ {setting : Setting} (at_call : AtCall setting) where
 
   keeps : Keeps s after
   keeps = keeps_then s at_callee after (entering.keeps at_call)
-      (enters_keeps inside.turns at_callee after inside.comes)
+      (enters_keeps from to inside.turns at_callee after inside.comes)
 
   -- ---- turns
 
@@ -241,7 +248,7 @@ module _ {setting : Setting} (at_call : AtCall setting) where
       next (others_of s.cpu.registers) (k.item ∷ b.body.is) inside.turns at_callee after
       (sites.arguments_code program p (FunctionBody f)) [] 40
       (sym (append-nil (sites.arguments_code program p (FunctionBody f)))) inside.exact
-      (enters_steps inside.turns at_callee after inside.comes) k.rip k.stack k.beneath_it
+      (enters_steps from to inside.turns at_callee after inside.comes) k.rip k.stack k.beneath_it
       (small_registers s b.well_formed) k.program_there stored.1 (omega arith) (omega arith)
       (subst (λ (xs : List Instr). AllPlain layout.slots layout.frame 40 xs) (sym arguments_are)
       stored.0)
@@ -263,7 +270,9 @@ module _ {setting : Setting} (at_call : AtCall setting) where
       comes_then t fs called_in inside.turns s at_callee after [] []
       (reaches_silently t fs program p q image called_in s at_callee (entering.calls at_call)
       call_keeps b.memory.code silent_called)
-      (enters_silently t fs program p q image inside.turns at_callee after inside.comes entry_keeps
+      (enters_silently t fs program p q image from to
+      (none_inside t fs program p q image (FunctionBody f) o there) inside.turns at_callee after
+      inside.comes entry_keeps
       (program_reaches t fs program p q called_in s at_callee (entering.calls at_call)
       b.memory.code) silent_after)
 

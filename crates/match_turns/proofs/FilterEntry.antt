@@ -6,7 +6,8 @@ use Rattle.std.specs.Prelude.{nat_lt, slice_get}
 use Rattle.std.proofs.lemmas.Option.{slice_get_within}
 use Rattle.match_turns.specs.Words.{STACK_START, STACK_END, number_at, Rcx, Rdx, Rsp, Instr, State, register, Functions, Funclet, Exception, Instruction, LinearProgram, LinearBody, LinearFunclet, BodyName, FuncletBody, body_of, funclet_body, Handler, Resumption, Item, Waits, Searches, Configuration, begin_filter, instruction_in, Layout, sizes, keep_register, MachineView, machine, HasCode, Enters, parent_of, owner_of, ImagePlan, by_parent, parent_body, Activation, locals_of, IsActivation, HasSpace, below_end, KeepsPointers, context_below, IsWellFormed, Arrives, LeadsTo, Sites, parent_base, keep_argument, IsProgramImage, IsKnown, entry_turns, FiltersBegin, Setting, setting_of, IsMachineMemory, RepresentsAt}
 use Rattle.virtual_unwind.specs.Undone.{word}
-use Rattle.match_turns.proofs.Lemmas.{others_of, EntryRan, frame_from, stored_is_loaded, enters_then, same_number, Reached, kept_at, HasCell, pointers_kept, Within, within_then, within_cell, enters_silently, enters_steps, plain_both, kept_plain, locals_count, enters_keeps, stays_well_formed}
+use Rattle.x64_templates.specs.Prologues.{prologue_turns}
+use Rattle.match_turns.proofs.Lemmas.{others_of, EntryRan, frame_from, stored_is_loaded, enters_then, same_number, Reached, kept_at, HasCell, pointers_kept, Within, within_then, within_cell, enters_silently, none_inside, enters_steps, plain_both, kept_plain, locals_count, enters_keeps, stays_well_formed}
 use Rattle.linear_code.specs.declared.program.FuncletKind.TheVariants as funclets
 use Rattle.match_turns.proofs.FuncletShadow.{base_code, arguments_are, base_is_plain, funclet_ran}
 use Rattle.match_turns.proofs.FuncletPrologue.{LeadsBy}
@@ -14,7 +15,7 @@ use Rattle.match_turns.proofs.FuncletFrame.{ArrivesBelow, arrives_below, IsPlann
 use Rattle.match_bodies.proofs.FramePlaces.{same_registers}
 use Rattle.match_turns.proofs.FuncletConfiguration.{IsFilterOfSome, filter_of_some, is_filter, parent_locals, leads_by}
 use Rattle.match_turns.proofs.DispatchSpace.{shallow_is, HasRecordSpace, search_space}
-use Rattle.match_turns.proofs.FuncletFirstTurns.{HasEntered, entered, first_small, silent_there}
+use Rattle.match_turns.proofs.FuncletFirstTurns.{HasEntered, begun, plan, entered, first_small, silent_there}
 
 same_name : (a b : BodyName) → Some a ≡ Some b → a ≡ b
 same_name a b e = cc
@@ -101,7 +102,14 @@ module _ (setting : Setting) where
 
     abbrev e : HasEntered setting s k l a.reaches.base
     e = entered setting s k argument handler.activation items acts l w c.store.memory memory
-        (length acts + c.frame.held) record_space.space few leads
+        (length acts + c.frame.held) record_space.space few some leads
+
+    -- its prologue
+    abbrev from : ℕ
+    from = p.funclet k
+
+    abbrev to : ℕ
+    to = begun setting k l
 
     -- the address of the EXCEPTION_POINTERS
     abbrev x : ℕ
@@ -142,8 +150,8 @@ module _ (setting : Setting) where
     abbrev u : State
     u = machine (kept_at e.after (e.sp + y.pointers) x) (e.rip + sizes last) keeps.left
 
-    run : Enters (e.turns + 1) s u
-    run = enters_then e.turns 1 s (machine e.after e.rip e.flags) u e.comes keeps.comes
+    run : Enters from to (e.turns + 1) s u
+    run = enters_then from to e.turns 1 s (machine e.after e.rip e.flags) u e.comes keeps.comes
 
     stack_here : register u.cpu Rsp ≡ e.sp
     stack_here = e.at
@@ -153,19 +161,20 @@ module _ (setting : Setting) where
         e.place
 
     well_formed_here : IsWellFormed u
-    well_formed_here = stays_well_formed s u (enters_keeps (e.turns + 1) s u run)
+    well_formed_here = stays_well_formed s u (enters_keeps from to (e.turns + 1) s u run)
         (let z = rip_here in let r = first_small setting k l in omega arith) a.well_formed
 
     beside : Within (e.sp + y.pointers) (e.sp + y.pointers + 8) e.after.memory u.memory
-    beside = let h = cell.high in within_cell e.after (e.sp + y.pointers) (e.sp + y.pointers + 8)
-        (e.sp + y.pointers) x (omega arith) (omega arith) (omega arith)
+    beside = let h = cell.high in
+        within_cell e.after.memory (e.sp + y.pointers) (e.sp + y.pointers + 8) (e.sp + y.pointers) x
+        (omega arith) (omega arith) (omega arith)
 
     within_here : Within e.sp (e.sp + y.frame) s.memory u.memory
     within_here =
         let h = cell.high in
         let g = fits in
         within_then e.sp (e.sp + y.frame) s.memory e.after.memory u.memory e.within
-        (within_cell e.after e.sp (e.sp + y.frame) (e.sp + y.pointers) x (omega arith)
+        (within_cell e.after.memory e.sp (e.sp + y.frame) (e.sp + y.pointers) x (omega arith)
         (omega arith) (omega arith))
 
     base_here : number_at u.memory.byte 8 (e.sp + l.plan.layout.slot) ≡ a.reaches.base
@@ -208,15 +217,16 @@ module _ (setting : Setting) where
         let plain = base_is_plain setting s k handler.activation argument items acts l w
         c.store.memory memory some low_enough high_enough (register s.cpu Rdx) a.reaches.base
         leads in
-        let count : e.turns + 1 ≡ 1 + length (base ++ last) = omega
+        let count : e.turns + 1 ≡ prologue_turns (plan setting k l) + length (base ++ last) = omega
         (arith, e.exact, length-append base last) in
         let parts = whole ∙ ap (λ x. base ++ keep_argument y x) kind_is
         ∙ sym (append-nil (base ++ last)) in
         funclet_ran setting s k handler.activation argument items acts l w c.store.memory memory
         some low_enough high_enough (register s.cpu Rdx) a.reaches.base leads (e.turns + 1) u
-        (base ++ last) [] parts count (enters_steps (e.turns + 1) s u run)
+        (base ++ last) [] parts count (enters_steps from to (e.turns + 1) s u run)
         (plain_both y.slots y.frame 8 base last plain (
-          kept_plain y.slots y.frame 8 Rcx y.pointers (let g = fits in omega arith) (inl fits_slots),
+          kept_plain y.slots y.frame 8 Rcx y.pointers (let g = fits in omega arith)
+              (inl fits_slots),
           tt,
         ))
 
@@ -269,7 +279,9 @@ module _ (setting : Setting) where
       turns = e.turns + 1;
       few = (let z = e.few in omega arith);
       state = u;
-      comes = enters_silently t fs program p q image (e.turns + 1) s u run entry_run.keeps
+      comes = enters_silently t fs program p q image from to
+          (none_inside t fs program p q image (FuncletBody k) f.body (ap funclet_body l.there))
+          (e.turns + 1) s u run entry_run.keeps
           memory.code (silent_there setting k l u rip_here some);
       is_there = represents_here;
     }

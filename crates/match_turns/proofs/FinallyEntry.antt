@@ -8,7 +8,7 @@ use Rattle.match_bodies.specs.CodeSites.{arguments_code}
 use Rattle.linear_code.specs.declared.program.FuncletKind.TheVariants as funclets
 use Rattle.linear_machine.specs.Frames as linear
 use Rattle.match_bodies.specs.ProgramImages.{frame_of}
-use Rattle.match_turns.proofs.Lemmas.{frame_from, frame_with, sizes_append, code_split, near, enters_then, flag_run, Within, straight, keep_first, others_of, program_kept, enters_silently, read_here, StepsTo, reaches_steps, enters_steps, keeps_split, Beneath, beneath_by, callers_above, Finds, ran, label_found, argument_found, frame_there, EntryRan, locals_count, activated, reaches_keeps, enters_keeps, stays_well_formed, SlotsPlaced, IsCounted, frame_top, room_here, holds_here, slots_here, locals_here, Leaves, Ran, frame_after, new_on, represents_next, set_length, local_after, gives_above, owed_with, frame_owed, kept_alike}
+use Rattle.match_turns.proofs.Lemmas.{frame_from, frame_with, sizes_append, code_split, near, enters_then, flag_run, Within, straight, keep_first, others_of, program_kept, enters_silently, none_inside, read_here, StepsTo, reaches_steps, enters_steps, keeps_split, Beneath, beneath_by, callers_above, Finds, ran, label_found, argument_found, frame_there, EntryRan, locals_count, activated, reaches_keeps, enters_keeps, stays_well_formed, SlotsPlaced, IsCounted, frame_top, room_here, holds_here, slots_here, locals_here, Leaves, Ran, frame_after, new_on, represents_next, set_length, local_after, gives_above, owed_with, frame_owed, kept_alike}
 use Rattle.match_bodies.proofs.RoutineWalks.{Ran as MidRan}
 use Rattle.match_bodies.proofs.BodyFrames.{codes_above}
 use Rattle.match_bodies.proofs.BodyViews.{placed, count}
@@ -16,7 +16,7 @@ use Rattle.match_turns.proofs.FuncletPrologue.{LeadsBy}
 use Rattle.match_turns.proofs.FuncletFrame.{ArrivesBelow, IsPlanned, funclet_planned, HasFrame, first_frame, beginning, begins}
 use Rattle.match_bodies.proofs.FramePlaces.{same_registers}
 use Rattle.match_turns.proofs.FuncletConfiguration.{HasLocals, activation_at, as_many, no_leaf, parent_locals, leads_by, locals_counted, owner_framed}
-use Rattle.match_turns.proofs.FuncletFirstTurns.{HasEntered, entered, first_small, silent_there}
+use Rattle.match_turns.proofs.FuncletFirstTurns.{HasEntered, begun, entered, first_small, silent_there}
 use Rattle.match_turns.proofs.ReturnAddressPlace.{top_of, begins_beneath}
 use Rattle.match_turns.proofs.FuncletShadow.{base_code, arguments_are, base_is_plain, funclet_ran}
 use Rattle.match_turns.proofs.FilterEntry.{has_first, parent_is}
@@ -71,7 +71,14 @@ module _ (setting : Setting) where
 
     abbrev e : HasEntered setting s k l a.reaches.base
     e = entered setting s k (of_test abnormal) activation items acts l a store.memory memory
-        (length acts + held) space few leads
+        (length acts + held) space few some leads
+
+    -- its prologue
+    abbrev from : ℕ
+    from = p.funclet k
+
+    abbrev to : ℕ
+    to = begun setting k l
 
     -- ---- each turn up to the one that keeps the base keeps the shadow
 
@@ -99,7 +106,7 @@ module _ (setting : Setting) where
         funclet_ran setting s k activation (of_test abnormal) items acts l a store.memory memory
         some low_enough high_enough (register s.cpu Rdx) a.reaches.base leads e.turns y1 base
         (keep_argument y f.kind) parts (let n = e.exact in omega arith)
-        (enters_steps e.turns s y1 e.comes)
+        (enters_steps from to e.turns s y1 e.comes)
         (base_is_plain setting s k activation (of_test abnormal) items acts l a store.memory memory
         some low_enough high_enough (register s.cpu Rdx) a.reaches.base leads)
 
@@ -117,7 +124,7 @@ module _ (setting : Setting) where
 
     well_formed_1 : IsWellFormed s1
     well_formed_1 =
-        let z = enters_keeps e.turns s (machine e.after e.rip e.flags) e.comes in
+        let z = enters_keeps from to e.turns s (machine e.after e.rip e.flags) e.comes in
         stays_well_formed s s1
         (record {
           protection = z.protection;
@@ -285,15 +292,16 @@ module _ (setting : Setting) where
           leaves = leaves;
         }
 
-    run : Enters (e.turns + length last) s u
-    run = enters_then e.turns (length last) s (machine e.after e.rip e.flags) u e.comes r.comes
+    run : Enters from to (e.turns + length last) s u
+    run = enters_then from to e.turns (length last) s (machine e.after e.rip e.flags) u e.comes
+        r.comes
 
     rip_here : u.cpu.rip ≡ p.address (FuncletBody k) 0
     rip_here = subst (λ z. e.rip + sizes (keep_argument y z) ≡ p.address (FuncletBody k) 0) kind_is
         e.place
 
     well_formed_here : IsWellFormed u
-    well_formed_here = stays_well_formed s u (enters_keeps (e.turns + length last) s u run)
+    well_formed_here = stays_well_formed s u (enters_keeps from to (e.turns + length last) s u run)
         (let z = rip_here in let w = first_small setting k l in omega arith) a.well_formed
 
     store_is : locals_of (with_values acts activation values) ≡ slice_set store.activations
@@ -420,7 +428,8 @@ module _ (setting : Setting) where
         let small = l.plan.layout.small in
         let kept = l.plan.layout.kept in
         let at = l.plan.layout.temporaries in
-        ran t fs program p q owed top1 (top1 + 8) b1.body.back others1 list1 mid y1 x y.frame
+        let within = l.plan.layout.within in
+        ran t fs program p q owed top1 (top1 + 8) b1.body.back others1 list1 mid y1 x y.slots
         y.frame 8 (run_3.0, run_3.1, (x, run_2.1, refl))
         ((refl, inl refl), ((near slot (omega arith), inl refl), tt))
         (subst (λ n. HasCode y1.memory n mid) place code) kept_base.has beneath_1 refl refl
@@ -482,7 +491,7 @@ module _ (setting : Setting) where
         let three = keeps_split t fs 2 1 y1 x (run_3.0, run_3.1, (x, run_2.1, refl)) middle.keeps
         (keep_first t fs 0 x u last_step.steps storing_keeps tt) in
         keeps_split t fs e.turns (length last) s y1
-        (enters_steps e.turns s y1 e.comes) kept_base.keeps
+        (enters_steps from to e.turns s y1 e.comes) kept_base.keeps
         (subst (λ n. AllKeep t fs n y1) (sym (ap (λ (xs : List Instr). length xs) last_is))
         three)
 
@@ -492,7 +501,9 @@ module _ (setting : Setting) where
       turns = e.turns + length last;
       few = (let z = e.few in let w = last_few in omega arith);
       state = u;
-      comes = enters_silently t fs program p q image (e.turns + length last) s u run keeps_shadow
+      comes = enters_silently t fs program p q image from to
+          (none_inside t fs program p q image (FuncletBody k) f.body (ap funclet_body l.there))
+          (e.turns + length last) s u run keeps_shadow
           memory.code (silent_there setting k l u rip_here some);
       is_there = represents_here;
     }

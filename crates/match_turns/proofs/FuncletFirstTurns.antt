@@ -1,13 +1,24 @@
 -- A funclet's first turns: its frame is made, and keeps the base of its activation.
-use Rattle.std.proofs.Common.{◌≡◌, ℕ, ◌+◌, ◌-◌, ◌*◌, ◌^◌, ◌<◌, ◌≤◌, Some, None, List, [], ◌∷◌, ◌++◌, length, sym, ap, subst, ◌∙◌, arith}
-use Rattle.match_turns.specs.Words.{kept_of, STACK_START, STACK_END, Memory, number_at, Rcx, Rdx, Rsp, Instr, Flags, State, register, distance, arrivals, FuncletBody, body_of, funclet_body, Item, Layout, sizes, enter_code, code_from, registers_of, MachineView, machine, sp_of, moved, HasCode, Enters, Activation, below_end, record_room, links_of, parent_base, keep_argument, funclet_arguments, entry_code, seen_by_templates, LARGEST_FRAME, Setting, HasProgram, IsMachineMemory}
-use Rattle.match_bodies.specs.CodeSites.{arguments_code}
+use Rattle.std.proofs.Common.{◌≡◌, ℕ, ◌+◌, ◌-◌, ◌*◌, ◌^◌, ◌<◌, ◌≤◌, Option, Some, None, List, [], ◌++◌, length, refl, sym, ap, subst, ◌∙◌, arith, append_assoc}
+use Rattle.match_turns.specs.Words.{STACK_START, STACK_END, number_at, Memory, Rcx, Rdx, Rsp, Instr, Flags, State, register, distance, arrivals, FuncletBody, body_of, funclet_body, Item, Layout, sizes, code_from, MachineView, machine, sp_of, HasCode, Enters, Activation, below_end, record_room, links_of, parent_base, keep_argument, funclet_arguments, frame_code, making_size, entry_code, IsWellFormed, seen_by_templates, LARGEST_FRAME, Setting, HasProgram, IsMachineMemory}
+use Rattle.match_bodies.specs.CodeSites.{arguments_code, body_plan}
+use Rattle.frame_rules.specs.Bytes.{prologue_code}
+use Rattle.frame_rules.specs.Plan.{FramePlan}
+use Rattle.frame_rules.specs.States.{IsEntry}
+use Rattle.x64_templates.specs.Prologues.{prologue_turns}
 use Rattle.match_bodies.proofs.BodyFrames.{framed_some}
-use Rattle.match_bodies.proofs.FrameCode.{made_small}
-use Rattle.match_turns.proofs.Lemmas.{others_of, sizes_append, code_split, Within, within_keeps_code, in_stack, activations_are_at, is_machine, kept_alike}
+use Rattle.match_bodies.proofs.FrameCode.{plan_depth, plan_turns, plan_unstored}
+use Rattle.match_bodies.proofs.PlannedPrologues.{body_planned, body_probed}
+use Rattle.match_bodies.proofs.PrologueSteps.{small_at}
+use Rattle.match_turns.proofs.Lemmas.{sizes_append, code_split, Within, within_keeps_code, in_stack, activations_are_at, is_machine, may_read_written}
 use Rattle.match_bodies.specs.CodeSites as sites
 use Rattle.match_turns.proofs.FuncletPrologue.{LeadsBy, first_code, Made, HasRoom, made}
 use Rattle.match_turns.proofs.FuncletFrame.{ArrivesBelow, IsPlanned}
+
+-- the base is kept in one instruction or two
+base_length : (o : Option ℕ) (b : ℕ) → length (sites.keep_base o b) ≤ 2
+base_length None b = omega arith
+base_length (Some parent) b = omega arith
 
 module _ (setting : Setting) where
   open setting use {functions as t, funclets as fs, program, plan as p, sites as q, image}
@@ -22,23 +33,34 @@ module _ (setting : Setting) where
     abbrev is : body_of program (FuncletBody k) ≡ Some l.funclet.body
     is = ap funclet_body l.there
 
-    frame_small : y.frame ≤ 4096
-    frame_small = l.plan.layout.small
+    abbrev pub plan : FramePlan
+    plan = body_plan p q (FuncletBody k)
+
+    -- its prologue's end
+    abbrev pub begun : ℕ
+    begun = p.funclet k + making_size p q (FuncletBody k)
+
+    abbrev pub base_code : List Instr
+    base_code = sites.keep_base (parent_base p l.funclet.parent) slot
 
     abbrev pub front : List Instr
-    front = first_code y.frame (parent_base p l.funclet.parent) slot
+    front = first_code plan (parent_base p l.funclet.parent) slot
 
     abbrev pub last : List Instr
     last = keep_argument y l.funclet.kind
 
     entry_is : entry_code program p q (FuncletBody k) ≡ front ++ last
     entry_is =
-        ap (λ (xs : List Instr). xs ++ arguments_code program p (FuncletBody k))
-        (made_small y.frame (p.funclet k) q.check_stack (p.leaf (FuncletBody k)) l.plan.framed
-        (framed_some setting (FuncletBody k) l.funclet.body is l.plan.framed) frame_small)
-        ∙ ap (λ o. enter_code y.frame ++ funclet_arguments p y o) l.there
-        ∙ ap (λ o. enter_code y.frame ++ (sites.keep_base (parent_base p l.funclet.parent)
+        ap (λ leaf. frame_code y.frame (p.funclet k) q.check_stack leaf
+        ++ arguments_code program p (FuncletBody k)) l.plan.framed
+        ∙ ap (λ o. prologue_code plan ++ funclet_arguments p y o) l.there
+        ∙ ap (λ o. prologue_code plan ++ (sites.keep_base (parent_base p l.funclet.parent)
         (elim o [ Some b ↦ b | None ↦ 0 ]) ++ last)) l.plan.layout.base
+        ∙ sym (append_assoc (prologue_code plan) base_code last)
+
+    making_is : making_size p q (FuncletBody k) ≡ sizes (prologue_code plan)
+    making_is = ap (λ leaf. sizes (frame_code y.frame (p.funclet k) q.check_stack leaf))
+        l.plan.framed
 
     pub entry_codes : (m : Memory) → HasProgram setting m
         → HasCode m (p.funclet k) front × HasCode m (p.funclet k + sizes front) last
@@ -74,14 +96,13 @@ module _ (setting : Setting) where
     pub low : STACK_START ≤ sp
     pub top : sp + (p.layout (FuncletBody k)).frame + 8 ≤ STACK_END
     pub turns : ℕ
-    pub exact : turns ≡ length (front k l)
+    pub exact : turns ≡ prologue_turns (plan k l) + length (base_code k l)
     pub few : turns ≤ 3
     pub after : MachineView
     pub rip : ℕ
     pub flags : Flags
-    pub comes : Enters turns s (machine after rip flags)
+    pub comes : Enters (p.funclet k) (begun k l) turns s (machine after rip flags)
     pub at : sp_of after ≡ sp
-    pub registers : kept_of (registers_of after) ≡ sp ∷ others_of s.cpu.registers
     pub rcx : after.rcx ≡ register s.cpu Rcx
     pub number : number_at after.memory.byte 8 (sp + l.plan.layout.slot) ≡ base
     pub within : Within sp (sp + (p.layout (FuncletBody k)).frame) s.memory after.memory
@@ -93,8 +114,9 @@ module _ (setting : Setting) where
       (l : IsPlanned setting k) (a : ArrivesBelow t fs program p s k activation first
       items acts) (source : Memory) (memory : IsMachineMemory setting s.memory source)
       (depth : ℕ) (space : STACK_END ≤ a.at + (below_end + record_room) + LARGEST_FRAME * depth)
-      (shallow : depth + 2 ≤ 1000) (leads : LeadsBy s.memory (parent_base p l.funclet.parent)
-      (register s.cpu Rdx) a.reaches.base) where
+      (shallow : depth + 2 ≤ 1000) (some : 0 < length l.funclet.body.code)
+      (leads : LeadsBy s.memory (parent_base p l.funclet.parent) (register s.cpu Rdx)
+      a.reaches.base) where
     abbrev frame : ℕ
     frame = (p.layout (FuncletBody k)).frame
 
@@ -136,21 +158,54 @@ module _ (setting : Setting) where
           writable = λ b c d. memory.stack b (omega arith) (omega arith);
         }
 
-    abbrev pub run : Made (parent_base p l.funclet.parent) v sp frame (l.plan.layout.slot)
-        a.reaches.base s.cpu.rip (s.cpu.rip + sizes (front k l)) s.cpu.flags
-    run = made (parent_base p l.funclet.parent) v sp frame (l.plan.layout.slot) a.reaches.base
-        s.cpu.rip s.cpu.flags room base_small leads
-        (subst (λ r. HasCode s.memory r (front k l)) (sym a.rip)
-        (entry_codes k l s.memory memory.code).0)
+    -- the state at its first byte
+    abbrev begin : State
+    begin = machine v (p.funclet k) s.cpu.flags
 
-    pub rest_code : HasCode run.after.memory (s.cpu.rip + sizes (front k l)) (last k l)
+    begin_is : s ≡ begin
+    begin_is = is_machine s a.well_formed.count ∙ ap (λ r. machine v r s.cpu.flags) a.rip
+
+    pub begins : IsEntry frame begin
+    begins =
+        let e = a.stack in
+        let f = top in
+        let g = low in
+        let x = l.plan.layout.small in
+        let well = subst IsWellFormed begin_is a.well_formed in
+        let sp_here : register s.cpu Rsp ≡ register begin.cpu Rsp = ap
+        (λ (u : State). register u.cpu Rsp) begin_is in
+        record {
+          length = well.count;
+          fits = small_at begin.cpu.registers well.small;
+          high = omega arith;
+          low = omega arith;
+          writable = λ b c d. memory.stack b (omega arith) (omega arith);
+          readable = λ b c d. may_read_written s.memory b
+              (memory.stack b (omega arith) (omega arith));
+        }
+
+    abbrev pub run : Made (plan k l) (parent_base p l.funclet.parent) v sp frame
+        (l.plan.layout.slot) a.reaches.base (p.funclet k) s.cpu.flags
+    run = made (plan k l) q.check_stack (parent_base p l.funclet.parent) v sp frame
+        (l.plan.layout.slot) a.reaches.base (p.funclet k) s.cpu.flags
+        (body_planned setting (FuncletBody k) l.funclet.body (is k l) some
+        (let x = l.plan.layout.small in omega arith)) (plan_depth frame (plan k l).probe)
+        (plan_unstored frame (plan k l).probe l.plan.layout.small) begins
+        (body_probed setting (FuncletBody k) l.funclet.body (is k l) some)
+        memory.code.check_stack room base_small leads
+        (entry_codes k l s.memory memory.code).0
+
+    pub rest_code : HasCode run.after.memory (p.funclet k + sizes (front k l)) (last k l)
     rest_code = within_keeps_code sp (sp + frame) s.memory run.after.memory
-        (s.cpu.rip + sizes (front k l)) (last k l) room.writable run.within
-        (subst (λ r. HasCode s.memory (r + sizes (front k l)) (last k l)) (sym a.rip)
-        (entry_codes k l s.memory memory.code).1)
+        (p.funclet k + sizes (front k l)) (last k l) room.writable run.within
+        (entry_codes k l s.memory memory.code).1
 
-    pub place : s.cpu.rip + sizes (front k l) + sizes (last k l) ≡ p.address (FuncletBody k) 0
-    place = let e = first_is k l in let f = a.rip in omega arith
+    few_turns : prologue_turns (plan k l) + length (base_code k l) ≤ 3
+    few_turns =
+        let some' = framed_some setting (FuncletBody k) l.funclet.body (is k l) l.plan.framed in
+        let one = plan_turns frame (plan k l).probe some' l.plan.layout.small in
+        let two = base_length (parent_base p l.funclet.parent) l.plan.layout.slot in
+        omega arith
 
     pub entered : HasEntered s k l a.reaches.base
     entered = record {
@@ -158,19 +213,23 @@ module _ (setting : Setting) where
       sp_is = sp_is;
       low = (let e = low in let f = sp_is in let g = l.plan.layout.small in omega arith);
       top = (let e = top in let f = a.stack in let g = sp_is in omega arith);
-      turns = run.turns;
-      exact = run.exact;
-      few = run.few;
+      turns = prologue_turns (plan k l) + length (base_code k l);
+      exact = refl;
+      few = few_turns;
       after = run.after;
-      rip = s.cpu.rip + sizes (front k l);
+      rip = p.funclet k + sizes (front k l);
       flags = run.flags;
-      comes = subst (λ x. Enters run.turns x (machine run.after (s.cpu.rip + sizes (front k l))
-          run.flags)) (sym (is_machine s a.well_formed.count)) run.comes;
+      comes = subst (λ x. Enters (p.funclet k) (begun k l)
+          (prologue_turns (plan k l) + length (base_code k l)) x
+          (machine run.after (p.funclet k + sizes (front k l)) run.flags)) (sym begin_is)
+          (subst (λ to. Enters (p.funclet k) to
+          (prologue_turns (plan k l) + length (base_code k l)) begin
+          (machine run.after (p.funclet k + sizes (front k l)) run.flags))
+          (ap (λ n. p.funclet k + n) (sym (making_is k l))) run.comes);
       at = run.lowered;
-      registers = kept_alike run.after (moved v sp) run.rest run.locals;
       rcx = run.rcx;
       number = run.number;
       within = run.within;
       code = rest_code;
-      place = place;
+      place = sym (first_is k l);
     }

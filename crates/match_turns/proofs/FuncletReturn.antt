@@ -120,7 +120,8 @@ module _ (setting : Setting) (roomy : HaveRoom setting.program) where
           ∙ ap (λ ws. answer program next x ws c.events c.store) under
           ∙ answer_low program next x exception resumption asked rest w below c.events c.store
           ∙ ap (λ v. answer program next (low W32 v) waiting c.events c.store)
-          (sym (leaving.result_is setting roomy s c b counted from at x reads))
+          (sym (leaving.rax_after setting roomy s c b counted from at
+          ∙ leaving.result_is setting roomy s c b counted from at x reads))
 
       pub filter_returns : IsMatched t fs program 16 turns_left (Represents setting) s c
           (instructions.Return from)

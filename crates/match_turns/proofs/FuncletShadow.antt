@@ -1,9 +1,8 @@
 -- A funclet's frame is made and its arguments are stored, and the shadow is kept.
 use Rattle.std.proofs.Common.{◌≡◌, ℕ, ◌+◌, ◌^◌, ◌<◌, ◌≤◌, Option, Some, None, List, ◌++◌, length, refl, sym, ap, ◌∙◌, arith}
-use Rattle.std.specs.Prelude.{if◌then◌else◌}
-use Rattle.std.proofs.lemmas.Bool.{le-leb}
 use Rattle.match_turns.specs.Words.{STACK_START, STACK_END, Memory, Rsp, Instr, State, register, FuncletBody, funclet_body, Item, Activation, parent_base, keep_base, keep_argument, funclet_arguments, Setting, IsMachineMemory}
-use Rattle.match_bodies.specs.CodeSites.{arguments_code}
+use Rattle.match_bodies.specs.CodeSites.{arguments_code, body_plan}
+use Rattle.x64_templates.specs.Prologues.{prologue_turns}
 use Rattle.match_turns.proofs.Lemmas.{others_of, small_others, StepsTo, AllPlain, making_steps, EntryRan, entry_ran, base_plain}
 use Rattle.match_turns.proofs.FuncletPrologue.{LeadsBy}
 use Rattle.match_turns.proofs.FuncletFrame.{ArrivesBelow, IsPlanned}
@@ -48,20 +47,20 @@ module _ (setting : Setting) where
         leads) (omega arith) (omega arith)
 
     pub funclet_ran : (n : ℕ) (w : State) (stored left : List Instr)
-        → arguments_code program p (FuncletBody k) ≡ stored ++ left → n ≡ 1 + length stored
-        → StepsTo n s w
+        → arguments_code program p (FuncletBody k) ≡ stored ++ left
+        → n ≡ prologue_turns (body_plan p q (FuncletBody k)) + length stored → StepsTo n s w
         → AllPlain (p.layout (FuncletBody k)).slots (p.layout (FuncletBody k)).frame 8 stored
         → EntryRan t fs program p q image (FuncletBody k) l.funclet.body (ap funclet_body l.there)
         some (register s.cpu Rsp) (register s.cpu Rsp + 8) a.back (others_of s.cpu.registers) a.is
         n s w stored
     funclet_ran n w stored left parts count run plain =
         let small = l.plan.layout.small in
-        let one : making_steps (p.leaf (FuncletBody k)) (p.layout (FuncletBody k)).frame ≡ 1 =
-        ap (λ leaf. making_steps leaf (p.layout (FuncletBody k)).frame) l.plan.framed
-        ∙ ap (λ x. if x then 1 else 8) (le-leb (p.layout (FuncletBody k)).frame 4096 small) in
+        let made : making_steps (p.leaf (FuncletBody k)) (body_plan p q (FuncletBody k))
+        ≡ prologue_turns (body_plan p q (FuncletBody k)) =
+        ap (λ leaf. making_steps leaf (body_plan p q (FuncletBody k))) l.plan.framed in
         entry_ran t fs program p q image (FuncletBody k) l.funclet.body (ap funclet_body l.there)
         some (register s.cpu Rsp) (register s.cpu Rsp + 8) a.back (others_of s.cpu.registers) a.is
         n s w stored left 8 parts
-        (count ∙ ap (λ x. x + length stored) (sym one)) run a.rip refl
+        (count ∙ ap (λ x. x + length stored) (sym made)) run a.rip refl
         (arrives_beneath setting s k activation argument items acts a high)
         (small_others s a.well_formed) memory.code (omega arith) (omega arith) refl plain

@@ -1,15 +1,20 @@
 -- A function is entered after its call, whatever its frame is.
-use Rattle.std.proofs.Common.{◌≡◌, ℕ, ◌+◌, ◌-◌, ◌<◌, ◌≤◌, Bool, true, false, Some, List, length, refl, sym, ap, subst, ◌∙◌, arith, inl, inr}
-use Rattle.std.specs.Prelude.{nat_le, if◌then◌else◌}
-use Rattle.std.proofs.lemmas.Bool.{cases_lt, le-leb, leb-true}
-use Rattle.match_turns.specs.Words.{STACK_START, STACK_END, Rsp, Instr, register, LinearBody, FunctionBody, body_of, Layout, sizes, spelled, enter_code, parameters_code, check_stack, enter_large, HasBelow, HasCode, IsFunctionLayout, IsLeafLayout, IsLayoutIf, Setting}
-use Rattle.match_bodies.proofs.FrameCode.{made_small, made_large}
-use Rattle.match_turns.proofs.Lemmas.{bytes_kept, making_steps, may_read_written}
+use Rattle.std.proofs.Common.{◌≡◌, ℕ, ◌+◌, ◌-◌, ◌≤◌, Bool, true, false, Some, List, length, refl, sym, ap, subst, ◌∙◌, arith, inl, inr}
+use Rattle.match_turns.specs.Words.{STACK_START, STACK_END, Rsp, Instr, register, LinearBody, FunctionBody, body_of, Layout, sizes, spelled, parameters_code, check_stack, HasCode, IsFunctionLayout, IsLeafLayout, IsLayoutIf, Setting}
+use Rattle.match_bodies.specs.CodeSites.{body_plan}
+use Rattle.frame_rules.specs.Bytes.{prologue_code}
+use Rattle.frame_rules.specs.Plan.{FramePlan}
+use Rattle.frame_rules.specs.States.{IsEntry}
+use Rattle.x64_templates.specs.Prologues.{prologue_turns}
+use Rattle.match_bodies.proofs.FrameCode.{few_turns, plan_depth}
+use Rattle.match_bodies.proofs.PlannedPrologues.{body_planned, body_probed}
+use Rattle.match_bodies.proofs.PrologueSteps.{small_at}
+use Rattle.match_turns.proofs.Lemmas.{bytes_kept, may_read_written, stays_well_formed}
 use Rattle.match_turns.proofs.CallArguments as calling
 use Rattle.match_turns.proofs.FunctionParameters.{with_home, home_parameters}
 use Rattle.match_turns.proofs.FunctionParameters as entering
 use Rattle.match_turns.proofs.FunctionEntryCode.{making_frame, HasEntry, has_entry}
-use Rattle.match_turns.proofs.FunctionPrologue.{Made, no_frame, small_frame, large_frame}
+use Rattle.match_turns.proofs.FunctionPrologue.{Made, no_frame, planned_frame}
 use Rattle.match_turns.proofs.AtCall.{AtCall}
 
 module _ {setting : Setting} (at_call : AtCall setting) where
@@ -23,6 +28,7 @@ module _ {setting : Setting} (at_call : AtCall setting) where
     found as callee,
     parameters,
     fits,
+    some,
   }
 
   abbrev caller : ℕ
@@ -62,16 +68,6 @@ module _ {setting : Setting} (at_call : AtCall setting) where
 
   top : caller + 40 ≤ STACK_END
   top = let a = calling.room_top at_call in omega arith
-
-  below_top : HasBelow (entering.called at_call).memory (caller - 8) 8
-  below_top =
-      let x = low in
-      let z = top in
-      record {
-        enough = omega arith;
-        high = omega arith;
-        writable = λ a l u. entering.may_stack at_call a (omega arith) (omega arith);
-      }
 
   -- ---- a leaf function
 
@@ -125,7 +121,8 @@ module _ {setting : Setting} (at_call : AtCall setting) where
               | inr (inr (inl o1)) ↦ (let o2 = o1.0 in let o3 = o1.1 in absurd (omega arith))
               | inr (inr (inr o1)) ↦ absurd (omega arith)
             ])
-      ]) (ap (λ code. 0 + length code) same ∙ (entry true leaf).turns 0 refl)
+      ]) (ap (λ code. 0 + length code) same ∙ (entry true leaf).turns)
+      (omega (arith, ap (λ x. sizes (making_frame p q f x)) leaf))
 
   -- ---- a function with a frame
 
@@ -136,18 +133,55 @@ module _ {setting : Setting} (at_call : AtCall setting) where
     abbrev sp : ℕ
     sp = caller - 8 - frame
 
-    framed_entered : (making : List Instr) (n : ℕ) → making_frame p q f false ≡ making
-        → making_steps false frame ≡ n → Made (entering.called at_call) target
-        (target + sizes making) (entering.flags at_call) (caller - 8) sp
-        (entering.arguments at_call) n → Goal
-    framed_entered making n e same made =
+    abbrev plan : FramePlan
+    plan = body_plan p q (FunctionBody f)
+
+    -- the state at its first byte
+    begins : IsEntry frame (entering.at_callee at_call)
+    begins =
+        let x = low in
+        let z = top in
+        let k = l.small in
+        let a = image.addresses (FunctionBody f) o there in
+        let first = a.first in
+        let high = a.inside.high in
+        let sp : register (entering.at_callee at_call).cpu Rsp ≡ caller - 8 =
+        calling.called_sp at_call in
+        let well = stays_well_formed s (entering.at_callee at_call) (entering.keeps at_call)
+        (omega arith) b.well_formed in
+        let may = entering.may_stack at_call in
+        record {
+          length = well.count;
+          fits = small_at (entering.at_callee at_call).cpu.registers well.small;
+          high = omega arith;
+          low = omega arith;
+          writable = λ a lo hi. may a (omega arith) (omega arith);
+          readable = λ a lo hi. may_read_written (entering.called at_call).memory a
+              (may a (omega arith) (omega arith));
+        }
+
+    made : Made (entering.called at_call) target
+        (target + sizes (making_frame p q f false)) (entering.flags at_call) (caller - 8) sp
+        (entering.arguments at_call) (prologue_turns plan)
+    made = planned_frame (entering.called at_call) target (entering.flags at_call) (caller - 8)
+        (entering.arguments at_call) (calling.called_sp at_call)
+        (calling.in_registers at_call) plan q.check_stack frame
+        (body_planned setting (FunctionBody f) o there some l.small)
+        (few_turns frame plan.probe) (plan_depth frame plan.probe) begins
+        (called_code target (prologue_code plan) (entry false leaf).making)
+        (body_probed setting (FunctionBody f) o there some)
+        (called_code q.check_stack check_stack b.memory.code.check_stack)
+
+    framed_entered : Goal
+    framed_entered =
         let x = low in
         let z = top in
         let a = l.temporaries in
         let m = l.locals in
         let j = l.within in
         let k = l.small in
-        entering.entered at_call sp (target + sizes making) n made layout (record {
+        entering.entered at_call sp (target + sizes (making_frame p q f false))
+        (prologue_turns plan) made layout (record {
           none = l.none;
           low = omega arith;
           temporaries = omega arith;
@@ -163,10 +197,7 @@ module _ {setting : Setting} (at_call : AtCall setting) where
           within = l.within;
         }) refl k
         (λ i ge lt. (let w : sp + frame + 8 ≡ caller = omega arith in w)) (omega arith)
-        (subst (λ i. HasCode s.memory (target + sizes i) (parameters_code layout 0 count)) e
-        (entry false leaf).storing)
-        (ap (λ i. target + sizes i + sizes (parameters_code layout 0 count)) (sym e)
-        ∙ (entry false leaf).ends) (λ a out i. elim i [
+        (entry false leaf).storing (entry false leaf).ends (λ a out i. elim i [
           | inl w ↦ (let g = w.0 in let h = w.1 in
               elim out [
                 | inl o1 ↦ absurd (omega arith)
@@ -186,63 +217,7 @@ module _ {setting : Setting} (at_call : AtCall setting) where
                     (inr (inr o1)) ↦ absurd (omega arith)
               ])
         ])
-        ((entry false leaf).turns n same)
-
-    small_entered : nat_le frame 4096 ≡ true → Goal
-    small_entered e =
-        let x = low in
-        let z = top in
-        let k = l.small in
-        let some = l.passed in
-        let is : making_frame p q f false ≡ enter_code frame =
-        made_small frame target q.check_stack false refl
-        (let a = l.temporaries in let b = l.locals in let c = l.within in omega arith)
-        (leb-true frame 4096 e) in
-        framed_entered (enter_code frame) 1 is (ap (λ x. if x then 1 else 8) e)
-        (small_frame (entering.called at_call) target (entering.flags at_call) (caller - 8)
-        (entering.arguments at_call) (calling.called_sp at_call)
-        (calling.in_registers at_call) frame (omega arith) (omega arith) (omega arith)
-        (called_code target (enter_code frame)
-        (subst (HasCode s.memory target) is (entry false leaf).making)))
-
-    large_entered : nat_le frame 4096 ≡ false → 4096 < frame → Goal
-    large_entered e big =
-        let x = low in
-        let z = top in
-        let k = l.small in
-        let is : making_frame p q f false ≡ enter_large frame target q.check_stack =
-        made_large frame target q.check_stack false refl big in
-        let a = image.addresses (FunctionBody f) o there in
-        let begin = a.first in
-        let a1 = a.inside.low in
-        let a2 = a.inside.high in
-        let c1 = image.check_stack.low in
-        let c2 = image.check_stack.high in
-        let reads = λ (i : ℕ) (lo : STACK_START ≤ i) (hi : i < STACK_END). may_read_written
-        (entering.called at_call).memory i (entering.may_stack at_call i lo hi) in
-        framed_entered (enter_large frame target q.check_stack) 8 is
-        (ap (λ x. if x then 1 else 8) e) (large_frame (entering.called at_call) target
-        (entering.flags at_call) (caller - 8) (entering.arguments at_call)
-        (calling.called_sp at_call) (calling.in_registers at_call)
-        frame q.check_stack (omega arith) below_top (record {
-          enough = omega arith;
-          more = omega arith;
-          high = omega arith;
-          first = reads (caller - 8 - 4096) (omega arith) (omega arith);
-          last = reads (caller - 8 - frame) (omega arith) (omega arith);
-        })
-        ((omega arith, omega arith, omega arith, omega arith)) (omega arith)
-        (called_code q.check_stack check_stack b.memory.code.check_stack)
-        (called_code target (enter_large frame target q.check_stack)
-        (subst (HasCode s.memory target) is (entry false leaf).making)))
-
-    by_size : (x : Bool) → nat_le frame 4096 ≡ x → Goal
-    by_size true e = small_entered e
-    by_size false e = elim (cases_lt 4096 frame) [
-      | inl lt ↦ large_entered e lt
-      | inr le ↦ absurd (let w : nat_le frame 4096 ≡ true = le-leb frame 4096 le in
-          let no : true ≡ false = sym w ∙ e in cc)
-    ]
+        (entry false leaf).turns (ap (λ x. target + sizes (making_frame p q f x)) (sym leaf))
 
   pub entered : Goal
   entered = by (p.leaf (FunctionBody f)) refl
@@ -250,5 +225,5 @@ module _ {setting : Setting} (at_call : AtCall setting) where
       by : (leaf : Bool) → p.leaf (FunctionBody f) ≡ leaf → Goal
       by true e = leaf_entered e (subst (λ x. IsLayoutIf program p layout o x) e
           (image.laid_out (FunctionBody f) o there))
-      by false e = by_size e (subst (λ x. IsLayoutIf program p layout o x) e
-          (image.laid_out (FunctionBody f) o there)) (nat_le layout.frame 4096) refl
+      by false e = framed_entered e (subst (λ x. IsLayoutIf program p layout o x) e
+          (image.laid_out (FunctionBody f) o there))

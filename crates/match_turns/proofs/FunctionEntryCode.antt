@@ -2,7 +2,7 @@
 use Rattle.std.proofs.Common.{◌≡◌, ℕ, ◌+◌, Bool, Some, List, ◌++◌, length, sym, ap, subst, ◌∙◌, arith}
 use Rattle.std.specs.Prelude.{slice_get}
 use Rattle.match_turns.specs.Words.{Memory, Instr, Functions, Funclet, LinearProgram, LinearFunction, FunctionBody, function_body, body_of, Layout, sizes, parameters_code, code_from, HasCode, ImagePlan, Sites, links_of, frame_code, function_arguments, entry_code, IsProgramImage}
-use Rattle.match_bodies.specs.CodeSites.{arguments_code}
+use Rattle.match_bodies.specs.CodeSites.{arguments_code, body_plan}
 use Rattle.match_turns.proofs.Lemmas.{sizes_append, code_split, making_steps}
 use Rattle.match_bodies.specs.ProgramImages.{HasProgram}
 
@@ -18,9 +18,9 @@ pub record HasEntry (program : LinearProgram) (p : ImagePlan) (q : Sites) (f cou
       (parameters_code (p.layout (FunctionBody f)) 0 count)
   pub ends : q.function f + sizes (making_frame p q f leaf)
       + sizes (parameters_code (p.layout (FunctionBody f)) 0 count) ≡ p.address (FunctionBody f) 0
-  pub turns : (n : ℕ) → making_steps leaf (p.layout (FunctionBody f)).frame ≡ n
-      → n + length (parameters_code (p.layout (FunctionBody f)) 0 count)
-      ≡ making_steps (p.leaf (FunctionBody f)) (p.layout (FunctionBody f)).frame
+  pub turns : making_steps leaf (body_plan p q (FunctionBody f))
+      + length (parameters_code (p.layout (FunctionBody f)) 0 count)
+      ≡ making_steps (p.leaf (FunctionBody f)) (body_plan p q (FunctionBody f))
       + length (arguments_code program p (FunctionBody f))
 
 module _ (t : Functions) (fs : List Funclet) (program : LinearProgram) (p : ImagePlan) (q : Sites)
@@ -69,10 +69,10 @@ module _ (t : Functions) (fs : List Funclet) (program : LinearProgram) (p : Imag
           sizes_append (making_frame p q f leaf)
               (parameters_code layout 0 count),
         );
-    turns = λ n same.
+    turns =
         let arguments : arguments_code program p (FunctionBody f)
         ≡ parameters_code layout 0 count = ap (λ x. function_arguments layout x) callee
         ∙ ap (λ k. parameters_code layout 0 k) parameters in
-        λ i. (sym same ∙ ap (λ l. making_steps l layout.frame) (sym e)) i
+        λ i. ap (λ l. making_steps l (body_plan p q (FunctionBody f))) (sym e) i
         + length (sym arguments i);
   }

@@ -2,10 +2,10 @@
 use Rattle.std.proofs.Common.{◌≡◌, ℕ, zero, suc, ◌+◌, ◌-◌, ◌*◌, ◌^◌, ◌<◌, ◌≤◌, true, false, Some, None, List, ◌++◌, length, refl, sym, ap, subst, ◌∙◌, arith, inl, inr, length-append}
 use Rattle.std.specs.Prelude.{◌⊎◌, nat_lt}
 use Rattle.std.proofs.lemmas.Bool.{cases_lt, lt-ltb, le-ltb}
-use Rattle.match_turns.specs.Words.{STACK_START, STACK_END, Memory, may_write, number_at, Protection, is_writable, Rsp, Flags, State, register, is_reserved, Local, Temporary, LinearBody, FunctionBody, body_of, function_body, Layout, sizes, spelled, IsNear, return_at, passing_code, parameters_code, stack_parameter, parameter_code, MachineView, machine, HasBelow, with_arguments, OnStack, IsFunctionFrame, body_in_memory, FreshFrame, HasBase, MemoryKeepsBase, IsBytes, Agrees, InTemporaries, InLocals, KeepsReserved, HasCode, Enters, FramePlace, Roomy, ReachesBody, counts_of, LARGEST_FRAME, Setting, OtherRegisters}
-use Rattle.match_bodies.specs.CodeSites.{arguments_code}
+use Rattle.match_turns.specs.Words.{STACK_START, STACK_END, Memory, may_write, number_at, Protection, is_writable, Rsp, Flags, State, register, is_reserved, Local, Temporary, LinearBody, FunctionBody, body_of, function_body, Layout, sizes, spelled, IsNear, return_at, passing_code, parameters_code, stack_parameter, parameter_code, MachineView, machine, with_arguments, OnStack, IsFunctionFrame, body_in_memory, FreshFrame, HasBase, MemoryKeepsBase, IsBytes, Agrees, InTemporaries, InLocals, KeepsReserved, HasCode, Enters, FramePlace, Roomy, ReachesBody, counts_of, LARGEST_FRAME, Setting, OtherRegisters}
+use Rattle.match_bodies.specs.CodeSites.{arguments_code, body_plan, making_size}
 use Rattle.x64_templates.specs.Runs.{Reaches}
-use Rattle.match_turns.proofs.Lemmas.{bytes_kept, same_number, enters_then, pushed_agrees, pushed_bytes, making_steps, stack_is_reserved, may_read_written, holds_here, Keeps, keeps_then, reaches_keeps, enters_keeps}
+use Rattle.match_turns.proofs.Lemmas.{bytes_kept, same_number, enters_then, within_agrees, making_steps, stack_is_reserved, may_read_written, holds_here, Keeps, keeps_then, reaches_keeps, enters_keeps}
 use Rattle.x64_templates.proofs.Entering.{fresh_holds, parameters_run}
 use Rattle.match_turns.proofs.CallArguments as calling
 use Rattle.match_turns.proofs.CallWaitingCaller.{back_near}
@@ -206,10 +206,10 @@ module _ {setting : Setting} (at_call : AtCall setting) where
     pub place : sp + layout.frame + 8 ≡ caller
     pub state : State
     pub turns : ℕ
-    pub exact : turns ≡ making_steps (p.leaf (FunctionBody f)) layout.frame + length
-        (arguments_code program p (FunctionBody f))
+    pub exact : turns ≡ making_steps (p.leaf (FunctionBody f)) (body_plan p q (FunctionBody f))
+        + length (arguments_code program p (FunctionBody f))
     pub soon : turns ≤ 8 + (count + (count - 4))
-    pub comes : Enters turns at_callee state
+    pub comes : Enters target (target + making_size p q (FunctionBody f)) turns at_callee state
     pub rip : state.cpu.rip ≡ p.address (FunctionBody f) 0
     pub stack : register state.cpu Rsp ≡ sp
     pub locals : (i : ℕ) → i < count → number_at state.memory.byte 8 (sp + (layout.locals + 8 * i))
@@ -241,48 +241,28 @@ module _ {setting : Setting} (at_call : AtCall setting) where
       (ends : to + sizes (parameters_code y 0 count) ≡ p.address (FunctionBody f) 0)
       (outside : (a : ℕ) → Outside a → InTemporaries y (counts_of o) sp a
       ⊎ InLocals y (counts_of o) sp a → ⊥) (counted_turns : n + length (parameters_code y 0 count) ≡
-      making_steps (p.leaf (FunctionBody f)) layout.frame + length
-      (arguments_code program p (FunctionBody f))) where
+      making_steps (p.leaf (FunctionBody f)) (body_plan p q (FunctionBody f)) + length
+      (arguments_code program p (FunctionBody f)))
+      (prologue : to ≡ target + making_size p q (FunctionBody f)) where
     abbrev k : State
     k = machine made.after to made.flags
 
     made_keeps : Keeps s k
-    made_keeps = keeps_then s at_callee k keeps (enters_keeps made.turns at_callee k made.comes)
+    made_keeps = keeps_then s at_callee k keeps (enters_keeps target to n at_callee k made.comes)
 
     made_bytes : IsBytes made.after.memory
-    made_bytes = elim made.made [
-      | inl e ↦ subst IsBytes (sym e) (calling.called_bytes at_call)
-      | inr e ↦ subst IsBytes (sym e) (pushed_bytes called (caller - 8) (target + 10)
-          (calling.called_bytes at_call))
-    ]
-
-    below_top : HasBelow called.memory (caller - 8) 8
-    below_top =
-        let x = calling.low at_call in
-        let z = calling.top at_call in
-        record {
-          enough = omega arith;
-          high = omega arith;
-          writable = λ a l u. may_stack a (omega arith) (omega arith);
-        }
+    made_bytes = made.within.bytes (calling.called_bytes at_call)
 
     made_agrees : Agrees (is_reserved program.globals) made.after.memory c.store.memory
     made_agrees =
-        let x = calling.low at_call in
+        let low = own.low in
         let z = calling.top at_call in
-        let here = calling.called_agrees at_call in
-        elim made.made [
-          | inl e ↦ subst (λ (m : Memory). Agrees (is_reserved program.globals) m c.store.memory)
-              (sym e) here
-          | inr e ↦ subst (λ (m : Memory). Agrees (is_reserved program.globals) m c.store.memory)
-              (sym e)
-              (pushed_agrees (is_reserved program.globals) called c.store.memory (caller - 8)
-              (target + 10) below_top (λ a l u. stack_is_reserved program.globals a (omega arith)
-              (omega arith)) here)
-        ]
+        within_agrees (is_reserved program.globals) sp (caller - 8) called.memory made.after.memory
+        c.store.memory (λ a l u. stack_is_reserved program.globals a (omega arith) (omega arith))
+        made.within (calling.called_agrees at_call)
 
     made_may : (a : ℕ) → STACK_START ≤ a → a < STACK_END → may_write made.after.memory a ≡ true
-    made_may a l u = ap (λ (g : ℕ → Protection). is_writable (g a).rights) made.protection
+    made_may a l u = ap (λ (g : ℕ → Protection). is_writable (g a).rights) made.within.protection
         ∙ may_stack a l u
 
     stack_arguments : OnStack (own_frame program.globals y o sp) made.after.memory count arguments
@@ -296,7 +276,7 @@ module _ {setting : Setting} (at_call : AtCall setting) where
               ap (number_at made.after.memory.byte 8)
               (let w : sp + stack_parameter y i ≡ caller + 8 * i = omega arith in w)
               ∙ same_number made.after.memory.byte called.memory.byte 8 (caller + 8 * i)
-              (omega arith) (λ a l h. made.same a (inr (omega arith)))
+              (omega arith) (λ a l h. made.within.byte a (inr (omega arith)))
               ∙ calling.on_stack at_call i ge lt);
           readable = λ i a ge lt l u. (let e = up i ge lt in
               may_read_written made.after.memory a (made_may a (omega arith) (omega arith)));
@@ -332,12 +312,14 @@ module _ {setting : Setting} (at_call : AtCall setting) where
           sp = sp;
           place = place;
           state = machine run.after (to + sizes (parameters_code y 0 count)) run.flags;
-          turns = made.turns + length (parameters_code y 0 count);
-          exact = ap (λ k. k + length (parameters_code y 0 count)) made.exact ∙ counted_turns;
+          turns = n + length (parameters_code y 0 count);
+          exact = counted_turns;
           soon = omega arith;
-          comes = enters_then made.turns (length (parameters_code y 0 count)) at_callee k
+          comes = subst (λ x. Enters target x (n + length (parameters_code y 0 count)) at_callee
+              (machine run.after (to + sizes (parameters_code y 0 count)) run.flags)) prologue
+              (enters_then target to n (length (parameters_code y 0 count)) at_callee k
               (machine run.after (to + sizes (parameters_code y 0 count)) run.flags) made.comes
-              run.comes;
+              run.comes);
           rip = ends;
           stack = ap (λ (r : OtherRegisters). r.rsp) run.rest ∙ made.stack;
           locals = λ i lt. (let w : sp + (layout.locals + 8 * i)
@@ -348,7 +330,7 @@ module _ {setting : Setting} (at_call : AtCall setting) where
               arguments 0 count i (omega arith) (omega arith));
           bytes = run.changes.bytes made_bytes;
           agrees = run.holds.source;
-          same = λ a own_byte out. run.changes.byte a own_byte (outside a out) ∙ made.same a
+          same = λ a own_byte out. run.changes.byte a own_byte (outside a out) ∙ made.within.byte a
               (let x = calling.low at_call in
               let z = calling.top at_call in
               elim out [

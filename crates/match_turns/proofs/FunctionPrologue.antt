@@ -1,110 +1,112 @@
--- From a function's first byte its frame is made: by a subtraction, through `__chkstk`, or not at
--- all in a leaf function.
-use Rattle.std.proofs.Common.{◌≡◌, ℕ, zero, suc, ◌+◌, ◌-◌, ◌^◌, ◌<◌, ◌≤◌, refl, subst, arith, inl, inr}
-use Rattle.std.specs.Prelude.{◌⊎◌}
-use Rattle.match_turns.specs.Words.{Flags, State, sizes, IsNear, enter_code, check_stack, enter_large, MachineView, machine, sp_of, pushed, moved, HasBelow, InRegisters, HasCode, Enters}
-use Rattle.x64_templates.specs.Runs.{Reaches}
-use Rattle.match_turns.proofs.Lemmas.{call_size, enter_run, beside}
-use Rattle.x64_templates.proofs.LargeEntries.{enter_large_run}
-use Rattle.x64_templates.proofs.Probing.{Touchable}
-
--- a chain of steps may begin with any
-pub enters_of : (n : ℕ) (s u : State) → Reaches n s u → Enters n s u
-enters_of zero s u r = r
-enters_of (suc n) s u r = (r.0, r.1.steps, r.2)
+-- From a function's first byte its frame is made: by the prologue of its plan, or not at all in a
+-- leaf function.
+use Rattle.std.proofs.Common.{◌≡◌, ℕ, ◌+◌, ◌-◌, ◌≤◌, true, [], refl, sym, subst, ◌∙◌, arith}
+use Rattle.match_turns.specs.Words.{Flags, sizes, check_stack, MachineView, machine, sp_of, InRegisters, HasCode, Enters, seen_by_templates}
+use Rattle.frame_rules.specs.Bytes.{prologue_code}
+use Rattle.frame_rules.specs.Codes.{depth}
+use Rattle.frame_rules.specs.Plan.{FramePlan, IsPlan, operations_of, turned}
+use Rattle.frame_rules.specs.States.{IsEntry, registers, return_address}
+use Rattle.frame_rules.proofs.Undoing.{stack_depth}
+use Rattle.x64_templates.specs.Prologues.{AreProbed, Within, none_stores, prologue_turns}
+use Rattle.x64_templates.proofs.PrologueRuns.{prologue_run}
+use Rattle.x64_templates.proofs.Ranges.{within_same}
+use Rattle.match_turns.proofs.Lemmas.{is_machine}
 
 -- after so many turns RSP is the frame's, arguments are where they were, and memory has changed at
--- most right below the return address
+-- most in the frame
 pub record Made (v : MachineView) (target to : ℕ) (f : Flags) (top sp : ℕ) (arguments : ℕ → ℕ)
     (n : ℕ) : Type 0 where
-  pub turns : ℕ
-  pub exact : turns ≡ n
-  pub few : turns ≤ 8
+  pub few : n ≤ 8
   pub after : MachineView
   pub flags : Flags
-  pub comes : Enters turns (machine v target f) (machine after to flags)
+  pub comes : Enters target to n (machine v target f) (machine after to flags)
   pub stack : sp_of after ≡ sp
   pub registers : InRegisters after arguments
-  pub protection : after.memory.protection ≡ v.memory.protection
-  pub same : (a : ℕ) → (a + 8 < top) ⊎ (top ≤ a) → after.memory.byte a ≡ v.memory.byte a
-  pub made : (after.memory ≡ v.memory) ⊎ (after.memory ≡ (pushed v top (target + 10)).memory)
+  pub within : Within sp top v.memory after.memory
+
+-- a frame that is made, as templates see it
+pub record MadeView (p : FramePlan) (v : MachineView) (target : ℕ) (f : Flags) : Type 0 where
+  pub after : MachineView
+  pub flags : Flags
+  pub comes : Enters target (target + sizes (prologue_code p)) (prologue_turns p)
+      (machine v target f) (machine after (target + sizes (prologue_code p)) flags)
+  pub stack : sp_of after + depth (operations_of p) ≡ registers (machine v target f) 4
+  pub rcx : after.rcx ≡ v.rcx
+  pub rdx : after.rdx ≡ v.rdx
+  pub r8 : after.rest.r8 ≡ v.rest.r8
+  pub r9 : after.rest.r9 ≡ v.rest.r9
+  pub within : Within (registers (machine v target f) 4 - depth (operations_of p))
+      (registers (machine v target f) 4) v.memory after.memory
+  pub same : none_stores (operations_of p) ≡ true → after.memory ≡ v.memory
+
+pub made_view : (p : FramePlan) (check : ℕ) (v : MachineView) (target : ℕ) (f : Flags) → IsPlan p
+    → IsEntry (depth (operations_of p)) (machine v target f)
+    → HasCode v.memory target (prologue_code p)
+    → AreProbed p check target (turned [] (operations_of p))
+    → HasCode v.memory check check_stack → MadeView p v target f
+made_view p check v target f is_plan entry code probed checks =
+    let e = machine v target f in
+    let m = prologue_run p check e is_plan entry code probed checks in
+    let u = m.following in
+    let w = seen_by_templates u in
+    let is : u ≡ machine w (target + sizes (prologue_code p)) u.cpu.flags = is_machine u m.count
+    ∙ (λ i. machine w (m.rip i) u.cpu.flags) in
+    let d = stack_depth u.memory (registers e) (return_address e) (registers u 4)
+    (registers u 4) (operations_of p) m.holds.stack in
+    record {
+      after = w;
+      flags = u.cpu.flags;
+      comes = subst (Enters target (target + sizes (prologue_code p)) (prologue_turns p) e) is
+          m.comes;
+      stack = d;
+      rcx = m.volatile 1 refl (λ z. absurd (omega arith)) (λ z. absurd (omega arith));
+      rdx = m.volatile 2 refl (λ z. absurd (omega arith)) (λ z. absurd (omega arith));
+      r8 = m.volatile 8 refl (λ z. absurd (omega arith)) (λ z. absurd (omega arith));
+      r9 = m.volatile 9 refl (λ z. absurd (omega arith)) (λ z. absurd (omega arith));
+      within = m.within;
+      same = m.same;
+    }
 
 module _ (v : MachineView) (target : ℕ) (f : Flags) (top : ℕ) (arguments : ℕ → ℕ)
     (at : sp_of v ≡ top) (regs : InRegisters v arguments) where
   pub no_frame : Made v target target f top top arguments 0
   no_frame = record {
-    turns = 0;
-    exact = refl;
     few = omega arith;
     after = v;
     flags = f;
     comes = refl;
     stack = at;
     registers = regs;
-    protection = refl;
-    same = λ a o. refl;
-    made = inl refl;
+    within = within_same top top v.memory;
   }
 
-  pub small_frame : (frame : ℕ) → frame ≤ top → top < 2 ^ 64 → frame < 2 ^ 31
-      → HasCode v.memory target (enter_code frame)
-      → Made v target (target + sizes (enter_code frame)) f top (top - frame) arguments 1
-  small_frame frame le high small code =
-      let e = enter_run v top frame target f at le high small code in
+  -- where its codes lead so far down
+  pub planned_frame : (p : FramePlan) (check frame : ℕ) → IsPlan p → prologue_turns p ≤ 8
+      → depth (operations_of p) ≡ frame → IsEntry frame (machine v target f)
+      → HasCode v.memory target (prologue_code p)
+      → AreProbed p check target (turned [] (operations_of p))
+      → HasCode v.memory check check_stack
+      → Made v target (target + sizes (prologue_code p)) f top (top - frame) arguments
+      (prologue_turns p)
+  planned_frame p check frame is_plan few deep entry code probed checks =
+      let m = made_view p check v target f is_plan
+      (subst (λ k. IsEntry k (machine v target f)) (sym deep) entry) code probed checks in
+      let at' : registers (machine v target f) 4 ≡ top = at in
+      let lower : registers (machine v target f) 4 - depth (operations_of p) ≡ top - frame = omega
+      (arith, at', deep) in
       record {
-        turns = 1;
-        exact = refl;
-        few = omega arith;
-        after = moved v (top - frame);
-        flags = e.flags;
-        comes = e.comes;
-        stack = refl;
+        few = few;
+        after = m.after;
+        flags = m.flags;
+        comes = m.comes;
+        stack = omega (arith, m.stack, at', deep);
         registers = record {
-          first = regs.first;
-          second = regs.second;
-          third = regs.third;
-          fourth = regs.fourth;
+          first = m.rcx ∙ regs.first;
+          second = m.rdx ∙ regs.second;
+          third = m.r8 ∙ regs.third;
+          fourth = m.r9 ∙ regs.fourth;
         };
-        protection = refl;
-        same = λ a o. refl;
-        made = inl refl;
-      }
-
-  pub large_frame : (frame check : ℕ) → frame < 2 ^ 31 → HasBelow v.memory top 8
-      → Touchable v.memory top frame → IsNear (target + 10) check → target + 10 < 2 ^ 48
-      → HasCode v.memory check check_stack → HasCode v.memory target
-      (enter_large frame target check)
-      → Made v target (target + sizes (enter_large frame target check)) f top (top - frame)
-      arguments 8
-  large_frame frame check small below touch near high leaf code =
-      let e = enter_large_run v top frame target check f at below touch small near high leaf
-      code in
-      let same : sizes (enter_large frame target 0)
-      ≡ sizes (enter_large frame target check) = let a = call_size (target + 10) 0 in
-      let b = call_size (target + 10) check in omega arith in
-      let w : MachineView = record v {
-        rax = frame;
-        rest = record v.rest { rsp = top - frame; r11 = e.eleventh };
-        memory = (pushed v top (target + 10)).memory;
-      } in
-      record {
-        turns = 8;
-        exact = refl;
-        few = omega arith;
-        after = w;
-        flags = e.flags;
-        comes = enters_of 8 (machine v target f)
-            (machine w (target + sizes (enter_large frame target check)) e.flags)
-            (subst (λ k. Reaches 8 (machine v target f) (machine w (target + k) e.flags)) same
-            e.comes);
-        stack = refl;
-        registers = record {
-          first = regs.first;
-          second = regs.second;
-          third = regs.third;
-          fourth = regs.fourth;
-        };
-        protection = refl;
-        same = λ a o. beside v.memory top (target + 10) a below.enough below.high o;
-        made = inr refl;
+        within = subst (λ lo. Within lo top v.memory m.after.memory) lower
+            (subst (λ hi. Within (registers (machine v target f) 4 - depth (operations_of p)) hi
+            v.memory m.after.memory) at' m.within);
       }

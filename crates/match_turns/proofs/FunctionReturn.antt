@@ -1,16 +1,16 @@
 -- A function returns: to the body that waits for it, or out of `main`.
-use Rattle.std.proofs.Common.{◌≡◌, ◌≢◌, ℕ, ◌+◌, ◌<◌, Some, None, List, [], ◌∷◌, length, refl, sym, ap, subst, ◌∙◌, arith, length-append}
+use Rattle.std.proofs.Common.{◌≡◌, ◌≢◌, ℕ, ◌+◌, ◌<◌, Some, None, List, [], ◌∷◌, length, sym, ap, subst, ◌∙◌, arith, length-append}
 use Rattle.std.specs.Prelude.{get_or, slice_get}
 use Rattle.std.proofs.lemmas.List.{append-nil}
 use Rattle.std.proofs.lemmas.Option.{slice_get-get_or}
-use Rattle.match_turns.specs.Words.{kept_of, W32, signed, Rsp, Context, context_of, get, State, register, distance, arrivals, Slot, LinearBody, LinearFunclet, FunctionBody, FuncletBody, body_of, funclet_body, Frame, Item, Waits, Store, Configuration, Finished, Next, with_some, read, instruction_in, left_store, end_body, act, return, Layout, return_code, MachineView, machine, HasBack, moved, Returned, context_below, Activation, activations_below, return_of, ReturnsTo, On, store_of, on_top, IsWellFormed, AllKeep, Moves, Exits, HaveRoom, held_below, turns_left, slots_end, Setting, RepresentsAt}
+use Rattle.match_turns.specs.Words.{kept_of, W32, signed, Rax, Rsp, Context, context_of, get, State, register, distance, arrivals, Slot, LinearBody, LinearFunclet, FunctionBody, FuncletBody, body_of, funclet_body, Frame, Item, Waits, Store, Configuration, Finished, Next, with_some, read, instruction_in, left_store, end_body, act, return, Layout, return_code, HasBack, context_below, Activation, activations_below, return_of, ReturnsTo, On, store_of, on_top, IsWellFormed, AllKeep, Moves, Exits, HaveRoom, held_below, turns_left, slots_end, Setting, RepresentsAt}
 use Rattle.x64_templates.specs.Runs.{Reaches}
 use Rattle.linear_code.specs.declared.instruction.Instruction.TheVariants as instructions
 use Rattle.linear_code.specs.declared.program.FuncletKind.TheVariants as kinds
 use Rattle.source_meaning.specs.declared.ended.Ended.TheVariants as ends
-use Rattle.match_turns.proofs.Lemmas.{others_of, reaches_then, keep_then, reaches_silently, reaches_keeps, stays_well_formed, IsCounted, v, slots, same_state}
+use Rattle.match_turns.proofs.Lemmas.{reaches_then, keep_then, reaches_silently, reaches_keeps, stays_well_formed, IsCounted}
 use Rattle.match_stack.proofs.UnwindTargets.{left_activations}
-use Rattle.match_turns.proofs.CallResult.{IsSurrounded, answered}
+use Rattle.match_turns.proofs.CallResult.{IsSurrounded, Resumes, answered}
 use Rattle.match_turns.proofs.CallReturn.{returns_at, resumes}
 use Rattle.match_turns.proofs.BodyReturn as leaving
 
@@ -37,38 +37,19 @@ module _ (setting : Setting) (roomy : HaveRoom setting.program) where
     has_back : HasBack s.memory (sp + layout.frame) back
     has_back = leaving.has_back setting roomy s c b counted from at
 
-    abbrev view : MachineView
-    view = v setting roomy s c b counted
-
     -- the state after it
-    pub run : Returned n view (sp + layout.frame + 8) back
-        ((slots setting roomy s c b counted).slots from) s.cpu.rip s.cpu.flags
-    run = leaving.run setting roomy s c b counted from at
-
-    abbrev after_view : ℕ → MachineView
-    after_view r = record view { rax = r }
-
     abbrev pub after : State
-    after = machine (moved (after_view x) (sp + layout.frame + 8)) back run.flags
+    after = leaving.after setting roomy s c b counted from at
 
     pub reaches : Reaches n s after
-    reaches =
-        subst (λ z. Reaches n z after) (sym (same_state setting roomy s c b counted))
-        (subst (λ r. Reaches n (machine view s.cpu.rip s.cpu.flags)
-        (machine (moved (after_view r) (sp + layout.frame + 8)) back run.flags))
-        (leaving.result_is setting roomy s c b counted from at x reads) run.comes)
+    reaches = leaving.reaches setting roomy s c b counted from at
 
-    sp_after : register after.cpu Rsp ≡ sp + layout.frame + 8
-    sp_after = refl
-
-    others_after : others_of after.cpu.registers ≡ b.body.others
-    others_after = subst (λ r. others_of (machine (moved (after_view r) (sp + layout.frame + 8)) back
-        run.flags).cpu.registers ≡ b.body.others)
-        (leaving.result_is setting roomy s c b counted from at x reads)
-        (leaving.leaves setting roomy s c b counted from at).others_are
+    rax_after : register after.cpu Rax ≡ x
+    rax_after = leaving.rax_after setting roomy s c b counted from at
+        ∙ leaving.result_is setting roomy s c b counted from at x reads
 
     registers_after : kept_of after.cpu.registers ≡ (sp + layout.frame + 8) ∷ b.body.others
-    registers_after = λ i. sp_after i ∷ others_after i
+    registers_after = leaving.registers_after setting roomy s c b counted from at
 
     well_formed_after : IsWellFormed after
     well_formed_after = stays_well_formed s after (reaches_keeps n s after reaches) has_back.small
@@ -131,7 +112,7 @@ module _ (setting : Setting) (roomy : HaveRoom setting.program) where
               (image.funclets.none 0 (omega arith) first_is_high after.cpu));
           over = over;
           value = signed W32 x;
-          answer = refl;
+          answer = ap (signed W32) rax_after;
           acts = λ next. acts_as next ∙ ap (λ items. return next x items c.events
               (store_of c.store.memory (activations_below c.frame.body b.body.acts))) none
               ∙ ap (λ es. Finished (ends.Exit (signed W32 x)) es) (sym (append-nil c.events));
@@ -187,7 +168,9 @@ module _ (setting : Setting) (roomy : HaveRoom setting.program) where
           let few = (leaving.returns_soon setting roomy s c b counted from at).1 in
           let some = (leaving.returns_soon setting roomy s c b counted from at).0 in
           let more = length-append w.temporaries (x ∷ []) in
-          let z = resumes setting roomy after w items outer c.store.memory c.events
+          let z = subst (λ r. Resumes t fs program p q after
+          (answered setting roomy w items c.store.memory outer c.events r)) rax_after
+          (resumes setting roomy after w items outer c.store.memory c.events
           above b.body.is on registers_after well_formed_after
           (record {
             data_alone = b.memory.data_alone;
@@ -196,7 +179,7 @@ module _ (setting : Setting) (roomy : HaveRoom setting.program) where
             arena = b.memory.arena;
             code = b.memory.code;
           }) o there g first
-          arguments calls within held free returns counts surrounded in
+          arguments calls within held free returns counts surrounded) in
           let credit : held_below c.below ≡ length w.temporaries
           + held_below items = ap held_below below in
           record {

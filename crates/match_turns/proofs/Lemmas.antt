@@ -8,14 +8,15 @@ pub use Rattle.x64_templates.proofs.Cells.{put, slot_high, fetch_does}
 pub use Rattle.x64_templates.proofs.Computes.{code_split, Reached, runs_view, finish_run, Begun, operands_run}
 pub use Rattle.x64_templates.proofs.Encoded.{fetch_fine, Fine, near, none_taking, finish_fine}
 pub use Rattle.x64_templates.proofs.Entries.{number_small, beside, pushed_agrees, pushed_bytes, pushed_back}
-pub use Rattle.x64_templates.proofs.FilterEntries.{Within, within_then, within_cell, within_keeps_code}
+pub use Rattle.x64_templates.specs.Prologues.{Within}
+pub use Rattle.x64_templates.proofs.Ranges.{within_then, within_cell, within_keeps_code, within_agrees}
 pub use Rattle.x64_templates.proofs.Flows.{keep_flow}
-pub use Rattle.x64_templates.proofs.FuncletEntries.{pointers_kept, flag_run, funclet_enters}
-pub use Rattle.x64_templates.proofs.Funclets.{HasCell, keeps_of_cell}
+pub use Rattle.x64_templates.proofs.FuncletEntries.{pointers_kept, flag_run}
+pub use Rattle.x64_templates.proofs.Funclets.{HasCell, keeps_of_cell, base_kept}
 pub use Rattle.x64_templates.proofs.Information.{information_run, field_number}
 pub use Rattle.x64_templates.proofs.Parameters.{kept_at, keeps_register}
 pub use Rattle.x64_templates.proofs.PlacedCode.{reaches_then, bytes_kept, same_number, all_may, enters_then, bytes_split, spells, reads, load_at}
-pub use Rattle.x64_templates.proofs.Returns.{return_run, call_ends, enter_run}
+pub use Rattle.x64_templates.proofs.Returns.{return_run, call_ends}
 pub use Rattle.x64_templates.proofs.Services.{thunk_reaches, pushed_thunk}
 pub use Rattle.x64_templates.proofs.Straight.{executes_then, executes_nothing, executes_one}
 pub use Rattle.x64_templates.proofs.Unwinds.{with_two, FinallyCalled, finally_begins, local_unwind_begins}
@@ -47,7 +48,7 @@ pub use Rattle.match_bodies.proofs.PlainSteps.{GoesInside, from_here, label_smal
 pub use Rattle.match_bodies.proofs.ProgramKeeping.{program_stays, KeepsImage}
 pub use Rattle.match_bodies.proofs.ReturnAddresses.{label_found, argument_found, template_there}
 pub use Rattle.match_bodies.proofs.RoutineWalks.{reaches_steps, StepsTo, steps_split, keeps_split, AllPlain, enters_steps, read_here, Beneath, beneath_by, callers_above, gives_above, Finds, ran}
-pub use Rattle.match_bodies.proofs.SilentTurns.{reaches_silently, enters_silently, program_reaches, KeepsCode, program_kept, reaches_comes, funclet_makes, silent_here}
+pub use Rattle.match_bodies.proofs.SilentTurns.{none_inside, reaches_silently, enters_silently, program_reaches, KeepsCode, program_kept, reaches_comes, funclet_makes, silent_here}
 pub use Rattle.match_bodies.proofs.SlotPlaces.{KeepsSlot, stack_is_reserved, SlotsPlaced}
 pub use Rattle.match_bodies.proofs.SlotWrites.{locals_after, temporaries_after, FitsAfter, one_more, set_length, local_after}
 pub use Rattle.match_bodies.proofs.StackTop.{body_on_top, OnTop}

@@ -59,10 +59,10 @@ pub use Rattle.x64_machine.specs.declared.cpu.Cpu.{Cpu}
 pub use Rattle.x64_machine.specs.declared.cpu.Flags.{Flags}
 pub use Rattle.template_code.specs.Bytes.{sizes, spelled}
 unfoldable pub use Rattle.template_code.specs.Bytes.{size}
-pub use Rattle.template_code.specs.Calls.{return_code, return_at, begin_call, call_code, clear_result, call_built_in_code, arguments_code, passing_code, parameters_code, passing_call_code, keep_register, information_code, field_at, finally_arguments, enter_code, keep_parents_base, stack_parameter, parameter_code, address_to, local_unwind_code}
+pub use Rattle.template_code.specs.Calls.{return_code, return_at, begin_call, call_code, clear_result, call_built_in_code, arguments_code, passing_code, parameters_code, passing_call_code, keep_register, information_code, field_at, finally_arguments, keep_parents_base, stack_parameter, parameter_code, address_to, local_unwind_code}
 pub use Rattle.template_code.specs.Jumps.{IsNear, call}
 pub use Rattle.template_code.specs.Operations.{move, work, before}
-pub use Rattle.template_code.specs.Probing.{check_stack, enter_large}
+pub use Rattle.template_code.specs.Probing.{check_stack}
 pub use Rattle.template_code.specs.Slots.{fetch, local_at, fetch_local, keep, put_back, temporary_at, fetched, operands_code, finish_code, keep_local}
 pub use Rattle.template_code.specs.Template.{template, body_size, offset_of, code_from}
 unfoldable pub use Rattle.template_code.specs.Template.{template_size}

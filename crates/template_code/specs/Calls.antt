@@ -6,7 +6,6 @@ use Rattle.x64_instr.specs.declared.register.Reg.TheVariants.{Rax, Rcx, Rdx, Rsp
 use Rattle.x64_instr.specs.declared.operand.Base.TheVariants as bases
 use Rattle.x64_instr.specs.declared.operand.RegisterOrMemory.TheVariants as places
 use Rattle.x64_instr.specs.declared.operand.Operand.TheVariants as operands
-use Rattle.x64_instr.specs.declared.instruction.Operation.TheVariants as arithmetic
 use Rattle.x64_instr.specs.declared.instruction.Instr.{Instr}
 use Rattle.x64_instr.specs.declared.instruction.Instr.TheVariants as instrs
 use Rattle.linear_code.specs.declared.slot.Slot.{Slot}
@@ -91,10 +90,6 @@ local_unwind_code at target to =
 
 -- ---- the callee
 
-abbrev pub enter_code : ℕ → List Instr
-enter_code frame =
-    instrs.Arithmetic arithmetic.Sub W64 (places.Register Rsp) (operands.Immediate frame) ∷ []
-
 -- the result goes to RAX, and the epilogue of the frame leaves the body
 abbrev pub return_code : Layout → Slot → List Instr
 return_code y from = fetch y Rax from ++ epilogue (plan_of_layout y 0)
@@ -139,9 +134,6 @@ parameter_code y i =
 abbrev pub parameters_code : Layout → ℕ → ℕ → List Instr
 parameters_code y i zero = []
 parameters_code y i (suc n) = parameter_code y i ++ parameters_code y (i + 1) n
-
-abbrev pub function_entry : Layout → ℕ → List Instr
-function_entry y count = enter_code y.frame ++ parameters_code y 0 count
 
 -- ---- a filter or a `__finally` block
 

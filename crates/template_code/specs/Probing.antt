@@ -1,8 +1,8 @@
--- Entries of large frames (Microsoft x64 ABI, "Prolog and epilog"): the size is put into RAX,
--- `__chkstk` touches each page of it, and RSP falls by RAX. A frame is at most 8,192 bytes, so that
--- two touches are enough.
-use Rattle.std.specs.Prelude.{ℕ, ◌+◌, ◌-◌, ◌^◌, List, [], ◌∷◌}
-use Rattle.seh_num.specs.declared.width.Width.TheVariants.{W8, W32, W64}
+-- `__chkstk`, which a prologue calls before it makes a large frame (Microsoft x64 ABI, "Prolog and
+-- epilog"): RAX has the size, and each page of it is touched. A frame is at most 8,192 bytes, so
+-- that two touches are enough.
+use Rattle.std.specs.Prelude.{ℕ, ◌-◌, ◌^◌, List, [], ◌∷◌}
+use Rattle.seh_num.specs.declared.width.Width.TheVariants.{W8, W64}
 use Rattle.x64_instr.specs.declared.register.Reg.TheVariants.{Rax, Rsp, R11}
 use Rattle.x64_instr.specs.declared.operand.RegisterOrMemory.TheVariants as places
 use Rattle.x64_instr.specs.declared.operand.Operand.TheVariants as operands
@@ -10,7 +10,6 @@ use Rattle.x64_instr.specs.declared.instruction.Operation.TheVariants as arithme
 use Rattle.x64_instr.specs.declared.instruction.Instr.{Instr}
 use Rattle.x64_instr.specs.declared.instruction.Instr.TheVariants as instrs
 use Rattle.template_code.specs.Operations.{above}
-use Rattle.template_code.specs.Jumps.{call}
 
 -- 4,096 below what was RSP before the call
 abbrev pub first_touch : ℕ
@@ -24,12 +23,4 @@ check_stack =
     ∷ instrs.Arithmetic arithmetic.Sub W64 (places.Register R11) (operands.Register Rax)
     ∷ instrs.Test W8 (places.Memory (above R11 0)) (operands.Register Rax)
     ∷ instrs.Return
-    ∷ []
-
--- mov eax,frame ; call __chkstk ; sub rsp,rax
-abbrev pub enter_large : ℕ → ℕ → ℕ → List Instr
-enter_large frame at check =
-    instrs.Move W32 (places.Register Rax) (operands.Immediate frame)
-    ∷ call (at + 10) check
-    ∷ instrs.Arithmetic arithmetic.Sub W64 (places.Register Rsp) (operands.Register Rax)
     ∷ []

@@ -1,12 +1,9 @@
 -- A function begins: its frame holds its arguments.
-use Rattle.std.proofs.Common.{◌≡◌, ℕ, zero, suc, ◌+◌, ◌-◌, ◌^◌, ◌<◌, ◌≤◌, cond, [], ◌∷◌, length, refl, sym, subst, arith, inl, inr, length-append}
+use Rattle.std.proofs.Common.{◌≡◌, ℕ, zero, suc, ◌+◌, ◌^◌, ◌<◌, ◌≤◌, cond, [], ◌∷◌, length, refl, sym, subst, arith, inl, inr}
 use Rattle.std.proofs.lemmas.Bool.{cases_lt, lt-ltb, le-ltb}
-use Rattle.x64_templates.specs.Words.{Memory, Rax, Rsp, Flags, State, BodyState, LocalRegisters, OtherRegisters, MachineView, machine, sizes, fetched, local_at, parameter_register, keep_register, stack_parameter, parameter_code, parameters_code, enter_code, sp_of, with_sp, moved, with_arguments, InRegisters, OnStack, IsFunctionFrame, body_in_memory, FreshFrame, ChangesOwn, HasCode, FramePlace, Roomy, FrameHolds, ReachesBody, Enters, function_entry, EntersBody}
-use Rattle.x64_templates.proofs.PlacedCode.{enters_then}
-use Rattle.x64_templates.proofs.Lemmas.{sizes_append}
+use Rattle.x64_templates.specs.Words.{Memory, Rax, Rsp, Flags, BodyState, MachineView, machine, sizes, fetched, local_at, parameter_register, keep_register, stack_parameter, parameter_code, parameters_code, sp_of, with_arguments, InRegisters, OnStack, IsFunctionFrame, body_in_memory, FreshFrame, HasCode, FramePlace, Roomy, FrameHolds, ReachesBody}
 use Rattle.x64_templates.proofs.Encoded.{Fine, fine_both, near}
-use Rattle.x64_templates.proofs.Computes.{code_split, runs_view}
-use Rattle.x64_templates.proofs.Returns.{enter_run}
+use Rattle.x64_templates.proofs.Computes.{runs_view}
 use Rattle.x64_templates.proofs.Entries.{holds_body_in_memory}
 use Rattle.x64_templates.proofs.Parameters.{parameters_do}
 
@@ -69,66 +66,3 @@ parameters_run p count arguments v rip f b room fn le at h regs stack code =
       holds = k.holds;
       changes = k.changes;
     }
-
--- a function begins
--- a body is entered, and then reached
-pub entered_then : (p : FramePlace) (m n : ℕ) (s t : State) (to : ℕ) (others : OtherRegisters)
-    (locals : LocalRegisters) (b : BodyState) → Enters m s t → ◌≡◌ {A = Memory} t.memory s.memory
-    → ReachesBody p n t to others locals b → EntersBody p (m + n) s to others locals b
-entered_then p m n s t to others locals b e same r = record {
-  after = r.after;
-  flags = r.flags;
-  comes = enters_then m n s t (machine r.after to r.flags) e r.comes;
-  rest = r.rest;
-  locals = r.locals;
-  holds = r.holds;
-  changes = subst (λ (m : Memory). ChangesOwn p m r.after.memory) same r.changes;
-}
-
-pub function_enters : (p : FramePlace) (count : ℕ) (arguments : ℕ → ℕ) (v : MachineView)
-    (source : Memory) (rip : ℕ) (f : Flags) → Roomy p → IsFunctionFrame p → count ≤ p.counts.locals
-    → sp_of v ≡ p.sp + p.layout.frame → p.layout.frame < 2 ^ 31
-    → FreshFrame p v.memory source → InRegisters v arguments → OnStack p v.memory count arguments
-    → HasCode v.memory rip (function_entry p.layout count)
-    → EntersBody p (length (function_entry p.layout count)) (machine v rip f)
-    (rip + sizes (function_entry p.layout count)) (with_sp v.rest p.sp) v.locals
-    (record {
-      slots = with_arguments (body_in_memory p.layout p.sp p.base v.memory source).slots
-          arguments 0 count;
-      memory = source;
-    })
-function_enters p count arguments v source rip f room fn le at small bare regs stack code =
-    let y = p.layout in
-    let enter = enter_code y.frame in
-    let params = parameters_code y 0 count in
-    let parts = code_split v.memory rip enter params code in
-    let hi = room.high in
-    let e = enter_run v (p.sp + y.frame) y.frame rip f at (omega arith) (omega arith) small
-    parts.0 in
-    let back : p.sp + y.frame - y.frame ≡ p.sp = omega arith in
-    let w = moved v p.sp in
-    let there = rip + sizes enter in
-    let first = subst (λ s. Enters 1 (machine v rip f) (machine (moved v s) there e.flags)) back
-    e.comes in
-    let b = body_in_memory y p.sp p.base v.memory source in
-    let c : BodyState = record {
-      slots = with_arguments b.slots arguments 0 count;
-      memory = source;
-    } in
-    let regs' : InRegisters w arguments = record {
-      first = regs.first;
-      second = regs.second;
-      third = regs.third;
-      fourth = regs.fourth;
-    } in
-    let k = parameters_run p count arguments w there e.flags b room fn le refl
-    (fresh_holds p v.memory source bare) regs' stack parts.1 in
-    let place : there + sizes params ≡ rip + sizes (function_entry y count) = omega
-    (arith, sizes_append enter params) in
-    let turns : 1 + length params ≡ length (function_entry y count) = sym
-    (length-append enter params) in
-    subst (λ t. EntersBody p t (machine v rip f) (rip + sizes (function_entry y count))
-    (with_sp v.rest p.sp) v.locals c) turns
-    (subst (λ a. EntersBody p (1 + length params) (machine v rip f) a (with_sp v.rest p.sp) v.locals c) place
-    (entered_then p 1 (length params) (machine v rip f) (machine w there e.flags)
-    (there + sizes params) (with_sp v.rest p.sp) v.locals c first refl k))

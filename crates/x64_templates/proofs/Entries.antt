@@ -3,7 +3,7 @@ use Rattle.std.proofs.Common.{◌≡◌, ℕ, zero, suc, ◌+◌, ◌-◌, ◌*�
 use Rattle.std.specs.Prelude.{◌⊎◌}
 use Rattle.std.proofs.Math.Nat.{pow-suc}
 use Rattle.std.proofs.lemmas.Bool.{cases_lt}
-use Rattle.x64_templates.specs.Words.{Memory, next, may_write, number_at, with_number, ReadWrite, is_readable, is_writable, Counts, Layout, MachineView, slot_at, InTemporaries, InLocals, MemoryKeepsBase, KeepsReserved, Agrees, HoldsBody, IsBytes, pushed, HasBelow, HasBack, body_in_memory, Nothing, Read}
+use Rattle.x64_templates.specs.Words.{Memory, next, may_read, may_write, number_at, with_number, ReadWrite, is_readable, is_writable, Counts, Layout, MachineView, slot_at, InTemporaries, InLocals, MemoryKeepsBase, KeepsReserved, Agrees, HoldsBody, IsBytes, pushed, HasBelow, HasBack, body_in_memory, Nothing, Read}
 use Rattle.x64_templates.proofs.Lemmas.{untouched, stored_is_loaded}
 use Rattle.flat_memory.specs.declared.protection.Rights.{Rights}
 use Rattle.x64_templates.proofs.Accesses.{digits}
@@ -71,6 +71,10 @@ readable : (r : Rights) → is_writable r ≡ true → is_readable r ≡ true
 readable Nothing e = absurd cc
 readable Read e = absurd cc
 readable ReadWrite e = refl
+
+-- what may be written may be read
+pub writable_readable : (m : Memory) (a : ℕ) → may_write m a ≡ true → may_read m a ≡ true
+writable_readable m a e = readable (m.protection a).rights e
 
 pub pushed_back : (v : MachineView) (sp back : ℕ) → HasBelow v.memory sp 8 → back < 2 ^ 64
     → HasBack (pushed v sp back).memory (sp - 8) back

@@ -1,49 +1,13 @@
 -- A filter or a `__finally` block begins.
-use Rattle.std.proofs.Common.{◌≡◌, ℕ, ◌+◌, ◌-◌, ◌%◌, ◌^◌, ◌<◌, true, List, [], ◌∷◌, ◌++◌, length, Ok, refl, ap, subst, arith}
-use Rattle.x64_templates.specs.Words.{W32, low, may_write, Rax, Rcx, Instr, Flags, Slot, BodyState, with_slot, MachineView, machine, sizes, move, keep, enter_code, keep_register, keep_base, sp_of, moved, HasCode, FramePlace, Roomy, FrameHolds, IsThere, ReachesBody, Enters}
-use Rattle.x64_templates.proofs.PlacedCode.{enters_then, all_may}
+use Rattle.std.proofs.Common.{◌≡◌, ℕ, ◌+◌, ◌%◌, ◌^◌, ◌<◌, true, [], ◌∷◌, ◌++◌, length, Ok, refl, ap, arith}
+use Rattle.x64_templates.specs.Words.{W32, low, may_write, Rax, Rcx, Flags, Slot, BodyState, with_slot, MachineView, machine, sizes, move, keep, keep_register, sp_of, HasCode, FramePlace, Roomy, FrameHolds, IsThere, ReachesBody}
+use Rattle.x64_templates.proofs.PlacedCode.{all_may}
 use Rattle.x64_templates.proofs.Straight.{executes_one}
-use Rattle.x64_templates.proofs.Lemmas.{sizes_append}
 use Rattle.x64_templates.proofs.Cells.{put}
 use Rattle.x64_templates.proofs.Encoded.{near}
-use Rattle.x64_templates.proofs.Computes.{Reached, code_split, runs_view, leads_kept}
-use Rattle.x64_templates.proofs.Returns.{enter_run}
+use Rattle.x64_templates.proofs.Computes.{Reached, runs_view, leads_kept}
 use Rattle.x64_templates.proofs.Parameters.{kept_at, keeps_register}
-use Rattle.x64_templates.proofs.Funclets.{HasCell, base_kept}
-
--- RSP has fallen, and the base is kept
-pub record FuncletEntered (turns : ℕ) (v w : MachineView) (rip at : ℕ) (f : Flags) : Type 0 where
-  pub flags : Flags
-  pub comes : Enters turns (machine v rip f) (machine w at flags)
-
-abbrev pub funclet_entry : ℕ → ℕ → List Instr
-funclet_entry frame b = enter_code frame ++ keep_base b
-
-pub funclet_enters : (v : MachineView) (sp frame b base rip : ℕ) (f : Flags)
-    → sp_of v ≡ sp + frame → sp + frame < 2 ^ 63 → frame < 2 ^ 31 → b < 2 ^ 31 → v.rdx ≡ base
-    → base < 2 ^ 64 → HasCell v.memory (sp + b) → HasCode v.memory rip (funclet_entry frame b)
-    → FuncletEntered 2 v (kept_at (moved v sp) (sp + b) base) rip
-    (rip + sizes (funclet_entry frame b)) f
-funclet_enters v sp frame b base rip f at high lf lb is small cell code =
-    let enter = enter_code frame in
-    let parts = code_split v.memory rip enter (keep_base b) code in
-    let e = enter_run v (sp + frame) frame rip f at (omega arith) (omega arith) lf parts.0 in
-    let back : sp + frame - frame ≡ sp = omega arith in
-    let w = moved v sp in
-    let there = rip + sizes enter in
-    let first = subst (λ s. Enters 1 (machine v rip f) (machine (moved v s) there e.flags)) back
-    e.comes in
-    let u = kept_at w (sp + b) base in
-    let r = runs_view (keep_base b) w u there e.flags (near b lb, refl, refl, tt) parts.1
-    (base_kept w sp b base refl is small cell) in
-    let place : there + sizes (keep_base b) ≡ rip
-    + sizes (funclet_entry frame b) = omega (arith, sizes_append enter (keep_base b)) in
-    record {
-      flags = r.left;
-      comes = subst (λ a. Enters 2 (machine v rip f) (machine u a r.left))
-          place (enters_then 1 1 (machine v rip f) (machine w there e.flags)
-          (machine u (there + sizes (keep_base b)) r.left) first r.comes);
-    }
+use Rattle.x64_templates.proofs.Funclets.{HasCell}
 
 -- a filter keeps RCX, the address of its EXCEPTION_POINTERS
 pub pointers_kept : (v : MachineView) (sp d x rip : ℕ) (f : Flags) → sp_of v ≡ sp → v.rcx ≡ x

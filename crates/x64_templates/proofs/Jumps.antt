@@ -1,11 +1,11 @@
 -- Jumps come to their labels.
 use Rattle.x64_templates.proofs.Lemmas.{arrives, short, jump_if_size, sizes_append}
 use Rattle.std.proofs.Common.{◌≡◌, ℕ, ◌+◌, ◌-◌, ◌%◌, ◌^◌, ◌<◌, Bool, true, false, cond, eqb, [], ◌∷◌, ◌++◌, length, Ok, refl, sym, ap, subst, ◌∙◌, arith, length-append}
-use Rattle.x64_templates.specs.Words.{W64, low, Memory, Rax, Relative, Instr, chosen, is_encodable, Flags, subtracted, State, effect, Slot, BodyState, takes_frame, MachineView, machine, size, sizes, fetch, distance, jump_equal, jump_code, compare_zero, test_code, jump_if_zero_code, separator_code, IsNear, IsBytes, Reaches, Enters, HasCode, FramePlace, Roomy, FrameHolds, IsThere, ReachesBody, jump}
+use Rattle.x64_templates.specs.Words.{W64, low, Memory, Rax, Relative, Instr, chosen, is_encodable, Flags, subtracted, State, effect, Slot, BodyState, takes_frame, MachineView, machine, size, sizes, fetch, distance, jump_equal, jump_code, compare_zero, test_code, jump_if_zero_code, separator_code, IsNear, IsBytes, Reaches, HasCode, FramePlace, Roomy, FrameHolds, IsThere, ReachesBody, jump}
 use Rattle.x64_instr.specs.declared.instruction.Condition.TheVariants as conditions
 use Rattle.x64_instr.specs.declared.instruction.Instr.TheVariants as instrs
 use Rattle.x64_templates.proofs.PlacedCode.{bytes_split, reaches_then}
-use Rattle.x64_templates.proofs.Straight.{one_runs, one_enters_frame}
+use Rattle.x64_templates.proofs.Straight.{one_runs}
 use Rattle.x64_templates.proofs.Cells.{put, sp_of, fetch_does}
 use Rattle.x64_templates.proofs.Encoded.{fetch_fine}
 use Rattle.x64_templates.proofs.Computes.{code_split, runs_view}
@@ -22,16 +22,6 @@ one_reaches i v w rip at f g enc inside code e =
     let h = code.placed.high in
     (one_runs i (machine v rip f) (machine w at g) (enc, tt) inside p.0
     (record { low = l; high = omega arith }) e).comes
-
-pub one_enters : (i : Instr) (v w : MachineView) (rip at : ℕ) (f g : Flags) → is_encodable i ≡ true
-    → HasCode v.memory rip (i ∷ []) → effect (machine v (rip + size i) f) i ≡ Ok (machine w at g)
-    → Enters 1 (machine v rip f) (machine w at g)
-one_enters i v w rip at f g enc code e =
-    let p = bytes_split v.memory rip (chosen i) [] code.is_there in
-    let l = code.placed.low in
-    let h = code.placed.high in
-    one_enters_frame i (machine v rip f) (machine w at g) (enc, tt) p.0
-    (record { low = l; high = omega arith }) e
 
 stays : (p : FramePlace) (turns : ℕ) (v w : MachineView) (rip at : ℕ) (f g : Flags) (b : BodyState)
     → Reaches turns (machine v rip f) (machine w at g) → w.rest ≡ v.rest → w.locals ≡ v.locals → w.memory ≡ v.memory

@@ -2,7 +2,8 @@
 use Rattle.std.proofs.Common.{◌≡◌, ℕ, ◌+◌, ◌-◌, ◌^◌, ◌<◌, ◌≤◌, true, false, ltb, List, [], ◌∷◌, Ok, refl, sym, ap, subst, ◌∙◌, arith, inl, inr}
 use Rattle.std.specs.Prelude.{◌⊎◌}
 use Rattle.std.proofs.lemmas.Bool.{cases_lt, lt-ltb}
-use Rattle.x64_templates.specs.Words.{W32, W64, low, may_write, Rax, Rsp, Instr, Flags, subtracted, effect, spelled, MachineView, machine, size, sizes, call, IsNear, sp_of, pushed, HasBelow, moved, check_stack, Reaches, HasCode, opcode_register, enter_large}
+use Rattle.x64_templates.specs.Words.{W32, W64, low, may_write, Rax, Rsp, Instr, Flags, subtracted, effect, spelled, MachineView, machine, size, sizes, call, IsNear, sp_of, pushed, HasBelow, moved, check_stack, Reaches, HasCode, opcode_register, distance}
+use Rattle.frame_rules.specs.Plan.{allocating}
 use Rattle.x64_instr.specs.declared.operand.RegisterOrMemory.TheVariants as places
 use Rattle.x64_instr.specs.declared.operand.Operand.TheVariants as operands
 use Rattle.x64_instr.specs.declared.instruction.Operation.TheVariants as arithmetic
@@ -45,7 +46,7 @@ move_size n = refl
 
 -- RSP has fallen by the frame, RAX and R11 hold something else, and below the old RSP a return
 -- address was written
-pub record EnteredLarge (v : MachineView) (sp frame rip : ℕ) (f : Flags) : Type 0 where
+pub record EnteredLarge (v : MachineView) (sp frame rip check : ℕ) (f : Flags) : Type 0 where
   pub flags : Flags
   pub eleventh : ℕ
   pub comes : Reaches 8 (machine v rip f) (machine
@@ -53,7 +54,7 @@ pub record EnteredLarge (v : MachineView) (sp frame rip : ℕ) (f : Flags) : Typ
         rax = frame;
         rest = record v.rest { rsp = sp - frame; r11 = eleventh };
         memory = (pushed v sp (rip + 10)).memory;
-      }) (rip + sizes (enter_large frame rip 0)) flags)
+      }) (rip + sizes (allocating (distance (rip + 10) check) frame false)) flags)
 
 lower_by_rax : (v : MachineView) (n sp next : ℕ) (f : Flags) → sp_of v ≡ sp → v.rax ≡ n → n ≤ sp
     → sp < 2 ^ 64 → effect (machine v next f)
@@ -69,7 +70,8 @@ lower_by_rax v n sp next f e rax le high =
 pub enter_large_run : (v : MachineView) (sp frame rip check : ℕ) (f : Flags)
     → sp_of v ≡ sp → HasBelow v.memory sp 8 → Touchable v.memory sp frame → frame < 2 ^ 31
     → IsNear (rip + 10) check → rip + 10 < 2 ^ 48 → HasCode v.memory check check_stack
-    → HasCode v.memory rip (enter_large frame rip check) → EnteredLarge v sp frame rip f
+    → HasCode v.memory rip (allocating (distance (rip + 10) check) frame false)
+    → EnteredLarge v sp frame rip check f
 enter_large_run v sp frame rip check f at below touch small near high leaf code =
     let e = touch.enough in let hi = touch.high in let mo = touch.more in
     let i = instrs.Move W32 (places.Register Rax) (operands.Immediate frame) in
@@ -96,7 +98,8 @@ enter_large_run v sp frame rip check f at below touch small near high leaf code 
     let second = subst (λ a. Reaches 1 (machine v1 (rip + 5) f) (machine (pushed v1 sp a) check f))
     e3 (call_reaches v1 sp (rip + 5) check f at below (subst (λ a. IsNear a check) (sym e3) near)
     (subst (λ a. HasCode v.memory (rip + 5) (call a check ∷ [])) (sym e3) q.0)) in
-    let third = check_run v2 sp frame (rip + 10) check f refl refl (record { enough = e; more = mo; high = hi; first = touch.first; last = touch.last })
+    let third = check_run v2 sp frame (rip + 10) check f refl refl
+    (record { enough = e; more = mo; high = hi; first = touch.first; last = touch.last })
     (pushed_back v1 sp (rip + 10) below (omega arith))
     (pushed_keeps_code v1 sp (rip + 10) check check_stack below leaf) in
     let v3 = moved (with_eleventh (with_eleventh v2 sp) (sp - frame)) sp in
@@ -105,8 +108,8 @@ enter_large_run v sp frame rip check f at below touch small near high leaf code 
     let last = one_reaches k v3 v4 (rip + 10) (rip + 10 + size k) third.0 g refl refl
     (pushed_keeps_code v1 sp (rip + 10) (rip + 10) (k ∷ []) below tail)
     (lower_by_rax v3 frame sp (rip + 10 + size k) third.0 refl refl e (omega arith)) in
-    let end : rip + 10 + size k ≡ rip + sizes (enter_large frame rip 0) = let s0 = call_size
-    (rip + 10) 0 in omega arith in
+    let end : rip + 10 + size k
+    ≡ rip + sizes (allocating (distance (rip + 10) check) frame false) = omega arith in
     let all = reaches_then 1 7 (machine v rip f) (machine v1 (rip + 5) f)
     (machine v4 (rip + 10 + size k) g) first
     (reaches_then 1 6 (machine v1 (rip + 5) f) (machine v2 check f)

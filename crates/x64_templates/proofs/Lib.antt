@@ -32,8 +32,11 @@ pub mod Retries
 pub mod Epilogues
 pub mod Probing
 pub mod LargeEntries
+pub mod Ranges
+pub mod PrologueParts
+pub mod PrologueRuns
+pub mod EpilogueRuns
 pub mod FuncletEntries
-pub mod FilterEntries
 pub mod Services
 pub mod Passing
 mod Witnesses

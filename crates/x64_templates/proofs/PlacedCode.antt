@@ -1,8 +1,8 @@
 -- Code at its place is fetched as it was placed, and one turn runs its first instruction.
-use Rattle.std.proofs.Common.{◌≡◌, ℕ, zero, suc, ◌+◌, ◌-◌, ◌*◌, ◌%◌, ◌^◌, ◌<◌, ◌≤◌, Bool, true, false, cond, ltb, List, [], ◌∷◌, ◌++◌, length, Option, None, Some, Ok, refl, sym, ap, subst, ◌∙◌, arith, length-append}
+use Rattle.std.proofs.Common.{◌≡◌, ℕ, zero, suc, ◌+◌, ◌-◌, ◌*◌, ◌%◌, ◌^◌, ◌<◌, ◌≤◌, Bool, true, false, cond, ltb, List, [], ◌∷◌, ◌++◌, length, Option, None, Some, Ok, refl, sym, ap, subst, ◌∙◌, arith, inl, inr, length-append}
 use Rattle.std.proofs.lemmas.Bool.{le-leb, le-ltb, lt-ltb}
 use Rattle.std.proofs.lemmas.List.{append-nil}
-use Rattle.x64_templates.specs.Words.{W64, Protection, is_writable, Memory, next, executable, may_read, may_write, first_refused, number_at, with_number, with_bytes, access, unless_refused, Instr, IsEncoding, leading, chosen, is_encodable, ◌>>=◌, State, granted, with_rip, load, store, effect, IsCodeAt, IsPlaced, thunk, Runs, Reaches, Enters, instr}
+use Rattle.x64_templates.specs.Words.{W64, Protection, is_writable, Memory, next, executable, may_read, may_write, first_refused, number_at, with_number, with_bytes, access, unless_refused, Instr, IsEncoding, leading, chosen, is_encodable, ◌>>=◌, State, granted, with_rip, load, store, effect, IsCodeAt, IsPlaced, thunk, Runs, Reaches, Enters, instr, ReachesInside}
 use Rattle.x64_instr.proofs.Table as tables
 use Rattle.x64_encode.proofs.Written as written
 use Rattle.host_layout.specs.Services.{in_host_page}
@@ -153,13 +153,52 @@ reaches_then (suc m) n s t u a b =
     let e : suc (m + n) ≡ suc m + n = omega arith in
     subst (λ k. Reaches k s u) e (a.0, a.1, reaches_then m n a.0 t u a.2 b)
 
-pub reaches_enters : (n : ℕ) (s t : State) → Reaches n s t → Enters n s t
-reaches_enters zero s t a = a
-reaches_enters (suc n) s t a = (a.0, a.1.steps, a.2)
+reaches_inside : (from to n : ℕ) (s t : State) → Reaches n s t → ReachesInside from to n s t
+reaches_inside from to zero s t a = a
+reaches_inside from to (suc n) s t a = (a.0, inl a.1, reaches_inside from to n a.0 t a.2)
 
-pub enters_then : (m n : ℕ) (s t u : State) → Enters m s t → Reaches n t u → Enters (m + n) s u
-enters_then zero n s t u a b = let e : n ≡ 0 + n = omega arith in
-    subst (λ k. Enters k s u) e (subst (λ x. Enters n x u) (sym a) (reaches_enters n t u b))
-enters_then (suc m) n s t u a b =
+pub reaches_enters : (from to n : ℕ) (s t : State) → Reaches n s t → Enters from to n s t
+reaches_enters from to zero s t a = a
+reaches_enters from to (suc n) s t a = (a.0, a.1.steps, reaches_inside from to n a.0 t a.2)
+
+inside_then : (from to m n : ℕ) (s t u : State) → ReachesInside from to m s t
+    → ReachesInside from to n t u → ReachesInside from to (m + n) s u
+inside_then from to zero n s t u a b = let e : n ≡ 0 + n = omega arith in
+    subst (λ k. ReachesInside from to k s u) e
+    (subst (λ x. ReachesInside from to n x u) (sym a) b)
+inside_then from to (suc m) n s t u a b =
     let e : suc (m + n) ≡ suc m + n = omega arith in
-    subst (λ k. Enters k s u) e (a.0, a.1, reaches_then m n a.0 t u a.2 b)
+    subst (λ k. ReachesInside from to k s u) e
+    (a.0, a.1, inside_then from to m n a.0 t u a.2 b)
+
+-- what is entered strictly between the two addresses is a part of what was entered before
+enters_inside : (from to n : ℕ) (t u : State)
+    → (0 < n → (from < t.cpu.rip) × (t.cpu.rip < to)) → Enters from to n t u
+    → ReachesInside from to n t u
+enters_inside from to zero t u inside b = b
+enters_inside from to (suc n) t u inside b =
+    let i = inside (omega arith) in (b.0, inr (b.1, i.0, i.1), b.2)
+
+pub enters_on : (from to m n : ℕ) (s t u : State) → Enters from to m s t
+    → (0 < n → (from < t.cpu.rip) × (t.cpu.rip < to)) → Enters from to n t u
+    → Enters from to (m + n) s u
+enters_on from to zero n s t u a inside b = let e : n ≡ 0 + n = omega arith in
+    subst (λ k. Enters from to k s u) e (subst (λ x. Enters from to n x u) (sym a) b)
+enters_on from to (suc m) n s t u a inside b =
+    let e : suc (m + n) ≡ suc m + n = omega arith in
+    subst (λ k. Enters from to k s u) e (
+      a.0,
+      a.1,
+      inside_then from to m n a.0 t u a.2
+          (enters_inside from to n t u inside b),
+    )
+
+pub enters_then : (from to m n : ℕ) (s t u : State) → Enters from to m s t → Reaches n t u
+    → Enters from to (m + n) s u
+enters_then from to zero n s t u a b = let e : n ≡ 0 + n = omega arith in
+    subst (λ k. Enters from to k s u) e
+    (subst (λ x. Enters from to n x u) (sym a) (reaches_enters from to n t u b))
+enters_then from to (suc m) n s t u a b =
+    let e : suc (m + n) ≡ suc m + n = omega arith in
+    subst (λ k. Enters from to k s u) e
+    (a.0, a.1, inside_then from to m n a.0 t u a.2 (reaches_inside from to n t u b))

@@ -1,20 +1,23 @@
--- A body is entered and left, and its caller's slots outlast a call.
-use Rattle.std.proofs.Common.{◌≡◌, ℕ, ◌+◌, ◌-◌, ◌%◌, ◌^◌, ◌<◌, ◌≤◌, ◌==◌, Bool, true, false, [], ◌∷◌, length, Ok, refl, sym, ap, subst, ◌∙◌, arith, length-append}
-use Rattle.std.proofs.lemmas.Bool.{eqb-true}
+-- A body is left, and its caller's slots outlast a call.
+use Rattle.std.proofs.Common.{◌≡◌, ℕ, ◌+◌, ◌%◌, ◌^◌, ◌<◌, ◌≤◌, Bool, true, [], length, Ok, refl, sym, ap, subst, ◌∙◌, arith, length-append}
+use Rattle.std.proofs.lemmas.Bool.{false≢true}
 use Rattle.frame_rules.specs.Plan.{epilogue}
 use Rattle.template_code.specs.Frames.{plan_of_layout}
-use Rattle.template_code.proofs.Frames.{ending_by}
-use Rattle.x64_templates.specs.Words.{W64, low, Memory, may_read, Rax, Rsp, Flags, added, subtracted, ◌>>=◌, State, Answer, with_rip, load, effect, Slot, BodyState, with_slot, MachineView, machine, size, sizes, fetch, keep, enter_code, sp_of, HasBack, moved, Enters, Reaches, HasCode, FramePlace, Roomy, FrameHolds, IsThere, ReachesBody, return_code, Returned}
-use Rattle.x64_instr.specs.declared.operand.RegisterOrMemory.TheVariants as places
-use Rattle.x64_instr.specs.declared.operand.Operand.TheVariants as operands
-use Rattle.x64_instr.specs.declared.instruction.Operation.TheVariants as arithmetic
+use Rattle.frame_rules.specs.Frame.{HoldsFrame}
+use Rattle.frame_rules.specs.Plan.{IsPlan, operations_of}
+use Rattle.frame_rules.specs.States.{registers}
+use Rattle.frame_rules.proofs.Steps.{set_other}
+use Rattle.frame_rules.proofs.Undoing.{framed_saved, saved_register}
+use Rattle.virtual_unwind.specs.Contexts.{is_nonvolatile}
+use Rattle.x64_templates.specs.Straight.{registers_of}
+use Rattle.x64_templates.proofs.EpilogueRuns.{epilogue_leaves}
+use Rattle.x64_templates.specs.Words.{W64, low, Memory, may_read, Rax, Flags, ◌>>=◌, State, Answer, with_rip, load, effect, Slot, BodyState, with_slot, MachineView, machine, sizes, fetch, keep, sp_of, HasBack, moved, Reaches, HasCode, FramePlace, Roomy, FrameHolds, IsThere, ReachesBody, return_code, Returned}
 use Rattle.x64_instr.specs.declared.instruction.Instr.TheVariants as instrs
 use Rattle.x64_templates.proofs.PlacedCode.{all_may, load_at, reaches_then}
 use Rattle.x64_templates.proofs.Straight.{executes_nothing}
 use Rattle.x64_templates.proofs.Cells.{put, fetch_does}
-use Rattle.x64_templates.proofs.Encoded.{fetch_fine, near}
+use Rattle.x64_templates.proofs.Encoded.{fetch_fine}
 use Rattle.x64_templates.proofs.Computes.{code_split, runs_view, leads_kept}
-use Rattle.x64_templates.proofs.Jumps.{one_reaches, one_enters}
 
 -- ---- what lies above RSP, but for the source's memory, outlasts whatever runs below
 
@@ -47,46 +50,6 @@ call_ends p to v at f b room is small sp h code =
 
 -- ---- RSP is moved
 
-raise_effect : (v : MachineView) (n sp next : ℕ) (f : Flags) → sp_of v ≡ sp → n < 2 ^ 31
-    → sp + n < 2 ^ 64 → effect (machine v next f)
-    (instrs.Arithmetic arithmetic.Add W64 (places.Register Rsp) (operands.Immediate n))
-    ≡ Ok (machine (moved v (sp + n)) next (added W64 (low W64 (sp_of v)) (low W64 n)).1)
-unfolding added
-raise_effect v n sp next f e lt high =
-    let q : low W64 (low W64 (low W64 (sp_of v) + low W64 n)) ≡ sp + n = omega arith in
-    ap (λ (a : ℕ). Ok (machine (moved v a) next (added W64 (low W64 (sp_of v)) (low W64 n)).1)) q
-
-lower_effect : (v : MachineView) (n sp next : ℕ) (f : Flags) → sp_of v ≡ sp → n ≤ sp → sp < 2 ^ 64
-    → effect (machine v next f) (instrs.Arithmetic arithmetic.Sub W64 (places.Register Rsp)
-    (operands.Immediate n)) ≡ Ok (machine (moved v (sp - n)) next
-    (subtracted W64 (low W64 (sp_of v)) (low W64 n)).1)
-unfolding subtracted
-lower_effect v n sp next f e le high =
-    let q : low W64 (low W64 (low W64 (sp_of v) + (2 ^ 64 - low W64 n))) ≡ sp - n = omega arith in
-    ap (λ (a : ℕ). Ok (machine (moved v a) next (subtracted W64 (low W64 (sp_of v)) (low W64 n)).1))
-    q
-
--- a body begins: its frame lies below the return address
-pub record FrameMade (v : MachineView) (sp frame rip : ℕ) (f : Flags) : Type 0 where
-  pub flags : Flags
-  pub comes : Enters 1 (machine v rip f) (machine (moved v (sp - frame))
-      (rip + sizes (enter_code frame)) flags)
-
-pub enter_run : (v : MachineView) (sp frame rip : ℕ) (f : Flags) → sp_of v ≡ sp → frame ≤ sp
-    → sp < 2 ^ 64 → frame < 2 ^ 31 → HasCode v.memory rip (enter_code frame)
-    → FrameMade v sp frame rip f
-enter_run v sp frame rip f at le high lt code =
-    let i = instrs.Arithmetic arithmetic.Sub W64 (places.Register Rsp) (operands.Immediate frame) in
-    let g = (subtracted W64 (low W64 (sp_of v)) (low W64 frame)).1 in
-    let z : rip + size i ≡ rip + (size i + 0) = omega arith in
-    record {
-      flags = g;
-      comes = subst (λ a. Enters 1 (machine v rip f)
-          (machine (moved v (sp - frame)) a g)) z
-          (one_enters i v (moved v (sp - frame)) rip (rip + size i) f g (near frame lt) code
-          (lower_effect v frame sp (rip + size i) f at le high));
-    }
-
 -- a return: to the address at RSP, which rises by 8
 pub return_effect : (v : MachineView) (sp back next : ℕ) (f : Flags) → sp_of v ≡ sp
     → sp + 16 < 2 ^ 64 → HasBack v.memory sp back
@@ -102,60 +65,45 @@ return_effect v sp back next f e high b =
     ∙ ap (λ (a : ℕ). Ok (with_rip after a)) b.number
     ∙ ap (λ (a : ℕ). Ok (machine (moved v a) back f)) up
 
-epilogue_run : (v : MachineView) (sp frame back rip : ℕ) (f : Flags) (none : Bool)
-    → (frame == 0) ≡ none
-    → sp_of v ≡ sp → frame < 2 ^ 31 → sp < 2 ^ 47 → HasBack v.memory (sp + frame) back
-    → HasCode v.memory rip (ending_by frame 0 none) → (flags : Flags)
-    × Reaches (length (ending_by frame 0 none)) (machine v rip f)
-    (machine (moved v (sp + frame + 8)) back flags)
-epilogue_run v sp frame back rip f true none at lt high b code =
-    let no_frame = eqb-true frame 0 none in
-    let z : sp + frame ≡ sp = omega arith in
-    let last = one_reaches instrs.Return v (moved v (sp + 8)) rip back f f refl refl code
-    (return_effect v sp back (rip + size instrs.Return) f at (omega arith)
-    (subst (λ a. HasBack v.memory a back) z b)) in
-    (f, subst (λ a. Reaches 1 (machine v rip f) (machine (moved v (a + 8)) back f)) (sym z) last)
-epilogue_run v sp frame back rip f false none at lt high b code =
-    let i = instrs.Arithmetic arithmetic.Add W64 (places.Register Rsp) (operands.Immediate frame) in
-    let g = (added W64 (low W64 (sp_of v)) (low W64 frame)).1 in
-    let parts = code_split v.memory rip (i ∷ []) (instrs.Return ∷ []) code in
-    let z : rip + size i ≡ rip + (size i + 0) = omega arith in
-    let up = moved v (sp + frame) in
-    let first = subst (λ a. Reaches 1 (machine v rip f) (machine up a g)) z
-    (one_reaches i v up rip (rip + size i) f g (near frame lt) refl parts.0
-    (raise_effect v frame sp (rip + size i) f at lt (omega arith))) in
-    let second = one_reaches instrs.Return up (moved up (sp + frame + 8)) (rip + sizes (i ∷ []))
-    back g g refl refl parts.1 (return_effect up (sp + frame) back
-    (rip + sizes (i ∷ []) + size instrs.Return) g refl (omega arith) b) in (
-      g,
-      reaches_then 1 1 (machine v rip f) (machine up (rip + sizes (i ∷ [])) g)
-          (machine (moved up (sp + frame + 8)) back g) first second,
-    )
-
-pub return_run : (p : FramePlace) (from : Slot) (v : MachineView) (back rip : ℕ) (f : Flags)
-    (b : BodyState) → Roomy p → IsThere p from → sp_of v ≡ p.sp
-    → p.layout.frame < 2 ^ 31 → FrameHolds p v.memory b
-    → HasBack v.memory (p.sp + p.layout.frame) back
+-- RAX is fetched, and the epilogue is run
+pub return_run : (p : FramePlace) (from : Slot) (v : MachineView) (old : ℕ → ℕ) (back rip : ℕ)
+    (f : Flags) (b : BodyState) → let plan = plan_of_layout p.layout 0 in
+    Roomy p → IsThere p from → sp_of v ≡ p.sp → FrameHolds p v.memory b
+    → IsPlan plan → old 4 < 2 ^ 47 → ((r : ℕ) → old r < 2 ^ 64)
+    → HoldsFrame plan.frame plan.distance v.memory old back (registers (machine v rip f))
+    (operations_of plan) (operations_of plan)
     → HasCode v.memory rip (return_code p.layout from)
-    → Returned (length (return_code p.layout from)) v (p.sp + p.layout.frame + 8) back
-    (b.slots from) rip f
-return_run p from v back rip f b room is at lt h has code =
+    → Returned (length (return_code p.layout from)) (machine v rip f) old back (b.slots from)
+return_run p from v old back rip f b room is at h is_plan high fits holds code =
     let y = p.layout in
+    let plan = plan_of_layout y 0 in
     let first = fetch y Rax from in
     let w = put true v (b.slots from) in
-    let last = epilogue (plan_of_layout y 0) in
+    let last = epilogue plan in
     let parts = code_split v.memory rip first last code in
     let r = runs_view first v w rip f (fetch_fine y p.counts p.sp p.base true from room is) parts.0
     (fetch_does y p.counts p.reserved p.sp p.base room true from v b is at h) in
-    let e = epilogue_run w p.sp y.frame back (rip + sizes first) r.left (y.frame == 0) refl at lt
-    room.high has parts.1 in
-    let turns : length first + length last
-    ≡ length (return_code y from) = sym (length-append first last) in
+    let s = machine v rip f in
+    let t = machine w (rip + sizes first) r.left in
+    let same : (q : ℕ) → is_nonvolatile q ≡ true → registers t q ≡ registers s q = λ q nv.
+    set_other (registers_of v) 0 q (b.slots from)
+    (λ z. false≢true (ap is_nonvolatile (sym z) ∙ nv)) in
+    let e = epilogue_leaves plan old back t is_plan high fits refl (record {
+      stack = holds.stack;
+      framed = framed_saved plan.frame plan.distance (registers s) (registers t) (registers s 4)
+          (operations_of plan) is_plan.allowed
+          (λ saved. sym (same plan.frame (saved_register plan.frame plan.frame
+          (operations_of plan) is_plan.allowed saved).0)) holds.framed;
+      others = λ q nv ne free. same q nv ∙ holds.others q nv ne free;
+    }) parts.1 in
     record {
-      flags = e.0;
-      comes = subst (λ k. Reaches k (machine v rip f)
-          (machine (moved w (p.sp + y.frame + 8)) back e.0)) turns
-          (reaches_then (length first) (length last) (machine v rip f)
-          (machine w (rip + sizes first) r.left) (machine (moved w (p.sp + y.frame + 8)) back e.0)
-          r.comes e.1);
+      after = e.after;
+      comes = subst (λ k. Reaches k s e.after) (sym (length-append first last))
+          (reaches_then (length first) (length last) s t e.after r.comes e.comes);
+      rip = e.rip;
+      stack = e.stack;
+      kept = e.kept;
+      rax = e.rax;
+      memory = e.memory;
+      count = e.count;
     }

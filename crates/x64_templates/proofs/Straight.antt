@@ -1,7 +1,7 @@
 -- Instructions in memory are run one after another.
 use Rattle.x64_templates.proofs.Lemmas.{sizes_append, longest}
 use Rattle.std.proofs.Common.{◌≡◌, ◌≢◌, ℕ, suc, ◌+◌, ◌≤◌, false, List, [], ◌∷◌, ◌++◌, length, Ok, Err, refl, sym, ap, subst, ◌∙◌, arith}
-use Rattle.x64_templates.specs.Words.{Protection, is_writable, Memory, may_write, Instr, chosen, Flags, ◌>>=◌, State, Answer, with_rip, effect, IsCodeAt, IsPlaced, spelled, Reaches, Enters, AllStraight, takes_frame, NoneTakesFrame, effects, MachineView, machine, Executes, size, sizes, Steps}
+use Rattle.x64_templates.specs.Words.{Protection, is_writable, Memory, may_write, Instr, chosen, Flags, ◌>>=◌, State, Answer, with_rip, effect, IsCodeAt, IsPlaced, spelled, Reaches, AllStraight, takes_frame, NoneTakesFrame, effects, MachineView, machine, Executes, size, sizes, Steps}
 use Rattle.x64_templates.proofs.PlacedCode.{bytes_kept, Encodable, bytes_split, spells, reads, steps, no_turns, one_turn, reaches_then}
 use Rattle.x64_templates.proofs.Leaves.{Left, leaves, bound}
 use Rattle.x64_templates.proofs.Registers.{registers_stay}
@@ -68,12 +68,6 @@ one_runs i s t enc inside is_there placed e = record {
   left = let l = leaves i (with_rip s (s.cpu.rip + length (chosen i))) t e in
       record { protection = l.left.protection; byte = l.left.byte };
 }
-
--- the same for one that makes a frame
-pub one_enters_frame : (i : Instr) (s t : State) → Encodable (i ∷ [])
-    → IsCodeAt s.memory s.cpu.rip (chosen i) → IsPlaced s.cpu.rip (s.cpu.rip + size i)
-    → effect (with_rip s (s.cpu.rip + size i)) i ≡ Ok t → Enters 1 s t
-one_enters_frame i s t enc is_there placed e = (t, one_steps i s t enc is_there placed e, refl)
 
 within : (a n b c : ℕ) → IsPlaced a (a + n) → b + c ≤ n → IsPlaced (a + b) (a + b + c)
 within a n b c p le = let l = p.low in let h = p.high in

@@ -1,7 +1,6 @@
 -- What holds of templates wherever they are placed.
-use Rattle.std.specs.Prelude.{◌≡◌, ℕ, suc, ◌+◌, ◌^◌, ◌<◌, ◌≤◌, Bool, List, length, get_or, Option, Some}
+use Rattle.std.specs.Prelude.{◌≡◌, ℕ, suc, ◌+◌, ◌^◌, ◌<◌, ◌≤◌, Bool, List, [], length, get_or, Option, Some}
 use Rattle.seh_num.specs.declared.event.Code.{Code}
-use Rattle.flat_memory.specs.Memory.{Memory}
 use Rattle.x64_machine.specs.declared.cpu.Flags.{Flags}
 use Rattle.c_operations.specs.declared.operation.Operation.{Operation}
 use Rattle.c_operations.specs.Performed.{performed}
@@ -15,14 +14,23 @@ use Rattle.x64_templates.specs.Straight.{MachineView, machine}
 use Rattle.template_code.specs.Bytes.{sizes}
 use Rattle.template_code.specs.Slots.{operands_code, compute_code}
 use Rattle.template_code.specs.Jumps.{IsNear}
-use Rattle.template_code.specs.Calls.{return_at, begin_call, return_code, function_entry}
+use Rattle.template_code.specs.Calls.{return_at, begin_call, return_code, parameters_code}
+use Rattle.template_code.specs.Probing.{check_stack}
+use Rattle.x64_machine.specs.Effect.{State}
+use Rattle.frame_rules.specs.Bytes.{prologue_code}
+use Rattle.frame_rules.specs.Codes.{depth}
+use Rattle.frame_rules.specs.Plan.{FramePlan, IsPlan, epilogue, operations_of, turned}
+use Rattle.frame_rules.specs.Frame.{HoldsFrame}
+use Rattle.frame_rules.specs.States.{IsEntry, registers}
+use Rattle.template_code.specs.Frames.{plan_of_layout}
+use Rattle.x64_templates.specs.Prologues.{AreProbed, MakesFrame}
 use Rattle.template_code.specs.Template.{Links, template, offset_of}
 use Rattle.x64_templates.specs.Frames.{SlotsHaveRoom}
 use Rattle.x64_templates.specs.Implements.{HasOperands}
-use Rattle.x64_templates.specs.CallStates.{sp_of, with_sp, HasBelow, HasBack}
-use Rattle.x64_templates.specs.Runs.{HasCode, FramePlace, Roomy, FrameHolds, IsThere, EntersBody, Computed}
+use Rattle.x64_templates.specs.CallStates.{sp_of, HasBelow}
+use Rattle.x64_templates.specs.Runs.{HasCode, FramePlace, Roomy, FrameHolds, IsThere, ReachesBody, Computed}
 use Rattle.x64_templates.specs.InstructionRuns.{RunsAllTo, IsLinked}
-use Rattle.x64_templates.specs.EntryStates.{with_arguments, InRegisters, OnStack, IsFunctionFrame, body_in_memory, FreshFrame}
+use Rattle.x64_templates.specs.EntryStates.{with_arguments, InRegisters, OnStack, IsFunctionFrame}
 use Rattle.x64_templates.specs.Returned.{CallBegun, Returned}
 use Rattle.x64_templates.specs.Retries.{FaultsAfter, Retried}
 use Rattle.x64_templates.specs.Epilogues.{NoEpilogue, IsReturn}
@@ -96,32 +104,48 @@ CallsBegin =
     → HasCode v.memory rip (begin_call p.layout first rip to)
     → CallBegun p first v rip to f b
 
--- a function's entry makes its frame and brings its arguments to the locals of their numbers
-abbrev pub FunctionsEnter : Type 0
-FunctionsEnter =
-    (p : FramePlace) (count : ℕ) (arguments : ℕ → ℕ) (v : MachineView) (source : Memory) (rip : ℕ)
-    (f : Flags)
-    → Roomy p → IsFunctionFrame p → count ≤ p.counts.locals
-    → sp_of v ≡ p.sp + p.layout.frame → p.layout.frame < 2 ^ 31
-    → FreshFrame p v.memory source → InRegisters v arguments → OnStack p v.memory count arguments
-    → HasCode v.memory rip (function_entry p.layout count)
-    → EntersBody p (length (function_entry p.layout count)) (machine v rip f)
-    (rip + sizes (function_entry p.layout count)) (with_sp v.rest p.sp) v.locals
-    (record {
-      slots = with_arguments (body_in_memory p.layout p.sp p.base v.memory source).slots
-          arguments 0 count;
-      memory = source;
-    })
+-- the prologue of a plan makes its frame
+abbrev pub ProloguesMakeFrames : Type 0
+ProloguesMakeFrames =
+    (p : FramePlan) (check : ℕ) (e : State) → IsPlan p → IsEntry (depth (operations_of p)) e
+    → HasCode e.memory e.cpu.rip (prologue_code p)
+    → AreProbed p check e.cpu.rip (turned [] (operations_of p))
+    → HasCode e.memory check check_stack
+    → MakesFrame p e
+
+-- in it a function brings its arguments to the locals of their numbers
+abbrev pub ArgumentsAreKept : Type 0
+ArgumentsAreKept =
+    (p : FramePlace) (count : ℕ) (arguments : ℕ → ℕ) (v : MachineView) (rip : ℕ) (f : Flags)
+    (b : BodyState)
+    → Roomy p → IsFunctionFrame p → count ≤ p.counts.locals → sp_of v ≡ p.sp
+    → FrameHolds p v.memory b → InRegisters v arguments → OnStack p v.memory count arguments
+    → HasCode v.memory rip (parameters_code p.layout 0 count)
+    → ReachesBody p (length (parameters_code p.layout 0 count)) (machine v rip f)
+    (rip + sizes (parameters_code p.layout 0 count)) v.rest v.locals
+    (record { slots = with_arguments b.slots arguments 0 count; memory = b.memory })
+
+-- the epilogue of a plan leaves its frame, where the caller has these registers
+abbrev pub EpiloguesLeaveFrames : Type 0
+EpiloguesLeaveFrames =
+    (p : FramePlan) (old : ℕ → ℕ) (back : ℕ) (s : State) → IsPlan p → old 4 < 2 ^ 47
+    → ((r : ℕ) → old r < 2 ^ 64) → length s.cpu.registers ≡ 16
+    → HoldsFrame p.frame p.distance s.memory old back (registers s) (operations_of p)
+    (operations_of p)
+    → HasCode s.memory s.cpu.rip (epilogue p)
+    → Returned (length (epilogue p)) s old back (registers s 0)
 
 -- a return leaves the number in RAX and gives the frame back
 abbrev pub BodiesReturn : Type 0
 BodiesReturn =
-    (p : FramePlace) (from : Slot) (v : MachineView) (back rip : ℕ) (f : Flags) (b : BodyState)
-    → Roomy p → IsThere p from → sp_of v ≡ p.sp → p.layout.frame < 2 ^ 31
-    → FrameHolds p v.memory b → HasBack v.memory (p.sp + p.layout.frame) back
+    (p : FramePlace) (from : Slot) (v : MachineView) (old : ℕ → ℕ) (back rip : ℕ) (f : Flags)
+    (b : BodyState) → let plan = plan_of_layout p.layout 0 in
+    Roomy p → IsThere p from → sp_of v ≡ p.sp → FrameHolds p v.memory b
+    → IsPlan plan → old 4 < 2 ^ 47 → ((r : ℕ) → old r < 2 ^ 64)
+    → HoldsFrame plan.frame plan.distance v.memory old back (registers (machine v rip f))
+    (operations_of plan) (operations_of plan)
     → HasCode v.memory rip (return_code p.layout from)
-    → Returned (length (return_code p.layout from)) v (p.sp + p.layout.frame + 8) back
-    (b.slots from) rip f
+    → Returned (length (return_code p.layout from)) (machine v rip f) old back (b.slots from)
 
 -- ---- bytes
 

@@ -11,6 +11,7 @@ pub mod InstructionRuns
 pub mod EntryStates
 pub mod Exceptions
 pub mod Returned
+pub mod Prologues
 pub mod Retries
 pub mod Epilogues
 pub mod Thunks

@@ -1,18 +1,27 @@
 -- What a call and a return reach.
-use Rattle.std.specs.Prelude.{ℕ, ◌+◌}
+use Rattle.std.specs.Prelude.{◌≡◌, ◌≢◌, ℕ, ◌+◌, true, length}
+use Rattle.x64_machine.specs.Effect.{State}
+use Rattle.virtual_unwind.specs.Contexts.{is_nonvolatile}
+use Rattle.frame_rules.specs.States.{registers}
 use Rattle.x64_machine.specs.declared.cpu.Flags.{Flags}
 use Rattle.linear_code.specs.declared.slot.Slot.TheVariants.{Temporary}
 use Rattle.linear_code.specs.BodyState.{BodyState}
 use Rattle.x64_templates.specs.Straight.{MachineView, machine}
 use Rattle.template_code.specs.Calls.{return_at}
-use Rattle.x64_templates.specs.CallStates.{with_four, pushed, moved}
+use Rattle.x64_templates.specs.CallStates.{with_four, pushed}
 use Rattle.x64_templates.specs.Runs.{Reaches, FramePlace}
 
--- the body is left with this number in RAX, and RSP above the return address; no memory has changed
-pub record Returned (turns : ℕ) (v : MachineView) (sp back x rip : ℕ) (f : Flags) : Type 0 where
-  pub flags : Flags
-  pub comes : Reaches turns (machine v rip f)
-      (machine (moved (record v { rax = x }) sp) back flags)
+-- a body is left with this number in RAX: RIP is the return address, RSP is above it, the other
+-- nonvolatile registers are the caller's, and no memory has changed
+pub record Returned (turns : ℕ) (s : State) (old : ℕ → ℕ) (back x : ℕ) : Type 0 where
+  pub after : State
+  pub comes : Reaches turns s after
+  pub rip : after.cpu.rip ≡ back
+  pub stack : registers after 4 ≡ old 4 + 8
+  pub kept : (r : ℕ) → is_nonvolatile r ≡ true → r ≢ 4 → registers after r ≡ old r
+  pub rax : registers after 0 ≡ x
+  pub memory : after.memory ≡ s.memory
+  pub count : length after.cpu.registers ≡ 16
 
 -- with its arguments in their registers, and the return address at RSP
 pub record CallBegun (p : FramePlace) (first : ℕ) (v : MachineView) (rip to : ℕ) (f : Flags)

@@ -1,5 +1,5 @@
 -- What a run comes to where the code of an operation is placed.
-use Rattle.std.specs.Prelude.{◌≡◌, ◌≢◌, ℕ, zero, suc, ◌+◌, ◌^◌, ◌<◌, Bool, false, List, Option, Some, Ok, Err, length}
+use Rattle.std.specs.Prelude.{◌≡◌, ◌≢◌, ◌⊎◌, ℕ, zero, suc, ◌+◌, ◌^◌, ◌<◌, Bool, false, List, Option, Some, Ok, Err, length}
 use Rattle.seh_num.specs.declared.event.Code.{Code}
 use Rattle.seh_num.specs.declared.size.TheConstants.{LONGEST_INSTRUCTION}
 use Rattle.flat_memory.specs.Memory.{Memory, may_write, executable}
@@ -10,7 +10,7 @@ use Rattle.x64_machine.specs.declared.outcome.Stop.TheVariants as stops
 use Rattle.x64_machine.specs.Effect.{State}
 use Rattle.x64_machine.specs.Effect as machines
 use Rattle.x64_templates.specs.Placed.{IsCodeAt, IsPlaced}
-use Rattle.template_code.specs.Bytes.{spelled}
+use Rattle.template_code.specs.Bytes.{spelled, sizes}
 use Rattle.linear_code.specs.declared.slot.Slot.{Slot}
 use Rattle.c_operations.specs.declared.operation.Operation.{Operation}
 use Rattle.linear_code.specs.BodyState.{BodyState, Counts, with_slot}
@@ -18,7 +18,6 @@ use Rattle.c_operations.specs.Performed.{OperationResult, Gives, Raises, Undefin
 use Rattle.linear_code.specs.Meaning.{InstructionEffect, Next, Faults, IsSlot}
 use Rattle.template_code.specs.declared.layout.Layout.{Layout}
 use Rattle.x64_templates.specs.Straight.{AreSmall, LocalRegisters, OtherRegisters, MachineView, machine, takes_frame}
-use Rattle.template_code.specs.Bytes.{sizes}
 use Rattle.template_code.specs.Slots.{operands_code, finish_code, compute_code}
 use Rattle.x64_templates.specs.Frames.{SlotsHaveRoom, HoldsBody, Changes}
 use Rattle.x64_templates.specs.Implements.{HasOperands}
@@ -47,10 +46,20 @@ abbrev pub Reaches : ℕ → State → State → Type 0
 Reaches zero s t = s ≡ t
 Reaches (suc n) s t = (u : State) × Runs s u × Reaches n u t
 
--- the same, but that the first one may make a frame
-abbrev pub Enters : ℕ → State → State → Type 0
-Enters zero s t = s ≡ t
-Enters (suc n) s t = (u : State) × Steps s u × Reaches n u t
+-- the same, but that an instruction may make a frame strictly between two addresses: inside a
+-- prologue
+abbrev pub RunsInside : (from to : ℕ) → State → State → Type 0
+RunsInside from to s u = Runs s u ⊎ (Steps s u × (from < s.cpu.rip) × (s.cpu.rip < to))
+
+abbrev pub ReachesInside : (from to : ℕ) → ℕ → State → State → Type 0
+ReachesInside from to zero s t = s ≡ t
+ReachesInside from to (suc n) s t =
+    (u : State) × RunsInside from to s u × ReachesInside from to n u t
+
+-- and that the first one may make one wherever it is
+abbrev pub Enters : (from to : ℕ) → ℕ → State → State → Type 0
+Enters from to zero s t = s ≡ t
+Enters from to (suc n) s t = (u : State) × Steps s u × ReachesInside from to n u t
 
 -- the code is placed here
 pub record HasCode (m : Memory) (at : ℕ) (code : List Instr) : Type 0 where
@@ -84,17 +93,6 @@ pub record ReachesBody (p : FramePlace) (turns : ℕ) (s : State) (to : ℕ) (ot
   pub after : MachineView
   pub flags : Flags
   pub comes : Reaches turns s (machine after to flags)
-  pub rest : after.rest ≡ others
-  pub locals : after.locals ≡ same
-  pub holds : FrameHolds p after.memory b
-  pub changes : ChangesOwn p s.memory after.memory
-
--- the same from a function's first byte
-pub record EntersBody (p : FramePlace) (turns : ℕ) (s : State) (to : ℕ) (others : OtherRegisters)
-    (same : LocalRegisters) (b : BodyState) : Type 0 where
-  pub after : MachineView
-  pub flags : Flags
-  pub comes : Enters turns s (machine after to flags)
   pub rest : after.rest ≡ others
   pub locals : after.locals ≡ same
   pub holds : FrameHolds p after.memory b

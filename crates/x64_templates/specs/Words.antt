@@ -53,10 +53,10 @@ pub use Rattle.x64_machine.specs.declared.cpu.Cpu.{Cpu}
 pub use Rattle.x64_machine.specs.declared.cpu.Flags.{Flags}
 pub use Rattle.template_code.specs.Bytes.{sizes, spelled, thunk}
 unfoldable pub use Rattle.template_code.specs.Bytes.{size}
-pub use Rattle.template_code.specs.Calls.{return_at, begin_call, parameter_register, keep_register, stack_parameter, parameter_code, parameters_code, enter_code, field_load, information_code, keep_base, arguments_code, function_entry, call_code, passing_code, field_at, return_code, finally_arguments, call_finally_code, address_to, local_unwind_code}
+pub use Rattle.template_code.specs.Calls.{return_at, begin_call, parameter_register, keep_register, stack_parameter, parameter_code, parameters_code, field_load, information_code, keep_base, arguments_code, call_code, passing_code, field_at, return_code, finally_arguments, call_finally_code, address_to, local_unwind_code}
 pub use Rattle.template_code.specs.Jumps.{distance, call, IsNear, compare_zero, jump_equal, test_code, jump_code, jump_if_zero_code, separator_code, jump}
 pub use Rattle.template_code.specs.Operations.{above, move, compare, before, work, high_half, extended, pure_code, compared, less, not_less, division}
-pub use Rattle.template_code.specs.Probing.{check_stack, enter_large, first_touch}
+pub use Rattle.template_code.specs.Probing.{check_stack, first_touch}
 pub use Rattle.template_code.specs.Slots.{fetched, put_back, temporary_at, local_at, keep_local, keep, fetch_local, fetch, operands_code, finish_code, compute_code}
 pub use Rattle.template_code.specs.Template.{Links, template, offset_of, code_from, nowhere, body_size, HasLabels}
 unfoldable pub use Rattle.template_code.specs.Template.{template_size}
@@ -70,6 +70,7 @@ pub use Rattle.x64_templates.specs.InstructionRuns.{InstructionDone, IsLinked, R
 pub use Rattle.x64_templates.specs.Keeping.{keeps_registers, stores_nothing, StoresNothing, Flows, StoresOnce, KeepsRegisters, is_volatile, is_volatile_or_memory, is_register, is_call}
 pub use Rattle.x64_templates.specs.Placed.{IsCodeAt, IsPlaced}
 pub use Rattle.x64_templates.specs.Returned.{CallBegun, Returned}
-pub use Rattle.x64_templates.specs.Runs.{Reaches, HasCode, FramePlace, Roomy, FrameHolds, Runs, IsThere, ReachesBody, Finished, Computed, ChangesOwn, Enters, EntersBody, ReachesFault, Steps}
-pub use Rattle.x64_templates.specs.Straight.{MachineView, LocalRegisters, OtherRegisters, registers_of, machine, Executes, Yields, is_straight, AllStraight, begins_epilogue, takes_frame, NoneTakesFrame, is_rsp_place, is_subtraction, is_number, AreSmall}
+pub use Rattle.x64_templates.specs.Runs.{Reaches, HasCode, FramePlace, Roomy, FrameHolds, Runs, IsThere, ReachesBody, Finished, Computed, ChangesOwn, Enters, ReachesInside, ReachesFault, Steps}
+pub use Rattle.x64_templates.specs.Prologues.{Within, code_stores, none_stores, code_turns, codes_turns, IsProbed, AreProbed, MakesFrame}
+pub use Rattle.x64_templates.specs.Straight.{MachineView, machine, Executes, Yields, is_straight, AllStraight, begins_epilogue, takes_frame, NoneTakesFrame, is_rsp_place, is_subtraction, is_number, AreSmall, LocalRegisters, OtherRegisters, registers_of}
 unfoldable pub use Rattle.x64_templates.specs.Straight.{effects}

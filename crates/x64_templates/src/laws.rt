@@ -1,7 +1,7 @@
 //! What holds of templates wherever they are placed.
 
+ghost use Rattle.x64_templates.specs.Laws.{OperationsRun, BodiesRun, BodiesFault, FaultsAreRetried, CallsBegin, ProloguesMakeFrames, ArgumentsAreKept, EpiloguesLeaveFrames, BodiesReturn, TemplatesHaveNoEpilogue};
 ghost use Rattle.x64_templates.specs.Locals.{LocalsAreFetched, LocalsAreKept};
-ghost use Rattle.x64_templates.specs.Laws.{OperationsRun, BodiesRun, BodiesFault, FaultsAreRetried, CallsBegin, FunctionsEnter, BodiesReturn, TemplatesHaveNoEpilogue};
 
 /// The code of a body does what its linear code means. Where an instruction faults, the machine's
 /// faults with its operands in registers, and the operation can be made again from there.
@@ -12,11 +12,13 @@ pub fn bodies_run()
     ensures retries { FaultsAreRetried }
 {}
 
-/// A call comes to its callee with arguments and return address, a function begins with its
-/// arguments in its locals, and a return leaves its number in RAX.
+/// A call comes to its callee with arguments and return address, a prologue makes the frame of its
+/// plan, a function begins with its arguments in its locals, and a return leaves its number in RAX.
 pub fn calls_pass_arguments()
     ensures calls { CallsBegin }
-    ensures entries { FunctionsEnter }
+    ensures entries { ProloguesMakeFrames }
+    ensures arguments { ArgumentsAreKept }
+    ensures epilogues { EpiloguesLeaveFrames }
     ensures returns { BodiesReturn }
 {}
 
