@@ -30,7 +30,8 @@ use Rattle.match_bodies.specs.Setting.{HasProgram}
 use Rattle.match_bodies.proofs.Lemmas.{call_size, code_split, keep_first, short, sizes_append}
 use Rattle.x64_templates.specs.Prologues.{AreProbed, code_turns, codes_turns, prologue_turns}
 use Rattle.x64_templates.proofs.PrologueParts.{bytes_sizes}
-use Rattle.match_bodies.proofs.FrameCode.{plan_allowed, plan_probed, steps_sizes}
+use Rattle.match_bodies.proofs.FrameCode.{plan_probed, steps_sizes}
+use Rattle.match_bodies.proofs.BodyFrames.{frame_plan_is}
 use Rattle.match_bodies.proofs.SilentTurns.{program_kept}
 use Rattle.match_bodies.proofs.RoutineWalks.{StepsTo, steps_split, keeps_split, Beneath}
 use Rattle.match_bodies.proofs.ReturnAddresses.{argument_found}
@@ -88,13 +89,15 @@ module _ (setting : Setting) where
         (omega arith, omega arith, omega arith, omega arith)
 
     -- the plan of its frame keeps the rules, and its prologue probes what it allocates
-    pub body_planned : frame + 8 ≤ LARGEST_FRAME → IsPlan (body_plan p q name)
-    body_planned most = record {
-      size = omega arith;
-      distance = omega arith;
-      probe = short (begin + 10) q.check_stack near_probe;
-      allowed = plan_allowed frame (body_plan p q name).probe;
-    }
+    pub body_planned : p.leaf name ≡ false → IsPlan (body_plan p q name)
+    body_planned framed =
+        let plan = (frame_plan_is setting name b is framed).is_plan in
+        record {
+          size = plan.size;
+          distance = plan.distance;
+          probe = short (begin + 10) q.check_stack near_probe;
+          allowed = plan.allowed;
+        }
 
     pub body_probed : AreProbed (body_plan p q name) q.check_stack begin
         (turned [] (operations_of (body_plan p q name)))
@@ -124,7 +127,7 @@ module _ (setting : Setting) where
       making_is = ap (λ l. sizes (frame_code frame begin q.check_stack l)) framed
 
       is_plan : IsPlan framing
-      is_plan = body_planned most
+      is_plan = body_planned framed
 
       prologue_is : info.prologue_size ≡ making_size p q name
       prologue_is = planned.prologue_size

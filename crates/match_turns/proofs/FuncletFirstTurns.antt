@@ -188,8 +188,8 @@ module _ (setting : Setting) where
         (l.plan.layout.slot) a.reaches.base (p.funclet k) s.cpu.flags
     run = made (plan k l) q.check_stack (parent_base p l.funclet.parent) v sp frame
         (l.plan.layout.slot) a.reaches.base (p.funclet k) s.cpu.flags
-        (body_planned setting (FuncletBody k) l.funclet.body (is k l) some
-        (let x = l.plan.layout.small in omega arith)) (plan_depth frame (plan k l).probe)
+        (body_planned setting (FuncletBody k) l.funclet.body (is k l) some l.plan.framed)
+        (plan_depth (plan k l) frame l.plan.layout.plan.whole)
         (plan_unstored frame (plan k l).probe l.plan.layout.small) begins
         (body_probed setting (FuncletBody k) l.funclet.body (is k l) some)
         memory.code.check_stack room base_small leads

@@ -166,8 +166,8 @@ module _ {setting : Setting} (at_call : AtCall setting) where
     made = planned_frame (entering.called at_call) target (entering.flags at_call) (caller - 8)
         (entering.arguments at_call) (calling.called_sp at_call)
         (calling.in_registers at_call) plan q.check_stack frame
-        (body_planned setting (FunctionBody f) o there some l.small)
-        (few_turns frame plan.probe) (plan_depth frame plan.probe) begins
+        (body_planned setting (FunctionBody f) o there some leaf)
+        (few_turns frame plan.probe) (plan_depth plan frame l.plan.whole) begins
         (called_code target (prologue_code plan) (entry false leaf).making)
         (body_probed setting (FunctionBody f) o there some)
         (called_code q.check_stack check_stack b.memory.code.check_stack)
