@@ -91,7 +91,18 @@ is_leaf (Some f) = false
 is_leaf None = true
 
 abbrev pub no_frame : FrameLayout
-no_frame = record { kept = 0; temporaries = 0; locals = 0; size = 0 }
+no_frame =
+    record {
+      kept = 0;
+      temporaries = 0;
+      locals = 0;
+      slots = 0;
+      saves = 0;
+      pushes = 0;
+      framed = false;
+      size = 0;
+      depth = 0;
+    }
 
 abbrev pub or_none : Option FrameLayout → FrameLayout
 or_none (Some f) = f

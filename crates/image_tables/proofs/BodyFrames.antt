@@ -4,7 +4,7 @@ use Rattle.std.specs.Prelude.{slice_get}
 use Rattle.std.specs.List.{AllByRecursion}
 use Rattle.std.proofs.lemmas.Bool.{and_from, ne_eqb, le-ltb}
 use Rattle.std.proofs.lemmas.List.{append-nil}
-use Rattle.image_tables.specs.Words.{Memory, Instr, chosen, Table, Entry, holding, or_none, Other, FetchedInstr, role_of, spell, IsExecutableAt, image_of, Instruction, LinearProgram, FrameLayout, spelled, size, sizes, template, code_from, IsInstructionNear, FitsProgram, entry_code, entry_size, check_stack_at, routine_code, text_begin, linked, Placed, end_of, body_begin, site_of, placed, HasRegions, entries, image_base, links, fetched_at, by_role, from_item, tail, tail_at, template_at, IsInBody, stack_frame, BodiesHaveFrames, LeavesHaveReturns}
+use Rattle.image_tables.specs.Words.{Memory, Instr, chosen, Table, Entry, holding, or_none, Other, FetchedInstr, role_of, spell, IsExecutableAt, image_of, Instruction, LinearProgram, FrameLayout, spelled, size, sizes, template, code_from, IsInstructionNear, FitsProgram, IsFrameNear, entry_code, entry_size, check_stack_at, routine_code, text_begin, linked, Placed, end_of, body_begin, site_of, placed, HasRegions, entries, image_base, links, fetched_at, by_role, from_item, tail, tail_at, template_at, IsInBody, stack_frame, BodiesHaveFrames, LeavesHaveReturns}
 use Rattle.x64_machine.specs.declared.context.Context.{Context}
 use Rattle.x64_encode.proofs.Lengths.{longest}
 use Rattle.virtual_unwind.specs.CallerOf.{distance, entry_of}
@@ -17,6 +17,7 @@ use Rattle.match_stack.specs.Stack.{FrameIsAt, LeafIsAt, IsAsTold}
 use Rattle.image_tables.proofs.Lemmas.{never_empty, items_are_at, sizes_append, template_sizes, entry_sizes, routine_small}
 use Rattle.image_tables.specs.Entries as tables
 use Rattle.image_tables.proofs.Lookups.{some_same, none_some, entries_are_held, leaves_are_held_by_none}
+use Rattle.image_tables.proofs.Layouts.{size_of, sized, slots_of, slots_placed}
 use Rattle.image_tables.proofs.Prologues.{entry_least}
 use Rattle.image_tables.proofs.Table.{tables_are_read}
 use Rattle.image_tables.proofs.CodeInMemory.{executable_split, code_split, IsThere, there, routine_is_at, template_there}
@@ -187,7 +188,12 @@ frame_at p m index x f c rva back others fits regions e framed first here kept e
       no_parents = refl;
       kept = kept;
       eight = eight;
-      slots = (let n = x.routine.layout.frame in let e : n ≤ n = omega arith in e);
+      slots = (let parts = (subst IsFrameNear framed h.near.frame).0 in
+          let saved = parts.saved in
+          let depth = parts.depth in
+          let slots = slots_placed p index x e ∙ ap slots_of framed in
+          let size = sized p index x e ∙ ap size_of framed in
+          omega arith);
       room = room';
       is_told = is_told;
     }
