@@ -73,7 +73,8 @@ operations_executed f probe some =
   where
     by : (b : Bool) (more : List UnwindOperation) → turned more (base f.pushes b f.size)
         ≡ pushing f.pushes b ++ (Allocate f.size ∷ (setting b ++ more))
-    by true more = turned_onto (Allocate f.size ∷ SetFrame ∷ more) (pushed (pushes_of f.pushes true))
+    by true more = turned_onto (Allocate f.size ∷ SetFrame ∷ more)
+        (pushed (pushes_of f.pushes true))
     by false more = turned_onto (Allocate f.size ∷ more) (pushed (pushes_of f.pushes false))
 
 -- ---- what they are
@@ -129,9 +130,11 @@ executed_short f h =
 
 pushing_steps : (k : ℕ) (framed : Bool) → k ≤ 3 → AllByRecursion (IsStep framed) (pushing k framed)
 pushing_steps = by_pushes (λ k framed. AllByRecursion (IsStep framed) (pushing k framed))
-    (omega arith, tt) (omega arith, (omega arith, tt)) (omega arith, (omega arith, (omega arith, tt)))
+    (omega arith, tt) (omega arith, (omega arith, tt))
+    (omega arith, (omega arith, (omega arith, tt)))
     (omega arith, (omega arith, (omega arith, (omega arith, tt))))
-    tt (omega arith, tt) (omega arith, (omega arith, tt)) (omega arith, (omega arith, (omega arith, tt)))
+    tt (omega arith, tt) (omega arith, (omega arith, tt))
+    (omega arith, (omega arith, (omega arith, tt)))
 
 setting_steps : (framed : Bool) → AllByRecursion (IsStep framed) (setting framed)
 setting_steps true = (refl, tt)
