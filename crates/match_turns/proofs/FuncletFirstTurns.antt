@@ -189,7 +189,7 @@ module _ (setting : Setting) where
     run = made (plan k l) q.check_stack (parent_base p l.funclet.parent) v sp frame
         (l.plan.layout.slot) a.reaches.base (p.funclet k) s.cpu.flags
         (body_planned setting (FuncletBody k) l.funclet.body (is k l) some
-        (let x = l.plan.layout.small in omega arith)) (plan_depth frame (plan k l).probe)
+        (let x = l.plan.layout.small in omega arith)) (plan_depth (plan k l) frame (omega arith))
         (plan_unstored frame (plan k l).probe l.plan.layout.small) begins
         (body_probed setting (FuncletBody k) l.funclet.body (is k l) some)
         memory.code.check_stack room base_small leads
