@@ -53,12 +53,7 @@ executed f =
 pub after : (i : ℕ) → i + 1 ≡ suc i
 after i = omega arith
 
--- one push more, and one save more
-pub pushing_next : (k : ℕ) (framed : Bool)
-    → pushing (k + 1) framed ≡ pushing k framed ++ (Push (pushed_register k) ∷ [])
-pushing_next k framed = ap (λ n. pushing n framed) (after k)
-    ∙ turned_onto (Push (pushed_register k) ∷ []) (pushed (pushes_of k framed))
-
+-- one save more
 pub saving_next : (at n : ℕ)
     → saving at (n + 1) ≡ saving at n ++ (Save (12 + n) (at + 8 * n) ∷ [])
 saving_next at n = ap (saving at) (after n)
