@@ -6,26 +6,22 @@ use Rattle.std.proofs.lemmas.Bool.{lt-leb, lt-ltb, le-ltb, le-leb, ne_eqb}
 use Rattle.std.proofs.lemmas.Grind.{flat_map-append}
 use Rattle.seh_num.specs.Widths.{low}
 use Rattle.seh_num.specs.declared.width.Width.TheVariants.{W8, W32, W64}
-use Rattle.x64_instr.specs.declared.instruction.Operation.TheVariants.{Add}
 use Rattle.x64_instr.specs.declared.instruction.Instr.{Instr}
 use Rattle.x64_instr.specs.declared.instruction.Instr.TheVariants as instrs
-use Rattle.x64_instr.specs.declared.register.Reg.TheVariants.{Rsp}
 use Rattle.x64_instr.specs.declared.operand.RegisterOrMemory.TheVariants as places
-use Rattle.x64_instr.specs.declared.operand.Operand.TheVariants as operands
 use Rattle.x64_instr.specs.Registers.{register, number}
 use Rattle.x64_encode.specs.declared.writing.Opcode.TheVariants as opcodes
 use Rattle.x64_encode.specs.Chosen.{chosen, is_signed, little, prefixes, displacement, opcode_bytes, place_bytes, modrm_bits, modrm, opcode_register}
 use Rattle.eh_tables.specs.declared.code.UnwindOperation.{UnwindOperation}
 use Rattle.eh_tables.specs.declared.code.UnwindOperation.TheVariants.{Push, Allocate, SetFrame, Save, SaveVector, MachineFrame}
 use Rattle.frame_rules.specs.Prologue.{bytes}
-use Rattle.frame_rules.specs.Plan.{allocating, instructions_of, spelled_by, stack_place, turned, operations_of, loads_then, pops_then, opening_by, epilogue}
+use Rattle.frame_rules.specs.Plan.{allocating, instructions_of, spelled_by, stack_place, turned, operations_of}
 use Rattle.frame_rules.specs.Bytes.{spell, prologue_code}
 use Rattle.frame_layout.specs.declared.frame.FrameLayout.{FrameLayout}
-use Rattle.frame_layout.specs.Layout.{IsFrame}
-use Rattle.frame_layout.specs.Plans.{pushes_of, saves_of, plan_of}
+use Rattle.frame_layout.specs.Plans.{plan_of}
 use Rattle.frame_layout.specs.Infos.{prologue_bytes}
 use Rattle.frame_layout.proofs.Counts.{by_pushes}
-use Rattle.frame_layout.proofs.Steps.{pushing, setting, saving, after, saving_next, executed, HasRegisters, IsShort, operations_executed, executed_short, epilogue_is}
+use Rattle.frame_layout.proofs.Steps.{pushing, setting, saving, after, saving_next, executed, HasRegisters, IsShort, operations_executed, executed_short}
 
 -- ---- instructions one after another
 

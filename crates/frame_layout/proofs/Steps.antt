@@ -13,7 +13,7 @@ use Rattle.eh_tables.specs.declared.code.UnwindOperation.TheVariants.{Push, Allo
 use Rattle.frame_rules.specs.Codes.{pushed}
 use Rattle.frame_rules.specs.Plan.{Saved, turned, saves_then, frame_then, operations_of, loads_then, load_of, pops_then, opening_then, opening_by, epilogue, instructions_of, allocating, all_encodable}
 use Rattle.frame_layout.specs.Layout.{IsFrame}
-use Rattle.frame_layout.specs.Plans.{pushed_register, pushes_of, saves_of, frame_register_if, plan_of, IsStep}
+use Rattle.frame_layout.specs.Plans.{pushes_of, saves_of, frame_register_if, plan_of, IsStep}
 use Rattle.frame_layout.specs.declared.frame.FrameLayout.{FrameLayout}
 use Rattle.frame_layout.proofs.Counts.{by_pushes, all_both}
 use Rattle.frame_layout.proofs.Planned.{base, operations_are}
