@@ -1,4 +1,4 @@
--- What holds of few pushes and saves, by their counts.
+-- What holds of few pushes, by their count.
 use Rattle.std.proofs.Common.{ℕ, zero, suc, ◌≤◌, Bool, true, false, List, [], ◌∷◌, ◌++◌, arith}
 use Rattle.std.specs.List.{AllByRecursion}
 
