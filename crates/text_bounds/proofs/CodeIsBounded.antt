@@ -3,7 +3,7 @@ use Rattle.std.proofs.Common.{◌+◌, ◌≤◌, refl, arith}
 use Rattle.std.specs.Prelude.{Bool, true, false, if◌then◌else◌, Option, Some, None}
 use Rattle.text_bounds.specs.Words.{Expression, Lvalue, Conversion, Kept, CType, conversion, Weights, optional, NodesAdd, StatementsAdd, conversion_room, expression_room, read_room, write_room, locate_room, node_room, arguments_room, discarded_room, condition_room, initialiser_room, returned_room, all_declared_room, statement_room, statements_room, functions_room, Extend, Scale, same_type, to_width, width_of, sort_of, CodeIsBounded}
 use Rattle.seh_num.specs.declared.width.Width.{Width}
-use Rattle.seh_num.specs.declared.width.Width.TheVariants.{W8, W16, W32, W64}
+use Rattle.seh_num.specs.declared.width.Width.TheVariants.{W8}
 use Rattle.c_operations.specs.declared.operation.Signedness.{Signedness}
 use Rattle.c_checked.specs.Expression as nodes
 use Rattle.text_bounds.proofs.StatementWeights.{weight_is_bounded}

@@ -1,14 +1,14 @@
 -- The bytes of an identifier: letters, digits and `_`, none of which is 0.
-use Rattle.std.proofs.Common.{◌≡◌, ℕ, ◌+◌, ◌*◌, ◌<◌, ◌≤◌, Bool, true, false, Option, Some, None, List, [], ◌∷◌, refl, subst, arith, inl, inr}
+use Rattle.std.proofs.Common.{◌≡◌, ℕ, ◌+◌, ◌*◌, ◌<◌, ◌≤◌, Bool, true, false, Option, Some, None, List, [], ◌∷◌, refl, arith, inl, inr}
 use Rattle.std.specs.Prelude.{◌==◌, ◌&&◌, ◌||◌, nat_le, if◌then◌else◌, option_map}
-use Rattle.std.proofs.lemmas.Bool.{and_parts, or_cases, leb-true, eqb-true, false≢true}
+use Rattle.std.proofs.lemmas.Bool.{and_parts, or_cases, leb-true, eqb-true}
 use Rattle.c_lex.specs.declared.punctuator.Punctuator.{Punctuator}
 use Rattle.c_lex.specs.declared.token.IntegerType.{IntegerType}
 use Rattle.c_lex.specs.declared.token.Kind.TheVariants as kinds
 use Rattle.c_lex.specs.declared.word.Word.{Word}
 use Rattle.c_lex.specs.declared.word.Word.TheVariants.{Lexeme, Blank}
 use Rattle.c_lex.specs.Characters.{char, escaped, quoted}
-use Rattle.c_lex.specs.Comments.{is_space, after_end, ended, comment}
+use Rattle.c_lex.specs.Comments.{is_space, after_end, ended}
 use Rattle.c_lex.specs.Identifiers.{is_letter, is_digit, is_identifier_byte, identifier_kind}
 use Rattle.c_lex.specs.Integers.{digit, literal, place_value, is_digit_of, suffix_of, typed, type_of, integer, hexadecimal, after_zero}
 use Rattle.c_lex.specs.Longest.{every, each, span}

@@ -1,7 +1,7 @@
 -- The names of the functions of a text are spelled in it as identifiers.
-use Rattle.std.proofs.Common.{◌≡◌, ℕ, ◌+◌, ◌-◌, List, [], ◌∷◌, ◌++◌, length, take, drop, map, refl, sym, ap, subst, ◌∙◌, append_assoc, arith}
+use Rattle.std.proofs.Common.{◌≡◌, ℕ, ◌+◌, ◌-◌, List, [], ◌∷◌, ◌++◌, length, take, drop, map, refl, sym, ap, subst, ◌∙◌, arith}
 use Rattle.std.specs.List.{AllByRecursion}
-use Rattle.std.proofs.lemmas.List.{length-append, drop-drop, drop_at}
+use Rattle.std.proofs.lemmas.List.{drop-drop, drop_at}
 use Rattle.std.proofs.Math.Seq.{take-append_seam}
 use Rattle.c_lex.specs.declared.token.Kind.TheVariants as kinds
 use Rattle.c_lex.specs.declared.token.Token.{Token}

@@ -1,8 +1,7 @@
 -- The names of the functions of a text take no more bytes than the text.
-use Rattle.std.proofs.Common.{◌≡◌, ℕ, ◌+◌, ◌-◌, ◌*◌, ◌≤◌, List, [], ◌∷◌, ◌++◌, length, take, drop, map, sym, subst, arith}
+use Rattle.std.proofs.Common.{◌≡◌, ℕ, ◌+◌, ◌-◌, ◌*◌, ◌≤◌, List, [], ◌∷◌, ◌++◌, length, drop, map, subst, arith}
 use Rattle.std.proofs.lemmas.List.{length-take}
 use Rattle.c_lex.specs.declared.punctuator.Punctuator.TheVariants as punctuators
-use Rattle.c_lex.specs.declared.token.Kind.TheVariants as kinds
 use Rattle.c_lex.specs.declared.token.Token.{Token}
 use Rattle.c_lex.specs.Laws.{Rises}
 use Rattle.c_syntax.specs.Program.{ExternalDeclaration, Globals, Function}
@@ -11,7 +10,6 @@ use Rattle.c_syntax.specs.declared.declaration.Parameter.{Parameter}
 use Rattle.c_syntax.specs.declared.expression.CType.{CType}
 use Rattle.c_syntax.specs.declared.expression.Identifier.{Identifier}
 use Rattle.c_syntax.specs.Statement.{Statements}
-use Rattle.c_syntax.specs.Tokens.{token}
 use Rattle.c_syntax.proofs.Moves.{both, has_punctuator, type}
 use Rattle.c_syntax.proofs.MovesPrograms.{external_declaration, parameters}
 use Rattle.c_syntax.proofs.MovesStatements as statements
