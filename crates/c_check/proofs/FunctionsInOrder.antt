@@ -37,8 +37,8 @@ function_added : (before after : Progress) (text : List ℕ) (file : Scope) (t :
     → after.done.items ≡ before.done.items ++ made ∷ [] → after.number ≡ walk'.number
     → after.worst ≡ walk'.worst
     → AddsFunctions before after (function_of text file t n ps body before.number)
-function_added before after text file t n ps body block was names walk walk' done made is sizes number
-    parameters resolves is_made pushed next worst =
+function_added before after text file t n ps body block was names walk walk' done made is sizes
+    number parameters resolves is_made pushed next worst =
     let start : Numbering = record { sizes = sizes_of ps; number = before.number } in
     let begun : numbering walk ≡ start = λ i. record { sizes = sizes i; number = number i } in
     let m = resolve_statements body (around text file t) (with_parameters text ps [] 0) start in
@@ -91,8 +91,8 @@ pub function_inside : (before after : Progress) (text : List ℕ) (start was nam
     → AddsFunctions before after (function_of text (scopes_of start) t n ps body before.number)
 function_inside before after text start was names t n ps body walk walk' done made begins sizes
     number parameters resolves is_made pushed next worst =
-    function_added before after text (scopes_of start) t n ps body (with_parameters text ps [] 0) was
-    names walk walk' done made refl sizes number parameters
+    function_added before after text (scopes_of start) t n ps body (with_parameters text ps [] 0)
+    was names walk walk' done made refl sizes number parameters
     (subst (λ (k : SymbolTable). Resolves was names walk walk' done (resolve_statements body
     (around text (names_around k.around) t) k.block (numbering walk))) begins resolves) is_made
     pushed next worst

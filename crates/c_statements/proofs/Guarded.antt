@@ -15,7 +15,8 @@ use Rattle.c_syntax.specs.Statement as trees
 
 -- ---- `__try` with a `__finally` block
 
-pub finally_is : (t t1 t2 : SymbolTable) (b : Scope) (w0 w1 w2 w3 : Walk) (vs ks : List Stmt) (number : ℕ) (made : Stmt)
+pub finally_is : (t t1 t2 : SymbolTable) (b : Scope) (w0 w1 w2 w3 : Walk) (vs ks : List Stmt)
+    (number : ℕ) (made : Stmt)
     (a : Environment) (ss : Statements) (at : ℕ) (ls : Statements)
     → MakesBlock t t1 w0 w1 vs (resolve_statements ss (in_body (inside a b)) [] (numbering w0))
     → number ≡ w1.number → numbering w2 ≡ with_number (numbering w1) (w1.number + 1)
@@ -30,7 +31,8 @@ finally_is t t1 t2 b w0 w1 w2 w3 vs ks number made a ss at ls m is n kept_so k p
     n in
     let to : numbering w2 ≡ with_number r.counts (r.counts.number + 1) = n
     ∙ ap (λ (c : Numbering). with_number c (c.number + 1)) m.counts in
-    let j = block_at t t2 w2 w3 ks f (numbering w2) (with_number r.counts (r.counts.number + 1)) to k in
+    let j = block_at t t2 w2 w3 ks f (numbering w2) (with_number r.counts (r.counts.number + 1)) to
+    k in
     let q = f (with_number r.counts (r.counts.number + 1)) in
     record {
       done =
@@ -50,7 +52,8 @@ finally_is t t1 t2 b w0 w1 w2 w3 vs ks number made a ss at ls m is n kept_so k p
 
 -- ---- `__try` with a filter
 
-pub except_is : (t t1 t2 : SymbolTable) (b : Scope) (w0 w1 w2 w3 w4 : Walk) (answer : Option Expr) (filter : Filter)
+pub except_is : (t t1 t2 : SymbolTable) (b : Scope) (w0 w1 w2 w3 w4 : Walk) (answer : Option Expr)
+    (filter : Filter)
     (vs ks : List Stmt) (made : Stmt) (a : Environment) (ss : Statements) (at : ℕ) (e : Expression)
     (hs : Statements)
     → numbering w1 ≡ numbering w0 → ResolvesFilter w0.worst w1.worst answer (resolve_filter a b e)
@@ -62,7 +65,8 @@ pub except_is : (t t1 t2 : SymbolTable) (b : Scope) (w0 w1 w2 w3 w4 : Walk) (ans
     → checked.statement made ≡ checked.TryExcept (checked.statements (map checked.statement vs))
     (checked.filter filter) (checked.statements (map checked.statement ks))
     → MakesOne b w0 w4 made (resolve_statement (trees.TryExcept ss at e hs) a b (numbering w0))
-except_is t t1 t2 b w0 w1 w2 w3 w4 answer filter vs ks made a ss at e hs same v m0 is n kept_so k p =
+except_is t t1 t2 b w0 w1 w2 w3 w4 answer filter vs ks made a ss at e hs same v m0 is n kept_so k
+    p =
     let body : Numbering → ResolvedStatements = λ n. resolve_statements ss (in_body (inside a b)) []
     n in
     let handler : Numbering → ResolvedStatements = λ n. resolve_statements hs

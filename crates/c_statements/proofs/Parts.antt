@@ -1,5 +1,5 @@
 -- A statement by what was made of its parts, one after another.
-use Rattle.std.proofs.Common.{◌≡◌, ℕ, ◌+◌, List, [], ◌∷◌, ◌++◌, map, refl, sym, ap, subst, ◌∙◌, append_assoc}
+use Rattle.std.proofs.Common.{◌≡◌, ℕ, List, [], ◌∷◌, ◌++◌, map, refl, sym, ap, subst, ◌∙◌, append_assoc}
 use Rattle.c_statements.specs.Words.{Expr, Stmt, SymbolTable, with_block, opened, closed, environment, least_of, kept, Walk, Resolves, numbering, resolved_at, Scope, Environment, Numbering, ResolvedStatements, Value, inside, condition, only, resolve_statement, resolve_statements, MakesOne, MakesPart, MakesBlock, MakesGoverned, Expression, Statement, Statements, statement, statements}
 use Rattle.c_checked.specs.Expression.{expression}
 use Rattle.c_checked.specs.Statement as checked
@@ -27,17 +27,20 @@ one_is was now w0 w1 made out t t' a e same m o =
 
 -- ---- parts at another numbering that is the same
 
-pub part_at : (was now : SymbolTable) (w0 w1 : Walk) (made : Stmt) (f : Numbering → ResolvedStatements) (n n' : Numbering)
+pub part_at : (was now : SymbolTable) (w0 w1 : Walk) (made : Stmt)
+    (f : Numbering → ResolvedStatements) (n n' : Numbering)
     → n ≡ n' → MakesPart was now w0 w1 made (f n) → MakesPart was now w0 w1 made (f n')
 part_at was now w0 w1 made f n n' e m = subst (λ k. MakesPart was now w0 w1 made (f k)) e m
 
-pub block_at : (was now : SymbolTable) (w0 w1 : Walk) (made : List Stmt) (f : Numbering → ResolvedStatements)
-    (n n' : Numbering) → n ≡ n' → MakesBlock was now w0 w1 made (f n) → MakesBlock was now w0 w1 made (f n')
+pub block_at : (was now : SymbolTable) (w0 w1 : Walk) (made : List Stmt)
+    (f : Numbering → ResolvedStatements) (n n' : Numbering) → n ≡ n'
+    → MakesBlock was now w0 w1 made (f n) → MakesBlock was now w0 w1 made (f n')
 block_at was now w0 w1 made f n n' e m = subst (λ k. MakesBlock was now w0 w1 made (f k)) e m
 
 -- ---- parts of the same statements in the same environment
 
-pub part_in : (was now : SymbolTable) (w0 w1 : Walk) (made : Stmt) (t' t : Statement) (a' a : Environment) (n : Numbering)
+pub part_in : (was now : SymbolTable) (w0 w1 : Walk) (made : Stmt) (t' t : Statement)
+    (a' a : Environment) (n : Numbering)
     → t' ≡ t → a' ≡ a
     → MakesPart was now w0 w1 made (resolve_statement t' a' [] n)
     → MakesPart was now w0 w1 made (resolve_statement t a [] n)
@@ -45,17 +48,19 @@ part_in was now w0 w1 made t' t a' a n p q m =
     subst (λ k. MakesPart was now w0 w1 made (resolve_statement t k [] n)) q
     (subst (λ k. MakesPart was now w0 w1 made (resolve_statement k a' [] n)) p m)
 
-pub block_in : (was now : SymbolTable) (w0 w1 : Walk) (made : List Stmt) (list' list : List Read) (a' a : Environment)
+pub block_in : (was now : SymbolTable) (w0 w1 : Walk) (made : List Stmt) (list' list : List Read)
+    (a' a : Environment)
     (n : Numbering) → list' ≡ list → a' ≡ a
     → MakesBlock was now w0 w1 made (resolve_statements (statements (map statement list')) a' [] n)
     → MakesBlock was now w0 w1 made (resolve_statements (statements (map statement list)) a [] n)
 block_in was now w0 w1 made list' list a' a n p q m =
-    subst (λ k. MakesBlock was now w0 w1 made (resolve_statements (statements (map statement list)) k [] n))
-    q
-    (subst (λ k. MakesBlock was now w0 w1 made (resolve_statements (statements (map statement k)) a' [] n))
-    p m)
+    subst (λ k. MakesBlock was now w0 w1 made (resolve_statements (statements (map statement list))
+    k [] n)) q
+    (subst (λ k. MakesBlock was now w0 w1 made (resolve_statements (statements (map statement k)) a'
+    [] n)) p m)
 
-pub governed_in : (was now : SymbolTable) (w0 w1 : Walk) (e : Expr) (made : Stmt) (v : Value) (t' t : Statement)
+pub governed_in : (was now : SymbolTable) (w0 w1 : Walk) (e : Expr) (made : Stmt) (v : Value)
+    (t' t : Statement)
     (a' a : Environment) (n : Numbering) → t' ≡ t → a' ≡ a
     → MakesGoverned was now w0 w1 e made v (resolve_statement t' a' [] n)
     → MakesGoverned was now w0 w1 e made v (resolve_statement t a [] n)
@@ -69,7 +74,8 @@ pub governed_is : (was now : SymbolTable) (w0 w1 w2 : Walk) (e : Expr) (s : Stmt
     (f : Numbering → ResolvedStatements)
     → expression e ≡ v.value → least_of w1.worst ≡ kept (least_of w0.worst) v.faults
     → numbering w1 ≡ numbering w0
-    → MakesPart was now w1 w2 s (f (numbering w1)) → MakesGoverned was now w0 w2 e s v (f (numbering w0))
+    → MakesPart was now w1 w2 s (f (numbering w1))
+    → MakesGoverned was now w0 w2 e s v (f (numbering w0))
 governed_is was now w0 w1 w2 e s v f value faults n m =
     let k = part_at was now w1 w2 s f (numbering w1) (numbering w0) n m in
     record {
@@ -81,7 +87,8 @@ governed_is was now w0 w1 w2 e s v f value faults n m =
           (f (numbering w0)).faults faults k.faults;
     }
 
-pub if_else_is : (was middle now : SymbolTable) (b : Scope) (w0 w1 w2 : Walk) (e : Expr) (s o made : Stmt) (a : Environment)
+pub if_else_is : (was middle now : SymbolTable) (b : Scope) (w0 w1 w2 : Walk) (e : Expr)
+    (s o made : Stmt) (a : Environment)
     (at : ℕ) (c : Expression) (t u : Statement)
     → MakesGoverned was middle w0 w1 e s (condition at (resolved_at a b c))
     (resolve_statement t (inside a b) [] (numbering w0))
@@ -92,8 +99,8 @@ pub if_else_is : (was middle now : SymbolTable) (b : Scope) (w0 w1 w2 : Walk) (e
 if_else_is was middle now b w0 w1 w2 e s o made a at c t u m k p =
     let v = condition at (resolved_at a b c) in
     let r = resolve_statement t (inside a b) [] (numbering w0) in
-    let j = part_at was now w1 w2 o (λ n. resolve_statement u (inside a b) [] n) (numbering w1) r.counts
-    m.counts k in
+    let j = part_at was now w1 w2 o (λ n. resolve_statement u (inside a b) [] n) (numbering w1)
+    r.counts m.counts k in
     let q = resolve_statement u (inside a b) [] r.counts in
     record {
       done =

@@ -1,8 +1,8 @@
-use Rattle.std.proofs.Common.{◌≤◌, [], ◌∷◌, List, length, map, refl, ap, subst, ◌∙◌, arith}
+use Rattle.std.proofs.Common.{◌≤◌, [], ◌∷◌, length, map, refl, ap, subst, ◌∙◌, arith}
 use Rattle.std.proofs.lemmas.Result.{IfOk-weaker}
 use Rattle.std.specs.Prelude.{option_map}
 use Rattle.c_checked.specs.Statement as checked
-use Rattle.c_statements.specs.Words.{SymbolTable, Stmt, Walk, MakesPart, MakesBlock, environment, numbering, resolved_at, in_body, in_handler, in_last, Numbering, ResolvedStatements, inside, resolve_statement, resolve_statements, expression, statement, statements}
+use Rattle.c_statements.specs.Words.{SymbolTable, Walk, MakesPart, MakesBlock, environment, numbering, resolved_at, in_body, in_handler, in_last, Numbering, ResolvedStatements, inside, resolve_statement, resolve_statements, expression, statement, statements}
 use Rattle.c_resolved.specs.Statements as definitions
 use Rattle.c_statements.proofs.Going.{resolved_from, goes, gone}
 use Rattle.c_statements.proofs.Guarded.{for_is, ends_as_before, except_is, finally_is}
@@ -38,8 +38,8 @@ governed-returns-in-Ok _ c =
     (environment c.args.inner.now (t.block ∷ t.around)) [] n in
     let v = definitions.condition c.args.at (resolved_at (environment c.args.env.now t.around)
     t.block (expression c.args.e.now)) in
-    governed_is t c.part.new.names w first c.part.new.walk c.in_ok-value.value c.in-Ok.made.value v f
-    c.in_ok-value.ensures.value c.in_ok-value.ensures.faults refl c.in-Ok.ensures
+    governed_is t c.part.new.names w first c.part.new.walk c.in_ok-value.value c.in-Ok.made.value v
+    f c.in_ok-value.ensures.value c.in_ok-value.ensures.faults refl c.in-Ok.ensures
 
 pub for_loop-returns-in-Ok-part-clause-names : goal.for_loop-returns-in-Ok-part-clause-names
 for_loop-returns-in-Ok-part-clause-names _ c =
@@ -212,8 +212,8 @@ guarded-returns-in_ok-last-in-TryFinally _ c =
     one_is t t2 w w3 c.finally_of.result (map checked.statement list.items) (statement c.args.s.now)
     (trees.TryFinally body x.at last) a (ap statement x.is
     ∙ read.try_finally_is x.body x.at x.last) k.names
-    (finally_is t t1 t2 t.block w w1 w2 w3 vs.body.items ks.last.items n.number c.finally_of.result a
-    body x.at last m n.ensures.number n.ensures.counts n.ensures.faults k c.finally_of.ensures) h)
+    (finally_is t t1 t2 t.block w w1 w2 w3 vs.body.items ks.last.items n.number c.finally_of.result
+    a body x.at last m n.ensures.number n.ensures.counts n.ensures.faults k c.finally_of.ensures) h)
     c.one-in-TryFinally.ensures
 
 pub statements-loop-s-preserved : goal.statements-loop-s-preserved
