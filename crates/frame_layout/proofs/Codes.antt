@@ -98,7 +98,8 @@ codes_short f h = subst (AllByRecursion (λ (c : UnwindCode). IsShort f.framed c
 
 pub codes_falling : (f : FrameLayout) → HasRegisters f → AreFalling (prologue_bytes f) (codes_of f)
 codes_falling f h =
-    let e : 0 + taken f 0 (executed f) ≡ prologue_bytes f = omega (arith, executed_bytes f h.some) in
+    let e : 0 + taken f 0 (executed f) ≡ prologue_bytes f =
+    omega (arith, executed_bytes f h.some) in
     subst (λ n. AreFalling n (codes_of f)) e
     (subst (AreFalling (0 + taken f 0 (executed f))) (sym (codes_are f h.some))
     (falling_coded f 0 [] (executed f) tt))

@@ -1,4 +1,4 @@
--- What holds of few pushes and saves, by their counts.
+-- What holds of few pushes, by their count.
 use Rattle.std.proofs.Common.{ℕ, zero, suc, ◌≤◌, Bool, true, false, List, [], ◌∷◌, ◌++◌, arith}
 use Rattle.std.specs.List.{AllByRecursion}
 
@@ -15,15 +15,6 @@ by_pushes P a b c d e f g h (suc zero) false le = f
 by_pushes P a b c d e f g h (suc (suc zero)) false le = g
 by_pushes P a b c d e f g h (suc (suc (suc zero))) false le = h
 by_pushes P a b c d e f g h (suc (suc (suc (suc k)))) framed le = absurd (omega arith)
-
--- of each count of saves by mov
-pub by_saves : (P : ℕ → Type 0) → P 0 → P 1 → P 2 → P 3 → P 4 → (n : ℕ) → n ≤ 4 → P n
-by_saves P a b c d e zero le = a
-by_saves P a b c d e (suc zero) le = b
-by_saves P a b c d e (suc (suc zero)) le = c
-by_saves P a b c d e (suc (suc (suc zero))) le = d
-by_saves P a b c d e (suc (suc (suc (suc zero)))) le = e
-by_saves P a b c d e (suc (suc (suc (suc (suc n))))) le = absurd (omega arith)
 
 -- ---- what holds of each element of two lists
 

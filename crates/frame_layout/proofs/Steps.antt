@@ -13,7 +13,7 @@ use Rattle.eh_tables.specs.declared.code.UnwindOperation.TheVariants.{Push, Allo
 use Rattle.frame_rules.specs.Codes.{pushed}
 use Rattle.frame_rules.specs.Plan.{Saved, turned, saves_then, frame_then, operations_of, loads_then, load_of, pops_then, opening_then, opening_by, epilogue, instructions_of, allocating, all_encodable}
 use Rattle.frame_layout.specs.Layout.{IsFrame}
-use Rattle.frame_layout.specs.Plans.{pushed_register, pushes_of, saves_of, frame_register_if, plan_of, IsStep}
+use Rattle.frame_layout.specs.Plans.{pushes_of, saves_of, frame_register_if, plan_of, IsStep}
 use Rattle.frame_layout.specs.declared.frame.FrameLayout.{FrameLayout}
 use Rattle.frame_layout.proofs.Counts.{by_pushes, all_both}
 use Rattle.frame_layout.proofs.Planned.{base, operations_are}
@@ -53,12 +53,7 @@ executed f =
 pub after : (i : ℕ) → i + 1 ≡ suc i
 after i = omega arith
 
--- one push more, and one save more
-pub pushing_next : (k : ℕ) (framed : Bool)
-    → pushing (k + 1) framed ≡ pushing k framed ++ (Push (pushed_register k) ∷ [])
-pushing_next k framed = ap (λ n. pushing n framed) (after k)
-    ∙ turned_onto (Push (pushed_register k) ∷ []) (pushed (pushes_of k framed))
-
+-- one save more
 pub saving_next : (at n : ℕ)
     → saving at (n + 1) ≡ saving at n ++ (Save (12 + n) (at + 8 * n) ∷ [])
 saving_next at n = ap (saving at) (after n)
@@ -73,7 +68,8 @@ operations_executed f probe some =
   where
     by : (b : Bool) (more : List UnwindOperation) → turned more (base f.pushes b f.size)
         ≡ pushing f.pushes b ++ (Allocate f.size ∷ (setting b ++ more))
-    by true more = turned_onto (Allocate f.size ∷ SetFrame ∷ more) (pushed (pushes_of f.pushes true))
+    by true more = turned_onto (Allocate f.size ∷ SetFrame ∷ more)
+        (pushed (pushes_of f.pushes true))
     by false more = turned_onto (Allocate f.size ∷ more) (pushed (pushes_of f.pushes false))
 
 -- ---- what they are
@@ -129,9 +125,11 @@ executed_short f h =
 
 pushing_steps : (k : ℕ) (framed : Bool) → k ≤ 3 → AllByRecursion (IsStep framed) (pushing k framed)
 pushing_steps = by_pushes (λ k framed. AllByRecursion (IsStep framed) (pushing k framed))
-    (omega arith, tt) (omega arith, (omega arith, tt)) (omega arith, (omega arith, (omega arith, tt)))
+    (omega arith, tt) (omega arith, (omega arith, tt))
+    (omega arith, (omega arith, (omega arith, tt)))
     (omega arith, (omega arith, (omega arith, (omega arith, tt))))
-    tt (omega arith, tt) (omega arith, (omega arith, tt)) (omega arith, (omega arith, (omega arith, tt)))
+    tt (omega arith, tt) (omega arith, (omega arith, tt))
+    (omega arith, (omega arith, (omega arith, tt)))
 
 setting_steps : (framed : Bool) → AllByRecursion (IsStep framed) (setting framed)
 setting_steps true = (refl, tt)

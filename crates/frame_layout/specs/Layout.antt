@@ -30,8 +30,8 @@ pub record FitsFrame (f : Facts) : Type 0 where
 
 -- ---- the fixed allocation
 
--- so many words, or one more, so that with so many pushes and the return address they are a multiple
--- of 16 bytes
+-- so many words, or one more, so that with so many pushes and the return address they are a
+-- multiple of 16 bytes
 abbrev pub padded : ℕ → ℕ → ℕ
 padded words pushes = 8 * (words + (words + pushes + 1) % 2)
 

@@ -45,9 +45,9 @@ pub struct Facts {
 }
 
 /// A frame. From RSP up it has the home space of what is called, further arguments of calls, what
-/// is kept, the temporaries, the locals, the registers that are saved by MOV, and where RSP wouldn't
-/// be a multiple of 16 at a call, one word more. This fixed allocation is below the registers that
-/// are pushed, and these below the return address. Distances are from RSP, in bytes.
+/// is kept, the temporaries, the locals, the registers that are saved by MOV, and where RSP
+/// wouldn't be a multiple of 16 at a call, one word more. This fixed allocation is below the
+/// registers that are pushed, and these below the return address. Distances are from RSP, in bytes.
 #[derive(Clone, Copy, Debug, PartialEq, Eq)]
 pub struct FrameLayout {
     /// Where what is kept begins.

@@ -21,7 +21,8 @@ use eh_tables::{Trailer, UnwindCode, UnwindInfo, UnwindOperation};
 fn allocation_size(size: u64) -> u8
     requires { size < 2 ^ 31 }
     ensures value { (probe : ℕ)
-        → bytes (rules.spelled_by spell (rules.allocating probe size (nat_le size PROBE_FREE))) ≡ result }
+        → bytes (rules.spelled_by spell
+        (rules.allocating probe size (nat_le size PROBE_FREE))) ≡ result }
     ensures small { result ≤ 13 }
 {
     if size > PROBE_FREE {

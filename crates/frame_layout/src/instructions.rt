@@ -52,7 +52,8 @@ fn change_rsp(operation: Operation, from: Operand) -> Instr
 /// `probe` bytes after the end of its call, has touched its pages.
 fn put_allocation(instrs: &mut ArrayVec<Instr, 16>, size: u64, probe: u64)
     requires { array_vec_len instrs.old ≤ 13 }
-    ensures { instrs.new.items ≡ instrs.old.items ++ rules.allocating probe size (nat_le size PROBE_FREE) }
+    ensures { instrs.new.items
+        ≡ instrs.old.items ++ rules.allocating probe size (nat_le size PROBE_FREE) }
 {
     if size <= PROBE_FREE {
         instrs.push(change_rsp(Operation::Sub, Operand::Immediate(size)));

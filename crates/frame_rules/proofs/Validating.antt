@@ -118,11 +118,12 @@ rules_are_right i xs ys h =
         steps = has.are;
         ordered = p.0;
         allowed = codes.0;
-        frame = λ ne. elim (or_cases (not (has_frame i)) (sets_frame (operations i.codes)) codes.1) [
-          | inl none ↦ absurd (false≢true (sym (not-true (has_frame i) none)
-              ∙ ap not (ne_eqb f 0 ne)))
-          | inr set ↦ set
-        ];
+        frame = λ ne. elim (or_cases (not (has_frame i)) (sets_frame (operations i.codes))
+            codes.1) [
+              | inl none ↦ absurd (false≢true (sym (not-true (has_frame i) none)
+                  ∙ ap not (ne_eqb f 0 ne)))
+              | inr set ↦ set
+            ];
         body = c.1;
       };
     }

@@ -1,6 +1,6 @@
 -- What is seen of two runs, instruction by instruction: what each event and each end keeps holds of
 -- the runs.
-use Rattle.std.proofs.Common.{◌≡◌, ℕ, zero, suc, ◌+◌, List, [], ◌∷◌, ◌++◌, length, refl}
+use Rattle.std.proofs.Common.{◌≡◌, ℕ, suc, ◌+◌, List, [], ◌∷◌, ◌++◌, length, refl}
 use Rattle.std.specs.Prelude.{◌^◌, Bool, true, false, nat_eq, nat_lt, slice_get, get_or, Option, Some, None}
 use Rattle.seh_num.specs.declared.width.Width.TheVariants.{W32, W64}
 use Rattle.linear_machine.specs.Words.{Event, Ended, Exception, Instruction, Region, RegionKind, LinearProgram, BodyName, FunctionBody, FuncletBody, Handler, Target, Resumption, AfterCall, SameOperation, Item, Waits, Searches, Unwinds, Store, Configuration, Seen, Finished, Stuck, Next, pick, with_some, deeper, read, with_temporary, with_temporaries, last_temporaries, at_label, forth, regions_at, regions_left, handlers, flag_of, begin_finally, run_finally, arrive, target_past, left_store, leave_region, unwind_body, unwind, target_of, accept, begin_filter, consult, search, raise, resumed, answered, answer, is_constant, operand, written, computed, compute, tested, waiting, begin_function, count_of, built_in, return, end_finally, end_funclet, end_body, not_landed, act, instruction_at, exec, CallsBuiltIn, IsNotAt}
@@ -52,7 +52,8 @@ module _ (program : LinearProgram) (relation : SeenRelation program) where
 
   keeps_deeper : (n held : ℕ) (store : Store) (es : List Event) (a b : Seen) → keeps es a b
       → keeps es (deeper n held store es a) (deeper n held store es b)
-  keeps_deeper n held store es a b k = keeps_pick _ es _ _ _ _ (relation.finished es (ends.Deep 1001)) k
+  keeps_deeper n held store es a b k =
+      keeps_pick _ es _ _ _ _ (relation.finished es (ends.Deep 1001)) k
 
   module _ (f g : Next) (h : (c : Configuration) → keeps c.events (f c) (g c)) where
     -- ---- unwinding
@@ -69,7 +70,8 @@ module _ (program : LinearProgram) (relation : SeenRelation program) where
     arrive_keeps : (target : Target) (code : Option ℕ) (c : Configuration)
         → keeps c.events (arrive target code f c) (arrive target code g c)
     arrive_keeps target None c = h _
-    arrive_keeps target (Some code) c = relation.event c.events (events.Except (record { 0 = code })) _ _ tt (h _)
+    arrive_keeps target (Some code) c =
+        relation.event c.events (events.Except (record { 0 = code })) _ _ tt (h _)
 
     leave_keeps : (target : Target) (kind : RegionKind) (rest : List Region) (a b : Seen)
         (c : Configuration) → keeps c.events a b
@@ -95,8 +97,9 @@ module _ (program : LinearProgram) (relation : SeenRelation program) where
         (unwind program g target items left es store)
     unwind_keeps target [] left es store = relation.stuck es
     unwind_keeps target (Waits b ∷ below) left es store =
-        unwind_body_keeps target (λ store. unwind program f (target_past b.body target) below None es
-        store) (λ store. unwind program g (target_past b.body target) below None es store)
+        unwind_body_keeps target
+        (λ store. unwind program f (target_past b.body target) below None es store)
+        (λ store. unwind program g (target_past b.body target) below None es store)
         (regions_left left (regions_at program b.body b.next))
         (record { frame = b; below = below; store = store; events = es })
         (unwind_keeps (target_past b.body target) below None es)
@@ -147,7 +150,8 @@ module _ (program : LinearProgram) (relation : SeenRelation program) where
         → keeps c.events (answered program f v exception resumption x rest c)
         (answered program g v exception resumption x rest c)
     answered_keeps v exception resumption x rest c =
-        keeps_pick (nat_eq (low W32 v) 0) c.events _ _ _ _ (search_keeps rest exception resumption c)
+        keeps_pick (nat_eq (low W32 v) 0) c.events _ _ _ _
+        (search_keeps rest exception resumption c)
         (keeps_pick (nat_lt (low W32 v) (2 ^ 31)) c.events _ _ _ _ (accept_keeps x exception c)
         (keeps_pick exception.flag c.events _ _ _ _ (raise_keeps noncontinuable resumption c)
         (resumed_keeps resumption c)))
@@ -162,7 +166,8 @@ module _ (program : LinearProgram) (relation : SeenRelation program) where
         ∷ below) es store = relation.stuck es
     answer_keeps v (Searches exception resumption x rest ∷ Unwinds rest' target ∷ below) es store =
         relation.stuck es
-    answer_keeps v (Searches exception resumption x rest ∷ Waits b ∷ below) es store = relation.event es (events.Answer (signed W32 v)) _ _ tt
+    answer_keeps v (Searches exception resumption x rest ∷ Waits b ∷ below) es store =
+        relation.event es (events.Answer (signed W32 v)) _ _ tt
         (answered_keeps v exception resumption x rest
         (record {
           frame = b;
@@ -211,8 +216,8 @@ module _ (program : LinearProgram) (relation : SeenRelation program) where
 
     built_in_keeps : (b : BuiltIn) → CallsBuiltIn program b → (vs : List ℕ) (c : Configuration)
         → keeps c.events (built_in program f b vs c) (built_in program g b vs c)
-    built_in_keeps Put called vs c = relation.event c.events (events.Put (signed W64 (get_or vs 0 0))) _ _ tt
-        (h _)
+    built_in_keeps Put called vs c =
+        relation.event c.events (events.Put (signed W64 (get_or vs 0 0))) _ _ tt (h _)
     built_in_keeps Protect called vs c = h _
     built_in_keeps RaiseException called vs c = raise_keeps (raised (get_or vs 0 0) (get_or vs 1 0))
         AfterCall c
@@ -232,9 +237,10 @@ module _ (program : LinearProgram) (relation : SeenRelation program) where
     end_finally_keeps (Waits b ∷ below) es store = h _
     end_finally_keeps (Searches exception resumption x rest ∷ below) es store = relation.stuck es
     end_finally_keeps (Unwinds rest target ∷ []) es store = relation.stuck es
-    end_finally_keeps (Unwinds rest target ∷ Searches exception resumption x rest' ∷ below) es store =
+    end_finally_keeps (Unwinds rest target ∷ Searches exception resumption x rest' ∷ below) es
+        store = relation.stuck es
+    end_finally_keeps (Unwinds rest target ∷ Unwinds rest' older ∷ below) es store =
         relation.stuck es
-    end_finally_keeps (Unwinds rest target ∷ Unwinds rest' older ∷ below) es store = relation.stuck es
     end_finally_keeps (Unwinds rest target ∷ Waits b ∷ below) es store = unwind_keeps target
         (Waits b ∷ below) (Some rest) es store
 
@@ -280,8 +286,8 @@ module _ (program : LinearProgram) (relation : SeenRelation program) where
     act_keeps (instructions.Landing to) c at = keeps_some c.events c.frame.landed _
         _ λ code. written_keeps (not_landed c) to code
     act_keeps instructions.Separator c at = h _
-    act_keeps (instructions.Return from) c at = keeps_some c.events (read c from) _ _ λ v. end_body_keeps
-        c.frame.body v c
+    act_keeps (instructions.Return from) c at =
+        keeps_some c.events (read c from) _ _ λ v. end_body_keeps c.frame.body v c
 
   -- where an instruction is found
   found_keeps : (es : List Event) (o : Option Instruction) (go go' : Instruction → Seen)

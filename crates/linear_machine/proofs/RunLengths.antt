@@ -76,5 +76,5 @@ pub search_shows : (program : LinearProgram) (xs : List Handler) (exception : Ex
     (resumption : Resumption) (c : Configuration)
     → IsPrefixOf c.events (events_of (search program (exec program zero) xs exception resumption c))
 search_shows program xs exception resumption c =
-    (search_keeps program (keeping program) (exec program zero) (exec program zero) (none_keeps program) xs exception
-    resumption c).front
+    (search_keeps program (keeping program) (exec program zero) (exec program zero)
+    (none_keeps program) xs exception resumption c).front

@@ -1,5 +1,5 @@
 -- Which built-in functions a program calls, and what one shows that doesn't call `walk`.
-use Rattle.std.specs.Prelude.{◌≡◌, ℕ, List, ℤ, Some}
+use Rattle.std.specs.Prelude.{◌≡◌, ℕ, ℤ, Some}
 use Rattle.std.specs.List.{AllByRecursion}
 use Rattle.seh_num.specs.declared.event.Event.{Event}
 use Rattle.seh_num.specs.declared.event.Event.TheVariants.{At}

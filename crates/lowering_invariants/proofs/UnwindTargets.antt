@@ -1,5 +1,5 @@
--- In lowered code a local unwind leads forth, to an instruction of its own, and no region that holds
--- its target begins between, or at the target.
+-- In lowered code a local unwind leads forth, to an instruction of its own, and no region that
+-- holds its target begins between, or at the target.
 use Rattle.std.proofs.Common.{◌≡◌, ◌⊎◌, inl, inr, ℕ, zero, suc, ◌+◌, ◌-◌, ◌<◌, ◌≤◌, List, [], ◌∷◌, ◌++◌, length, refl, subst, arith}
 use Rattle.std.specs.List.{AllByRecursion}
 use Rattle.std.specs.Prelude.{true, false, slice_get, Option, Some, None}

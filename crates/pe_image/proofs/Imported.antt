@@ -130,7 +130,8 @@ counted_prepend n i (Err e) = refl
 counted_onto : (n : ℕ) (is : List Import) (r : Answered)
     → counted n (onto is r) ≡ counted (n + length is) r
 counted_onto n is (Ok js) =
-    let e : n + length (is ++ js) ≡ n + length is + length js = omega (arith, length-append is js) in
+    let e : n + length (is ++ js) ≡ n + length is + length js =
+    omega (arith, length-append is js) in
     ap (λ (k : ℕ). Ok k) e
 counted_onto n is (Err e) = refl
 
@@ -168,11 +169,13 @@ same_entries ss index look slot d e1 e2 = ap (λ n. library max_count ss index n
 module _ (ss : List Section) (index at n m look slot : ℕ) (d : List ℕ) (e : n ≡ m + 1)
     (is : stored ss at 20 ≡ Some d) (z : is_zero d ≡ false)
     (e1 : look ≡ lookups (field 4 d 0) (field 4 d 16)) (e2 : slot ≡ field 4 d 16) where
-  pub library_refused : (f : ImageErr) → counted index (library max_count ss index look slot) ≡ Err f
+  pub library_refused : (f : ImageErr)
+      → counted index (library max_count ss index look slot) ≡ Err f
       → libraries n ss index at ≡ Err f
   library_refused f h =
       library_first ss index at n m d e is z
-      ∙ refused_in index (entries_of ss index d) (λ xs. libraries m ss (index + length xs) (at + 20))
+      ∙ refused_in index (entries_of ss index d)
+      (λ xs. libraries m ss (index + length xs) (at + 20))
       f (ap (counted index) (sym (same_entries ss index look slot d e1 e2)) ∙ h)
 
   pub library_counted : (k next : ℕ) → counted index (library max_count ss index look slot) ≡ Ok k

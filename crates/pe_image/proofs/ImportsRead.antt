@@ -249,7 +249,8 @@ rest_ok : (r : Answered) (f : List Import → Answered) → is_ok (r >>= λ is. 
 rest_ok (Ok is) f h = onto_ok is (f is) h
 rest_ok (Err e) f h = cc
 
-onto_none : (is : List Import) (r : Answered) → is_ok r ≡ true → or_none (onto is r) ≡ is ++ or_none r
+onto_none : (is : List Import) (r : Answered) → is_ok r ≡ true
+    → or_none (onto is r) ≡ is ++ or_none r
 onto_none is (Ok js) h = refl
 onto_none is (Err e) h = cc
 
@@ -282,7 +283,8 @@ module _ (ss : List Section) (dir : DataDirectory) (n look slot : ℕ) (d : List
     | inr ge ↦ absurd (ok_libraries (max_count - n) ss (dir.rva + 20 * n) whole_ok (omega arith))
   ]
 
-  whole_is : libraries (max_count - n) ss 0 (dir.rva + 20 * n) ≡ (these >>= λ is. onto is (after is))
+  whole_is : libraries (max_count - n) ss 0 (dir.rva + 20 * n)
+      ≡ (these >>= λ is. onto is (after is))
   unfolding these after
   whole_is = let lt = more_left in library_first ss 0 (dir.rva + 20 * n) (max_count - n)
       (max_count - (n + 1)) d (omega arith) is z

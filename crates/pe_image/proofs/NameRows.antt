@@ -208,10 +208,11 @@ module _ (s : NameSection) (index last : ℕ) (r : NameRow) where
       → RowRead s index r × InOrder last r
   row_by_name None e h le = absurd cc
   row_by_name (Some n) e h le =
-      row_by_order n (leb last (begin_in s place) && ltb (begin_in s place) (end_in s place)) refl h e
-      le
+      row_by_order n (leb last (begin_in s place) && ltb (begin_in s place) (end_in s place))
+      refl h e le
 
-  row_by_place : (leb (place + 16) (length s.raw) ≡ true) ⊎ (leb (place + 16) (length s.raw) ≡ false)
+  row_by_place : (leb (place + 16) (length s.raw) ≡ true)
+      ⊎ (leb (place + 16) (length s.raw) ≡ false)
       → row_at s index last ≡ Some r → RowRead s index r × InOrder last r
   row_by_place (inl e) h =
       row_by_name (name_in s place) refl

@@ -1,5 +1,5 @@
--- What is left of the list of imports from a place on: the other entries of a lookup table, and then
--- those of the libraries after it.
+-- What is left of the list of imports from a place on: the other entries of a lookup table, and
+-- then those of the libraries after it.
 use Rattle.std.specs.Prelude.{ℕ, ◌+◌, ◌-◌, ◌*◌, ◌≤◌, ◌<◌, ◌^◌, ◌==◌, List, [], ◌++◌, Option, Some, None, IfSome, Result, IsOk}
 use Rattle.pe_image.specs.declared.layout.TheConstants.{DESCRIPTOR_SIZE, LOOKUP_ENTRY_SIZE}
 use Rattle.pe_image.specs.declared.directory.DataDirectory.{DataDirectory}

@@ -1,6 +1,6 @@
--- The table of names in the section `.sehname`: a count of 32 bits, then that many rows of four such
--- numbers (own). A row has the range of a part of a function's code, the function's number, and the
--- address of its name, which a 0 ends in the same section.
+-- The table of names in the section `.sehname`: a count of 32 bits, then that many rows of four
+-- such numbers (own). A row has the range of a part of a function's code, the function's number,
+-- and the address of its name, which a 0 ends in the same section.
 use Rattle.std.specs.Prelude.{ℕ, zero, suc, ◌+◌, ◌-◌, ◌*◌, ◌<◌, Bool, true, false, ◌&&◌, nat_lt, nat_le, nat_eq, if◌then◌else◌, List, [], ◌∷◌, drop, length, slice_index_or, option_map, Option, Some, None, Result, Ok, Err}
 use Rattle.seh_num.specs.Answers.{unless, or_refused, prepend, ◌>>=◌}
 use Rattle.pe_image.specs.declared.layout.TheConstants.{SEHNAME_NAME, NAME_COUNT_SIZE, NAME_ROW_SIZE, NAME_ROW_END, NAME_ROW_NUMBER, NAME_ROW_NAME}

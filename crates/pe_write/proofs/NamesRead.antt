@@ -86,9 +86,6 @@ module _ (s : NameSection) where
       (after : last ≤ q.begin) (above : s.address ≤ at) (low : at < 2 ^ 32)
       (row : drop (place_of index) b ≡ row_bytes at q ++ x)
       (name : drop (at - s.address) b ≡ q.name ++ 0 ∷ y) where
-    place : ℕ
-    place = place_of index
-
     whole : is_there b (place_of index) 16 ≡ true
     whole = le-leb (place_of index + 16) (length b) (omega (
       arith,

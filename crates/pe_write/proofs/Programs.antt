@@ -129,7 +129,8 @@ module _ (p : ImageContents) (fits : CanBeImage p) where
       (past_tables (at + k) (omega arith)
       ∙ ap (section_or (section_at (at + k) (functions ∷ named)) infos)
       (above_holds_none (at + k) infos (omega arith))
-      ∙ ap (section_or (section_at (at + k) named) functions) (inside (at + k) functions (omega arith) (omega arith)))
+      ∙ ap (section_or (section_at (at + k) named) functions)
+      (inside (at + k) functions (omega arith) (omega arith)))
       ∙ ap (λ n. drop n p.pdata) back
 
   pub imports_are : imports (image_of p) ≡ Ok (imports_of p)
@@ -165,7 +166,8 @@ module _ (p : ImageContents) (fits : CanBeImage p) where
   unfolding raw_data
   names_is =
       let table = name_table_bytes p.names (names_at (sizes_of p)) in
-      ap (λ n. take n (raw_data (names_section p))) (sym (names_length p.names (names_at (sizes_of p))))
+      ap (λ n. take n (raw_data (names_section p)))
+      (sym (names_length p.names (names_at (sizes_of p))))
       ∙ take-append_seam table (zeros (raw_size (names_section p) - length table))
 
   pub size_is : end_of (parts_of p).sections ≡ end_at (sizes_of p)

@@ -1,5 +1,5 @@
--- The table of names of a written image, in its section `.sehname`: how many rows there are, the rows
--- with the ranges and the numbers of functions, and then the names, each ended by a 0 (own).
+-- The table of names of a written image, in its section `.sehname`: how many rows there are, the
+-- rows with the ranges and the numbers of functions, and then the names, each ended by a 0 (own).
 use Rattle.std.specs.Prelude.{ℕ, ◌+◌, ◌*◌, ◌^◌, ◌<◌, ◌≤◌, List, [], ◌∷◌, ◌++◌, length}
 use Rattle.std.specs.List.{AllByRecursion}
 use Rattle.pe_image.specs.declared.layout.TheConstants.{NAME_COUNT_SIZE, NAME_ROW_SIZE}

@@ -244,7 +244,8 @@ pub for_is : (scope : LoweringContext) (ds : List Declared) (first c next : Opti
     → l1 ≡ l0 ++ discarded_code scope.names first (length l0)
     → l2 ≡ l1 ++ condition_code scope.names c end (length l1)
     → l3 ≡ l2 ++ statement_code (in_loop end again scope) s (length l2) → l4 ≡ l3 ++ Separator ∷ []
-    → l5 ≡ l4 ++ discarded_code scope.names next (length l4) → l6 ≡ l5 ++ Jump (length l1) ∷ Separator ∷ []
+    → l5 ≡ l4 ++ discarded_code scope.names next (length l4)
+    → l6 ≡ l5 ++ Jump (length l1) ∷ Separator ∷ []
     → Run scope (For ds first c next s) old l6
 for_is scope ds first c next s nc0 ns0 nn0 turn last again end old l0 l1 l2 l3 l4 l5 l6 zc zs zn t l
     a e h0 h1 h2 h3 h4 h5 h6 =

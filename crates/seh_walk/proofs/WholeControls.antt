@@ -1,8 +1,8 @@
 -- The control addresses of a walk, which no bound cuts off.
-use Rattle.std.proofs.Common.{◌≡◌, ℕ, zero, suc, ◌+◌, ◌^◌, ◌<◌, ◌≤◌, refl, sym, ap, ◌∙◌, arith}
+use Rattle.std.proofs.Common.{◌≡◌, ℕ, zero, suc, ◌+◌, ◌^◌, ◌<◌, ◌≤◌, refl, ap, arith}
 use Rattle.flat_memory.specs.Memory.{Memory}
 use Rattle.virtual_unwind.specs.Contexts.{rsp}
-use Rattle.virtual_unwind.specs.CallerOf.{Functions, CallerFrame}
+use Rattle.virtual_unwind.specs.CallerOf.{Functions}
 use Rattle.seh_records.specs.Laws.{AreBytes}
 use Rattle.seh_walk.specs.declared.walk.WalkState.{WalkState}
 use Rattle.seh_walk.specs.Walk.{Visited, Over, Past, Frame, Broken, visited, steps}

@@ -1,5 +1,5 @@
--- A walk as a whole: the control address of each of its frames, and the numbers of the functions that
--- have their code there.
+-- A walk as a whole: the control address of each of its frames, and the numbers of the functions
+-- that have their code there.
 use Rattle.std.specs.Prelude.{ℕ, zero, suc, List, [], ◌∷◌, option_map, Option, Some, None}
 use Rattle.flat_memory.specs.Memory.{Memory}
 use Rattle.pe_image.specs.NameRows.{row_holding}
@@ -8,7 +8,7 @@ use Rattle.seh_walk.specs.declared.stop_cause.StopCause.{StopCause}
 use Rattle.seh_walk.specs.declared.walk.WalkState.{WalkState}
 use Rattle.seh_walk.specs.Walk.{Visited, Over, Past, Frame, Broken, visited}
 
--- the control addresses of a walk's frames, the innermost first, and what stops it, if anything does
+-- the control addresses of a walk's frames, the innermost first, and what stops it, if anything
 pub record Controls : Type 0 where
   pub addresses : List ℕ
   pub stop : Option StopCause

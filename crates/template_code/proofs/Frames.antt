@@ -41,10 +41,3 @@ epilogue_unprobed p k =
 -- by whether it has no bytes
 abbrev pub ending_by : ℕ → ℕ → Bool → List Instr
 ending_by size probe none = opening_then (frame_plan size probe) none (instrs.Return ∷ [])
-
--- RSP is raised, and the frame left
-pub epilogue_some : (size probe : ℕ) → 0 < size → epilogue (frame_plan size probe)
-    ≡ instrs.Arithmetic Add W64 (places.Register Rsp) (operands.Immediate size)
-    ∷ instrs.Return ∷ []
-epilogue_some size probe some = ap (ending_by size probe)
-    (ne_eqb size 0 (λ z. (let e : size ≡ 0 = z in absurd (omega arith))))

@@ -34,6 +34,10 @@ pub const FINALLY: &str = r"
 => 10 raise C0000094 0 / filter 2 / answer 0 / unhandled C0000094
 # break_through_finally: int main(void){ int i; for (i = 0; i < 3; i++){ __try{ if (i == 1) break; } __finally{ put(AbnormalTermination()); } } return i; }
 => 0 finally 1 0 / 0 / finally 1 1 / 1 / exit 1
+# break_to_a_try: int main(void){ while (1){ __try{ break; } __finally{ put(1); } } __try{ *(int*)0 = 1; } __except(1){ put(2); } return 0; }
+=> 0 finally 1 1 / 1 / raise C0000005 0 write 0000000000000000 / except C0000005 / 2 / exit 0
+# break_to_the_end_of_a_try: int main(void){ __try{ do { __try{ break; } __finally{ put(1); } } while (1); } __finally{ put(2); } return 0; }
+=> 0 finally 1 1 / 1 / finally 2 0 / 2 / exit 0
 # return_through_two_finallys: int main(void){ __try{ __try{ return 4; } __finally{ put(1); } } __finally{ put(2); } return 0; }
 => 0 finally 1 1 / 1 / finally 2 1 / 2 / exit 4
 # target_in_outer_activation: int f(int n){ __try{ __try{ if (n) f(n - 1); else RaiseException(0xE0000001,0,0,0); } __except(n == 1){ put(n); } } __finally{ put(10 + n); } return 0; } int main(void){ f(1); return 0; }

@@ -43,8 +43,8 @@ returns-in-Some-clause-fits c =
     c.args.sections.now c.requires.ascending c.args.at c.stored_from-hinted.result.now
     c.stored_from-hinted.ensures (omega arith) c.in-Some.len (sym c.in-Some.is ∙ c.name_len.ensures)
     in
-    let small : length c.stored_from-hinted.result.now * 1 < 2 ^ 63 = c.stored_from-hinted.type_inv.1
-    in
+    let small : length c.stored_from-hinted.result.now * 1 < 2 ^ 63 =
+    c.stored_from-hinted.type_inv.1 in
     omega (
       arith,
       length-take len (take (length bytes - 2) (drop 2 bytes)),

@@ -37,5 +37,5 @@ returns-clause-ascending c =
     let hs = all_placed c.args.layout (headers_from c.args.bytes.now c.args.count c.args.at) in
     sections_rise c.args.bytes.now c.args.limit hs c.loop-index.sections.items
     (is_done c.args.layout c.args.bytes.now c.args.limit c.loop-index.index c.loop-index.end
-    c.args.at c.args.count c.loop-index.sections.items (sections_of c.args.bytes.now c.args.limit hs)
-    (omega arith) c.loop-index.invariant)
+    c.args.at c.args.count c.loop-index.sections.items
+    (sections_of c.args.bytes.now c.args.limit hs) (omega arith) c.loop-index.invariant)

@@ -9,15 +9,17 @@ use Rattle.pe_write.proofs.Programs.{rdata_fits, names_fit, read_again, small_fi
 use Rattle.pe_write.proofs.image.write.Goals as goal
 
 pub overflow_cast-rdata_at : goal.overflow_cast-rdata_at
-overflow_cast-rdata_at c = let fits = rdata_fits c.args.image.now c.sizes-sizes.result c.rdata_at.result
-    c.sizes-sizes.ensures.program c.sizes-sizes.ensures.value c.rdata_at.ensures in omega arith
+overflow_cast-rdata_at c =
+    let fits = rdata_fits c.args.image.now c.sizes-sizes.result c.rdata_at.result
+    c.sizes-sizes.ensures.program c.sizes-sizes.ensures.value c.rdata_at.ensures in
+    omega arith
 
 pub import_tables-requires-clause-fits : goal.import_tables-requires-clause-fits
 import_tables-requires-clause-fits c =
     subst (λ (is : List ImportedService). c.rdata_at.result + tables_size is < 2 ^ 32)
     (sym (c.deref.ensures.value ∙ ap (λ (p : ImageContents). p.imports) c.image.view_is))
-    (rdata_fits c.args.image.now c.sizes-sizes.result c.rdata_at.result c.sizes-sizes.ensures.program
-    c.sizes-sizes.ensures.value c.rdata_at.ensures)
+    (rdata_fits c.args.image.now c.sizes-sizes.result c.rdata_at.result
+    c.sizes-sizes.ensures.program c.sizes-sizes.ensures.value c.rdata_at.ensures)
 
 pub overflow_cast-names_at : goal.overflow_cast-names_at
 overflow_cast-names_at c = let fits = names_fit c.args.image.now c.sizes-sizes.result

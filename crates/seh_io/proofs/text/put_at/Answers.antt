@@ -29,7 +29,8 @@ returns-clause-ok g c =
     let named = grew_more (g.O.Sink.taken c.args.sink.now) (g.O.Sink.taken c.put_all.new.sink)
     (g.O.Sink.taken c.put_after.new.sink) (codes "at ") c.args.name.now
     c.in_ok-put_all.ensures.ok c.in_ok-put_after.ensures.ok in
-    whole_after c.put_after-2.result (g.O.Sink.taken c.args.sink.now) (g.O.Sink.taken c.put_after.new.sink)
+    whole_after c.put_after-2.result (g.O.Sink.taken c.args.sink.now)
+    (g.O.Sink.taken c.put_after.new.sink)
     (g.O.Sink.taken c.put_after-2.new.sink) (codes "at " ++ c.args.name.now) (codes "\n") named
     c.put_after-2.ensures.ok
 
@@ -38,7 +39,8 @@ returns-clause-part g c =
     let named = grew_more (g.O.Sink.taken c.args.sink.now) (g.O.Sink.taken c.put_all.new.sink)
     (g.O.Sink.taken c.put_after.new.sink) (codes "at ") c.args.name.now
     c.in_ok-put_all.ensures.ok c.in_ok-put_after.ensures.ok in
-    part_after c.put_after-2.result (g.O.Sink.taken c.args.sink.now) (g.O.Sink.taken c.put_after.new.sink)
+    part_after c.put_after-2.result (g.O.Sink.taken c.args.sink.now)
+    (g.O.Sink.taken c.put_after.new.sink)
     (g.O.Sink.taken c.put_after-2.new.sink) (codes "at " ++ c.args.name.now) (codes "\n")
     (3 + length c.args.name.now) (length-append (codes "at ") c.args.name.now) named
     c.put_after-2.ensures.after c.put_after-2.ensures.part

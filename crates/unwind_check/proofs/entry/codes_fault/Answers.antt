@@ -50,6 +50,7 @@ parts_fault-requires-clause-body_there g c =
     let stands = part_stands m (prologue_end c.args.begin c.args.end c.args.info.now) c.args.end
     (omega (arith, middle, order_2)) in
     subst (λ k. HasItems m k c.args.body.now.items (k + bytes c.args.body.now.items)) (sym middle)
-    (subst (λ (d : Decoded). HasItems m (prologue_end c.args.begin c.args.end c.args.info.now) d.items
+    (subst (λ (d : Decoded). HasItems m
+    (prologue_end c.args.begin c.args.end c.args.info.now) d.items
     (prologue_end c.args.begin c.args.end c.args.info.now + bytes d.items)) (sym c.requires.body)
     stands)

@@ -11,7 +11,8 @@ pub loop-index-preserved-in_default : goal.loop-index-preserved-in_default
 loop-index-preserved-in_default g c =
     let lt : c.loop-index.index < length c.args.tables.now.ranges = omega
     (arith, c.loop-index-test.true, c.len-index-end.ensures) in
-    absurd (none_missing c.args.tables.now c.loop-index.index c.requires lt c.in_default.ensures.value)
+    absurd (none_missing c.args.tables.now c.loop-index.index c.requires lt
+    c.in_default.ensures.value)
 
 pub returns-in-Some-fault : goal.returns-in-Some-fault
 returns-in-Some-fault g c =

@@ -1,4 +1,4 @@
-use Rattle.std.proofs.Common.{◌≡◌, suc, ◌-◌, subst, sym, arith, Some}
+use Rattle.std.proofs.Common.{◌≡◌, suc, ◌-◌, subst, sym, arith}
 use Rattle.std.specs.Prelude.{option_map}
 use Rattle.c_checked.specs.Expression as tree
 use Rattle.c_checked.specs.Statement as trees
