@@ -24,7 +24,8 @@ use Rattle.image_states.proofs.Shifts.{AreMoved, code_moved}
 pub frame_same : (o : Option FrameLayout) (y : Layout) (at check at' check' : ℕ)
     → ((f : FrameLayout) → o ≡ Some f → (probe : ℕ) → plan_of_layout y probe
     ≡ layouts.plan_of f probe) → at' ≡ image_base + at → check' ≡ image_base + check
-    → at + 10 < 2 ^ 48 → frame_code y.frame at' check' (is_leaf o) ≡ texts.frame_code at check o
+    → at + 10 < 2 ^ 48 → frame_code (plan_of_layout y (distance (at' + 10) check')) (is_leaf o)
+    ≡ texts.frame_code at check o
 frame_same None y at check at' check' laid e f lt = refl
 frame_same (Some g) y at check at' check' laid e f lt =
     let away : distance (at' + 10) check' ≡ distance (at + 10) check = omega arith in

@@ -33,11 +33,11 @@ made_code n probe some =
     ∙ append-nil (allocating probe n (nat_le n 4096))
 
 -- one that makes a frame of at most a page begins with it
-pub made_small : (size at check : ℕ) (leaf : Bool) → leaf ≡ false → 0 < size → size ≤ 4096
-    → frame_code size at check leaf ≡ allocating 0 size true
-made_small size at check leaf e some small = ap (frame_code size at check) e
-    ∙ made_code size (distance (at + 10) check) some
-    ∙ ap (allocating (distance (at + 10) check) size) (le-leb size 4096 small)
+pub made_small : (size probe : ℕ) (leaf : Bool) → leaf ≡ false → 0 < size → size ≤ 4096
+    → frame_code (frame_plan size probe) leaf ≡ allocating 0 size true
+made_small size probe leaf e some small = ap (frame_code (frame_plan size probe)) e
+    ∙ made_code size probe some
+    ∙ ap (allocating probe size) (le-leb size 4096 small)
 
 -- ---- the prologue of a plan
 

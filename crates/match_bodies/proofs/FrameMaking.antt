@@ -49,7 +49,7 @@ module _ (setting : Setting) where
           let none = (leaf_layout t fs program p q name b leaf
           (image.laid_out name b is)).frame in
           let size : making_size p q name ≡ 0 = ap
-          (λ l. sizes (frame_code frame begin q.check_stack l)) leaf in
+          (λ l. sizes (frame_code framing l)) leaf in
           subst (FrameMade 0 e) r (record {
             keeps = tt;
             beneath = subst (λ l. Beneath t e (owed_by (p.entry name).info l) top from back others

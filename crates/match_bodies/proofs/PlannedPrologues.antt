@@ -60,13 +60,13 @@ module _ (setting : Setting) where
 
     -- the code that makes it
     pub frame_there : (m : Memory) → HasProgram setting m
-        → HasCode m begin (frame_code frame begin q.check_stack (p.leaf name))
+        → HasCode m begin (frame_code (body_plan p q name) (p.leaf name))
         × HasCode m (begin + making_size p q name) (arguments_code program p name)
     frame_there m has =
         let entry = code_split m begin (entry_code program p q name)
         (code_from (links_of p q name) (p.layout name) (p.address name 0) b.code)
         (has.code name b is) in
-        code_split m begin (frame_code frame begin q.check_stack (p.leaf name))
+        code_split m begin (frame_code (body_plan p q name) (p.leaf name))
         (arguments_code program p name) entry.0
 
     -- where arguments are stored
@@ -124,7 +124,7 @@ module _ (setting : Setting) where
 
       -- the code that makes the frame is the plan's prologue
       making_is : making_size p q name ≡ sizes (prologue_code framing)
-      making_is = ap (λ l. sizes (frame_code frame begin q.check_stack l)) framed
+      making_is = ap (λ l. sizes (frame_code (body_plan p q name) l)) framed
 
       is_plan : IsPlan framing
       is_plan = body_planned framed
@@ -425,7 +425,7 @@ module _ (setting : Setting) where
                 omega (arith, making_is) in z);
             there = λ m has. (let z : begin ≡ begin + 0 = omega arith in
                 subst (λ a. HasCode m a (prologue_code framing)) z
-                (subst (λ l. HasCode m begin (frame_code frame begin q.check_stack l)) framed
+                (subst (λ l. HasCode m begin (frame_code (body_plan p q name) l)) framed
                 (frame_there m has).0));
           }
 

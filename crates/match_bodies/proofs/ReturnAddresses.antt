@@ -6,6 +6,7 @@ use Rattle.std.proofs.lemmas.List.{append-nil}
 use Rattle.match_bodies.specs.Words.{Memory, Rax, Instr, Context, rsp, Instruction, LinearBody, BodyName, body_of, sizes, fetch, template, offset_of, code_from, IsReturn, HasCode, after_frame, after_leaf, links_of, begin_of, making_size, frame_code, arguments_code, entry_code, frame_of, caller_left, HasCaller, FindsOwed, IsOwed, owed_of, owed_by, Setting, IsResumed}
 use Rattle.linear_code.specs.declared.instruction.Instruction.TheVariants as instructions
 use Rattle.match_bodies.proofs.Lemmas.{sizes_append, template_sizes, code_split, template_placed, frame_is_visited, leaf_is_visited}
+use Rattle.match_bodies.specs.CodeSites.{body_plan}
 use Rattle.match_bodies.proofs.BodyFrames.{owed_framed, owed_frame}
 use Rattle.match_bodies.proofs.OwedCallers.{first_set, at_return}
 use Rattle.match_bodies.proofs.TemplateSizes.{fetch_some, template_some}
@@ -116,8 +117,7 @@ module _ (setting : Setting) where
     argument_found some done [] parts =
         let a = image.addresses name b is in
         let first = a.first in
-        let making = frame_code (p.layout name).frame (begin_of p q name) q.check_stack
-        (p.leaf name) in
+        let making = frame_code (body_plan p q name) (p.leaf name) in
         let whole = ap sizes (parts ∙ append-nil done) in
         let z : p.address name 0 ≡ begin_of p q name + making_size p q name
         + sizes done = omega (arith, sizes_append making (arguments_code program p name)) in

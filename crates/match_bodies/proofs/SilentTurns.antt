@@ -13,6 +13,7 @@ use Rattle.x64_instr.specs.declared.instruction.Instr.TheVariants as instrs
 use Rattle.frame_rules.specs.Plan.{allocating}
 use Rattle.x64_templates.proofs.PlacedCode.{reaches_enters}
 use Rattle.match_bodies.proofs.ChainKeeping.{inside_steps}
+use Rattle.match_bodies.specs.CodeSites.{body_plan}
 use Rattle.match_bodies.proofs.FrameCode.{made_small}
 use Rattle.match_bodies.proofs.Lemmas.{longest, bytes_kept, bytes_split, spells, reads, same_number, code_split, near, sizes_append}
 use Rattle.x64_machine.specs.declared.cpu.Cpu.{Cpu}
@@ -121,13 +122,13 @@ module _ (t : Functions) (fs : List Funclet) (program : LinearProgram) (p : Imag
           let plan = image.laid_out name f.body is in
           let small = plan.layout.small in
           let y = p.layout name in
-          let first = frame_code y.frame (p.funclet k) q.check_stack (p.leaf name) in
+          let first = frame_code (body_plan p q name) (p.leaf name) in
           let all = has.code name f.body is in
           let entry = code_split m (p.funclet k) (entry_code program p q name)
           (code_from (links_of p q name) y (p.address name 0) f.body.code) all in
           let frame = code_split m (p.funclet k) first (arguments_code program p name) entry.0 in
           entered_by m (p.funclet k) y.frame j n (omega arith)
-          (subst (HasCode m (p.funclet k)) (made_small y.frame (p.funclet k) q.check_stack
+          (subst (HasCode m (p.funclet k)) (made_small y.frame (body_plan p q name).probe
           (p.leaf name) plan.framed
           (let a = plan.layout.passed in let b = plan.layout.kept in
           let c = plan.layout.temporaries in let w = plan.layout.within in omega arith)
@@ -218,8 +219,8 @@ module _ (t : Functions) (fs : List Funclet) (program : LinearProgram) (p : Imag
           → NoneInside (begin_of p q name) (begin_of p q name + making_size p q name)
       none_inside name b is a k low high lt =
           let h = image.addresses name b is in
-          let whole = sizes_append (frame_code (p.layout name).frame (begin_of p q name)
-          q.check_stack (p.leaf name)) (arguments_code program p name) in
+          let whole = sizes_append (frame_code (body_plan p q name) (p.leaf name))
+          (arguments_code program p name) in
           h.no_funclet a k low (omega (arith, h.first, whole, high)) lt
 
     -- the code of the program is where a run comes to

@@ -13,7 +13,7 @@ use Rattle.template_code.specs.declared.layout.Layout.{Layout}
 use Rattle.template_code.specs.Bytes.{sizes}
 use Rattle.template_code.specs.Operations.{move}
 use Rattle.template_code.specs.Slots.{keep}
-use Rattle.template_code.specs.Frames.{frame_plan, plan_of_layout}
+use Rattle.template_code.specs.Frames.{plan_of_layout}
 use Rattle.template_code.specs.Calls as calls
 use Rattle.template_code.specs.Calls.{keep_register, parameters_code}
 use Rattle.template_code.specs.Jumps.{distance}
@@ -49,13 +49,12 @@ begin_of p q (FuncletBody k) = p.funclet k
 
 -- ---- what comes before the first instruction
 
--- the code that makes a frame is its prologue, in which the call ends ten bytes from the begin; a
--- leaf function has none
-abbrev pub frame_code : ℕ → ℕ → ℕ → Bool → List Instr
-frame_code size at check true = []
-frame_code size at check false = prologue_code (frame_plan size (distance (at + 10) check))
+-- the code that makes a frame is the prologue of its plan; a leaf function has none
+abbrev pub frame_code : FramePlan → Bool → List Instr
+frame_code f true = []
+frame_code f false = prologue_code f
 
--- the plan of a body's frame
+-- the plan of a body's frame, in which the call of `__chkstk` ends ten bytes from the begin
 abbrev pub body_plan : ImagePlan → Sites → BodyName → FramePlan
 body_plan p q name =
     plan_of_layout (p.layout name) (distance (begin_of p q name + 10) q.check_stack)
@@ -63,7 +62,7 @@ body_plan p q name =
 -- how many bytes that takes
 abbrev pub making_size : ImagePlan → Sites → BodyName → ℕ
 making_size p q name =
-    sizes (frame_code (p.layout name).frame (begin_of p q name) q.check_stack (p.leaf name))
+    sizes (frame_code (body_plan p q name) (p.leaf name))
 
 -- what an epilogue has up to some of its pops
 abbrev pub epilogue_through : FramePlan → List ℕ → List Instr
@@ -110,7 +109,7 @@ arguments_code program p (FuncletBody k) =
 -- the code before a body's first instruction
 abbrev pub entry_code : LinearProgram → ImagePlan → Sites → BodyName → List Instr
 entry_code program p q name =
-    frame_code (p.layout name).frame (begin_of p q name) q.check_stack (p.leaf name)
+    frame_code (body_plan p q name) (p.leaf name)
     ++ arguments_code program p name
 
 -- all of its code

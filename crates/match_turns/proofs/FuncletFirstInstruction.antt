@@ -3,7 +3,7 @@ use Rattle.std.proofs.Common.{◌≡◌, ℕ, ◌^◌, ◌<◌, Bool, true, fals
 use Rattle.std.specs.Prelude.{slice_get}
 use Rattle.std.proofs.lemmas.Option.{slice_get_cases}
 use Rattle.match_turns.specs.Words.{W64, Memory, executable, Rsp, Instr, leading, chosen, is_encodable, Cpu, State, distance, arrivals, no_flags, LinearFunclet, FuncletBody, body_of, funclet_body, size, code_from, HasCode, frame_code, entry_code, links_of, IsFuncletPlan, Setting, HasProgram, takes_frame}
-use Rattle.match_bodies.specs.CodeSites.{arguments_code}
+use Rattle.match_bodies.specs.CodeSites.{arguments_code, body_plan}
 use Rattle.x64_instr.specs.declared.operand.RegisterOrMemory.TheVariants as places
 use Rattle.x64_instr.specs.declared.operand.Operand.TheVariants as operands
 use Rattle.x64_instr.specs.declared.instruction.Operation.TheVariants as operations
@@ -49,7 +49,7 @@ module _ (setting : Setting) where
       let plan : IsFuncletPlan program p k f.body = image.laid_out name f.body is in
       let small = plan.layout.small in
       let y = p.layout name in
-      let first = frame_code y.frame (p.funclet k) q.check_stack (p.leaf name) in
+      let first = frame_code (body_plan p q name) (p.leaf name) in
       let all = has.code name f.body is in
       let entry = code_split m (p.funclet k) (entry_code program p q name)
       (code_from (links_of p q name) y (p.address name 0) f.body.code) all in
@@ -57,7 +57,7 @@ module _ (setting : Setting) where
       let i = instrs.Arithmetic operations.Sub W64 (places.Register Rsp)
       (operands.Immediate y.frame) in
       let made : HasCode m (p.funclet k) (i ∷ []) = subst (HasCode m (p.funclet k))
-      (made_small y.frame (p.funclet k) q.check_stack (p.leaf name) plan.framed
+      (made_small y.frame (body_plan p q name).probe (p.leaf name) plan.framed
       (framed_some setting name f.body is plan.framed) small)
       frame.0 in
       never_both i j (length (chosen i)) (length (chosen j))

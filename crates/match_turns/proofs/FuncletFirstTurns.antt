@@ -51,7 +51,7 @@ module _ (setting : Setting) where
 
     entry_is : entry_code program p q (FuncletBody k) ≡ front ++ last
     entry_is =
-        ap (λ leaf. frame_code y.frame (p.funclet k) q.check_stack leaf
+        ap (λ leaf. frame_code plan leaf
         ++ arguments_code program p (FuncletBody k)) l.plan.framed
         ∙ ap (λ o. prologue_code plan ++ funclet_arguments p y o) l.there
         ∙ ap (λ o. prologue_code plan ++ (sites.keep_base (parent_base p l.funclet.parent)
@@ -59,7 +59,7 @@ module _ (setting : Setting) where
         ∙ sym (append_assoc (prologue_code plan) base_code last)
 
     making_is : making_size p q (FuncletBody k) ≡ sizes (prologue_code plan)
-    making_is = ap (λ leaf. sizes (frame_code y.frame (p.funclet k) q.check_stack leaf))
+    making_is = ap (λ leaf. sizes (frame_code plan leaf))
         l.plan.framed
 
     pub entry_codes : (m : Memory) → HasProgram setting m

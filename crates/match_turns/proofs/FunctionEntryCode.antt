@@ -7,8 +7,7 @@ use Rattle.match_turns.proofs.Lemmas.{sizes_append, code_split, making_steps}
 use Rattle.match_bodies.specs.ProgramImages.{HasProgram}
 
 abbrev pub making_frame : ImagePlan → Sites → ℕ → Bool → List Instr
-making_frame p q f leaf = frame_code (p.layout (FunctionBody f)).frame (q.function f) q.check_stack
-    leaf
+making_frame p q f leaf = frame_code (body_plan p q (FunctionBody f)) leaf
 
 -- the frame is made first; after the arguments the body begins; so many turns does that take
 pub record HasEntry (program : LinearProgram) (p : ImagePlan) (q : Sites) (f count : ℕ) (m : Memory)

@@ -17,6 +17,7 @@ use Rattle.frame_rules.specs.Prologue.{items}
 use Rattle.frame_rules.specs.Plan.{allocating, spelled_by, steps_of, turned}
 use Rattle.frame_rules.specs.Bytes.{spell, IsExecutableAt}
 use Rattle.frame_layout.specs.declared.frame.FrameLayout.{FrameLayout}
+use Rattle.frame_layout.specs.Plans.{frame_distance_if}
 use Rattle.unwind_check.specs.Prologues.{has_bytes}
 use Rattle.unwind_check.specs.declared.rule.Verdict.TheVariants.{Yes}
 use Rattle.unwind_check.specs.Verdicts.{ImageCode, entry_in, IsKept, AllAreKept}
@@ -68,6 +69,11 @@ probe_is_at p m text =
     let at : begin + 6 * length s.imports ≡ image_base + probe_begin p = omega arith in
     subst (λ (n : ℕ). IsExecutableAt m n (spelled check_stack)) at
     (probe_after s.imports s.text s.rdata m begin bytes text)
+
+-- a frame register's distance is a byte
+offset_byte : (b : Bool) → frame_distance_if b < 2 ^ 8
+offset_byte true = omega arith
+offset_byte false = omega arith
 
 module _ (p : LinearProgram) (fits : FitsProgram p) (b : IsBounded (image_of (linked p))) where
   abbrev image : Image
@@ -153,7 +159,7 @@ module _ (p : LinearProgram) (fits : FitsProgram p) (b : IsBounded (image_of (li
     kept = record {
       rules = right_functions_keep_rules (entry_in checked (entry_of (site_of p) x f))
           (function_of p x f) is_right;
-      near = omega arith;
+      near = offset_byte f.framed;
     }
 
   -- ---- all
